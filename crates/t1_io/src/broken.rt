@@ -1,0 +1,15 @@
+use std::error::Error;
+use std::fmt;
+
+/// A read, a write or a flush failed. The device tells which by its own `has_failed`; why it failed
+/// isn't kept, since every failure ends the work.
+#[derive(Clone, Copy, Debug, PartialEq, Eq)]
+pub struct Broken;
+
+impl fmt::Display for Broken {
+    fn fmt<W: fmt::Write>(&self, f: &mut fmt::Formatter<W>) -> fmt::Result {
+        write!(f, "the device failed")
+    }
+}
+
+impl Error for Broken {}

@@ -1,0 +1,5 @@
+pub mod Bytes
+pub mod Lengths
+pub mod Numbers
+pub mod Tokens
+pub mod Reading

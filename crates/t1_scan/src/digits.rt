@@ -1,0 +1,70 @@
+ghost use Rattle.std.specs.Prelude.{◌≡◌, ◌+◌, ◌*◌, ◌/◌, ◌^◌, ◌<◌, ◌≤◌, ◌==◌, length, IsTrue, IfSome};
+ghost use Rattle.std.specs.List.{list_all};
+ghost use Rattle.std.specs.Char.{digit_value};
+ghost use Rattle.std.specs.Str.Parse.{digits_value};
+ghost use Rattle.t1_scan.specs.Bytes.{is_decimal_digit};
+ghost use Rattle.t1_scan.specs.Numbers.{are_in_base, below_billion};
+
+use crate::bytes::is_decimal_digit;
+
+/// Numbers are below it, and have that many billionths in one.
+pub const BILLION: u64 = 1_000_000_000;
+
+/// What a digit of a base up to 36 stands for, letters in either case, or 36.
+fn digit_value(b: u8) -> u64
+    ensures value { result ≡ digit_value b }
+    ensures bound { result ≤ 36 }
+{
+    match b {
+        b'0'..=b'9' => (b - b'0') as u64,
+        b'A'..=b'Z' => (b - b'A' + 10) as u64,
+        b'a'..=b'z' => (b - b'a' + 10) as u64,
+        _ => 36,
+    }
+}
+
+pub fn are_digits(digits: &[u8]) -> bool
+    ensures { result ≡ list_all is_decimal_digit digits.now }
+{
+    digits.iter().all(|b| is_decimal_digit(*b))
+}
+
+pub fn are_in_base(base: u64, digits: &[u8]) -> bool
+    ensures { result ≡ are_in_base base digits.now }
+{
+    digits.iter().all(|b| digit_value(*b) < base)
+}
+
+/// The number that digits of a base spell, if it is below a billion.
+#[tactic(auto, using(crate::proofs::Values::digits_value_step))]
+pub fn small_value(base: u64, digits: &[u8]) -> Option<u64>
+    requires low { 1 ≤ base }
+    requires high { base ≤ 36 }
+    ensures value { result ≡ below_billion (digits_value base digits.now) }
+    ensures bound { IfSome result (λ n. n < 1000000000) }
+{
+    let mut value = 0;
+    for b in digits {
+        value = value * base + digit_value(*b);
+        if value >= BILLION {
+            return None;
+        }
+    }
+    Some(value)
+}
+
+/// What decimals spell, in billionths: those past the ninth are cut.
+#[tactic(auto, using(crate::proofs::Values::billionths_more))]
+pub fn billionths(decimals: &[u8]) -> u64
+    requires { IsTrue (list_all is_decimal_digit decimals.now) }
+    ensures value { result ≡ digits_value 10 decimals.now * 1000000000 / 10 ^ length decimals.now }
+    ensures bound { result < 1000000000 }
+{
+    let mut value = 0;
+    let mut unit = BILLION / 10;
+    for b in decimals {
+        value += digit_value(*b) * unit;
+        unit /= 10;
+    }
+    value
+}

@@ -1,0 +1,54 @@
+ghost use Rattle.std.specs.Prelude.{◌≡◌, ◌+◌, ◌<◌, ◌≤◌, ◌^◌, length, IfSome};
+ghost use Rattle.t1_scan.specs.Lengths.{arrays_after, braces_after, inside_len};
+
+use crate::strings::part_len;
+
+/// How deep procedures and arrays nest at most. The limit is this product's own.
+const MAX_DEPTH: usize = 32;
+
+/// How many arrays are open behind a byte. Brackets count where no brace is open.
+fn arrays_after(b: u8, arrays: usize, braces: usize) -> usize
+    requires low { 1 ≤ arrays + braces }
+    requires high { arrays < 2 ^ 63 }
+    ensures { result ≡ arrays_after b arrays braces }
+{
+    match b {
+        b'[' if braces == 0 => arrays + 1,
+        b']' if braces == 0 => arrays - 1,
+        _ => arrays,
+    }
+}
+
+/// How many procedures are open behind a byte. A brace that closes nothing is ignored.
+fn braces_after(b: u8, braces: usize) -> usize
+    requires { braces < 2 ^ 63 }
+    ensures { result ≡ braces_after b braces }
+{
+    match b {
+        b'{' => braces + 1,
+        b'}' if braces > 0 => braces - 1,
+        _ => braces,
+    }
+}
+
+/// An array or a procedure, behind its first bracket, to its last: of so many arrays and procedures one is open.
+pub fn inside_len(text: &[u8], mut arrays: usize, mut braces: usize) -> Option<usize>
+    requires { arrays + braces ≡ 1 }
+    ensures value { result ≡ inside_len 0 arrays braces text.now }
+    ensures bound { IfSome result (λ n. n ≤ length text.now) }
+{
+    let mut at = 0;
+    while at < text.len() {
+        let b = text[at];
+        arrays = arrays_after(b, arrays, braces);
+        braces = braces_after(b, braces);
+        if arrays + braces == 0 {
+            return Some(at + 1);
+        }
+        if arrays + braces > MAX_DEPTH {
+            return None;
+        }
+        at += part_len(b, &text[at + 1..])?;
+    }
+    None
+}

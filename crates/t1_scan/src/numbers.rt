@@ -1,0 +1,72 @@
+ghost use Rattle.std.specs.Prelude.{◌≡◌, ◌<◌, ◌^◌, IfSome};
+ghost use Rattle.t1_scan.specs.Numbers.{magnitude_of, decimal_of, in_base, radix_of, number_of};
+
+use crate::digits::{BILLION, are_digits, are_in_base, billionths, small_value};
+use crate::runs::digits_len;
+
+/// Digits with at most one point and at least one digit, below a billion.
+#[tactic(auto, using(crate::proofs::Values::scaled_parts), unfolding(crate::specs::Numbers::magnitude_of))]
+fn magnitude(digits: &[u8]) -> Option<u64>
+    ensures value { result ≡ magnitude_of digits.now }
+    ensures bound { IfSome result (λ n. n < 10 ^ 18) }
+{
+    let (whole, rest) = digits.split_at(digits_len(digits));
+    let decimals = match rest {
+        [] => rest,
+        [b'.', decimals @ ..] => decimals,
+        _ => return None,
+    };
+    if !are_digits(decimals) || (whole.is_empty() && decimals.is_empty()) {
+        return None;
+    }
+    let value = small_value(10, whole)?;
+    Some(value * BILLION + billionths(decimals))
+}
+
+/// With an optional sign before them.
+#[tactic(auto, unfolding(crate::specs::Numbers::decimal_of))]
+fn decimal(run: &[u8]) -> Option<i64>
+    ensures { result ≡ decimal_of run.now }
+{
+    match run {
+        [] => None,
+        [b'-', digits @ ..] => Some(-(magnitude(digits)? as i64)),
+        [b'+', digits @ ..] => Some(magnitude(digits)? as i64),
+        _ => Some(magnitude(run)? as i64),
+    }
+}
+
+/// Digits of a base from 2 to 36, below a billion.
+fn in_base(base: u64, digits: &[u8]) -> Option<i64>
+    ensures { result ≡ in_base base digits.now }
+{
+    if !(2..=36).contains(&base) || digits.is_empty() || !are_in_base(base, digits) {
+        return None;
+    }
+    Some((small_value(base, digits)? * BILLION) as i64)
+}
+
+/// A base in decimal, `#`, and digits of that base.
+#[tactic(auto, unfolding(crate::specs::Numbers::radix_of))]
+fn radix(run: &[u8]) -> Option<i64>
+    ensures { result ≡ radix_of run.now }
+{
+    let (base, rest) = run.split_at(digits_len(run));
+    let [b'#', digits @ ..] = rest else {
+        return None;
+    };
+    if base.is_empty() {
+        return None;
+    }
+    in_base(small_value(10, base)?, digits)
+}
+
+/// The number that a run of regular bytes spells, in billionths.
+pub fn number(run: &[u8]) -> Option<i64>
+    ensures { result ≡ number_of run.now }
+{
+    match decimal(run) {
+        Some(value) => Some(value),
+        None => radix(run),
+    }
+}

@@ -1,0 +1,4 @@
+pub mod Joined
+pub mod SealError
+pub mod SegmentLaws
+pub mod Segments
