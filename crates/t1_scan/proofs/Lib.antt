@@ -1,2 +1,3 @@
+pub mod StringsRead
 pub mod Steps
 pub mod Values

@@ -1,5 +1,8 @@
 pub mod Bytes
+pub mod Laws
 pub mod Lengths
 pub mod Numbers
-pub mod Tokens
 pub mod Reading
+pub mod Spelling
+pub mod State
+pub mod Tokens

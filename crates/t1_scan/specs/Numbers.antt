@@ -24,17 +24,19 @@ is_fraction [] = true
 is_fraction (b ∷ s) = b == 46 && list_all is_decimal_digit s
 
 -- all the digits as one number, in billionths: the decimals past the ninth are cut
-abbrev pub scaled : List ℕ → List ℕ → ℕ
+unfoldable pub scaled : List ℕ → List ℕ → ℕ
 scaled whole decimals = digits_value 10 (whole ++ decimals) * 1000000000 / 10 ^ length decimals
 
--- digits with at most one point and at least one digit, below a billion
+-- that number, if what stands before the point is below a billion
+unfoldable pub value_of : List ℕ → List ℕ → Option ℕ
+value_of whole decimals = if nat_lt (digits_value 10 whole) 1000000000 then Some (scaled whole decimals) else None
+
+-- digits with at most one point and at least one digit
 unfoldable pub magnitude_of : List ℕ → Option ℕ
 magnitude_of digits =
     let whole = whole_part digits in
     let decimals = drop 1 (after_whole digits) in
-    if is_fraction (after_whole digits) && not (length whole + length decimals == 0) && nat_lt (digits_value 10 whole) 1000000000
-    then Some (scaled whole decimals)
-    else None
+    if is_fraction (after_whole digits) && not (length whole + length decimals == 0) then value_of whole decimals else None
 
 -- with an optional sign before them
 unfoldable pub decimal_of : List ℕ → Option ℤ

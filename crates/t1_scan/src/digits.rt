@@ -36,7 +36,7 @@ pub fn are_in_base(base: u64, digits: &[u8]) -> bool
 }
 
 /// The number that digits of a base spell, if it is below a billion.
-#[tactic(auto, using(crate::proofs::Values::digits_value_step))]
+#[tactic(auto, using(std::proofs::lemmas::Int::Digits::digits_value_more))]
 pub fn small_value(base: u64, digits: &[u8]) -> Option<u64>
     requires low { 1 ≤ base }
     requires high { base ≤ 36 }

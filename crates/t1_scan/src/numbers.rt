@@ -1,11 +1,24 @@
-ghost use Rattle.std.specs.Prelude.{◌≡◌, ◌<◌, ◌^◌, IfSome};
-ghost use Rattle.t1_scan.specs.Numbers.{magnitude_of, decimal_of, in_base, radix_of, number_of};
+ghost use Rattle.std.specs.Prelude.{◌≡◌, ◌<◌, ◌^◌, IfSome, IsTrue};
+ghost use Rattle.std.specs.List.{list_all};
+ghost use Rattle.t1_scan.specs.Bytes.{is_decimal_digit};
+ghost use Rattle.t1_scan.specs.Numbers.{value_of, magnitude_of, decimal_of, in_base, radix_of, number_of};
 
 use crate::digits::{BILLION, are_digits, are_in_base, billionths, small_value};
 use crate::runs::digits_len;
 
+/// The number with these digits before and behind its point, if it is below a billion.
+#[tactic(auto, using(crate::proofs::Values::scaled_parts), unfolding(crate::specs::Numbers::value_of))]
+fn value(whole: &[u8], decimals: &[u8]) -> Option<u64>
+    requires { IsTrue (list_all is_decimal_digit decimals.now) }
+    ensures value { result ≡ value_of whole.now decimals.now }
+    ensures bound { IfSome result (λ n. n < 10 ^ 18) }
+{
+    let whole = small_value(10, whole)?;
+    Some(whole * BILLION + billionths(decimals))
+}
+
 /// Digits with at most one point and at least one digit, below a billion.
-#[tactic(auto, using(crate::proofs::Values::scaled_parts), unfolding(crate::specs::Numbers::magnitude_of))]
+#[tactic(auto, unfolding(crate::specs::Numbers::magnitude_of))]
 fn magnitude(digits: &[u8]) -> Option<u64>
     ensures value { result ≡ magnitude_of digits.now }
     ensures bound { IfSome result (λ n. n < 10 ^ 18) }
@@ -19,8 +32,7 @@ fn magnitude(digits: &[u8]) -> Option<u64>
     if !are_digits(decimals) || (whole.is_empty() && decimals.is_empty()) {
         return None;
     }
-    let value = small_value(10, whole)?;
-    Some(value * BILLION + billionths(decimals))
+    value(whole, decimals)
 }
 
 /// With an optional sign before them.

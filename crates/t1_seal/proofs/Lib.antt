@@ -1,2 +1,4 @@
 pub mod Rows
 pub mod SegmentFaults
+pub mod WrittenRows
+pub mod ReadRows

@@ -27,17 +27,17 @@ typed-shorter : (b front rest : List ℕ) → typed b ≡ Ok (payload front rest
 typed-shorter [] front rest e = cc
 typed-shorter (t ∷ b) front rest e =
     chosen (t == 3) (Ok (ending b)) _ _ (length rest ≤ length (t ∷ b)) (λ same. absurd (cc same)) (λ other.
-        chosen (t == 1 || t == 2) (sized b) _ _ (length rest ≤ length (t ∷ b))
-            (λ same. let shorter : length rest ≤ length b = sized-shorter b front rest same in omega arith)
-            (λ same. absurd (cc same)) other) e
+    chosen (t == 1 || t == 2) (sized b) _ _ (length rest ≤ length (t ∷ b))
+    (λ same. let shorter : length rest ≤ length b = sized-shorter b front rest same in omega arith)
+    (λ same. absurd (cc same)) other) e
 
 pub segment_of-shorter : (b front rest : List ℕ) → segment_of b ≡ Ok (payload front rest) → length rest < length b
 unfolding segment_of
 segment_of-shorter [] front rest e = cc
 segment_of-shorter (x ∷ b) front rest e =
     chosen (x == 128) (typed b) _ _ (length rest < length (x ∷ b))
-        (λ same. let shorter : length rest ≤ length b = typed-shorter b front rest same in omega arith)
-        (λ same. absurd (cc same)) e
+    (λ same. let shorter : length rest ≤ length b = typed-shorter b front rest same in omega arith)
+    (λ same. absurd (cc same)) e
 
 -- Two readers of what follows a payload give the same where they agree on it.
 follow_same : (f g : List ℕ → Result Row SealError) (part : Result Part SealError) → ((front rest : List ℕ) → part ≡ Ok (payload front rest) → f rest ≡ g rest) → follow f part ≡ follow g part

@@ -1,11 +1,11 @@
 -- A row of segments is refused for a fault of segments, and for nothing else.
-use Rattle.std.proofs.Common.{◌≡◌, ℕ, zero, suc, Bool, true, false, cond, ◌==◌, ◌||◌, List, [], ◌∷◌, length, take, drop, Result, Ok, Err, refl, subst}
+use Rattle.std.proofs.Common.{◌≡◌, ℕ, zero, suc, Bool, true, false, cond, ◌==◌, ◌||◌, List, [], ◌∷◌, length, take, drop, Result, Ok, Err}
 use Rattle.std.specs.Prelude.{nat_lt}
 use Rattle.std.specs.Int.{from_le_bytes, w32}
 use Rattle.t1_seal.specs.declared.errors.SealError.{SealError}
 use Rattle.t1_seal.specs.declared.errors.SealError.TheVariants.{NotAFont, BadHeader, CutShort}
 use Rattle.t1_seal.specs.SealError.{IsSegmentFault}
-use Rattle.t1_seal.specs.Segments.{Part, nothing, ending, payload, Row, JoinedText, payload_of, sized, typed, segment_of, follow, with_front, row_within, row_of, as_pfb, as_pfa, begins_pfb, begins_pfa, joined_of}
+use Rattle.t1_seal.specs.Segments.{Part, nothing, ending, payload, Row, JoinedText, sized, typed, segment_of, follow, with_front, row_within, row_of, as_pfb, as_pfa, begins_pfb, begins_pfa, joined_of}
 
 -- What is refused is refused for a fault of segments.
 abbrev IsFaulty : {A : Type 0} → Result A SealError → Type 0
@@ -60,7 +60,7 @@ unfolding joined_of
 joined_of-faulty b =
     let other : Result JoinedText SealError = cond (begins_pfa b) (Ok (as_pfa b)) (Err NotAFont) in
     chosen (begins_pfb b) (as_pfb (row_of b)) other (as_pfb-faulty (row_of b) (row_within-faulty (length b) b))
-        (chosen (begins_pfa b) (Ok (as_pfa b)) (Err NotAFont) tt tt)
+    (chosen (begins_pfa b) (Ok (as_pfa b)) (Err NotAFont) tt tt)
 
 -- The refusal of a file is one of the three faults of segments.
 pub joined_of-refused : (b : List ℕ) (e : SealError) → joined_of b ≡ Err e → IsSegmentFault e

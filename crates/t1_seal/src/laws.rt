@@ -1,10 +1,24 @@
 //! Laws of the definitions, each proved on a function that does nothing: a caller of the function, or a
 //! proof that cites it, has the law.
 
-ghost use Rattle.t1_seal.specs.SegmentLaws.{RefusesByFault};
+ghost use Rattle.t1_seal.specs.SegmentLaws.{JoinedPfaIsWritten, JoinedPfbIsWritten, JoinsPfa, JoinsWrittenPfb, ReadRowsAreWritten, ReadsWrittenRows, RefusesByFault};
 
 /// A file that isn't joined is no PFA or PFB file, has a bad header, or is cut short.
 pub fn segment_refusals()
     ensures { RefusesByFault }
-{
-}
+{}
+
+/// A row written as segments is read as just these, and bytes that are read as a row are so written.
+pub fn rows_of_segments()
+    ensures read { ReadsWrittenRows }
+    ensures written { ReadRowsAreWritten }
+{}
+
+/// A file written as segments, or one that begins with `%!`, is joined to what it says, and a file that
+/// is joined is so written.
+pub fn font_files()
+    ensures pfb_read { JoinsWrittenPfb }
+    ensures pfb_written { JoinedPfbIsWritten }
+    ensures pfa_read { JoinsPfa }
+    ensures pfa_written { JoinedPfaIsWritten }
+{}

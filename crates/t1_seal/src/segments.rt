@@ -10,8 +10,11 @@ use std::alloc::Global;
 
 /// What every segment begins with.
 const SEGMENT_MARK: u8 = 128;
+
 const TEXT: u8 = 1;
+
 const BINARY: u8 = 2;
+
 const END: u8 = 3;
 
 /// What a row of segments begins with.
@@ -53,13 +56,26 @@ fn join_row(alloc: Global, row: &[u8]) -> Result<Joined, SealError>
     loop {
         match first_segment(rest)? {
             Segment::Nothing => {
-                return Ok(Joined { bytes, pfb: true, end_segment: false, trailing: false });
+                return Ok(Joined {
+                    bytes,
+                    pfb: true,
+                    end_segment: false,
+                    trailing: false,
+                });
             }
             Segment::End { rest } => {
                 let trailing = !rest.is_empty();
-                return Ok(Joined { bytes, pfb: true, end_segment: true, trailing });
+                return Ok(Joined {
+                    bytes,
+                    pfb: true,
+                    end_segment: true,
+                    trailing,
+                });
             }
-            Segment::Payload { payload, rest: following } => {
+            Segment::Payload {
+                payload,
+                rest: following,
+            } => {
                 bytes.extend_from_slice(payload)?;
                 rest = following;
             }

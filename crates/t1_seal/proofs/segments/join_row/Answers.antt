@@ -1,4 +1,3 @@
-use Rattle.std.proofs.Common.{◌<◌, ap, length, ◌≡◌, ◌∙◌, arith}
 use Rattle.std.proofs.lemmas.Result.{err_from_is_err_and}
 use Rattle.t1_seal.proofs.Rows.{payload_read, row_ended, row_over, row_refused, segment_of-shorter}
 use Rattle.t1_seal.proofs.segments.join_row.Goals as goal

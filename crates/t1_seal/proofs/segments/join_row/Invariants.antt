@@ -1,4 +1,4 @@
-use Rattle.std.proofs.Common.{◌≡◌, ℕ, length}
+use Rattle.std.proofs.Common.{◌≡◌, length}
 use Rattle.t1_seal.specs.Segments.{row_of, with_front}
 use Rattle.t1_seal.proofs.segments.join_row.Given as goal
 

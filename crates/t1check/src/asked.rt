@@ -1,0 +1,24 @@
+use thiserror::Error;
+
+/// What the words of the command line ask for.
+#[derive(Debug, Drop)]
+pub struct Options {
+    /// How many lines of the report are left out at its front.
+    pub after: u64,
+    /// The name of the font's file; without it standard input is read.
+    pub file: Option<String>,
+}
+
+/// Why the words of the command line give no options.
+#[derive(Debug, Drop, Error)]
+pub enum UsageError {
+    /// Help was asked for; this is its text.
+    #[error("{0}")]
+    Help(String),
+    /// The words aren't taken, as in `--after x`; this is what is told.
+    #[error("{0}")]
+    Usage(String),
+    /// An allocation was refused.
+    #[error("out of memory")]
+    Memory,
+}

@@ -1,0 +1,53 @@
+ghost use Rattle.std.specs.Prelude.{◌≡◌, ◌≢◌, ℕ, ◌≤◌, ◌<◌, ◌+◌, true, false};
+ghost use Rattle.t1check.specs.Input.{Gathers, TakesAtMost};
+
+use std::alloc::Global;
+use t1_io::Source;
+
+/// The greatest size of a font's file, in bytes.
+pub const LARGEST_FILE: usize = 16_777_216;
+
+/// How many bytes are asked for at once.
+const ROOM: usize = 65_536;
+
+/// What a source gave until its end.
+#[derive(Drop)]
+pub enum Input {
+    /// All its bytes, no more than a font's file may have.
+    Bytes(Vec<u8>),
+    /// More bytes than a font's file may have.
+    TooLarge,
+    /// A read failed.
+    Broken,
+    /// An allocation was refused.
+    NoMemory,
+}
+
+/// Reads to the end of the source, in as few calls as it allows, and no further than one byte past
+/// the size of a font's file.
+pub fn read_all<R: Source>(alloc: Global, source: &mut R) -> Input
+    ensures gathers { Gathers (R.left source.old) (R.left source.new) result }
+    ensures takes { R.takes source.new ≤ R.takes source.old + 16777217 }
+    ensures taken { TakesAtMost 16777217 (R.left source.old) (R.left source.new) }
+    ensures broken { result ≡ Input.Broken → R.failed source.new ≡ true }
+    ensures kept { result ≢ Input.Broken → R.failed source.new ≡ R.failed source.old }
+{
+    let mut bytes = Vec::new(alloc);
+    let mut buffer = [0u8; ROOM];
+    for _turn in 0..LARGEST_FILE + 1 {
+        let room = (LARGEST_FILE + 1 - bytes.len()).min(ROOM);
+        match source.take(&mut buffer[..room]) {
+            Err(_) => return Input::Broken,
+            Ok(0) => return Input::Bytes(bytes),
+            Ok(count) => {
+                if bytes.extend_from_slice(&buffer[..count]).is_err() {
+                    return Input::NoMemory;
+                }
+                if bytes.len() > LARGEST_FILE {
+                    return Input::TooLarge;
+                }
+            }
+        }
+    }
+    unreachable!()
+}
