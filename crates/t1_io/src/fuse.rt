@@ -28,11 +28,11 @@ impl<D: Source> Fuse<D> {
         ensures takes { ⟦<Fuse<D> as Source>⟧.takes result ≡ 0 }
         ensures failed { ⟦<Fuse<D> as Source>⟧.failed result ≡ D.failed device }
     {
-        let failed = device.has_failed();
+        let (takes, failed) = (0, device.has_failed());
         Fuse {
             device,
             limit,
-            takes: 0,
+            takes,
             failed,
         }
     }

@@ -37,23 +37,23 @@ string_closes depth s some =
     rw (back, nonzero) refl
 
 -- n bytes of a text and then m
-join : {o p q : Option ℕ} → (n m k : ℕ) → o ≡ further n p → p ≡ further m q → k ≡ n + m → o ≡ further k q
-join {o} {p} {q} n m k e f s = e ∙ ap (further n) f ∙ further_more n m q ∙ ap (λ i. further i q) (sym s)
+pub join : {o p : Option ℕ} (q : Option ℕ) (n m k : ℕ) → o ≡ further n p → p ≡ further m q → k ≡ n + m → o ≡ further k q
+join {o} {p} q n m k e f s = e ∙ ap (further n) f ∙ further_more n m q ∙ ap (λ i. further i q) (sym s)
 
 pub letters_read : (l : Letters) (depth : ℕ) (s : List ℕ) → 1 ≤ depth → are_letters l ≡ true → string_len false depth (letters_text l ++ s) ≡ further (length (letters_text l)) (string_len false depth s)
 letters_read no_letters depth s some h = sym (further_zero (string_len false depth s))
 letters_read (letter b more) depth s some h =
     let p = and_parts (not (b == 40 || b == 41 || b == 92)) (are_letters more) h in
-    join 1 (length (letters_text more)) (length (b ∷ letters_text more)) (string_letter depth b (letters_text more ++ s) some p.0) (letters_read more depth s some p.1) (omega arith)
+    join (string_len false depth s) 1 (length (letters_text more)) (length (b ∷ letters_text more)) (string_letter depth b (letters_text more ++ s) some p.0) (letters_read more depth s some p.1) (omega arith)
 letters_read (escaped b more) depth s some h =
-    join 2 (length (letters_text more)) (length (92 ∷ b ∷ letters_text more)) (string_escaped depth b (letters_text more ++ s) some) (letters_read more depth s some h) (omega arith)
+    join (string_len false depth s) 2 (length (letters_text more)) (length (92 ∷ b ∷ letters_text more)) (string_escaped depth b (letters_text more ++ s) some) (letters_read more depth s some h) (omega arith)
 letters_read (parentheses inner more) depth s some h =
     let p = and_parts (are_letters inner) (are_letters more) h in
     let rest = letters_text more ++ s in
-    let behind = join 1 (length (letters_text more)) (1 + length (letters_text more)) (string_closes depth rest some) (letters_read more depth s some p.1) refl in
-    let inside = join (length (letters_text inner)) (1 + length (letters_text more)) (length (letters_text inner) + (1 + length (letters_text more))) (letters_read inner (depth + 1) (41 ∷ rest) (omega arith) p.0) behind refl in
+    let behind = join (string_len false depth s) 1 (length (letters_text more)) (1 + length (letters_text more)) (string_closes depth rest some) (letters_read more depth s some p.1) refl in
+    let inside = join (string_len false depth s) (length (letters_text inner)) (1 + length (letters_text more)) (length (letters_text inner) + (1 + length (letters_text more))) (letters_read inner (depth + 1) (41 ∷ rest) (omega arith) p.0) behind refl in
     let regroup : (letters_text inner ++ (41 ∷ letters_text more)) ++ s ≡ letters_text inner ++ (41 ∷ rest) = append_assoc (letters_text inner) (41 ∷ letters_text more) s in
-    ap (λ t. string_len false depth (40 ∷ t)) regroup ∙ join 1 (length (letters_text inner) + (1 + length (letters_text more))) (length (40 ∷ (letters_text inner ++ (41 ∷ letters_text more)))) (string_opens depth (letters_text inner ++ (41 ∷ rest))) inside (omega (arith, length-append (letters_text inner) (41 ∷ letters_text more)))
+    ap (λ t. string_len false depth (40 ∷ t)) regroup ∙ join (string_len false depth s) 1 (length (letters_text inner) + (1 + length (letters_text more))) (length (40 ∷ (letters_text inner ++ (41 ∷ letters_text more)))) (string_opens depth (letters_text inner ++ (41 ∷ rest))) inside (omega (arith, length-append (letters_text inner) (41 ∷ letters_text more)))
 
 string_last : (s : List ℕ) → string_len false 1 (41 ∷ s) ≡ Some 1
 unfolding string_len

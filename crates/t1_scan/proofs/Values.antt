@@ -1,7 +1,7 @@
 -- The value of digits: of some in front of others, and of decimals in billionths.
-use Rattle.std.proofs.Common.{◌≡◌, ◌+◌, ◌*◌, ◌/◌, ◌^◌, ◌<◌, ◌≤◌, ℕ, zero, suc, Bool, true, false, ◌&&◌, nat_le, nat_lt, if◌then◌else◌, Some, None, List, [], ◌∷◌, ◌++◌, length, drop, take, get_or, refl, sym, ap, ◌∙◌, arith, length-append}
-use Rattle.std.proofs.Math.Nat.{pow-succ', pow-zero, add-mul, mul_assoc, zero-div, mul-div-mul_right, mul-add-div, mul-le-mul_left, mul-le-mul_right, div-eq_of_lt}
-use Rattle.std.proofs.lemmas.Bool.{and_parts}
+use Rattle.std.proofs.Common.{◌≡◌, ◌+◌, ◌*◌, ◌/◌, ◌^◌, ◌<◌, ◌≤◌, ℕ, zero, suc, Bool, true, false, ◌&&◌, nat_le, nat_lt, if◌then◌else◌, Some, None, List, [], ◌∷◌, ◌++◌, length, drop, take, get_or, refl, sym, ap, ◌∙◌, inl, inr, arith, length-append}
+use Rattle.std.proofs.Math.Nat.{pow-succ', pow-zero, add-mul, mul_assoc, zero-div, mul-div-mul_right, mul-add-div, mul-le-mul_right, div-eq_of_lt, pow-le-pow_right}
+use Rattle.std.proofs.lemmas.Bool.{and_parts, cases_lt}
 use Rattle.std.proofs.lemmas.Bool.Decides.{nat_tests}
 use Rattle.std.proofs.lemmas.List.{at_drop_more, at_drop_all}
 use Rattle.std.proofs.lemmas.Int.Digits.{digits_value-lt, digits_value_more}
@@ -11,6 +11,7 @@ use Rattle.std.specs.Char.{digit_value}
 use Rattle.std.specs.Str.Parse.{AllDigits, digits_value, digits_value_after}
 use Rattle.t1_scan.specs.Bytes.{is_decimal_digit}
 use Rattle.t1_scan.specs.Numbers.{below_billion, scaled}
+use Rattle.t1_scan.specs.Laws.{NineDigits}
 
 spread : (n base d t v : ℕ) → (n * base + d) * t + v ≡ n * (base * t) + ((0 * base + d) * t + v)
 spread n base d t v = omega (arith, add-mul (n * base) d t, mul_assoc n base t)
@@ -123,3 +124,28 @@ not_below base ds i one h =
     let grows = digits_value-take-le base ds i one in
     let e : nat_lt (digits_value base ds) 1000000000 ≡ false = grind (arith, nat_tests) in
     rw e refl
+
+leading_zero : (ds : List ℕ) → digits_value 10 (48 ∷ ds) ≡ digits_value 10 ds
+leading_zero ds = refl
+
+first_digit : (d : ℕ) (ds : List ℕ) → 0 < digit_value d → 10 ^ length ds ≤ digits_value 10 (d ∷ ds)
+first_digit d ds some =
+    let front = mul-le-mul_right (10 ^ length ds) some in
+    let e = digits_value-cons 10 d ds in
+    omega (arith, front, e)
+
+few_digits : (d : ℕ) (ds : List ℕ) → AllDigits 10 (d ∷ ds) → length (d ∷ ds) ≤ 9 → digits_value 10 (d ∷ ds) < 1000000000
+few_digits d ds h few =
+    let below = digits_value-lt 10 (d ∷ ds) h in
+    let grows : 10 ^ length (d ∷ ds) ≤ 10 ^ 9 = pow-le-pow_right (omega arith) few in
+    omega (arith, below, grows)
+
+many_digits : (d : ℕ) (ds : List ℕ) → 0 < digit_value d → digits_value 10 (d ∷ ds) < 1000000000 → length (d ∷ ds) ≤ 9
+many_digits d ds some below =
+    elim (cases_lt 8 (length ds)) [
+      | inl many ↦ (let grows : 10 ^ 9 ≤ 10 ^ length ds = pow-le-pow_right (omega arith) many in absurd (omega (arith, grows, first_digit d ds some)))
+      | inr few ↦ omega arith
+    ]
+
+pub nine_digits : NineDigits
+nine_digits = (leading_zero, λ d ds h some. (λ below. many_digits d ds some below, λ few. few_digits d ds h few))

@@ -1,5 +1,5 @@
 -- Laws of tokens.
-use Rattle.std.specs.Prelude.{◌≡◌, ◌<◌, ◌≤◌, ◌+◌, ◌*◌, ◌↔◌, ℕ, ℤ, pos, Bool, true, false, Option, Some, None, Result, Ok, Err, List, [], ◌∷◌, ◌++◌, ◌&&◌, ◌||◌, ◌==◌, if◌then◌else◌, length, map, All}
+use Rattle.std.specs.Prelude.{◌≡◌, ◌<◌, ◌≤◌, ◌+◌, ◌*◌, ◌↔◌, ℕ, ℤ, pos, Bool, true, false, Option, Some, None, Result, Ok, Err, List, [], ◌∷◌, ◌++◌, ◌&&◌, ◌||◌, ◌==◌, if◌then◌else◌, length, map}
 use Rattle.std.specs.List.{list_all}
 use Rattle.std.specs.Char.{digit_value}
 use Rattle.std.specs.Str.Parse.{digits_value, AllDigits}
@@ -73,8 +73,12 @@ abbrev pub Covers : Type 0
 Covers = (s : List ℕ) (ts : List Lexeme) → IsReadAs s ts → IsCoveredBy s ts
 
 -- each token is a byte or more, so a text has no more tokens than bytes
+abbrev pub HaveBytes : List Lexeme → Type 0
+HaveBytes [] = Unit {0}
+HaveBytes (t ∷ ts) = (1 ≤ length t.text) × HaveBytes ts
+
 abbrev pub TakesBytes : Type 0
-TakesBytes = (s : List ℕ) (ts : List Lexeme) → IsReadAs s ts → All (λ t. 1 ≤ length t.text) ts × (length ts ≤ length s)
+TakesBytes = (s : List ℕ) (ts : List Lexeme) → IsReadAs s ts → HaveBytes ts × (length ts ≤ length s)
 
 -- at most nine digits before the point, leading zeros not counted, is a value below a billion
 abbrev pub NineDigits : Type 0

@@ -144,17 +144,17 @@ spelled (bracketed body) = 91 ∷ (body_text body ++ (93 ∷ []))
 
 -- what it is, a number with its value in billionths
 abbrev pub meant : Plain → Kind
-meant (name run) = Name
-meant (word run) = Word
+meant (name _) = Name
+meant (word _) = Word
 meant (decimal sign whole fraction) = Number (signed sign (scaled whole (decimals_of fraction)))
 meant (radix base digits) = Number (pos (digits_value (digits_value 10 base) digits * 1000000000))
-meant (single b) = Word
+meant (single _) = Word
 meant double_open = Word
 meant double_close = Word
-meant (parenthesized letters) = Text
-meant (angled bytes) = Text
-meant (braced body) = Proc
-meant (bracketed body) = Array
+meant (parenthesized _) = Text
+meant (angled _) = Text
+meant (braced _) = Proc
+meant (bracketed _) = Array
 
 -- how deep it nests; parentheses don't count
 abbrev pub depth_of : Plain → ℕ

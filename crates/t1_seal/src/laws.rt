@@ -1,6 +1,7 @@
 //! Laws of the definitions, each proved on a function that does nothing: a caller of the function, or a
 //! proof that cites it, has the law.
 
+ghost use Rattle.t1_seal.specs.CipherLaws.{DeciphersTheEnciphered, StartsAtTheStart, StateRunsAlong};
 ghost use Rattle.t1_seal.specs.SegmentLaws.{JoinedPfaIsWritten, JoinedPfbIsWritten, JoinsPfa, JoinsWrittenPfb, ReadRowsAreWritten, ReadsWrittenRows, RefusesByFault};
 
 /// A file that isn't joined is no PFA or PFB file, has a bad header, or is cut short.
@@ -22,3 +23,16 @@ pub fn font_files()
     ensures pfa_read { JoinsPfa }
     ensures pfa_written { JoinedPfaIsWritten }
 {}
+
+/// The state of the cipher is that of the standard's formula, a byte at a time.
+pub fn cipher_state()
+    ensures start { StartsAtTheStart }
+    ensures byte { StateRunsAlong }
+{
+}
+
+/// Deciphering undoes enciphering, whatever the start.
+pub fn cipher_round_trip()
+    ensures { DeciphersTheEnciphered }
+{
+}

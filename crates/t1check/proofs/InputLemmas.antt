@@ -1,5 +1,5 @@
 -- Bytes that a source gave one part after another.
-use Rattle.std.proofs.Common.{◌≡◌, ℕ, ◌+◌, ◌≤◌, List, ◌++◌, Option, Result, Ok, Err, Bool, true, false, if◌then◌else◌, length, take, ap, ◌∙◌, subst, sym, arith, length-append}
+use Rattle.std.proofs.Common.{◌≡◌, ℕ, ◌+◌, ◌≤◌, List, ◌++◌, Option, Result, Ok, Err, false, if◌then◌else◌, length, take, ap, ◌∙◌, subst, sym, arith, length-append}
 use Rattle.std.proofs.lemmas.List.{take-append-le}
 use Rattle.std.specs.Result.{is_ok, is_err}
 use Rattle.std.specs.Io.KnownBytes.{Consumes}

@@ -1,1 +1,3 @@
+pub mod AnswerLemmas
+pub mod DecimalLemmas
 pub mod InputLemmas

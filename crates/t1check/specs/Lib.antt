@@ -1,2 +1,7 @@
-pub mod Input
+pub mod Answers
+pub mod Decimals
 pub mod Explained
+pub mod Input
+pub mod Lines
+pub mod Report
+pub mod Rules

@@ -5,14 +5,8 @@ ghost use Rattle.t1check.specs.Explained.{explained_output, explained_told, expl
 
 use crate::asked::UsageError;
 use crate::status::Status;
-use crate::telling::tell;
+use crate::telling::{OUT_OF_MEMORY, WRITE_FAILED, tell};
 use t1_io::{Sink, put_all};
-
-/// What is told where memory ran out.
-pub const OUT_OF_MEMORY: &str = "t1check: out of memory\n";
-
-/// What is told where a write or a flush failed.
-pub const WRITE_FAILED: &str = "t1check: write failed\n";
 
 /// Answers words that gave no options: the text of help on standard output, which is flushed, and
 /// everything else on standard error.

@@ -1,6 +1,5 @@
-use Rattle.std.proofs.Common.{rules, arith, ◌≡◌, ◌≤◌, ◌+◌, ◌++◌, ◌∙◌, ℕ, length, take, drop, ap, vec_len, length-append}
+use Rattle.std.proofs.Common.{arith, ◌≡◌, ◌++◌, ◌∙◌, ℕ, length, take, drop, ap, vec_len, length-append}
 use Rattle.std.proofs.lemmas.List.{length-take}
-use Rattle.std.proofs.lemmas.Grind.{common_steps}
 use Rattle.t1check.proofs.InputLemmas.{TakesAtMost-more, Consumes-more, items-extended}
 use Rattle.t1check.proofs.reading.read_all.Goals as goal
 
@@ -12,8 +11,8 @@ returns-then-is_err-clause-taken g c =
 pub loop-turn-preserved : goal.loop-turn-preserved
 loop-turn-preserved g c =
     let items : c.extend_from_slice.new.self.items ≡ c.loop-turn.bytes.items ++ take c.in-Ok.count c.take.new.buffer =
-        items-extended c.extend_from_slice.result c.loop-turn.bytes.items c.extend_from_slice.new.self.items c.take.new.buffer
-        (drop c.min-room.result c.loop-turn.buffer) c.in-Ok.count c.if-is_err.ensures.value c.extend_from_slice.ensures.items c.in-Ok.ensures.bound in
+    items-extended c.extend_from_slice.result c.loop-turn.bytes.items c.extend_from_slice.new.self.items c.take.new.buffer
+    (drop c.min-room.result c.loop-turn.buffer) c.in-Ok.count c.if-is_err.ensures.value c.extend_from_slice.ensures.items c.in-Ok.ensures.bound in
     let before : vec_len c.loop-turn.bytes ≡ length c.loop-turn.bytes.items = c.loop-turn.bytes.ok.0 in
     let after : vec_len c.extend_from_slice.new.self ≡ length c.extend_from_slice.new.self.items = c.extend_from_slice.new.self.ok.0 in
     record {

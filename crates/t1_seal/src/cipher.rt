@@ -1,0 +1,48 @@
+//! The cipher of eexec sections and charstrings: Type 1 Font Format 1.1, chapter 7.
+
+ghost use Rattle.std.specs.Prelude.{◌≡◌, ◌++◌, ◌∷◌, ℕ, List, []};
+ghost use Rattle.t1_seal.specs.Cipher.{charstring_start, eexec_start, plain_byte, state_after};
+
+const EEXEC_START: u16 = 55665;
+const CHARSTRING_START: u16 = 4330;
+const MULTIPLIER: u32 = 52845;
+const ADDEND: u32 = 22719;
+const STATES: u32 = 1 << 16;
+
+/// A cipher in the midst of its bytes. It deciphers one byte at a time, in their order.
+#[derive(Clone, Copy, Debug, PartialEq, Eq)]
+pub struct Cipher {
+    /// The state of 16 bits, called r in the standard.
+    pub r: u16,
+}
+
+impl Cipher {
+    /// The cipher at the start of an eexec section.
+    pub(crate) fn eexec() -> Cipher
+        ensures { result.r ≡ eexec_start }
+    {
+        Cipher { r: EEXEC_START }
+    }
+
+    /// The cipher at the start of a charstring.
+    pub fn charstring() -> Cipher
+        ensures { result.r ≡ charstring_start }
+    {
+        Cipher { r: CHARSTRING_START }
+    }
+
+    /// The plain byte of the next cipher byte.
+    ///
+    /// The contract holds for whatever start and front of cipher bytes lead to the state before.
+    pub fn next(&mut self, byte: u8) -> u8
+        ensures plain { (start : ℕ) (front : List ℕ) → state_after start front ≡ self.old.r →
+            result ≡ plain_byte start front byte }
+        ensures state { (start : ℕ) (front : List ℕ) → state_after start front ≡ self.old.r →
+            self.new.r ≡ state_after start (front ++ byte ∷ []) }
+    {
+        let plain = byte ^ (self.r >> 8) as u8;
+        let sum = (u32::from(byte) + u32::from(self.r)) * MULTIPLIER + ADDEND;
+        self.r = (sum % STATES) as u16;
+        plain
+    }
+}

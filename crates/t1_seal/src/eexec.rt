@@ -1,0 +1,128 @@
+//! The encrypted section behind the word `eexec`: Type 1 Font Format 1.1, chapter 7.
+
+ghost use Rattle.std.specs.Prelude.{◌≡◌, ◌+◌, ◌*◌, true};
+ghost use Rattle.t1_seal.specs.Eexec.{bytes_of_digits, digit_value, digits_of, is_blank, is_digit, is_hexadecimal, is_leading, opened, private_text_of, section_of};
+ghost use Rattle.t1_seal.specs.SealError.{Gives};
+
+use crate::errors::SealError;
+use crate::opening::Opening;
+use hex::FromHex;
+use std::alloc::Global;
+
+const FORM_FEED: u8 = 12;
+
+/// The private text of a font program, from the bytes behind its word `eexec`.
+///
+/// Blanks, tabs and line ends in front are skipped. A section whose first four bytes are hexadecimal
+/// digits is read as digits with blanks among them, up to the first other byte, and any other is binary
+/// to its end. The first four plain bytes are discarded; where there are fewer the answer is `TooShort`.
+pub fn open_eexec(alloc: Global, bytes: &[u8]) -> Result<Vec<u8>, SealError>
+    ensures { Gives (λ text. text.items) result (private_text_of bytes.now) }
+{
+    let section = without_leading(bytes);
+    if begins_with_digits(section) {
+        open_hexadecimal(alloc, section)
+    } else {
+        open_binary(alloc, section)
+    }
+}
+
+/// The section, without the blanks between it and the word.
+fn without_leading(bytes: &[u8]) -> &[u8]
+    ensures { result.now ≡ section_of bytes.now }
+{
+    let mut section = bytes;
+    while let [first, rest @ ..] = section {
+        if !is_leading_byte(*first) {
+            break;
+        }
+        section = rest;
+    }
+    section
+}
+
+/// Whether the section is written in hexadecimal.
+fn begins_with_digits(section: &[u8]) -> bool
+    ensures { result ≡ is_hexadecimal section.now }
+{
+    match section {
+        [a, b, c, d, ..] => {
+            is_hexadecimal_digit(*a)
+                & is_hexadecimal_digit(*b)
+                & is_hexadecimal_digit(*c)
+                & is_hexadecimal_digit(*d)
+        }
+        _ => false,
+    }
+}
+
+/// Opens a section whose bytes are the cipher bytes.
+fn open_binary(alloc: Global, section: &[u8]) -> Result<Vec<u8>, SealError>
+    ensures { Gives (λ text. text.items) result (opened section.now) }
+{
+    let mut opening = Opening::of(alloc, section.len())?;
+    for byte in section {
+        opening.take(*byte);
+    }
+    opening.finish()
+}
+
+/// Opens a section of digits, each pair of which writes a cipher byte.
+fn open_hexadecimal(alloc: Global, section: &[u8]) -> Result<Vec<u8>, SealError>
+    ensures { Gives (λ text. text.items) result (opened (bytes_of_digits (digits_of section.now))) }
+{
+    let mut opening = Opening::of(alloc, section.len() / 2)?;
+    let mut high = None;
+    for byte in section {
+        if is_hexadecimal_digit(*byte) {
+            match high {
+                None => high = Some(*byte),
+                Some(first) => {
+                    opening.take(byte_of_digits(first, *byte));
+                    high = None;
+                }
+            }
+        } else if !is_blank_byte(*byte) {
+            break;
+        }
+    }
+    opening.finish()
+}
+
+/// Whether a byte may stand between the word and the section.
+#[tactic(auto, unfolding(crate::specs::Eexec::is_leading))]
+fn is_leading_byte(byte: u8) -> bool
+    ensures { result ≡ is_leading byte }
+{
+    (byte == b' ') | (byte == b'\t') | (byte == b'\r') | (byte == b'\n')
+}
+
+/// Whether a byte is a hexadecimal digit, in either case.
+fn is_hexadecimal_digit(byte: u8) -> bool
+    ensures { result ≡ is_digit byte }
+{
+    byte.is_ascii_hexdigit()
+}
+
+/// Whether a byte is one of the six blanks of font text.
+#[tactic(auto, unfolding(crate::specs::Eexec::is_blank))]
+fn is_blank_byte(byte: u8) -> bool
+    ensures { result ≡ is_blank byte }
+{
+    (byte == 0)
+        | (byte == b'\t')
+        | (byte == b'\n')
+        | (byte == FORM_FEED)
+        | (byte == b'\r')
+        | (byte == b' ')
+}
+
+/// The byte that two digits write.
+fn byte_of_digits(high: u8, low: u8) -> u8
+    requires high { is_digit high ≡ true }
+    requires low { is_digit low ≡ true }
+    ensures { result ≡ digit_value high * 16 + digit_value low }
+{
+    let [byte] = <[u8; 1]>::from_hex([high, low]).unwrap();
+    byte
+}

@@ -1,0 +1,54 @@
+//! The private text while its cipher bytes come one by one.
+
+ghost use Rattle.std.specs.Prelude.{◌≡◌, ◌++◌, ◌∷◌, [], ℕ, List, IfOk, MatchResult, Ok, Err};
+ghost use Rattle.t1_seal.specs.Eexec.{opened};
+ghost use Rattle.t1_seal.specs.Opening.{HasRoom, HasTaken, IsFor};
+
+use crate::cipher::Cipher;
+use crate::errors::SealError;
+use std::alloc::{AllocError, Global};
+
+/// How many plain bytes stand in front of the private text.
+const DISCARDED: usize = 4;
+
+/// The private text as far as its cipher bytes have come.
+#[derive(Drop)]
+pub(crate) struct Opening {
+    cipher: Cipher,
+    /// How many of the first bytes were discarded.
+    discarded: usize,
+    text: Vec<u8>,
+}
+
+impl Opening {
+    /// An opening of at most so many cipher bytes.
+    pub(crate) fn of(alloc: Global, bytes: usize) -> Result<Opening, AllocError>
+        ensures taken { IfOk result (λ opening. HasTaken opening []) }
+        ensures room { IfOk result (IsFor bytes) }
+    {
+        let text = Vec::with_capacity(alloc, bytes.saturating_sub(DISCARDED))?;
+        Ok(Opening { cipher: Cipher::eexec(), discarded: 0, text })
+    }
+
+    /// Takes the next cipher byte.
+    pub(crate) fn take(&mut self, byte: u8)
+        requires { HasRoom self.old }
+        ensures taken { (front : List ℕ) → HasTaken self.old front → HasTaken self.new (front ++ byte ∷ []) }
+        ensures room { (bytes : ℕ) → IsFor bytes self.old → IsFor bytes self.new }
+    {
+        let plain = self.cipher.next(byte);
+        if self.discarded < DISCARDED {
+            self.discarded += 1;
+        } else {
+            self.text.push_reserved(plain);
+        }
+    }
+
+    /// The private text, once all cipher bytes were taken.
+    pub(crate) fn finish(self) -> Result<Vec<u8>, SealError>
+        ensures { (front : List ℕ) → HasTaken self front →
+            MatchResult result (λ text. opened front ≡ Ok text.items) (λ e. opened front ≡ Err e) }
+    {
+        if self.discarded < DISCARDED { Err(SealError::TooShort) } else { Ok(self.text) }
+    }
+}
