@@ -1,3 +1,6 @@
 pub mod AnswerLemmas
+pub mod CommandLemmas
 pub mod DecimalLemmas
 pub mod InputLemmas
+pub mod SingleFault
+pub mod ValueLemmas

@@ -1,4 +1,5 @@
 pub mod Answers
+pub mod CommandLine
 pub mod Decimals
 pub mod Explained
 pub mod Input

@@ -1,0 +1,28 @@
+use Rattle.std.proofs.Common.{rules, ◌≡◌, codes, ap, ◌∙◌, Some, Option}
+use Rattle.std.proofs.lemmas.Result.{IfOk-weaker}
+use Rattle.clap.specs.Simple.{app_of_fields}
+use Rattle.clap.specs.Words.{Rule, app_of, new_app, new_rule, rule_of}
+use Rattle.clap.specs.declared.builder.value_parser.ValueParser.{ValueParser}
+use Rattle.clap.specs.declared.builder.value_parser.ValueParser.TheVariants as parser
+use Rattle.t1check.specs.CommandLine.{after_rule, file_rule}
+use Rattle.t1check.proofs.CommandLemmas.{app_of-t1check}
+use Rattle.t1check.proofs.command_line.command.Goals as goal
+
+pub returns : goal.returns
+returns c =
+    let named = λ (r : Rule). record r { value_names = 1 } in
+    let long = λ (r : Rule). record r { long = Some (codes "after") } in
+    let parsed = λ (p : Option ValueParser) (r : Rule). record r { parser = p } in
+    let u64 : c.value_parser-after.result.value_parser ≡ Some (parser.Unsigned 0 18446744073709551615) =
+    let given = c.value_parser-after.ensures.given in given.1 ∙ ap Some (given.2 ∙ c.value_parser.ensures) in
+    let is_after : rule_of c.value_parser-after.result ≡ after_rule =
+    ap rule_of c.value_parser-after.ensures.others
+    ∙ ap (parsed c.value_parser-after.result.value_parser) (ap rule_of c.help.ensures ∙ ap rule_of c.value_name.ensures
+    ∙ ap named (ap rule_of c.long.ensures ∙ ap long c.new.ensures.rule))
+    ∙ ap (λ (p : Option ValueParser). parsed p (named (long (new_rule (codes "after"))))) u64 in
+    let is_file : rule_of c.help-file.result ≡ file_rule =
+    ap rule_of c.help-file.ensures ∙ ap rule_of c.value_name-2.ensures ∙ ap named c.new-2.ensures.rule in
+    let new : app_of c.after_help.result ≡ new_app (codes "t1check") =
+    ap app_of_fields c.after_help.ensures ∙ ap app_of_fields c.about.ensures ∙ c.new-3.ensures.app in
+    IfOk-weaker c.arg-2.result _ _ (λ cmd added. app_of-t1check c.after_help.result c.in_ok-arg.field-0 cmd c.value_parser-after.result c.help-file.result
+    c.in_ok-arg.ensures added (search rules) (search rules) new is_after is_file) c.arg-2.ensures

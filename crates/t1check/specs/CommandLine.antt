@@ -1,0 +1,53 @@
+-- The command line: its arguments as clap sees them, and the options that words give by clap's rules.
+use Rattle.std.specs.Prelude.{◌≡◌, ℕ, List, [], ◌∷◌, Option, None, Some, option_map, codes, string_bytes}
+use Rattle.std.specs.Str.Parse.{IsNumeral, without_leading_plus, digits_value}
+use Rattle.clap.specs.Words.{App, IsUnsignedIn, Rule, Text, fault_of, first_of, matches_of, new_app, new_rule, with_rule}
+use Rattle.clap.specs.declared.builder.value_parser.ValueParser.TheVariants as parser
+use Rattle.clap.specs.declared.error.kind.ErrorKind.TheVariants.{DisplayHelp}
+use Rattle.t1check.specs.declared.asked.Options.{Options}
+use Rattle.t1check.specs.declared.asked.UsageError.{UsageError}
+use Rattle.t1check.specs.declared.asked.UsageError.TheVariants.{Help, Usage, Memory}
+
+-- --after K, K a number of 64 bits
+abbrev pub after_rule : Rule
+after_rule = record (new_rule (codes "after")) {
+  long = Some (codes "after");
+  value_names = 1;
+  parser = Some (parser.Unsigned 0 18446744073709551615);
+}
+
+-- FILE
+abbrev pub file_rule : Rule
+file_rule = record (new_rule (codes "file")) { value_names = 1 }
+
+unfoldable pub t1check : App
+t1check = with_rule (with_rule (new_app (codes "t1check")) after_rule) file_rule
+
+-- What clap takes for a number of 64 bits.
+abbrev pub IsTextOfNumber : Option Text → Type 0
+IsTextOfNumber None = Unit {0}
+IsTextOfNumber (Some text) = IsUnsignedIn 0 18446744073709551615 text
+
+-- A number as clap reads it: digits, with a plus before them or without; a missing one is 0.
+abbrev pub IsNumber : Option Text → ℕ → Type 0
+IsNumber None n = n ≡ 0
+IsNumber (Some text) n = IsNumeral 10 (without_leading_plus text) × (n ≡ digits_value 10 (without_leading_plus text))
+
+-- The options are those that the words give.
+pub record AreGiven (words : List Text) (options : Options) : Type 0 where
+  pub after : IsNumber (first_of (codes "after") (matches_of t1check words)) options.after
+  pub file : option_map string_bytes options.file ≡ first_of (codes "file") (matches_of t1check words)
+
+-- The first fault that clap finds in the words is the request for help.
+abbrev pub AsksHelp : List Text → Type 0
+AsksHelp words = fault_of t1check words ≡ DisplayHelp ∷ []
+
+abbrev pub IsHelp : UsageError → Type 0
+IsHelp (Help text) = Unit {0}
+IsHelp (Usage text) = ⊥
+IsHelp Memory = ⊥
+
+abbrev pub IsHelpOrMemory : UsageError → Type 0
+IsHelpOrMemory (Help text) = Unit {0}
+IsHelpOrMemory (Usage text) = ⊥
+IsHelpOrMemory Memory = Unit {0}

@@ -1,0 +1,107 @@
+ghost use Rattle.std.specs.Prelude.{◌≡◌, true, map, option_map, string_bytes, codes, IfOk, IfErr};
+ghost use Rattle.clap.specs.Words.{FailsBy, app_of, fault_of, first_value, found_of, kind_of, matches_of, rows_of, takes};
+ghost use Rattle.clap.specs.declared.error.kind.ErrorKind.TheVariants.{OutOfMemory, DisplayHelp};
+ghost use Rattle.t1check.specs.CommandLine.{t1check, AreGiven, IsNumber, IsTextOfNumber, IsHelp, IsHelpOrMemory, AsksHelp};
+
+use crate::asked::{Options, UsageError};
+use clap::error::ErrorKind;
+use clap::{Arg, ArgMatches, Command, value_parser};
+use std::alloc::{AllocError, Global};
+use std::convert::AsStr;
+
+const ABOUT: &str = "Lists every rule of the book that an Adobe Type 1 font (PFA or PFB) breaks.";
+
+const AFTER_HELP: &str = "\
+Exit status:
+  0  no line of a report was written
+  1  at least one line of a report was written
+  2  the font was refused; standard error says why, with a number
+  3  the words weren't taken, a file or device failed, or memory ran out
+
+Example:
+  t1check --after 20 font.pfb    writes the report from its line 21 on";
+
+/// Reads the words of the command line, the program's name first.
+pub fn options<S: AsStr>(alloc: Global, words: &[S]) -> Result<Options, UsageError>
+    ensures given { IfOk result (AreGiven (map S.text words.now)) }
+    ensures taken { IfErr result (λ e. takes t1check (map S.text words.now) ≡ true → e ≡ UsageError.Memory) }
+    ensures help { IfErr result (λ e. AsksHelp (map S.text words.now) → IsHelpOrMemory e) }
+    ensures only_help { IfErr result (λ e. IsHelp e → AsksHelp (map S.text words.now)) }
+{
+    let matches = match matches_in(alloc, words) {
+        Ok(matches) => matches,
+        Err(error) => return Err(usage_error(alloc, &error)),
+    };
+    let after = number(matches.get_str("after"));
+    let file = owned(alloc, matches.get_str("file"))?;
+    Ok(Options { after, file })
+}
+
+/// The number that an argument was given; 0 where it wasn't there.
+fn number(text: Option<&str>) -> u64
+    requires { IsTextOfNumber (option_map (λ s. s.now) text) }
+    ensures { IsNumber (option_map (λ s. s.now) text.entry) result }
+{
+    match text {
+        Some(text) => text.parse::<u64>().unwrap(),
+        None => 0,
+    }
+}
+
+/// A copy of the text that an argument was given.
+fn owned(alloc: Global, text: Option<&str>) -> Result<Option<String>, AllocError>
+    ensures { IfOk result (λ copy. option_map string_bytes copy ≡ option_map (λ s. s.now) text.entry) }
+{
+    match text {
+        Some(text) => Ok(Some(String::from_str(alloc, text)?)),
+        None => Ok(None),
+    }
+}
+
+fn command<'a>(alloc: Global) -> Result<Command<'a>, AllocError>
+    ensures { IfOk result (λ c. app_of c ≡ t1check) }
+{
+    let after = Arg::new(alloc, "after")
+        .long("after")
+        .value_name("K")
+        .help("Leaves the first K lines of the report out [default: 0]")
+        .value_parser(value_parser!(u64));
+    let file = Arg::new(alloc, "file")
+        .value_name("FILE")
+        .help("The font's file; without it standard input is read");
+    Command::new(alloc, "t1check")
+        .about(ABOUT)
+        .after_help(AFTER_HELP)
+        .arg(after)?
+        .arg(file)
+}
+
+fn usage_error(alloc: Global, error: &clap::Error) -> UsageError
+    ensures memory { kind_of error.now ≡ OutOfMemory → result ≡ UsageError.Memory }
+    ensures help { kind_of error.now ≡ DisplayHelp → IsHelpOrMemory result }
+    ensures only_help { IsHelp result → kind_of error.now ≡ DisplayHelp }
+{
+    let kind = error.kind();
+    if kind == ErrorKind::OutOfMemory {
+        return UsageError::Memory;
+    }
+    match error.to_string(alloc) {
+        Err(_) => UsageError::Memory,
+        Ok(text) => {
+            if kind == ErrorKind::DisplayHelp {
+                UsageError::Help(text)
+            } else {
+                UsageError::Usage(text)
+            }
+        }
+    }
+}
+
+fn matches_in<'a, S: AsStr>(alloc: Global, words: &'a [S]) -> Result<ArgMatches<'a>, clap::Error>
+    ensures rows { IfOk result (λ m. rows_of (found_of m) ≡ matches_of t1check (map S.text words.entry.now)) }
+    ensures number { IfOk result (λ m. IsTextOfNumber (first_value (found_of m) (codes "after"))) }
+    ensures taken { IfErr result (λ e. takes t1check (map S.text words.entry.now) ≡ true → kind_of e ≡ OutOfMemory) }
+    ensures faults { FailsBy (fault_of t1check (map S.text words.entry.now)) result }
+{
+    command(alloc)?.try_get_matches_from(words)
+}
