@@ -2,5 +2,6 @@ pub mod AnswerLemmas
 pub mod CommandLemmas
 pub mod DecimalLemmas
 pub mod InputLemmas
+pub mod ReportLemmas
 pub mod SingleFault
 pub mod ValueLemmas

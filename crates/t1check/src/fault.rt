@@ -1,7 +1,7 @@
 ghost use Rattle.std.specs.Prelude.{◌≡◌, ℕ, drop, IfOk};
 ghost use Rattle.t1_seal.specs.Joined.{joined_text};
 ghost use Rattle.t1check.specs.Rules.{number_of, violated};
-ghost use Rattle.t1check.specs.Report.{report_of};
+ghost use Rattle.t1check.specs.Report.{IsReport, report_of};
 
 use crate::rule::Rule;
 use std::alloc::{AllocError, Global};
@@ -21,7 +21,8 @@ pub struct Fault {
 
 /// All violations in a font file, in the order of their places.
 pub fn report(alloc: Global, joined: &Joined) -> Result<Vec<Fault>, AllocError>
-    ensures { IfOk result (λ faults. faults.items ≡ report_of (joined_text joined.now)) }
+    ensures value { IfOk result (λ faults. faults.items ≡ report_of (joined_text joined.now)) }
+    ensures exact { IfOk result (λ faults. IsReport (joined_text joined.now) faults.items) }
 {
     let mut faults = Vec::new(alloc);
     let mut number = 1;

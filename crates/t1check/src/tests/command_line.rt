@@ -1,0 +1,115 @@
+use crate::asked::UsageError;
+use crate::command_line::options;
+use std::test::Fail;
+
+const HELP: &str = "\
+Lists every rule of the book that an Adobe Type 1 font (PFA or PFB) breaks.
+
+Usage: t1check [OPTIONS] [FILE]
+
+Arguments:
+  [FILE]  The font's file; without it standard input is read
+
+Options:
+      --after <K>  Leaves the first K lines of the report out [default: 0]
+  -h, --help       Print help
+
+Exit status:
+  0  no line of a report was written
+  1  at least one line of a report was written
+  2  the font was refused; standard error says why, with a number
+  3  the words weren't taken, a file or device failed, or memory ran out
+
+Example:
+  t1check --after 20 font.pfb    writes the report from its line 21 on
+";
+
+/// What words give: the count, and the file's name, empty where there is none.
+#[test]
+fn takes_words(rt: HostRuntime) -> Result<(), Fail> {
+    let table: [(&[&str], u64, Option<&str>); 9] = [
+        (&["t1check"], 0, None),
+        (&[], 0, None),
+        (&["t1check", "font.pfb"], 0, Some("font.pfb")),
+        (&["t1check", "-"], 0, Some("-")),
+        (&["t1check", "--after", "1"], 1, None),
+        (&["t1check", "font.pfb", "--after=007"], 7, Some("font.pfb")),
+        (
+            &["t1check", "--after", "+5", "--", "--help"],
+            5,
+            Some("--help"),
+        ),
+        (
+            &["t1check", "--after", "18446744073709551615"],
+            u64::MAX,
+            None,
+        ),
+        (&["t1check", "--after", "16", ""], 16, Some("")),
+    ];
+    for (words, after, file) in table {
+        let taken = options(rt.alloc(), words)?;
+        assert_eq!(rt; taken.after, after, "of {words:?}");
+        let name = taken.file.as_ref().map(|name| name.as_str());
+        assert_eq!(rt; name, file, "of {words:?}");
+    }
+    Ok(())
+}
+
+#[test]
+fn gives_help(rt: HostRuntime) {
+    let table: [&[&str]; 3] = [
+        &["t1check", "--help"],
+        &["t1check", "-h"],
+        &["t1check", "font.pfb", "--help"],
+    ];
+    for words in table {
+        match options(rt.alloc(), words) {
+            Err(UsageError::Help(text)) => assert_eq!(rt; text.as_str(), HELP, "of {words:?}"),
+            _ => panic!(rt; "no help of {words:?}"),
+        }
+    }
+}
+
+#[test]
+fn refuses_words(rt: HostRuntime) {
+    let table: [(&[&str], &str); 8] = [
+        (
+            &["t1check", "--after", "x"],
+            "error: invalid value 'x' for '--after <K>': invalid digit found in string\n\nFor more information, try '--help'.\n",
+        ),
+        (
+            &["t1check", "--after", "x", "--help"],
+            "error: invalid value 'x' for '--after <K>': invalid digit found in string\n\nFor more information, try '--help'.\n",
+        ),
+        (
+            &["t1check", "--after="],
+            "error: invalid value '' for '--after <K>': cannot parse integer from empty string\n\nFor more information, try '--help'.\n",
+        ),
+        (
+            &["t1check", "--after"],
+            "error: a value is required for '--after <K>' but none was supplied\n\nFor more information, try '--help'.\n",
+        ),
+        (
+            &["t1check", "--after", "18446744073709551616"],
+            "error: invalid value '18446744073709551616' for '--after <K>': number too large to fit in target type\n\nFor more information, try '--help'.\n",
+        ),
+        (
+            &["t1check", "--after", "1", "--after", "2"],
+            "error: the argument '--after <K>' cannot be used multiple times\n\nUsage: t1check [OPTIONS] [FILE]\n\nFor more information, try '--help'.\n",
+        ),
+        (
+            &["t1check", "a.pfb", "b.pfb"],
+            "error: unexpected argument 'b.pfb' found\n\nUsage: t1check [OPTIONS] [FILE]\n\nFor more information, try '--help'.\n",
+        ),
+        (
+            &["t1check", "--befor"],
+            "error: unexpected argument '--befor' found\n\n  tip: to pass '--befor' as a value, use '-- --befor'\n\nUsage: t1check [OPTIONS] [FILE]\n\nFor more information, try '--help'.\n",
+        ),
+    ];
+    for (words, want) in table {
+        match options(rt.alloc(), words) {
+            Err(UsageError::Usage(text)) => assert_eq!(rt; text.as_str(), want, "of {words:?}"),
+            _ => panic!(rt; "no usage fault of {words:?}"),
+        }
+    }
+}

@@ -1,0 +1,89 @@
+use super::{NO_END, NO_END_REPORT, answer_to};
+use crate::status::Status;
+use std::test::Fail;
+
+#[test]
+fn reports_the_violations(rt: HostRuntime) {
+    let table: [(&[u8], u64, &str); 8] = [
+        (&NO_END, 0, NO_END_REPORT),
+        (&NO_END, 1, ""),
+        (&NO_END, u64::MAX, ""),
+        (&[0x80, 1, 3, 0, 0, 0, 0x25, 0x21, 0x0a, 0x80, 3], 0, ""),
+        (
+            &[0x80, 3, 0],
+            0,
+            "1: font file 0 F02 bytes after the end segment\n",
+        ),
+        (&[0x80, 3, 0], 1, ""),
+        (&[0x25, 0x21], 0, ""),
+        (
+            &[0x80, 1, 0, 0, 0, 0, 0x80, 2, 1, 0, 0, 0, 0x41],
+            0,
+            NO_END_REPORT,
+        ),
+    ];
+    for (bytes, after, text) in table {
+        let answer = answer_to(rt.alloc(), bytes, after);
+        let status = if text.is_empty() {
+            Status::Clean
+        } else {
+            Status::Faults
+        };
+        assert_eq!(rt; answer.output.as_slice(), text.as_bytes(), "on {bytes:?}");
+        assert_eq!(rt; answer.told.as_slice(), b"".as_slice(), "on {bytes:?}");
+        assert_eq!(rt; answer.status, status, "on {bytes:?}");
+    }
+}
+
+#[test]
+fn refuses_broken_files(rt: HostRuntime) {
+    let table: [(&[u8], &str); 10] = [
+        (&[], "refused: E01 not a PFA or PFB\n"),
+        (&[0x25], "refused: E01 not a PFA or PFB\n"),
+        (&[0x25, 0x20], "refused: E01 not a PFA or PFB\n"),
+        (&[0x80], "refused: E03 segment cut short\n"),
+        (&[0x80, 1, 0, 0], "refused: E03 segment cut short\n"),
+        (
+            &[0x80, 1, 5, 0, 0, 0, 0x25, 0x21, 0x0a, 0x0a],
+            "refused: E03 segment cut short\n",
+        ),
+        (&[0x80, 4], "refused: E02 bad segment header\n"),
+        (
+            &[0x80, 0, 1, 0, 0, 0, 0x25],
+            "refused: E02 bad segment header\n",
+        ),
+        (
+            &[0x80, 1, 0, 0, 0, 0, 0x41],
+            "refused: E02 bad segment header\n",
+        ),
+        (
+            &[0x80, 1, 0, 1, 0, 0, 0x41],
+            "refused: E03 segment cut short\n",
+        ),
+    ];
+    for (bytes, line) in table {
+        let answer = answer_to(rt.alloc(), bytes, 0);
+        assert_eq!(rt; answer.output.as_slice(), b"".as_slice(), "on {bytes:?}");
+        assert_eq!(rt; answer.told.as_slice(), line.as_bytes(), "on {bytes:?}");
+        assert_eq!(rt; answer.status, Status::Refused, "on {bytes:?}");
+    }
+}
+
+/// The greatest file is read, and one byte more is refused before anything else.
+#[test]
+fn reads_sixteen_megabytes(rt: HostRuntime) -> Result<(), Fail> {
+    let largest = vec![in rt.alloc(); 0u8; 16_777_216]?;
+    let answer = answer_to(rt.alloc(), largest.as_slice(), 0);
+    assert_eq!(rt;
+        answer.told.as_slice(),
+        b"refused: E01 not a PFA or PFB\n".as_slice()
+    );
+    let larger = vec![in rt.alloc(); 0u8; 16_777_217]?;
+    let answer = answer_to(rt.alloc(), larger.as_slice(), 0);
+    assert_eq!(rt;
+        answer.told.as_slice(),
+        b"refused: E05 file too large\n".as_slice()
+    );
+    assert_eq!(rt; answer.status, Status::Refused);
+    Ok(())
+}
