@@ -1,25 +1,25 @@
 -- An array or a procedure in plain form is read to its end, or not at all where it nests too deep.
-use Rattle.std.proofs.Common.{◌≡◌, ◌+◌, ◌-◌, ◌==◌, ◌<◌, ◌≤◌, ℕ, zero, suc, Bool, true, false, ◌&&◌, ◌||◌, not, if◌then◌else◌, Option, Some, None, List, [], ◌∷◌, ◌++◌, length, drop, max, refl, sym, ap, ◌∙◌, inl, inr, arith, length-append, append_assoc}
+use Rattle.std.proofs.Common.{◌≡◌, ◌+◌, ◌-◌, ◌==◌, ◌<◌, ◌≤◌, ℕ, Bool, true, false, ◌&&◌, not, if◌then◌else◌, Option, Some, None, List, [], ◌∷◌, ◌++◌, length, drop, refl, sym, ap, ◌∙◌, inl, inr, arith, length-append, append_assoc}
 use Rattle.std.proofs.lemmas.Bool.{and_parts, cases_lt, false≢true}
 use Rattle.std.proofs.lemmas.Bool.Decides.{nat_tests}
 use Rattle.std.proofs.Math.Seq.{drop-append_seam}
-use Rattle.std.specs.List.{list_all, prefix_len}
+use Rattle.std.specs.List.{list_all}
 use Rattle.t1_scan.specs.Bytes.{is_line_end}
-use Rattle.t1_scan.specs.Lengths.{further, comment_len, string_len, angle_len, part_len, arrays_after, braces_after, inside_len}
-use Rattle.t1_scan.specs.Spelling.{Part, byte, comment, string, hexadecimal, double_angle, part_text, is_idle, is_part, are_letters, are_hexadecimal, letters_text, Body, nothing, part, procedure, array, body_text, is_body, body_depth}
-use Rattle.t1_scan.proofs.Steps.{further_more, further_zero, IsOpenAfter, inside_more, inside_deep}
+use Rattle.t1_scan.specs.Lengths.{further, comment_len, angle_len, part_len, arrays_after, braces_after, inside_len}
+use Rattle.t1_scan.specs.Spelling.{Part, byte, comment, string, hexadecimal, double_angle, part_text, is_idle, is_part, letters_text, Body, nothing, part, procedure, array, body_text, is_body, body_depth}
+use Rattle.t1_scan.proofs.Steps.{further_zero, IsOpenAfter, inside_more, inside_deep}
 use Rattle.t1_scan.proofs.StringsRead.{join, string_read, angle_read}
 
 -- a step over n bytes, from so many open arrays and procedures to so many
-record IsStep (a p a' p' b n : ℕ) (s : List ℕ) : Type 0 where
-  arrays : a' ≡ arrays_after b a p
-  braces : p' ≡ braces_after b p
-  some : 1 ≤ a' + p'
-  len : part_len b s ≡ Some n
-  one : 1 ≤ n
-  within : n ≤ 1 + length s
+pub record IsStep (a p a' p' b n : ℕ) (s : List ℕ) : Type 0 where
+  pub arrays : a' ≡ arrays_after b a p
+  pub braces : p' ≡ braces_after b p
+  pub some : 1 ≤ a' + p'
+  pub len : part_len b s ≡ Some n
+  pub one : 1 ≤ n
+  pub within : n ≤ 1 + length s
 
-step : {a p a' p' b n : ℕ} {s : List ℕ} → IsStep a p a' p' b n s → a' + p' ≤ 32 → inside_len 0 a p (b ∷ s) ≡ further n (inside_len 0 a' p' (drop n (b ∷ s)))
+pub step : {a p a' p' b n : ℕ} {s : List ℕ} → IsStep a p a' p' b n s → a' + p' ≤ 32 → inside_len 0 a p (b ∷ s) ≡ further n (inside_len 0 a' p' (drop n (b ∷ s)))
 step {a} {p} {a'} {p'} {b} {n} {s} h shallow =
     let state : IsOpenAfter (b ∷ s) 0 a p a' p' = record { within = omega arith; arrays = h.arrays; braces = h.braces } in
     let places : 0 + n ≡ n = omega arith in
@@ -27,19 +27,19 @@ step {a} {p} {a'} {p'} {b} {n} {s} h shallow =
     ∙ inside_more state n h.len (omega (arith, h.some)) shallow h.one (omega (arith, h.within))
     ∙ ap (λ k. further k (inside_len 0 a' p' (drop k (b ∷ s)))) places
 
-too_deep : {a p a' p' b n : ℕ} {s : List ℕ} → IsStep a p a' p' b n s → 32 < a' + p' → inside_len 0 a p (b ∷ s) ≡ None
+pub too_deep : {a p a' p' b n : ℕ} {s : List ℕ} → IsStep a p a' p' b n s → 32 < a' + p' → inside_len 0 a p (b ∷ s) ≡ None
 too_deep {a} {p} {a'} {p'} {b} {n} {s} h deep =
     let state : IsOpenAfter (b ∷ s) 0 a p a' p' = record { within = omega arith; arrays = h.arrays; braces = h.braces } in
     sym (further_zero (inside_len 0 a p (b ∷ s))) ∙ inside_deep state deep
 
 -- what a byte that is no bracket leaves open
-arrays_steady : (a p b : ℕ) → (b == 91) ≡ false → (b == 93) ≡ false → a ≡ arrays_after b a p
+pub arrays_steady : (a p b : ℕ) → (b == 91) ≡ false → (b == 93) ≡ false → a ≡ arrays_after b a p
 arrays_steady a p b h k = rw (h, k) (elim (p == 0) as (λ c. a ≡ (if c && false then a + 1 else (if c && false then a - 1 else a))) [ true ↦ refl | false ↦ refl ])
 
 arrays_ignored : (a p b : ℕ) → (p == 0) ≡ false → a ≡ arrays_after b a p
 arrays_ignored a p b h = rw h refl
 
-braces_steady : (p b : ℕ) → (b == 123) ≡ false → (b == 125) ≡ false → p ≡ braces_after b p
+pub braces_steady : (p b : ℕ) → (b == 123) ≡ false → (b == 125) ≡ false → p ≡ braces_after b p
 braces_steady p b h k = rw (h, k) refl
 
 braces_ignored : (p b : ℕ) → (b == 123) ≡ false → (p == 0) ≡ true → p ≡ braces_after b p
@@ -99,21 +99,22 @@ whole : {a p b n : ℕ} (t s : List ℕ) → IsStep a p a p b n (t ++ s) → n �
 whole {a} {p} {b} {n} t s h e shallow =
     step h shallow ∙ ap (λ k. further k (inside_len 0 a p (drop k ((b ∷ t) ++ s)))) e ∙ ap (λ r. further (length (b ∷ t)) (inside_len 0 a p r)) (drop-append_seam (b ∷ t) s)
 
-part_read : (q : Part) (f : Bool) (a p : ℕ) (s : List ℕ) → (p == 0) ≡ not f → 1 ≤ a + p → a + p ≤ 32 → is_part f q ≡ true → inside_len 0 a p (part_text q ++ s) ≡ further (length (part_text q)) (inside_len 0 a p s)
+pub part_read : (q : Part) (f : Bool) (a p : ℕ) (s : List ℕ) → (p == 0) ≡ not f → 1 ≤ a + p → a + p ≤ 32 → is_part f q ≡ true → inside_len 0 a p (part_text q ++ s) ≡ further (length (part_text q)) (inside_len 0 a p s)
 unfolding part_len angle_len
 part_read (byte b) f a p s e some shallow h = whole [] s (idle_step f a p b s e some h) refl shallow
 part_read (comment bytes line_end) f a p s e some shallow h =
     let parts = and_parts (list_all (λ b. not (is_line_end b)) bytes) (is_line_end line_end) h in
     let read = comment_read bytes line_end s parts.0 parts.1 in
-    let front = whole {n = 1 + length bytes} bytes (line_end ∷ s) (record {
+    let state : IsStep a p a p 37 (1 + length bytes) (bytes ++ (line_end ∷ s)) = record {
       arrays = arrays_steady a p 37 refl refl;
       braces = braces_steady p 37 refl refl;
       some = some;
       len = ap (λ n. Some (1 + n)) read;
       one = omega arith;
       within = omega (arith, length-append bytes (line_end ∷ s));
-    }) (omega arith) shallow in
-    let back = whole [] s (idle_step f a p line_end s e some (line_end_idle f line_end parts.1)) refl shallow in
+    } in
+    let front : inside_len 0 a p ((37 ∷ bytes) ++ (line_end ∷ s)) ≡ further (length (37 ∷ bytes)) (inside_len 0 a p (line_end ∷ s)) = whole bytes (line_end ∷ s) state (omega arith) shallow in
+    let back : inside_len 0 a p (line_end ∷ s) ≡ further 1 (inside_len 0 a p s) = whole [] s (idle_step f a p line_end s e some (line_end_idle f line_end parts.1)) refl shallow in
     ap (λ t. inside_len 0 a p (37 ∷ t)) (append_assoc bytes (line_end ∷ []) s)
     ∙ join (inside_len 0 a p s) (length (37 ∷ bytes)) 1 (length (37 ∷ (bytes ++ (line_end ∷ [])))) front back (omega (arith, length-append bytes (line_end ∷ [])))
 part_read (string letters) f a p s e some shallow h =
@@ -147,7 +148,7 @@ part_read double_angle f a p s e some shallow h =
     }) refl shallow
 
 -- one bracket more
-opens_procedure : (a p : ℕ) (s : List ℕ) → IsStep a p a (p + 1) 123 1 s
+pub opens_procedure : (a p : ℕ) (s : List ℕ) → IsStep a p a (p + 1) 123 1 s
 opens_procedure a p s = record {
   arrays = arrays_steady a p 123 refl refl;
   braces = refl;
@@ -157,7 +158,7 @@ opens_procedure a p s = record {
   within = omega arith;
 }
 
-closes_procedure : (a p : ℕ) (s : List ℕ) → 1 ≤ a + p → IsStep a (p + 1) a p 125 1 s
+pub closes_procedure : (a p : ℕ) (s : List ℕ) → 1 ≤ a + p → IsStep a (p + 1) a p 125 1 s
 closes_procedure a p s some = record {
   arrays = arrays_steady a (p + 1) 125 refl refl;
   braces = omega arith;
@@ -167,7 +168,7 @@ closes_procedure a p s some = record {
   within = omega arith;
 }
 
-opens_array : (a p : ℕ) (s : List ℕ) → (p == 0) ≡ true → IsStep a p (a + 1) p 91 1 s
+pub opens_array : (a p : ℕ) (s : List ℕ) → (p == 0) ≡ true → IsStep a p (a + 1) p 91 1 s
 opens_array a p s e = record {
   arrays = rw e refl;
   braces = refl;
@@ -177,7 +178,7 @@ opens_array a p s e = record {
   within = omega arith;
 }
 
-closes_array : (a p : ℕ) (s : List ℕ) → (p == 0) ≡ true → 1 ≤ a + p → IsStep (a + 1) p a p 93 1 s
+pub closes_array : (a p : ℕ) (s : List ℕ) → (p == 0) ≡ true → 1 ≤ a + p → IsStep (a + 1) p a p 93 1 s
 closes_array a p s e some = record {
   arrays = rw e (let back : (a + 1) - 1 ≡ a = omega arith in sym back);
   braces = refl;
@@ -235,9 +236,9 @@ body_deep (procedure inner more) f a p s e some shallow deep h =
     ∙ elim (cases_lt 32 (a + (p + 1))) [
       | inl past ↦ too_deep opens past
       | inr fits ↦ further_none 1 (step opens fits) (elim (cases_lt 32 (a + (p + 1) + body_depth inner)) [
-          | inl past ↦ body_deep inner true a (p + 1) (125 ∷ rest) nonzero (omega arith) fits past parts.0
-          | inr within ↦ further_none (length (body_text inner)) (body_read inner true a (p + 1) (125 ∷ rest) nonzero (omega arith) within parts.0) (further_none 1 (step (closes_procedure a p rest some) shallow) (body_deep more f a p s e some shallow (omega arith) parts.1))
-        ])
+        | inl past ↦ body_deep inner true a (p + 1) (125 ∷ rest) nonzero (omega arith) fits past parts.0
+        | inr within ↦ further_none (length (body_text inner)) (body_read inner true a (p + 1) (125 ∷ rest) nonzero (omega arith) within parts.0) (further_none 1 (step (closes_procedure a p rest some) shallow) (body_deep more f a p s e some shallow (omega arith) parts.1))
+      ])
     ]
 body_deep (array inner more) true a p s e some shallow deep h = absurd (false≢true h)
 body_deep (array inner more) false a p s e some shallow deep h =
@@ -248,16 +249,16 @@ body_deep (array inner more) false a p s e some shallow deep h =
     ∙ elim (cases_lt 32 (a + 1 + p)) [
       | inl past ↦ too_deep opens past
       | inr fits ↦ further_none 1 (step opens fits) (elim (cases_lt 32 (a + 1 + p + body_depth inner)) [
-          | inl past ↦ body_deep inner false (a + 1) p (93 ∷ rest) e (omega arith) fits past parts.0
-          | inr within ↦ further_none (length (body_text inner)) (body_read inner false (a + 1) p (93 ∷ rest) e (omega arith) within parts.0) (further_none 1 (step (closes_array a p rest e some) shallow) (body_deep more false a p s e some shallow (omega arith) parts.1))
-        ])
+        | inl past ↦ body_deep inner false (a + 1) p (93 ∷ rest) e (omega arith) fits past parts.0
+        | inr within ↦ further_none (length (body_text inner)) (body_read inner false (a + 1) p (93 ∷ rest) e (omega arith) within parts.0) (further_none 1 (step (closes_array a p rest e some) shallow) (body_deep more false a p s e some shallow (omega arith) parts.1))
+      ])
     ]
 
-inside_last : (s : List ℕ) → inside_len 0 0 1 (125 ∷ s) ≡ Some 1
+pub inside_last : (s : List ℕ) → inside_len 0 0 1 (125 ∷ s) ≡ Some 1
 unfolding inside_len
 inside_last s = refl
 
-inside_last_array : (s : List ℕ) → inside_len 0 1 0 (93 ∷ s) ≡ Some 1
+pub inside_last_array : (s : List ℕ) → inside_len 0 1 0 (93 ∷ s) ≡ Some 1
 unfolding inside_len
 inside_last_array s = refl
 

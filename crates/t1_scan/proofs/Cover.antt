@@ -1,13 +1,12 @@
 -- The tokens of a text cover it but for blanks and comments, and each takes a byte or more.
-use Rattle.std.proofs.Common.{◌≡◌, ◌+◌, ◌-◌, ◌==◌, ◌<◌, ◌≤◌, ℕ, zero, suc, Bool, true, false, ◌&&◌, ◌||◌, not, if◌then◌else◌, Option, Some, None, option_and_then, Result, Ok, Err, List, [], ◌∷◌, ◌++◌, length, drop, take, refl, sym, ap, ◌∙◌, arith, length-append, length-drop, length-take}
+use Rattle.std.proofs.Common.{◌≡◌, ◌+◌, ◌==◌, ◌<◌, ◌≤◌, ℕ, suc, Bool, true, false, ◌||◌, if◌then◌else◌, Option, Some, None, Ok, List, [], ◌∷◌, ◌++◌, length, drop, take, not, subst, inl, inr, refl, sym, ap, ◌∙◌, arith, length-drop, length-take}
+use Rattle.std.proofs.lemmas.Bool.{cases_Bool, or_parts}
 use Rattle.std.proofs.lemmas.List.{take-append-drop, take_all}
-use Rattle.std.specs.List.{prefix_len}
-use Rattle.t1_scan.specs.declared.error.ScanError.{ScanError}
-use Rattle.t1_scan.specs.declared.error.ScanError.TheVariants.{Unclosed}
 use Rattle.t1_scan.specs.Bytes.{is_blank, is_regular}
-use Rattle.t1_scan.specs.Lengths.{further, is_comment_after, blank_len, run_len, string_len, angle_len, part_len, inside_len, begins_with_close, token_len}
+use Rattle.t1_scan.specs.Lengths.{further, is_comment_after, blank_len, string_len, angle_len, part_len, inside_len, token_len}
 use Rattle.t1_scan.specs.Tokens.{Found, kind_of, cut, first_of, token_of}
-use Rattle.t1_scan.specs.Laws.{Lexeme, IsReadAs, are_blanks, IsCoveredBy, Covers, HaveBytes, TakesBytes}
+use Rattle.t1_scan.specs.Laws.{Covers, TakesBytes}
+use Rattle.t1_scan.specs.Texts.{is_gap, are_blanks}
 
 -- where there is a length, it is 1 or more
 abbrev IsSomeLength : Option ℕ → Type 0
@@ -69,6 +68,35 @@ blanks_front c (b ∷ s) =
       | false ↦ λ e. refl
     ] refl
 
+-- where blanks and comments end in front of a byte
+pub record EndsBefore (c : Bool) (s : List ℕ) (b : ℕ) : Type 0 where
+  pub gap : is_gap c (take (blank_len c s) s) ≡ true
+  pub starts : not (is_blank b || b == 37) ≡ true
+
+pub gap_front : (c : Bool) (s : List ℕ) (b : ℕ) (u : List ℕ) → drop (blank_len c s) s ≡ b ∷ u → EndsBefore c s b
+unfolding blank_len
+gap_front c [] b u h = cc
+gap_front c (x ∷ s) b u h =
+    let test = c || (is_blank x || x == 37) in
+    let n = blank_len (is_comment_after c x) s in
+    let P : Bool → Type 0 = λ y. drop (if y then 1 + n else 0) (x ∷ s) ≡ b ∷ u in
+    elim (cases_Bool test) [
+      | inl e ↦
+          (let more : 1 + n ≡ suc n = omega arith in
+          let later : drop (suc n) (x ∷ s) ≡ b ∷ u = rw (e, more) at h in
+          let ih = gap_front (is_comment_after c x) s b u later in
+          record { gap = rw (e, more) (rw (e, ih.gap) refl); starts = ih.starts })
+      | inr e ↦
+          (let here : x ∷ s ≡ b ∷ u = rw e at h in
+          let same : x ≡ b = cc in
+          let parts = or_parts c (is_blank x || x == 37) e in
+          record { gap = rw e (rw parts.0 refl); starts = subst (λ y. not (is_blank y || y == 37) ≡ true) same (rw parts.1 refl) })
+    ]
+
+first_byte : (s : List ℕ) → 1 ≤ length s → (b : ℕ) × (u : List ℕ) × (s ≡ b ∷ u)
+first_byte [] h = absurd (omega arith)
+first_byte (b ∷ u) h = (b, u, refl)
+
 cut_some : (b : ℕ) (s : List ℕ) (o : Option ℕ) → cut (b ∷ s) o ≡ Ok None → ⊥
 cut_some b s None h = cc
 cut_some b s (Some n) h = cc
@@ -77,7 +105,7 @@ first_none : (s : List ℕ) → first_of s ≡ Ok None → s ≡ []
 first_none [] h = refl
 first_none (b ∷ s) h = absurd (cut_some b s (token_len b s) h)
 
-all_blanks : (s : List ℕ) → token_of s ≡ Ok None → are_blanks false s ≡ true
+pub all_blanks : (s : List ℕ) → token_of s ≡ Ok None → are_blanks false s ≡ true
 all_blanks s h =
     let none = first_none (drop (blank_len false s) s) h in
     let past : length s ≤ blank_len false s = omega (arith, ap length none, length-drop (blank_len false s) s) in
@@ -88,7 +116,7 @@ covers s [] h = all_blanks s h
 covers s (t ∷ ts) h =
     let gap = blank_len false s in
     let p = first_is (drop gap s) (record { kind = t.kind; text = t.text; rest = h.0 }) h.1 in
-    (take gap s, h.0, sym (take-append-drop gap s) ∙ ap (λ r. take gap s ++ r) (joined (drop gap s) (record { kind = t.kind; text = t.text; rest = h.0 }) p.0 p.1), blanks_front false s, covers h.0 ts h.2)
+    (take gap s, h.0, sym (take-append-drop gap s) ∙ ap (λ r. take gap s ++ r) (joined (drop gap s) (record { kind = t.kind; text = t.text; rest = h.0 }) p.0 p.1), (let front = first_byte (drop gap s) p.1.front in (gap_front false s front.0 front.1 front.2).gap), covers h.0 ts h.2)
 
 -- a token that was read is a byte or more, and leaves less
 pub record Shortens (s : List ℕ) (found : Found) : Type 0 where

@@ -1,7 +1,15 @@
+pub mod BodiesFound
 pub mod BodiesRead
+pub mod Calls
 pub mod Cover
+pub mod NumbersFound
 pub mod NumbersRead
-pub mod StringsRead
-pub mod TokensRead
+pub mod PartsFound
+pub mod Prefixes
 pub mod Steps
+pub mod StringsFound
+pub mod StringsRead
+pub mod TextsRead
+pub mod TokensFound
+pub mod TokensRead
 pub mod Values

@@ -1,14 +1,13 @@
 -- A number in plain form has its value.
-use Rattle.std.proofs.Common.{◌≡◌, ◌+◌, ◌*◌, ◌==◌, ◌<◌, ◌≤◌, ℕ, ℤ, pos, neg_ℤ, zero, suc, Bool, true, false, ◌&&◌, ◌||◌, not, if◌then◌else◌, nat_le, nat_lt, Option, Some, None, List, [], ◌∷◌, ◌++◌, length, drop, take, refl, sym, ap, ◌∙◌, arith, length-append, append_assoc}
+use Rattle.std.proofs.Common.{◌≡◌, ◌+◌, ◌*◌, ◌==◌, ℕ, pos, neg_ℤ, Bool, true, false, ◌&&◌, not, nat_le, nat_lt, Option, Some, None, List, [], ◌∷◌, ◌++◌, length, drop, refl, ap, ◌∙◌, arith}
 use Rattle.std.proofs.Math.Seq.{drop-append_seam, take-append_seam}
 use Rattle.std.proofs.lemmas.Bool.{and_parts, false≢true}
 use Rattle.std.proofs.lemmas.Bool.Decides.{nat_tests}
 use Rattle.std.specs.List.{list_all, prefix_len}
-use Rattle.std.specs.Char.{digit_value}
 use Rattle.std.specs.Option.{option_map, option_or}
 use Rattle.std.specs.Str.Parse.{digits_value}
-use Rattle.t1_scan.specs.Bytes.{is_regular, is_decimal_digit}
-use Rattle.t1_scan.specs.Numbers.{whole_part, after_whole, is_fraction, scaled, value_of, magnitude_of, decimal_of, are_in_base, in_base, radix_of, number_of}
+use Rattle.t1_scan.specs.Bytes.{is_decimal_digit}
+use Rattle.t1_scan.specs.Numbers.{whole_part, after_whole, is_fraction, scaled, value_of, magnitude_of, decimal_of, are_in_base, radix_of}
 use Rattle.t1_scan.specs.Laws.{DecimalValue, RadixValue}
 use Rattle.t1_scan.specs.Spelling.{Sign, no_sign, plus, minus, sign_text, signed, fraction_text, decimals_of, is_decimal, is_radix}
 

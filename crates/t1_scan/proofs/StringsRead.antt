@@ -1,14 +1,14 @@
 -- A string in plain form is read to its end.
-use Rattle.std.proofs.Common.{◌≡◌, ◌+◌, ◌-◌, ◌==◌, ◌<◌, ◌≤◌, ℕ, zero, suc, Bool, true, false, ◌&&◌, ◌||◌, not, if◌then◌else◌, Option, Some, None, List, [], ◌∷◌, ◌++◌, length, refl, sym, ap, ◌∙◌, arith, length-append, append_assoc}
+use Rattle.std.proofs.Common.{◌≡◌, ◌+◌, ◌-◌, ◌==◌, ◌≤◌, ℕ, true, false, ◌||◌, not, Option, Some, List, [], ◌∷◌, ◌++◌, length, refl, sym, ap, ◌∙◌, arith, length-append, append_assoc}
 use Rattle.std.proofs.lemmas.Bool.{and_parts}
 use Rattle.std.proofs.lemmas.Bool.Decides.{nat_tests}
 use Rattle.std.specs.List.{list_all}
 use Rattle.t1_scan.specs.Lengths.{further, string_len, close_len, angle_len}
-use Rattle.t1_scan.specs.Spelling.{Letters, no_letters, letter, escaped, parentheses, letters_text, are_letters, is_not_angle, are_hexadecimal}
+use Rattle.t1_scan.specs.Spelling.{Letters, no_letters, letter, escaped, parentheses, letters_text, are_letters, are_hexadecimal}
 use Rattle.t1_scan.proofs.Steps.{further_more, further_zero}
 
 -- a byte in a string that neither opens nor closes
-string_letter : (depth b : ℕ) (s : List ℕ) → 1 ≤ depth → not (b == 40 || b == 41 || b == 92) ≡ true → string_len false depth (b ∷ s) ≡ further 1 (string_len false depth s)
+pub string_letter : (depth b : ℕ) (s : List ℕ) → 1 ≤ depth → not (b == 40 || b == 41 || b == 92) ≡ true → string_len false depth (b ∷ s) ≡ further 1 (string_len false depth s)
 unfolding string_len
 string_letter depth b s some plain =
     let opens : (b == 40) ≡ false = grind (arith, nat_tests) in
@@ -17,19 +17,19 @@ string_letter depth b s some plain =
     let nonzero : (depth == 0) ≡ false = grind (arith, nat_tests) in
     rw (opens, closes, escapes, nonzero) refl
 
-string_escaped : (depth b : ℕ) (s : List ℕ) → 1 ≤ depth → string_len false depth (92 ∷ b ∷ s) ≡ further 2 (string_len false depth s)
+pub string_escaped : (depth b : ℕ) (s : List ℕ) → 1 ≤ depth → string_len false depth (92 ∷ b ∷ s) ≡ further 2 (string_len false depth s)
 unfolding string_len
 string_escaped depth b s some =
     let nonzero : (depth == 0) ≡ false = grind (arith, nat_tests) in
     rw (nonzero) (further_more 1 1 (string_len false depth s))
 
-string_opens : (depth : ℕ) (s : List ℕ) → string_len false depth (40 ∷ s) ≡ further 1 (string_len false (depth + 1) s)
+pub string_opens : (depth : ℕ) (s : List ℕ) → string_len false depth (40 ∷ s) ≡ further 1 (string_len false (depth + 1) s)
 unfolding string_len
 string_opens depth s =
     let nonzero : (depth + 1 == 0) ≡ false = grind (arith, nat_tests) in
     rw (nonzero) refl
 
-string_closes : (depth : ℕ) (s : List ℕ) → 1 ≤ depth → string_len false (depth + 1) (41 ∷ s) ≡ further 1 (string_len false depth s)
+pub string_closes : (depth : ℕ) (s : List ℕ) → 1 ≤ depth → string_len false (depth + 1) (41 ∷ s) ≡ further 1 (string_len false depth s)
 unfolding string_len
 string_closes depth s some =
     let back : (depth + 1) - 1 ≡ depth = omega arith in
@@ -55,7 +55,7 @@ letters_read (parentheses inner more) depth s some h =
     let regroup : (letters_text inner ++ (41 ∷ letters_text more)) ++ s ≡ letters_text inner ++ (41 ∷ rest) = append_assoc (letters_text inner) (41 ∷ letters_text more) s in
     ap (λ t. string_len false depth (40 ∷ t)) regroup ∙ join (string_len false depth s) 1 (length (letters_text inner) + (1 + length (letters_text more))) (length (40 ∷ (letters_text inner ++ (41 ∷ letters_text more)))) (string_opens depth (letters_text inner ++ (41 ∷ rest))) inside (omega (arith, length-append (letters_text inner) (41 ∷ letters_text more)))
 
-string_last : (s : List ℕ) → string_len false 1 (41 ∷ s) ≡ Some 1
+pub string_last : (s : List ℕ) → string_len false 1 (41 ∷ s) ≡ Some 1
 unfolding string_len
 string_last s = refl
 

@@ -1,40 +1,31 @@
--- A token in plain form, in front of a blank or the end, is read as just this token.
-use Rattle.std.proofs.Common.{◌≡◌, ◌+◌, ◌*◌, ◌==◌, ◌<◌, ◌≤◌, ℕ, ℤ, pos, zero, suc, Bool, true, false, ◌&&◌, ◌||◌, not, if◌then◌else◌, nat_le, nat_lt, Option, Some, None, Result, Ok, Err, List, [], ◌∷◌, ◌++◌, map, length, drop, take, slice_index, refl, sym, ap, subst, ◌∙◌, inl, inr, ◌⊎◌, is_none, arith, length-append, append_assoc}
+-- A token in plain form is read as just this token.
+use Rattle.std.proofs.Common.{◌≡◌, ◌+◌, ◌==◌, ◌<◌, ◌≤◌, ℕ, ℤ, Bool, true, false, ◌&&◌, ◌||◌, not, nat_lt, Option, Some, None, Result, Ok, Err, List, [], ◌∷◌, ◌++◌, length, slice_index, refl, ap, subst, ◌∙◌, inl, inr, is_none, arith, length-append}
 use Rattle.std.proofs.Math.Seq.{drop-append_seam, take-append_seam}
 use Rattle.std.proofs.lemmas.Bool.{and_parts, or_cases, false≢true}
 use Rattle.std.proofs.lemmas.Bool.Decides.{nat_tests}
 use Rattle.std.proofs.lemmas.List.Folds.{list_all-append}
-use Rattle.std.specs.List.{list_all, prefix_len}
+use Rattle.std.specs.List.{list_all}
 use Rattle.std.specs.Char.{digit_value}
 use Rattle.std.specs.Str.Parse.{digits_value}
 use Rattle.t1_scan.specs.declared.error.ScanError.{ScanError}
 use Rattle.t1_scan.specs.declared.error.ScanError.TheVariants.{Unclosed}
 use Rattle.t1_scan.specs.declared.token.Kind.{Kind}
-use Rattle.t1_scan.specs.declared.token.Kind.TheVariants.{Number, Name, Word, Text, Proc, Array}
+use Rattle.t1_scan.specs.declared.token.Kind.TheVariants.{Name, Word, Text, Proc, Array}
 use Rattle.t1_scan.specs.Bytes.{is_blank, is_regular, is_decimal_digit}
-use Rattle.t1_scan.specs.Lengths.{further, is_comment_after, blank_len, run_len, string_len, close_len, angle_len, part_len, inside_len, begins_with_close, token_len}
-use Rattle.t1_scan.specs.Numbers.{scaled, value_of, magnitude_of, decimal_of, are_in_base, radix_of, number_of}
-use Rattle.t1_scan.specs.Tokens.{Found, number_or_word, kind_of, cut, first_of, token_of}
-use Rattle.t1_scan.specs.Spelling.{Letters, letters_text, are_letters, is_not_angle, are_hexadecimal, Body, body_text, is_body, body_depth, Sign, no_sign, plus, minus, sign_text, signed, fraction_text, decimals_of, Plain, name, word, decimal, radix, single, double_open, double_close, parenthesized, angled, braced, bracketed, spelled, meant, depth_of, is_decimal, is_radix, is_plain}
-use Rattle.t1_scan.specs.Laws.{Lexeme, IsReadAs, continued, written, lexeme_of, IsReadable, AreReadable, RoundTrip, TooDeep}
+use Rattle.t1_scan.specs.Lengths.{further, blank_len, run_len, angle_len, part_len, begins_with_close, token_len}
+use Rattle.t1_scan.specs.Numbers.{magnitude_of, decimal_of, are_in_base, radix_of, number_of}
+use Rattle.t1_scan.specs.Tokens.{Found, number_or_word, kind_of, cut, token_of}
+use Rattle.t1_scan.specs.Spelling.{Letters, letters_text, are_letters, is_not_angle, are_hexadecimal, Body, body_text, is_body, body_depth, Sign, no_sign, plus, minus, sign_text, fraction_text, decimals_of, Plain, name, word, decimal, radix, single, double_open, double_close, parenthesized, angled, braced, bracketed, spelled, meant, is_decimal, is_radix, is_plain}
+use Rattle.t1_scan.specs.Laws.{TooDeep}
+use Rattle.t1_scan.specs.Texts.{ends_run, can_end, IsReadable}
 use Rattle.t1_scan.proofs.StringsRead.{string_read, angle_read}
 use Rattle.t1_scan.proofs.BodiesRead.{procedure_read, procedure_deep, array_read, array_deep}
-use Rattle.t1_scan.proofs.NumbersRead.{not_true, ends_test, prefix_is, IsDecimal, decimal_parts, IsRadix, radix_parts, decimal_value, radix_value}
+use Rattle.t1_scan.proofs.NumbersRead.{not_true, ends_test, prefix_is, decimal_parts, IsRadix, radix_parts, decimal_value, radix_value}
 
--- the end, or a blank
-unfoldable pub begins_blank : List ℕ → Bool
-begins_blank [] = true
-begins_blank (b ∷ s) = is_blank b
-
-blank_ends : (s : List ℕ) → begins_blank s ≡ true → ends_test is_regular s ≡ true
-unfolding begins_blank ends_test
-blank_ends [] h = refl
-blank_ends (b ∷ s) h = grind (arith, nat_tests)
-
-no_close : (s : List ℕ) → begins_blank s ≡ true → begins_with_close s ≡ false
-unfolding begins_blank
-no_close [] h = refl
-no_close (b ∷ s) h = grind (arith, nat_tests)
+run_ends : (s : List ℕ) → ends_run s ≡ true → ends_test is_regular s ≡ true
+unfolding ends_test
+run_ends [] h = refl
+run_ends (b ∷ s) h = h
 
 -- a byte with which a token begins
 abbrev starts : ℕ → Bool
@@ -79,8 +70,8 @@ regular_is b h = record {
   bracket = grind (arith, nat_tests);
 }
 
-run_is : (run after : List ℕ) → list_all is_regular run ≡ true → begins_blank after ≡ true → run_len (run ++ after) ≡ length run
-run_is run after h e = prefix_is is_regular run after h (blank_ends after e)
+run_is : (run after : List ℕ) → list_all is_regular run ≡ true → ends_run after ≡ true → run_len (run ++ after) ≡ length run
+run_is run after h e = prefix_is is_regular run after h (run_ends after e)
 
 regular_len : (b : ℕ) (s : List ℕ) → is_regular b ≡ true → IsOther b → token_len b s ≡ Some (1 + run_len s)
 unfolding token_len
@@ -90,7 +81,7 @@ regular_kind : (b : ℕ) (s : List ℕ) → IsOther b → kind_of (b ∷ s) ≡ 
 unfolding kind_of
 regular_kind b s o = rw (o.slash, o.parenthesis, o.less, o.brace, o.bracket) refl
 
-run_read : (run after : List ℕ) (k : Kind) → list_all is_regular run ≡ true → not (length run == 0) ≡ true → begins_blank after ≡ true → number_or_word (number_of run) ≡ k → token_of (run ++ after) ≡ answer k run after
+run_read : (run after : List ℕ) (k : Kind) → list_all is_regular run ≡ true → not (length run == 0) ≡ true → ends_run after ≡ true → number_or_word (number_of run) ≡ k → token_of (run ++ after) ≡ answer k run after
 run_read [] after k h some e kind = absurd (false≢true some)
 run_read (b ∷ u) after k h some e kind =
     let parts = and_parts (is_regular b) (list_all is_regular u) h in
@@ -139,7 +130,7 @@ length_fraction : (fraction : Option (List ℕ)) → length (decimals_of fractio
 length_fraction None = omega arith
 length_fraction (Some decimals) = omega arith
 
-decimal_read : (sign : Sign) (whole : List ℕ) (fraction : Option (List ℕ)) (after : List ℕ) → is_decimal whole fraction ≡ true → begins_blank after ≡ true → token_of (spelled (decimal sign whole fraction) ++ after) ≡ answer (meant (decimal sign whole fraction)) (spelled (decimal sign whole fraction)) after
+decimal_read : (sign : Sign) (whole : List ℕ) (fraction : Option (List ℕ)) (after : List ℕ) → is_decimal whole fraction ≡ true → ends_run after ≡ true → token_of (spelled (decimal sign whole fraction) ++ after) ≡ answer (meant (decimal sign whole fraction)) (spelled (decimal sign whole fraction)) after
 decimal_read sign whole fraction after h e =
     let p = decimal_parts whole fraction h in
     let run = spelled (decimal sign whole fraction) in
@@ -147,7 +138,7 @@ decimal_read sign whole fraction after h e =
     let some : not (length run == 0) ≡ true = not_empty run (omega (arith, digits_some whole fraction p.some, length_fraction fraction, length-append (sign_text sign) (whole ++ fraction_text fraction), length-append whole (fraction_text fraction))) in
     run_read run after (meant (decimal sign whole fraction)) regular some e (ap number_or_word (decimal_value sign whole fraction h))
 
-radix_read : (base digits after : List ℕ) → is_radix base digits ≡ true → begins_blank after ≡ true → token_of (spelled (radix base digits) ++ after) ≡ answer (meant (radix base digits)) (spelled (radix base digits)) after
+radix_read : (base digits after : List ℕ) → is_radix base digits ≡ true → ends_run after ≡ true → token_of (spelled (radix base digits) ++ after) ≡ answer (meant (radix base digits)) (spelled (radix base digits)) after
 radix_read base digits after h e =
     let p = radix_parts base digits h in
     let run = spelled (radix base digits) in
@@ -173,24 +164,28 @@ single_125 : (after : List ℕ) → token_of ((125 ∷ []) ++ after) ≡ answer 
 unfolding token_len part_len kind_of decimal_of magnitude_of radix_of
 single_125 after = begins 125 [] after Word refl refl refl
 
-single_62 : (after : List ℕ) → begins_blank after ≡ true → token_of ((62 ∷ []) ++ after) ≡ answer Word (62 ∷ []) after
+single_62 : (after : List ℕ) → begins_with_close after ≡ false → token_of ((62 ∷ []) ++ after) ≡ answer Word (62 ∷ []) after
 unfolding token_len part_len kind_of decimal_of magnitude_of radix_of
-single_62 after e = begins 62 [] after Word refl (rw (no_close after e) refl) refl
+single_62 after e = begins 62 [] after Word refl (rw e refl) refl
 
 is_byte : (b n : ℕ) → (b == n) ≡ true → n ≡ b
 is_byte b n h = grind (arith, nat_tests)
 
-single_read : (b : ℕ) (after : List ℕ) → is_plain (single b) ≡ true → begins_blank after ≡ true → token_of ((b ∷ []) ++ after) ≡ answer Word (b ∷ []) after
+and_right_false : (x y : Bool) → x ≡ true → (x && y) ≡ false → y ≡ false
+and_right_false true y h e = e
+and_right_false false y h e = absurd (false≢true h)
+
+single_read : (b : ℕ) (after : List ℕ) → is_plain (single b) ≡ true → can_end (single b) after ≡ true → token_of ((b ∷ []) ++ after) ≡ answer Word (b ∷ []) after
 single_read b after h e =
     let P : ℕ → Type 0 = λ n. token_of ((n ∷ []) ++ after) ≡ answer Word (n ∷ []) after in
     elim (or_cases (b == 41 || b == 62 || b == 93) (b == 125) h) [
       | inl i ↦ elim (or_cases (b == 41 || b == 62) (b == 93) i) [
-          | inl j ↦ elim (or_cases (b == 41) (b == 62) j) [
-              | inl k ↦ subst P (is_byte b 41 k) (single_41 after)
-              | inr k ↦ subst P (is_byte b 62 k) (single_62 after e)
-            ]
-          | inr j ↦ subst P (is_byte b 93 j) (single_93 after)
+        | inl j ↦ elim (or_cases (b == 41) (b == 62) j) [
+          | inl k ↦ subst P (is_byte b 41 k) (single_41 after)
+          | inr k ↦ subst P (is_byte b 62 k) (single_62 after (and_right_false (b == 62) (begins_with_close after) k (not_true (b == 62 && begins_with_close after) e)))
         ]
+        | inr j ↦ subst P (is_byte b 93 j) (single_93 after)
+      ]
       | inr i ↦ subst P (is_byte b 125 i) (single_125 after)
     ]
 
@@ -202,7 +197,7 @@ double_close_read : (after : List ℕ) → token_of ((62 ∷ 62 ∷ []) ++ after
 unfolding token_len kind_of decimal_of magnitude_of radix_of
 double_close_read after = begins 62 (62 ∷ []) after Word refl refl refl
 
-name_read : (run after : List ℕ) → list_all is_regular run ≡ true → begins_blank after ≡ true → token_of ((47 ∷ run) ++ after) ≡ answer Name (47 ∷ run) after
+name_read : (run after : List ℕ) → list_all is_regular run ≡ true → ends_run after ≡ true → token_of ((47 ∷ run) ++ after) ≡ answer Name (47 ∷ run) after
 unfolding token_len kind_of
 name_read run after h e =
     begins 47 run after Name refl (ap (λ n. Some (1 + n)) (run_is run after h e) ∙ ap Some (omega arith)) refl
@@ -236,7 +231,7 @@ bracketed_read body after h shallow =
     let inside = body_text body ++ (93 ∷ []) in
     begins 91 inside after Array refl (ap (further 1) (array_read body after h shallow) ∙ ap Some (omega arith)) refl
 
-pub plain_read : (t : Plain) (after : List ℕ) → IsReadable t → begins_blank after ≡ true → token_of (spelled t ++ after) ≡ answer (meant t) (spelled t) after
+pub plain_read : (t : Plain) (after : List ℕ) → IsReadable t → can_end t after ≡ true → token_of (spelled t ++ after) ≡ answer (meant t) (spelled t) after
 plain_read (name run) after h e = name_read run after h.plain e
 plain_read (word run) after h e =
     let p = and_parts (list_all is_regular run && not (length run == 0)) (is_none (number_of run)) h.plain in
@@ -274,29 +269,3 @@ too_deep (parenthesized _) after h past = absurd (omega arith)
 too_deep (angled _) after h past = absurd (omega arith)
 too_deep (braced body) after h past = braced_deep body after h past
 too_deep (bracketed body) after h past = bracketed_deep body after h past
-
--- a blank in front is skipped
-skip_blank : (b : ℕ) (s : List ℕ) → is_blank b ≡ true → token_of (b ∷ s) ≡ token_of s
-unfolding blank_len
-skip_blank b s h =
-    let percent : (b == 37) ≡ false = grind (arith, nat_tests) in
-    rw (h, percent) (let more : 1 + blank_len false s ≡ suc (blank_len false s) = omega arith in rw more refl)
-
-continued_blank : (blank : ℕ) (ts : List Plain) → is_blank blank ≡ true → begins_blank (continued blank ts) ≡ true
-unfolding begins_blank
-continued_blank blank [] h = refl
-continued_blank blank (t ∷ ts) h = h
-
-none_in_nothing : token_of [] ≡ Ok None
-unfolding blank_len
-none_in_nothing = refl
-
-continued_read : (blank : ℕ) (ts : List Plain) → is_blank blank ≡ true → AreReadable ts → IsReadAs (continued blank ts) (map lexeme_of ts)
-continued_read blank [] h r = none_in_nothing
-continued_read blank (t ∷ ts) h r =
-    (continued blank ts, skip_blank blank (spelled t ++ continued blank ts) h ∙ plain_read t (continued blank ts) r.0 (continued_blank blank ts h), continued_read blank ts h r.1)
-
-pub round_trip : RoundTrip
-round_trip blank [] h r = none_in_nothing
-round_trip blank (t ∷ ts) h r =
-    (continued blank ts, plain_read t (continued blank ts) r.0 (continued_blank blank ts h), continued_read blank ts h r.1)

@@ -1,10 +1,10 @@
 -- The value of digits: of some in front of others, and of decimals in billionths.
-use Rattle.std.proofs.Common.{◌≡◌, ◌+◌, ◌*◌, ◌/◌, ◌^◌, ◌<◌, ◌≤◌, ℕ, zero, suc, Bool, true, false, ◌&&◌, nat_le, nat_lt, if◌then◌else◌, Some, None, List, [], ◌∷◌, ◌++◌, length, drop, take, get_or, refl, sym, ap, ◌∙◌, inl, inr, arith, length-append}
+use Rattle.std.proofs.Common.{◌≡◌, ◌+◌, ◌*◌, ◌/◌, ◌^◌, ◌<◌, ◌≤◌, ℕ, zero, suc, true, false, nat_lt, None, List, [], ◌∷◌, ◌++◌, length, drop, take, get_or, refl, sym, ap, ◌∙◌, inl, inr, arith}
 use Rattle.std.proofs.Math.Nat.{pow-succ', pow-zero, add-mul, mul_assoc, zero-div, mul-div-mul_right, mul-add-div, mul-le-mul_right, div-eq_of_lt, pow-le-pow_right}
 use Rattle.std.proofs.lemmas.Bool.{and_parts, cases_lt}
 use Rattle.std.proofs.lemmas.Bool.Decides.{nat_tests}
 use Rattle.std.proofs.lemmas.List.{at_drop_more, at_drop_all}
-use Rattle.std.proofs.lemmas.Int.Digits.{digits_value-lt, digits_value_more}
+use Rattle.std.proofs.lemmas.Int.Digits.{digits_value-lt}
 use Rattle.std.proofs.lemmas.Str.Parse.{digits_value-take-le}
 use Rattle.std.specs.List.{list_all}
 use Rattle.std.specs.Char.{digit_value}
@@ -52,7 +52,8 @@ AllDigits-decimal (b ∷ s) h =
     let nine = digit_small b p.0 in
     (omega arith, AllDigits-decimal s p.1)
 
--- decimals of which the first counts so many billionths, and each other a tenth of the one before it, cut
+-- decimals of which the first counts so many billionths, and each other a tenth of the one before
+-- it, cut
 unfoldable pub billionths : ℕ → List ℕ → ℕ
 billionths unit [] = 0
 billionths unit (b ∷ s) = digit_value b * unit + billionths (unit / 10) s

@@ -1,4 +1,4 @@
--- The kinds of bytes in font text (PostScript's lexical rules, as Type 1 Font Format, chapters 2 and 10, uses them).
+-- The kinds of bytes in font text: PostScript's, as Type 1 Font Format uses it (chapters 2 and 10).
 use Rattle.std.specs.Prelude.{ℕ, Bool, ◌==◌, ◌||◌, ◌&&◌, not, nat_le}
 
 -- line feed, carriage return
@@ -12,7 +12,8 @@ is_blank b = b == 0 || b == 9 || b == 10 || b == 12 || b == 13 || b == 32
 -- ( ) < > [ ] { } / %
 abbrev pub is_delimiter : ℕ → Bool
 is_delimiter b =
-    b == 40 || b == 41 || b == 60 || b == 62 || b == 91 || b == 93 || b == 123 || b == 125 || b == 47 || b == 37
+    b == 40 || b == 41 || b == 60 || b == 62 || b == 91 || b == 93 || b == 123 || b == 125 || b == 47
+    || b == 37
 
 -- all other bytes
 abbrev pub is_regular : ℕ → Bool

@@ -1,7 +1,9 @@
--- How many bytes of a text belong together: blanks and comments, runs, strings, procedures, arrays, tokens.
+-- How many bytes of a text belong together: blanks and comments, runs, strings, procedures, arrays,
+-- tokens. The forms are PostScript's, as Type 1 Font Format uses it (chapters 2 and 10). That a
+-- procedure or an array is one token, and how deep they nest, is this product's own choice.
 use Rattle.std.specs.Prelude.{ℕ, zero, suc, Bool, true, false, Option, Some, None, List, [], ◌∷◌, ◌+◌, ◌-◌, ◌==◌, ◌||◌, ◌&&◌, not, if◌then◌else◌, nat_lt, option_and_then}
 use Rattle.std.specs.List.{prefix_len}
-use Rattle.t1_scan.specs.Bytes.{is_line_end, is_blank, is_delimiter, is_regular}
+use Rattle.t1_scan.specs.Bytes.{is_line_end, is_blank, is_regular}
 
 -- n bytes more
 abbrev pub further : ℕ → Option ℕ → Option ℕ
@@ -16,7 +18,9 @@ is_comment_after in_comment b = if in_comment then not (is_line_end b) else b ==
 unfoldable pub blank_len : Bool → List ℕ → ℕ
 blank_len in_comment [] = 0
 blank_len in_comment (b ∷ s) =
-    if in_comment || (is_blank b || b == 37) then 1 + blank_len (is_comment_after in_comment b) s else 0
+    if in_comment || (is_blank b || b == 37)
+    then 1 + blank_len (is_comment_after in_comment b) s
+    else 0
 
 -- the longest run of regular bytes
 abbrev pub run_len : List ℕ → ℕ
@@ -59,7 +63,8 @@ part_len b s =
 -- brackets count where no brace is open
 abbrev pub arrays_after : ℕ → ℕ → ℕ → ℕ
 arrays_after b arrays braces =
-    if braces == 0 && b == 91 then arrays + 1 else (if braces == 0 && b == 93 then arrays - 1 else arrays)
+    if braces == 0 && b == 91 then arrays + 1
+    else (if braces == 0 && b == 93 then arrays - 1 else arrays)
 
 -- a brace that closes nothing is ignored
 abbrev pub braces_after : ℕ → ℕ → ℕ
@@ -81,8 +86,8 @@ abbrev pub begins_with_close : List ℕ → Bool
 begins_with_close [] = false
 begins_with_close (c ∷ s) = c == 62
 
--- a token, by its first byte and what follows it: a name, an array, a procedure, `>>` or `>`, a run of regular
--- bytes, a string, `<<`, or one byte that closes nothing
+-- a token, by its first byte and what follows it: a name, an array, a procedure, `>>` or `>`, a run
+-- of regular bytes, a string, `<<`, or one byte that closes nothing
 unfoldable pub token_len : ℕ → List ℕ → Option ℕ
 token_len b s =
     if b == 47 then Some (1 + run_len s)

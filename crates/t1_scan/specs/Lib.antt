@@ -5,4 +5,5 @@ pub mod Numbers
 pub mod Reading
 pub mod Spelling
 pub mod State
+pub mod Texts
 pub mod Tokens

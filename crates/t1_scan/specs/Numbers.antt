@@ -1,5 +1,5 @@
--- The number that a run of regular bytes spells, in billionths (PostScript's number forms; the limits are this
--- product's own).
+-- The number that a run of regular bytes spells, in billionths. The forms are PostScript's, as Type
+-- 1 Font Format uses it (chapters 2 and 10); the limit and the unit are this product's own.
 use Rattle.std.specs.Prelude.{ℕ, ℤ, pos, neg_ℤ, Bool, true, Option, Some, None, List, [], ◌∷◌, ◌++◌, ◌+◌, ◌*◌, ◌/◌, ◌^◌, ◌==◌, ◌&&◌, not, if◌then◌else◌, nat_lt, nat_le, length, drop, slice_index}
 use Rattle.std.specs.Option.{option_map, option_or}
 use Rattle.std.specs.List.{prefix_len, take_while, list_all}
@@ -29,14 +29,17 @@ scaled whole decimals = digits_value 10 (whole ++ decimals) * 1000000000 / 10 ^ 
 
 -- that number, if what stands before the point is below a billion
 unfoldable pub value_of : List ℕ → List ℕ → Option ℕ
-value_of whole decimals = if nat_lt (digits_value 10 whole) 1000000000 then Some (scaled whole decimals) else None
+value_of whole decimals =
+    if nat_lt (digits_value 10 whole) 1000000000 then Some (scaled whole decimals) else None
 
 -- digits with at most one point and at least one digit
 unfoldable pub magnitude_of : List ℕ → Option ℕ
 magnitude_of digits =
     let whole = whole_part digits in
     let decimals = drop 1 (after_whole digits) in
-    if is_fraction (after_whole digits) && not (length whole + length decimals == 0) then value_of whole decimals else None
+    if is_fraction (after_whole digits) && not (length whole + length decimals == 0)
+    then value_of whole decimals
+    else None
 
 -- with an optional sign before them
 unfoldable pub decimal_of : List ℕ → Option ℤ
@@ -52,7 +55,11 @@ are_in_base base digits = list_all (λ c. nat_lt (digit_value c) base) digits
 
 abbrev pub in_base : ℕ → List ℕ → Option ℤ
 in_base base digits =
-    if nat_le 2 base && nat_le base 36 && not (length digits == 0) && are_in_base base digits && nat_lt (digits_value base digits) 1000000000
+    if nat_le 2 base
+    && nat_le base 36
+    && not (length digits == 0)
+    && are_in_base base digits
+    && nat_lt (digits_value base digits) 1000000000
     then Some (pos (digits_value base digits * 1000000000))
     else None
 

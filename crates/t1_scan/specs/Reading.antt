@@ -13,7 +13,8 @@ reading failed left = if failed then Err Unclosed else token_of left
 abbrev pub seen : List ℕ → Result (Option Token) ScanError → Result (Option Found) ScanError
 seen text (Err e) = Err e
 seen text (Ok None) = Ok None
-seen text (Ok (Some t)) = Ok (Some (record { kind = t.kind; text = t.text.now; rest = drop t.to text }))
+seen text (Ok (Some t)) =
+    Ok (Some (record { kind = t.kind; text = t.text.now; rest = drop t.to text }))
 
 -- t is a slice of the text, behind the place
 pub record IsSlice (text : List ℕ) (place : ℕ) (t : Token) : Type 0 where

@@ -1,10 +1,11 @@
--- Tokens in their plain form: how each kind is spelled, and what it is.
+-- Tokens in their plain form: how each kind is spelled, and what it is (Type 1 Font Format,
+-- chapters 2 and 10).
 use Rattle.std.specs.Prelude.{ℕ, ℤ, pos, neg_ℤ, Bool, true, false, Option, Some, None, List, [], ◌∷◌, ◌++◌, ◌+◌, ◌*◌, ◌==◌, ◌&&◌, ◌||◌, not, if◌then◌else◌, length, nat_le, nat_lt, max, is_none}
 use Rattle.std.specs.List.{list_all}
 use Rattle.std.specs.Str.Parse.{digits_value}
 use Rattle.t1_scan.specs.declared.token.Kind.{Kind}
 use Rattle.t1_scan.specs.declared.token.Kind.TheVariants.{Number, Name, Word, Text, Proc, Array}
-use Rattle.t1_scan.specs.Bytes.{is_line_end, is_blank, is_regular, is_decimal_digit}
+use Rattle.t1_scan.specs.Bytes.{is_line_end, is_regular, is_decimal_digit}
 use Rattle.t1_scan.specs.Numbers.{scaled, are_in_base, number_of}
 
 -- the inside of a string
@@ -27,8 +28,8 @@ are_letters (letter b more) = not (b == 40 || b == 41 || b == 92) && are_letters
 are_letters (escaped b more) = are_letters more
 are_letters (parentheses inner more) = are_letters inner && are_letters more
 
--- what stands in an array or a procedure and isn't one: a byte; a comment, with the byte that ends its line; a
--- string; a hexadecimal string; `<<`
+-- what stands in an array or a procedure and isn't one: a byte; a comment, with the byte that ends
+-- its line; a string; a hexadecimal string; `<<`
 pub data Part : Type 0 where
   byte : ℕ → Part
   comment : List ℕ → ℕ → Part
@@ -59,7 +60,8 @@ is_idle in_procedure b =
 
 abbrev pub is_part : Bool → Part → Bool
 is_part in_procedure (byte b) = is_idle in_procedure b
-is_part in_procedure (comment bytes line_end) = list_all (λ b. not (is_line_end b)) bytes && is_line_end line_end
+is_part in_procedure (comment bytes line_end) =
+    list_all (λ b. not (is_line_end b)) bytes && is_line_end line_end
 is_part in_procedure (string letters) = are_letters letters
 is_part in_procedure (hexadecimal bytes) = are_hexadecimal bytes
 is_part in_procedure double_angle = true
@@ -82,7 +84,8 @@ abbrev pub is_body : Bool → Body → Bool
 is_body in_procedure nothing = true
 is_body in_procedure (part p more) = is_part in_procedure p && is_body in_procedure more
 is_body in_procedure (procedure inner more) = is_body true inner && is_body in_procedure more
-is_body in_procedure (array inner more) = not in_procedure && is_body false inner && is_body in_procedure more
+is_body in_procedure (array inner more) =
+    not in_procedure && is_body false inner && is_body in_procedure more
 
 -- how deep arrays and procedures nest in it
 abbrev pub body_depth : Body → ℕ
@@ -114,8 +117,9 @@ abbrev pub decimals_of : Option (List ℕ) → List ℕ
 decimals_of None = []
 decimals_of (Some decimals) = decimals
 
--- a token: `/` and a run; a run that spells no number; a number with its sign, digits and decimals; a number in a
--- base; one of ) > ] } that closes nothing; `<<`; `>>`; a string; a hexadecimal string; a procedure; an array
+-- a token: `/` and a run; a run that spells no number; a number with its sign, digits and decimals;
+-- a number in a base; one of ) > ] } that closes nothing; `<<`; `>>`; a string; a hexadecimal
+-- string; a procedure; an array
 pub data Plain : Type 0 where
   name : List ℕ → Plain
   word : List ℕ → Plain

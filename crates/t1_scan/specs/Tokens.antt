@@ -1,5 +1,6 @@
--- The first token of a text.
-use Rattle.std.specs.Prelude.{ℕ, ℤ, Bool, false, Option, Some, None, Result, Ok, Err, List, [], ◌∷◌, ◌==◌, if◌then◌else◌, take, drop, slice_index}
+-- The first token of a text (Type 1 Font Format, chapters 2 and 10; what is one token is this
+-- product's own choice).
+use Rattle.std.specs.Prelude.{ℕ, ℤ, false, Option, Some, None, Result, Ok, Err, List, [], ◌∷◌, ◌==◌, if◌then◌else◌, take, drop, slice_index}
 use Rattle.t1_scan.specs.declared.error.ScanError.{ScanError}
 use Rattle.t1_scan.specs.declared.error.ScanError.TheVariants.{Unclosed}
 use Rattle.t1_scan.specs.declared.token.Kind.{Kind}

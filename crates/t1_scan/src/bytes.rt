@@ -8,6 +8,7 @@ pub fn is_line_end(b: u8) -> bool
     matches!(b, b'\n' | b'\r')
 }
 
+/// Whether a byte parts tokens: null, tab, line feed, form feed, carriage return, space.
 pub fn is_blank(b: u8) -> bool
     ensures { result ≡ is_blank b }
 {
@@ -38,6 +39,7 @@ pub fn is_regular(b: u8) -> bool
     )
 }
 
+/// Whether a byte is one of 0 to 9.
 pub fn is_decimal_digit(b: u8) -> bool
     ensures { result ≡ is_decimal_digit b }
 {

@@ -23,12 +23,14 @@ fn digit_value(b: u8) -> u64
     }
 }
 
+/// Whether each byte is a decimal digit.
 pub fn are_digits(digits: &[u8]) -> bool
     ensures { result ≡ list_all is_decimal_digit digits.now }
 {
     digits.iter().all(|b| is_decimal_digit(*b))
 }
 
+/// Whether each byte is a digit of this base.
 pub fn are_in_base(base: u64, digits: &[u8]) -> bool
     ensures { result ≡ are_in_base base digits.now }
 {

@@ -31,7 +31,8 @@ fn braces_after(b: u8, braces: usize) -> usize
     }
 }
 
-/// An array or a procedure, behind its first bracket, to its last: of so many arrays and procedures one is open.
+/// An array or a procedure, behind its first bracket, to its last: of so many arrays and procedures
+/// one is open.
 pub fn inside_len(text: &[u8], mut arrays: usize, mut braces: usize) -> Option<usize>
     requires { arrays + braces ≡ 1 }
     ensures value { result ≡ inside_len 0 arrays braces text.now }

@@ -69,13 +69,14 @@ impl<'a> Scanner<'a> {
         }))
     }
 
-    /// Passes one byte, of any value, and gives so many that follow it; None where they aren't there, or after a
-    /// token that isn't closed.
+    /// Passes one byte, of any value, and gives so many that follow it; None where they aren't
+    /// there, or after a token that isn't closed.
     pub fn raw(&mut self, len: usize) -> Option<&'a [u8]>
         ensures text { text_of self.new ≡ text_of self.old }
         ensures failed { has_failed self.new ≡ has_failed self.old }
         ensures live { IfSome result (λ _. has_failed self.old ≡ false) }
-        ensures some { IfSome result (λ bytes. PassesRaw (text_of self.old) (place_of self.old) (place_of self.new) len bytes.now) }
+        ensures some { IfSome result
+            (λ bytes. PassesRaw (text_of self.old) (place_of self.old) (place_of self.new) len bytes.now) }
         ensures none { IfNone result ((has_failed self.old ≡ true)
             ⊎ (length (text_of self.old) < place_of self.old + 1 + len)) }
         ensures unchanged { IfNone result (self.new ≡ self.old) }

@@ -1,7 +1,6 @@
+use crate::{Kind, ScanError, Scanner};
 use std::process::Abort;
 use std::test::Fail;
-
-use crate::{Kind, ScanError, Scanner};
 
 /// A text is read as just these tokens.
 fn assert_reads(rt: &impl Abort, text: &[u8], expected: &[(Kind, &str)]) {
@@ -122,7 +121,10 @@ fn nesting(rt: HostRuntime) {
     let deepest = "[[[[[[[[[[[[[[[[[[[[[[[[[[[[[[[[]]]]]]]]]]]]]]]]]]]]]]]]]]]]]]]]";
     assert_eq!(rt; deepest.len(), 64);
     assert_reads(&rt, deepest.as_bytes(), &[(Kind::Array, deepest)]);
-    assert_fails(&rt, b"[[[[[[[[[[[[[[[[[[[[[[[[[[[[[[[[[]]]]]]]]]]]]]]]]]]]]]]]]]]]]]]]]]");
+    assert_fails(
+        &rt,
+        b"[[[[[[[[[[[[[[[[[[[[[[[[[[[[[[[[[]]]]]]]]]]]]]]]]]]]]]]]]]]]]]]]]]",
+    );
     let brackets = "{[[[[[[[[[[[[[[[[[[[[[[[[[[[[[[[[[[[[[[[[}";
     assert_reads(&rt, brackets.as_bytes(), &[(Kind::Proc, brackets)]);
     for text in ["(a", "(a\\", "(a\\)", "<41", "[", "[1 {", "{(}", "{%}"] {
@@ -149,7 +151,16 @@ fn raw_bytes(rt: HostRuntime) -> Result<(), Fail> {
 fn spans(rt: HostRuntime) {
     let text = b" /A 1 add(b)<63>\n{d}%[\r[2]>>";
     let mut scanner = Scanner::new(text);
-    for (from, to) in [(1, 3), (4, 5), (6, 9), (9, 12), (12, 16), (17, 20), (23, 26), (26, 28)] {
+    for (from, to) in [
+        (1, 3),
+        (4, 5),
+        (6, 9),
+        (9, 12),
+        (12, 16),
+        (17, 20),
+        (23, 26),
+        (26, 28),
+    ] {
         match scanner.next() {
             Ok(Some(token)) => {
                 assert_eq!(rt; (token.from, token.to), (from, to));

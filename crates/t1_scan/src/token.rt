@@ -5,7 +5,8 @@ pub enum Kind {
     Number(i64),
     /// `/` and the regular bytes behind it, as `/FontName`; there may be none.
     Name,
-    /// A run of regular bytes that is no number, as `def`; `<<`, `>>`, or one of `> ) ] }` that closes nothing.
+    /// A run of regular bytes that is no number, as `def`; `<<`, `>>`, or one of `> ) ] }` that
+    /// closes nothing.
     Word,
     /// A string, `(..)` or `<..>`.
     Text,

@@ -1,4 +1,4 @@
-use Rattle.std.proofs.Common.{◌≡◌, ◌≤◌, ◌∙◌, sym, arith}
+use Rattle.std.proofs.Common.{◌≡◌, ◌≤◌, ◌∙◌, arith}
 use Rattle.t1_scan.proofs.Values.{digit_at, digit_fits, billionths, billionths_more, billionths_end, billionths-value}
 use Rattle.t1_scan.proofs.digits.billionths.Goals as goal
 

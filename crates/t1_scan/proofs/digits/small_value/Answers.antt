@@ -1,4 +1,4 @@
-use Rattle.std.proofs.Common.{◌+◌, sym, arith}
+use Rattle.std.proofs.Common.{◌+◌, sym}
 use Rattle.std.proofs.lemmas.Int.Digits.{digits_value_more}
 use Rattle.t1_scan.proofs.Values.{not_below}
 use Rattle.t1_scan.proofs.digits.small_value.Goals as goal

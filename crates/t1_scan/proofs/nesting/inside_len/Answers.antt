@@ -1,4 +1,4 @@
-use Rattle.std.proofs.Common.{◌≤◌, ◌+◌, ◌-◌, sym, ◌∙◌, arith, length, drop, length-drop, length-take}
+use Rattle.std.proofs.Common.{◌≤◌, ◌+◌, ◌-◌, sym, ◌∙◌, arith, length, drop, length-take}
 use Rattle.std.proofs.lemmas.List.{take_rest}
 use Rattle.t1_scan.proofs.Steps.{IsOpenAfter, inside_close, inside_deep, inside_unclosed, inside_more, inside_end}
 use Rattle.t1_scan.proofs.nesting.inside_len.Goals as goal
