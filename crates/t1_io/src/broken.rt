@@ -1,3 +1,5 @@
+ghost use Rattle.std.specs.Prelude.{Some, codes};
+
 use std::error::Error;
 use std::fmt;
 
@@ -7,6 +9,8 @@ use std::fmt;
 pub struct Broken;
 
 impl fmt::Display for Broken {
+    ghost output = { λ _. Some (codes "the device failed") };
+
     fn fmt<W: fmt::Write>(&self, f: &mut fmt::Formatter<W>) -> fmt::Result {
         write!(f, "the device failed")
     }

@@ -10,17 +10,17 @@ use t1_io::{Sink, put_all};
 
 /// Answers words that gave no options: the text of help on standard output, which is flushed, and
 /// everything else on standard error.
-pub fn explain<W: Sink, W2: Sink>(error: &UsageError, out: &mut W, errors: &mut W2) -> Status
+pub fn explain<W: Sink, E: Sink>(error: &UsageError, out: &mut W, errors: &mut E) -> Status
     requires out { W.failed out.old ≡ false }
-    requires errors { W2.failed errors.old ≡ false }
+    requires errors { E.failed errors.old ≡ false }
     ensures output { W.failed out.new ≡ false → Appends (W.written out.old) (W.written out.new) (explained_output error.now) }
     ensures front { AppendsFront (W.written out.old) (W.written out.new) (explained_output error.now) }
     ensures flushed { result ≡ Status.Clean → W.flushed out.new ≡ true }
-    ensures told { W.failed out.new ≡ false → W2.failed errors.new ≡ false → Appends (W2.written errors.old) (W2.written errors.new) (explained_told error.now) }
-    ensures write_failed { W.failed out.new ≡ true → W2.failed errors.new ≡ false → Appends (W2.written errors.old) (W2.written errors.new) (codes "t1check: write failed\n") }
-    ensures status { W.failed out.new ≡ false → W2.failed errors.new ≡ false → result ≡ explained_status error.now }
+    ensures told { W.failed out.new ≡ false → E.failed errors.new ≡ false → Appends (E.written errors.old) (E.written errors.new) (explained_told error.now) }
+    ensures write_failed { W.failed out.new ≡ true → E.failed errors.new ≡ false → Appends (E.written errors.old) (E.written errors.new) (codes "t1check: write failed\n") }
+    ensures status { W.failed out.new ≡ false → E.failed errors.new ≡ false → result ≡ explained_status error.now }
     ensures broken_out { W.failed out.new ≡ true → result ≡ Status.Failed }
-    ensures broken_errors { W2.failed errors.new ≡ true → result ≡ Status.Failed }
+    ensures broken_errors { E.failed errors.new ≡ true → result ≡ Status.Failed }
 {
     match error {
         UsageError::Help(text) => give_help(text.as_str(), out, errors),
@@ -29,15 +29,15 @@ pub fn explain<W: Sink, W2: Sink>(error: &UsageError, out: &mut W, errors: &mut 
     }
 }
 
-fn give_help<W: Sink, W2: Sink>(text: &str, out: &mut W, errors: &mut W2) -> Status
+fn give_help<W: Sink, E: Sink>(text: &str, out: &mut W, errors: &mut E) -> Status
     requires out { W.failed out.old ≡ false }
-    requires errors { W2.failed errors.old ≡ false }
+    requires errors { E.failed errors.old ≡ false }
     ensures output { W.failed out.new ≡ false → Appends (W.written out.old) (W.written out.new) text.now }
     ensures front { AppendsFront (W.written out.old) (W.written out.new) text.now }
     ensures flushed { W.failed out.new ≡ false → W.flushed out.new ≡ true }
-    ensures kept { W.failed out.new ≡ false → W2.failed errors.new ≡ false }
-    ensures told { W.failed out.new ≡ false → Keeps (W2.written errors.old) (W2.written errors.new) }
-    ensures write_failed { W.failed out.new ≡ true → W2.failed errors.new ≡ false → Appends (W2.written errors.old) (W2.written errors.new) (codes "t1check: write failed\n") }
+    ensures kept { W.failed out.new ≡ false → E.failed errors.new ≡ false }
+    ensures told { W.failed out.new ≡ false → Keeps (E.written errors.old) (E.written errors.new) }
+    ensures write_failed { W.failed out.new ≡ true → E.failed errors.new ≡ false → Appends (E.written errors.old) (E.written errors.new) (codes "t1check: write failed\n") }
     ensures status { W.failed out.new ≡ false → result ≡ Status.Clean }
     ensures broken { W.failed out.new ≡ true → result ≡ Status.Failed }
 {

@@ -18,31 +18,31 @@ use t1_io::{Sink, Source};
 use t1_seal::{SealError, join};
 
 /// Reads a font to its end and writes its report.
-pub fn run<R: Source, W: Sink, W2: Sink>(
+pub fn run<R: Source, W: Sink, E: Sink>(
     alloc: Global,
     source: &mut R,
     options: &Options,
     out: &mut W,
-    errors: &mut W2,
+    errors: &mut E,
 ) -> Status
     requires source { R.failed source.old ≡ false }
     requires out { W.failed out.old ≡ false }
-    requires errors { W2.failed errors.old ≡ false }
+    requires errors { E.failed errors.old ≡ false }
 
     ensures answer { result ≢ Status.Failed → IfSome (R.left source.old) (λ input.
         Gave (answer_of options.now input) result (W.written out.old) (W.written out.new)
-        (W2.written errors.old) (W2.written errors.new)) }
+        (E.written errors.old) (E.written errors.new)) }
     ensures flushed { (result ≡ Status.Clean) ⊎ (result ≡ Status.Faults) → W.flushed out.new ≡ true }
     ensures nothing_waits { result ≢ Status.Failed → W.flushed out.old ≡ true → W.flushed out.new ≡ true }
 
     ensures reads { R.takes source.new ≤ R.takes source.old + 16777217 }
     ensures taken { TakesAtMost 16777217 (R.left source.old) (R.left source.new) }
 
-    ensures broken { (R.failed source.new ≡ true) ⊎ ((W.failed out.new ≡ true) ⊎ (W2.failed errors.new ≡ true)) → result ≡ Status.Failed }
-    ensures read_failed { R.failed source.new ≡ true → W2.failed errors.new ≡ false → Appends (W2.written errors.old) (W2.written errors.new) (codes "t1check: read failed\n") }
-    ensures write_failed { W.failed out.new ≡ true → W2.failed errors.new ≡ false → Appends (W2.written errors.old) (W2.written errors.new) (codes "t1check: write failed\n") }
-    ensures no_memory { result ≡ Status.Failed → R.failed source.new ≡ false → W.failed out.new ≡ false → W2.failed errors.new ≡ false
-        → Appends (W2.written errors.old) (W2.written errors.new) (codes "t1check: out of memory\n") }
+    ensures broken { (R.failed source.new ≡ true) ⊎ ((W.failed out.new ≡ true) ⊎ (E.failed errors.new ≡ true)) → result ≡ Status.Failed }
+    ensures read_failed { R.failed source.new ≡ true → E.failed errors.new ≡ false → Appends (E.written errors.old) (E.written errors.new) (codes "t1check: read failed\n") }
+    ensures write_failed { W.failed out.new ≡ true → E.failed errors.new ≡ false → Appends (E.written errors.old) (E.written errors.new) (codes "t1check: write failed\n") }
+    ensures no_memory { result ≡ Status.Failed → R.failed source.new ≡ false → W.failed out.new ≡ false → E.failed errors.new ≡ false
+        → Appends (E.written errors.old) (E.written errors.new) (codes "t1check: out of memory\n") }
     ensures unwritten { result ≡ Status.Failed → W.failed out.new ≡ false → Keeps (W.written out.old) (W.written out.new) }
     ensures unread { R.failed source.new ≡ true → W.failed out.new ≡ false }
     ensures front { W.failed out.new ≡ true → IfSome (R.left source.old) (λ input.
@@ -57,26 +57,26 @@ pub fn run<R: Source, W: Sink, W2: Sink>(
 }
 
 /// Joins a file's segments and writes the report without its first `after` lines.
-fn check<W: Sink, W2: Sink>(
+fn check<W: Sink, E: Sink>(
     alloc: Global,
     bytes: &[u8],
     after: u64,
     out: &mut W,
-    errors: &mut W2,
+    errors: &mut E,
 ) -> Status
     requires out { W.failed out.old ≡ false }
-    requires errors { W2.failed errors.old ≡ false }
+    requires errors { E.failed errors.old ≡ false }
 
     ensures answer { result ≢ Status.Failed →
         Gave (answer_to after (joined_of bytes.now)) result (W.written out.old) (W.written out.new)
-        (W2.written errors.old) (W2.written errors.new) }
+        (E.written errors.old) (E.written errors.new) }
     ensures flushed { (result ≡ Status.Clean) ⊎ (result ≡ Status.Faults) → W.flushed out.new ≡ true }
     ensures nothing_waits { result ≢ Status.Failed → W.flushed out.old ≡ true → W.flushed out.new ≡ true }
 
-    ensures broken { (W.failed out.new ≡ true) ⊎ (W2.failed errors.new ≡ true) → result ≡ Status.Failed }
-    ensures write_failed { W.failed out.new ≡ true → W2.failed errors.new ≡ false → Appends (W2.written errors.old) (W2.written errors.new) (codes "t1check: write failed\n") }
-    ensures no_memory { result ≡ Status.Failed → W.failed out.new ≡ false → W2.failed errors.new ≡ false
-        → Appends (W2.written errors.old) (W2.written errors.new) (codes "t1check: out of memory\n") }
+    ensures broken { (W.failed out.new ≡ true) ⊎ (E.failed errors.new ≡ true) → result ≡ Status.Failed }
+    ensures write_failed { W.failed out.new ≡ true → E.failed errors.new ≡ false → Appends (E.written errors.old) (E.written errors.new) (codes "t1check: write failed\n") }
+    ensures no_memory { result ≡ Status.Failed → W.failed out.new ≡ false → E.failed errors.new ≡ false
+        → Appends (E.written errors.old) (E.written errors.new) (codes "t1check: out of memory\n") }
     ensures unwritten { result ≡ Status.Failed → W.failed out.new ≡ false → Keeps (W.written out.old) (W.written out.new) }
     ensures front { W.failed out.new ≡ true →
         AppendsFront (W.written out.old) (W.written out.new) (answer_to after (joined_of bytes.now)).output }
@@ -92,12 +92,12 @@ fn check<W: Sink, W2: Sink>(
 }
 
 /// Tells why a font isn't opened.
-fn stop<W2: Sink>(error: SealError, errors: &mut W2) -> Status
-    requires { W2.failed errors.old ≡ false }
-    ensures told { W2.failed errors.new ≡ false → Appends (W2.written errors.old) (W2.written errors.new) (stopped_told error) }
-    ensures status { W2.failed errors.new ≡ false → result ≡ stopped_status error }
-    ensures broken { W2.failed errors.new ≡ true → result ≡ Status.Failed }
-    ensures failed { result ≡ Status.Failed → W2.failed errors.new ≡ false → error ≡ SealError.Memory }
+fn stop<E: Sink>(error: SealError, errors: &mut E) -> Status
+    requires { E.failed errors.old ≡ false }
+    ensures told { E.failed errors.new ≡ false → Appends (E.written errors.old) (E.written errors.new) (stopped_told error) }
+    ensures status { E.failed errors.new ≡ false → result ≡ stopped_status error }
+    ensures broken { E.failed errors.new ≡ true → result ≡ Status.Failed }
+    ensures failed { result ≡ Status.Failed → E.failed errors.new ≡ false → error ≡ SealError.Memory }
     ensures memory { error ≡ SealError.Memory → result ≡ Status.Failed }
 {
     match error {
@@ -114,17 +114,17 @@ fn stop<W2: Sink>(error: SealError, errors: &mut W2) -> Status
 }
 
 /// Writes the lines of faults and flushes them.
-fn give_report<W: Sink, W2: Sink>(faults: &[Fault], out: &mut W, errors: &mut W2) -> Status
+fn give_report<W: Sink, E: Sink>(faults: &[Fault], out: &mut W, errors: &mut E) -> Status
     requires out { W.failed out.old ≡ false }
-    requires errors { W2.failed errors.old ≡ false }
+    requires errors { E.failed errors.old ≡ false }
     requires font { All IsInFont faults.now }
 
     ensures answer { result ≢ Status.Failed →
-        Gave (reported faults.now) result (W.written out.old) (W.written out.new) (W2.written errors.old) (W2.written errors.new) }
+        Gave (reported faults.now) result (W.written out.old) (W.written out.new) (E.written errors.old) (E.written errors.new) }
     ensures flushed { result ≢ Status.Failed → W.flushed out.new ≡ true }
-    ensures broken { (W.failed out.new ≡ true) ⊎ (W2.failed errors.new ≡ true) → result ≡ Status.Failed }
+    ensures broken { (W.failed out.new ≡ true) ⊎ (E.failed errors.new ≡ true) → result ≡ Status.Failed }
     ensures failed { result ≡ Status.Failed → W.failed out.new ≡ true }
-    ensures write_failed { W.failed out.new ≡ true → W2.failed errors.new ≡ false → Appends (W2.written errors.old) (W2.written errors.new) (codes "t1check: write failed\n") }
+    ensures write_failed { W.failed out.new ≡ true → E.failed errors.new ≡ false → Appends (E.written errors.old) (E.written errors.new) (codes "t1check: write failed\n") }
     ensures front { W.failed out.new ≡ true → AppendsFront (W.written out.old) (W.written out.new) (lines_of faults.now) }
 {
     if write_faults(out, faults).is_err() || out.flush().is_err() {

@@ -9,7 +9,7 @@ use Rattle.t1check.proofs.running.run.Goals as goal
 pub returns-in-Bytes-clause-answer : goal.returns-in-Bytes-clause-answer
 returns-in-Bytes-clause-answer g c = λ went.
     IfSome-along _ (answer_of c.args.options.now) (answer_to c.args.options.now.after (joined_of c.in-Bytes.bytes.items)) (λ (answer : Answer).
-    Gave answer c.check.result (g.W.Sink.written c.args.out.now) (g.W.Sink.written c.check.new.out) (g.W2.Sink.written c.args.errors.now) (g.W2.Sink.written c.check.new.errors))
+    Gave answer c.check.result (g.W.Sink.written c.args.out.now) (g.W.Sink.written c.check.new.out) (g.E.Sink.written c.args.errors.now) (g.E.Sink.written c.check.new.errors))
     (answer_of-read c.args.options.now _ _ c.in-Bytes.bytes.items c.in-Bytes.ensures.gathers.0 c.in-Bytes.ensures.gathers.1 c.in-Bytes.ensures.gathers.2)
     (rw c.as_slice.ensures.value at (c.check.ensures.answer went))
 
@@ -22,9 +22,9 @@ returns-in-Bytes-clause-front g c = λ broken.
 
 pub returns-in-TooLarge-clause-answer : goal.returns-in-TooLarge-clause-answer
 returns-in-TooLarge-clause-answer g c = λ went.
-    let whole : g.W2.Sink.failed c.tell.new.errors ≡ false = ≢true-false _ (λ broken. went (c.tell.ensures.broken c.requires.errors broken)) in
+    let whole : g.E.Sink.failed c.tell.new.errors ≡ false = ≢true-false _ (λ broken. went (c.tell.ensures.broken c.requires.errors broken)) in
     IfSome-along _ (answer_of c.args.options.now) (refused (codes "refused: E05 file too large\n")) (λ (answer : Answer).
-    Gave answer c.tell.result (g.W.Sink.written c.args.out.now) (g.W.Sink.written c.args.out.now) (g.W2.Sink.written c.args.errors.now) (g.W2.Sink.written c.tell.new.errors))
+    Gave answer c.tell.result (g.W.Sink.written c.args.out.now) (g.W.Sink.written c.args.out.now) (g.E.Sink.written c.args.errors.now) (g.E.Sink.written c.tell.new.errors))
     (answer_of-unread c.args.options.now _ _ c.in-TooLarge.ensures.gathers.0 c.in-TooLarge.ensures.gathers.1 c.in-TooLarge.ensures.gathers.2)
     (record {
       status = c.tell.ensures.status whole;
