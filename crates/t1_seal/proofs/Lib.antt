@@ -6,3 +6,5 @@ pub mod States
 pub mod Deciphering
 pub mod Openings
 pub mod Digits
+pub mod Sections
+pub mod WrittenSections

@@ -11,6 +11,7 @@ use Rattle.t1_seal.specs.declared.errors.SealError.{SealError}
 use Rattle.t1_seal.specs.declared.errors.SealError.TheVariants.{BadHeader, CutShort, NotAFont}
 use Rattle.t1_seal.specs.Segments.{Part, nothing, ending, payload, Row, JoinedText, payload_of, sized, typed, segment_of, follow, with_front, row_within, row_of, as_pfb, as_pfa, begins_pfb, begins_pfa, joined_of}
 use Rattle.t1_seal.specs.SegmentLaws.{Kind, text, binary, type_byte, Piece, Closing, by_file_end, by_end_segment, piece_bytes, closing_bytes, row_bytes, row_said, pfb_text, IsShort, IsByte, AreBytes, HasSegment, IsRow, IsPfb, IsPfa, ReadRowsAreWritten, JoinedPfbIsWritten, JoinedPfaIsWritten}
+use Rattle.std.specs.Prelude.{◌+◌}
 use Rattle.t1_seal.proofs.Rows.{segment_of-shorter}
 use Rattle.t1_seal.proofs.WrittenRows.{said_after}
 
@@ -191,7 +192,9 @@ follow_read n b row (Ok (payload front rest)) fit is shorter h =
     let r : HasRest front (row_within n rest) row = rest_read front (row_within n rest) row h in
     let piece : Piece = record { kind = p.kind; payload = front } in
     let fits : AreBytes rest = rest_fits (piece_bytes piece) rest (rw p.written at fit) in
-    let after : IsRow rest r.inner = shorter rest r.inner fits (segment_of-shorter b front rest is) r.read_is in
+    let s : length front + length rest < length b = segment_of-shorter b front rest is in
+    let smaller : length rest < length b = omega arith in
+    let after : IsRow rest r.inner = shorter rest r.inner fits smaller r.read_is in
     piece_before b front rest row r.inner p after r.row_is
 
 row_within-read : (n : ℕ) (b : List ℕ) (row : Row) → AreBytes b → length b ≤ n → row_within n b ≡ Ok row → IsRow b row

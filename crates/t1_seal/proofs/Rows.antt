@@ -1,5 +1,5 @@
 -- What a row of segments reads, a segment at a time.
-use Rattle.std.proofs.Common.{◌≡◌, ℕ, zero, suc, ◌<◌, ◌≤◌, ◌++◌, Bool, true, false, cond, ◌==◌, ◌||◌, List, [], ◌∷◌, length, Result, Ok, Err, refl, ap, sym, ◌∙◌, append_assoc, append-nil, not, length-drop, arith}
+use Rattle.std.proofs.Common.{◌≡◌, ℕ, zero, suc, ◌<◌, ◌≤◌, ◌++◌, Bool, true, false, cond, ◌==◌, ◌||◌, List, [], ◌∷◌, length, Result, Ok, Err, refl, ap, sym, ◌∙◌, append_assoc, append-nil, not, length-drop, length-take, ◌+◌, arith}
 use Rattle.std.specs.Int.{from_le_bytes, w32}
 use Rattle.t1_seal.specs.declared.errors.SealError.{SealError}
 use Rattle.t1_seal.specs.Segments.{Part, nothing, ending, payload, Row, payload_of, sized, typed, segment_of, follow, with_front, row_within, row_of, as_pfb}
@@ -12,31 +12,31 @@ chosen true x y z P first second e = first e
 chosen false x y z P first second e = second e
 
 -- A row that follows a payload is shorter than the row that began with it.
-payload_of-shorter : (n : ℕ) (b front rest : List ℕ) → payload_of n b ≡ Ok (payload front rest) → length rest ≤ length b
-payload_of-shorter n b front rest e = grind (arith, length-drop {A = ℕ})
+payload_of-shorter : (n : ℕ) (b front rest : List ℕ) → payload_of n b ≡ Ok (payload front rest) → length front + length rest ≤ length b
+payload_of-shorter n b front rest e = grind (arith, length-drop {A = ℕ}, length-take {A = ℕ})
 
-sized-shorter : (b front rest : List ℕ) → sized b ≡ Ok (payload front rest) → length rest ≤ length b
+sized-shorter : (b front rest : List ℕ) → sized b ≡ Ok (payload front rest) → length front + length rest ≤ length b
 sized-shorter [] front rest e = cc
 sized-shorter (x ∷ []) front rest e = cc
 sized-shorter (x ∷ y ∷ []) front rest e = cc
 sized-shorter (x ∷ y ∷ z ∷ []) front rest e = cc
 sized-shorter (x ∷ y ∷ z ∷ w ∷ b) front rest e =
-    let shorter : length rest ≤ length b = payload_of-shorter (from_le_bytes w32 (x ∷ y ∷ z ∷ w ∷ [])) b front rest e in omega arith
+    let shorter : length front + length rest ≤ length b = payload_of-shorter (from_le_bytes w32 (x ∷ y ∷ z ∷ w ∷ [])) b front rest e in omega arith
 
-typed-shorter : (b front rest : List ℕ) → typed b ≡ Ok (payload front rest) → length rest ≤ length b
+typed-shorter : (b front rest : List ℕ) → typed b ≡ Ok (payload front rest) → length front + length rest ≤ length b
 typed-shorter [] front rest e = cc
 typed-shorter (t ∷ b) front rest e =
-    chosen (t == 3) (Ok (ending b)) _ _ (length rest ≤ length (t ∷ b)) (λ same. absurd (cc same)) (λ other.
-    chosen (t == 1 || t == 2) (sized b) _ _ (length rest ≤ length (t ∷ b))
-    (λ same. let shorter : length rest ≤ length b = sized-shorter b front rest same in omega arith)
+    chosen (t == 3) (Ok (ending b)) _ _ (length front + length rest ≤ length (t ∷ b)) (λ same. absurd (cc same)) (λ other.
+    chosen (t == 1 || t == 2) (sized b) _ _ (length front + length rest ≤ length (t ∷ b))
+    (λ same. let shorter : length front + length rest ≤ length b = sized-shorter b front rest same in omega arith)
     (λ same. absurd (cc same)) other) e
 
-pub segment_of-shorter : (b front rest : List ℕ) → segment_of b ≡ Ok (payload front rest) → length rest < length b
+pub segment_of-shorter : (b front rest : List ℕ) → segment_of b ≡ Ok (payload front rest) → length front + length rest < length b
 unfolding segment_of
 segment_of-shorter [] front rest e = cc
 segment_of-shorter (x ∷ b) front rest e =
-    chosen (x == 128) (typed b) _ _ (length rest < length (x ∷ b))
-    (λ same. let shorter : length rest ≤ length b = typed-shorter b front rest same in omega arith)
+    chosen (x == 128) (typed b) _ _ (length front + length rest < length (x ∷ b))
+    (λ same. let shorter : length front + length rest ≤ length b = typed-shorter b front rest same in omega arith)
     (λ same. absurd (cc same)) e
 
 -- Two readers of what follows a payload give the same where they agree on it.
@@ -55,14 +55,14 @@ enough zero (suc m) (x ∷ t) h k = absurd (omega arith)
 enough (suc n) zero [] h k = refl
 enough (suc n) zero (x ∷ t) h k = absurd (omega arith)
 enough (suc n) (suc m) b h k = follow_same (row_within n) (row_within m) (segment_of b)
-    (λ front rest e. let s : length rest < length b = segment_of-shorter b front rest e in enough n m rest (omega arith) (omega arith))
+    (λ front rest e. let s : length front + length rest < length b = segment_of-shorter b front rest e in enough n m rest (omega arith) (omega arith))
 
 -- A row is what its first segment and the row after it say.
 pub row_step : (b : List ℕ) → row_of b ≡ follow row_of (segment_of b)
 unfolding row_within segment_of
 row_step [] = refl
 row_step (x ∷ t) = follow_same (row_within (length t)) row_of (segment_of (x ∷ t))
-    (λ front rest e. let s : length rest < length (x ∷ t) = segment_of-shorter (x ∷ t) front rest e in enough (length t) (length rest) rest (omega arith) (omega arith))
+    (λ front rest e. let s : length front + length rest < length (x ∷ t) = segment_of-shorter (x ∷ t) front rest e in enough (length t) (length rest) rest (omega arith) (omega arith))
 
 -- One front before another is their sum.
 pub fronts : (a b : List ℕ) (row : Result Row SealError) → with_front a (with_front b row) ≡ with_front (a ++ b) row

@@ -1,5 +1,5 @@
 -- The closed sum of the cipher is the state that runs along.
-use Rattle.std.proofs.Common.{◌≡◌, ℕ, zero, suc, ◌+◌, ◌-◌, ◌*◌, ◌/◌, ◌%◌, ◌^◌, ◌<◌, ◌≤◌, ◌++◌, List, [], ◌∷◌, length, take, get_or, map, refl, ap, sym, ◌∙◌, length-append, arith}
+use Rattle.std.proofs.Common.{◌≡◌, ℕ, zero, suc, ◌+◌, ◌-◌, ◌*◌, ◌%◌, ◌^◌, ◌<◌, ◌++◌, List, [], ◌∷◌, length, get_or, refl, ap, sym, ◌∙◌, length-append, arith}
 use Rattle.std.proofs.Math.Nat.{pow-suc, pow-zero}
 use Rattle.std.proofs.Math.Seq.{get_or-append_seam}
 use Rattle.std.proofs.lemmas.List.{get_or_append_left}
@@ -36,8 +36,8 @@ sum_at-suc a b start n byte more same =
     let f : ℕ → ℕ = λ j. byte j * a ^ (n - j) + b * a ^ (n - 1 - j) in
     let g : ℕ → ℕ = λ j. more j * a ^ (suc n - j) + b * a ^ (suc n - 1 - j) in
     let terms : sum_below n g ≡ sum_below n f * a =
-        sum_below_same n g (λ j. f j * a) (λ j h. ap (λ c. c * a ^ (suc n - j) + b * a ^ (suc n - 1 - j)) (same j h) ∙ term-suc a b n j (byte j) h)
-        ∙ sum_below_times n a f in
+    sum_below_same n g (λ j. f j * a) (λ j h. ap (λ c. c * a ^ (suc n - j) + b * a ^ (suc n - 1 - j)) (same j h) ∙ term-suc a b n j (byte j) h)
+    ∙ sum_below_times n a f in
     let first : suc n - n ≡ 1 = omega arith in
     let second : suc n - 1 - n ≡ 0 = omega arith in
     let one : a ^ 1 ≡ a = pow-suc a 0 ∙ rw (pow-zero a) (omega arith) in
@@ -69,7 +69,7 @@ pub state_runs_along : StateRunsAlong
 unfolding state_after
 state_runs_along start front c =
     ap (λ n. n % 65536) (closed_sum-push multiplier addend start front c)
-        ∙ step (closed_sum multiplier addend start front) c
+    ∙ step (closed_sum multiplier addend start front) c
 
 -- The next state, as the program computes it.
 pub state_step : (start r : ℕ) (front : List ℕ) (c : ℕ) → state_after start front ≡ r → next_state r c ≡ state_after start (front ++ c ∷ [])

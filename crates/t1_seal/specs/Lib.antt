@@ -1,6 +1,7 @@
 pub mod Cipher
 pub mod CipherLaws
 pub mod Eexec
+pub mod EexecLaws
 pub mod Joined
 pub mod Opening
 pub mod SealError

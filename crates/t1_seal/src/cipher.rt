@@ -4,9 +4,13 @@ ghost use Rattle.std.specs.Prelude.{◌≡◌, ◌++◌, ◌∷◌, ℕ, List, [
 ghost use Rattle.t1_seal.specs.Cipher.{charstring_start, eexec_start, plain_byte, state_after};
 
 const EEXEC_START: u16 = 55665;
+
 const CHARSTRING_START: u16 = 4330;
+
 const MULTIPLIER: u32 = 52845;
+
 const ADDEND: u32 = 22719;
+
 const STATES: u32 = 1 << 16;
 
 /// A cipher in the midst of its bytes. It deciphers one byte at a time, in their order.
@@ -28,7 +32,9 @@ impl Cipher {
     pub fn charstring() -> Cipher
         ensures { result.r ≡ charstring_start }
     {
-        Cipher { r: CHARSTRING_START }
+        Cipher {
+            r: CHARSTRING_START,
+        }
     }
 
     /// The plain byte of the next cipher byte.

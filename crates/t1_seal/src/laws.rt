@@ -2,6 +2,7 @@
 //! proof that cites it, has the law.
 
 ghost use Rattle.t1_seal.specs.CipherLaws.{DeciphersTheEnciphered, StartsAtTheStart, StateRunsAlong};
+ghost use Rattle.t1_seal.specs.EexecLaws.{OpensBinary, OpensHexadecimal};
 ghost use Rattle.t1_seal.specs.SegmentLaws.{JoinedPfaIsWritten, JoinedPfbIsWritten, JoinsPfa, JoinsWrittenPfb, ReadRowsAreWritten, ReadsWrittenRows, RefusesByFault};
 
 /// A file that isn't joined is no PFA or PFB file, has a bad header, or is cut short.
@@ -28,11 +29,15 @@ pub fn font_files()
 pub fn cipher_state()
     ensures start { StartsAtTheStart }
     ensures byte { StateRunsAlong }
-{
-}
+{}
 
 /// Deciphering undoes enciphering, whatever the start.
 pub fn cipher_round_trip()
     ensures { DeciphersTheEnciphered }
-{
-}
+{}
+
+/// Cipher bytes that are written in hexadecimal, with blanks among the digits, or as they are, open.
+pub fn eexec_sections()
+    ensures hexadecimal { OpensHexadecimal }
+    ensures binary { OpensBinary }
+{}

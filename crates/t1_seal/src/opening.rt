@@ -27,7 +27,11 @@ impl Opening {
         ensures room { IfOk result (IsFor bytes) }
     {
         let text = Vec::with_capacity(alloc, bytes.saturating_sub(DISCARDED))?;
-        Ok(Opening { cipher: Cipher::eexec(), discarded: 0, text })
+        Ok(Opening {
+            cipher: Cipher::eexec(),
+            discarded: 0,
+            text,
+        })
     }
 
     /// Takes the next cipher byte.
@@ -49,6 +53,11 @@ impl Opening {
         ensures { (front : List ℕ) → HasTaken self front →
             MatchResult result (λ text. opened front ≡ Ok text.items) (λ e. opened front ≡ Err e) }
     {
-        if self.discarded < DISCARDED { Err(SealError::TooShort) } else { Ok(self.text) }
+        let too_short = self.discarded < DISCARDED;
+        if too_short {
+            Err(SealError::TooShort)
+        } else {
+            Ok(self.text)
+        }
     }
 }

@@ -51,7 +51,7 @@ pub fn join(alloc: Global, input: &[u8]) -> Result<Joined, SealError>
 fn join_row(alloc: Global, row: &[u8]) -> Result<Joined, SealError>
     ensures { Gives joined_text result (as_pfb (row_of row.now)) }
 {
-    let mut bytes = Vec::new(alloc);
+    let mut bytes = Vec::with_capacity(alloc, row.len())?;
     let mut rest = row;
     loop {
         match first_segment(rest)? {
@@ -76,7 +76,7 @@ fn join_row(alloc: Global, row: &[u8]) -> Result<Joined, SealError>
                 payload,
                 rest: following,
             } => {
-                bytes.extend_from_slice(payload)?;
+                bytes.extend_from_slice(payload).unwrap();
                 rest = following;
             }
         }

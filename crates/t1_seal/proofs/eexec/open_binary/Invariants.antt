@@ -4,6 +4,6 @@ use Rattle.t1_seal.proofs.eexec.open_binary.Given as goal
 
 abbrev pub invariant-loop-byte : goal.invariant-loop-byte
 invariant-loop-byte l = record {
-  taken : HasTaken l.opening (take l.byte-index l.section);
-  room : IsFor (length l.section) l.opening;
+  taken : HasTaken l.text (take l.byte-index l.section);
+  room : IsFor (length l.section) l.text;
 }

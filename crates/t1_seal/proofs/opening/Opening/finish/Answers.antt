@@ -1,11 +1,8 @@
-use Rattle.std.proofs.Common.{◌<◌, ◌≤◌, length, arith, ◌∙◌, ap, sym, Ok}
-use Rattle.t1_seal.proofs.Openings.{opened-long, opened-short}
+use Rattle.t1_seal.proofs.Openings.{finishes_long, finishes_short}
 use Rattle.t1_seal.proofs.opening.Opening.finish.Goals as goal
 
-pub returns-then-self-lt-DISCARDED : goal.returns-then-self-lt-DISCARDED
-returns-then-self-lt-DISCARDED c front taken =
-    let short : length front < 4 = omega (arith, taken.discarded) in opened-short front short
+pub returns-then-too_short : goal.returns-then-too_short
+returns-then-too_short c front taken = finishes_short c.args.self front taken c.if-too_short.true
 
-pub returns-else-self-lt-DISCARDED : goal.returns-else-self-lt-DISCARDED
-returns-else-self-lt-DISCARDED c front taken =
-    let long : 4 ≤ length front = omega (arith, taken.discarded) in rw taken.text (opened-long front long)
+pub returns-else-too_short : goal.returns-else-too_short
+returns-else-too_short c front taken = finishes_long c.args.self front taken c.if-too_short.false
