@@ -23,6 +23,7 @@ impl<D: Source> Fuse<D> {
     /// A source that gives the bytes of `device` until the fuse has blown.
     pub fn source(device: D, limit: Limit) -> Fuse<D>
         requires { lets_some_through limit ≡ true }
+        ensures device { result.device ≡ device }
         ensures limit { result.limit ≡ limit }
         ensures left { ⟦<Fuse<D> as Source>⟧.left result ≡ D.left device }
         ensures takes { ⟦<Fuse<D> as Source>⟧.takes result ≡ 0 }
@@ -42,6 +43,7 @@ impl<D: Sink> Fuse<D> {
     /// A sink that writes to `device` until the fuse has blown.
     pub fn sink(device: D, limit: Limit) -> Fuse<D>
         requires { lets_some_through limit ≡ true }
+        ensures device { result.device ≡ device }
         ensures limit { result.limit ≡ limit }
         ensures written { ⟦<Fuse<D> as Sink>⟧.written result ≡ D.written device }
         ensures flushed { ⟦<Fuse<D> as Sink>⟧.flushed result ≡ D.flushed device }
@@ -72,6 +74,7 @@ impl<D: Source> Source for Fuse<D> {
         ensures broken { OnErr result (⟦<Fuse<D> as Source>⟧.failed self.new ≡ true) }
 
         ensures blown { has_blown self.old.limit ≡ true → IsErr result }
+        ensures still { has_blown self.old.limit ≡ true → self.new.device ≡ self.old.device }
         ensures fails { OnErr result ((has_blown self.old.limit ≡ true) ⊎ (D.failed self.new.device ≡ true)) }
         ensures moved { IfOk result (λ n. n ≤ let_through self.old.limit (length buffer.new)) }
         ensures burnt { self.new.limit ≡ burnt self.old.limit (count_of result) }
@@ -117,6 +120,7 @@ impl<D: Sink> Sink for Fuse<D> {
         ensures broken { OnErr result (⟦<Fuse<D> as Sink>⟧.failed self.new ≡ true) }
 
         ensures blown { has_blown self.old.limit ≡ true → IsErr result }
+        ensures still { has_blown self.old.limit ≡ true → self.new.device ≡ self.old.device }
         ensures fails { OnErr result ((has_blown self.old.limit ≡ true) ⊎ (D.failed self.new.device ≡ true)) }
         ensures moved { IfOk result (λ n. n ≤ let_through self.old.limit (length bytes.now)) }
         ensures burnt { self.new.limit ≡ burnt self.old.limit (count_of result) }
@@ -147,6 +151,7 @@ impl<D: Sink> Sink for Fuse<D> {
         ensures broken { OnErr result (⟦<Fuse<D> as Sink>⟧.failed self.new ≡ true) }
 
         ensures blown { has_blown self.old.limit ≡ true → IsErr result }
+        ensures still { has_blown self.old.limit ≡ true → self.new.device ≡ self.old.device }
         ensures fails { OnErr result ((has_blown self.old.limit ≡ true) ⊎ (D.failed self.new.device ≡ true)) }
         ensures burnt { self.new.limit ≡ burnt self.old.limit 0 }
     {

@@ -9,7 +9,7 @@
 //!
 //! Promised for any bytes:
 //!
-//! - No call fails, runs forever, or reads past the text.
+//! - Each call returns, and none reads past the text.
 //! - `next` gives a token in its plain form, which stands behind blanks and comments alone; None
 //!   exactly where blanks and comments alone are left; and [`ScanError`] exactly where more is left
 //!   and no such token stands there.

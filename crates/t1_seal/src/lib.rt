@@ -11,8 +11,9 @@
 //!
 //! - the answer is what the definitions in `specs/` read, or the refusal that they name; want of memory
 //!   alone says nothing of the bytes;
-//! - no index, sum or cast goes wrong, and each call returns;
-//! - one pass over the bytes, and at most one allocation, whose size is known before it.
+//! - no index, sum or cast goes wrong, and each call returns.
+//!
+//! Each call makes one pass over the bytes, and one allocation at most, whose size is known before it.
 //!
 //! ```
 //! let joined = t1_seal::join(alloc, b"\x80\x01\x03\x00\x00\x00%!\n")?;

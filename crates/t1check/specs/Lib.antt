@@ -1,6 +1,6 @@
 pub mod Answers
 pub mod CommandLine
-pub mod Decimals
+pub mod Exit
 pub mod Explained
 pub mod Input
 pub mod Lines

@@ -37,3 +37,10 @@ numbered_from n (rule ∷ rules) = file_fault n rule ∷ numbered_from (n + 1) r
 -- The report of a font file. Both rules speak of the file as a whole.
 abbrev pub report_of : JoinedText → List Fault
 report_of joined = numbered_from 1 (filter (λ rule. violated (number_of rule) joined 0 0) (F01 ∷ F02 ∷ []))
+
+-- Each font file has a report, the list above, and no other.
+abbrev pub HasReport : Type 0
+HasReport = (joined : JoinedText) → IsReport joined (report_of joined)
+
+abbrev pub HasNoOtherReport : Type 0
+HasNoOtherReport = (joined : JoinedText) (a b : List Fault) → IsReport joined a → IsReport joined b → a ≡ b

@@ -1,6 +1,7 @@
-ghost use Rattle.std.specs.Prelude.{◌≡◌, ◌+◌, ◌<◌, drop};
+ghost use Rattle.std.specs.Prelude.{◌≡◌, ℕ, ◌+◌, ◌<◌, List, drop};
 ghost use Rattle.std.specs.Fmt.{decimal};
-ghost use Rattle.t1check.specs.Decimals.{digits_in};
+
+use std::marker::Model;
 
 /// The most decimal digits that a number of 64 bits has.
 const MOST_DIGITS: usize = 20;
@@ -10,13 +11,21 @@ const MOST_DIGITS: usize = 20;
 pub struct Decimal {
     bytes: [u8; MOST_DIGITS],
     first: usize,
-    ghost within: { first < 20 },
+}
+
+// A contract sees the digits.
+impl Model for Decimal {
+    ghost Value = { List ℕ };
+
+    ghost view = { λ d. drop d.first d.bytes };
+
+    ghost invariant = { λ d. d.first < 20 };
 }
 
 impl Decimal {
     /// The digits of a number, without leading zeros.
     pub fn new(number: u64) -> Decimal
-        ensures { digits_in result.bytes result.first ≡ decimal number }
+        ensures { result ≡ decimal number }
     {
         let mut bytes = [0u8; MOST_DIGITS];
         let mut first = MOST_DIGITS - 1;
@@ -32,7 +41,7 @@ impl Decimal {
 
     /// The digits as text.
     pub fn digits(&self) -> &[u8]
-        ensures { result.now ≡ digits_in self.now.bytes self.now.first }
+        ensures { result.now ≡ self.now }
     {
         &self.bytes[self.first..]
     }

@@ -1,6 +1,7 @@
 ghost use Rattle.std.specs.Prelude.{◌≡◌, true, false, codes};
 ghost use Rattle.std.specs.Io.KnownBytes.{Appends, Keeps};
 ghost use Rattle.t1_io.specs.Devices.{AppendsFront};
+ghost use Rattle.t1check.specs.CommandLine.{IsHelp};
 ghost use Rattle.t1check.specs.Explained.{explained_output, explained_told, explained_status};
 
 use crate::asked::UsageError;
@@ -19,6 +20,8 @@ pub fn explain<W: Sink, E: Sink>(error: &UsageError, out: &mut W, errors: &mut E
     ensures told { W.failed out.new ≡ false → E.failed errors.new ≡ false → Appends (E.written errors.old) (E.written errors.new) (explained_told error.now) }
     ensures write_failed { W.failed out.new ≡ true → E.failed errors.new ≡ false → Appends (E.written errors.old) (E.written errors.new) (codes "t1check: write failed\n") }
     ensures status { W.failed out.new ≡ false → E.failed errors.new ≡ false → result ≡ explained_status error.now }
+    ensures only_help { W.failed out.new ≡ true → IsHelp error.now }
+    ensures kept { IsHelp error.now → W.failed out.new ≡ false → E.failed errors.new ≡ false }
     ensures broken_out { W.failed out.new ≡ true → result ≡ Status.Failed }
     ensures broken_errors { E.failed errors.new ≡ true → result ≡ Status.Failed }
 {

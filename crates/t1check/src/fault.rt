@@ -1,4 +1,4 @@
-ghost use Rattle.std.specs.Prelude.{◌≡◌, ℕ, drop, IfOk};
+ghost use Rattle.std.specs.Prelude.{◌≡◌, drop, IfOk};
 ghost use Rattle.t1_seal.specs.Joined.{joined_text};
 ghost use Rattle.t1check.specs.Rules.{number_of, violated};
 ghost use Rattle.t1check.specs.Report.{IsReport, report_of};
@@ -16,6 +16,7 @@ pub struct Fault {
     pub unit: u32,
     /// In the font: 65,536 times the key's number, and the index.
     pub step: u32,
+    /// The rule that is violated there.
     pub rule: Rule,
 }
 

@@ -1,4 +1,4 @@
-ghost use Rattle.std.specs.Prelude.{◌≡◌, ◌==◌, ◌&&◌, true, length, OnOk, OnErr};
+ghost use Rattle.std.specs.Prelude.{◌≡◌, true, OnOk, OnErr};
 ghost use Rattle.std.specs.List.{All};
 ghost use Rattle.std.specs.Io.KnownBytes.{Appends};
 ghost use Rattle.t1_io.specs.Devices.{AppendsFront};
@@ -7,7 +7,7 @@ ghost use Rattle.t1check.specs.Lines.{key_text_of, line_of, lines_of, IsInFont};
 use crate::decimal::Decimal;
 use crate::fault::Fault;
 use crate::rule::{rule_code, rule_text};
-use t1_io::{Broken, Sink, put_all, put_parts};
+use t1_io::{Broken, Sink, put_parts};
 
 /// Writes the lines of faults, one after another. After a failure a front of them went out.
 pub fn write_faults<W: Sink>(sink: &mut W, faults: &[Fault]) -> Result<(), Broken>

@@ -1,3 +1,9 @@
+ghost use Rattle.std.specs.Prelude.{◌≡◌};
+ghost use Rattle.std.specs.Process.{exit_status};
+ghost use Rattle.t1check.specs.Exit.{exit_code_of};
+
+use std::process::{ExitCode, Termination};
+
 /// How a run ended.
 #[derive(Clone, Copy, Debug, PartialEq, Eq)]
 pub enum Status {
@@ -9,4 +15,12 @@ pub enum Status {
     Refused = 2,
     /// A device failed, memory ran out, or the words weren't taken.
     Failed = 3,
+}
+
+impl Termination for Status {
+    fn report<R: Eprint>(self, _rt: &R) -> ExitCode
+        ensures { exit_status result ≡ exit_code_of self }
+    {
+        ExitCode::from(self as u8)
+    }
 }

@@ -120,7 +120,7 @@ fn tells_a_failed_read(rt: HostRuntime) {
 
 #[test]
 fn fails_where_nothing_can_be_told(rt: HostRuntime) {
-    for room in 0..10usize {
+    for room in 0..31usize {
         let mut output = Vec::new(rt.alloc());
         let mut told = Vec::new(rt.alloc());
         let status = run(

@@ -72,18 +72,25 @@ fn refuses_broken_files(rt: HostRuntime) {
 /// The greatest file is read, and one byte more is refused before anything else.
 #[test]
 fn reads_sixteen_megabytes(rt: HostRuntime) -> Result<(), Fail> {
-    let largest = vec![in rt.alloc(); 0u8; 16_777_216]?;
-    let answer = answer_to(rt.alloc(), largest.as_slice(), 0);
-    assert_eq!(rt;
-        answer.told.as_slice(),
-        b"refused: E01 not a PFA or PFB\n".as_slice()
-    );
-    let larger = vec![in rt.alloc(); 0u8; 16_777_217]?;
-    let answer = answer_to(rt.alloc(), larger.as_slice(), 0);
-    assert_eq!(rt;
-        answer.told.as_slice(),
-        b"refused: E05 file too large\n".as_slice()
-    );
-    assert_eq!(rt; answer.status, Status::Refused);
+    let zeros = vec![in rt.alloc(); 0u8; 16_777_214]?;
+    let table: [(&[u8], &str, Status); 5] = [
+        (b"%!", "", Status::Clean),
+        (b"%!\n", "refused: E05 file too large\n", Status::Refused),
+        (b"\0\0", "refused: E01 not a PFA or PFB\n", Status::Refused),
+        (b"\0\0\0", "refused: E05 file too large\n", Status::Refused),
+        (
+            b"\x80\x03\0",
+            "refused: E05 file too large\n",
+            Status::Refused,
+        ),
+    ];
+    for (front, line, status) in table {
+        let mut file = Vec::from_slice(rt.alloc(), front)?;
+        file.extend_from_slice(zeros.as_slice())?;
+        let answer = answer_to(rt.alloc(), file.as_slice(), 0);
+        assert_eq!(rt; answer.output.len(), 0, "behind {front:?}");
+        assert_eq!(rt; answer.told.as_slice(), line.as_bytes(), "behind {front:?}");
+        assert_eq!(rt; answer.status, status, "behind {front:?}");
+    }
     Ok(())
 }
