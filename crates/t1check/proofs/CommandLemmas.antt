@@ -1,18 +1,19 @@
 -- The program's command, argument by argument, as clap's rules see it.
-use Rattle.std.proofs.Common.{◌≡◌, ℕ, ◌<◌, zero, suc, false, true, List, [], ◌∷◌, Option, None, Some, map, codes, length, slice_index, inl, inr, lit<, ap, sym, subst, refl, arith, ◌∙◌}
-use Rattle.std.specs.List.{All, slice_index_or}
+use Rattle.std.proofs.Common.{◌≡◌, ℕ, zero, suc, Bool, ◌&&◌, not, false, true, List, [], ◌∷◌, Option, None, Some, map, codes, inl, inr, ap, sym, subst, refl, arith, ◌∙◌}
+use Rattle.std.specs.List.{All, Any, list_all, slice_index_or}
 use Rattle.std.specs.Str.{bytes_eq}
 use Rattle.std.proofs.lemmas.Slice.Eq.{bytes_eq-Decides}
-use Rattle.clap.specs.Built.{IsAuto}
+use Rattle.clap.specs.Built.{HasDistinctIds, IsAuto}
 use Rattle.clap.proofs.SimpleLemmas.{is_nil, is_false}
+use Rattle.clap.proofs.TakesLemmas.{each_rule}
 use Rattle.clap.proofs.WalkLemmas.{both, first_value-rows}
-use Rattle.clap.specs.Words.{AddsArg, App, IsParsedFrom, IsPlain, IsPlainArg, IsUnsignedIn, Row, Rule, app_of, args_of, first_of, first_value, found_of, groups_of, new_app, rows_of, rule_of, with_rule}
+use Rattle.clap.specs.Words.{AddsArg, App, IsParsedFrom, IsPlainArg, IsUnsignedIn, Row, Rule, Text, app_of, args_of, first_of, first_value, found_of, groups_of, new_app, rows_of, rule_of, with_rule}
 use Rattle.clap.specs.declared.builder.arg.Arg.{Arg}
 use Rattle.clap.specs.declared.builder.command.Command.{Command}
 use Rattle.clap.specs.declared.builder.command.Command.TheViews.{out-Command}
 use Rattle.clap.specs.declared.builder.value_parser.ValueParser.TheVariants as parser
 use Rattle.clap.specs.declared.parser.matches.ArgMatches.{ArgMatches}
-use Rattle.t1check.specs.CommandLine.{t1check, after_rule, file_rule, IsTextOfNumber}
+use Rattle.t1check.specs.CommandLine.{t1check, after_rule, file_rule, IsNumberArgument, IsTextOfNumber}
 use Rattle.t1check.proofs.ValueLemmas.{first_value-passes}
 
 -- a command with the two arguments is the program's
@@ -24,97 +25,123 @@ app_of-t1check start first second after file one two after_local file_local new 
     two.shape file_local ∙ ap (with_rule (app_of first)) is_file
     ∙ ap (λ (a : App). with_rule a file_rule) (one.shape after_local ∙ ap (with_rule (app_of start)) is_after ∙ ap (λ (a : App). with_rule a after_rule) new)
 
--- What the rules of a command say of its arguments: it has just the two, which exclude nothing.
+-- a rule excludes nothing, and its id is neither empty nor that of an argument of clap's own
+abbrev is_own : Rule → Bool
+is_own r = r.is_simple && (r.is_free && (not (bytes_eq r.id []) && (not (bytes_eq r.id (codes "help")) && not (bytes_eq r.id (codes "version")))))
+
+-- no later rule has the id of an earlier one
+abbrev are_distinct : List Rule → Bool
+are_distinct [] = true
+are_distinct (r ∷ rs) = list_all (λ s. not (bytes_eq s.id r.id)) rs && are_distinct rs
+
+-- What the program's rules say of a command: its arguments exclude nothing, and each has an id of its own.
 pub record IsOurs (c : Command) : Type 0 where
-  pub after : Arg
-  pub file : Arg
-  pub args : args_of c ≡ after ∷ file ∷ []
-  pub is_after : rule_of after ≡ after_rule
-  pub is_file : rule_of file ≡ file_rule
-  pub plain : IsPlain c
+  pub rules : map rule_of (args_of c) ≡ t1check.top.rules
+  pub own : list_all is_own (map rule_of (args_of c)) ≡ true
+  pub distinct : are_distinct (map rule_of (args_of c)) ≡ true
+  pub groups : groups_of c ≡ []
   pub globals : (out-Command c).has_globals ≡ false
 
-two_of : {X Y : Type 0} (f : X → Y) (xs : List X) (r s : Y) → map f xs ≡ r ∷ s ∷ [] → (a : X) × (b : X) × (xs ≡ a ∷ b ∷ []) × (f a ≡ r) × (f b ≡ s)
-two_of f [] r s e = cc
-two_of f (a ∷ []) r s e = cc
-two_of f (a ∷ b ∷ []) r s e = (a, b, refl, cc, cc)
-two_of f (a ∷ b ∷ x ∷ xs) r s e = cc
-
--- an argument that is simple and free excludes nothing
-plain_arg : (a : Arg) → (rule_of a).is_simple ≡ true → (rule_of a).is_free ≡ true → IsPlainArg a
-plain_arg a simple free =
-    let groups = both _ _ (both _ _ simple).1 in
-    let alone = both _ _ free in
-    (is_false a.exclusive alone.0, is_nil a.conflicts.items (both _ _ alone.1).0, is_nil a.overrides.items (both _ _ simple).0, is_nil a.groups.items (both _ _ groups.1).0)
-
-all_two : {X : Type 0} (P : X → Type 0) (a b : X) → P a → P b → All P (a ∷ b ∷ [])
-all_two P a b p q zero d lt = p
-all_two P a b p q (suc zero) d lt = q
-all_two P a b p q (suc (suc k)) d lt = absurd (omega arith)
-
-pub ours : (c : Command) → app_of c ≡ t1check → IsOurs c
+-- each of the program's rules passes the test
+all_own : list_all is_own t1check.top.rules ≡ true
 unfolding t1check
+all_own = refl
+
+-- no two of the program's rules have one id
+all_distinct : are_distinct t1check.top.rules ≡ true
+unfolding t1check
+all_distinct = refl
+
+-- the program has no group and no global argument
+plain_top : t1check.top.is_plain ≡ true
+unfolding t1check
+plain_top = refl
+
+-- a command with the program's rules is as they say
+pub ours : (c : Command) → app_of c ≡ t1check → IsOurs c
 ours c e =
-    let found = two_of rule_of (args_of c) after_rule file_rule (ap (λ (a : App). a.top.rules) e) in
-    let after_plain : IsPlainArg found.0 = plain_arg found.0 (ap (λ (r : Rule). r.is_simple) found.3) (ap (λ (r : Rule). r.is_free) found.3) in
-    let file_plain : IsPlainArg found.1 = plain_arg found.1 (ap (λ (r : Rule). r.is_simple) found.4) (ap (λ (r : Rule). r.is_free) found.4) in
-    let fields = both _ _ (ap (λ (a : App). a.top.is_plain) e) in
+    let rules : map rule_of (args_of c) ≡ t1check.top.rules = ap (λ (a : App). a.top.rules) e in
+    let fields = both _ _ (ap (λ (a : App). a.top.is_plain) e ∙ plain_top) in
     record {
-      after = found.0;
-      file = found.1;
-      args = found.2;
-      is_after = found.3;
-      is_file = found.4;
-      plain = (subst (All IsPlainArg) (sym found.2) (all_two IsPlainArg found.0 found.1 after_plain file_plain), is_nil (groups_of c) fields.0);
+      rules = rules;
+      own = ap (list_all is_own) rules ∙ all_own;
+      distinct = ap are_distinct rules ∙ all_distinct;
+      groups = is_nil (groups_of c) fields.0;
       globals = is_false (out-Command c).has_globals (both _ _ (both _ _ fields.1).1).0;
     }
 
--- the two ids differ from one another, from the ids of clap's own arguments, and from the empty one
-pair_alone : (a b : Arg) → a.id.now ≡ codes "after" → b.id.now ≡ codes "file" → (d : Arg) (j : ℕ) (e : Arg) → j < 2
-    → bytes_eq (slice_index_or (a ∷ b ∷ []) j e).id.now a.id.now ≡ true → j ≡ 0
-pair_alone a b after file d zero e lt same = refl
-pair_alone a b after file d (suc zero) e lt same =
-    let heads : ◌≡◌ {A = ℕ} 102 97 = ap (λ (l : List ℕ). slice_index l 0) (sym file ∙ (bytes_eq-Decides b.id.now a.id.now).0 same ∙ after) in
-    absurd (omega arith)
-pair_alone a b after file d (suc (suc k)) e lt same = absurd (omega arith)
+-- texts that the test tells apart are not equal
+differ : (x y : Text) → not (bytes_eq x y) ≡ true → x ≡ y → ⊥
+differ x y e same =
+    let equal : bytes_eq x y ≡ true = (bytes_eq-Decides x y).1 same in
+    let unequal : bytes_eq x y ≡ false = is_false _ e in
+    cc
 
-alone : (args : List Arg) (a b : Arg) → args ≡ a ∷ b ∷ [] → a.id.now ≡ codes "after" → b.id.now ≡ codes "file" → (d : Arg) (j : ℕ) (e : Arg) → j < length args
-    → bytes_eq (slice_index_or args j e).id.now (slice_index_or args 0 d).id.now ≡ true → j ≡ 0
-alone args a b is after file d =
-    subst (λ (l : List Arg). (j : ℕ) (e : Arg) → j < length l → bytes_eq (slice_index_or l j e).id.now (slice_index_or l 0 d).id.now ≡ true → j ≡ 0)
-    (sym is) (pair_alone a b after file d)
+-- An argument that excludes nothing, and whose id is neither empty nor that of an argument of clap's own.
+record IsOwn (a : Arg) : Type 0 where
+  pub plain : IsPlainArg a
+  pub named : a.id.now ≡ [] → ⊥
+  pub not_auto : IsAuto a → ⊥
 
-named : (id : List ℕ) → id ≡ codes "after" → id ≡ [] → ⊥
-named id is empty =
-    let lengths : ◌≡◌ {A = ℕ} 5 0 = ap (λ (l : List ℕ). length l) (sym is ∙ empty) in
-    absurd (omega arith)
+-- an argument whose rule passes the test is one
+own_arg : (a : Arg) → is_own (rule_of a) ≡ true → IsOwn a
+own_arg a e =
+    let simple = both _ _ e in
+    let free = both _ _ simple.1 in
+    let named = both _ _ free.1 in
+    let auto = both _ _ named.1 in
+    let groups = both _ _ (both _ _ simple.0).1 in
+    let alone = both _ _ free.0 in
+    record {
+      plain = (is_false a.exclusive alone.0, is_nil a.conflicts.items (both _ _ alone.1).0, is_nil a.overrides.items (both _ _ simple.0).0, is_nil a.groups.items (both _ _ groups.1).0);
+      named = differ a.id.now [] named.0;
+      not_auto = λ is. elim is [ inl help ↦ differ a.id.now (codes "help") auto.0 help | inr version ↦ differ a.id.now (codes "version") auto.1 version ];
+    }
 
-own : (a : Arg) → a.id.now ≡ codes "after" → IsAuto a → ⊥
-own a is (inl help) =
-    let heads : ◌≡◌ {A = ℕ} 97 104 = ap (λ (l : List ℕ). slice_index l 0) (sym is ∙ help) in
-    absurd (omega arith)
-own a is (inr version) =
-    let heads : ◌≡◌ {A = ℕ} 97 118 = ap (λ (l : List ℕ). slice_index l 0) (sym is ∙ version) in
-    absurd (omega arith)
+-- so is each argument of a command with the program's rules
+own_args : (c : Command) → IsOurs c → All IsOwn (args_of c)
+own_args c our k d lt = own_arg (slice_index_or (args_of c) k d) (each_rule is_own (args_of c) our.own k d lt)
 
--- The value of --after that a parse gives is a number of 64 bits.
-after_value : (c : Command) (m : ArgMatches) → app_of c ≡ t1check → IsParsedFrom c m → (text : List ℕ)
-    → first_value (found_of m) (codes "after") ≡ Some text → IsUnsignedIn 0 18446744073709551615 text
-after_value c m e p text first =
-    let our = ours c e in
-    let at : (d : Arg) → slice_index_or (args_of c) 0 d ≡ our.after = λ d. ap (λ (l : List Arg). slice_index_or l 0 d) our.args in
-    let id : our.after.id.now ≡ codes "after" = ap (λ (r : Rule). r.id) our.is_after in
-    let file_id : our.file.id.now ≡ codes "file" = ap (λ (r : Rule). r.id) our.is_file in
-    let is_parser : our.after.value_parser ≡ Some (parser.Unsigned 0 18446744073709551615) = ap (λ (r : Rule). r.parser) our.is_after in
-    let here : (slice_index_or (args_of c) 0 our.after).value_parser ≡ Some (parser.Unsigned 0 18446744073709551615) = ap (λ (a : Arg). a.value_parser) (at our.after) ∙ is_parser in
-    let id_here : (slice_index_or (args_of c) 0 our.after).id.now ≡ codes "after" = ap (λ (a : Arg). a.id.now) (at our.after) ∙ id in
-    let many : 0 < length (args_of c) = subst (λ (l : List Arg). 0 < length l) (sym our.args) (lit< tt) in
-    first_value-passes c m p our.plain our.globals 0 our.after many
-    (alone (args_of c) our.after our.file our.args id file_id our.after) (named _ id_here) (own (slice_index_or (args_of c) 0 our.after) id_here) (parser.Unsigned 0 18446744073709551615) here text
+-- no two arguments have one id, where no two rules do
+distinct_ids : (args : List Arg) → are_distinct (map rule_of args) ≡ true → HasDistinctIds args
+distinct_ids [] e j k d f below lt same = absurd (omega arith)
+distinct_ids (x ∷ xs) e zero zero d f below lt same = refl
+distinct_ids (x ∷ xs) e zero (suc k) d f below lt same =
+    let here : not (bytes_eq (slice_index_or xs k d).id.now x.id.now) ≡ true = each_rule (λ s. not (bytes_eq s.id x.id.now)) xs (both _ _ e).0 k d (omega arith) in
+    absurd (differ (slice_index_or xs k d).id.now x.id.now here (sym ((bytes_eq-Decides x.id.now (slice_index_or xs k d).id.now).0 same)))
+distinct_ids (x ∷ xs) e (suc j) zero d f below lt same =
+    let here : not (bytes_eq (slice_index_or xs j f).id.now x.id.now) ≡ true = each_rule (λ s. not (bytes_eq s.id x.id.now)) xs (both _ _ e).0 j f (omega arith) in
+    absurd (differ (slice_index_or xs j f).id.now x.id.now here ((bytes_eq-Decides (slice_index_or xs j f).id.now x.id.now).0 same))
+distinct_ids (x ∷ xs) e (suc j) (suc k) d f below lt same = ap (λ (n : ℕ). suc n) (distinct_ids xs (both _ _ e).1 j k d f (omega arith) (omega arith) same)
+
+-- what holds of some image holds of the image of some element
+any_of_map : {X Y : Type 0} (P : Y → Type 0) (f : X → Y) (xs : List X) → Any P (map f xs) → Any (λ x. P (f x)) xs
+any_of_map P f [] (k, y, lt, at, holds) = absurd (omega arith)
+any_of_map P f (x ∷ xs) (zero, y, lt, at, holds) = (0, x, omega arith, refl, subst P (sym at) holds)
+any_of_map P f (x ∷ xs) (suc k, y, lt, at, holds) =
+    let rest = any_of_map P f xs (k, y, omega arith, at, holds) in
+    (suc rest.0, rest.1, omega (arith, rest.2), rest.3, rest.4)
+
+-- what the rule of a number's argument says
+abbrev IsNumberRule : Text → Rule → Type 0
+IsNumberRule id r = (r.id ≡ id) × (r.parser ≡ Some (parser.Unsigned 0 18446744073709551615))
+
+-- the value that a parse gives to a number's argument is a number of 64 bits
+number_at : (c : Command) → IsOurs c → (m : ArgMatches) → IsParsedFrom c m → (id text : Text) → Any (λ a. IsNumberRule id (rule_of a)) (args_of c)
+    → first_value (found_of m) id ≡ Some text → IsUnsignedIn 0 18446744073709551615 text
+number_at c our m p id text (k, a, lt, at, (is_id, is_parser)) first =
+    let own = own_args c our k a lt in
+    let id_here : (slice_index_or (args_of c) k a).id.now ≡ id = ap (λ (b : Arg). b.id.now) at ∙ is_id in
+    let parser_here : (slice_index_or (args_of c) k a).value_parser ≡ Some (parser.Unsigned 0 18446744073709551615) = ap (λ (b : Arg). b.value_parser) at ∙ is_parser in
+    first_value-passes c m p ((λ j d below. (own_args c our j d below).plain), our.groups) our.globals k a lt
+    (λ j e below same. distinct_ids (args_of c) our.distinct j k a e below lt same) own.named own.not_auto (parser.Unsigned 0 18446744073709551615) parser_here text
     (subst (λ (t : List ℕ). first_value (found_of m) t ≡ Some text) (sym id_here) first)
 
-pub after_is_number : (c : Command) (m : ArgMatches) → app_of c ≡ t1check → IsParsedFrom c m → IsTextOfNumber (first_value (found_of m) (codes "after"))
-after_is_number c m e p = go (first_value (found_of m) (codes "after")) (after_value c m e p)
+-- In what a parse by the program's rules finds, the first value of a number's argument is the text of a number.
+pub is_number : {c : Command} → IsOurs c → (m : ArgMatches) → IsParsedFrom c m → (id : Text) → IsNumberArgument id → IsTextOfNumber (first_value (found_of m) id)
+is_number {c} our m p id number =
+    let argument = any_of_map (IsNumberRule id) rule_of (args_of c) (subst (Any (IsNumberRule id)) (sym our.rules) number) in
+    go (first_value (found_of m) id) (λ text. number_at c our m p id text argument)
   where
     go : (value : Option (List ℕ)) → ((text : List ℕ) → value ≡ Some text → IsUnsignedIn 0 18446744073709551615 text) → IsTextOfNumber value
     go None each = tt

@@ -1,5 +1,6 @@
 -- The command line: its arguments as clap sees them, and the options that words give by clap's rules.
 use Rattle.std.specs.Prelude.{◌≡◌, ℕ, List, [], ◌∷◌, Option, None, Some, option_map, codes, string_bytes}
+use Rattle.std.specs.List.{Any}
 use Rattle.std.specs.Str.Parse.{IsNumeral, without_leading_plus, digits_value}
 use Rattle.clap.specs.Words.{App, IsUnsignedIn, Rule, Text, fault_of, first_of, matches_of, new_app, new_rule, with_rule}
 use Rattle.clap.specs.declared.builder.value_parser.ValueParser.TheVariants as parser
@@ -22,6 +23,10 @@ file_rule = record (new_rule (codes "file")) { value_names = 1 }
 
 unfoldable pub t1check : App
 t1check = with_rule (with_rule (new_app (codes "t1check")) after_rule) file_rule
+
+-- The id of an argument whose value is a number of 64 bits.
+abbrev pub IsNumberArgument : Text → Type 0
+IsNumberArgument id = Any (λ rule. (rule.id ≡ id) × (rule.parser ≡ Some (parser.Unsigned 0 18446744073709551615))) t1check.top.rules
 
 -- What clap takes for a number of 64 bits.
 abbrev pub IsTextOfNumber : Option Text → Type 0

@@ -1,7 +1,7 @@
-ghost use Rattle.std.specs.Prelude.{◌≡◌, true, map, option_map, string_bytes, codes, IfOk, IfErr};
+ghost use Rattle.std.specs.Prelude.{◌≡◌, ℕ, List, true, map, option_map, string_bytes, IfOk, IfErr};
 ghost use Rattle.clap.specs.Words.{FailsBy, app_of, fault_of, first_value, found_of, kind_of, matches_of, rows_of, takes};
 ghost use Rattle.clap.specs.declared.error.kind.ErrorKind.TheVariants.{OutOfMemory, DisplayHelp};
-ghost use Rattle.t1check.specs.CommandLine.{t1check, AreGiven, IsNumber, IsTextOfNumber, IsHelp, IsHelpOrMemory, AsksHelp};
+ghost use Rattle.t1check.specs.CommandLine.{t1check, AreGiven, IsNumber, IsNumberArgument, IsTextOfNumber, IsHelp, IsHelpOrMemory, AsksHelp};
 
 use crate::asked::{Options, UsageError};
 use clap::error::ErrorKind;
@@ -99,7 +99,7 @@ fn usage_error(alloc: Global, error: &clap::Error) -> UsageError
 
 fn matches_in<'a, S: AsStr>(alloc: Global, words: &'a [S]) -> Result<ArgMatches<'a>, clap::Error>
     ensures rows { IfOk result (λ m. rows_of (found_of m) ≡ matches_of t1check (map S.text words.entry.now)) }
-    ensures number { IfOk result (λ m. IsTextOfNumber (first_value (found_of m) (codes "after"))) }
+    ensures number { IfOk result (λ m. (id : List ℕ) → IsNumberArgument id → IsTextOfNumber (first_value (found_of m) id)) }
     ensures taken { IfErr result (λ e. takes t1check (map S.text words.entry.now) ≡ true → kind_of e ≡ OutOfMemory) }
     ensures faults { FailsBy (fault_of t1check (map S.text words.entry.now)) result }
 {

@@ -4,7 +4,7 @@ use Rattle.clap.specs.Words.{App, FailsBy, fault_of, is_simple, is_simple_and_fr
 use Rattle.std.specs.Result.{IfErr}
 use Rattle.clap.specs.declared.error.kind.ErrorKind.TheVariants.{OutOfMemory}
 use Rattle.t1check.specs.CommandLine.{t1check}
-use Rattle.t1check.proofs.CommandLemmas.{after_is_number}
+use Rattle.t1check.proofs.CommandLemmas.{is_number, ours}
 use Rattle.t1check.proofs.command_line.matches_in.Goals as goal
 
 simple : is_simple t1check ≡ true
@@ -22,7 +22,7 @@ returns-clause-rows g c =
 
 pub returns-clause-number : goal.returns-clause-number
 returns-clause-number g c =
-    IfOk-weaker c.try_get_matches_from.result _ _ (λ m parsed. after_is_number c.in_ok-command.field-0 m c.in_ok-command.ensures parsed)
+    IfOk-weaker c.try_get_matches_from.result _ _ (λ m parsed. is_number (ours c.in_ok-command.field-0 c.in_ok-command.ensures) m parsed)
     c.try_get_matches_from.ensures.parsed
 
 pub returns-clause-taken : goal.returns-clause-taken

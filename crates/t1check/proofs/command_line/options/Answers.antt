@@ -1,9 +1,17 @@
-use Rattle.std.proofs.Common.{map, Option, codes, ◌∙◌, subst, inl, inr}
+use Rattle.std.proofs.Common.{map, Option, codes, ◌∙◌, subst, sym, refl, lit<, inl, inr}
 use Rattle.clap.specs.Words.{Text, fault_of, matches_of}
-use Rattle.t1check.specs.CommandLine.{t1check, IsNumber}
+use Rattle.t1check.specs.CommandLine.{t1check, after_rule, IsNumber, IsNumberArgument, IsTextOfNumber}
 use Rattle.t1check.proofs.CommandLemmas.{first_of-found}
 use Rattle.t1check.proofs.SingleFault.{fault_of-single, single-among}
 use Rattle.t1check.proofs.command_line.options.Goals as goal
+
+-- the program's rules take a number for --after
+after_is_number : IsNumberArgument (codes "after")
+unfolding t1check
+after_is_number = (0, after_rule, lit< tt, refl, (refl, refl))
+
+pub number-after-requires : goal.number-after-requires
+number-after-requires g c = subst IsTextOfNumber (sym c.get_str.ensures) (c.in-Ok.ensures.number (codes "after") after_is_number)
 
 pub returns-in-Err-clause-only_help : goal.returns-in-Err-clause-only_help
 returns-in-Err-clause-only_help g c = λ help.
