@@ -1,0 +1,10 @@
+pub mod FontMaps
+pub mod Lists
+pub mod Maps
+pub mod Reading
+pub mod Running
+pub mod Scanning
+pub mod Shorter
+pub mod Stating
+pub mod Steps
+pub mod Tables

@@ -1,0 +1,86 @@
+-- What the two calls that read a font are owed, from what their loops give.
+use Rattle.std.proofs.Common.{◌≡◌, ◌≤◌, ◌-◌, ℕ, suc, true, false, Result, Ok, Err, List, [], length, drop, refl, ap, sym, ◌∙◌, arith, length-drop}
+use Rattle.t1_font.specs.declared.mode.Mode.TheVariants.{Outside}
+use Rattle.t1_font.specs.declared.refusal.Refusal.{Refusal}
+use Rattle.t1_font.specs.declared.refusal.Refusal.TheVariants.{NoEexec, Unclosed, BadSubrs, BadCharStrings, BadLenIv, PastLimit, SecondSubrs, MultipleMaster, Memory}
+use Rattle.t1_font.specs.Refusals.{Refuses}
+use Rattle.t1_font.specs.Fonts.{Stated, Marks, FontValue, value_of}
+use Rattle.t1_font.specs.Turns.{TextRead, stated_in}
+use Rattle.t1_font.specs.Runs.{FontRead, run_of, value_read}
+use Rattle.t1_font.specs.ClearText.{begins_as_font, clear_turn, clear_of}
+use Rattle.t1_font.specs.PrivateText.{private_turn, private_of}
+use Rattle.t1_font.specs.Texts.{clear_value_of, clear_read, font_value_of, font_read, value_alone}
+use Rattle.t1_font.specs.Laws.{ReadAsStated}
+use Rattle.t1_font.proofs.Running.{run_is_read}
+use Rattle.t1_font.proofs.Stating.{value_step}
+
+pub read_as_stated : ReadAsStated
+read_as_stated turn ended marks before mode s = run_is_read turn ended marks (value_step marks) (suc (length s)) before mode s
+
+-- What is left of a text tells the place.
+place_by_rest : (s : List ℕ) (after : ℕ) → after ≤ length s → length s - length (drop after s) ≡ after
+place_by_rest s after h = rw (length-drop after s) (omega arith)
+
+ok_value : {X : Type 0} (a b : X) → ◌≡◌ {A = Result X Refusal} (Ok a) (Ok b) → a ≡ b
+ok_value {X} a b h = ap (λ (r : Result X Refusal). elim r [ Ok x ↦ x | Err e ↦ a ]) h
+
+clear_by_rest : (marks : Marks) (s : List ℕ) (read : Result TextRead Refusal) (v : FontValue) (after : ℕ) → after ≤ length s → value_read marks read ≡ Ok (record { value = v; rest = drop after s }) → clear_value_of marks s read ≡ Ok (record { font = v; after = after })
+clear_by_rest marks s (Err e) v after h given = cc
+clear_by_rest marks s (Ok read) v after h given =
+    let both : ◌≡◌ {A = FontRead} (record { value = value_of marks read.stated; rest = read.rest }) (record { value = v; rest = drop after s }) = ok_value _ _ given in
+    let value : value_of marks read.stated ≡ v = ap (λ (r : FontRead). r.value) both in
+    let rest : length s - length read.rest ≡ after = ap (λ (r : FontRead). length s - length r.rest) both ∙ place_by_rest s after h in
+    rw (value, rest) refl
+
+-- What the fold over a text gives, by what is stated in it.
+alone_read : (marks : Marks) (read : Result TextRead Refusal) → value_alone (value_read marks read) ≡ font_value_of marks read
+alone_read marks (Ok read) = refl
+alone_read marks (Err e) = refl
+
+clear_error : (marks : Marks) (s : List ℕ) (read : Result TextRead Refusal) (e : Refusal) → Refuses e (value_read marks read) → Refuses e (clear_value_of marks s read)
+clear_error marks s (Ok read) NoEexec given = cc
+clear_error marks s (Ok read) Unclosed given = cc
+clear_error marks s (Ok read) BadSubrs given = cc
+clear_error marks s (Ok read) BadCharStrings given = cc
+clear_error marks s (Ok read) BadLenIv given = cc
+clear_error marks s (Ok read) PastLimit given = cc
+clear_error marks s (Ok read) SecondSubrs given = cc
+clear_error marks s (Ok read) MultipleMaster given = cc
+clear_error marks s (Ok read) Memory given = tt
+clear_error marks s (Err x) NoEexec given = cc
+clear_error marks s (Err x) Unclosed given = cc
+clear_error marks s (Err x) BadSubrs given = cc
+clear_error marks s (Err x) BadCharStrings given = cc
+clear_error marks s (Err x) BadLenIv given = cc
+clear_error marks s (Err x) PastLimit given = cc
+clear_error marks s (Err x) SecondSubrs given = cc
+clear_error marks s (Err x) MultipleMaster given = cc
+clear_error marks s (Err x) Memory given = tt
+
+pub clear_is_read : (marks : Marks) (text s : List ℕ) (old v : FontValue) (after : ℕ) → text ≡ s → old ≡ value_of marks [] → begins_as_font text ≡ true → after ≤ length text → run_of clear_turn NoEexec old Outside text ≡ Ok (record { value = v; rest = drop after text }) → clear_read marks s ≡ Ok (record { font = v; after = after })
+unfolding clear_of
+clear_is_read marks text s old v after same start begins h given =
+    let run = rw (start, read_as_stated clear_turn NoEexec marks [] Outside text) at given in
+    rw (← same, begins) (clear_by_rest marks text (stated_in clear_turn NoEexec marks [] Outside text) v after h run)
+
+pub clear_is_refused : (marks : Marks) (text s : List ℕ) (old : FontValue) (e : Refusal) → text ≡ s → old ≡ value_of marks [] → begins_as_font text ≡ true → Refuses e (run_of clear_turn NoEexec old Outside text) → Refuses e (clear_read marks s)
+unfolding clear_of
+clear_is_refused marks text s old e same start begins given =
+    let run = rw (start, read_as_stated clear_turn NoEexec marks [] Outside text) at given in
+    rw (← same, begins) (clear_error marks text (stated_in clear_turn NoEexec marks [] Outside text) e run)
+
+pub clear_is_no_font : (marks : Marks) (text s : List ℕ) → text ≡ s → begins_as_font text ≡ false → clear_read marks s ≡ Err NoEexec
+unfolding clear_of
+clear_is_no_font marks text s same begins = rw (← same, begins) refl
+
+font_run : (marks : Marks) (before : List Stated) (s : List ℕ) (old : FontValue) → old ≡ value_of marks before → value_alone (run_of private_turn BadCharStrings old Outside s) ≡ font_read marks before s
+unfolding private_of
+font_run marks before s old start =
+    rw (start, read_as_stated private_turn BadCharStrings marks before Outside s)
+    (alone_read marks (stated_in private_turn BadCharStrings marks before Outside s))
+
+pub font_is_read : (marks : Marks) (before : List Stated) (s : List ℕ) (old v : FontValue) → old ≡ value_of marks before → value_alone (run_of private_turn BadCharStrings old Outside s) ≡ Ok v → font_read marks before s ≡ Ok v
+font_is_read marks before s old v start given = sym (font_run marks before s old start) ∙ given
+
+pub font_is_refused : (marks : Marks) (before : List Stated) (s : List ℕ) (old : FontValue) (e : Refusal) → old ≡ value_of marks before → Refuses e (value_alone (run_of private_turn BadCharStrings old Outside s)) → Refuses e (font_read marks before s)
+font_is_refused marks before s old e start given = rw (font_run marks before s old start) at given

@@ -1,0 +1,83 @@
+-- What is stated in a text, token by token.
+use Rattle.std.proofs.Common.{◌≡◌, ◌<◌, ℕ, zero, suc, false, Option, Some, None, Result, Ok, Err, IfOk, List, length, refl, ap, ◌∙◌, arith, codes}
+use Rattle.t1_scan.specs.declared.error.ScanError.{ScanError}
+use Rattle.t1_scan.specs.declared.token.Kind.TheVariants.{Word}
+use Rattle.t1_scan.specs.Tokens.{Found, token_of}
+use Rattle.t1_font.specs.declared.mode.Mode.{Mode}
+use Rattle.t1_font.specs.declared.mode.Mode.TheVariants.{Outside, Codes, Subrs, Glyphs}
+use Rattle.t1_font.specs.declared.refusal.Refusal.{Refusal}
+use Rattle.t1_font.specs.declared.refusal.Refusal.TheVariants.{NoEexec, BadCharStrings, Unclosed}
+use Rattle.t1_font.specs.Keys.{same_name}
+use Rattle.t1_font.specs.Refusals.{◌>>=◌}
+use Rattle.t1_font.specs.Tokens.{token_at, wanted}
+use Rattle.t1_font.specs.Fonts.{Stated, Marks, FontValue, value_of}
+use Rattle.t1_font.specs.Turns.{over, goes, Reader, follow, with_one, stated_within, stated_in}
+use Rattle.t1_font.specs.ClearText.{clear_turn, clear_outside, code_outside}
+use Rattle.t1_font.specs.PrivateText.{private_turn, subrs_outside, glyphs_outside}
+use Rattle.t1_font.specs.UsualForms.{WordsPass, WordsPassInCodes, WordsPassInSubrs, WordsPassInGlyphs}
+use Rattle.t1_font.proofs.Running.{Less, Shortens}
+use Rattle.t1_font.proofs.Shorter.{clear_shortens, private_shortens}
+
+module _ (turn : Reader) (ended : Refusal) (shortens : Shortens turn) (marks : Marks) where
+  enough : (n m : ℕ) (before : List Stated) (mode : Mode) (s : List ℕ) → length s < n → length s < m → stated_within turn ended marks n before mode s ≡ stated_within turn ended marks m before mode s
+  unfolding stated_within
+  enough zero m before mode s a b = absurd (omega arith)
+  enough (suc n) zero before mode s a b = absurd (omega arith)
+  enough (suc n) (suc m) before mode s a b =
+      elim (turn (value_of marks before) mode s) as (λ r. IfOk r (Less (length s)) → (r >>= follow (stated_within turn ended marks n) before) ≡ (r >>= follow (stated_within turn ended marks m) before)) [
+        | Err e ↦ λ _. refl
+        | Ok t ↦ elim t as (λ t. Less (length s) t → follow (stated_within turn ended marks n) before t ≡ follow (stated_within turn ended marks m) before t) [
+          | over rest ↦ λ _. refl
+          | goes e next left ↦ λ h. enough n m (with_one before e) next left (omega arith) (omega arith)
+        ]
+      ] (shortens.less (value_of marks before) mode s)
+
+  step : (before : List Stated) (mode : Mode) (s : List ℕ) → stated_in turn ended marks before mode s ≡ (turn (value_of marks before) mode s >>= follow (stated_in turn ended marks) before)
+  unfolding stated_within
+  step before mode s =
+      elim (turn (value_of marks before) mode s) as (λ r. IfOk r (Less (length s)) → (r >>= follow (stated_within turn ended marks (length s)) before) ≡ (r >>= follow (stated_in turn ended marks) before)) [
+        | Err e ↦ λ _. refl
+        | Ok t ↦ elim t as (λ t. Less (length s) t → follow (stated_within turn ended marks (length s)) before t ≡ follow (stated_in turn ended marks) before t) [
+          | over rest ↦ λ _. refl
+          | goes e next left ↦ λ h. enough (length s) (suc (length left)) (with_one before e) next left h (omega arith)
+        ]
+      ] (shortens.less (value_of marks before) mode s)
+
+  goes_on : (before : List Stated) (mode : Mode) (s : List ℕ) (e : Option Stated) (next : Mode) (left : List ℕ) → turn (value_of marks before) mode s ≡ Ok (goes e next left) → stated_in turn ended marks before mode s ≡ stated_in turn ended marks (with_one before e) next left
+  goes_on before mode s e next left h = step before mode s ∙ ap (λ r. r >>= follow (stated_in turn ended marks) before) h
+
+found : (ended : Refusal) (s : List ℕ) (t : Found) → token_of s ≡ Ok (Some t) → wanted ended s ≡ Ok t
+unfolding wanted token_at
+found ended s t h =
+    ap (λ (r : Result (Option Found) ScanError). elim r [
+      | Err _ ↦ Err Unclosed
+      | Ok some ↦ elim some [ None ↦ Err ended | Some x ↦ Ok x ]
+    ]) h
+
+clear_word : (v : FontValue) (s : List ℕ) (t : Found) → token_of s ≡ Ok (Some t) → t.kind ≡ Word → same_name t.text (codes "eexec") ≡ false → clear_turn v Outside s ≡ Ok (goes None Outside t.rest)
+unfolding clear_turn clear_outside
+clear_word v s t h word other = rw (found NoEexec s t h, word, other) refl
+
+pub words_pass : WordsPass
+words_pass marks before s t h word other = goes_on clear_turn NoEexec clear_shortens marks before Outside s None Outside t.rest (clear_word (value_of marks before) s t h word other)
+
+code_word : (v : FontValue) (s : List ℕ) (t : Found) → token_of s ≡ Ok (Some t) → t.kind ≡ Word → same_name t.text (codes "eexec") ≡ false → same_name t.text (codes "def") ≡ false → same_name t.text (codes "dup") ≡ false → clear_turn v Codes s ≡ Ok (goes None Codes t.rest)
+unfolding clear_turn code_outside
+code_word v s t h word a b c = rw (found NoEexec s t h, word, a, b, c) refl
+
+pub words_pass_in_codes : WordsPassInCodes
+words_pass_in_codes marks before s t h word a b c = goes_on clear_turn NoEexec clear_shortens marks before Codes s None Codes t.rest (code_word (value_of marks before) s t h word a b c)
+
+subr_word : (v : FontValue) (s : List ℕ) (t : Found) → token_of s ≡ Ok (Some t) → t.kind ≡ Word → same_name t.text (codes "dup") ≡ false → private_turn v Subrs s ≡ Ok (goes None Subrs t.rest)
+unfolding private_turn subrs_outside
+subr_word v s t h word other = rw (found BadCharStrings s t h, word, other) refl
+
+pub words_pass_in_subrs : WordsPassInSubrs
+words_pass_in_subrs marks before s t h word other = goes_on private_turn BadCharStrings private_shortens marks before Subrs s None Subrs t.rest (subr_word (value_of marks before) s t h word other)
+
+glyph_word : (v : FontValue) (s : List ℕ) (t : Found) → token_of s ≡ Ok (Some t) → t.kind ≡ Word → same_name t.text (codes "end") ≡ false → private_turn v Glyphs s ≡ Ok (goes None Glyphs t.rest)
+unfolding private_turn glyphs_outside
+glyph_word v s t h word other = rw (found BadCharStrings s t h, word, other) refl
+
+pub words_pass_in_glyphs : WordsPassInGlyphs
+words_pass_in_glyphs marks before s t h word other = goes_on private_turn BadCharStrings private_shortens marks before Glyphs s None Glyphs t.rest (glyph_word (value_of marks before) s t h word other)

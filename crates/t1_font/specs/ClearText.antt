@@ -1,0 +1,104 @@
+-- The clear text, to the word eexec (Type 1 Font Format, chapter 2): the plain keys with their values,
+-- and the Encoding.
+use Rattle.std.specs.Prelude.{ℕ, Bool, false, Option, Some, None, Result, Ok, Err, List, [], ◌∷◌, ◌==◌, ◌&&◌, if◌then◌else◌, codes, not}
+use Rattle.t1_scan.specs.declared.token.Kind.{Kind}
+use Rattle.t1_font.specs.declared.encoding.Encoding.{Encoding}
+use Rattle.t1_font.specs.declared.encoding.Encoding.TheVariants.{Standard, Custom, Other}
+use Rattle.t1_font.specs.declared.mode.Mode.{Mode}
+use Rattle.t1_font.specs.declared.mode.Mode.TheVariants.{Outside, Codes, Subrs, Glyphs}
+use Rattle.t1_font.specs.declared.refusal.Refusal.{Refusal}
+use Rattle.t1_font.specs.declared.refusal.Refusal.TheVariants.{NoEexec, PastLimit, MultipleMaster}
+use Rattle.t1_font.specs.Refusals.{◌>>=◌}
+use Rattle.t1_font.specs.declared.key.Key.{Key}
+use Rattle.t1_font.specs.Keys.{clear_key, same_name}
+use Rattle.t1_font.specs.Tokens.{wanted, ahead, natural, spells, is_name_kind, is_number_kind, name_of, ◌>?◌}
+use Rattle.t1_font.specs.Fonts.{Stated, Marks, FontValue, plain, encoding, code, bad_code}
+use Rattle.t1_font.specs.Turns.{Turned, over, goes, TextRead, stated_in}
+
+-- Reading goes on behind a token, outside or in a custom encoding.
+abbrev pub passed : Mode → List ℕ → Turned
+passed mode rest = goes None mode rest
+
+-- A plain key takes the next token as its value, whatever it is.
+unfoldable pub clear_value : Option Key → List ℕ → Result Turned Refusal
+clear_value None rest = Ok (passed Outside rest)
+clear_value (Some k) rest =
+    wanted NoEexec rest >>= λ t.
+    Ok (goes (Some (plain k (record { kind = t.kind; text = t.text }))) Outside t.rest)
+
+-- The number 256.
+unfoldable pub is_code_count : Kind → Bool
+is_code_count kind = elim (natural PastLimit 256 kind) [ Ok n ↦ n == 256 | Err _ ↦ false ]
+
+-- An Encoding of a form begins.
+abbrev pub begins : Encoding → Mode → List ℕ → Turned
+begins form mode rest = goes (Some (encoding form)) mode rest
+
+-- What follows the word array.
+unfoldable pub array_at : List ℕ → Option (List ℕ)
+array_at s = ahead s >? λ t. if spells (codes "array") t.kind t.text then Some t.rest else None
+
+-- What follows /Encoding: StandardEncoding, or 256 array; else the form is another, and reading goes
+-- on right here.
+unfoldable pub encoding_at : List ℕ → Option Turned
+encoding_at s = ahead s >? λ t.
+    if spells (codes "StandardEncoding") t.kind t.text then Some (begins Standard Outside t.rest)
+    else (if is_code_count t.kind then (array_at t.rest >? λ rest. Some (begins Custom Codes rest))
+    else None)
+
+unfoldable pub encoding_turn : List ℕ → Turned
+encoding_turn s = elim (encoding_at s) [ Some t ↦ t | None ↦ begins Other Outside s ]
+
+-- A token outside, and what follows it.
+unfoldable pub clear_outside : Kind → List ℕ → List ℕ → Result Turned Refusal
+clear_outside kind text rest =
+    if spells (codes "eexec") kind text then Ok (over rest)
+    else (if not (is_name_kind kind) then Ok (passed Outside rest)
+    else (if same_name text (codes "/WeightVector") then Err MultipleMaster
+    else (if same_name text (codes "/Encoding") then Ok (encoding_turn rest)
+    else clear_value (clear_key text) rest)))
+
+-- A code with its name; one that isn't whole from 0 to 255 sets nothing.
+unfoldable pub coded : Kind → List ℕ → Stated
+coded kind text = elim (natural PastLimit 255 kind) [ Ok n ↦ code n (name_of text) | Err _ ↦ bad_code ]
+
+-- What follows dup: a number, a name and the word put.
+unfoldable pub code_at : List ℕ → Option Turned
+code_at s =
+    ahead s >? λ number.
+    if not (is_number_kind number.kind) then None else (
+    ahead number.rest >? λ name.
+    if not (is_name_kind name.kind) then None else (
+    ahead name.rest >? λ last.
+    if spells (codes "put") last.kind last.text
+    then Some (goes (Some (coded number.kind name.text)) Codes last.rest) else None))
+
+-- A dup that begins no group is passed over alone.
+unfoldable pub code_turn : List ℕ → Turned
+code_turn s = elim (code_at s) [ Some t ↦ t | None ↦ passed Codes s ]
+
+-- A token in a custom encoding, and what follows it.
+unfoldable pub code_outside : Kind → List ℕ → List ℕ → Turned
+code_outside kind text rest =
+    if spells (codes "eexec") kind text then over rest
+    else (if spells (codes "def") kind text then passed Outside rest
+    else (if spells (codes "dup") kind text then code_turn rest
+    else passed Codes rest))
+
+-- A turn of the clear text.
+unfoldable pub clear_turn : FontValue → Mode → List ℕ → Result Turned Refusal
+clear_turn v mode s = wanted NoEexec s >>= λ t. elim mode [
+  | Outside ↦ clear_outside t.kind t.text t.rest
+  | Codes ↦ Ok (code_outside t.kind t.text t.rest)
+  | Subrs ↦ clear_outside t.kind t.text t.rest
+  | Glyphs ↦ clear_outside t.kind t.text t.rest
+]
+
+-- The bytes begin with %!.
+abbrev pub begins_as_font : List ℕ → Bool
+begins_as_font (a ∷ b ∷ s) = a == 37 && b == 33
+begins_as_font _ = false
+
+-- What is stated in the clear text, and what follows the word eexec.
+unfoldable pub clear_of : Marks → List ℕ → Result TextRead Refusal
+clear_of marks s = if begins_as_font s then stated_in clear_turn NoEexec marks [] Outside s else Err NoEexec

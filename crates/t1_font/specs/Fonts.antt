@@ -1,0 +1,135 @@
+-- The value of a font: what was stated last, looked up in the whole list of what its texts state.
+use Rattle.std.specs.Prelude.{ℕ, Bool, true, false, not, Option, Some, None, List, [], ◌∷◌, nat_eq, nat_lt, if◌then◌else◌, map, flat_map, filter, count_by}
+use Rattle.std.specs.List.{list_any}
+use Rattle.t1_scan.specs.Texts.{Lexeme}
+use Rattle.t1_font.specs.declared.encoding.Encoding.{Encoding}
+use Rattle.t1_font.specs.declared.encoding.Encoding.TheVariants.{Absent}
+use Rattle.t1_font.specs.declared.key.Key.{Key}
+use Rattle.t1_font.specs.Keys.{same_name, index_of, key_places}
+
+-- What a text states: a plain key with its value; that an Encoding of a form begins; in a custom one a
+-- code with its name, or a code that isn't whole from 0 to 255; the size of the Subrs; a Subr or a
+-- glyph with its charstring.
+pub data Stated : Type 0 where
+  plain : Key → Lexeme → Stated
+  encoding : Encoding → Stated
+  code : ℕ → List ℕ → Stated
+  bad_code : Stated
+  size : ℕ → Stated
+  subr : ℕ → List ℕ → Stated
+  glyph : List ℕ → List ℕ → Stated
+
+-- Of a PFB file: it has no end segment; bytes stand behind that segment.
+pub record Marks : Type 0 where
+  pub no_end : Bool
+  pub extra : Bool
+
+-- The keys have their places; codes, Subrs and glyphs stand in the order of their first appearance,
+-- each with what was stated last, and whether it was stated twice.
+pub record FontValue : Type 0 where
+  pub plain : List (Option Lexeme)
+  pub encoding : Encoding
+  pub codes : List (ℕ × List ℕ)
+  pub bad_code : Bool
+  pub size : Option ℕ
+  pub subrs : List (ℕ × List ℕ)
+  pub subrs_twice : List (ℕ × Bool)
+  pub glyphs : List (List ℕ × List ℕ)
+  pub glyphs_twice : List (List ℕ × Bool)
+  pub no_end : Bool
+  pub extra : Bool
+
+-- What each kind of statement says.
+abbrev pub plain_of : Stated → List (ℕ × Lexeme)
+plain_of (plain k t) = (index_of k, t) ∷ []
+plain_of _ = []
+
+abbrev pub encoding_of : Stated → List Encoding
+encoding_of (encoding form) = form ∷ []
+encoding_of _ = []
+
+abbrev pub code_of : Stated → List (ℕ × List ℕ)
+code_of (code n name) = (n, name) ∷ []
+code_of _ = []
+
+abbrev pub size_of : Stated → List ℕ
+size_of (size n) = n ∷ []
+size_of _ = []
+
+abbrev pub subr_of : Stated → List (ℕ × List ℕ)
+subr_of (subr n bytes) = (n, bytes) ∷ []
+subr_of _ = []
+
+abbrev pub glyph_of : Stated → List (List ℕ × List ℕ)
+glyph_of (glyph name bytes) = (name, bytes) ∷ []
+glyph_of _ = []
+
+abbrev pub is_encoding : Stated → Bool
+is_encoding (encoding _) = true
+is_encoding _ = false
+
+abbrev pub is_bad_code : Stated → Bool
+is_bad_code bad_code = true
+is_bad_code _ = false
+
+abbrev pub or_else : {A : Type 0} → Option A → Option A → Option A
+or_else None y = y
+or_else (Some x) y = Some x
+
+abbrev pub some_or : {A : Type 0} → A → Option A → A
+some_or d None = d
+some_or d (Some x) = x
+
+-- The last of a list.
+abbrev pub last_of : {A : Type 0} → List A → Option A
+last_of [] = None
+last_of (x ∷ xs) = or_else (last_of xs) (Some x)
+
+-- What stands behind the last such, or all where there is none.
+abbrev pub after_last : {A : Type 0} → (A → Bool) → List A → List A
+after_last a [] = []
+after_last a (x ∷ xs) = if list_any a xs then after_last a xs else (if a x then xs else x ∷ xs)
+
+-- Each key in the order of its first appearance.
+abbrev pub firsts : {K : Type 0} → (K → K → Bool) → List K → List K
+firsts eq [] = []
+firsts eq (k ∷ ks) = k ∷ filter (λ j. not (eq k j)) (firsts eq ks)
+
+-- What was set last under a key.
+abbrev pub last_under : {K V : Type 0} → (K → K → Bool) → K → List (K × V) → Option V
+last_under eq k [] = None
+last_under eq k (p ∷ ps) = or_else (last_under eq k ps) (if eq k p.0 then Some p.1 else None)
+
+abbrev pub keys_of : {K V : Type 0} → List (K × V) → List K
+keys_of ps = map (λ p. p.0) ps
+
+-- Each key in the order of its first appearance, with what was set last under it.
+abbrev pub table_of : {K V : Type 0} → (K → K → Bool) → V → List (K × V) → List (K × V)
+table_of eq v ps = map (λ k. (k, some_or v (last_under eq k ps))) (firsts eq (keys_of ps))
+
+-- Each key in the order of its first appearance, with whether it appears twice.
+abbrev pub twice_of : {K : Type 0} → (K → K → Bool) → List K → List (K × Bool)
+twice_of eq ks = map (λ k. (k, nat_lt 1 (count_by (eq k) ks))) (firsts eq ks)
+
+-- The codes that were set since the last Encoding began.
+abbrev pub codes_of : List Stated → List (ℕ × List ℕ)
+codes_of es = table_of nat_eq [] (flat_map code_of (after_last is_encoding es))
+
+-- The value of all that was stated.
+unfoldable pub value_of : Marks → List Stated → FontValue
+value_of marks es =
+    let subrs = flat_map subr_of es in
+    let glyphs = flat_map glyph_of es in
+    record {
+      plain = map (λ k. last_under nat_eq k (flat_map plain_of es)) key_places;
+      encoding = some_or Absent (last_of (flat_map encoding_of es));
+      codes = codes_of es;
+      bad_code = list_any is_bad_code (after_last is_encoding es);
+      size = last_of (flat_map size_of es);
+      subrs = table_of nat_eq [] subrs;
+      subrs_twice = twice_of nat_eq (keys_of subrs);
+      glyphs = table_of same_name [] glyphs;
+      glyphs_twice = twice_of same_name (keys_of glyphs);
+      no_end = marks.no_end;
+      extra = marks.extra;
+    }

@@ -1,0 +1,62 @@
+-- The plain keys of a font (Type 1 Font Format, chapters 2 and 5) and the names that spell them.
+use Rattle.std.specs.Prelude.{ℕ, Bool, Option, Some, None, List, [], ◌∷◌, if◌then◌else◌, nat_eq, codes}
+use Rattle.std.specs.Cmp.Lexicographic.{pointwise}
+use Rattle.t1_font.specs.declared.key.Key.{Key}
+use Rattle.t1_font.specs.declared.key.Key.TheVariants.{FontType, PaintType, UniqueId, PrivateUniqueId, Password, MinFeature, LenIv, BlueValues, OtherBlues, FamilyBlues, FamilyOtherBlues, BlueScale, BlueShift, BlueFuzz, StdHw, StdVw, StemSnapH, StemSnapV}
+
+-- Names are compared as bytes.
+abbrev pub same_name : List ℕ → List ℕ → Bool
+same_name = pointwise nat_eq
+
+-- The plain keys of the clear text.
+unfoldable pub clear_key : List ℕ → Option Key
+clear_key name =
+    if same_name name (codes "/FontType") then Some FontType
+    else (if same_name name (codes "/PaintType") then Some PaintType
+    else (if same_name name (codes "/UniqueID") then Some UniqueId
+    else None))
+
+-- The plain keys of the Private dictionary.
+unfoldable pub private_key : List ℕ → Option Key
+private_key name =
+    if same_name name (codes "/UniqueID") then Some PrivateUniqueId
+    else (if same_name name (codes "/password") then Some Password
+    else (if same_name name (codes "/MinFeature") then Some MinFeature
+    else (if same_name name (codes "/lenIV") then Some LenIv
+    else (if same_name name (codes "/BlueValues") then Some BlueValues
+    else (if same_name name (codes "/OtherBlues") then Some OtherBlues
+    else (if same_name name (codes "/FamilyBlues") then Some FamilyBlues
+    else (if same_name name (codes "/FamilyOtherBlues") then Some FamilyOtherBlues
+    else (if same_name name (codes "/BlueScale") then Some BlueScale
+    else (if same_name name (codes "/BlueShift") then Some BlueShift
+    else (if same_name name (codes "/BlueFuzz") then Some BlueFuzz
+    else (if same_name name (codes "/StdHW") then Some StdHw
+    else (if same_name name (codes "/StdVW") then Some StdVw
+    else (if same_name name (codes "/StemSnapH") then Some StemSnapH
+    else (if same_name name (codes "/StemSnapV") then Some StemSnapV
+    else None))))))))))))))
+
+-- The place of a key among them.
+abbrev pub index_of : Key → ℕ
+index_of FontType = 0
+index_of PaintType = 1
+index_of UniqueId = 2
+index_of PrivateUniqueId = 3
+index_of Password = 4
+index_of MinFeature = 5
+index_of LenIv = 6
+index_of BlueValues = 7
+index_of OtherBlues = 8
+index_of FamilyBlues = 9
+index_of FamilyOtherBlues = 10
+index_of BlueScale = 11
+index_of BlueShift = 12
+index_of BlueFuzz = 13
+index_of StdHw = 14
+index_of StdVw = 15
+index_of StemSnapH = 16
+index_of StemSnapV = 17
+
+-- All places, in order.
+abbrev pub key_places : List ℕ
+key_places = 0 ∷ 1 ∷ 2 ∷ 3 ∷ 4 ∷ 5 ∷ 6 ∷ 7 ∷ 8 ∷ 9 ∷ 10 ∷ 11 ∷ 12 ∷ 13 ∷ 14 ∷ 15 ∷ 16 ∷ 17 ∷ []

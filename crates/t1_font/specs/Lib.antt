@@ -1,0 +1,17 @@
+pub mod ClearText
+pub mod Entries
+pub mod Fonts
+pub mod Keys
+pub mod Laws
+pub mod LenIv
+pub mod PrivateText
+pub mod Puts
+pub mod Refusals
+pub mod Runs
+pub mod Statements
+pub mod Texts
+pub mod Tokens
+pub mod Turns
+pub mod Values
+pub mod Views
+pub mod UsualForms

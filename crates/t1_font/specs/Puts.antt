@@ -1,0 +1,23 @@
+-- One statement more: what it changes of a font's value.
+use Rattle.std.specs.Prelude.{Bool, true, false, Option, Some, None, List, [], ◌∷◌, nat_eq, if◌then◌else◌, set}
+use Rattle.t1_font.specs.Keys.{same_name, index_of}
+use Rattle.t1_font.specs.PrivateText.{has_key}
+use Rattle.t1_font.specs.Fonts.{Stated, FontValue, plain, encoding, code, bad_code, size, subr, glyph}
+
+-- A key that is there keeps its place and takes the value; a new one goes last.
+abbrev pub put_pair : {K V : Type 0} → (K → K → Bool) → List (K × V) → K → V → List (K × V)
+put_pair eq [] k v = (k, v) ∷ []
+put_pair eq (p ∷ ps) k v = if eq k p.0 then (p.0, v) ∷ ps else p ∷ put_pair eq ps k v
+
+abbrev pub put : FontValue → Stated → FontValue
+put v (plain k t) = record v { plain = set v.plain (index_of k) (Some t) }
+put v (encoding form) = record v { encoding = form; codes = []; bad_code = false }
+put v (code n name) = record v { codes = put_pair nat_eq v.codes n name }
+put v bad_code = record v { bad_code = true }
+put v (size n) = record v { size = Some n }
+put v (subr n bytes) = record v { subrs = put_pair nat_eq v.subrs n bytes; subrs_twice = put_pair nat_eq v.subrs_twice n (has_key nat_eq v.subrs n) }
+put v (glyph name bytes) = record v { glyphs = put_pair same_name v.glyphs name bytes; glyphs_twice = put_pair same_name v.glyphs_twice name (has_key same_name v.glyphs name) }
+
+abbrev pub put_one : FontValue → Option Stated → FontValue
+put_one v None = v
+put_one v (Some e) = put v e

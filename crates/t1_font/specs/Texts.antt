@@ -1,0 +1,38 @@
+-- What the two texts of a font are read as.
+use Rattle.std.specs.Prelude.{ℕ, ◌-◌, not, ◌&&◌, Result, Ok, Err, List, length}
+use Rattle.t1_seal.specs.declared.joined.Joined.{Joined}
+use Rattle.t1_font.specs.declared.refusal.Refusal.{Refusal}
+use Rattle.t1_font.specs.Fonts.{Stated, Marks, FontValue, value_of}
+use Rattle.t1_font.specs.Turns.{TextRead}
+use Rattle.t1_font.specs.Runs.{FontRead}
+use Rattle.t1_font.specs.ClearText.{clear_of}
+use Rattle.t1_font.specs.PrivateText.{private_of}
+
+-- The marks of a font's file.
+abbrev pub marks_of : Joined → Marks
+marks_of joined = record { no_end = joined.pfb && not joined.end_segment; extra = joined.trailing }
+
+-- What was read of a clear text: the font so far, and the place behind the word eexec.
+pub record ClearValue : Type 0 where
+  pub font : FontValue
+  pub after : ℕ
+
+abbrev pub clear_value_of : Marks → List ℕ → Result TextRead Refusal → Result ClearValue Refusal
+clear_value_of marks s (Ok read) = Ok (record { font = value_of marks read.stated; after = length s - length read.rest })
+clear_value_of marks s (Err e) = Err e
+
+abbrev pub clear_read : Marks → List ℕ → Result ClearValue Refusal
+clear_read marks s = clear_value_of marks s (clear_of marks s)
+
+-- The font that the private text leaves, after what was stated in the clear text.
+abbrev pub font_value_of : Marks → Result TextRead Refusal → Result FontValue Refusal
+font_value_of marks (Ok read) = Ok (value_of marks read.stated)
+font_value_of marks (Err e) = Err e
+
+abbrev pub font_read : Marks → List Stated → List ℕ → Result FontValue Refusal
+font_read marks before s = font_value_of marks (private_of marks before s)
+
+-- The value alone.
+abbrev pub value_alone : Result FontRead Refusal → Result FontValue Refusal
+value_alone (Ok read) = Ok read.value
+value_alone (Err e) = Err e

@@ -1,0 +1,120 @@
+-- Tokens as the texts of a font are read by them.
+use Rattle.std.specs.Prelude.{◌≡◌, ℕ, ℤ, pos, Bool, true, false, Option, Some, None, Result, Ok, Err, List, ◌+◌, ◌/◌, ◌%◌, ◌==◌, ◌&&◌, ◌-◌, if◌then◌else◌, nat_lt, length, take, drop}
+use Rattle.t1_scan.specs.declared.error.ScanError.{ScanError}
+use Rattle.t1_scan.specs.declared.scanner.Scanner.{Scanner}
+use Rattle.t1_scan.specs.declared.token.Kind.{Kind}
+use Rattle.t1_scan.specs.declared.token.Kind.TheVariants.{Number, Name, Word, Array}
+use Rattle.t1_scan.specs.declared.token.Token.{Token}
+use Rattle.t1_scan.specs.State.{left_of}
+use Rattle.t1_scan.specs.Tokens.{Found, token_of}
+use Rattle.t1_font.specs.declared.refusal.Refusal.{Refusal}
+use Rattle.t1_font.specs.declared.refusal.Refusal.TheVariants.{Unclosed, PastLimit}
+use Rattle.t1_font.specs.Refusals.{◌>>=◌}
+use Rattle.t1_font.specs.Keys.{same_name}
+
+-- What is left of a scanner's text.
+unfoldable pub unread : Scanner → List ℕ
+unread s = left_of s
+
+-- The first token of a text, and what follows it.
+unfoldable pub token_at : List ℕ → Result (Option Found) ScanError
+token_at s = token_of s
+
+-- A token in front of a rest.
+abbrev pub before : Token → List ℕ → Found
+before t rest = record { kind = t.kind; text = t.text.now; rest = rest }
+
+-- What a scanner gave is the first token of what was left.
+abbrev pub IsNext : List ℕ → Result (Option Token) ScanError → List ℕ → Type 0
+IsNext old (Ok (Some t)) new = token_at old ≡ Ok (Some (before t new))
+IsNext old (Ok None) new = token_at old ≡ Ok None
+IsNext old (Err e) new = token_at old ≡ Err e
+
+-- A token that is wanted: one that isn't closed is refused as such, the end of the text as told.
+unfoldable pub wanted : Refusal → List ℕ → Result Found Refusal
+wanted ended s = elim (token_at s) [
+  | Err _ ↦ Err Unclosed
+  | Ok found ↦ elim found [ None ↦ Err ended | Some t ↦ Ok t ]
+]
+
+-- A token that is looked at, if there is one.
+unfoldable pub ahead : List ℕ → Option Found
+ahead s = elim (token_at s) [ Err _ ↦ None | Ok found ↦ found ]
+
+abbrev pub is_word_kind : Kind → Bool
+is_word_kind Word = true
+is_word_kind _ = false
+
+abbrev pub is_name_kind : Kind → Bool
+is_name_kind Name = true
+is_name_kind _ = false
+
+abbrev pub is_number_kind : Kind → Bool
+is_number_kind (Number _) = true
+is_number_kind _ = false
+
+abbrev pub is_array_kind : Kind → Bool
+is_array_kind Array = true
+is_array_kind _ = false
+
+-- The word of these bytes.
+abbrev pub is_word : List ℕ → Found → Bool
+is_word bytes t = is_word_kind t.kind && same_name t.text bytes
+
+-- A number's value is counted in billionths.
+abbrev pub billion : ℕ
+billion = 1000000000
+
+-- A whole number of 0 or more, at most this limit.
+abbrev pub natural_of : Refusal → ℕ → ℤ → Result ℕ Refusal
+natural_of bad limit (pos n) =
+    if n % billion == 0
+    then (if nat_lt limit (n / billion) then Err PastLimit else Ok (n / billion))
+    else Err bad
+natural_of bad limit _ = Err bad
+
+unfoldable pub natural : Refusal → ℕ → Kind → Result ℕ Refusal
+natural bad limit (Number z) = natural_of bad limit z
+natural bad limit _ = Err bad
+
+-- One byte of any value, and so many that follow it, and the rest.
+unfoldable pub raw_of : ℕ → List ℕ → Option (List ℕ × List ℕ)
+raw_of len s = if nat_lt (length s) (1 + len) then None else Some (take len (drop 1 s), drop (1 + len) s)
+
+abbrev pub some_raw : Refusal → Option (List ℕ × List ℕ) → Result (List ℕ × List ℕ) Refusal
+some_raw bad None = Err bad
+some_raw bad (Some p) = Ok p
+
+-- What is looked at next, if there is what was looked at first.
+infixl 10 ◌>?◌
+abbrev pub ◌>?◌ : {X Y : Type 0} → Option X → (X → Option Y) → Option Y
+(Some x) >? f = f x
+None >? f = None
+
+-- What was looked at, seen by view, is what there was.
+abbrev pub Sees : {X Y : Type 0} → (X → Y) → Option X → Option Y → Type 0
+Sees view (Some x) there = there ≡ Some (view x)
+Sees view None there = there ≡ None
+
+-- A token of this kind and text is this word.
+abbrev pub spells : List ℕ → Kind → List ℕ → Bool
+spells word kind text = is_word_kind kind && same_name text word
+
+-- What follows a word that has to stand here.
+unfoldable pub past_word : Refusal → List ℕ → List ℕ → Result (List ℕ) Refusal
+past_word bad word s = wanted bad s >>= λ t. if spells word t.kind t.text then Ok t.rest else Err bad
+
+-- The bytes of a charstring: their count, any word, one byte, and so many; and the rest.
+unfoldable pub charstring_at : Refusal → List ℕ → Result (List ℕ × List ℕ) Refusal
+charstring_at bad s =
+    wanted bad s >>= λ count. natural bad 65535 count.kind >>= λ len.
+    wanted bad count.rest >>= λ word.
+    if is_word_kind word.kind then some_raw bad (raw_of len word.rest) else Err bad
+
+-- What stands between the brackets of an array or a procedure.
+abbrev pub inside_of : List ℕ → List ℕ
+inside_of text = take (length text - 2) (drop 1 text)
+
+-- A name without its slash.
+abbrev pub name_of : List ℕ → List ℕ
+name_of text = drop 1 text

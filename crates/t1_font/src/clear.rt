@@ -1,0 +1,76 @@
+//! The two calls that read a font: first its clear text, then its private text.
+
+ghost use Rattle.std.specs.Prelude.{◌≡◌, List};
+ghost use Rattle.t1_font.specs.ClearText.{begins_as_font};
+ghost use Rattle.t1_font.specs.Fonts.{Marks, Stated, value_of};
+ghost use Rattle.t1_font.specs.Refusals.{Gives};
+ghost use Rattle.t1_font.specs.Texts.{clear_read, font_read, marks_of};
+
+use crate::font::Font;
+use crate::refusal::Refusal;
+use crate::texts::{take_clear, take_private};
+use std::alloc::Global;
+use std::marker::Model;
+use t1_seal::Joined;
+
+/// What the clear text states, before the private text is read.
+#[derive(Drop)]
+pub struct Clear<'a> {
+    font: Font<'a>,
+    after: usize,
+}
+
+impl<'a> Model for Clear<'a> {
+    ghost use Rattle.t1_font.specs.Texts.{ClearValue};
+
+    ghost Value = { ClearValue };
+
+    ghost view = { λ c. record { font = c.font; after = c.after } };
+}
+
+impl<'a> Clear<'a> {
+    /// The place behind the word `eexec`, where the encrypted section begins.
+    pub fn after(&self) -> usize
+        ensures { result ≡ self.now.after }
+    {
+        self.after
+    }
+
+    fn into_font(self) -> Font<'a>
+        ensures { result ≡ self.entry.font }
+    {
+        self.font
+    }
+}
+
+/// Whether a font's bytes begin with `%!`.
+fn begins_as_font(text: &[u8]) -> bool
+    ensures { result ≡ begins_as_font text.now }
+{
+    matches!(text, [b'%', b'!', ..])
+}
+
+/// Reads the clear text of a font, up to its word `eexec`.
+pub fn read_clear<'a>(alloc: Global, joined: &'a Joined) -> Result<Clear<'a>, Refusal>
+    ensures { Gives (λ c. c) result (clear_read (marks_of joined.now) joined.now.bytes.items) }
+{
+    let text = joined.bytes.as_slice();
+    if !begins_as_font(text) {
+        return Err(Refusal::NoEexec);
+    }
+    let no_end = joined.pfb & !joined.end_segment;
+    let mut font = Font::new(alloc, no_end, joined.trailing);
+    let after = take_clear(&mut font, text)?;
+    Ok(Clear { font, after })
+}
+
+/// Reads the private text of a font, up to the `end` of its CharStrings, over what its clear text
+/// states. The font's maps grow by the allocator that `read_clear` was given.
+pub fn read_font<'a>(_alloc: Global, clear: Clear<'a>, text: &'a [u8]) -> Result<Font<'a>, Refusal>
+    ensures { (marks : Marks) (before : List Stated) → clear.entry.font ≡ value_of marks before →
+        Gives (λ f. f) result (font_read marks before text.now) }
+{
+    let mut font = clear.into_font();
+    take_private(&mut font, text)?;
+    Ok(font)
+}

@@ -1,0 +1,104 @@
+//! Plain values: Type 1 Font Format 1.1, chapters 2 and 5.
+
+ghost use Rattle.std.specs.Prelude.{◌≡◌, ◌++◌, ◌∷◌, ◌≤◌, [], false, length, take};
+ghost use Rattle.t1_scan.specs.State.{has_failed};
+ghost use Rattle.t1_font.specs.Entries.{IsLiveItem, entry_view, item_view, kind_item};
+ghost use Rattle.t1_font.specs.Tokens.{unread};
+ghost use Rattle.t1_font.specs.Values.{item_at, list_value, value_of_token};
+
+use crate::tokens::{first_token, inside, scanner_over};
+use arrayvec::ArrayVec;
+use t1_scan::{Kind, Scanner};
+
+/// How many numbers of a list are kept.
+const KEPT: usize = 16;
+
+/// What a plain key has. Numbers are in units of 10^-9.
+#[derive(Drop)]
+pub enum Entry {
+    /// The key isn't there.
+    Absent,
+    Number(i64),
+    /// The numbers of an array or a procedure: how many there are, and the first 16.
+    Numbers {
+        count: usize,
+        first: ArrayVec<i64, 16>,
+    },
+    /// Anything else.
+    Other,
+}
+
+/// What a list has next.
+#[derive(Clone, Copy)]
+enum Item {
+    End,
+    Number(i64),
+    /// A token that isn't a number, or isn't closed.
+    Other,
+}
+
+/// What a token is in a list.
+fn listed(kind: Kind) -> Item
+    ensures { result ≡ kind_item kind }
+{
+    match kind {
+        Kind::Number(number) => Item::Number(number),
+        _ => Item::Other,
+    }
+}
+
+/// What follows in a list.
+#[tactic(auto, unfolding(crate::specs::Values::item_at))]
+fn next_item(scanner: &mut Scanner<'_>) -> Item
+    requires { has_failed scanner.old ≡ false }
+    ensures is { item_view result (unread scanner.new) ≡ item_at (unread scanner.old) }
+    ensures live { IsLiveItem result (has_failed scanner.new) }
+{
+    match first_token(scanner) {
+        Ok(Some(token)) => listed(token.kind),
+        Ok(None) => Item::End,
+        Err(_) => Item::Other,
+    }
+}
+
+/// Keeps a number where there is room.
+fn keep(first: &mut ArrayVec<i64, 16>, number: i64)
+    requires { length first.old.items ≤ 16 }
+    ensures { first.new.items ≡ take 16 (first.old.items ++ number ∷ []) }
+{
+    if first.len() < KEPT {
+        first.push(number);
+    }
+}
+
+/// The value of an array or a procedure, by what stands between its brackets.
+#[tactic(auto, unfolding(crate::specs::Values::list_value))]
+fn list(text: &[u8]) -> Entry
+    ensures { entry_view result ≡ list_value text.now }
+{
+    let mut scanner = scanner_over(text);
+    let mut count = 0;
+    let mut first = ArrayVec::new();
+    'items: loop {
+        match next_item(&mut scanner) {
+            Item::End => return Entry::Numbers { count, first },
+            Item::Number(number) => {
+                keep(&mut first, number);
+                count += 1;
+            }
+            Item::Other => return Entry::Other,
+        }
+    }
+}
+
+/// The value that a token is.
+#[tactic(auto, unfolding(crate::specs::Values::value_of_token))]
+pub(crate) fn value(kind: Kind, text: &[u8]) -> Entry
+    ensures { entry_view result ≡ value_of_token (record { kind = kind; text = text.now }) }
+{
+    match kind {
+        Kind::Number(number) => Entry::Number(number),
+        Kind::Proc | Kind::Array => list(inside(text)),
+        Kind::Name | Kind::Word | Kind::Text => Entry::Other,
+    }
+}

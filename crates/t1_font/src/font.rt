@@ -1,0 +1,310 @@
+//! The font: what was stated last of each thing.
+
+ghost use Rattle.std.specs.Prelude.{◌≡◌, [], false, nat_eq, length, map, is_some, OnOk, IfErr, slice_get, slice_index_or};
+ghost use Rattle.std.specs.Map.{lookup};
+ghost use Rattle.t1_font.specs.Fonts.{FontValue, Marks, value_of, plain, encoding, code, subr, glyph, some_or};
+ghost use Rattle.t1_font.specs.Entries.{entry_view};
+ghost use Rattle.t1_font.specs.Keys.{index_of, same_name};
+ghost use Rattle.t1_font.specs.LenIv.{len_iv_of, len_iv_of_kind};
+ghost use Rattle.t1_font.specs.PrivateText.{has_key};
+ghost use Rattle.t1_font.specs.Puts.{put, put_one};
+ghost use Rattle.t1_font.specs.Statements.{lexeme_of, stated, stated_one};
+ghost use Rattle.t1_font.specs.Values.{value_of_entry};
+ghost use Rattle.t1_font.specs.Views.{bytes_of, flag_of, name_pair, token_of_key};
+ghost use Rattle.t1_font.specs.declared.key.Key.TheVariants.{LenIv};
+ghost use Rattle.t1_font.specs.declared.refusal.Refusal.TheVariants.{Memory};
+
+use crate::encoding::Encoding;
+use crate::entry::{Entry, value};
+use crate::key::Key;
+use crate::refusal::Refusal;
+use crate::statement::Statement;
+use indexmap::IndexMap;
+use std::alloc::Global;
+use std::marker::Model;
+use t1_scan::{Kind, Token};
+
+/// How many plain keys there are.
+const KEYS: usize = 18;
+
+/// A Type 1 font, as its clear text and its private text state it.
+#[derive(Drop)]
+pub struct Font<'a> {
+    plain: [Option<Token<'a>>; KEYS],
+    encoding: Encoding,
+    codes: IndexMap<u32, &'a [u8]>,
+    bad_code: bool,
+    size: Option<u32>,
+    subrs: IndexMap<u32, &'a [u8]>,
+    subrs_twice: IndexMap<u32, bool>,
+    glyphs: IndexMap<&'a [u8], &'a [u8]>,
+    glyphs_twice: IndexMap<&'a [u8], bool>,
+    no_end: bool,
+    extra: bool,
+}
+
+/// How many random bytes stand in front of each charstring, unless the font says so.
+const DEFAULT_LEN_IV: i8 = 4;
+
+/// The lenIV that a token is.
+#[tactic(auto, unfolding(crate::specs::LenIv::len_iv_of_kind))]
+fn len_iv(kind: Kind) -> i8
+    ensures { result ≡ len_iv_of_kind kind }
+{
+    let Kind::Number(value) = kind else {
+        return DEFAULT_LEN_IV;
+    };
+    let whole = value / 1_000_000_000;
+    if whole >= -1 && whole <= 64 {
+        whole as i8
+    } else {
+        DEFAULT_LEN_IV
+    }
+}
+
+impl<'a> Model for Font<'a> {
+    ghost use Rattle.std.specs.Prelude.{map};
+    ghost use Rattle.t1_font.specs.Fonts.{FontValue};
+    ghost use Rattle.t1_font.specs.Views.{token_of_key, number_pair, name_pair, name_flag};
+
+    ghost Value = { FontValue };
+
+    ghost view = { λ f. record {
+      plain = map token_of_key f.plain;
+      encoding = f.encoding;
+      codes = map number_pair f.codes.entries;
+      bad_code = f.bad_code;
+      size = f.size;
+      subrs = map number_pair f.subrs.entries;
+      subrs_twice = f.subrs_twice.entries;
+      glyphs = map name_pair f.glyphs.entries;
+      glyphs_twice = map name_flag f.glyphs_twice.entries;
+      no_end = f.no_end;
+      extra = f.extra;
+    } };
+}
+
+impl<'a> Font<'a> {
+    /// A font of which nothing is stated.
+    #[tactic(auto, unfolding(crate::specs::Fonts::value_of))]
+    pub(crate) fn new(alloc: Global, no_end: bool, extra: bool) -> Font<'a>
+        ensures { result ≡ value_of (record { no_end = no_end; extra = extra }) [] }
+    {
+        Font {
+            plain: [None; KEYS],
+            encoding: Encoding::Absent,
+            codes: IndexMap::new(alloc),
+            bad_code: false,
+            size: None,
+            subrs: IndexMap::new(alloc),
+            subrs_twice: IndexMap::new(alloc),
+            glyphs: IndexMap::new(alloc),
+            glyphs_twice: IndexMap::new(alloc),
+            no_end,
+            extra,
+        }
+    }
+
+    /// The glyphs, in the order of their first appearance, each with its last charstring.
+    pub fn glyphs(&self) -> &IndexMap<&'a [u8], &'a [u8]>
+        ensures { map name_pair result.now.entries ≡ self.now.glyphs }
+    {
+        &self.glyphs
+    }
+
+    /// The charstring of a Subr.
+    pub fn subr(&self, number: u32) -> Option<&'a [u8]>
+        ensures { bytes_of result ≡ lookup (nat_eq number) self.now.subrs }
+    {
+        self.subrs.get(&number).copied()
+    }
+
+    /// How many Subrs the private text says that there are; 0 where it has none.
+    pub fn subr_size(&self) -> u32
+        ensures { result ≡ some_or 0 self.now.size }
+    {
+        self.size.unwrap_or(0)
+    }
+
+    fn token(&self, key: Key) -> Option<Token<'a>>
+        ensures { token_of_key result ≡ slice_index_or self.now.plain (index_of key) None }
+    {
+        self.plain[key.place()]
+    }
+
+    /// What a plain key has.
+    pub fn entry(&self, key: Key) -> Entry
+        ensures { entry_view result ≡ value_of_entry (slice_index_or self.now.plain (index_of key) None) }
+    {
+        match self.token(key) {
+            Some(token) => value(token.kind, token.text),
+            None => Entry::Absent,
+        }
+    }
+
+    /// How many random bytes stand in front of each charstring; -1 where charstrings aren't encrypted.
+    pub fn len_iv(&self) -> i8
+        ensures { result ≡ len_iv_of (slice_index_or self.now.plain (index_of LenIv) None) }
+    {
+        match self.token(Key::LenIv) {
+            Some(token) => len_iv(token.kind),
+            None => DEFAULT_LEN_IV,
+        }
+    }
+
+    /// The form of the Encoding.
+    pub fn encoding(&self) -> Encoding
+        ensures { result ≡ self.now.encoding }
+    {
+        self.encoding
+    }
+
+    /// The name that a custom encoding gives a code; none past 255.
+    pub fn encoded(&self, code: u32) -> Option<&'a [u8]>
+        ensures { bytes_of result ≡ lookup (nat_eq code) self.now.codes }
+    {
+        self.codes.get(&code).copied()
+    }
+
+    /// Whether a custom encoding has a code that isn't whole from 0 to 255.
+    pub fn bad_code(&self) -> bool
+        ensures { result ≡ self.now.bad_code }
+    {
+        self.bad_code
+    }
+
+    /// Whether a glyph, by its place, is given twice.
+    pub fn glyph_twice(&self, glyph: usize) -> bool
+        ensures { result ≡ flag_of (slice_get self.now.glyphs_twice glyph) }
+    {
+        match self.glyphs_twice.get_index(glyph) {
+            Some((_, twice)) => *twice,
+            None => false,
+        }
+    }
+
+    /// Whether a Subr, by its number, is given twice.
+    pub fn subr_twice(&self, number: u32) -> bool
+        ensures { result ≡ some_or false (lookup (nat_eq number) self.now.subrs_twice) }
+    {
+        match self.subrs_twice.get(&number) {
+            Some(twice) => *twice,
+            None => false,
+        }
+    }
+
+    /// Whether the file is a row of segments that no end segment closes.
+    pub fn no_end(&self) -> bool
+        ensures { result ≡ self.now.no_end }
+    {
+        self.no_end
+    }
+
+    /// Whether bytes stand behind the file's end segment.
+    pub fn extra(&self) -> bool
+        ensures { result ≡ self.now.extra }
+    {
+        self.extra
+    }
+
+    /// Whether the size of the Subrs is stated.
+    pub(crate) fn has_size(&self) -> bool
+        ensures { result ≡ is_some self.now.size }
+    {
+        self.size.is_some()
+    }
+
+    /// How many glyphs there are.
+    pub(crate) fn glyph_count(&self) -> usize
+        ensures { result ≡ length self.now.glyphs }
+    {
+        self.glyphs.len()
+    }
+
+    /// Whether there is a glyph of this name.
+    pub(crate) fn has_glyph(&self, name: &[u8]) -> bool
+        ensures { result ≡ has_key same_name self.now.glyphs name.now }
+    {
+        self.glyphs.contains_key(&name)
+    }
+
+    /// Takes what a text states. Where memory is wanting the font is of no more use.
+    pub(crate) fn put_one(&mut self, statement: Option<Statement<'a>>) -> Result<(), Refusal>
+        ensures ok { OnOk result (self.new ≡ put_one self.old (stated_one statement.entry)) }
+        ensures memory { IfErr result (λ e. e ≡ Memory) }
+    {
+        match statement {
+            None => Ok(()),
+            Some(statement) => self.put(statement),
+        }
+    }
+
+    fn put(&mut self, statement: Statement<'a>) -> Result<(), Refusal>
+        ensures ok { OnOk result (self.new ≡ put self.old (stated statement.entry)) }
+        ensures memory { IfErr result (λ e. e ≡ Memory) }
+    {
+        match statement {
+            Statement::Plain(key, token) => {
+                self.put_plain(key, token);
+                Ok(())
+            }
+            Statement::Encoding(form) => {
+                self.put_encoding(form);
+                Ok(())
+            }
+            Statement::Code(code, name) => self.put_code(code, name),
+            Statement::BadCode => {
+                self.bad_code = true;
+                Ok(())
+            }
+            Statement::Size(size) => {
+                self.size = Some(size);
+                Ok(())
+            }
+            Statement::Subr(number, bytes) => self.put_subr(number, bytes),
+            Statement::Glyph(name, bytes) => self.put_glyph(name, bytes),
+        }
+    }
+
+    fn put_plain(&mut self, key: Key, token: Token<'a>)
+        ensures { self.new ≡ put self.old (plain key (lexeme_of token.entry)) }
+    {
+        self.plain[key.place()] = Some(token);
+    }
+
+    fn put_encoding(&mut self, form: Encoding)
+        ensures { self.new ≡ put self.old (encoding form) }
+    {
+        self.encoding = form;
+        self.codes.clear();
+        self.bad_code = false;
+    }
+
+    #[tactic(auto, using(crate::proofs::FontMaps::number_put))]
+    fn put_code(&mut self, number: u32, name: &'a [u8]) -> Result<(), Refusal>
+        ensures ok { OnOk result (self.new ≡ put self.old (code number name.now)) }
+        ensures memory { IfErr result (λ e. e ≡ Memory) }
+    {
+        self.codes.insert(number, name)?;
+        Ok(())
+    }
+
+    #[tactic(auto, using(crate::proofs::FontMaps::number_put, crate::proofs::FontMaps::number_flag_put, crate::proofs::FontMaps::number_has))]
+    fn put_subr(&mut self, number: u32, bytes: &'a [u8]) -> Result<(), Refusal>
+        ensures ok { OnOk result (self.new ≡ put self.old (subr number bytes.now)) }
+        ensures memory { IfErr result (λ e. e ≡ Memory) }
+    {
+        let before = self.subrs.insert(number, bytes)?;
+        self.subrs_twice.insert(number, before.is_some())?;
+        Ok(())
+    }
+
+    fn put_glyph(&mut self, name: &'a [u8], bytes: &'a [u8]) -> Result<(), Refusal>
+        ensures ok { OnOk result (self.new ≡ put self.old (glyph name.now bytes.now)) }
+        ensures memory { IfErr result (λ e. e ≡ Memory) }
+    {
+        let before = self.glyphs.insert(name, bytes)?;
+        self.glyphs_twice.insert(name, before.is_some())?;
+        Ok(())
+    }
+}

@@ -1,0 +1,47 @@
+//! Reads a Type 1 font: what its clear text and its private text state, or the one reason why they
+//! can't be read. Adobe Type 1 Font Format 1.1, chapters 2, 5, 6 and 7.
+//!
+//! [`read_clear`] reads the joined bytes of a font file up to the word `eexec`; [`read_font`] reads the
+//! decrypted private text over that and gives a [`Font`]. A charstring is a slice of the private text:
+//! none is copied. Which tokens are read, the limits and the refusals are this program's own.
+//!
+//! What is promised, for all bytes:
+//!
+//! - A text is read exactly where the definitions in `specs/` read it, and else refused for the first
+//!   thing that they name. Want of memory alone says nothing of the bytes.
+//! - Each reader of [`Font`] gives what was stated last: the last value of a key, the last charstring
+//!   of a glyph or a Subr, the codes of the last Encoding. Glyphs stand in the order of their first
+//!   appearance.
+//! - No index, sum or cast goes wrong, and each call returns; each text is read once.
+//!
+//! ```
+//! let joined = t1_seal::join(alloc, file)?;
+//! let clear = t1_font::read_clear(alloc, &joined)?;
+//! let private = t1_seal::open_eexec(alloc, &joined.bytes[clear.after()..])?;
+//! let font = t1_font::read_font(alloc, clear, &private)?;
+//! ```
+#![tactic(auto)]
+
+mod clear;
+mod clear_text;
+mod encoding;
+mod entry;
+mod font;
+mod key;
+mod laws;
+mod mode;
+mod private_text;
+mod refusal;
+mod statement;
+#[cfg(test)]
+mod tests;
+mod texts;
+mod tokens;
+
+pub use clear::{Clear, read_clear, read_font};
+pub use encoding::Encoding;
+pub use entry::Entry;
+pub use font::Font;
+pub use key::Key;
+pub use laws::{statements_change_the_value, texts_are_read_as_stated, words_between_entries_pass};
+pub use refusal::Refusal;

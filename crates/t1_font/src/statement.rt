@@ -1,0 +1,34 @@
+//! What a font's texts state, one turn of reading after another.
+
+use crate::encoding::Encoding;
+use crate::key::Key;
+use crate::mode::Mode;
+use t1_scan::Token;
+
+/// What a text states.
+#[derive(Clone, Copy)]
+pub enum Statement<'a> {
+    /// A plain key and its value.
+    Plain(Key, Token<'a>),
+    /// An Encoding of this form begins.
+    Encoding(Encoding),
+    /// A custom encoding's code has this name.
+    Code(u32, &'a [u8]),
+    /// A custom encoding has a code that isn't whole from 0 to 255.
+    BadCode,
+    /// How many Subrs there are to be.
+    Size(u32),
+    /// A Subr's number and charstring.
+    Subr(u32, &'a [u8]),
+    /// A glyph's name and charstring.
+    Glyph(&'a [u8], &'a [u8]),
+}
+
+/// One turn of reading.
+#[derive(Clone, Copy)]
+pub enum Turn<'a> {
+    /// The text is over.
+    Over,
+    /// Reading goes on, after a statement or none.
+    Goes(Option<Statement<'a>>, Mode),
+}
