@@ -3,12 +3,12 @@ use Rattle.std.proofs.Common.{◌≡◌, ℕ, Bool, true, false, cond, Option, S
 use Rattle.std.specs.Borrow.{Bor}
 use Rattle.std.specs.Map.{lookup}
 use Rattle.indexmap.specs.IndexMap.{insert_entry}
-use Rattle.t1_scan.specs.declared.token.Token.{Token}
-use Rattle.t1_font.specs.Statements.{lexeme_of}
+use Rattle.t1_font.specs.declared.entry.Entry.{Entry}
+use Rattle.t1_font.specs.Entries.{entry_view}
 use Rattle.t1_font.specs.Keys.{same_name}
 use Rattle.t1_font.specs.Puts.{put_pair}
 use Rattle.t1_font.specs.PrivateText.{has_key}
-use Rattle.t1_font.specs.Views.{bytes_of, number_pair, name_pair, name_flag, token_of_key}
+use Rattle.t1_font.specs.Views.{bytes_of, number_pair, name_pair, name_flag}
 use Rattle.t1_font.proofs.Maps.{entries_put, has_entry}
 
 abbrev pub same_bytes : Bor (List ℕ) → Bor (List ℕ) → Bool
@@ -36,10 +36,10 @@ name_has es k = has_entry same_bytes same_name (λ b. b.now) (λ b. b.now) (λ a
 pub number_has : (es : List (ℕ × Bor (List ℕ))) (k : ℕ) → is_some (lookup (nat_eq k) es) ≡ has_key nat_eq (map number_pair es) k
 number_has es k = has_entry nat_eq nat_eq (λ b. b) (λ b. b.now) (λ a b. refl) es k
 
-pub keys_put : (ts : List (Option Token)) (i : ℕ) (t : Token) → map token_of_key (set ts i (Some t)) ≡ set (map token_of_key ts) i (Some (lexeme_of t))
-keys_put [] i t = refl
-keys_put (x ∷ ts) zero t = refl
-keys_put (x ∷ ts) (suc i) t = ap (λ ks. token_of_key x ∷ ks) (keys_put ts i t)
+pub values_put : (es : List Entry) (i : ℕ) (e : Entry) → map entry_view (set es i e) ≡ set (map entry_view es) i (entry_view e)
+values_put [] i e = refl
+values_put (x ∷ es) zero e = refl
+values_put (x ∷ es) (suc i) e = ap (λ vs. entry_view x ∷ vs) (values_put es i e)
 
 pub number_found : (es : List (ℕ × Bor (List ℕ))) (k : ℕ) → bytes_of (lookup (nat_eq k) es) ≡ lookup (nat_eq k) (map number_pair es)
 number_found [] k = refl
@@ -52,8 +52,3 @@ pub flag_at : (es : List (Bor (List ℕ) × Bool)) (i : ℕ) → option_map name
 flag_at [] i = refl
 flag_at (e ∷ es) zero = refl
 flag_at (e ∷ es) (suc i) = flag_at es i
-
-pub key_at : (ts : List (Option Token)) (i : ℕ) → token_of_key (slice_index_or ts i None) ≡ slice_index_or (map token_of_key ts) i None
-key_at [] i = refl
-key_at (t ∷ ts) zero = refl
-key_at (t ∷ ts) (suc i) = key_at ts i

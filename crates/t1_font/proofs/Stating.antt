@@ -17,6 +17,7 @@ use Rattle.t1_font.specs.Keys.{same_name, index_of, key_places}
 use Rattle.t1_font.specs.Puts.{put, put_pair}
 use Rattle.t1_font.specs.PrivateText.{has_key}
 use Rattle.t1_font.specs.Fonts.{Stated, Marks, FontValue, plain, encoding, code, bad_code, size, subr, glyph, plain_of, encoding_of, code_of, size_of, subr_of, glyph_of, is_encoding, is_bad_code, or_else, some_or, last_of, after_last, firsts, last_under, keys_of, table_of, twice_of, value_of}
+use Rattle.t1_font.specs.Values.{value_of_entry, value_of_token}
 use Rattle.t1_font.proofs.Tables.{IsExact, nat_exact, name_exact, any_firsts, tab_step}
 
 -- The last of a list with one more.
@@ -108,7 +109,7 @@ fm_one f es e = flat_map-append f es (e ∷ []) ∙ ap (λ xs. flat_map f es ++ 
 -- The value by what each kind of statement says.
 abbrev pub value_from : Marks → List (ℕ × Lexeme) → List Encoding → List (ℕ × List ℕ) → Bool → List ℕ → List (ℕ × List ℕ) → List (List ℕ × List ℕ) → FontValue
 value_from marks plains forms codes bad sizes subrs glyphs = record {
-  plain = map (λ k. last_under nat_eq k plains) key_places;
+  plain = map (λ k. value_of_entry (last_under nat_eq k plains)) key_places;
   encoding = some_or Absent (last_of forms);
   codes = table_of nat_eq [] codes;
   bad_code = bad;
@@ -145,7 +146,7 @@ module _ (marks : Marks) (es : List Stated) where
       let after : after_last is_encoding (es ++ e ∷ []) ≡ [] = after_one is_encoding es e in
       rw (after, fm_one plain_of es e, fm_one encoding_of es e, fm_one size_of es e, fm_one subr_of es e, fm_one glyph_of es e) refl
 
-  placed : (k : Key) (t : Lexeme) → map (λ j. last_under nat_eq j (flat_map plain_of es ++ (index_of k, t) ∷ [])) key_places ≡ set (map (λ j. last_under nat_eq j (flat_map plain_of es)) key_places) (index_of k) (Some t)
+  placed : (k : Key) (t : Lexeme) → map (λ j. value_of_entry (last_under nat_eq j (flat_map plain_of es ++ (index_of k, t) ∷ []))) key_places ≡ set (map (λ j. value_of_entry (last_under nat_eq j (flat_map plain_of es))) key_places) (index_of k) (value_of_token t)
   placed FontType t = simp last_one
   placed PaintType t = simp last_one
   placed UniqueId t = simp last_one

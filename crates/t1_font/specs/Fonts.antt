@@ -6,6 +6,7 @@ use Rattle.t1_font.specs.declared.encoding.Encoding.{Encoding}
 use Rattle.t1_font.specs.declared.encoding.Encoding.TheVariants.{Absent}
 use Rattle.t1_font.specs.declared.key.Key.{Key}
 use Rattle.t1_font.specs.Keys.{same_name, index_of, key_places}
+use Rattle.t1_font.specs.Values.{Value, value_of_entry}
 
 -- What a text states: a plain key with its value; that an Encoding of a form begins; in a custom one a
 -- code with its name, or a code that isn't whole from 0 to 255; the size of the Subrs; a Subr or a
@@ -24,10 +25,10 @@ pub record Marks : Type 0 where
   pub no_end : Bool
   pub extra : Bool
 
--- The keys have their places; codes, Subrs and glyphs stand in the order of their first appearance,
+-- The keys have their places, each with its value; codes, Subrs and glyphs stand in the order of their first appearance,
 -- each with what was stated last, and whether it was stated twice.
 pub record FontValue : Type 0 where
-  pub plain : List (Option Lexeme)
+  pub plain : List Value
   pub encoding : Encoding
   pub codes : List (ℕ × List ℕ)
   pub bad_code : Bool
@@ -121,7 +122,7 @@ value_of marks es =
     let subrs = flat_map subr_of es in
     let glyphs = flat_map glyph_of es in
     record {
-      plain = map (λ k. last_under nat_eq k (flat_map plain_of es)) key_places;
+      plain = map (λ k. value_of_entry (last_under nat_eq k (flat_map plain_of es))) key_places;
       encoding = some_or Absent (last_of (flat_map encoding_of es));
       codes = codes_of es;
       bad_code = list_any is_bad_code (after_last is_encoding es);

@@ -2,6 +2,7 @@
 use Rattle.std.specs.Prelude.{Bool, true, false, Option, Some, None, List, [], ◌∷◌, nat_eq, if◌then◌else◌, set}
 use Rattle.t1_font.specs.Keys.{same_name, index_of}
 use Rattle.t1_font.specs.PrivateText.{has_key}
+use Rattle.t1_font.specs.Values.{value_of_token}
 use Rattle.t1_font.specs.Fonts.{Stated, FontValue, plain, encoding, code, bad_code, size, subr, glyph}
 
 -- A key that is there keeps its place and takes the value; a new one goes last.
@@ -10,7 +11,7 @@ put_pair eq [] k v = (k, v) ∷ []
 put_pair eq (p ∷ ps) k v = if eq k p.0 then (p.0, v) ∷ ps else p ∷ put_pair eq ps k v
 
 abbrev pub put : FontValue → Stated → FontValue
-put v (plain k t) = record v { plain = set v.plain (index_of k) (Some t) }
+put v (plain k t) = record v { plain = set v.plain (index_of k) (value_of_token t) }
 put v (encoding form) = record v { encoding = form; codes = []; bad_code = false }
 put v (code n name) = record v { codes = put_pair nat_eq v.codes n name }
 put v bad_code = record v { bad_code = true }

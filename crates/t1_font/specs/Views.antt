@@ -1,13 +1,6 @@
 -- What the entries of a font's maps say.
 use Rattle.std.specs.Prelude.{ℕ, Bool, false, Option, Some, None, List}
 use Rattle.std.specs.Borrow.{Bor}
-use Rattle.t1_scan.specs.declared.token.Token.{Token}
-use Rattle.t1_scan.specs.Texts.{Lexeme}
-use Rattle.t1_font.specs.Statements.{lexeme_of}
-
-abbrev pub token_of_key : Option Token → Option Lexeme
-token_of_key None = None
-token_of_key (Some t) = Some (lexeme_of t)
 
 abbrev pub number_pair : ℕ × Bor (List ℕ) → ℕ × List ℕ
 number_pair e = (e.0, e.1.now)

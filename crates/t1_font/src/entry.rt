@@ -3,6 +3,7 @@
 ghost use Rattle.std.specs.Prelude.{◌≡◌, ◌++◌, ◌∷◌, ◌≤◌, [], false, length, take};
 ghost use Rattle.t1_scan.specs.State.{has_failed};
 ghost use Rattle.t1_font.specs.Entries.{IsLiveItem, entry_view, item_view, kind_item};
+ghost use Rattle.t1_font.specs.LenIv.{len_iv_of};
 ghost use Rattle.t1_font.specs.Tokens.{unread};
 ghost use Rattle.t1_font.specs.Values.{item_at, list_value, value_of_token};
 
@@ -12,6 +13,9 @@ use t1_scan::{Kind, Scanner};
 
 /// How many numbers of a list are kept.
 const KEPT: usize = 16;
+
+/// How many random bytes stand in front of each charstring, unless the font says so.
+const DEFAULT_LEN_IV: i8 = 4;
 
 /// What a plain key has. Numbers are in units of 10^-9.
 #[derive(Drop)]
@@ -26,6 +30,48 @@ pub enum Entry {
     },
     /// Anything else.
     Other,
+}
+
+impl Entry {
+    /// The same once more.
+    pub(crate) fn copied(&self) -> Entry
+        ensures { entry_view result ≡ entry_view self.now }
+    {
+        match self {
+            Entry::Absent => Entry::Absent,
+            Entry::Number(number) => Entry::Number(*number),
+            Entry::Numbers { count, first } => Entry::Numbers {
+                count: *count,
+                first: copied(first),
+            },
+            Entry::Other => Entry::Other,
+        }
+    }
+
+    /// The lenIV that it is, or the usual one.
+    #[tactic(auto, unfolding(crate::specs::LenIv::len_iv_of))]
+    pub(crate) fn len_iv(&self) -> i8
+        ensures { result ≡ len_iv_of (entry_view self.now) }
+    {
+        let Entry::Number(value) = self else {
+            return DEFAULT_LEN_IV;
+        };
+        let whole = *value / 1_000_000_000;
+        if whole >= -1 && whole <= 64 {
+            whole as i8
+        } else {
+            DEFAULT_LEN_IV
+        }
+    }
+}
+
+/// The same numbers once more.
+fn copied(first: &ArrayVec<i64, 16>) -> ArrayVec<i64, 16>
+    ensures { result.items ≡ first.now.items }
+{
+    let mut copy = ArrayVec::new();
+    let _ = copy.try_extend_from_slice(first.as_slice());
+    copy
 }
 
 /// What a list has next.

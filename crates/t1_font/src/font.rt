@@ -5,32 +5,30 @@ ghost use Rattle.std.specs.Map.{lookup};
 ghost use Rattle.t1_font.specs.Fonts.{FontValue, Marks, value_of, plain, encoding, code, subr, glyph, some_or};
 ghost use Rattle.t1_font.specs.Entries.{entry_view};
 ghost use Rattle.t1_font.specs.Keys.{index_of, same_name};
-ghost use Rattle.t1_font.specs.LenIv.{len_iv_of, len_iv_of_kind};
+ghost use Rattle.t1_font.specs.LenIv.{len_iv_of};
 ghost use Rattle.t1_font.specs.PrivateText.{has_key};
 ghost use Rattle.t1_font.specs.Puts.{put, put_one};
 ghost use Rattle.t1_font.specs.Statements.{lexeme_of, stated, stated_one};
-ghost use Rattle.t1_font.specs.Values.{value_of_entry};
-ghost use Rattle.t1_font.specs.Views.{bytes_of, flag_of, name_pair, token_of_key};
+ghost use Rattle.t1_font.specs.Values.{absent};
+ghost use Rattle.t1_font.specs.Views.{bytes_of, flag_of, name_pair, number_pair};
 ghost use Rattle.t1_font.specs.declared.key.Key.TheVariants.{LenIv};
 ghost use Rattle.t1_font.specs.declared.refusal.Refusal.TheVariants.{Memory};
 
 use crate::encoding::Encoding;
 use crate::entry::{Entry, value};
 use crate::key::Key;
+use crate::plain_values::PlainValues;
 use crate::refusal::Refusal;
 use crate::statement::Statement;
 use indexmap::IndexMap;
 use std::alloc::Global;
 use std::marker::Model;
-use t1_scan::{Kind, Token};
-
-/// How many plain keys there are.
-const KEYS: usize = 18;
+use t1_scan::Token;
 
 /// A Type 1 font, as its clear text and its private text state it.
 #[derive(Drop)]
 pub struct Font<'a> {
-    plain: [Option<Token<'a>>; KEYS],
+    plain: PlainValues,
     encoding: Encoding,
     codes: IndexMap<u32, &'a [u8]>,
     bad_code: bool,
@@ -43,34 +41,15 @@ pub struct Font<'a> {
     extra: bool,
 }
 
-/// How many random bytes stand in front of each charstring, unless the font says so.
-const DEFAULT_LEN_IV: i8 = 4;
-
-/// The lenIV that a token is.
-#[tactic(auto, unfolding(crate::specs::LenIv::len_iv_of_kind))]
-fn len_iv(kind: Kind) -> i8
-    ensures { result ≡ len_iv_of_kind kind }
-{
-    let Kind::Number(value) = kind else {
-        return DEFAULT_LEN_IV;
-    };
-    let whole = value / 1_000_000_000;
-    if whole >= -1 && whole <= 64 {
-        whole as i8
-    } else {
-        DEFAULT_LEN_IV
-    }
-}
-
 impl<'a> Model for Font<'a> {
     ghost use Rattle.std.specs.Prelude.{map};
     ghost use Rattle.t1_font.specs.Fonts.{FontValue};
-    ghost use Rattle.t1_font.specs.Views.{token_of_key, number_pair, name_pair, name_flag};
+    ghost use Rattle.t1_font.specs.Views.{number_pair, name_pair, name_flag};
 
     ghost Value = { FontValue };
 
     ghost view = { λ f. record {
-      plain = map token_of_key f.plain;
+      plain = f.plain;
       encoding = f.encoding;
       codes = map number_pair f.codes.entries;
       bad_code = f.bad_code;
@@ -91,7 +70,7 @@ impl<'a> Font<'a> {
         ensures { result ≡ value_of (record { no_end = no_end; extra = extra }) [] }
     {
         Font {
-            plain: [None; KEYS],
+            plain: PlainValues::new(),
             encoding: Encoding::Absent,
             codes: IndexMap::new(alloc),
             bad_code: false,
@@ -112,6 +91,13 @@ impl<'a> Font<'a> {
         &self.glyphs
     }
 
+    /// The Subrs, in the order of their first appearance, each with its last charstring.
+    pub fn subrs(&self) -> &IndexMap<u32, &'a [u8]>
+        ensures { map number_pair result.now.entries ≡ self.now.subrs }
+    {
+        &self.subrs
+    }
+
     /// The charstring of a Subr.
     pub fn subr(&self, number: u32) -> Option<&'a [u8]>
         ensures { bytes_of result ≡ lookup (nat_eq number) self.now.subrs }
@@ -126,30 +112,18 @@ impl<'a> Font<'a> {
         self.size.unwrap_or(0)
     }
 
-    fn token(&self, key: Key) -> Option<Token<'a>>
-        ensures { token_of_key result ≡ slice_index_or self.now.plain (index_of key) None }
-    {
-        self.plain[key.place()]
-    }
-
     /// What a plain key has.
     pub fn entry(&self, key: Key) -> Entry
-        ensures { entry_view result ≡ value_of_entry (slice_index_or self.now.plain (index_of key) None) }
+        ensures { entry_view result ≡ slice_index_or self.now.plain (index_of key) absent }
     {
-        match self.token(key) {
-            Some(token) => value(token.kind, token.text),
-            None => Entry::Absent,
-        }
+        self.plain.entry(key).copied()
     }
 
     /// How many random bytes stand in front of each charstring; -1 where charstrings aren't encrypted.
     pub fn len_iv(&self) -> i8
-        ensures { result ≡ len_iv_of (slice_index_or self.now.plain (index_of LenIv) None) }
+        ensures { result ≡ len_iv_of (slice_index_or self.now.plain (index_of LenIv) absent) }
     {
-        match self.token(Key::LenIv) {
-            Some(token) => len_iv(token.kind),
-            None => DEFAULT_LEN_IV,
-        }
+        self.plain.entry(Key::LenIv).len_iv()
     }
 
     /// The form of the Encoding.
@@ -269,7 +243,7 @@ impl<'a> Font<'a> {
     fn put_plain(&mut self, key: Key, token: Token<'a>)
         ensures { self.new ≡ put self.old (plain key (lexeme_of token.entry)) }
     {
-        self.plain[key.place()] = Some(token);
+        self.plain.put(key, value(token.kind, token.text));
     }
 
     fn put_encoding(&mut self, form: Encoding)

@@ -30,6 +30,7 @@ mod font;
 mod key;
 mod laws;
 mod mode;
+mod plain_values;
 mod private_text;
 mod refusal;
 mod statement;
