@@ -63,6 +63,19 @@ clear_is_read marks text s old v after same start begins h given =
     let run = rw (start, read_as_stated clear_turn NoEexec marks [] Outside text) at given in
     rw (← same, begins) (clear_by_rest marks text (stated_in clear_turn NoEexec marks [] Outside text) v after h run)
 
+-- What follows the word eexec stands behind the place that is told.
+clear_rest : (marks : Marks) (s : List ℕ) (read : Result TextRead Refusal) (v : FontValue) (after : ℕ) → value_read marks read ≡ Ok (record { value = v; rest = drop after s }) → (found : TextRead) → read ≡ Ok found → found.rest ≡ drop after s
+clear_rest marks s read v after given found is =
+    let both : ◌≡◌ {A = FontRead} (record { value = value_of marks found.stated; rest = found.rest }) (record { value = v; rest = drop after s }) = ok_value _ _ (ap (value_read marks) (sym is) ∙ given) in
+    ap (λ (r : FontRead). r.rest) both
+
+pub clear_is_behind : (marks : Marks) (text s : List ℕ) (old v : FontValue) (after : ℕ) → text ≡ s → old ≡ value_of marks [] → begins_as_font text ≡ true → run_of clear_turn NoEexec old Outside text ≡ Ok (record { value = v; rest = drop after text }) → (found : TextRead) → clear_of marks s ≡ Ok found → found.rest ≡ drop after s
+unfolding clear_of
+clear_is_behind marks text s old v after same start begins given found is =
+    let run = rw (start, read_as_stated clear_turn NoEexec marks [] Outside text) at given in
+    let read : stated_in clear_turn NoEexec marks [] Outside text ≡ Ok found = rw (← same, begins) at is in
+    rw (← same) (clear_rest marks text (stated_in clear_turn NoEexec marks [] Outside text) v after run found read)
+
 pub clear_is_refused : (marks : Marks) (text s : List ℕ) (old : FontValue) (e : Refusal) → text ≡ s → old ≡ value_of marks [] → begins_as_font text ≡ true → Refuses e (run_of clear_turn NoEexec old Outside text) → Refuses e (clear_read marks s)
 unfolding clear_of
 clear_is_refused marks text s old e same start begins given =

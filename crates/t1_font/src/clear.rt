@@ -1,10 +1,11 @@
 //! The two calls that read a font: first its clear text, then its private text.
 
-ghost use Rattle.std.specs.Prelude.{◌≡◌, List};
-ghost use Rattle.t1_font.specs.ClearText.{begins_as_font};
+ghost use Rattle.std.specs.Prelude.{◌≡◌, ◌≤◌, IfOk, List, Ok, drop, length};
+ghost use Rattle.t1_font.specs.ClearText.{begins_as_font, clear_of};
 ghost use Rattle.t1_font.specs.Fonts.{Marks, Stated, value_of};
 ghost use Rattle.t1_font.specs.Refusals.{Gives};
 ghost use Rattle.t1_font.specs.Texts.{clear_read, font_read, marks_of};
+ghost use Rattle.t1_font.specs.Turns.{TextRead};
 
 use crate::font::Font;
 use crate::refusal::Refusal;
@@ -52,7 +53,10 @@ fn begins_as_font(text: &[u8]) -> bool
 
 /// Reads the clear text of a font, up to its word `eexec`.
 pub fn read_clear<'a>(alloc: Global, joined: &'a Joined) -> Result<Clear<'a>, Refusal>
-    ensures { Gives (λ c. c) result (clear_read (marks_of joined.now) joined.now.bytes.items) }
+    ensures gives { Gives (λ c. c) result (clear_read (marks_of joined.now) joined.now.bytes.items) }
+    ensures within { IfOk result (λ clear. clear.after ≤ length joined.now.bytes.items) }
+    ensures behind { IfOk result (λ clear. (read : TextRead) → clear_of (marks_of joined.now) joined.now.bytes.items ≡ Ok read →
+        read.rest ≡ drop clear.after joined.now.bytes.items) }
 {
     let text = joined.bytes.as_slice();
     if !begins_as_font(text) {
