@@ -1,7 +1,7 @@
 -- A font file has no two reports.
 use Rattle.std.proofs.Common.{◌≡◌, ℕ, ◌+◌, ◌<◌, zero, suc, List, [], ◌∷◌, length, refl, sym, ap, subst, ◌∙◌, ◌⊎◌, inl, inr, arith}
 use Rattle.std.specs.List.{Any, slice_index_or}
-use Rattle.t1_seal.specs.Segments.{JoinedText}
+use Rattle.t1_font.specs.Fonts.{FontValue}
 use Rattle.t1check.specs.declared.fault.Fault.{Fault}
 use Rattle.t1check.specs.declared.rule.Rule.{Rule}
 use Rattle.t1check.specs.Rules.{number_of}
@@ -106,7 +106,7 @@ equal_lists n (x ∷ xs) (y ∷ ys) rise rise' among among' number number' =
     (among_tail y x ys xs (same_sym x y same) rise' among') (numbered_tail n x xs number) (numbered_tail n y ys number') in
     ap (λ (z : Fault). z ∷ xs) first ∙ ap (λ (zs : List Fault). y ∷ zs) rest
 
-pub no_other_report : (joined : JoinedText) (a b : List Fault) → IsReport joined a → IsReport joined b → a ≡ b
-no_other_report joined a b p q =
+pub no_other_report : (font : FontValue) (a b : List Fault) → IsReport font a → IsReport font b → a ≡ b
+no_other_report font a b p q =
     equal_lists 1 a b p.rising q.rising (λ i d lt. q.complete (slice_index_or a i d) (p.violations i d lt))
     (λ i d lt. p.complete (slice_index_or b i d) (q.violations i d lt)) p.numbered q.numbered

@@ -1,11 +1,10 @@
 ghost use Rattle.std.specs.Prelude.{◌≡◌, drop, IfOk};
-ghost use Rattle.t1_seal.specs.Joined.{joined_text};
 ghost use Rattle.t1check.specs.Rules.{number_of, violated};
 ghost use Rattle.t1check.specs.Report.{IsReport, report_of};
 
 use crate::rule::Rule;
 use std::alloc::{AllocError, Global};
-use t1_seal::Joined;
+use t1_font::Font;
 
 /// A rule that is violated, and where.
 #[derive(Clone, Copy, Debug, PartialEq, Eq)]
@@ -20,15 +19,15 @@ pub struct Fault {
     pub rule: Rule,
 }
 
-/// All violations in a font file, in the order of their places.
-pub fn report(alloc: Global, joined: &Joined) -> Result<Vec<Fault>, AllocError>
-    ensures value { IfOk result (λ faults. faults.items ≡ report_of (joined_text joined.now)) }
-    ensures exact { IfOk result (λ faults. IsReport (joined_text joined.now) faults.items) }
+/// All violations in a font, in the order of their places.
+pub fn report(alloc: Global, font: &Font<'_>) -> Result<Vec<Fault>, AllocError>
+    ensures value { IfOk result (λ faults. faults.items ≡ report_of font.now) }
+    ensures exact { IfOk result (λ faults. IsReport font.now faults.items) }
 {
     let mut faults = Vec::new(alloc);
     let mut number = 1;
     for rule in Rule::BOOK {
-        if is_violated(rule, joined) {
+        if is_violated(rule, font) {
             faults.push(Fault {
                 number,
                 unit: 0,
@@ -42,12 +41,12 @@ pub fn report(alloc: Global, joined: &Joined) -> Result<Vec<Fault>, AllocError>
 }
 
 /// Whether a rule on the file is violated.
-fn is_violated(rule: Rule, joined: &Joined) -> bool
-    ensures { result ≡ violated (number_of rule) (joined_text joined.now) 0 0 }
+fn is_violated(rule: Rule, font: &Font<'_>) -> bool
+    ensures { result ≡ violated (number_of rule) font.now 0 0 }
 {
     match rule {
-        Rule::F01 => joined.pfb && !joined.end_segment,
-        Rule::F02 => joined.trailing,
+        Rule::F01 => font.no_end(),
+        Rule::F02 => font.extra(),
     }
 }
 

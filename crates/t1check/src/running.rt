@@ -1,21 +1,24 @@
-ghost use Rattle.std.specs.Prelude.{◌≡◌, ◌≢◌, ℕ, ◌≤◌, ◌+◌, ◌⊎◌, true, false, codes, IfSome};
+ghost use Rattle.std.specs.Prelude.{◌≡◌, ◌≢◌, ℕ, ◌≤◌, ◌+◌, ◌⊎◌, true, false, codes, IfErr, IfOk, IfSome, OnErr};
 ghost use Rattle.std.specs.List.{All};
 ghost use Rattle.std.specs.Io.KnownBytes.{Appends, Keeps};
 ghost use Rattle.t1_io.specs.Devices.{AppendsFront};
-ghost use Rattle.t1_seal.specs.Segments.{joined_of};
 ghost use Rattle.t1check.specs.Input.{TakesAtMost};
 ghost use Rattle.t1check.specs.Lines.{lines_of, IsInFont};
-ghost use Rattle.t1check.specs.Answers.{Gave, answer_of, answer_to, reported, stopped_told, stopped_status};
+ghost use Rattle.t1check.specs.Answers.{Gave, answer_of, answer_to, reported};
+ghost use Rattle.t1check.specs.FontFiles.{font_in, IsUnread};
+ghost use Rattle.t1check.specs.Refusals.{told_of};
 
 use crate::asked::Options;
 use crate::fault::{Fault, report, without_first};
 use crate::lines::write_faults;
 use crate::reading::{Input, read_all};
 use crate::status::Status;
-use crate::telling::{OUT_OF_MEMORY, READ_FAILED, WRITE_FAILED, tell};
+use crate::telling::{READ_FAILED, WRITE_FAILED, tell};
+use crate::unread::Unread;
 use std::alloc::Global;
+use t1_font::{read_clear, read_font};
 use t1_io::{Sink, Source};
-use t1_seal::{SealError, join};
+use t1_seal::{join, open_eexec};
 
 /// Reads a font to its end and writes its report.
 pub fn run<R: Source, W: Sink, E: Sink>(
@@ -49,68 +52,62 @@ pub fn run<R: Source, W: Sink, E: Sink>(
         AppendsFront (W.written out.old) (W.written out.new) (answer_of options.now input).output) }
 {
     match read_all(alloc, source) {
-        Input::Bytes(bytes) => check(alloc, bytes.as_slice(), options.after, out, errors),
-        Input::TooLarge => tell(errors, "refused: E05 file too large\n", Status::Refused),
+        Input::Bytes(bytes) => match check(alloc, bytes.as_slice(), options.after, out, errors) {
+            Ok(status) => status,
+            Err(unread) => stop(unread, errors),
+        },
+        Input::TooLarge => stop(Unread::TooLarge, errors),
         Input::Broken => tell(errors, READ_FAILED, Status::Failed),
-        Input::NoMemory => tell(errors, OUT_OF_MEMORY, Status::Failed),
+        Input::NoMemory => stop(Unread::Memory, errors),
     }
 }
 
-/// Joins a file's segments and writes the report without its first `after` lines.
+/// Reads a font and writes its report without the first `after` lines.
 fn check<W: Sink, E: Sink>(
     alloc: Global,
     bytes: &[u8],
     after: u64,
     out: &mut W,
     errors: &mut E,
-) -> Status
+) -> Result<Status, Unread>
     requires out { W.failed out.old ≡ false }
     requires errors { E.failed errors.old ≡ false }
 
-    ensures answer { result ≢ Status.Failed →
-        Gave (answer_to after (joined_of bytes.now)) result (W.written out.old) (W.written out.new)
-        (E.written errors.old) (E.written errors.new) }
-    ensures flushed { (result ≡ Status.Clean) ⊎ (result ≡ Status.Faults) → W.flushed out.new ≡ true }
-    ensures nothing_waits { result ≢ Status.Failed → W.flushed out.old ≡ true → W.flushed out.new ≡ true }
-
-    ensures broken { (W.failed out.new ≡ true) ⊎ (E.failed errors.new ≡ true) → result ≡ Status.Failed }
+    ensures unread { IfErr result (λ unread. IsUnread unread (font_in bytes.now)) }
+    ensures untouched { OnErr result ((out.new ≡ out.old) × (errors.new ≡ errors.old)) }
+    ensures answer { IfOk result (λ status. status ≢ Status.Failed →
+        Gave (answer_to after (font_in bytes.now)) status (W.written out.old) (W.written out.new)
+        (E.written errors.old) (E.written errors.new)) }
+    ensures flushed { IfOk result (λ status. status ≢ Status.Failed → W.flushed out.new ≡ true) }
+    ensures broken { IfOk result (λ status. (W.failed out.new ≡ true) ⊎ (E.failed errors.new ≡ true) → status ≡ Status.Failed) }
+    ensures failed { IfOk result (λ status. status ≡ Status.Failed → W.failed out.new ≡ true) }
     ensures write_failed { W.failed out.new ≡ true → E.failed errors.new ≡ false → Appends (E.written errors.old) (E.written errors.new) (codes "t1check: write failed\n") }
-    ensures no_memory { result ≡ Status.Failed → W.failed out.new ≡ false → E.failed errors.new ≡ false
-        → Appends (E.written errors.old) (E.written errors.new) (codes "t1check: out of memory\n") }
-    ensures unwritten { result ≡ Status.Failed → W.failed out.new ≡ false → Keeps (W.written out.old) (W.written out.new) }
     ensures front { W.failed out.new ≡ true →
-        AppendsFront (W.written out.old) (W.written out.new) (answer_to after (joined_of bytes.now)).output }
+        AppendsFront (W.written out.old) (W.written out.new) (answer_to after (font_in bytes.now)).output }
 {
-    let joined = match join(alloc, bytes) {
-        Ok(joined) => joined,
-        Err(error) => return stop(error, errors),
-    };
-    match report(alloc, &joined) {
-        Ok(faults) => give_report(without_first(faults.as_slice(), after), out, errors),
-        Err(_) => tell(errors, OUT_OF_MEMORY, Status::Failed),
-    }
+    let joined = join(alloc, bytes)?;
+    let clear = read_clear(alloc, &joined)?;
+    let (_, section) = joined.bytes.as_slice().split_at(clear.after());
+    let private = open_eexec(alloc, section)?;
+    let font = read_font(alloc, clear, private.as_slice())?;
+    let faults = report(alloc, &font)?;
+    Ok(give_report(without_first(faults.as_slice(), after), out, errors))
 }
 
-/// Tells why a font isn't opened.
-fn stop<E: Sink>(error: SealError, errors: &mut E) -> Status
+/// Tells why a file isn't read.
+fn stop<E: Sink>(unread: Unread, errors: &mut E) -> Status
     requires { E.failed errors.old ≡ false }
-    ensures told { E.failed errors.new ≡ false → Appends (E.written errors.old) (E.written errors.new) (stopped_told error) }
-    ensures status { E.failed errors.new ≡ false → result ≡ stopped_status error }
+    ensures told { E.failed errors.new ≡ false → Appends (E.written errors.old) (E.written errors.new) (told_of unread) }
+    ensures status { unread ≢ Unread.Memory → E.failed errors.new ≡ false → result ≡ Status.Refused }
     ensures broken { E.failed errors.new ≡ true → result ≡ Status.Failed }
-    ensures failed { result ≡ Status.Failed → E.failed errors.new ≡ false → error ≡ SealError.Memory }
-    ensures memory { error ≡ SealError.Memory → result ≡ Status.Failed }
+    ensures failed { result ≡ Status.Failed → E.failed errors.new ≡ false → unread ≡ Unread.Memory }
+    ensures memory { unread ≡ Unread.Memory → result ≡ Status.Failed }
 {
-    match error {
-        SealError::NotAFont => tell(errors, "refused: E01 not a PFA or PFB\n", Status::Refused),
-        SealError::BadHeader => tell(errors, "refused: E02 bad segment header\n", Status::Refused),
-        SealError::CutShort => tell(errors, "refused: E03 segment cut short\n", Status::Refused),
-        SealError::TooShort => tell(
-            errors,
-            "refused: E06 encrypted part too short\n",
-            Status::Refused,
-        ),
-        SealError::Memory => tell(errors, OUT_OF_MEMORY, Status::Failed),
-    }
+    let status = match unread {
+        Unread::Memory => Status::Failed,
+        _ => Status::Refused,
+    };
+    tell(errors, unread.told(), status)
 }
 
 /// Writes the lines of faults and flushes them.

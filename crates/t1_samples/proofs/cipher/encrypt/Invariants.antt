@@ -1,0 +1,6 @@
+use Rattle.std.proofs.Common.{◌≡◌, ◌++◌, drop}
+use Rattle.t1_seal.specs.CipherLaws.{encrypted}
+use Rattle.t1_samples.proofs.cipher.encrypt.Given as goal
+
+abbrev pub invariant-loop-byte : goal.invariant-loop-byte
+invariant-loop-byte l = l.cipher.items ++ encrypted l.state (drop l.byte-index l.plain) ≡ encrypted l.fn.start l.fn.plain

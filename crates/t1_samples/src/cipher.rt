@@ -1,0 +1,50 @@
+//! Encryption: Type 1 Font Format 1.1, chapter 7.
+
+ghost use Rattle.std.specs.Prelude.{◌≡◌, ◌++◌, IfOk, replicate};
+ghost use Rattle.t1_seal.specs.Cipher.{charstring_start, eexec_start};
+ghost use Rattle.t1_seal.specs.CipherLaws.{encrypted};
+
+use std::alloc::{AllocError, Global};
+
+const EEXEC_START: u16 = 55665;
+
+const CHARSTRING_START: u16 = 4330;
+
+const MULTIPLIER: u32 = 52845;
+
+const ADDEND: u32 = 22719;
+
+const STATES: u32 = 1 << 16;
+
+/// The cipher bytes of an encrypted section: of four bytes that are discarded, and the private text.
+pub fn eexec(alloc: Global, discarded: [u8; 4], text: &[u8]) -> Result<Vec<u8>, AllocError>
+    ensures { IfOk result (λ cipher. cipher.items ≡ encrypted eexec_start (discarded ++ text.now)) }
+{
+    let mut plain = Vec::from_slice(alloc, &discarded)?;
+    plain.extend_from_slice(text)?;
+    encrypt(alloc, EEXEC_START, plain.as_slice())
+}
+
+/// The cipher bytes of a charstring: of zero bytes, as many as `/lenIV` says, and its plain bytes.
+pub fn charstring(alloc: Global, zeros: u8, bytes: &[u8]) -> Result<Vec<u8>, AllocError>
+    ensures { IfOk result (λ cipher. cipher.items ≡ encrypted charstring_start (replicate zeros 0 ++ bytes.now)) }
+{
+    let mut plain = vec![in alloc; 0u8; usize::from(zeros)]?;
+    plain.extend_from_slice(bytes)?;
+    encrypt(alloc, CHARSTRING_START, plain.as_slice())
+}
+
+/// The cipher bytes of plain bytes, from a state on.
+fn encrypt(alloc: Global, start: u16, plain: &[u8]) -> Result<Vec<u8>, AllocError>
+    ensures { IfOk result (λ cipher. cipher.items ≡ encrypted start plain.now) }
+{
+    let mut state = start;
+    let mut cipher = Vec::with_capacity(alloc, plain.len())?;
+    for byte in plain {
+        let sealed = byte ^ (state >> 8) as u8;
+        let sum = (u32::from(sealed) + u32::from(state)) * MULTIPLIER + ADDEND;
+        state = (sum % STATES) as u16;
+        cipher.push(sealed)?;
+    }
+    Ok(cipher)
+}

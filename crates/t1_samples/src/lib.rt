@@ -1,0 +1,29 @@
+//! Type 1 fonts for tests, built as bytes: Adobe Type 1 Font Format 1.1, chapters 2, 5 and 7, and Adobe
+//! Technical Note 5040. Only tests call it; the program doesn't.
+//!
+//! - [`Sample`] writes the clear text and the private text of a small font with the one glyph `.notdef`,
+//!   and with what a test adds: keys, an Encoding, Subrs, glyphs.
+//! - [`FontFile`] puts two texts into a file, PFB or PFA, the private text encrypted.
+//! - [`eexec`] and [`charstring`] encrypt.
+//!
+//! What is promised: what is encrypted is what the standard's formula gives, so that deciphering it gives
+//! the bytes back. Each call returns, and fails for want of memory alone.
+//!
+//! ```
+//! let file = Sample::new(alloc)?
+//!     .key(b"/BlueValues [0 25] def")?
+//!     .subr(5, b"\x0b")?
+//!     .glyph(b"A", b"\x8b\xf8\x88\x0d\x0e")?
+//!     .pfb()?;
+//! ```
+#![tactic(auto)]
+
+mod cipher;
+mod file;
+mod sample;
+#[cfg(test)]
+mod tests;
+
+pub use cipher::{charstring, eexec};
+pub use file::{END_SEGMENT, FontFile, TRAILER};
+pub use sample::{CLEAR, Charstrings, NOTDEF, Sample};

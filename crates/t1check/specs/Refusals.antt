@@ -1,0 +1,21 @@
+-- What is told of a file that isn't read.
+use Rattle.std.specs.Prelude.{ℕ, List, codes}
+use Rattle.t1check.specs.declared.unread.Unread.{Unread}
+use Rattle.t1check.specs.declared.unread.Unread.TheVariants.{NotAFont, BadHeader, CutShort, NoEexec, TooLarge, TooShort, Unclosed, BadSubrs, BadCharStrings, BadLenIv, PastLimit, SecondSubrs, MultipleMaster, Memory}
+
+-- The line of each refusal, by its number; want of memory is none.
+abbrev pub told_of : Unread → List ℕ
+told_of NotAFont = codes "refused: E01 not a PFA or PFB\n"
+told_of BadHeader = codes "refused: E02 bad segment header\n"
+told_of CutShort = codes "refused: E03 segment cut short\n"
+told_of NoEexec = codes "refused: E04 no eexec\n"
+told_of TooLarge = codes "refused: E05 file too large\n"
+told_of TooShort = codes "refused: E06 encrypted part too short\n"
+told_of Unclosed = codes "refused: E07 unclosed or too deeply nested token\n"
+told_of BadSubrs = codes "refused: E08 Subrs malformed\n"
+told_of BadCharStrings = codes "refused: E09 CharStrings malformed or absent\n"
+told_of BadLenIv = codes "refused: E10 lenIV out of range\n"
+told_of PastLimit = codes "refused: E11 count past its limit\n"
+told_of SecondSubrs = codes "refused: E12 second Subrs\n"
+told_of MultipleMaster = codes "refused: E13 multiple master font\n"
+told_of Memory = codes "t1check: out of memory\n"
