@@ -1,8 +1,10 @@
 -- What is stated in a text, token by token.
-use Rattle.std.proofs.Common.{◌≡◌, ◌<◌, ℕ, zero, suc, false, Option, Some, None, Result, Ok, Err, IfOk, List, length, refl, ap, ◌∙◌, arith, codes}
+use Rattle.std.proofs.Common.{◌≡◌, ◌<◌, ℕ, zero, suc, false, Option, Some, None, Result, Ok, Err, IfOk, List, ◌++◌, length, refl, ap, sym, ◌∙◌, arith, codes, true}
 use Rattle.t1_scan.specs.declared.error.ScanError.{ScanError}
 use Rattle.t1_scan.specs.declared.token.Kind.TheVariants.{Word}
+use Rattle.t1_scan.specs.Texts.{is_gap}
 use Rattle.t1_scan.specs.Tokens.{Found, token_of}
+use Rattle.t1_scan.proofs.TextsRead.{skip_gap}
 use Rattle.t1_font.specs.declared.mode.Mode.{Mode}
 use Rattle.t1_font.specs.declared.mode.Mode.TheVariants.{Outside, Codes, Subrs, Glyphs}
 use Rattle.t1_font.specs.declared.refusal.Refusal.{Refusal}
@@ -11,10 +13,10 @@ use Rattle.t1_font.specs.Keys.{same_name}
 use Rattle.t1_font.specs.Refusals.{◌>>=◌}
 use Rattle.t1_font.specs.Tokens.{token_at, wanted}
 use Rattle.t1_font.specs.Fonts.{Stated, Marks, FontValue, value_of}
-use Rattle.t1_font.specs.Turns.{over, goes, Reader, follow, with_one, stated_within, stated_in}
-use Rattle.t1_font.specs.ClearText.{clear_turn, clear_outside, code_outside}
-use Rattle.t1_font.specs.PrivateText.{private_turn, subrs_outside, glyphs_outside}
-use Rattle.t1_font.specs.UsualForms.{WordsPass, WordsPassInCodes, WordsPassInSubrs, WordsPassInGlyphs}
+use Rattle.t1_font.specs.Turns.{Turned, over, goes, Reader, follow, with_one, stated_within, stated_in}
+use Rattle.t1_font.specs.ClearText.{code_at, code_turn, clear_turn, clear_outside, code_outside}
+use Rattle.t1_font.specs.PrivateText.{private_turn, private_outside, subrs_outside, glyphs_outside}
+use Rattle.t1_font.specs.UsualForms.{BlanksPass, BlanksPassInPrivate, DupPassesInCodes, WordsPass, WordsPassInCodes, WordsPassInPrivate, WordsPassInSubrs, WordsPassInGlyphs}
 use Rattle.t1_font.proofs.Running.{Less, Shortens}
 use Rattle.t1_font.proofs.Shorter.{clear_shortens, private_shortens}
 
@@ -32,7 +34,7 @@ module _ (turn : Reader) (ended : Refusal) (shortens : Shortens turn) (marks : M
         ]
       ] (shortens.less (value_of marks before) mode s)
 
-  step : (before : List Stated) (mode : Mode) (s : List ℕ) → stated_in turn ended marks before mode s ≡ (turn (value_of marks before) mode s >>= follow (stated_in turn ended marks) before)
+  pub step : (before : List Stated) (mode : Mode) (s : List ℕ) → stated_in turn ended marks before mode s ≡ (turn (value_of marks before) mode s >>= follow (stated_in turn ended marks) before)
   unfolding stated_within
   step before mode s =
       elim (turn (value_of marks before) mode s) as (λ r. IfOk r (Less (length s)) → (r >>= follow (stated_within turn ended marks (length s)) before) ≡ (r >>= follow (stated_in turn ended marks) before)) [
@@ -43,16 +45,46 @@ module _ (turn : Reader) (ended : Refusal) (shortens : Shortens turn) (marks : M
         ]
       ] (shortens.less (value_of marks before) mode s)
 
-  goes_on : (before : List Stated) (mode : Mode) (s : List ℕ) (e : Option Stated) (next : Mode) (left : List ℕ) → turn (value_of marks before) mode s ≡ Ok (goes e next left) → stated_in turn ended marks before mode s ≡ stated_in turn ended marks (with_one before e) next left
+  pub goes_on : (before : List Stated) (mode : Mode) (s : List ℕ) (e : Option Stated) (next : Mode) (left : List ℕ) → turn (value_of marks before) mode s ≡ Ok (goes e next left) → stated_in turn ended marks before mode s ≡ stated_in turn ended marks (with_one before e) next left
   goes_on before mode s e next left h = step before mode s ∙ ap (λ r. r >>= follow (stated_in turn ended marks) before) h
 
-found : (ended : Refusal) (s : List ℕ) (t : Found) → token_of s ≡ Ok (Some t) → wanted ended s ≡ Ok t
+  -- Texts that have the same turn state the same.
+  same_turn : (before : List Stated) (mode : Mode) (s text : List ℕ) → turn (value_of marks before) mode s ≡ turn (value_of marks before) mode text → stated_in turn ended marks before mode s ≡ stated_in turn ended marks before mode text
+  same_turn before mode s text h = step before mode s ∙ ap (λ r. r >>= follow (stated_in turn ended marks) before) h ∙ sym (step before mode text)
+
+  pub is_over : (before : List Stated) (mode : Mode) (s rest : List ℕ) → turn (value_of marks before) mode s ≡ Ok (over rest) → stated_in turn ended marks before mode s ≡ Ok (record { stated = before; rest = rest })
+  is_over before mode s rest h = step before mode s ∙ ap (λ r. r >>= follow (stated_in turn ended marks) before) h
+
+pub found : (ended : Refusal) (s : List ℕ) (t : Found) → token_of s ≡ Ok (Some t) → wanted ended s ≡ Ok t
 unfolding wanted token_at
 found ended s t h =
     ap (λ (r : Result (Option Found) ScanError). elim r [
       | Err _ ↦ Err Unclosed
       | Ok some ↦ elim some [ None ↦ Err ended | Some x ↦ Ok x ]
     ]) h
+
+-- Blanks and comments in front of what is due.
+wanted_behind : (ended : Refusal) (gap s : List ℕ) → is_gap false gap ≡ true → wanted ended (gap ++ s) ≡ wanted ended s
+unfolding wanted token_at
+wanted_behind ended gap s h =
+    ap (λ (r : Result (Option Found) ScanError). elim r [
+      | Err _ ↦ Err Unclosed
+      | Ok some ↦ elim some [ None ↦ Err ended | Some x ↦ Ok x ]
+    ]) (skip_gap gap s h)
+
+clear_behind : (v : FontValue) (mode : Mode) (gap s : List ℕ) → is_gap false gap ≡ true → clear_turn v mode (gap ++ s) ≡ clear_turn v mode s
+unfolding clear_turn
+clear_behind v mode gap s h = rw (wanted_behind NoEexec gap s h) refl
+
+private_behind : (v : FontValue) (mode : Mode) (gap s : List ℕ) → is_gap false gap ≡ true → private_turn v mode (gap ++ s) ≡ private_turn v mode s
+unfolding private_turn
+private_behind v mode gap s h = rw (wanted_behind BadCharStrings gap s h) refl
+
+pub blanks_pass : BlanksPass
+blanks_pass marks before mode gap s h = same_turn clear_turn NoEexec clear_shortens marks before mode (gap ++ s) s (clear_behind (value_of marks before) mode gap s h)
+
+pub blanks_pass_in_private : BlanksPassInPrivate
+blanks_pass_in_private marks before mode gap s h = same_turn private_turn BadCharStrings private_shortens marks before mode (gap ++ s) s (private_behind (value_of marks before) mode gap s h)
 
 clear_word : (v : FontValue) (s : List ℕ) (t : Found) → token_of s ≡ Ok (Some t) → t.kind ≡ Word → same_name t.text (codes "eexec") ≡ false → clear_turn v Outside s ≡ Ok (goes None Outside t.rest)
 unfolding clear_turn clear_outside
@@ -67,6 +99,24 @@ code_word v s t h word a b c = rw (found NoEexec s t h, word, a, b, c) refl
 
 pub words_pass_in_codes : WordsPassInCodes
 words_pass_in_codes marks before s t h word a b c = goes_on clear_turn NoEexec clear_shortens marks before Codes s None Codes t.rest (code_word (value_of marks before) s t h word a b c)
+
+lone_dup : (s : List ℕ) → code_at s ≡ None → code_turn s ≡ goes None Codes s
+unfolding code_turn
+lone_dup s none = ap (λ (r : Option Turned). elim r [ Some t ↦ t | None ↦ goes None Codes s ]) none
+
+code_dup : (v : FontValue) (s : List ℕ) (t : Found) → token_of s ≡ Ok (Some t) → t.kind ≡ Word → t.text ≡ codes "dup" → code_at t.rest ≡ None → clear_turn v Codes s ≡ Ok (goes None Codes t.rest)
+unfolding clear_turn code_outside
+code_dup v s t h word text none = rw (found NoEexec s t h, word, text) (ap Ok (lone_dup t.rest none))
+
+pub dup_passes_in_codes : DupPassesInCodes
+dup_passes_in_codes marks before s t h word text none = goes_on clear_turn NoEexec clear_shortens marks before Codes s None Codes t.rest (code_dup (value_of marks before) s t h word text none)
+
+private_word : (v : FontValue) (s : List ℕ) (t : Found) → token_of s ≡ Ok (Some t) → t.kind ≡ Word → private_turn v Outside s ≡ Ok (goes None Outside t.rest)
+unfolding private_turn private_outside
+private_word v s t h word = rw (found BadCharStrings s t h, word) refl
+
+pub words_pass_in_private : WordsPassInPrivate
+words_pass_in_private marks before s t h word = goes_on private_turn BadCharStrings private_shortens marks before Outside s None Outside t.rest (private_word (value_of marks before) s t h word)
 
 subr_word : (v : FontValue) (s : List ℕ) (t : Found) → token_of s ≡ Ok (Some t) → t.kind ≡ Word → same_name t.text (codes "dup") ≡ false → private_turn v Subrs s ≡ Ok (goes None Subrs t.rest)
 unfolding private_turn subrs_outside

@@ -36,7 +36,7 @@ name_exact = record { same = names_same; exact = names_exact }
 
 module _ {K : Type 0} (eq : K → K → Bool) (e : IsExact eq) where
   -- A comparison looks the same from both sides.
-  flipped : (a b : K) → eq a b ≡ false → eq b a ≡ false
+  pub flipped : (a b : K) → eq a b ≡ false → eq b a ≡ false
   flipped a b h = elim (cases_Bool (eq b a)) [
     | inl x ↦ (let s = e.exact b a x in let t : eq a a ≡ false = rw s at h in let u = e.same a in cc)
     | inr x ↦ x

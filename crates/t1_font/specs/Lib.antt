@@ -1,4 +1,5 @@
 pub mod ClearText
+pub mod DifferentKeys
 pub mod Entries
 pub mod Fonts
 pub mod Keys
@@ -12,6 +13,10 @@ pub mod Statements
 pub mod Texts
 pub mod Tokens
 pub mod Turns
+pub mod UsualClearText
+pub mod UsualExample
+pub mod UsualForms
+pub mod UsualPrivateText
 pub mod Values
 pub mod Views
-pub mod UsualForms
+pub mod Written

@@ -1,7 +1,9 @@
 //! Laws of the definitions, each on a call that does nothing.
 
+ghost use Rattle.t1_font.specs.DifferentKeys.{DifferentStay};
 ghost use Rattle.t1_font.specs.Laws.{OneMore, ReadAsStated};
-ghost use Rattle.t1_font.specs.UsualForms.{WordsPass, WordsPassInCodes, WordsPassInGlyphs, WordsPassInSubrs};
+ghost use Rattle.t1_font.specs.UsualExample.{SmallFontIsUsual};
+ghost use Rattle.t1_font.specs.UsualForms.{AdditionsInClear, AdditionsInPrivate, BlanksPass, BlanksPassInPrivate, DupPassesInCodes, ReadsUsualClear, ReadsUsualFonts, ReadsUsualPrivate, WordsPass, WordsPassInCodes, WordsPassInGlyphs, WordsPassInPrivate, WordsPassInSubrs};
 
 /// One statement more changes the value of all as the program does: a key that is there keeps its
 /// place and takes the later value, and a new one goes last.
@@ -15,13 +17,65 @@ pub fn texts_are_read_as_stated()
     ensures { ReadAsStated }
 {}
 
-/// Words between entries, with the blanks and comments in front of them, change nothing of what is
-/// stated: all but `eexec` in the clear text; but `eexec`, `def` and `dup` in a custom encoding; but
-/// `dup` among the Subrs; but `end` among the glyphs.
-#[tactic(auto, using(crate::proofs::Steps::words_pass, crate::proofs::Steps::words_pass_in_codes, crate::proofs::Steps::words_pass_in_subrs, crate::proofs::Steps::words_pass_in_glyphs))]
+/// Subrs, glyphs and codes whose numbers or names are all different are the font's just as they are
+/// stated, in their order.
+#[tactic(auto, using(crate::proofs::DifferentKeys::different_stay))]
+pub fn different_keys_stay()
+    ensures { DifferentStay }
+{}
+
+/// A clear text in the usual form is read with just the values and codes that it states: plain keys
+/// with values of one token; a standard Encoding, or a custom one of `dup` code name `put` groups and
+/// `def`; tokens between; and the word `eexec`.
+#[tactic(auto, using(crate::proofs::ClearItemsRead::reads_usual_clear))]
+pub fn usual_clear_texts_are_read()
+    ensures { ReadsUsualClear }
+{}
+
+/// A private text in the usual form is read with just the keys, Subrs and glyphs that it states: plain
+/// keys with values of one token; Subrs and CharStrings whose RD, NP and ND are any words; tokens
+/// between; and the word `end`.
+#[tactic(auto, using(crate::proofs::PrivateRead::reads_usual_private))]
+pub fn usual_private_texts_are_read()
+    ensures { ReadsUsualPrivate }
+{}
+
+/// A font whose clear text and private text are in the usual form has the value of what both state.
+#[tactic(auto, using(crate::proofs::EntriesAlone::reads_usual_fonts))]
+pub fn usual_fonts_are_read()
+    ensures { ReadsUsualFonts }
+{}
+
+/// A small font, written out, is in the usual form.
+#[tactic(auto, using(crate::proofs::UsualExample::small_font_is_usual))]
+pub fn a_small_font_is_usual()
+    ensures { SmallFontIsUsual }
+{}
+
+/// Texts in the usual form with the same entries leave the same value: blanks, comments with the end of
+/// their line, and tokens that state nothing, wherever they stand between, change nothing.
+pub fn additions_change_nothing()
+    ensures clear { AdditionsInClear }
+    ensures private { AdditionsInPrivate }
+{}
+
+/// In any text, wherever a token is due, blanks and comments with the end of their line change nothing
+/// of what is stated.
+#[tactic(auto, using(crate::proofs::Steps::blanks_pass, crate::proofs::Steps::blanks_pass_in_private))]
+pub fn blanks_between_entries_pass()
+    ensures clear { BlanksPass }
+    ensures private { BlanksPassInPrivate }
+{}
+
+/// In any text, words between entries, with the blanks and comments in front of them, change nothing of
+/// what is stated: all but `eexec` in the clear text; but `eexec`, `def` and a `dup` that begins a group
+/// in a custom encoding; any in the private text, but `dup` among the Subrs and `end` among the glyphs.
+#[tactic(auto, using(crate::proofs::Steps::words_pass, crate::proofs::Steps::words_pass_in_codes, crate::proofs::Steps::dup_passes_in_codes, crate::proofs::Steps::words_pass_in_private, crate::proofs::Steps::words_pass_in_subrs, crate::proofs::Steps::words_pass_in_glyphs))]
 pub fn words_between_entries_pass()
     ensures clear { WordsPass }
     ensures codes { WordsPassInCodes }
+    ensures dup { DupPassesInCodes }
+    ensures private { WordsPassInPrivate }
     ensures subrs { WordsPassInSubrs }
     ensures glyphs { WordsPassInGlyphs }
 {}

@@ -21,7 +21,7 @@ gap_len c (b ∷ gap) s h =
     let parts = and_parts (c || (is_blank b || b == 37)) (is_gap (is_comment_after c b) gap) h in
     rw (parts.0, gap_len (is_comment_after c b) gap s parts.1) (omega arith)
 
-skip_gap : (gap s : List ℕ) → is_gap false gap ≡ true → token_of (gap ++ s) ≡ token_of s
+pub skip_gap : (gap s : List ℕ) → is_gap false gap ≡ true → token_of (gap ++ s) ≡ token_of s
 skip_gap gap s h = rw (gap_len false gap s h, drop-append-add gap s (blank_len false s)) refl
 
 pub reads_token : ReadsToken

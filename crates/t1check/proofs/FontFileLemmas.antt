@@ -112,9 +112,9 @@ module _ (bytes : List ℕ) (joined : JoinedText) (clear : ClearValue) (opened :
 
 -- A reason that is handed on.
 pub handed_on : {T : Type 0} (r : Result T Unread) (e : Unread) (read : Result FontValue Unread) → IsErrAnd r (λ y. y ≡ e) → IsUnread e read → IfErr r (λ unread. IsUnread unread read)
-handed_on (Ok x) e read h is = absurd h
-handed_on (Err y) e read h is = subst (λ u. IsUnread u read) (sym h) is
+handed_on (Ok x) e _ h is = absurd h
+handed_on (Err y) e there h is = subst (λ u. IsUnread u there) (sym h) is
 
 -- What is given of a font that was read is given of its file.
 pub along : (bytes : List ℕ) (font : FontValue) (after : ℕ) (P : Answer → Type 0) → font_in bytes ≡ Ok font → P (reported (drop after (report_of font))) → P (answer_to after (font_in bytes))
-along bytes font after P read holds = subst (λ r. P (answer_to after r)) (sym read) holds
+along bytes font after P is holds = subst (λ r. P (answer_to after r)) (sym is) holds

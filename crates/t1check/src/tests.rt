@@ -1,12 +1,15 @@
 mod command_line;
 mod devices;
+mod fonts;
+mod refusals;
 mod segments;
 
 use crate::asked::Options;
 use crate::running::run;
 use crate::status::Status;
-use std::alloc::Global;
+use std::alloc::{AllocError, Global};
 use t1_io::{In, Out};
+use t1_samples::{Charstrings, FontFile, Sample, TRAILER};
 
 /// What the program answers.
 #[derive(Drop)]
@@ -16,11 +19,21 @@ struct Answer {
     told: Vec<u8>,
 }
 
-/// A PFB file of one text segment `%!` and a line end, without an end segment.
-const NO_END: [u8; 9] = [0x80, 1, 3, 0, 0, 0, 0x25, 0x21, 0x0a];
-
-/// The report of [`NO_END`].
+/// The report of a PFB file without an end segment.
 const NO_END_REPORT: &str = "1: font file 0 F01 no end segment\n";
+
+/// A sound PFB file but for its end, with encrypted charstrings and the zeros behind its section.
+fn ended_by(alloc: Global, end: &[u8]) -> Result<Vec<u8>, AllocError> {
+    let sample = Sample::with_charstrings(alloc, Charstrings::Encrypted(4))?;
+    let clear = sample.clear()?;
+    let private = sample.private()?;
+    FontFile {
+        trailer: TRAILER,
+        end,
+        ..FontFile::of(clear.as_slice(), private.as_slice())
+    }
+    .pfb(alloc)
+}
 
 /// Runs the program on bytes, over devices that don't fail.
 fn answer_to(alloc: Global, bytes: &[u8], after: u64) -> Answer {

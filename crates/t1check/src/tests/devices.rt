@@ -1,4 +1,4 @@
-use super::{NO_END, NO_END_REPORT};
+use super::{NO_END_REPORT, ended_by};
 use crate::asked::{Options, UsageError};
 use crate::explaining::explain;
 use crate::running::run;
@@ -53,12 +53,13 @@ fn stops_at_the_limit_of_reads(rt: HostRuntime) {
 
 /// A byte a read and a byte a write: the same text.
 #[test]
-fn moves_a_byte_a_call(rt: HostRuntime) {
+fn moves_a_byte_a_call(rt: HostRuntime) -> Result<(), Fail> {
+    let file = ended_by(rt.alloc(), b"")?;
     let mut output = Vec::new(rt.alloc());
     let mut told = Vec::new(rt.alloc());
     let status = run(
         rt.alloc(),
-        &mut Fuse::source(In::new(&NO_END[..]), Limit::BytesPerCall(1)),
+        &mut Fuse::source(In::new(file.as_slice()), Limit::BytesPerCall(1)),
         &OPTIONS,
         &mut Fuse::sink(Out::new(&mut output), Limit::BytesPerCall(1)),
         &mut Out::new(&mut told),
@@ -66,17 +67,19 @@ fn moves_a_byte_a_call(rt: HostRuntime) {
     assert_eq!(rt; status, Status::Faults);
     assert_eq!(rt; output.as_slice(), NO_END_REPORT.as_bytes());
     assert_eq!(rt; told.len(), 0);
+    Ok(())
 }
 
 /// The output fails after each count of bytes, the last time at the flush.
 #[test]
-fn tells_a_failed_write(rt: HostRuntime) {
+fn tells_a_failed_write(rt: HostRuntime) -> Result<(), Fail> {
+    let file = ended_by(rt.alloc(), b"")?;
     for room in 0..NO_END_REPORT.len() + 1 {
         let mut output = Vec::new(rt.alloc());
         let mut told = Vec::new(rt.alloc());
         let status = run(
             rt.alloc(),
-            &mut In::new(&NO_END[..]),
+            &mut In::new(file.as_slice()),
             &OPTIONS,
             &mut Fuse::sink(Out::new(&mut output), Limit::Bytes(room)),
             &mut Out::new(&mut told),
@@ -93,17 +96,19 @@ fn tells_a_failed_write(rt: HostRuntime) {
             "after {room}"
         );
     }
+    Ok(())
 }
 
 /// The input fails at its first read, and at the one that would have found its end.
 #[test]
-fn tells_a_failed_read(rt: HostRuntime) {
+fn tells_a_failed_read(rt: HostRuntime) -> Result<(), Fail> {
+    let file = ended_by(rt.alloc(), b"")?;
     for calls in 0..2usize {
         let mut output = Vec::new(rt.alloc());
         let mut told = Vec::new(rt.alloc());
         let status = run(
             rt.alloc(),
-            &mut Fuse::source(In::new(&NO_END[..]), Limit::Calls(calls)),
+            &mut Fuse::source(In::new(file.as_slice()), Limit::Calls(calls)),
             &OPTIONS,
             &mut Out::new(&mut output),
             &mut Out::new(&mut told),
@@ -116,6 +121,7 @@ fn tells_a_failed_read(rt: HostRuntime) {
             "after {calls}"
         );
     }
+    Ok(())
 }
 
 #[test]
