@@ -1,30 +1,62 @@
 #!/bin/sh
-# Runs t1_seal's tests with their first allocation refused, then with their second, and so on, until no
-# test has an allocation left to refuse: ./bench/allocations.sh
-# Each test is a process of its own. One whose allocation was refused has to end with that error; one
-# that ends otherwise, as with another answer in place of it, fails the run.
+# Refuses allocations, the first in a first run, the second in a second, and so on, until a run has none
+# left to refuse: ./bench/allocations.sh
+# First in t1_seal's tests, each a process of its own, and then in a program that reads a font's file by
+# the calls of t1_seal and t1_font. What was refused an allocation has to end with that error; one that
+# ends otherwise, as with another answer in place of it, fails the script.
 set -eu
 top=$(cd "$(dirname "$0")/.." && pwd)
-cd "$top/crates/t1_seal"
-log=$(mktemp)
-trap 'rm -f "$log"' EXIT
+work=$(mktemp -d)
+trap 'rm -rf "$work"' EXIT
+log=$work/log
 
-count=1
-refused=0
-while ! rt try --test --fail-alloc "$count" >"$log" 2>&1; do
-    if ! grep -q '^tests: ' "$log"; then
-        cat "$log" >&2
-        exit 1
-    fi
-    failed=$(grep -c '^test .* FAILED$' "$log" || true)
-    told=$(grep -cE '^ +error: (Memory|AllocError|AllocFailed \{ \.\. \})$' "$log" || true)
-    if [ "$failed" -eq 0 ] || [ "$failed" -ne "$told" ]; then
-        cat "$log" >&2
-        echo "allocation $count: a test ended otherwise than with the refusal" >&2
-        exit 1
-    fi
-    echo "allocation $count refused: $failed tests ended with that error"
-    refused=$((refused + failed))
-    count=$((count + 1))
-done
-echo "allocation $count: no test asks for it; $refused refusals in all, each told"
+# Shows what a run told, and why it isn't right.
+fail() {
+    cat "$log" >&2
+    echo "allocation $1: $2" >&2
+    exit 1
+}
+
+# The tests of t1_seal.
+refuse_in_tests() {
+    cd "$top/crates/t1_seal"
+    count=1
+    refused=0
+    while ! rt try --test --fail-alloc "$count" >"$log" 2>&1; do
+        grep -q '^tests: ' "$log" || fail "$count" "no test ran"
+        failed=$(grep -c '^test .* FAILED$' "$log" || true)
+        told=$(grep -cE '^ +error: (Memory|AllocError|AllocFailed \{ \.\. \})$' "$log" || true)
+        if [ "$failed" -eq 0 ] || [ "$failed" -ne "$told" ]; then
+            fail "$count" "a test ended otherwise than with the refusal"
+        fi
+        echo "t1_seal, allocation $count refused: $failed tests ended with that error"
+        refused=$((refused + failed))
+        count=$((count + 1))
+    done
+    echo "t1_seal, allocation $count: no test asks for it; $refused refusals in all, each told"
+}
+
+# The reading of a font, in a folder of its own.
+refuse_in_reading() {
+    mkdir -p "$work/crates/reading/src"
+    cp -R "$top/crates/t1_seal" "$top/crates/t1_scan" "$top/crates/t1_font" "$work/crates/"
+    rm -rf "$work"/crates/*/out
+    cp "$top/bench/allocations/main.txt" "$work/crates/reading/src/main.rt"
+    {
+        grep -E '^t1_(seal|scan):' "$top/crates.txt"
+        grep '^t1_font:' "$top/crates.txt" | sed 's/ t1_samples//'
+        echo 'reading: t1_seal t1_font'
+    } >"$work/crates.txt"
+    cd "$work/crates/reading"
+    count=1
+    while ! rt try --fail-alloc "$count" >"$log" 2>&1; do
+        call=$(sed -nE 's/^Error: (Join|Clear|Section|Private)\(Memory\)$/\1/p' "$log")
+        [ -n "$call" ] || fail "$count" "the reading ended otherwise than with the refusal"
+        echo "t1_font, allocation $count refused: told by the call $call"
+        count=$((count + 1))
+    done
+    echo "t1_font, allocation $count: the reading asks for none more"
+}
+
+refuse_in_tests
+refuse_in_reading

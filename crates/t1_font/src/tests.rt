@@ -1,131 +1,194 @@
-use crate::{Refusal, read_clear, read_font};
+//! What proofs don't show: that calls succeed, and that the definitions say what the standard and this
+//! program's own reading of fonts mean. Expected values are worked out by hand.
+
+mod charstrings;
+mod clear_texts;
+mod encodings;
+mod files;
+mod limits;
+mod private_texts;
+mod readers;
+mod refusals;
+mod sections;
+mod subrs;
+mod values;
+
+use crate::{Encoding, Entry, Font, Key, Refusal, read_clear, read_font};
 use std::alloc::{AllocError, Global};
 use std::test::Fail;
-use t1_seal::Joined;
+use t1_seal::{Joined, join, open_eexec};
 
-const CLEAR: &[u8] =
-    b"%!PS-AdobeFont-1.0: T\n/FontType 1 def\n/PaintType 0 def\n/Encoding StandardEncoding def\ncurrentfile eexec\n";
+/// A clear text that states nothing.
+const NO_CLEAR: &str = "%!\neexec";
 
-/// The bytes of a file that an end segment closes.
+/// A private text that states nothing.
+const NO_PRIVATE: &str = "/CharStrings 0 dict dup begin end";
+
+/// The joined bytes of a file that an end segment closes.
 fn joined(alloc: Global, text: &[u8]) -> Result<Joined, AllocError> {
     Ok(Joined {
         bytes: Vec::from_slice(alloc, text)?,
         pfb: true,
         end_segment: true,
-        trailing: true,
+        trailing: false,
     })
 }
 
+/// The two texts of a font.
+#[derive(Drop)]
+struct Texts {
+    clear: Joined,
+    private: Vec<u8>,
+}
+
+impl Texts {
+    fn of(alloc: Global, clear: &[u8], private: &[u8]) -> Result<Texts, AllocError> {
+        Ok(Texts {
+            clear: joined(alloc, clear)?,
+            private: Vec::from_slice(alloc, private)?,
+        })
+    }
+
+    /// The texts of a font's file.
+    fn of_file(alloc: Global, file: &[u8]) -> Result<Texts, Fail> {
+        let clear = join(alloc, file)?;
+        let after = read_clear(alloc, &clear)?.after();
+        let section = clear.bytes.get(after..).ok_or("the section")?;
+        let private = open_eexec(alloc, section)?;
+        Ok(Texts { clear, private })
+    }
+
+    fn font(&self, alloc: Global) -> Result<Font<'_>, Refusal> {
+        let clear = read_clear(alloc, &self.clear)?;
+        read_font(alloc, clear, self.private.as_slice())
+    }
+
+    /// Whether a glyph has that charstring, or isn't there.
+    fn has_glyph(&self, alloc: Global, name: &[u8], bytes: Option<&[u8]>) -> Result<bool, Refusal> {
+        let font = self.font(alloc)?;
+        Ok(font.glyphs().get(&name).copied() == bytes)
+    }
+
+    /// Whether that glyph stands at a place, or none does.
+    fn has_glyph_at(
+        &self,
+        alloc: Global,
+        place: usize,
+        glyph: Option<(&[u8], &[u8])>,
+    ) -> Result<bool, Refusal> {
+        let font = self.font(alloc)?;
+        let found = font.glyphs().get_index(place);
+        Ok(found.map(|(name, bytes)| (*name, *bytes)) == glyph)
+    }
+
+    fn glyph_twice(&self, alloc: Global, place: usize) -> Result<bool, Refusal> {
+        let font = self.font(alloc)?;
+        Ok(font.glyph_twice(place))
+    }
+
+    /// Whether a Subr has that charstring, or isn't there.
+    fn has_subr(&self, alloc: Global, number: u32, bytes: Option<&[u8]>) -> Result<bool, Refusal> {
+        let font = self.font(alloc)?;
+        Ok(font.subr(number) == bytes)
+    }
+
+    fn subr_twice(&self, alloc: Global, number: u32) -> Result<bool, Refusal> {
+        let font = self.font(alloc)?;
+        Ok(font.subr_twice(number))
+    }
+
+    /// Whether a code has that name, or none.
+    fn has_code(&self, alloc: Global, code: u32, name: Option<&[u8]>) -> Result<bool, Refusal> {
+        let font = self.font(alloc)?;
+        Ok(font.encoded(code) == name)
+    }
+
+    /// Whether a key has that value.
+    fn has_value(&self, alloc: Global, key: Key, value: Value) -> Result<bool, Refusal> {
+        let font = self.font(alloc)?;
+        Ok(is_value(&font.entry(key), value))
+    }
+
+    /// The form of the Encoding.
+    fn encoding(&self, alloc: Global) -> Result<Encoding, Refusal> {
+        let font = self.font(alloc)?;
+        Ok(font.encoding())
+    }
+
+    fn counts(&self, alloc: Global) -> Result<Counts, Refusal> {
+        let font = self.font(alloc)?;
+        Ok(Counts {
+            glyphs: font.glyphs().len(),
+            subr_size: font.subr_size(),
+            len_iv: font.len_iv(),
+        })
+    }
+
+    fn marks(&self, alloc: Global) -> Result<Marks, Refusal> {
+        let font = self.font(alloc)?;
+        Ok(Marks {
+            no_end: font.no_end(),
+            extra: font.extra(),
+            bad_code: font.bad_code(),
+        })
+    }
+}
+
+/// What a font has of numbers.
+#[derive(Clone, Copy, Debug, PartialEq, Eq)]
+struct Counts {
+    glyphs: usize,
+    subr_size: u32,
+    len_iv: i8,
+}
+
+/// What a font has of marks.
+#[derive(Clone, Copy, Debug, PartialEq, Eq)]
+struct Marks {
+    no_end: bool,
+    extra: bool,
+    bad_code: bool,
+}
+
+/// The refusal of what was read, if it was refused. Want of memory is an error.
+fn refusal_of<T: Drop>(read: Result<T, Refusal>) -> Result<Option<Refusal>, Refusal> {
+    match read {
+        Ok(_) => Ok(None),
+        Err(Refusal::Memory) => Err(Refusal::Memory),
+        Err(refusal) => Ok(Some(refusal)),
+    }
+}
+
 /// Why a clear text isn't read, if it isn't.
-fn clear_refusal(alloc: Global, text: &[u8]) -> Result<Option<Refusal>, AllocError> {
+fn clear_refusal(alloc: Global, text: &[u8]) -> Result<Option<Refusal>, Refusal> {
     let joined = joined(alloc, text)?;
-    Ok(read_clear(alloc, &joined).err())
+    refusal_of(read_clear(alloc, &joined))
 }
 
 /// Why a private text isn't read, if it isn't.
-fn private_refusal(alloc: Global, text: &[u8]) -> Result<Option<Refusal>, Fail> {
-    let joined = joined(alloc, CLEAR)?;
-    let clear = read_clear(alloc, &joined)?;
-    Ok(read_font(alloc, clear, text).err())
+fn private_refusal(alloc: Global, text: &[u8]) -> Result<Option<Refusal>, Refusal> {
+    let texts = Texts::of(alloc, NO_CLEAR.as_bytes(), text)?;
+    refusal_of(texts.font(alloc))
 }
 
-const PRIVATE: &[u8] =
-    b"dup /Private 8 dict dup begin\n/password 5839 def\n/MinFeature {16 16} def\n/lenIV -1 def\n/Subrs 6 array\ndup 5 1 RD \x0B NP\nND\n2 index /CharStrings 4 dict dup begin\n/.notdef 5 RD \x8B\xF8\x88\x0D\x0E ND\n/A 0 RD  ND\n/A 1 RD \x0E ND\nend\n";
-
-/// A glyph that is given twice keeps its place and takes the later bytes.
-#[test]
-fn glyphs_and_subrs_are_read(rt: HostRuntime) -> Result<(), Fail> {
-    let joined = joined(rt.alloc(), CLEAR)?;
-    let clear = read_clear(rt.alloc(), &joined)?;
-    assert_eq!(rt; clear.after(), CLEAR.len() - 1);
-    let font = read_font(rt.alloc(), clear, PRIVATE)?;
-    let bytes = font.glyphs().get(&b"A".as_slice()).copied();
-    assert!(rt; bytes.ok_or("glyph A")? == b"\x0E".as_slice());
-    assert!(rt; font.glyph_twice(1));
-    assert!(rt; font.subr(5).ok_or("Subr 5")? == b"\x0B".as_slice());
-    assert_eq!(rt; font.len_iv(), -1);
-    Ok(())
+/// What an entry is to be. Numbers are in units of 10^-9.
+#[derive(Clone, Copy, Debug)]
+enum Value {
+    Absent,
+    Number(i64),
+    /// How many numbers there are, and the first 16.
+    Numbers(usize, &'static [i64]),
+    Other,
 }
 
-/// The later name of a code counts, and a code that isn't whole from 0 to 255 sets nothing.
-#[test]
-fn a_custom_encoding_is_read(rt: HostRuntime) -> Result<(), Fail> {
-    let text = b"%!\n/Encoding 256 array\ndup 65 /A put\ndup 65 /C put\ndup 300 /B put def\neexec";
-    let joined = joined(rt.alloc(), text)?;
-    let clear = read_clear(rt.alloc(), &joined)?;
-    let font = read_font(rt.alloc(), clear, b"/CharStrings 0 dict dup begin end")?;
-    assert!(rt; font.encoded(65).ok_or("code 65")? == b"C".as_slice());
-    assert!(rt; font.encoded(66).is_none());
-    assert!(rt; font.bad_code());
-    Ok(())
-}
-
-#[test]
-fn clear_texts_are_refused(rt: HostRuntime) -> Result<(), Fail> {
-    for (text, refusal) in [
-        ("% eexec", Some(Refusal::NoEexec)),
-        ("%!\n/FontType eexec", Some(Refusal::NoEexec)),
-        ("%!\n/FontType /WeightVector eexec", None),
-        (
-            "%!\n/Encoding /WeightVector eexec",
-            Some(Refusal::MultipleMaster),
-        ),
-        ("%!\n/Encoding 256 array /WeightVector eexec", None),
-        ("%!\n/Encoding 256 (", Some(Refusal::Unclosed)),
-    ] {
-        assert_eq!(rt;
-            clear_refusal(rt.alloc(), text.as_bytes())?,
-            refusal,
-            "{text}"
-        );
+fn is_value(entry: &Entry, value: Value) -> bool {
+    match (entry, value) {
+        (Entry::Absent, Value::Absent) => true,
+        (Entry::Number(number), Value::Number(wanted)) => *number == wanted,
+        (Entry::Numbers { count, first }, Value::Numbers(wanted, numbers)) => {
+            *count == wanted && first.as_slice() == numbers
+        }
+        (Entry::Other, Value::Other) => true,
+        _ => false,
     }
-    Ok(())
-}
-
-#[test]
-fn private_texts_are_refused(rt: HostRuntime) -> Result<(), Fail> {
-    for (text, refusal) in [
-        ("/lenIV 65 def", Refusal::BadLenIv),
-        ("/lenIV", Refusal::BadLenIv),
-        ("/Subrs [] /Subrs 0 array", Refusal::SecondSubrs),
-        ("/Subrs 65536 x", Refusal::PastLimit),
-        ("/Subrs 65536.5", Refusal::BadSubrs),
-        ("/Subrs {}", Refusal::BadSubrs),
-        ("/Subrs 1 array dup 65535 -1", Refusal::PastLimit),
-        ("/Subrs 1 array dup 0 65536 RD", Refusal::PastLimit),
-        ("/Subrs 1 array dup 0 2 RD a", Refusal::BadSubrs),
-        ("/Subrs 1 array dup", Refusal::BadCharStrings),
-        ("/CharStrings 1 dict dup end", Refusal::BadCharStrings),
-        (
-            "/CharStrings 1 dict dup begin /A 0 RD  ND",
-            Refusal::BadCharStrings,
-        ),
-        ("/CharStrings 1 dict dup begin (", Refusal::Unclosed),
-    ] {
-        assert_eq!(rt;
-            private_refusal(rt.alloc(), text.as_bytes())?,
-            Some(refusal),
-            "{text}"
-        );
-    }
-    Ok(())
-}
-
-#[test]
-fn the_words_of_a_refusal(rt: HostRuntime) -> Result<(), Fail> {
-    for (refusal, words) in [
-        (Refusal::NoEexec, "no eexec"),
-        (Refusal::Unclosed, "unclosed or too deeply nested token"),
-        (Refusal::BadSubrs, "Subrs malformed"),
-        (Refusal::BadCharStrings, "CharStrings malformed or absent"),
-        (Refusal::BadLenIv, "lenIV out of range"),
-        (Refusal::PastLimit, "count past its limit"),
-        (Refusal::SecondSubrs, "second Subrs"),
-        (Refusal::MultipleMaster, "multiple master font"),
-        (Refusal::Memory, "out of memory"),
-    ] {
-        let text = format!(in rt.alloc(); "{refusal}")?;
-        assert_eq!(rt; text.as_str(), words);
-    }
-    Ok(())
 }

@@ -1,5 +1,9 @@
 //! Font files: Technical Note 5040, the IBM PC format, and Type 1 Font Format 1.1, chapter 7.
 
+ghost use Rattle.std.specs.Prelude.{◌≡◌, ◌++◌, IfOk};
+ghost use Rattle.t1_seal.specs.Cipher.{eexec_start};
+ghost use Rattle.t1_seal.specs.CipherLaws.{encrypted};
+
 use crate::cipher::eexec;
 use std::alloc::{AllocError, Global};
 
@@ -42,7 +46,10 @@ pub struct FontFile<'a> {
 
 impl<'a> FontFile<'a> {
     /// A file of these texts: four zero bytes are discarded, no trailer, an end segment.
-    pub fn of(clear: &'a [u8], private: &'a [u8]) -> FontFile<'a> {
+    pub fn of(clear: &'a [u8], private: &'a [u8]) -> FontFile<'a>
+        ensures clear { result.clear.now ≡ clear.now }
+        ensures private { result.private.now ≡ private.now }
+    {
         FontFile {
             clear,
             private,
@@ -66,7 +73,10 @@ impl<'a> FontFile<'a> {
     }
 
     /// The PFA file whose section is binary.
-    pub fn pfa(&self, alloc: Global) -> Result<Vec<u8>, AllocError> {
+    pub fn pfa(&self, alloc: Global) -> Result<Vec<u8>, AllocError>
+        ensures { IfOk result (λ file. file.items ≡
+            (self.now.clear.now ++ encrypted eexec_start (self.now.discarded ++ self.now.private.now)) ++ self.now.trailer.now) }
+    {
         let section = eexec(alloc, self.discarded, self.private)?;
         let mut file = Vec::from_slice(alloc, self.clear)?;
         file.extend_from_slice(section.as_slice())?;
