@@ -9,7 +9,7 @@ use Rattle.t1check.specs.declared.status.Status.{Status}
 use Rattle.t1check.specs.declared.status.Status.TheVariants.{Refused}
 use Rattle.t1check.specs.declared.unread.Unread.{Unread}
 use Rattle.t1check.specs.declared.unread.Unread.TheVariants.{Memory, TooLarge}
-use Rattle.t1check.specs.Answers.{Answer, Gave, answer_of, answer_to, refused}
+use Rattle.t1check.specs.Answers.{Answered, refused}
 use Rattle.t1check.specs.FontFiles.{IsUnread, font_in, font_of}
 use Rattle.t1check.specs.Refusals.{told_of}
 
@@ -26,40 +26,25 @@ font_of-large input large =
     rw exceeds refl
 
 -- all the bytes of a source, few enough
-pub answer_of-read : (options : Options) (old new : Option (List ℕ)) (bytes : List ℕ) → Consumes old new bytes → IsAtEnd new → length bytes ≤ 16777216
-    → IfSome old (λ input. answer_of options input ≡ answer_to options.after (font_in bytes))
-unfolding answer_of
-answer_of-read options None new bytes consumed end small = tt
-answer_of-read options (Some input) None bytes consumed end small = absurd consumed
-answer_of-read options (Some input) (Some rest) bytes consumed end small =
+pub font_of-read : (P : Result FontValue Unread → Type 0) (old new : Option (List ℕ)) (bytes : List ℕ) → Consumes old new bytes → IsAtEnd new → length bytes ≤ 16777216
+    → P (font_in bytes) → IfSome old (λ input. P (font_of input))
+font_of-read P None new bytes consumed end small holds = tt
+font_of-read P (Some input) None bytes consumed end small holds = absurd consumed
+font_of-read P (Some input) (Some rest) bytes consumed end small holds =
     let same : input ≡ bytes = consumed ∙ ap (λ l. bytes ++ l) end ∙ append-nil bytes in
-    rw same (ap (answer_to options.after) (font_of-small bytes small))
+    subst P (sym (ap font_of same ∙ font_of-small bytes small)) holds
 
 -- too many bytes of a source
-pub answer_of-unread : (options : Options) (old new : Option (List ℕ)) (bytes : List ℕ) → Consumes old new bytes → 16777216 < length bytes
-    → IfSome old (λ input. answer_of options input ≡ refused (told_of TooLarge))
-unfolding answer_of
-answer_of-unread options None new bytes consumed large = tt
-answer_of-unread options (Some input) None bytes consumed large = absurd consumed
-answer_of-unread options (Some input) (Some rest) bytes consumed large =
-    ap (answer_to options.after) (font_of-large input (omega (arith, ap length consumed, length-append bytes rest)))
-
--- what holds of an answer holds of it by another name
-pub IfSome-along : (o : Option (List ℕ)) (f : List ℕ → Answer) (answer : Answer) (P : Answer → Type 0) → IfSome o (λ input. f input ≡ answer) → P answer
-    → IfSome o (λ input. P (f input))
-IfSome-along None f answer P same holds = tt
-IfSome-along (Some input) f answer P same holds = subst P (sym same) holds
+pub font_of-unread : (P : Result FontValue Unread → Type 0) (old new : Option (List ℕ)) (bytes : List ℕ) → Consumes old new bytes → 16777216 < length bytes
+    → P (Err TooLarge) → IfSome old (λ input. P (font_of input))
+font_of-unread P None new bytes consumed large holds = tt
+font_of-unread P (Some input) None bytes consumed large holds = absurd consumed
+font_of-unread P (Some input) (Some rest) bytes consumed large holds =
+    subst P (sym (font_of-large input (omega (arith, ap length consumed, length-append bytes rest)))) holds
 
 pub ≢true-false : (b : Bool) → (b ≡ true → ⊥) → b ≡ false
 ≢true-false true never = absurd (never refl)
 ≢true-false false never = refl
-
--- all the bytes of a source, few enough, which aren't read as a font
-pub answer_of-refused : (options : Options) (old new : Option (List ℕ)) (bytes : List ℕ) (unread : Unread) → Consumes old new bytes → IsAtEnd new → length bytes ≤ 16777216
-    → font_in bytes ≡ Err unread → IfSome old (λ input. answer_of options input ≡ refused (told_of unread))
-answer_of-refused options None new bytes unread consumed end small read = tt
-answer_of-refused options (Some input) new bytes unread consumed end small read =
-    answer_of-read options (Some input) new bytes consumed end small ∙ ap (answer_to options.after) read
 
 -- a reason that isn't want of memory is that of the bytes
 pub reason : (unread : Unread) (read : Result FontValue Unread) → (unread ≡ Memory → ⊥) → IsUnread unread read → read ≡ Err unread
@@ -67,5 +52,7 @@ reason unread read never (inl memory) = absurd (never memory)
 reason unread read never (inr is) = is
 
 -- a refusal writes nothing and tells its line
-pub gave_refusal : (line : List ℕ) (result : Status) (out told_old told_new : Option (List ℕ)) → result ≡ Refused → Appends told_old told_new line → Gave (refused line) result out out told_old told_new
-gave_refusal line result out told_old told_new status told = record { status = status; output = Appends-nil out; told = told }
+pub gave_refusal : (options : Options) (unread : Unread) (result : Status) (out told_old told_new : Option (List ℕ)) → result ≡ Refused → Appends told_old told_new (told_of unread)
+    → Answered options (Err unread) result out out told_old told_new
+gave_refusal options unread result out told_old told_new status told =
+    (refused (told_of unread), (refl, record { status = status; output = Appends-nil out; told = told }))

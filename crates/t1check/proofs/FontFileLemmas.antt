@@ -15,8 +15,6 @@ use Rattle.t1_font.specs.declared.refusal.Refusal.{Refusal}
 use Rattle.t1_font.specs.declared.refusal.Refusal.TheVariants as refusal
 use Rattle.t1check.specs.declared.unread.Unread.{Unread}
 use Rattle.t1check.specs.declared.unread.Unread.TheVariants.{Memory}
-use Rattle.t1check.specs.Answers.{Answer, answer_to, reported}
-use Rattle.t1check.specs.Report.{report_of}
 use Rattle.t1check.specs.FontFiles.{IsUnread, as_unread, clear_next, font_in, marks_in, of_refusal, of_seal_error, private_next, section_next}
 
 -- The error is the one that was read, or memory ran out.
@@ -115,6 +113,6 @@ pub handed_on : {T : Type 0} (r : Result T Unread) (e : Unread) (read : Result F
 handed_on (Ok x) e _ h is = absurd h
 handed_on (Err y) e there h is = subst (λ u. IsUnread u there) (sym h) is
 
--- What is given of a font that was read is given of its file.
-pub along : (bytes : List ℕ) (font : FontValue) (after : ℕ) (P : Answer → Type 0) → font_in bytes ≡ Ok font → P (reported (drop after (report_of font))) → P (answer_to after (font_in bytes))
-along bytes font after P is holds = subst (λ r. P (answer_to after r)) (sym is) holds
+-- What is so of the answer to a font that was read is so of the answer to its file.
+pub along : (bytes : List ℕ) (font : FontValue) (P : Result FontValue Unread → Type 0) → font_in bytes ≡ Ok font → P (Ok font) → P (font_in bytes)
+along bytes font P is holds = subst P (sym is) holds

@@ -1,9 +1,7 @@
 pub mod AnswerLemmas
 pub mod CommandLemmas
-pub mod DecimalLemmas
 pub mod FontFileLemmas
 pub mod InputLemmas
-pub mod OneReport
 pub mod ReportLemmas
 pub mod SingleFault
 pub mod ValueLemmas

@@ -1,5 +1,5 @@
 -- The command line: its arguments as clap sees them, and the options that words give by clap's rules.
-use Rattle.std.specs.Prelude.{◌≡◌, ℕ, List, [], ◌∷◌, Option, None, Some, option_map, codes, string_bytes}
+use Rattle.std.specs.Prelude.{◌≡◌, ℕ, List, [], ◌∷◌, Option, None, Some, IfSome, IsSome, option_map, codes, string_bytes}
 use Rattle.std.specs.List.{Any}
 use Rattle.std.specs.Str.Parse.{IsNumeral, without_leading_plus, digits_value}
 use Rattle.clap.specs.Words.{App, IsUnsignedIn, Rule, Text, fault_of, first_of, matches_of, new_app, new_rule, with_rule}
@@ -17,12 +17,20 @@ after_rule = record (new_rule (codes "after")) {
   parser = Some (parser.Unsigned 0 18446744073709551615);
 }
 
+-- --max M, M a number of 64 bits
+abbrev pub max_rule : Rule
+max_rule = record (new_rule (codes "max")) {
+  long = Some (codes "max");
+  value_names = 1;
+  parser = Some (parser.Unsigned 0 18446744073709551615);
+}
+
 -- FILE
 abbrev pub file_rule : Rule
 file_rule = record (new_rule (codes "file")) { value_names = 1 }
 
 unfoldable pub t1check : App
-t1check = with_rule (with_rule (new_app (codes "t1check")) after_rule) file_rule
+t1check = with_rule (with_rule (with_rule (new_app (codes "t1check")) after_rule) max_rule) file_rule
 
 -- The id of an argument whose value is a number of 64 bits.
 abbrev pub IsNumberArgument : Text → Type 0
@@ -33,14 +41,24 @@ abbrev pub IsTextOfNumber : Option Text → Type 0
 IsTextOfNumber None = Unit {0}
 IsTextOfNumber (Some text) = IsUnsignedIn 0 18446744073709551615 text
 
--- A number as clap reads it: digits, with a plus before them or without; a missing one is 0.
-abbrev pub IsNumber : Option Text → ℕ → Type 0
-IsNumber None n = n ≡ 0
-IsNumber (Some text) n = IsNumeral 10 (without_leading_plus text) × (n ≡ digits_value 10 (without_leading_plus text))
+-- A number as clap reads it: digits, with a plus before them or without.
+abbrev pub IsNumber : Text → ℕ → Type 0
+IsNumber text n = IsNumeral 10 (without_leading_plus text) × (n ≡ digits_value 10 (without_leading_plus text))
+
+-- What was given is a number, or there is none.
+abbrev pub AreNumber : Option Text → Option ℕ → Type 0
+AreNumber None number = number ≡ None
+AreNumber (Some text) number = IfSome number (IsNumber text) × IsSome number
+
+-- A missing number is 0.
+abbrev pub IsNumberOrZero : Option Text → ℕ → Type 0
+IsNumberOrZero None n = n ≡ 0
+IsNumberOrZero (Some text) n = IsNumber text n
 
 -- The options are those that the words give.
 pub record AreGiven (words : List Text) (options : Options) : Type 0 where
-  pub after : IsNumber (first_of (codes "after") (matches_of t1check words)) options.after
+  pub after : IsNumberOrZero (first_of (codes "after") (matches_of t1check words)) options.after
+  pub max : AreNumber (first_of (codes "max") (matches_of t1check words)) options.max
   pub file : option_map string_bytes options.file ≡ first_of (codes "file") (matches_of t1check words)
 
 -- The first fault that clap finds in the words is the request for help.

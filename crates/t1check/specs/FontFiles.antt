@@ -1,6 +1,6 @@
 -- A font's file: the font that its bytes are read as, or the first reason why they aren't (Type 1 Font
 -- Format 1.1, chapters 2, 7; Technical Note 5040).
-use Rattle.std.specs.Prelude.{◌≡◌, ◌⊎◌, ℕ, ◌&&◌, not, nat_lt, if◌then◌else◌, List, [], length, Result, Ok, Err}
+use Rattle.std.specs.Prelude.{◌≡◌, ◌⊎◌, ℕ, ◌&&◌, not, nat_lt, if◌then◌else◌, List, length, Result, Ok, Err}
 use Rattle.t1_seal.specs.Segments.{JoinedText, joined_of}
 use Rattle.t1_seal.specs.Eexec.{private_text_of}
 use Rattle.t1_seal.specs.declared.errors.SealError.{SealError}

@@ -6,5 +6,3 @@ pub mod FontFiles
 pub mod Input
 pub mod Lines
 pub mod Refusals
-pub mod Report
-pub mod Rules

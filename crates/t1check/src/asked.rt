@@ -9,6 +9,8 @@ use thiserror::Error;
 pub struct Options {
     /// How many lines of the report are left out at its front.
     pub after: u64,
+    /// How many of the other lines are written at most; all of them without it.
+    pub max: Option<u64>,
     /// The name of the font's file; without it standard input is read.
     pub file: Option<String>,
 }

@@ -1,7 +1,7 @@
 ghost use Rattle.std.specs.Prelude.{◌≡◌, ℕ, List, true, map, option_map, string_bytes, IfOk, IfErr};
 ghost use Rattle.clap.specs.Words.{FailsBy, app_of, fault_of, first_value, found_of, kind_of, matches_of, rows_of, takes};
 ghost use Rattle.clap.specs.declared.error.kind.ErrorKind.TheVariants.{OutOfMemory, DisplayHelp};
-ghost use Rattle.t1check.specs.CommandLine.{t1check, AreGiven, IsNumber, IsNumberArgument, IsTextOfNumber, IsHelp, IsHelpOrMemory, AsksHelp};
+ghost use Rattle.t1check.specs.CommandLine.{t1check, AreGiven, AreNumber, IsNumberArgument, IsTextOfNumber, IsHelp, IsHelpOrMemory, AsksHelp};
 
 use crate::asked::{Options, UsageError};
 use clap::error::ErrorKind;
@@ -19,7 +19,7 @@ Exit status:
   3  the words weren't taken, a file or device failed, or memory ran out
 
 Example:
-  t1check --after 20 font.pfb    writes the report from its line 21 on";
+  t1check --after 20 --max 10 font.pfb    writes the lines 21 to 30 of the report";
 
 /// Reads the words of the command line, the program's name first.
 pub fn options<S: AsStr>(alloc: Global, words: &[S]) -> Result<Options, UsageError>
@@ -32,19 +32,20 @@ pub fn options<S: AsStr>(alloc: Global, words: &[S]) -> Result<Options, UsageErr
         Ok(matches) => matches,
         Err(error) => return Err(usage_error(alloc, &error)),
     };
-    let after = number(matches.get_str("after"));
+    let after = number(matches.get_str("after")).unwrap_or(0);
+    let max = number(matches.get_str("max"));
     let file = owned(alloc, matches.get_str("file"))?;
-    Ok(Options { after, file })
+    Ok(Options { after, max, file })
 }
 
-/// The number that an argument was given; 0 where it wasn't there.
-fn number(text: Option<&str>) -> u64
+/// The number that an argument was given.
+fn number(text: Option<&str>) -> Option<u64>
     requires { IsTextOfNumber (option_map (λ s. s.now) text) }
-    ensures { IsNumber (option_map (λ s. s.now) text.entry) result }
+    ensures { AreNumber (option_map (λ s. s.now) text.entry) result }
 {
     match text {
-        Some(text) => text.parse::<u64>().unwrap(),
-        None => 0,
+        Some(text) => Some(text.parse::<u64>().unwrap()),
+        None => None,
     }
 }
 
@@ -66,6 +67,11 @@ fn command<'a>(alloc: Global) -> Result<Command<'a>, AllocError>
         .value_name("K")
         .help("Leaves the first K lines of the report out [default: 0]")
         .value_parser(value_parser!(u64));
+    let max = Arg::new(alloc, "max")
+        .long("max")
+        .value_name("M")
+        .help("Writes at most M of the other lines")
+        .value_parser(value_parser!(u64));
     let file = Arg::new(alloc, "file")
         .value_name("FILE")
         .help("The font's file; without it standard input is read");
@@ -73,6 +79,7 @@ fn command<'a>(alloc: Global) -> Result<Command<'a>, AllocError>
         .about(ABOUT)
         .after_help(AFTER_HELP)
         .arg(after)?
+        .arg(max)?
         .arg(file)
 }
 

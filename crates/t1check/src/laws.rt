@@ -1,9 +1,8 @@
 //! Laws above the definitions: each is the contract of a function without a body.
 
-ghost use Rattle.t1check.specs.Report.{HasReport, HasNoOtherReport};
+ghost use Rattle.t1check.specs.Answers.{HasNoOtherAnswer};
 
-/// A font file has one report: strictly rising by place, exactly the violations, numbered from 1.
-pub fn one_report()
-    ensures there { HasReport }
-    ensures alone { HasNoOtherReport }
+/// The options and the bytes of a file decide the answer.
+pub fn a_file_has_one_answer()
+    ensures { HasNoOtherAnswer }
 {}

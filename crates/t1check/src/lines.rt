@@ -1,62 +1,49 @@
-ghost use Rattle.std.specs.Prelude.{◌≡◌, true, OnOk, OnErr};
-ghost use Rattle.std.specs.List.{All};
+ghost use Rattle.std.specs.Prelude.{◌≡◌, true, drop, OnOk, OnErr};
+ghost use Rattle.std.specs.List.{All, flat_map};
 ghost use Rattle.std.specs.Io.KnownBytes.{Appends};
 ghost use Rattle.t1_io.specs.Devices.{AppendsFront};
-ghost use Rattle.t1check.specs.Lines.{key_text_of, line_of, lines_of, IsInFont};
+ghost use Rattle.t1_report.specs.Faults.{fault_value};
+ghost use Rattle.t1_report.specs.Lines.{IsInFont};
+ghost use Rattle.t1check.specs.Answers.{at_most};
+ghost use Rattle.t1check.specs.Lines.{fault_line};
 
-use crate::decimal::Decimal;
-use crate::fault::Fault;
-use crate::rule::{rule_code, rule_text};
-use t1_io::{Broken, Sink, put_parts};
+use t1_font::Font;
+use t1_io::{Broken, Sink};
+use t1_report::{Fault, write_fault};
 
 /// Writes the lines of faults, one after another. After a failure a front of them went out.
-pub fn write_faults<W: Sink>(sink: &mut W, faults: &[Fault]) -> Result<(), Broken>
-    requires { All IsInFont faults.now }
-    ensures all { OnOk result (Appends (W.written sink.old) (W.written sink.new) (lines_of faults.now)) }
-    ensures front { OnErr result (AppendsFront (W.written sink.old) (W.written sink.new) (lines_of faults.now)) }
+pub fn write_faults<W: Sink>(sink: &mut W, font: &Font<'_>, faults: &[Fault]) -> Result<(), Broken>
+    requires { All (λ fault. IsInFont font.now (fault_value fault)) faults.now }
+    ensures all { OnOk result (Appends (W.written sink.old) (W.written sink.new) (flat_map (fault_line font.now) faults.now)) }
+    ensures front { OnErr result (AppendsFront (W.written sink.old) (W.written sink.new) (flat_map (fault_line font.now) faults.now)) }
     ensures kept { OnOk result (W.failed sink.new ≡ W.failed sink.old) }
     ensures broken { OnErr result (W.failed sink.new ≡ true) }
 {
     for fault in faults {
-        write_fault(sink, fault)?;
+        write_fault(sink, font, fault)?;
     }
     Ok(())
 }
 
-/// Writes the line of a fault: `1: font file 0 F01 no end segment`.
-fn write_fault<W: Sink>(sink: &mut W, fault: &Fault) -> Result<(), Broken>
-    requires { IsInFont fault.now }
-    ensures all { OnOk result (Appends (W.written sink.old) (W.written sink.new) (line_of fault.now)) }
-    ensures front { OnErr result (AppendsFront (W.written sink.old) (W.written sink.new) (line_of fault.now)) }
-    ensures kept { OnOk result (W.failed sink.new ≡ W.failed sink.old) }
-    ensures broken { OnErr result (W.failed sink.new ≡ true) }
+/// The report without its first `count` faults.
+pub fn without_first(faults: &[Fault], count: u64) -> &[Fault]
+    ensures { result.now ≡ drop count faults.now }
 {
-    let step = fault.step;
-    let number = Decimal::new(fault.number);
-    let index = Decimal::new((step % STEPS_OF_A_KEY) as u64);
-    put_parts(
-        sink,
-        &[
-            number.digits(),
-            b": font ",
-            key_text(step / STEPS_OF_A_KEY).as_bytes(),
-            b" ",
-            index.digits(),
-            b" ",
-            rule_code(fault.rule).as_bytes(),
-            b" ",
-            rule_text(fault.rule).as_bytes(),
-            b"\n",
-        ],
-    )
+    match faults.get(count as usize..) {
+        Some(rest) => rest,
+        None => &[],
+    }
 }
 
-/// How many places a key of the font has.
-const STEPS_OF_A_KEY: u32 = 65_536;
-
-/// The name of a key of the font, as it stands in a line: `file` for key 0.
-fn key_text(key: u32) -> &'static str
-    ensures { result.now ≡ key_text_of key }
+/// At most so many faults, or all of them.
+pub fn at_most(faults: &[Fault], max: Option<u64>) -> &[Fault]
+    ensures { result.now ≡ at_most max faults.now }
 {
-    if key == 0 { "file" } else { "" }
+    let Some(max) = max else {
+        return faults;
+    };
+    match faults.get(..max as usize) {
+        Some(front) => front,
+        None => faults,
+    }
 }

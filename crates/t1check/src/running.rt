@@ -3,21 +3,22 @@ ghost use Rattle.std.specs.List.{All};
 ghost use Rattle.std.specs.Io.KnownBytes.{Appends, Keeps};
 ghost use Rattle.t1_io.specs.Devices.{AppendsFront};
 ghost use Rattle.t1check.specs.Input.{TakesAtMost};
-ghost use Rattle.t1check.specs.Lines.{lines_of, IsInFont};
-ghost use Rattle.t1check.specs.Answers.{Gave, answer_of, answer_to, reported};
-ghost use Rattle.t1check.specs.FontFiles.{font_in, IsUnread};
+ghost use Rattle.t1_report.specs.Faults.{fault_value};
+ghost use Rattle.t1_report.specs.Lines.{IsInFont};
+ghost use Rattle.t1check.specs.Answers.{Answered, Gave, WentOut, listed};
+ghost use Rattle.t1check.specs.FontFiles.{font_in, font_of, IsUnread};
 ghost use Rattle.t1check.specs.Refusals.{told_of};
 
 use crate::asked::Options;
-use crate::fault::{Fault, report, without_first};
-use crate::lines::write_faults;
+use crate::lines::{at_most, without_first, write_faults};
 use crate::reading::{Input, read_all};
 use crate::status::Status;
 use crate::telling::{READ_FAILED, WRITE_FAILED, tell};
 use crate::unread::Unread;
 use std::alloc::Global;
-use t1_font::{read_clear, read_font};
+use t1_font::{Font, read_clear, read_font};
 use t1_io::{Sink, Source};
+use t1_report::{Fault, report};
 use t1_seal::{join, open_eexec};
 
 /// Reads a font to its end and writes its report.
@@ -33,7 +34,7 @@ pub fn run<R: Source, W: Sink, E: Sink>(
     requires errors { E.failed errors.old ≡ false }
 
     ensures answer { result ≢ Status.Failed → IfSome (R.left source.old) (λ input.
-        Gave (answer_of options.now input) result (W.written out.old) (W.written out.new)
+        Answered options.now (font_of input) result (W.written out.old) (W.written out.new)
         (E.written errors.old) (E.written errors.new)) }
     ensures flushed { (result ≡ Status.Clean) ⊎ (result ≡ Status.Faults) → W.flushed out.new ≡ true }
     ensures nothing_waits { result ≢ Status.Failed → W.flushed out.old ≡ true → W.flushed out.new ≡ true }
@@ -49,10 +50,10 @@ pub fn run<R: Source, W: Sink, E: Sink>(
     ensures unwritten { result ≡ Status.Failed → W.failed out.new ≡ false → Keeps (W.written out.old) (W.written out.new) }
     ensures unread { R.failed source.new ≡ true → W.failed out.new ≡ false }
     ensures front { W.failed out.new ≡ true → IfSome (R.left source.old) (λ input.
-        AppendsFront (W.written out.old) (W.written out.new) (answer_of options.now input).output) }
+        WentOut options.now (font_of input) (W.written out.old) (W.written out.new)) }
 {
     match read_all(alloc, source) {
-        Input::Bytes(bytes) => match check(alloc, bytes.as_slice(), options.after, out, errors) {
+        Input::Bytes(bytes) => match check(alloc, bytes.as_slice(), options, out, errors) {
             Ok(status) => status,
             Err(unread) => stop(unread, errors),
         },
@@ -62,11 +63,11 @@ pub fn run<R: Source, W: Sink, E: Sink>(
     }
 }
 
-/// Reads a font and writes its report without the first `after` lines.
+/// Reads a font and writes what the options choose of its report.
 fn check<W: Sink, E: Sink>(
     alloc: Global,
     bytes: &[u8],
-    after: u64,
+    options: &Options,
     out: &mut W,
     errors: &mut E,
 ) -> Result<Status, Unread>
@@ -76,14 +77,13 @@ fn check<W: Sink, E: Sink>(
     ensures unread { IfErr result (λ unread. IsUnread unread (font_in bytes.now)) }
     ensures untouched { OnErr result ((out.new ≡ out.old) × (errors.new ≡ errors.old)) }
     ensures answer { IfOk result (λ status. status ≢ Status.Failed →
-        Gave (answer_to after (font_in bytes.now)) status (W.written out.old) (W.written out.new)
+        Answered options.now (font_in bytes.now) status (W.written out.old) (W.written out.new)
         (E.written errors.old) (E.written errors.new)) }
     ensures flushed { IfOk result (λ status. status ≢ Status.Failed → W.flushed out.new ≡ true) }
     ensures broken { IfOk result (λ status. (W.failed out.new ≡ true) ⊎ (E.failed errors.new ≡ true) → status ≡ Status.Failed) }
     ensures failed { IfOk result (λ status. status ≡ Status.Failed → W.failed out.new ≡ true) }
     ensures write_failed { W.failed out.new ≡ true → E.failed errors.new ≡ false → Appends (E.written errors.old) (E.written errors.new) (codes "t1check: write failed\n") }
-    ensures front { W.failed out.new ≡ true →
-        AppendsFront (W.written out.old) (W.written out.new) (answer_to after (font_in bytes.now)).output }
+    ensures front { W.failed out.new ≡ true → WentOut options.now (font_in bytes.now) (W.written out.old) (W.written out.new) }
 {
     let joined = join(alloc, bytes)?;
     let clear = read_clear(alloc, &joined)?;
@@ -91,7 +91,8 @@ fn check<W: Sink, E: Sink>(
     let private = open_eexec(alloc, section)?;
     let font = read_font(alloc, clear, private.as_slice())?;
     let faults = report(alloc, &font)?;
-    Ok(give_report(without_first(faults.as_slice(), after), out, errors))
+    let chosen = at_most(without_first(faults.as_slice(), options.after), options.max);
+    Ok(give_report(&font, chosen, out, errors))
 }
 
 /// Tells why a file isn't read.
@@ -111,20 +112,25 @@ fn stop<E: Sink>(unread: Unread, errors: &mut E) -> Status
 }
 
 /// Writes the lines of faults and flushes them.
-fn give_report<W: Sink, E: Sink>(faults: &[Fault], out: &mut W, errors: &mut E) -> Status
+fn give_report<W: Sink, E: Sink>(
+    font: &Font<'_>,
+    faults: &[Fault],
+    out: &mut W,
+    errors: &mut E,
+) -> Status
     requires out { W.failed out.old ≡ false }
     requires errors { E.failed errors.old ≡ false }
-    requires font { All IsInFont faults.now }
+    requires font { All (λ fault. IsInFont font.now (fault_value fault)) faults.now }
 
     ensures answer { result ≢ Status.Failed →
-        Gave (reported faults.now) result (W.written out.old) (W.written out.new) (E.written errors.old) (E.written errors.new) }
+        Gave (listed font.now faults.now) result (W.written out.old) (W.written out.new) (E.written errors.old) (E.written errors.new) }
     ensures flushed { result ≢ Status.Failed → W.flushed out.new ≡ true }
     ensures broken { (W.failed out.new ≡ true) ⊎ (E.failed errors.new ≡ true) → result ≡ Status.Failed }
     ensures failed { result ≡ Status.Failed → W.failed out.new ≡ true }
     ensures write_failed { W.failed out.new ≡ true → E.failed errors.new ≡ false → Appends (E.written errors.old) (E.written errors.new) (codes "t1check: write failed\n") }
-    ensures front { W.failed out.new ≡ true → AppendsFront (W.written out.old) (W.written out.new) (lines_of faults.now) }
+    ensures front { W.failed out.new ≡ true → AppendsFront (W.written out.old) (W.written out.new) (listed font.now faults.now).output }
 {
-    if write_faults(out, faults).is_err() || out.flush().is_err() {
+    if write_faults(out, font, faults).is_err() || out.flush().is_err() {
         return tell(errors, WRITE_FAILED, Status::Failed);
     }
     if faults.is_empty() {

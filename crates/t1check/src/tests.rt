@@ -1,5 +1,6 @@
 mod command_line;
 mod devices;
+mod dictionaries;
 mod fonts;
 mod refusals;
 mod segments;
@@ -35,15 +36,27 @@ fn ended_by(alloc: Global, end: &[u8]) -> Result<Vec<u8>, AllocError> {
     .pfb(alloc)
 }
 
-/// Runs the program on bytes, over devices that don't fail.
+/// Runs the program on bytes, over devices that don't fail, without the first lines of the report.
 fn answer_to(alloc: Global, bytes: &[u8], after: u64) -> Answer {
+    answer_with(
+        alloc,
+        bytes,
+        &Options {
+            after,
+            max: None,
+            file: None,
+        },
+    )
+}
+
+/// Runs the program on bytes, over devices that don't fail.
+fn answer_with(alloc: Global, bytes: &[u8], options: &Options) -> Answer {
     let mut output = Vec::new(alloc);
     let mut told = Vec::new(alloc);
-    let options = Options { after, file: None };
     let status = run(
         alloc,
         &mut In::new(bytes),
-        &options,
+        options,
         &mut Out::new(&mut output),
         &mut Out::new(&mut told),
     );

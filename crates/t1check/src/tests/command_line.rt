@@ -12,6 +12,7 @@ Arguments:
 
 Options:
       --after <K>  Leaves the first K lines of the report out [default: 0]
+      --max <M>    Writes at most M of the other lines
   -h, --help       Print help
 
 Exit status:
@@ -21,7 +22,7 @@ Exit status:
   3  the words weren't taken, a file or device failed, or memory ran out
 
 Example:
-  t1check --after 20 font.pfb    writes the report from its line 21 on
+  t1check --after 20 --max 10 font.pfb    writes the lines 21 to 30 of the report
 ";
 
 /// What words give: the count, and the file's name, empty where there is none.
@@ -49,8 +50,31 @@ fn takes_words(rt: HostRuntime) -> Result<(), Fail> {
     for (words, after, file) in table {
         let taken = options(rt.alloc(), words)?;
         assert_eq!(rt; taken.after, after, "of {words:?}");
+        assert_eq!(rt; taken.max, None, "of {words:?}");
         let name = taken.file.as_ref().map(|name| name.as_str());
         assert_eq!(rt; name, file, "of {words:?}");
+    }
+    Ok(())
+}
+
+/// What words give for the greatest count of lines, beside what they give for the first.
+#[test]
+fn takes_the_greatest_count(rt: HostRuntime) -> Result<(), Fail> {
+    let table: [(&[&str], u64, Option<u64>); 5] = [
+        (&["t1check", "--max", "0"], 0, Some(0)),
+        (&["t1check", "--max=+07", "font.pfb"], 0, Some(7)),
+        (&["t1check", "--after", "1", "--max", "2"], 1, Some(2)),
+        (&["t1check", "--max", "2", "--after", "1"], 1, Some(2)),
+        (
+            &["t1check", "--max", "18446744073709551615"],
+            0,
+            Some(u64::MAX),
+        ),
+    ];
+    for (words, after, max) in table {
+        let taken = options(rt.alloc(), words)?;
+        assert_eq!(rt; taken.after, after, "of {words:?}");
+        assert_eq!(rt; taken.max, max, "of {words:?}");
     }
     Ok(())
 }
@@ -72,7 +96,15 @@ fn gives_help(rt: HostRuntime) {
 
 #[test]
 fn refuses_words(rt: HostRuntime) {
-    let table: [(&[&str], &str); 8] = [
+    let table: [(&[&str], &str); 10] = [
+        (
+            &["t1check", "--max", "x"],
+            "error: invalid value 'x' for '--max <M>': invalid digit found in string\n\nFor more information, try '--help'.\n",
+        ),
+        (
+            &["t1check", "--max="],
+            "error: invalid value '' for '--max <M>': cannot parse integer from empty string\n\nFor more information, try '--help'.\n",
+        ),
         (
             &["t1check", "--after", "x"],
             "error: invalid value 'x' for '--after <K>': invalid digit found in string\n\nFor more information, try '--help'.\n",

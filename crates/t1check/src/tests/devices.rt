@@ -10,6 +10,7 @@ use t1_io::{Fuse, In, Limit, Out};
 
 const OPTIONS: Options = Options {
     after: 0,
+    max: None,
     file: None,
 };
 

@@ -1,7 +1,12 @@
-use Rattle.std.proofs.Common.{refl, inl, ◌≡◌, drop}
-use Rattle.t1_io.specs.Devices.{AppendsFront}
+use Rattle.std.proofs.Common.{refl, inl, Result}
+use Rattle.t1_font.specs.Fonts.{FontValue}
+use Rattle.t1_report.specs.declared.faults.Fault.{Fault}
+use Rattle.t1_report.specs.Faults.{fault_value}
+use Rattle.t1_report.specs.Lines.{IsInFont}
 use Rattle.t1_seal.specs.Joined.{joined_text}
-use Rattle.t1check.specs.Answers.{Answer, Gave}
+use Rattle.t1check.specs.Answers.{Answered, WentOut}
+use Rattle.t1check.specs.declared.unread.Unread.{Unread}
+use Rattle.t1check.proofs.ReportLemmas.{all_chosen, answered, went_out}
 use Rattle.t1check.proofs.FontFileLemmas.{along, joined_fails, clear_fails, section_fails, private_fails, font_found, handed_on}
 use Rattle.t1check.proofs.running.check.Goals as goal
 
@@ -32,19 +37,26 @@ returns-in_err-faults-clause-unread g c = handed_on _ _ _ c.from_residual-in_err
 
 pub returns-clause-answer : goal.returns-clause-answer
 returns-clause-answer g c = λ went.
-    along _ _ c.args.after (λ (answer : Answer).
-    Gave answer c.give_report.result (g.W.Sink.written c.args.out.now) (g.W.Sink.written c.give_report.new.out) (g.E.Sink.written c.args.errors.now) (g.E.Sink.written c.give_report.new.errors))
+    along _ c.in_ok-font.font (λ (read : Result FontValue Unread).
+    Answered c.args.options.now read c.give_report.result (g.W.Sink.written c.args.out.now) (g.W.Sink.written c.give_report.new.out) (g.E.Sink.written c.args.errors.now) (g.E.Sink.written c.give_report.new.errors))
     (font_found _ (joined_text c.in_ok-joined.joined) c.in_ok-clear.clear
     (record { joined_is = c.in_ok-joined.ensures; clear_is = c.in_ok-clear.ensures.gives; behind = c.in_ok-clear.ensures.behind })
-    c.in_ok-private.private.items _ (rw (c.split_at.ensures.back, c.as_slice.ensures.value, c.after.ensures) at c.in_ok-private.ensures)
+    c.in_ok-private.private.items c.in_ok-font.font (rw (c.split_at.ensures.back, c.as_slice.ensures.value, c.after.ensures) at c.in_ok-private.ensures)
     (rw c.as_slice-2.ensures.value at c.in_ok-font.ensures))
-    (rw (c.without_first.ensures, c.as_slice-3.ensures.value, c.in_ok-faults.ensures.value) at (c.give_report.ensures.answer went))
+    (answered c.args.options.now c.in_ok-font.font c.in_ok-faults.faults.items _ _ _ _ _ c.in_ok-faults.ensures.exact
+    (rw (c.at_most-chosen.ensures, c.without_first.ensures, c.as_slice-3.ensures.value) at (c.give_report.ensures.answer went)))
 
 pub returns-clause-front : goal.returns-clause-front
 returns-clause-front g c = λ broken.
-    along _ _ c.args.after (λ (answer : Answer). AppendsFront (g.W.Sink.written c.args.out.now) (g.W.Sink.written c.give_report.new.out) answer.output)
+    along _ c.in_ok-font.font (λ (read : Result FontValue Unread). WentOut c.args.options.now read (g.W.Sink.written c.args.out.now) (g.W.Sink.written c.give_report.new.out))
     (font_found _ (joined_text c.in_ok-joined.joined) c.in_ok-clear.clear
     (record { joined_is = c.in_ok-joined.ensures; clear_is = c.in_ok-clear.ensures.gives; behind = c.in_ok-clear.ensures.behind })
-    c.in_ok-private.private.items _ (rw (c.split_at.ensures.back, c.as_slice.ensures.value, c.after.ensures) at c.in_ok-private.ensures)
+    c.in_ok-private.private.items c.in_ok-font.font (rw (c.split_at.ensures.back, c.as_slice.ensures.value, c.after.ensures) at c.in_ok-private.ensures)
     (rw c.as_slice-2.ensures.value at c.in_ok-font.ensures))
-    (rw (c.without_first.ensures, c.as_slice-3.ensures.value, c.in_ok-faults.ensures.value) at (c.give_report.ensures.front broken))
+    (went_out c.args.options.now c.in_ok-font.font c.in_ok-faults.faults.items _ _ c.in_ok-faults.ensures.exact
+    (rw (c.at_most-chosen.ensures, c.without_first.ensures, c.as_slice-3.ensures.value) at (c.give_report.ensures.front broken)))
+
+pub give_report-requires-clause-font : goal.give_report-requires-clause-font
+give_report-requires-clause-font g c =
+    rw (c.at_most-chosen.ensures, c.without_first.ensures, c.as_slice-3.ensures.value)
+    (all_chosen (λ (fault : Fault). IsInFont c.in_ok-font.font (fault_value fault)) c.args.options.now c.in_ok-faults.faults.items c.in_ok-faults.ensures.in_font)

@@ -1,0 +1,139 @@
+#!/usr/bin/env bash
+# Times t1check and, where it is installed, t1lint (Debian's lcdf-typetools) over the PFA and PFB fonts below a
+# folder: ./bench/compare.sh FOLDER [N]
+# Each font gets a process of its own. A first round, which isn't timed, reads every font once, looks at the
+# statuses and, where GNU time is there, at the memory; then N rounds (3 where none is said) run both programs in
+# turn. The least time of a program's rounds counts. 1 MB is 1,000,000 bytes.
+set -u
+export LC_ALL=C
+
+usage='usage: bench/compare.sh FOLDER [N]   (FOLDER holds fonts, N is a number of rounds from 1 to 999)'
+top=$(cd -- "$(dirname -- "$0")/.." && pwd) || exit 1
+built=$top/crates/t1check/out/t1check
+gnu_time=/usr/bin/time
+
+fail() {
+    printf 'compare.sh: %s\n' "$1" >&2
+    exit 1
+}
+
+misused() {
+    printf 'compare.sh: %s\n%s\n' "$1" "$usage" >&2
+    exit 2
+}
+
+# Whether a file's first bytes are those of a PFB segment of text, or of a font's first line.
+is_font() {
+    local front=
+    [[ -f $1 && -r $1 ]] || return 1
+    IFS= read -r -d '' -n 30 front <"$1"
+    case $front in
+        $'\x80\x01'* | '%!PS-AdobeFont'* | '%!FontType1'* | '%!PS-Adobe-'?.?' Resource-Font'*) return 0 ;;
+        *) return 1 ;;
+    esac
+}
+
+# The fonts below a folder, and their size: sets `fonts` and `bytes`.
+find_fonts() {
+    local file
+    fonts=()
+    bytes=0
+    shopt -s globstar nullglob dotglob
+    for file in "$1"/**/*; do
+        if is_font "$file"; then
+            fonts+=("$file")
+            bytes=$((bytes + $(stat -L -c %s -- "$file")))
+        fi
+    done
+}
+
+# Runs a program on every font, untimed. Sets `peak`, in KiB, 0 where GNU time isn't there, and `statuses`, how
+# often each status from 0 to 2 came. Both programs keep to these; another one means that a run failed.
+look() {
+    local program=$1 font status told
+    peak=0
+    statuses=(0 0 0)
+    for font in "${fonts[@]}"; do
+        status=0
+        if ((has_gnu_time)); then
+            "$gnu_time" -f %M -o "$work/memory" "$program" "$font" >"$work/said" 2>&1 || status=$?
+            mapfile -t told <"$work/memory"
+            ((told[-1] <= peak)) || peak=${told[-1]}
+        else
+            "$program" "$font" >"$work/said" 2>&1 || status=$?
+        fi
+        ((status <= 2)) || fail "$program ended with status $status on $font: $(head -n 1 "$work/said")"
+        ((statuses[status] += 1))
+    done
+}
+
+# Runs a program on every font. Sets `took`, in microseconds.
+time_round() {
+    local program=$1 font begun=${EPOCHREALTIME/./}
+    for font in "${fonts[@]}"; do
+        "$program" "$font" >/dev/null 2>&1
+    done
+    took=$((${EPOCHREALTIME/./} - begun))
+}
+
+# Shows thousandths as a number with three decimals.
+thousandths() {
+    printf '%d.%03d' $(($1 / 1000)) $(($1 % 1000))
+}
+
+# Prints a program's line: its name, its least time in microseconds, its greatest memory in KiB.
+print_line() {
+    local name=$1 least=$2 memory=$3
+    printf '%-8s least time %s s, %d fonts a second, %s MB a second' "$name" \
+        "$(thousandths $((least / 1000)))" $((${#fonts[@]} * 1000000 / least)) "$(thousandths $((bytes * 1000 / least)))"
+    ((memory == 0)) || printf ', peak memory %s MB' "$(thousandths $((memory * 1024 / 1000)))"
+    printf '\n'
+}
+
+(($# >= 1)) || misused 'no folder is named'
+(($# <= 2)) || misused 'too many words'
+[[ -d $1 ]] || misused "no folder $1"
+rounds=${2:-3}
+[[ $rounds =~ ^[1-9][0-9]{0,2}$ ]] || misused "no number of rounds: $rounds"
+[[ -n ${EPOCHREALTIME:-} ]] || fail 'bash 5.0 or later is wanted'
+[[ -x $built ]] || fail "t1check isn't built; bin/t1check --help builds it"
+find_fonts "$(realpath -- "$1")"
+((${#fonts[@]} > 0)) || fail "no PFA or PFB font below $1"
+
+work=$(mktemp -d) || exit 1
+trap 'rm -rf "$work"' EXIT
+has_gnu_time=0
+[[ -x $gnu_time && $("$gnu_time" --version 2>&1) == *GNU* ]] && has_gnu_time=1
+
+names=(t1check)
+programs=("$built")
+if lint=$(type -P t1lint); then
+    names+=(t1lint)
+    programs+=("$lint")
+fi
+
+peaks=()
+leasts=()
+for program in "${programs[@]}"; do
+    look "$program"
+    peaks+=("$peak")
+    leasts+=(0)
+    [[ $program == "$built" ]] && answers=("${statuses[@]}")
+done
+for ((round = 1; round <= rounds; round += 1)); do
+    for turn in "${!programs[@]}"; do
+        time_round "${programs[turn]}"
+        ((leasts[turn] != 0 && leasts[turn] <= took)) || leasts[turn]=$took
+    done
+done
+
+printf '%d fonts, %s MB, rounds timed: %d\n' "${#fonts[@]}" "$(thousandths $((bytes / 1000)))" "$rounds"
+printf 't1check  answers: %d without a line, %d with a report, %d refused\n' "${answers[@]}"
+for turn in "${!programs[@]}"; do
+    print_line "${names[turn]}" "${leasts[turn]}" "${peaks[turn]}"
+done
+if ((${#programs[@]} == 2)); then
+    printf 'ratio    t1check takes %s times the time of t1lint\n' "$(thousandths $((leasts[0] * 1000 / leasts[1])))"
+else
+    printf 't1lint   not installed\n'
+fi

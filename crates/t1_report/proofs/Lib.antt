@@ -1,0 +1,6 @@
+pub mod DecimalLemmas
+pub mod OneReport
+pub mod RuleNumbers
+pub mod Fronts
+pub mod InFont
+pub mod LineLemmas

@@ -1,0 +1,9 @@
+use Rattle.std.proofs.Common.{◌+◌, ◌*◌}
+use Rattle.t1_report.specs.Faults.{faults_of}
+use Rattle.t1_report.specs.Reports.{IsFront}
+use Rattle.t1_report.proofs.reporting.add_key.Given as goal
+
+abbrev pub invariant-loop-index : goal.invariant-loop-index
+invariant-loop-index l = record {
+  front : IsFront l.font 0 (65536 * l.key + l.index) 0 (faults_of l.faults.items);
+}

@@ -1,0 +1,9 @@
+use Rattle.std.proofs.Common.{◌*◌}
+use Rattle.t1_report.specs.Faults.{faults_of}
+use Rattle.t1_report.specs.Reports.{IsFront}
+use Rattle.t1_report.proofs.reporting.report.Given as goal
+
+abbrev pub invariant-loop-key : goal.invariant-loop-key
+invariant-loop-key l = record {
+  front : IsFront l.font 0 (65536 * l.key) 0 (faults_of l.faults.items);
+}

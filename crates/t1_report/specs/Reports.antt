@@ -1,0 +1,69 @@
+-- The report of a font: its violations by place, each once, numbered from 1.
+use Rattle.std.specs.Prelude.{◌≡◌, ℕ, ◌+◌, ◌/◌, ◌%◌, ◌<◌, ◌⊎◌, true, List, [], length}
+use Rattle.std.specs.List.{All, Any, slice_index_or}
+use Rattle.t1_font.specs.Fonts.{FontValue}
+use Rattle.t1_rules.specs.declared.rule.Rule.{Rule}
+use Rattle.t1_rules.specs.FontRules.{font_rules, violated}
+use Rattle.t1_rules.specs.Rules.{number_of}
+use Rattle.t1_report.specs.Faults.{FaultValue}
+
+-- A place and a rule: unit 0 is the font, whose step is 65,536 times a key's number plus an index.
+pub record Place : Type 0 where
+  pub unit : ℕ
+  pub step : ℕ
+  pub rule : Rule
+
+-- The order of places: by unit, then step, then the rule's number.
+abbrev pub Comes : ℕ → ℕ → ℕ → ℕ → ℕ → ℕ → Type 0
+Comes unit step rule unit' step' rule' =
+    (unit < unit') ⊎ ((unit ≡ unit') × ((step < step') ⊎ ((step ≡ step') × (rule < rule'))))
+
+-- The first place comes before the second.
+abbrev pub IsBefore : Place → Place → Type 0
+IsBefore p q = Comes p.unit p.step (number_of p.rule) q.unit q.step (number_of q.rule)
+
+-- The rule is violated at the place: in the font, at the key and the index of the step.
+pub record IsViolated (font : FontValue) (p : Place) : Type 0 where
+  pub in_font : p.unit ≡ 0
+  pub broken : violated font_rules (number_of p.rule) font (p.step / 65536) (p.step % 65536) ≡ true
+
+-- Where a fault stands.
+abbrev pub place_of : FaultValue → Place
+place_of fault = record { unit = fault.unit; step = fault.step; rule = fault.rule }
+
+-- A fault is a violation, with the path of its step; in the font no Subr is being executed.
+pub record IsViolation (font : FontValue) (fault : FaultValue) : Type 0 where
+  pub violated : IsViolated font (place_of fault)
+  pub path : fault.path ≡ []
+
+-- The fault stands at this place.
+abbrev pub StandsAt : Place → FaultValue → Type 0
+StandsAt p fault = place_of fault ≡ p
+
+-- The faults rise strictly by their places.
+abbrev pub IsRising : List FaultValue → Type 0
+IsRising faults = (i j : ℕ) (d : FaultValue) → i < j → j < length faults →
+    IsBefore (place_of (slice_index_or faults i d)) (place_of (slice_index_or faults j d))
+
+-- The faults are numbered from n.
+abbrev pub AreNumbered : ℕ → List FaultValue → Type 0
+AreNumbered n faults = (i : ℕ) (d : FaultValue) → i < length faults → (slice_index_or faults i d).number ≡ i + n
+
+-- A report of a font: strictly rising, its members exactly the violations, numbered from 1.
+pub record IsReport (font : FontValue) (faults : List FaultValue) : Type 0 where
+  pub rising : IsRising faults
+  pub violations : All (IsViolation font) faults
+  pub complete : (p : Place) → IsViolated font p → Any (StandsAt p) faults
+  pub numbered : AreNumbered 1 faults
+
+-- A font has no two reports.
+abbrev pub HasNoOtherReport : Type 0
+HasNoOtherReport = (font : FontValue) (a b : List FaultValue) → IsReport font a → IsReport font b → a ≡ b
+
+-- The front of a report: all violations that come before this unit, step and rule number, and no other.
+pub record IsFront (font : FontValue) (unit step rule : ℕ) (faults : List FaultValue) : Type 0 where
+  pub rising : IsRising faults
+  pub violations : All (IsViolation font) faults
+  pub before : All (λ fault. Comes fault.unit fault.step (number_of fault.rule) unit step rule) faults
+  pub complete : (p : Place) → IsViolated font p → Comes p.unit p.step (number_of p.rule) unit step rule → Any (StandsAt p) faults
+  pub numbered : AreNumbered 1 faults

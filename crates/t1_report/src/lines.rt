@@ -1,0 +1,124 @@
+//! The lines of a report.
+
+ghost use Rattle.std.specs.Prelude.{◌≡◌, ◌≤◌, ◌/◌, true, OnOk, OnErr};
+ghost use Rattle.std.specs.List.{flat_map};
+ghost use Rattle.std.specs.Io.KnownBytes.{Appends};
+ghost use Rattle.t1_io.specs.Devices.{AppendsFront};
+ghost use Rattle.t1_report.specs.Faults.{fault_value};
+ghost use Rattle.t1_report.specs.Lines.{IsInFont, glyph_name, glyph_place, inner_text, key_place, line_of, path_text, place_text};
+
+use crate::decimal::Decimal;
+use crate::faults::Fault;
+use crate::reporting::STEPS_OF_A_KEY;
+use t1_font::Font;
+use t1_io::{Broken, Sink, put_all, put_parts};
+use t1_rules::{key_text, rule_code, rule_text};
+
+/// Writes the line of a fault: `1: font file 0 F01 no end segment`, or of a glyph
+/// `2: glyph A 5>6 8 P01 drawing without a move`. The fault stands at a key of the font or in one of its
+/// glyphs.
+pub fn write_fault<W: Sink>(sink: &mut W, font: &Font<'_>, fault: &Fault) -> Result<(), Broken>
+    requires { IsInFont font.now (fault_value fault.now) }
+    ensures all { OnOk result (Appends (W.written sink.old) (W.written sink.new) (line_of font.now (fault_value fault.now))) }
+    ensures front { OnErr result (AppendsFront (W.written sink.old) (W.written sink.new) (line_of font.now (fault_value fault.now))) }
+    ensures kept { OnOk result (W.failed sink.new ≡ W.failed sink.old) }
+    ensures broken { OnErr result (W.failed sink.new ≡ true) }
+{
+    let number = Decimal::new(fault.number);
+    put_parts(sink, &[number.digits(), b": "])?;
+    write_place(sink, font, fault)?;
+    put_parts(
+        sink,
+        &[
+            b" ",
+            rule_code(fault.rule).as_bytes(),
+            b" ",
+            rule_text(fault.rule).as_bytes(),
+            b"\n",
+        ],
+    )
+}
+
+/// Writes where a fault stands.
+fn write_place<W: Sink>(sink: &mut W, font: &Font<'_>, fault: &Fault) -> Result<(), Broken>
+    requires { IsInFont font.now (fault_value fault.now) }
+    ensures all { OnOk result (Appends (W.written sink.old) (W.written sink.new) (place_text font.now (fault_value fault.now))) }
+    ensures front { OnErr result (AppendsFront (W.written sink.old) (W.written sink.new) (place_text font.now (fault_value fault.now))) }
+    ensures kept { OnOk result (W.failed sink.new ≡ W.failed sink.old) }
+    ensures broken { OnErr result (W.failed sink.new ≡ true) }
+{
+    if fault.unit == 0 {
+        write_key(sink, fault.step)
+    } else {
+        write_glyph(sink, font, fault)
+    }
+}
+
+/// Writes the key and the index of a step of the font.
+fn write_key<W: Sink>(sink: &mut W, step: u32) -> Result<(), Broken>
+    requires { step / 65536 ≤ 21 }
+    ensures all { OnOk result (Appends (W.written sink.old) (W.written sink.new) (key_place step)) }
+    ensures front { OnErr result (AppendsFront (W.written sink.old) (W.written sink.new) (key_place step)) }
+    ensures kept { OnOk result (W.failed sink.new ≡ W.failed sink.old) }
+    ensures broken { OnErr result (W.failed sink.new ≡ true) }
+{
+    let key = (step / STEPS_OF_A_KEY) as u8;
+    let index = Decimal::new(u64::from(step % STEPS_OF_A_KEY));
+    put_parts(
+        sink,
+        &[b"font ", key_text(key).as_bytes(), b" ", index.digits()],
+    )
+}
+
+/// Writes the glyph, the path and the step of a fault.
+fn write_glyph<W: Sink>(sink: &mut W, font: &Font<'_>, fault: &Fault) -> Result<(), Broken>
+    requires { 1 ≤ fault.now.unit }
+    ensures all { OnOk result (Appends (W.written sink.old) (W.written sink.new) (glyph_place font.now (fault_value fault.now))) }
+    ensures front { OnErr result (AppendsFront (W.written sink.old) (W.written sink.new) (glyph_place font.now (fault_value fault.now))) }
+    ensures kept { OnOk result (W.failed sink.new ≡ W.failed sink.old) }
+    ensures broken { OnErr result (W.failed sink.new ≡ true) }
+{
+    put_parts(sink, &[b"glyph ", glyph_name(font, fault.unit - 1), b" "])?;
+    write_path(sink, fault.path.as_slice())?;
+    let step = Decimal::new(u64::from(fault.step));
+    put_parts(sink, &[b" ", step.digits()])
+}
+
+/// The name of a glyph, by its number.
+fn glyph_name<'a>(font: &Font<'a>, glyph: u32) -> &'a [u8]
+    ensures { result.now ≡ glyph_name font.now glyph }
+{
+    match font.glyphs().get_index(glyph as usize) {
+        Some((name, _)) => *name,
+        None => &[],
+    }
+}
+
+/// Writes the Subrs that are being executed: `5>6`, or `-` where there is none.
+fn write_path<W: Sink>(sink: &mut W, path: &[u32]) -> Result<(), Broken>
+    ensures all { OnOk result (Appends (W.written sink.old) (W.written sink.new) (path_text path.now)) }
+    ensures front { OnErr result (AppendsFront (W.written sink.old) (W.written sink.new) (path_text path.now)) }
+    ensures kept { OnOk result (W.failed sink.new ≡ W.failed sink.old) }
+    ensures broken { OnErr result (W.failed sink.new ≡ true) }
+{
+    let Some((outermost, inner)) = path.split_first() else {
+        return put_all(sink, b"-");
+    };
+    let number = Decimal::new(u64::from(*outermost));
+    put_all(sink, number.digits())?;
+    write_inner(sink, inner)
+}
+
+/// Writes the Subrs that are called from another.
+fn write_inner<W: Sink>(sink: &mut W, numbers: &[u32]) -> Result<(), Broken>
+    ensures all { OnOk result (Appends (W.written sink.old) (W.written sink.new) (flat_map inner_text numbers.now)) }
+    ensures front { OnErr result (AppendsFront (W.written sink.old) (W.written sink.new) (flat_map inner_text numbers.now)) }
+    ensures kept { OnOk result (W.failed sink.new ≡ W.failed sink.old) }
+    ensures broken { OnErr result (W.failed sink.new ≡ true) }
+{
+    for number in numbers {
+        let number = Decimal::new(u64::from(*number));
+        put_parts(sink, &[b">", number.digits()])?;
+    }
+    Ok(())
+}

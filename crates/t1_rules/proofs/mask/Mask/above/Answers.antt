@@ -1,0 +1,12 @@
+use Rattle.std.proofs.Common.{◌<◌, ◌+◌, ◌^◌, arith, rules}
+use Rattle.t1_rules.proofs.mask.Mask.above.Goals as goal
+use Rattle.t1_rules.proofs.Bits.{none_from}
+use Rattle.t1_rules.proofs.Above.{found_above}
+
+pub returns-then-after-eq0 : goal.returns-then-after-eq0
+returns-then-after-eq0 c = λ n above last. none_from c.args.self.bits (c.args.floor + 1) c.if-after-eq0.true n (omega arith)
+
+pub returns : goal.returns
+returns c =
+    let fits : c.args.self.bits < 2 ^ 128 = search rules in
+    found_above c.args.self c.args.floor c.numbered.result fits c.if-after-eq0.false c.numbered.ensures.some c.numbered.ensures.none

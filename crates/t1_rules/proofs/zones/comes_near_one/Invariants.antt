@@ -1,0 +1,11 @@
+use Rattle.std.proofs.Common.{◌≡◌, length}
+use Rattle.std.specs.List.{list_any}
+use Rattle.t1_rules.specs.Zones.{come_near, zone_of, zones}
+use Rattle.t1_rules.proofs.zones.comes_near_one.Given as goal
+
+abbrev pub invariant-loop-rest : goal.invariant-loop-rest
+invariant-loop-rest l =
+    list_any (come_near l.distance (zone_of l.zone)) (zones l.rest) ≡ list_any (come_near l.distance (zone_of l.zone)) (zones l.others)
+
+abbrev pub decreases-loop-rest : goal.decreases-loop-rest
+decreases-loop-rest l = length l.rest

@@ -1,0 +1,15 @@
+pub mod FontRules
+pub mod Glyphs
+pub mod KeyTests
+pub mod KeyTexts
+pub mod Keys
+pub mod Lists
+pub mod Masks
+pub mod NumberLists
+pub mod Places
+pub mod PlainValues
+pub mod RuleLaws
+pub mod Rules
+pub mod StemSnaps
+pub mod ZoneLaws
+pub mod Zones

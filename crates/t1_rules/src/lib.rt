@@ -1,0 +1,56 @@
+//! The rule book of Type 1 fonts: what may be wrong with a font, and where it is. Adobe Type 1 Font
+//! Format 1.1, chapters 2 and 5 to 8, and Technical Note 5040.
+//!
+//! [`Rule`] has all rules, with their numbers, codes and texts. [`font_faults`] answers, as a [`Mask`],
+//! which rules a font breaks at a key and an index: a key is the file or an entry of a dictionary
+//! ([`key_text`] names it), an index is 0 for what is said of the entry as a whole, and else the place
+//! of a number in a list, a code, a Subr's number or a glyph's. [`places`] says how many indexes of a
+//! key have to be asked.
+//!
+//! What is promised, for all fonts:
+//!
+//! - `font_faults` answers exactly the rules that the table in `specs/FontRules.antt` says are broken at
+//!   that key and index. Numbers are compared exactly, in units of 10^-9 and their products.
+//! - Nothing is broken past the places of a key, past the last key or past index 65,535.
+//! - No call takes memory; no index, sum, product or cast goes wrong.
+//!
+//! ```
+//! for index in 0..places(&font, 9) {
+//!     if let Some(rule) = font_faults(&font, 9, index).above(0) {
+//!         println!(rt; "{} {index} {}", key_text(9), rule_code(rule))?;
+//!     }
+//! }
+//! ```
+#![tactic(auto)]
+
+mod codes;
+mod entry_faults;
+mod font_rules;
+mod glyphs;
+mod hint_faults;
+mod key_texts;
+mod laws;
+mod mask;
+mod number_lists;
+mod numbers;
+mod places_of_keys;
+mod rule;
+mod stem_snaps;
+mod texts;
+mod values;
+mod zones;
+
+pub use codes::rule_code;
+pub use font_rules::font_faults;
+pub use key_texts::key_text;
+pub use laws::{
+    absent_entries_are_fine, numbers_rise_where_none_falls, rules_are_on_zones,
+    rules_have_their_numbers, rules_have_their_places, zones_are_pairs, zones_come_near_both_ways,
+};
+pub use mask::Mask;
+pub use places_of_keys::places;
+pub use rule::Rule;
+pub use texts::rule_text;
+
+#[cfg(test)]
+mod tests;

@@ -1,0 +1,73 @@
+//! Sets of rules.
+
+ghost use Rattle.std.specs.Prelude.{◌≡◌, ℕ, ◌==◌, ◌&&◌, ◌||◌, ◌↔◌, IsTrue, MatchOption, false};
+ghost use Rattle.t1_rules.specs.Masks.{HasNoneAbove, IsLeastAbove, broken_among, has};
+ghost use Rattle.t1_rules.specs.Rules.{number_of};
+
+use crate::numbers::numbered;
+use crate::rule::Rule;
+
+/// A set of rules.
+#[derive(Clone, Copy, Debug, PartialEq, Eq)]
+pub struct Mask {
+    bits: u128,
+}
+
+/// How many bits a set has.
+const BITS: u8 = 128;
+
+impl Mask {
+    /// The set without a rule.
+    pub fn empty() -> Mask
+        ensures { (n : ℕ) → has result n ≡ false }
+    {
+        Mask { bits: 0 }
+    }
+
+    /// This set, with one rule more where that is broken.
+    pub fn with(self, rule: Rule, broken: bool) -> Mask
+        ensures { (n : ℕ) → has result n ≡ (has self n || (broken && number_of rule == n)) }
+    {
+        if broken {
+            Mask {
+                bits: self.bits | (1 << rule.number()),
+            }
+        } else {
+            self
+        }
+    }
+
+    /// The rules that are in one of the two sets.
+    pub fn join(self, other: Mask) -> Mask
+        ensures { (n : ℕ) → has result n ≡ (has self n || has other n) }
+    {
+        Mask {
+            bits: self.bits | other.bits,
+        }
+    }
+
+    /// The rule of the least number that is greater than this one.
+    pub fn above(self, floor: u8) -> Option<Rule>
+        ensures { MatchOption result (HasNoneAbove self floor) (λ rule. IsLeastAbove self floor rule) }
+    {
+        if floor >= BITS - 1 {
+            return None;
+        }
+        let after = self.bits >> (floor + 1);
+        if after == 0 {
+            return None;
+        }
+        numbered(floor + 1 + after.trailing_zeros() as u8)
+    }
+
+    /// The set of the rules that are broken.
+    pub(crate) fn of(tests: &[(Rule, bool)]) -> Mask
+        ensures { (n : ℕ) → has result n ≡ broken_among tests.now n }
+    {
+        let mut mask = Mask::empty();
+        for (rule, broken) in tests {
+            mask = mask.with(*rule, *broken);
+        }
+        mask
+    }
+}

@@ -1,0 +1,158 @@
+//! The rules and their numbers.
+
+ghost use Rattle.std.specs.Prelude.{◌≡◌, ◌⊎◌, ◌<◌, ◌≤◌, IfNone, IfSome};
+ghost use Rattle.t1_rules.specs.Rules.{last_number, number_of};
+
+/// A rule of the rule book. Its number is its place there, from 1 on.
+#[derive(Clone, Copy, Debug, PartialEq, Eq)]
+pub enum Rule {
+    /// A PFB file ends with an end segment. Technical Note 5040, section 3.3.
+    F01 = 1,
+    /// Nothing stands after the end segment. Technical Note 5040, section 3.3.
+    F02,
+    /// `/FontType` is 1. Type 1 Font Format, chapter 2.
+    F03,
+    /// `/PaintType` is 0 or 2. Type 1 Font Format, chapter 2.
+    F04,
+    /// A `/UniqueID` is whole, from 0 to 16777215. Type 1 Font Format, chapter 2.
+    F05,
+    /// Both `/UniqueID` entries are the same number. Type 1 Font Format, chapter 5.
+    F06,
+    /// `/password` is 5839. Type 1 Font Format, chapter 5.
+    F07,
+    /// `/MinFeature` is `{16 16}`. Type 1 Font Format, chapter 5.
+    F08,
+    /// There is a glyph `.notdef`. Type 1 Font Format, chapter 2.
+    F09,
+    /// A glyph is given once.
+    F10,
+    /// `/Encoding` is there, standard or custom. Type 1 Font Format, chapter 2.
+    F11,
+    /// The codes of a custom encoding are whole, from 0 to 255. Type 1 Font Format, chapter 2.
+    F12,
+    /// A glyph that a custom encoding names is there.
+    F13,
+    /// A Subr is given once, and its number is below the size of the array.
+    F14,
+    /// A hint entry has a number or numbers, as it should. Type 1 Font Format, chapter 5.
+    Z01,
+    /// A list of zones has at most 14 numbers, or 10. Type 1 Font Format, chapter 5.
+    Z02,
+    /// The numbers of a list of zones stand in pairs. Type 1 Font Format, chapter 5.
+    Z03,
+    /// The numbers of a list of zones don't fall. Type 1 Font Format, chapter 5.
+    Z04,
+    /// Zones of one list keep their distance. Type 1 Font Format, chapter 5.
+    Z05,
+    /// Zones of the high and the low list keep their distance. Type 1 Font Format, chapter 5.
+    Z06,
+    /// A zone's height times BlueScale is below 1. Type 1 Font Format, chapter 5.
+    Z07,
+    /// A standard width is one number. Type 1 Font Format, chapter 5.
+    Z08,
+    /// There are at most 12 stem snaps. Type 1 Font Format, chapter 5.
+    Z09,
+    /// Stem snaps don't fall. Type 1 Font Format, chapter 5.
+    Z10,
+    /// The standard width is one of the stem snaps. Type 1 Font Format, chapter 5.
+    Z11,
+    /// A charstring has lenIV bytes or more. Type 1 Font Format, chapter 7.
+    C01,
+    /// A charstring ends with a whole token. Type 1 Font Format, chapter 6.
+    C02,
+    /// Each command is known. Type 1 Font Format, chapter 6.
+    C03,
+    /// A command has its arguments. Type 1 Font Format, chapter 6.
+    C04,
+    /// A command that clears the stack has no more than its arguments. Type 1 Font Format, chapter 6.
+    C05,
+    /// The stack has at most 24 numbers. Type 1 Font Format, chapter 6.
+    C06,
+    /// An argument is at most 32000 in absolute value. Type 1 Font Format, chapter 6.
+    C07,
+    /// A quotient is at most 32000 in absolute value. Type 1 Font Format, chapter 6.
+    C08,
+    /// Nothing is divided by zero. Type 1 Font Format, chapter 6.
+    C09,
+    /// A Subr that is called is there. Type 1 Font Format, chapter 6.
+    S01,
+    /// At most ten calls are nested. Type 1 Font Format, chapter 6.
+    S02,
+    /// A `return` stands in a Subr. Type 1 Font Format, chapter 6.
+    S03,
+    /// A Subr ends with `return`. Type 1 Font Format, chapter 6.
+    S04,
+    /// A glyph ends with `endchar` or `seac`. Type 1 Font Format, chapter 6.
+    GE01,
+    /// Nothing stands after `endchar` or `seac`. Type 1 Font Format, chapter 6.
+    GE02,
+    /// `hsbw` or `sbw` is the first command. Type 1 Font Format, chapter 6.
+    W01,
+    /// `hsbw` or `sbw` stands once. Type 1 Font Format, chapter 6.
+    W02,
+    /// A path begins with a move. Type 1 Font Format, chapter 6.
+    P01,
+    /// A path is closed before the next one and the end. Type 1 Font Format, chapter 6.
+    P02,
+    /// `closepath` closes a path. Type 1 Font Format, chapter 6.
+    P03,
+    /// Stems are declared before the path, or after hint replacement. Type 1 Font Format, chapter 6.
+    H01,
+    /// Stems of one direction don't overlap. Type 1 Font Format, chapter 6.
+    H02,
+    /// A stem has a width. Type 1 Font Format, chapter 6.
+    H03,
+    /// The outer stems of three are equally wide and equally far from the middle one. Type 1 Font Format, chapter 6.
+    H04,
+    /// `pop` follows hint replacement. Type 1 Font Format, chapter 8.
+    R01,
+    /// `callsubr` follows that `pop`. Type 1 Font Format, chapter 8.
+    R02,
+    /// Flex doesn't begin inside flex. Type 1 Font Format, chapter 8.
+    X01,
+    /// A point or the end of flex stands in flex. Type 1 Font Format, chapter 8.
+    X02,
+    /// Moves are the only path commands in flex. Type 1 Font Format, chapter 8.
+    X03,
+    /// Flex has seven moves, each with its point. Type 1 Font Format, chapter 8.
+    X04,
+    /// Flex ends at the current point. Type 1 Font Format, chapter 8.
+    X05,
+    /// `setcurrentpoint` follows the end of flex. Type 1 Font Format, chapter 8.
+    X06,
+    /// The OtherSubr is one of 0, 1, 2, 3, 12 and 13. Type 1 Font Format, chapter 8.
+    O01,
+    /// The count of arguments is whole, and so many are there. Type 1 Font Format, chapter 6.
+    O02,
+    /// The OtherSubr has its own count of arguments. Type 1 Font Format, chapter 8.
+    O03,
+    /// `pop` finds a number of an OtherSubr. Type 1 Font Format, chapter 6.
+    O04,
+    /// The codes of `seac` are whole, from 0 to 255. Type 1 Font Format, chapter 6.
+    K01,
+    /// StandardEncoding names the codes of `seac`. Type 1 Font Format, chapter 6.
+    K02,
+    /// The components of `seac` are there. Type 1 Font Format, chapter 6.
+    K03,
+    /// A component of `seac` is no `seac`. Type 1 Font Format, chapter 6.
+    K04,
+    /// `seac` gives the sidebearing of its accent. Type 1 Font Format, chapter 6.
+    K05,
+    /// `seac` stands alone beside `hsbw` or `sbw`. Type 1 Font Format, chapter 6.
+    K06,
+    /// A component of `seac` has a sidebearing. Type 1 Font Format, chapter 6.
+    K07,
+    /// A glyph has at most 100,000 steps.
+    L01,
+}
+
+impl Rule {
+    /// The number of the rule, from 1 to 69.
+    pub fn number(self) -> u8
+        ensures number { result ≡ number_of self }
+        ensures first { 1 ≤ result }
+        ensures last { result ≤ last_number }
+    {
+        self as u8
+    }
+}

@@ -1,0 +1,117 @@
+//! Alignment zones: Type 1 Font Format 1.1, chapter 5. A zone is a pair of numbers, its lower and its
+//! upper edge. Numbers are in units of 10^-9.
+
+ghost use Rattle.std.specs.Prelude.{◌≡◌, ◌*ℤ◌, ◌-ℤ◌, int_le, pos};
+ghost use Rattle.std.specs.List.{list_any};
+ghost use Rattle.t1_rules.specs.Zones.{begins_zone, come_near, distance, is_too_high, is_too_near, meets, scale, zone_of, zones};
+
+use crate::values::number_or;
+use t1_font::{Font, Key};
+
+/// One, in the unit of numbers.
+const ONE: i64 = 1_000_000_000;
+
+/// One, in the unit of a product of two numbers.
+const PRODUCT_ONE: i128 = 1_000_000_000_000_000_000;
+
+/// BlueScale where the font doesn't give it: 0.039625.
+const USUAL_SCALE: i64 = 39_625_000;
+
+/// The edges of a zone.
+#[derive(Clone, Copy)]
+pub(crate) struct Edges {
+    lower: i64,
+    upper: i64,
+}
+
+/// The distance that zones keep: twice BlueFuzz and one.
+pub(crate) fn distance(font: &Font<'_>) -> i128
+    ensures { result ≡ distance font.now }
+{
+    2 * i128::from(number_or(ONE, &font.entry(Key::BlueFuzz))) + i128::from(ONE)
+}
+
+/// BlueScale.
+pub(crate) fn scale(font: &Font<'_>) -> i64
+    ensures { result ≡ scale font.now }
+{
+    number_or(USUAL_SCALE, &font.entry(Key::BlueScale))
+}
+
+/// How far a number is above another.
+fn difference(above: i64, below: i64) -> i128
+    ensures { result ≡ above -ℤ below }
+{
+    i128::from(above) - i128::from(below)
+}
+
+/// Whether a zone's first number stands here.
+fn begins_zone(numbers: &[i64], index: usize) -> bool
+    ensures { result ≡ begins_zone numbers.now index }
+{
+    index % 2 == 0 && index < numbers.len() && index + 1 < numbers.len()
+}
+
+/// Whether a zone begins here that is nearer to the one before it than the distance.
+pub(crate) fn is_too_near(distance: i128, numbers: &[i64], index: usize) -> bool
+    ensures { result ≡ is_too_near distance numbers.now index }
+{
+    0 < index
+        && begins_zone(numbers, index)
+        && difference(numbers[index], numbers[index - 1]) < distance
+}
+
+/// Whether two zones are nearer to one another than the distance.
+fn come_near(distance: i128, one: Edges, other: Edges) -> bool
+    ensures { result ≡ come_near distance (zone_of one) (zone_of other) }
+{
+    difference(other.lower, one.upper) < distance && difference(one.lower, other.upper) < distance
+}
+
+/// Whether a zone comes near to one of a list.
+fn comes_near_one(distance: i128, zone: Edges, others: &[i64]) -> bool
+    ensures { result ≡ list_any (come_near distance (zone_of zone)) (zones others.now) }
+{
+    let mut rest = others;
+    while let [lower, upper, after @ ..] = rest {
+        let other = Edges {
+            lower: *lower,
+            upper: *upper,
+        };
+        if come_near(distance, zone, other) {
+            return true;
+        }
+        rest = after;
+    }
+    false
+}
+
+/// Whether a zone begins here that comes near to one of another list.
+pub(crate) fn meets(distance: i128, numbers: &[i64], others: &[i64], index: usize) -> bool
+    ensures { result ≡ meets distance numbers.now others.now index }
+{
+    if !begins_zone(numbers, index) {
+        return false;
+    }
+    let zone = Edges {
+        lower: numbers[index],
+        upper: numbers[index + 1],
+    };
+    comes_near_one(distance, zone, others)
+}
+
+/// Whether a height times BlueScale is 1 or more.
+fn reaches_one(lower: i64, upper: i64, scale: i64) -> bool
+    ensures { result ≡ int_le (pos 1000000000000000000) ((upper -ℤ lower) *ℤ scale) }
+{
+    PRODUCT_ONE <= difference(upper, lower) * i128::from(scale)
+}
+
+/// Whether the height of the zone that ends here, times BlueScale, is 1 or more.
+pub(crate) fn is_too_high(scale: i64, numbers: &[i64], index: usize) -> bool
+    ensures { result ≡ is_too_high scale numbers.now index }
+{
+    index % 2 == 1
+        && index < numbers.len()
+        && reaches_one(numbers[index - 1], numbers[index], scale)
+}
