@@ -1,18 +1,17 @@
 -- How the front of a report grows: by a fault, to the end of a place, over places without faults.
-use Rattle.std.proofs.Common.{◌≡◌, ℕ, ◌+◌, ◌-◌, ◌*◌, ◌/◌, ◌%◌, ◌<◌, ◌≤◌, ◌⊎◌, inl, inr, zero, suc, true, false, true≢false, List, [], ◌∷◌, ◌++◌, length, map, slice_index_or, refl, sym, ap, subst, ◌∙◌, arith}
+use Rattle.std.proofs.Common.{◌≡◌, ℕ, ◌+◌, ◌*◌, ◌/◌, ◌%◌, ◌<◌, ◌≤◌, ◌⊎◌, inl, inr, true, false, true≢false, List, [], ◌∷◌, ◌++◌, length, slice_index_or, refl, sym, ap, subst, ◌∙◌, arith}
 use Rattle.std.proofs.lemmas.List.{map-append, length-map}
 use Rattle.std.proofs.lemmas.Bool.{cases_lt, cases_order}
 use Rattle.std.specs.List.{All, Any}
 use Rattle.std.proofs.Math.ListN.{get_or-append}
 use Rattle.std.proofs.Math.Seq.{get_or-append_seam}
-use Rattle.std.proofs.lemmas.List.Elements.{All-append}
 use Rattle.t1_font.specs.Fonts.{FontValue}
 use Rattle.t1_rules.specs.declared.rule.Rule.{Rule}
 use Rattle.t1_rules.specs.FontRules.{font_rules, violated}
 use Rattle.t1_rules.specs.Masks.{HasNoneAbove, IsLeastAbove, has}
 use Rattle.t1_rules.specs.declared.mask.Mask.{Mask}
 use Rattle.t1_rules.specs.Places.{places_of}
-use Rattle.t1_rules.specs.Rules.{number_of, last_number}
+use Rattle.t1_rules.specs.Rules.{number_of}
 use Rattle.t1_rules.proofs.Past.{past_places}
 use Rattle.t1_rules.proofs.Keyed.{past_last}
 use Rattle.t1_report.specs.declared.faults.Fault.{Fault}

@@ -1,5 +1,5 @@
 -- The faults of a report stand in the font.
-use Rattle.std.proofs.Common.{◌≡◌, ℕ, ◌/◌, ◌%◌, ◌<◌, ◌≤◌, ◌∙◌, zero, suc, inl, inr, true≢false, List, [], ◌∷◌, length, map, slice_index_or, refl, sym, subst, ap, arith}
+use Rattle.std.proofs.Common.{◌≡◌, ℕ, ◌/◌, ◌%◌, ◌∙◌, zero, suc, inl, inr, true≢false, List, [], ◌∷◌, map, slice_index_or, refl, sym, subst, arith}
 use Rattle.std.proofs.lemmas.Bool.{cases_lt}
 use Rattle.std.proofs.lemmas.List.{length-map}
 use Rattle.std.specs.List.{All}

@@ -1,11 +1,9 @@
 -- A font has no two reports.
 use Rattle.std.proofs.Common.{◌≡◌, ℕ, ◌+◌, ◌<◌, zero, suc, List, [], ◌∷◌, length, refl, sym, ap, subst, ◌∙◌, ◌⊎◌, inl, inr, arith}
-use Rattle.std.specs.List.{All, Any, slice_index_or}
-use Rattle.t1_rules.specs.declared.rule.Rule.{Rule}
+use Rattle.std.specs.List.{Any, slice_index_or}
 use Rattle.t1_rules.specs.Rules.{number_of}
-use Rattle.t1_font.specs.Fonts.{FontValue}
 use Rattle.t1_report.specs.Faults.{FaultValue}
-use Rattle.t1_report.specs.Reports.{Place, Comes, IsBefore, place_of, StandsAt, IsRising, AreNumbered, IsReport, IsViolation, HasNoOtherReport}
+use Rattle.t1_report.specs.Reports.{Place, Comes, IsBefore, place_of, StandsAt, IsRising, AreNumbered, HasNoOtherReport}
 
 never_itself : (u s r : ℕ) → Comes u s r u s r → ⊥
 never_itself u s r (inl unit) = omega arith

@@ -2,11 +2,11 @@ use crate::{Fault, report, write_fault};
 use arrayvec::ArrayVec;
 use std::alloc::Global;
 use std::test::Fail;
-use t1_font::{read_clear, read_font};
-use t1_io::{Fuse, Limit, Out};
+use t1_font::{Font, Refusal, read_clear, read_font};
+use t1_io::{Fuse, Limit, Out, Sink};
 use t1_rules::Rule;
 use t1_samples::Sample;
-use t1_seal::{join, open_eexec};
+use t1_seal::{Joined, join, open_eexec};
 
 /// A fault without its path.
 #[derive(Clone, Copy, Debug, PartialEq, Eq)]
@@ -17,21 +17,71 @@ struct Told {
     rule: Rule,
 }
 
+/// The two texts of a font.
+#[derive(Drop)]
+struct Texts {
+    clear: Joined,
+    private: Vec<u8>,
+}
+
+impl Texts {
+    fn of(alloc: Global, file: &[u8]) -> Result<Texts, Fail> {
+        let clear = join(alloc, file)?;
+        let after = read_clear(alloc, &clear)?.after();
+        let section = clear.bytes.get(after..).ok_or("the section")?;
+        let private = open_eexec(alloc, section)?;
+        Ok(Texts { clear, private })
+    }
+
+    fn font(&self, alloc: Global) -> Result<Font<'_>, Refusal> {
+        let clear = read_clear(alloc, &self.clear)?;
+        read_font(alloc, clear, self.private.as_slice())
+    }
+
+    fn faults(&self, alloc: Global) -> Result<Vec<Told>, Refusal> {
+        let font = self.font(alloc)?;
+        without_paths(alloc, &font)
+    }
+
+    /// Whether the line of a fault is written, as far as there is room, if the fault stands in the font.
+    fn write(
+        &self,
+        alloc: Global,
+        fault: &Fault,
+        room: usize,
+        text: &mut Vec<u8>,
+    ) -> Result<Option<bool>, Refusal> {
+        let font = self.font(alloc)?;
+        let mut sink = Fuse::sink(Out::new(text), Limit::Bytes(room));
+        Ok(is_written(&mut sink, &font, fault))
+    }
+}
+
+/// The faults of a font.
+fn without_paths(alloc: Global, font: &Font<'_>) -> Result<Vec<Told>, Refusal> {
+    let faults = report(alloc, font)?;
+    let mut told = Vec::new(alloc);
+    for fault in faults.iter() {
+        told.push(Told {
+            number: fault.number,
+            unit: fault.unit,
+            step: fault.step,
+            rule: fault.rule,
+        })?;
+    }
+    Ok(told)
+}
+
+fn is_written<W: Sink>(sink: &mut W, font: &Font<'_>, fault: &Fault) -> Option<bool> {
+    if fault.unit as usize > font.glyphs().len() || fault.step / 65_536 > 21 {
+        return None;
+    }
+    Some(write_fault(sink, font, fault).is_ok())
+}
+
 /// The faults of the file of a font.
 fn faults_of(alloc: Global, file: &[u8]) -> Result<Vec<Told>, Fail> {
-    let joined = join(alloc, file)?;
-    let clear = read_clear(alloc, &joined)?;
-    let (_, section) = joined.bytes.as_slice().split_at(clear.after());
-    let private = open_eexec(alloc, section)?;
-    let font = read_font(alloc, clear, private.as_slice())?;
-    let faults = report(alloc, &font)?;
-    let told = faults.iter().map(|fault| Told {
-        number: fault.number,
-        unit: fault.unit,
-        step: fault.step,
-        rule: fault.rule,
-    });
-    Ok(told.collect::<Vec<Told>>(alloc)?)
+    Ok(Texts::of(alloc, file)?.faults(alloc)?)
 }
 
 #[test]
@@ -64,25 +114,17 @@ fn faults_rise_by_place(rt: HostRuntime) -> Result<(), Fail> {
     Ok(())
 }
 
-/// The line of a fault of a font with the glyphs `.notdef`, `A` and one without a name.
+/// The line of a fault of a font with the glyphs `.notdef`, `A` and one without a name; a mark stands
+/// behind it where the device failed.
 fn line(alloc: Global, fault: &Fault, room: usize) -> Result<Vec<u8>, Fail> {
     let file = Sample::new(alloc)?
         .glyph(b"A", b"")?
         .glyph(b"", b"")?
         .pfb()?;
-    let joined = join(alloc, file.as_slice())?;
-    let clear = read_clear(alloc, &joined)?;
-    let (_, section) = joined.bytes.as_slice().split_at(clear.after());
-    let private = open_eexec(alloc, section)?;
-    let font = read_font(alloc, clear, private.as_slice())?;
     let mut text = Vec::new(alloc);
-    if fault.unit as usize > font.glyphs().len() || fault.step / 65_536 > 21 {
-        return Err(Fail::from("the fault isn't in the font"));
-    }
-    let mut sink = Fuse::sink(Out::new(&mut text), Limit::Bytes(room));
-    let written = write_fault(&mut sink, &font, fault);
-    if written.is_err() {
-        text.extend_from_slice(b"!")?;
+    let written = Texts::of(alloc, file.as_slice())?.write(alloc, fault, room, &mut text)?;
+    if !written.ok_or("a place in the font")? {
+        text.push(b'!')?;
     }
     Ok(text)
 }
