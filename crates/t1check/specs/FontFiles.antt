@@ -38,7 +38,7 @@ of_refusal refusal.Memory = Memory
 abbrev pub marks_in : JoinedText → Marks
 marks_in joined = record { no_end = joined.pfb && not joined.end_segment; extra = joined.trailing }
 
--- What the clear text states and the private text after it.
+-- The font that was read, or the program's word for why none was.
 abbrev pub as_unread : Result FontValue Refusal → Result FontValue Unread
 as_unread (Ok font) = Ok font
 as_unread (Err e) = Err (of_refusal e)
