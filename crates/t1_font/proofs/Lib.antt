@@ -5,8 +5,10 @@ pub mod EntriesAlone
 pub mod FontMaps
 pub mod GlyphNames
 pub mod GlyphsRead
+pub mod ListValues
 pub mod Lists
 pub mod Maps
+pub mod NumberLists
 pub mod PrivateItemsRead
 pub mod PrivateRead
 pub mod Reading

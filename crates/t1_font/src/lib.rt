@@ -38,6 +38,7 @@ mod statement;
 mod tests;
 mod texts;
 mod tokens;
+mod value_laws;
 
 pub use clear::{Clear, read_clear, read_font};
 pub use encoding::Encoding;
@@ -51,3 +52,4 @@ pub use laws::{
     words_between_entries_pass,
 };
 pub use refusal::Refusal;
+pub use value_laws::tokens_decide_lists;
