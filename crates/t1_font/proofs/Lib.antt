@@ -5,6 +5,7 @@ pub mod EntriesAlone
 pub mod FontMaps
 pub mod GlyphNames
 pub mod GlyphsRead
+pub mod LimitsKept
 pub mod ListValues
 pub mod Lists
 pub mod Maps
@@ -19,5 +20,6 @@ pub mod Stating
 pub mod Steps
 pub mod SubrsRead
 pub mod Tables
+pub mod TurnsWithin
 pub mod UsualExample
 pub mod WrittenRead

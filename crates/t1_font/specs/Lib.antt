@@ -5,6 +5,7 @@ pub mod Fonts
 pub mod Keys
 pub mod Laws
 pub mod LenIv
+pub mod Limits
 pub mod ListLaws
 pub mod PrivateText
 pub mod Puts

@@ -29,6 +29,7 @@ mod entry;
 mod font;
 mod key;
 mod laws;
+mod limit_laws;
 mod mode;
 mod plain_values;
 mod private_text;
@@ -51,5 +52,6 @@ pub use laws::{
     usual_clear_texts_are_read, usual_fonts_are_read, usual_private_texts_are_read,
     words_between_entries_pass,
 };
+pub use limit_laws::limits_are_kept;
 pub use refusal::Refusal;
 pub use value_laws::tokens_decide_lists;

@@ -7,7 +7,7 @@ ghost use Rattle.t1_rules.specs.Keys.{encoding_key, file_key, glyphs_key, key_nu
 ghost use Rattle.t1_rules.specs.Masks.{has};
 
 use crate::glyphs::{
-    NOT_DEFINED, encodes_missing, has_glyph, is_glyph_twice, is_no_form, is_wrong_subr,
+    encodes_missing, is_glyph_twice, is_no_form, is_wrong_subr, lacks_not_defined,
 };
 use crate::mask::Mask;
 use crate::rule::Rule;
@@ -102,7 +102,7 @@ pub(crate) fn glyph_faults(font: &Font<'_>, index: u32) -> Mask
     ensures { (n : ℕ) → has result n ≡ violated font_rules n font.now glyphs_key index }
 {
     Mask::of(&[
-        (Rule::F09, (index == 0) & !has_glyph(font, NOT_DEFINED)),
+        (Rule::F09, lacks_not_defined(font, index)),
         (Rule::F10, is_glyph_twice(font, index)),
     ])
 }

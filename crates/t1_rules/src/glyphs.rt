@@ -1,13 +1,13 @@
 //! What an Encoding, the Subrs and the CharStrings say.
 
-ghost use Rattle.std.specs.Prelude.{◌≡◌};
+ghost use Rattle.std.specs.Prelude.{◌≡◌, ◌==◌, ◌&&◌, not};
 ghost use Rattle.t1_font.specs.Views.{bytes_of};
-ghost use Rattle.t1_rules.specs.Glyphs.{encodes_missing, has_glyph, is_custom, is_glyph_twice, is_missing, is_no_form, is_wrong_subr};
+ghost use Rattle.t1_rules.specs.Glyphs.{encodes_missing, has_glyph, is_custom, is_glyph_twice, is_missing, is_no_form, is_wrong_subr, not_defined};
 
 use t1_font::{Encoding, Font};
 
 /// The glyph that stands for all that are missing.
-pub(crate) const NOT_DEFINED: &[u8] = b".notdef";
+const NOT_DEFINED: &[u8] = b".notdef";
 
 /// How many codes an encoding has.
 const CODES: u32 = 256;
@@ -35,8 +35,15 @@ fn is_custom(encoding: Encoding) -> bool
     }
 }
 
+/// Whether no glyph is `.notdef`, which is said at index 0 and looked up there alone.
+pub(crate) fn lacks_not_defined(font: &Font<'_>, index: u32) -> bool
+    ensures { result ≡ (index == 0 && not (has_glyph font.now not_defined)) }
+{
+    index == 0 && !has_glyph(font, NOT_DEFINED)
+}
+
 /// Whether a glyph has this name.
-pub(crate) fn has_glyph(font: &Font<'_>, name: &[u8]) -> bool
+fn has_glyph(font: &Font<'_>, name: &[u8]) -> bool
     ensures { result ≡ has_glyph font.now name.now }
 {
     font.glyphs().contains_key(&name)
