@@ -1,6 +1,5 @@
-ghost use Rattle.std.specs.Prelude.{◌≡◌, ℕ, ◌≤◌, ◌<◌, ◌⊎◌, true, false, length, IfOk, IfErr, OnOk, OnErr, IsErr};
-ghost use Rattle.std.specs.Io.KnownBytes.{ReadConsumes, WriteAppends, Keeps};
-ghost use Rattle.t1_io.specs.Devices.{one_more, flushed_after_put, flushed_after_flush};
+ghost use Rattle.std.specs.Prelude.{◌≡◌, ◌≤◌, ◌⊎◌, true, false, length, IfOk, OnErr, IsErr};
+ghost use Rattle.t1_io.specs.Devices.{Flushes, Puts, Takes};
 ghost use Rattle.t1_io.specs.Limits.{has_blown, let_through, burnt, lets_some_through, count_of};
 
 use crate::{Broken, Limit, Sink, Source};
@@ -15,6 +14,7 @@ pub struct Fuse<D> {
     /// What is left of the fuse.
     pub limit: Limit,
     takes: u64,
+    failed_puts: u64,
     failed: bool,
     ghost moves: { lets_some_through limit ≡ true },
 }
@@ -25,17 +25,10 @@ impl<D: Source> Fuse<D> {
         requires { lets_some_through limit ≡ true }
         ensures device { result.device ≡ device }
         ensures limit { result.limit ≡ limit }
-        ensures left { ⟦<Fuse<D> as Source>⟧.left result ≡ D.left device }
-        ensures takes { ⟦<Fuse<D> as Source>⟧.takes result ≡ 0 }
-        ensures failed { ⟦<Fuse<D> as Source>⟧.failed result ≡ D.failed device }
+        ensures state { ⟦<Fuse<D> as Source>⟧.state result ≡ record (D.state device) { takes = 0 } }
     {
-        let (takes, failed) = (0, device.has_failed());
-        Fuse {
-            device,
-            limit,
-            takes,
-            failed,
-        }
+        let read_failed = device.has_failed();
+        Fuse::over(device, limit, read_failed)
     }
 }
 
@@ -45,37 +38,43 @@ impl<D: Sink> Fuse<D> {
         requires { lets_some_through limit ≡ true }
         ensures device { result.device ≡ device }
         ensures limit { result.limit ≡ limit }
-        ensures written { ⟦<Fuse<D> as Sink>⟧.written result ≡ D.written device }
-        ensures flushed { ⟦<Fuse<D> as Sink>⟧.flushed result ≡ D.flushed device }
-        ensures failed { ⟦<Fuse<D> as Sink>⟧.failed result ≡ D.failed device }
+        ensures state { ⟦<Fuse<D> as Sink>⟧.state result ≡ record (D.state device) { failed_puts = 0 } }
     {
-        let failed = device.has_failed();
+        let write_failed = device.has_failed();
+        Fuse::over(device, limit, write_failed)
+    }
+}
+
+impl<D> Fuse<D> {
+    /// A fuse that moved nothing yet, over a device of which a call has failed or hasn't.
+    fn over(device: D, limit: Limit, failed: bool) -> Fuse<D>
+        requires { lets_some_through limit ≡ true }
+        ensures device { result.device ≡ device }
+        ensures limit { result.limit ≡ limit }
+        ensures takes { result.takes ≡ 0 }
+        ensures failed_puts { result.failed_puts ≡ 0 }
+        ensures failed { result.failed ≡ failed }
+    {
         Fuse {
             device,
             limit,
             takes: 0,
+            failed_puts: 0,
             failed,
         }
     }
 }
 
 impl<D: Source> Source for Fuse<D> {
-    ghost left = { λ fuse. D.left fuse.device };
-
-    ghost takes = { λ fuse. fuse.takes };
-
-    ghost failed = { λ fuse. fuse.failed };
+    ghost state = { λ fuse. record (D.state fuse.device) { takes = fuse.takes; failed = fuse.failed } };
 
     fn take(&mut self, buffer: &mut [u8]) -> Result<usize, Broken>
-        ensures bound { IfOk result (λ n. n ≤ length buffer.new) }
-        ensures bytes { ReadConsumes (D.left self.old.device) (D.left self.new.device) result buffer.new }
-        ensures takes { ⟦<Fuse<D> as Source>⟧.takes self.new ≡ one_more (⟦<Fuse<D> as Source>⟧.takes self.old) }
-        ensures kept { OnOk result (⟦<Fuse<D> as Source>⟧.failed self.new ≡ ⟦<Fuse<D> as Source>⟧.failed self.old) }
-        ensures broken { OnErr result (⟦<Fuse<D> as Source>⟧.failed self.new ≡ true) }
+        ensures takes { Takes (⟦<Fuse<D> as Source>⟧.state self.old) (⟦<Fuse<D> as Source>⟧.state self.new) buffer.new result }
 
         ensures blown { has_blown self.old.limit ≡ true → IsErr result }
         ensures still { has_blown self.old.limit ≡ true → self.new.device ≡ self.old.device }
-        ensures fails { OnErr result ((has_blown self.old.limit ≡ true) ⊎ (D.failed self.new.device ≡ true)) }
+        ensures fails { OnErr result ((has_blown self.old.limit ≡ true) ⊎ ((D.state self.new.device).failed ≡ true)) }
+        ensures passed_on { (D.state self.old.device).failed ≡ false → (D.state self.new.device).failed ≡ true → IsErr result }
         ensures moved { IfOk result (λ n. n ≤ let_through self.old.limit (length buffer.new)) }
         ensures burnt { self.new.limit ≡ burnt self.old.limit (count_of result) }
     {
@@ -105,28 +104,21 @@ impl<D: Source> Source for Fuse<D> {
 }
 
 impl<D: Sink> Sink for Fuse<D> {
-    ghost written = { λ fuse. D.written fuse.device };
-
-    ghost flushed = { λ fuse. D.flushed fuse.device };
-
-    ghost failed = { λ fuse. fuse.failed };
+    ghost state = { λ fuse. record (D.state fuse.device) { failed_puts = fuse.failed_puts; failed = fuse.failed } };
 
     fn put(&mut self, bytes: &[u8]) -> Result<usize, Broken>
-        ensures bound { IfOk result (λ n. n ≤ length bytes.now) }
-        ensures some { IfOk result (λ n. 0 < length bytes.now → 0 < n) }
-        ensures bytes { WriteAppends (D.written self.old.device) (D.written self.new.device) result bytes.now }
-        ensures flushed { D.flushed self.new.device ≡ flushed_after_put (D.flushed self.old.device) result }
-        ensures kept { OnOk result (⟦<Fuse<D> as Sink>⟧.failed self.new ≡ ⟦<Fuse<D> as Sink>⟧.failed self.old) }
-        ensures broken { OnErr result (⟦<Fuse<D> as Sink>⟧.failed self.new ≡ true) }
+        ensures puts { Puts (⟦<Fuse<D> as Sink>⟧.state self.old) (⟦<Fuse<D> as Sink>⟧.state self.new) bytes.now result }
 
         ensures blown { has_blown self.old.limit ≡ true → IsErr result }
         ensures still { has_blown self.old.limit ≡ true → self.new.device ≡ self.old.device }
-        ensures fails { OnErr result ((has_blown self.old.limit ≡ true) ⊎ (D.failed self.new.device ≡ true)) }
+        ensures fails { OnErr result ((has_blown self.old.limit ≡ true) ⊎ ((D.state self.new.device).failed ≡ true)) }
+        ensures passed_on { (D.state self.old.device).failed ≡ false → (D.state self.new.device).failed ≡ true → IsErr result }
         ensures moved { IfOk result (λ n. n ≤ let_through self.old.limit (length bytes.now)) }
         ensures burnt { self.new.limit ≡ burnt self.old.limit (count_of result) }
     {
         if self.limit.has_blown() {
             self.limit = self.limit.burnt(0);
+            self.failed_puts = self.failed_puts.saturating_add(1);
             self.failed = true;
             return Err(Broken);
         }
@@ -138,6 +130,7 @@ impl<D: Sink> Sink for Fuse<D> {
             }
             Err(broken) => {
                 self.limit = self.limit.burnt(0);
+                self.failed_puts = self.failed_puts.saturating_add(1);
                 self.failed = true;
                 Err(broken)
             }
@@ -145,14 +138,12 @@ impl<D: Sink> Sink for Fuse<D> {
     }
 
     fn flush(&mut self) -> Result<(), Broken>
-        ensures bytes { Keeps (D.written self.old.device) (D.written self.new.device) }
-        ensures flushed { D.flushed self.new.device ≡ flushed_after_flush (D.flushed self.old.device) result }
-        ensures kept { OnOk result (⟦<Fuse<D> as Sink>⟧.failed self.new ≡ ⟦<Fuse<D> as Sink>⟧.failed self.old) }
-        ensures broken { OnErr result (⟦<Fuse<D> as Sink>⟧.failed self.new ≡ true) }
+        ensures flushes { Flushes (⟦<Fuse<D> as Sink>⟧.state self.old) (⟦<Fuse<D> as Sink>⟧.state self.new) result }
 
         ensures blown { has_blown self.old.limit ≡ true → IsErr result }
         ensures still { has_blown self.old.limit ≡ true → self.new.device ≡ self.old.device }
-        ensures fails { OnErr result ((has_blown self.old.limit ≡ true) ⊎ (D.failed self.new.device ≡ true)) }
+        ensures fails { OnErr result ((has_blown self.old.limit ≡ true) ⊎ ((D.state self.new.device).failed ≡ true)) }
+        ensures passed_on { (D.state self.old.device).failed ≡ false → (D.state self.new.device).failed ≡ true → IsErr result }
         ensures burnt { self.new.limit ≡ burnt self.old.limit 0 }
     {
         let blown = self.limit.has_blown();

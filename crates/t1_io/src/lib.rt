@@ -32,7 +32,7 @@ pub use fuse::Fuse;
 pub use limit::Limit;
 pub use sink::{Out, Sink};
 pub use source::{In, Source};
-pub use writing::{put_all, put_parts};
+pub use writing::{deliver, put_all, put_parts};
 
 #[cfg(test)]
 mod tests;

@@ -1,17 +1,11 @@
-ghost use Rattle.std.specs.Prelude.{◌≡◌, ◌==◌, ◌&&◌, true, length, OnOk, OnErr};
-ghost use Rattle.std.specs.Io.KnownBytes.{Appends};
-ghost use Rattle.t1_io.specs.Devices.{AppendsFront, whole_of};
+ghost use Rattle.t1_io.specs.Devices.{Delivers, Writes, whole_of};
 
 use crate::{Broken, Sink};
 
 /// Writes all of `bytes`, in as many calls of `put` as the sink wants. After a failure a front of
 /// `bytes` went out.
 pub fn put_all<W: Sink>(sink: &mut W, bytes: &[u8]) -> Result<(), Broken>
-    ensures all { OnOk result (Appends (W.written sink.old) (W.written sink.new) bytes.now) }
-    ensures front { OnErr result (AppendsFront (W.written sink.old) (W.written sink.new) bytes.now) }
-    ensures flushed { OnOk result (W.flushed sink.new ≡ (W.flushed sink.old && length bytes.now == 0)) }
-    ensures kept { OnOk result (W.failed sink.new ≡ W.failed sink.old) }
-    ensures broken { OnErr result (W.failed sink.new ≡ true) }
+    ensures { Writes (W.state sink.old) (W.state sink.new) bytes.now result }
 {
     let mut at = 0;
     while at < bytes.len() {
@@ -23,14 +17,18 @@ pub fn put_all<W: Sink>(sink: &mut W, bytes: &[u8]) -> Result<(), Broken>
 /// Writes the parts of a text one after another, as [`put_all`] writes each. After a failure a front
 /// of the text went out.
 pub fn put_parts<W: Sink>(sink: &mut W, parts: &[&[u8]]) -> Result<(), Broken>
-    ensures all { OnOk result (Appends (W.written sink.old) (W.written sink.new) (whole_of parts.now)) }
-    ensures front { OnErr result (AppendsFront (W.written sink.old) (W.written sink.new) (whole_of parts.now)) }
-    ensures flushed { OnOk result (W.flushed sink.new ≡ (W.flushed sink.old && length (whole_of parts.now) == 0)) }
-    ensures kept { OnOk result (W.failed sink.new ≡ W.failed sink.old) }
-    ensures broken { OnErr result (W.failed sink.new ≡ true) }
+    ensures { Writes (W.state sink.old) (W.state sink.new) (whole_of parts.now) result }
 {
     for part in parts {
         put_all(sink, part)?;
     }
     Ok(())
+}
+
+/// Writes all of `bytes` and flushes them.
+pub fn deliver<W: Sink>(sink: &mut W, bytes: &[u8]) -> Result<(), Broken>
+    ensures { Delivers (W.state sink.old) (W.state sink.new) bytes.now result }
+{
+    put_all(sink, bytes)?;
+    sink.flush()
 }

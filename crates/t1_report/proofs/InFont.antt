@@ -9,9 +9,9 @@ use Rattle.t1_rules.proofs.Keyed.{past_last}
 use Rattle.t1_report.specs.declared.faults.Fault.{Fault}
 use Rattle.t1_report.specs.Faults.{FaultValue, fault_value, faults_of}
 use Rattle.t1_report.specs.Lines.{IsInFont}
-use Rattle.t1_report.specs.Reports.{IsReport, IsViolation}
+use Rattle.t1_report.specs.Reports.{IsReport, IsViolated, IsViolationOf, path_at}
 
-in_font : (font : FontValue) (fault : FaultValue) → IsViolation font fault → IsInFont font fault
+in_font : (font : FontValue) (fault : FaultValue) → IsViolationOf (IsViolated font) (path_at font) fault → IsInFont font fault
 in_font font fault is = record {
   unit = (let zero_unit = is.violated.in_font in omega arith);
   key = λ unit. elim (cases_lt (fault.step / 65536) 22) [
@@ -29,4 +29,4 @@ pub all_in_font : (font : FontValue) (faults : List Fault) → IsReport font (fa
 all_in_font font faults report k d lt =
     let within = length-map faults fault_value in
     in_font font (fault_value (slice_index_or faults k d))
-    (subst (IsViolation font) (value_at faults k d) (report.violations k (fault_value d) (omega (arith, within))))
+    (subst (IsViolationOf (IsViolated font) (path_at font)) (value_at faults k d) (report.violations k (fault_value d) (omega (arith, within))))

@@ -1,6 +1,7 @@
 pub mod DecimalLemmas
 pub mod OneReport
 pub mod RuleNumbers
+pub mod FontFronts
 pub mod Fronts
 pub mod InFont
-pub mod LineLemmas
+pub mod GlyphNames

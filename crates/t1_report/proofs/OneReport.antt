@@ -1,9 +1,9 @@
--- A font has no two reports.
+-- There are no two reports of the same violations.
 use Rattle.std.proofs.Common.{◌≡◌, ℕ, ◌+◌, ◌<◌, zero, suc, List, [], ◌∷◌, length, refl, sym, ap, subst, ◌∙◌, ◌⊎◌, inl, inr, arith}
 use Rattle.std.specs.List.{Any, slice_index_or}
 use Rattle.t1_rules.specs.Rules.{number_of}
 use Rattle.t1_report.specs.Faults.{FaultValue}
-use Rattle.t1_report.specs.Reports.{Place, Comes, IsBefore, place_of, StandsAt, IsRising, AreNumbered, HasNoOtherReport}
+use Rattle.t1_report.specs.Reports.{Place, Comes, IsBefore, place_of, StandsAt, IsRising, AreNumbered, HasNoOtherReport, IsReportOf, IsViolated, path_at}
 
 never_itself : (u s r : ℕ) → Comes u s r u s r → ⊥
 never_itself u s r (inl unit) = omega arith
@@ -31,9 +31,9 @@ both p q = never_both p.unit p.step (number_of p.rule) q.unit q.step (number_of 
 abbrev AreAmong : List FaultValue → List FaultValue → Type 0
 AreAmong xs ys = (i : ℕ) (d : FaultValue) → i < length xs → Any (StandsAt (place_of (slice_index_or xs i d))) ys
 
--- no Subr is being executed
-abbrev HaveNoPath : List FaultValue → Type 0
-HaveNoPath xs = (i : ℕ) (d : FaultValue) → i < length xs → (slice_index_or xs i d).path ≡ []
+-- each has the path of its place
+abbrev HavePaths : (Place → List ℕ) → List FaultValue → Type 0
+HavePaths path_of xs = (i : ℕ) (d : FaultValue) → i < length xs → (slice_index_or xs i d).path ≡ path_of (place_of (slice_index_or xs i d))
 
 rising_tail : (x : FaultValue) (xs : List FaultValue) → IsRising (x ∷ xs) → IsRising xs
 rising_tail x xs rising i j d lt within = rising (suc i) (suc j) d (omega arith) (omega arith)
@@ -73,26 +73,29 @@ among_tail x y xs ys same rising among i d lt = later (among (suc i) d (omega ar
 made : ℕ → Place → List ℕ → FaultValue
 made number p path = record { number = number; unit = p.unit; step = p.step; rule = p.rule; path = path }
 
-same_fault : (x y : FaultValue) → x.number ≡ y.number → place_of x ≡ place_of y → x.path ≡ [] → y.path ≡ [] → x ≡ y
+same_fault : (path_of : Place → List ℕ) (x y : FaultValue) → x.number ≡ y.number → place_of x ≡ place_of y → x.path ≡ path_of (place_of x) → y.path ≡ path_of (place_of y) → x ≡ y
 unfolding made
-same_fault x y number place none none' =
+same_fault path_of x y number place path path' =
     ap (λ (n : ℕ). made n (place_of x) x.path) number ∙ ap (λ (p : Place). made y.number p x.path) place
-    ∙ ap (made y.number (place_of y)) (none ∙ sym none')
+    ∙ ap (made y.number (place_of y)) (path ∙ ap path_of place ∙ sym path')
 
-equal_lists : (n : ℕ) (xs ys : List FaultValue) → IsRising xs → IsRising ys → AreAmong xs ys → AreAmong ys xs → AreNumbered n xs → AreNumbered n ys → HaveNoPath xs → HaveNoPath ys → xs ≡ ys
-equal_lists n [] [] rise rise' among among' number number' none none' = refl
-equal_lists n [] (y ∷ ys) rise rise' among among' number number' none none' = let found = among' 0 y (omega arith) in absurd (omega (arith, found.2))
-equal_lists n (x ∷ xs) [] rise rise' among among' number number' none none' = let found = among 0 x (omega arith) in absurd (omega (arith, found.2))
-equal_lists n (x ∷ xs) (y ∷ ys) rise rise' among among' number number' none none' =
+equal_lists : (path_of : Place → List ℕ) (n : ℕ) (xs ys : List FaultValue) → IsRising xs → IsRising ys → AreAmong xs ys → AreAmong ys xs → AreNumbered n xs → AreNumbered n ys → HavePaths path_of xs → HavePaths path_of ys → xs ≡ ys
+equal_lists path_of n [] [] rise rise' among among' number number' none none' = refl
+equal_lists path_of n [] (y ∷ ys) rise rise' among among' number number' none none' = let found = among' 0 y (omega arith) in absurd (omega (arith, found.2))
+equal_lists path_of n (x ∷ xs) [] rise rise' among among' number number' none none' = let found = among 0 x (omega arith) in absurd (omega (arith, found.2))
+equal_lists path_of n (x ∷ xs) (y ∷ ys) rise rise' among among' number number' none none' =
     let same = heads_same x y xs ys rise rise' among among' in
-    let first : x ≡ y = same_fault x y (number 0 x (omega arith) ∙ sym (number' 0 y (omega arith))) same (none 0 x (omega arith)) (none' 0 y (omega arith)) in
-    let rest : xs ≡ ys = equal_lists (n + 1) xs ys (rising_tail x xs rise) (rising_tail y ys rise') (among_tail x y xs ys same rise among)
+    let first : x ≡ y = same_fault path_of x y (number 0 x (omega arith) ∙ sym (number' 0 y (omega arith))) same (none 0 x (omega arith)) (none' 0 y (omega arith)) in
+    let rest : xs ≡ ys = equal_lists path_of (n + 1) xs ys (rising_tail x xs rise) (rising_tail y ys rise') (among_tail x y xs ys same rise among)
     (among_tail y x ys xs (sym same) rise' among') (numbered_tail n x xs number) (numbered_tail n y ys number')
     (λ i d lt. none (suc i) d (omega arith)) (λ i d lt. none' (suc i) d (omega arith)) in
     ap (λ (z : FaultValue). z ∷ xs) first ∙ ap (λ (zs : List FaultValue). y ∷ zs) rest
 
-pub no_other_report : HasNoOtherReport
-no_other_report font a b p q =
-    equal_lists 1 a b p.rising q.rising (λ i d lt. q.complete (place_of (slice_index_or a i d)) (p.violations i d lt).violated)
+pub one_report : (Violated : Place → Type 0) (path_of : Place → List ℕ) (a b : List FaultValue) → IsReportOf Violated path_of a → IsReportOf Violated path_of b → a ≡ b
+one_report Violated path_of a b p q =
+    equal_lists path_of 1 a b p.rising q.rising (λ i d lt. q.complete (place_of (slice_index_or a i d)) (p.violations i d lt).violated)
     (λ i d lt. p.complete (place_of (slice_index_or b i d)) (q.violations i d lt).violated) p.numbered q.numbered
     (λ i d lt. (p.violations i d lt).path) (λ i d lt. (q.violations i d lt).path)
+
+pub no_other_report : HasNoOtherReport
+no_other_report font a b = one_report (IsViolated font) (path_at font) a b

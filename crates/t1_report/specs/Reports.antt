@@ -31,10 +31,9 @@ pub record IsViolated (font : FontValue) (p : Place) : Type 0 where
 abbrev pub place_of : FaultValue → Place
 place_of fault = record { unit = fault.unit; step = fault.step; rule = fault.rule }
 
--- A fault is a violation, with the path of its step; in the font no Subr is being executed.
-pub record IsViolation (font : FontValue) (fault : FaultValue) : Type 0 where
-  pub violated : IsViolated font (place_of fault)
-  pub path : fault.path ≡ []
+-- The Subrs that are being executed at a place, the outermost first: none in the font.
+abbrev pub path_at : FontValue → Place → List ℕ
+path_at font p = []
 
 -- The fault stands at this place.
 abbrev pub StandsAt : Place → FaultValue → Type 0
@@ -49,21 +48,34 @@ IsRising faults = (i j : ℕ) (d : FaultValue) → i < j → j < length faults �
 abbrev pub AreNumbered : ℕ → List FaultValue → Type 0
 AreNumbered n faults = (i : ℕ) (d : FaultValue) → i < length faults → (slice_index_or faults i d).number ≡ i + n
 
--- A report of a font: strictly rising, its members exactly the violations, numbered from 1.
-pub record IsReport (font : FontValue) (faults : List FaultValue) : Type 0 where
+-- Over any violations, and what the path of each place is: a fault is a violation, with the path of its place.
+pub record IsViolationOf (Violated : Place → Type 0) (path_of : Place → List ℕ) (fault : FaultValue) : Type 0 where
+  pub violated : Violated (place_of fault)
+  pub path : fault.path ≡ path_of (place_of fault)
+
+-- A report of these violations: strictly rising, its members exactly the violations, numbered from 1.
+pub record IsReportOf (Violated : Place → Type 0) (path_of : Place → List ℕ) (faults : List FaultValue) : Type 0 where
   pub rising : IsRising faults
-  pub violations : All (IsViolation font) faults
-  pub complete : (p : Place) → IsViolated font p → Any (StandsAt p) faults
+  pub violations : All (IsViolationOf Violated path_of) faults
+  pub complete : (p : Place) → Violated p → Any (StandsAt p) faults
   pub numbered : AreNumbered 1 faults
+
+-- The front of such a report: all violations that come before this unit, step and rule number, and no other.
+pub record IsFrontOf (Violated : Place → Type 0) (path_of : Place → List ℕ) (unit step rule : ℕ) (faults : List FaultValue) : Type 0 where
+  pub rising : IsRising faults
+  pub violations : All (IsViolationOf Violated path_of) faults
+  pub before : All (λ fault. Comes fault.unit fault.step (number_of fault.rule) unit step rule) faults
+  pub complete : (p : Place) → Violated p → Comes p.unit p.step (number_of p.rule) unit step rule → Any (StandsAt p) faults
+  pub numbered : AreNumbered 1 faults
+
+-- The report of a font.
+abbrev pub IsReport : FontValue → List FaultValue → Type 0
+IsReport font faults = IsReportOf (IsViolated font) (path_at font) faults
+
+-- The front of a font's report.
+abbrev pub IsFront : FontValue → ℕ → ℕ → ℕ → List FaultValue → Type 0
+IsFront font unit step rule faults = IsFrontOf (IsViolated font) (path_at font) unit step rule faults
 
 -- A font has no two reports.
 abbrev pub HasNoOtherReport : Type 0
 HasNoOtherReport = (font : FontValue) (a b : List FaultValue) → IsReport font a → IsReport font b → a ≡ b
-
--- The front of a report: all violations that come before this unit, step and rule number, and no other.
-pub record IsFront (font : FontValue) (unit step rule : ℕ) (faults : List FaultValue) : Type 0 where
-  pub rising : IsRising faults
-  pub violations : All (IsViolation font) faults
-  pub before : All (λ fault. Comes fault.unit fault.step (number_of fault.rule) unit step rule) faults
-  pub complete : (p : Place) → IsViolated font p → Comes p.unit p.step (number_of p.rule) unit step rule → Any (StandsAt p) faults
-  pub numbered : AreNumbered 1 faults

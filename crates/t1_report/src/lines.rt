@@ -1,9 +1,8 @@
 //! The lines of a report.
 
-ghost use Rattle.std.specs.Prelude.{◌≡◌, ◌≤◌, ◌/◌, true, OnOk, OnErr};
+ghost use Rattle.std.specs.Prelude.{◌≡◌, ◌≤◌, ◌/◌};
 ghost use Rattle.std.specs.List.{flat_map};
-ghost use Rattle.std.specs.Io.KnownBytes.{Appends};
-ghost use Rattle.t1_io.specs.Devices.{AppendsFront};
+ghost use Rattle.t1_io.specs.Devices.{Writes};
 ghost use Rattle.t1_report.specs.Faults.{fault_value};
 ghost use Rattle.t1_report.specs.Lines.{IsInFont, glyph_name, glyph_place, inner_text, key_place, line_of, path_text, place_text};
 
@@ -19,10 +18,7 @@ use t1_rules::{key_text, rule_code, rule_text};
 /// glyphs.
 pub fn write_fault<W: Sink>(sink: &mut W, font: &Font<'_>, fault: &Fault) -> Result<(), Broken>
     requires { IsInFont font.now (fault_value fault.now) }
-    ensures all { OnOk result (Appends (W.written sink.old) (W.written sink.new) (line_of font.now (fault_value fault.now))) }
-    ensures front { OnErr result (AppendsFront (W.written sink.old) (W.written sink.new) (line_of font.now (fault_value fault.now))) }
-    ensures kept { OnOk result (W.failed sink.new ≡ W.failed sink.old) }
-    ensures broken { OnErr result (W.failed sink.new ≡ true) }
+    ensures { Writes (W.state sink.old) (W.state sink.new) (line_of font.now (fault_value fault.now)) result }
 {
     let number = Decimal::new(fault.number);
     put_parts(sink, &[number.digits(), b": "])?;
@@ -42,25 +38,19 @@ pub fn write_fault<W: Sink>(sink: &mut W, font: &Font<'_>, fault: &Fault) -> Res
 /// Writes where a fault stands.
 fn write_place<W: Sink>(sink: &mut W, font: &Font<'_>, fault: &Fault) -> Result<(), Broken>
     requires { IsInFont font.now (fault_value fault.now) }
-    ensures all { OnOk result (Appends (W.written sink.old) (W.written sink.new) (place_text font.now (fault_value fault.now))) }
-    ensures front { OnErr result (AppendsFront (W.written sink.old) (W.written sink.new) (place_text font.now (fault_value fault.now))) }
-    ensures kept { OnOk result (W.failed sink.new ≡ W.failed sink.old) }
-    ensures broken { OnErr result (W.failed sink.new ≡ true) }
+    ensures { Writes (W.state sink.old) (W.state sink.new) (place_text font.now (fault_value fault.now)) result }
 {
     if fault.unit == 0 {
-        write_key(sink, fault.step)
+        write_key_place(sink, fault.step)
     } else {
-        write_glyph(sink, font, fault)
+        write_glyph_place(sink, font, fault)
     }
 }
 
 /// Writes the key and the index of a step of the font.
-fn write_key<W: Sink>(sink: &mut W, step: u32) -> Result<(), Broken>
+fn write_key_place<W: Sink>(sink: &mut W, step: u32) -> Result<(), Broken>
     requires { step / 65536 ≤ 21 }
-    ensures all { OnOk result (Appends (W.written sink.old) (W.written sink.new) (key_place step)) }
-    ensures front { OnErr result (AppendsFront (W.written sink.old) (W.written sink.new) (key_place step)) }
-    ensures kept { OnOk result (W.failed sink.new ≡ W.failed sink.old) }
-    ensures broken { OnErr result (W.failed sink.new ≡ true) }
+    ensures { Writes (W.state sink.old) (W.state sink.new) (key_place step) result }
 {
     let key = (step / STEPS_OF_A_KEY) as u8;
     let index = Decimal::new(u64::from(step % STEPS_OF_A_KEY));
@@ -71,12 +61,9 @@ fn write_key<W: Sink>(sink: &mut W, step: u32) -> Result<(), Broken>
 }
 
 /// Writes the glyph, the path and the step of a fault.
-fn write_glyph<W: Sink>(sink: &mut W, font: &Font<'_>, fault: &Fault) -> Result<(), Broken>
+fn write_glyph_place<W: Sink>(sink: &mut W, font: &Font<'_>, fault: &Fault) -> Result<(), Broken>
     requires { 1 ≤ fault.now.unit }
-    ensures all { OnOk result (Appends (W.written sink.old) (W.written sink.new) (glyph_place font.now (fault_value fault.now))) }
-    ensures front { OnErr result (AppendsFront (W.written sink.old) (W.written sink.new) (glyph_place font.now (fault_value fault.now))) }
-    ensures kept { OnOk result (W.failed sink.new ≡ W.failed sink.old) }
-    ensures broken { OnErr result (W.failed sink.new ≡ true) }
+    ensures { Writes (W.state sink.old) (W.state sink.new) (glyph_place font.now (fault_value fault.now)) result }
 {
     put_parts(sink, &[b"glyph ", glyph_name(font, fault.unit - 1), b" "])?;
     write_path(sink, fault.path.as_slice())?;
@@ -96,10 +83,7 @@ fn glyph_name<'a>(font: &Font<'a>, glyph: u32) -> &'a [u8]
 
 /// Writes the Subrs that are being executed: `5>6`, or `-` where there is none.
 fn write_path<W: Sink>(sink: &mut W, path: &[u32]) -> Result<(), Broken>
-    ensures all { OnOk result (Appends (W.written sink.old) (W.written sink.new) (path_text path.now)) }
-    ensures front { OnErr result (AppendsFront (W.written sink.old) (W.written sink.new) (path_text path.now)) }
-    ensures kept { OnOk result (W.failed sink.new ≡ W.failed sink.old) }
-    ensures broken { OnErr result (W.failed sink.new ≡ true) }
+    ensures { Writes (W.state sink.old) (W.state sink.new) (path_text path.now) result }
 {
     let Some((outermost, inner)) = path.split_first() else {
         return put_all(sink, b"-");
@@ -111,10 +95,7 @@ fn write_path<W: Sink>(sink: &mut W, path: &[u32]) -> Result<(), Broken>
 
 /// Writes the Subrs that are called from another.
 fn write_inner<W: Sink>(sink: &mut W, numbers: &[u32]) -> Result<(), Broken>
-    ensures all { OnOk result (Appends (W.written sink.old) (W.written sink.new) (flat_map inner_text numbers.now)) }
-    ensures front { OnErr result (AppendsFront (W.written sink.old) (W.written sink.new) (flat_map inner_text numbers.now)) }
-    ensures kept { OnOk result (W.failed sink.new ≡ W.failed sink.old) }
-    ensures broken { OnErr result (W.failed sink.new ≡ true) }
+    ensures { Writes (W.state sink.old) (W.state sink.new) (flat_map inner_text numbers.now) result }
 {
     for number in numbers {
         let number = Decimal::new(u64::from(*number));

@@ -1,16 +1,17 @@
 -- What the program answers to the bytes that a source gave until its end.
-use Rattle.std.proofs.Common.{◌≡◌, ℕ, ◌<◌, ◌≤◌, nat_lt, Bool, false, true, List, ◌++◌, Option, None, Some, IfSome, Result, Err, inl, inr, length, subst, sym, ap, ◌∙◌, refl, arith, append-nil, length-append}
+use Rattle.std.proofs.Common.{codes, ◌≡◌, ℕ, ◌<◌, ◌≤◌, nat_lt, Bool, false, true, List, ◌++◌, Option, None, Some, Result, Err, inl, inr, length, subst, ap, ◌∙◌, refl, arith, append-nil, length-append}
 use Rattle.std.proofs.lemmas.Bool.Decides.{nat_tests}
-use Rattle.std.proofs.KnownBytes.{Appends-nil}
-use Rattle.std.specs.Io.KnownBytes.{Appends, Consumes, IsAtEnd}
-use Rattle.t1check.specs.declared.asked.Options.{Options}
+use Rattle.std.specs.Io.KnownBytes.{Consumes, IsAtEnd}
 use Rattle.t1_font.specs.Fonts.{FontValue}
+use Rattle.t1_io.specs.Devices.{SinkState}
+use Rattle.t1check.specs.declared.asked.Options.{Options}
 use Rattle.t1check.specs.declared.status.Status.{Status}
-use Rattle.t1check.specs.declared.status.Status.TheVariants.{Refused}
+use Rattle.t1check.specs.declared.status.Status.TheVariants.{Failed}
 use Rattle.t1check.specs.declared.unread.Unread.{Unread}
-use Rattle.t1check.specs.declared.unread.Unread.TheVariants.{Memory, TooLarge}
-use Rattle.t1check.specs.Answers.{Answered, refused}
-use Rattle.t1check.specs.FontFiles.{IsUnread, font_in, font_of}
+use Rattle.t1check.specs.declared.unread.Unread.TheVariants.{TooLarge}
+use Rattle.t1check.specs.Ends.{AreRead, Checks, Ends, Tells, stopped}
+use Rattle.t1check.specs.Ends.Ends.{no_memory, refused}
+use Rattle.t1check.specs.FontFiles.{font_in, font_of}
 use Rattle.t1check.specs.Refusals.{told_of}
 
 pub font_of-small : (input : List ℕ) → length input ≤ 16777216 → font_of input ≡ font_in input
@@ -26,33 +27,27 @@ font_of-large input large =
     rw exceeds refl
 
 -- all the bytes of a source, few enough
-pub font_of-read : (P : Result FontValue Unread → Type 0) (old new : Option (List ℕ)) (bytes : List ℕ) → Consumes old new bytes → IsAtEnd new → length bytes ≤ 16777216
-    → P (font_in bytes) → IfSome old (λ input. P (font_of input))
-font_of-read P None new bytes consumed end small holds = tt
-font_of-read P (Some input) None bytes consumed end small holds = absurd consumed
-font_of-read P (Some input) (Some rest) bytes consumed end small holds =
+pub are_read : (old new : Option (List ℕ)) (bytes : List ℕ) (read : Result FontValue Unread) → Consumes old new bytes → IsAtEnd new → length bytes ≤ 16777216
+    → font_in bytes ≡ read → AreRead old read
+are_read None new bytes read consumed end small is = tt
+are_read (Some input) None bytes read consumed end small is = absurd consumed
+are_read (Some input) (Some rest) bytes read consumed end small is =
     let same : input ≡ bytes = consumed ∙ ap (λ l. bytes ++ l) end ∙ append-nil bytes in
-    subst P (sym (ap font_of same ∙ font_of-small bytes small)) holds
+    ap font_of same ∙ font_of-small bytes small ∙ is
 
 -- too many bytes of a source
-pub font_of-unread : (P : Result FontValue Unread → Type 0) (old new : Option (List ℕ)) (bytes : List ℕ) → Consumes old new bytes → 16777216 < length bytes
-    → P (Err TooLarge) → IfSome old (λ input. P (font_of input))
-font_of-unread P None new bytes consumed large holds = tt
-font_of-unread P (Some input) None bytes consumed large holds = absurd consumed
-font_of-unread P (Some input) (Some rest) bytes consumed large holds =
-    subst P (sym (font_of-large input (omega (arith, ap length consumed, length-append bytes rest)))) holds
+pub too_large : (old new : Option (List ℕ)) (bytes : List ℕ) → Consumes old new bytes → 16777216 < length bytes → AreRead old (Err TooLarge)
+too_large None new bytes consumed large = tt
+too_large (Some input) None bytes consumed large = absurd consumed
+too_large (Some input) (Some rest) bytes consumed large = font_of-large input (omega (arith, ap length consumed, length-append bytes rest))
 
-pub ≢true-false : (b : Bool) → (b ≡ true → ⊥) → b ≡ false
-≢true-false true never = absurd (never refl)
-≢true-false false never = refl
-
--- a reason that isn't want of memory is that of the bytes
-pub reason : (unread : Unread) (read : Result FontValue Unread) → (unread ≡ Memory → ⊥) → IsUnread unread read → read ≡ Err unread
-reason unread read never (inl memory) = absurd (never memory)
-reason unread read never (inr is) = is
-
--- a refusal writes nothing and tells its line
-pub gave_refusal : (options : Options) (unread : Unread) (result : Status) (out told_old told_new : Option (List ℕ)) → result ≡ Refused → Appends told_old told_new (told_of unread)
-    → Answered options (Err unread) result out out told_old told_new
-gave_refusal options unread result out told_old told_new status told =
-    (refused (told_of unread), (refl, record { status = status; output = Appends-nil out; told = told }))
+-- A file that isn't read for a reason of its bytes, or for want of memory.
+pub unread_ends : (options : Options) (left : Option (List ℕ)) (failed : Bool) (out out' told told' errors' : SinkState) (reason : Unread) (read : Result FontValue Unread) (result : Status)
+    → AreRead left read → failed ≡ false → Checks options read out out' told told' (Err reason) → Tells (told_of reason) (stopped reason) told' errors' result
+    → Ends options left failed out out' told errors' result
+unread_ends options left failed out out' told told' errors' reason read result are kept (inl memory, same, told_same) tells =
+    let as_memory : Tells (codes "t1check: out of memory\n") Failed told' errors' result =
+    subst (λ (u : Unread). Tells (told_of u) (stopped u) told' errors' result) memory tells in
+    no_memory kept same (subst (λ (s : SinkState). Tells (codes "t1check: out of memory\n") Failed s errors' result) told_same as_memory)
+unread_ends options left failed out out' told told' errors' reason read result are kept (inr is, same, told_same) tells =
+    refused reason (subst (AreRead left) is are) kept same (subst (λ (s : SinkState). Tells (told_of reason) (stopped reason) s errors' result) told_same tells)

@@ -1,5 +1,5 @@
 -- What the steps of reading a font's file say together.
-use Rattle.std.proofs.Common.{◌≡◌, ◌⊎◌, inl, inr, ℕ, List, drop, Result, Ok, Err, IfErr, refl, subst, sym, ap, ◌∙◌}
+use Rattle.std.proofs.Common.{◌≡◌, ◌⊎◌, inl, inr, ℕ, List, drop, Result, Ok, Err, refl, subst, sym, ap, ◌∙◌}
 use Rattle.std.specs.Result.{IsErrAnd}
 use Rattle.t1_seal.specs.Eexec.{private_text_of}
 use Rattle.t1_seal.specs.Segments.{JoinedText, joined_of}
@@ -13,8 +13,12 @@ use Rattle.t1_font.specs.Texts.{ClearValue, clear_value_of, clear_read, font_rea
 use Rattle.t1_font.specs.Turns.{TextRead}
 use Rattle.t1_font.specs.declared.refusal.Refusal.{Refusal}
 use Rattle.t1_font.specs.declared.refusal.Refusal.TheVariants as refusal
+use Rattle.t1_io.specs.Devices.{SinkState}
+use Rattle.t1check.specs.declared.asked.Options.{Options}
+use Rattle.t1check.specs.declared.status.Status.{Status}
 use Rattle.t1check.specs.declared.unread.Unread.{Unread}
 use Rattle.t1check.specs.declared.unread.Unread.TheVariants.{Memory}
+use Rattle.t1check.specs.Ends.{Checks}
 use Rattle.t1check.specs.FontFiles.{IsUnread, as_unread, clear_next, font_in, marks_in, of_refusal, of_seal_error, private_next, section_next}
 
 -- The error is the one that was read, or memory ran out.
@@ -108,11 +112,8 @@ module _ (bytes : List ℕ) (joined : JoinedText) (clear : ClearValue) (opened :
       → font_in bytes ≡ Ok font
   font_found text font is h = opened_next text is ∙ ap as_unread (h (marks_in joined) read.text.stated read.font)
 
--- A reason that is handed on.
-pub handed_on : {T : Type 0} (r : Result T Unread) (e : Unread) (read : Result FontValue Unread) → IsErrAnd r (λ y. y ≡ e) → IsUnread e read → IfErr r (λ unread. IsUnread unread read)
-handed_on (Ok x) e _ h is = absurd h
-handed_on (Err y) e there h is = subst (λ u. IsUnread u there) (sym h) is
-
--- What is so of the answer to a font that was read is so of the answer to its file.
-pub along : (bytes : List ℕ) (font : FontValue) (P : Result FontValue Unread → Type 0) → font_in bytes ≡ Ok font → P (Ok font) → P (font_in bytes)
-along bytes font P is holds = subst P (sym is) holds
+-- A reason that is handed on, with nothing given or told.
+pub handed_on : (options : Options) (out errors : SinkState) (r : Result Status Unread) (e : Unread) (read : Result FontValue Unread) → IsErrAnd r (λ y. y ≡ e) → IsUnread e read
+    → Checks options read out out errors errors r
+handed_on options out errors (Ok status) e there never is = absurd never
+handed_on options out errors (Err y) e there same is = (subst (λ u. IsUnread u there) (sym same) is, refl, refl)

@@ -3,5 +3,6 @@ pub mod CommandLemmas
 pub mod FontFileLemmas
 pub mod InputLemmas
 pub mod ReportLemmas
+pub mod RunLaws
 pub mod SingleFault
 pub mod ValueLemmas

@@ -1,19 +1,18 @@
 -- What the options choose of a report, and the lines of the program's faults.
-use Rattle.std.proofs.Common.{◌≡◌, ℕ, zero, suc, ◌==◌, if◌then◌else◌, List, [], ◌∷◌, ◌++◌, Option, None, Some, Result, Ok, Err, length, take, drop, refl, sym, ap, subst, ◌∙◌}
-use Rattle.std.proofs.lemmas.List.{length-map}
+use Rattle.std.proofs.Common.{◌≡◌, ℕ, zero, suc, List, [], ◌∷◌, ◌++◌, Option, None, Some, Result, Ok, Err, take, drop, refl, sym, ap, subst, ◌∙◌}
 use Rattle.std.proofs.lemmas.List.Elements.{All-drop, All-take}
 use Rattle.std.specs.List.{All, flat_map}
 use Rattle.t1_font.specs.Fonts.{FontValue}
-use Rattle.t1_io.specs.Devices.{AppendsFront}
+use Rattle.t1_io.specs.Devices.{SinkState}
 use Rattle.t1_report.specs.declared.faults.Fault.{Fault}
 use Rattle.t1_report.specs.Faults.{FaultValue, fault_value, faults_of}
-use Rattle.t1_report.specs.Reports.{IsReport}
 use Rattle.t1_report.proofs.OneReport.{no_other_report}
 use Rattle.t1check.specs.declared.asked.Options.{Options}
 use Rattle.t1check.specs.declared.status.Status.{Status}
-use Rattle.t1check.specs.declared.status.Status.TheVariants.{Clean, Faults}
 use Rattle.t1check.specs.declared.unread.Unread.{Unread}
-use Rattle.t1check.specs.Answers.{Answer, Answered, Gave, HasNoOtherAnswer, IsAnswerTo, WentOut, at_most, chosen, listed, reported}
+use Rattle.t1check.specs.Answers.{Answer, IsAnswerTo, at_most, chosen, reported, status_of}
+use Rattle.t1check.specs.Ends.{Gives}
+use Rattle.t1check.specs.Laws.Answers.{HasNoOtherAnswer}
 use Rattle.t1check.specs.FontFiles.{font_of}
 use Rattle.t1check.specs.Lines.{fault_line, lines_of}
 
@@ -50,17 +49,19 @@ same_lines : (font : FontValue) (faults : List Fault) → flat_map (fault_line f
 same_lines font [] = refl
 same_lines font (f ∷ fs) = ap (λ (text : List ℕ). fault_line font f ++ text) (same_lines font fs)
 
-given : List ℕ → Status → Answer
-given output status = record { output = output; told = []; status = status }
+-- so is their status
+same_status : (faults : List Fault) → status_of faults ≡ status_of (faults_of faults)
+same_status [] = refl
+same_status (f ∷ fs) = refl
 
-listed_reported : (font : FontValue) (faults : List Fault) → listed font faults ≡ reported font (faults_of faults)
-unfolding given
-listed_reported font faults =
-    ap (λ (text : List ℕ). given text (if length faults == 0 then Clean else Faults)) (same_lines font faults)
-    ∙ ap (λ (n : ℕ). given (lines_of font (faults_of faults)) (if n == 0 then Clean else Faults)) (sym (length-map faults fault_value))
-
-shown : (options : Options) (font : FontValue) (faults : List Fault) → listed font (chosen options faults) ≡ reported font (chosen options (faults_of faults))
-shown options font faults = listed_reported font (chosen options faults) ∙ ap (reported font) (chosen_faults options faults)
+-- Giving the lines of what is chosen of the program's faults is giving what is chosen of the report.
+pub gives_chosen : (options : Options) (font : FontValue) (faults : List Fault) (out out' errors errors' : SinkState) (result : Status)
+    → Gives (flat_map (fault_line font) (chosen options faults)) (status_of (chosen options faults)) out out' errors errors' result
+    → Gives (lines_of font (chosen options (faults_of faults))) (status_of (chosen options (faults_of faults))) out out' errors errors' result
+gives_chosen options font faults out out' errors errors' result gives =
+    subst (λ (xs : List FaultValue). Gives (lines_of font xs) (status_of xs) out out' errors errors' result) (chosen_faults options faults)
+    (subst (λ (text : List ℕ). Gives text (status_of (faults_of (chosen options faults))) out out' errors errors' result) (same_lines font (chosen options faults))
+    (subst (λ (status : Status). Gives (flat_map (fault_line font) (chosen options faults)) status out out' errors errors' result) (same_status (chosen options faults)) gives))
 
 -- what holds of each fault holds of each that is chosen
 pub all_chosen : (P : Fault → Type 0) (options : Options) (faults : List Fault) → All P faults → All P (chosen options faults)
@@ -69,25 +70,3 @@ all_chosen P options faults all = all_most P options.max (drop options.after fau
     all_most : (P : Fault → Type 0) (max : Option ℕ) (faults : List Fault) → All P faults → All P (at_most max faults)
     all_most P None faults all = all
     all_most P (Some n) faults all = All-take P n faults all
-
--- The answer to a font that was read was given.
-pub answered : (options : Options) (font : FontValue) (faults : List Fault) (result : Status) (out_old out_new told_old told_new : Option (List ℕ)) → IsReport font (faults_of faults)
-    → Gave (listed font (chosen options faults)) result out_old out_new told_old told_new → Answered options (Ok font) result out_old out_new told_old told_new
-answered options font faults result out_old out_new told_old told_new report gave = (
-  reported font (chosen options (faults_of faults)),
-  (
-    (faults_of faults, (report, refl)),
-    subst (λ (answer : Answer). Gave answer result out_old out_new told_old told_new) (shown options font faults) gave,
-  ),
-)
-
--- A front of its text went out.
-pub went_out : (options : Options) (font : FontValue) (faults : List Fault) (old new : Option (List ℕ)) → IsReport font (faults_of faults)
-    → AppendsFront old new (listed font (chosen options faults)).output → WentOut options (Ok font) old new
-went_out options font faults old new report front = (
-  reported font (chosen options (faults_of faults)),
-  (
-    (faults_of faults, (report, refl)),
-    subst (λ (answer : Answer). AppendsFront old new answer.output) (shown options font faults) front,
-  ),
-)

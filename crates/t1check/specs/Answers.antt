@@ -1,10 +1,6 @@
 -- What the program answers: text on standard output, text on standard error, and a status.
-use Rattle.std.specs.Prelude.{◌≡◌, ℕ, ◌==◌, List, [], length, take, drop, Option, None, Some, Result, Ok, Err, if◌then◌else◌}
-use Rattle.std.specs.List.{flat_map}
-use Rattle.std.specs.Io.KnownBytes.{Appends}
+use Rattle.std.specs.Prelude.{◌≡◌, ℕ, List, [], ◌∷◌, take, drop, Option, None, Some, Result, Ok, Err}
 use Rattle.t1_font.specs.Fonts.{FontValue}
-use Rattle.t1_io.specs.Devices.{AppendsFront}
-use Rattle.t1_report.specs.declared.faults.Fault.{Fault}
 use Rattle.t1_report.specs.Faults.{FaultValue}
 use Rattle.t1_report.specs.Reports.{IsReport}
 use Rattle.t1check.specs.declared.asked.Options.{Options}
@@ -12,7 +8,7 @@ use Rattle.t1check.specs.declared.status.Status.{Status}
 use Rattle.t1check.specs.declared.status.Status.TheVariants.{Clean, Faults, Refused}
 use Rattle.t1check.specs.declared.unread.Unread.{Unread}
 use Rattle.t1check.specs.FontFiles.{font_of}
-use Rattle.t1check.specs.Lines.{fault_line, lines_of}
+use Rattle.t1check.specs.Lines.{lines_of}
 use Rattle.t1check.specs.Refusals.{told_of}
 
 pub record Answer : Type 0 where
@@ -33,16 +29,14 @@ at_most (Some max) faults = take max faults
 abbrev pub chosen : {A : Type 0} → Options → List A → List A
 chosen options faults = at_most options.max (drop options.after faults)
 
+-- Whether lines were written.
+abbrev pub status_of : {A : Type 0} → List A → Status
+status_of [] = Clean
+status_of (f ∷ fs) = Faults
+
 -- These faults of a font: their lines on standard output.
-abbrev pub reported_status : List FaultValue → Status
-reported_status faults = if length faults == 0 then Clean else Faults
-
 abbrev pub reported : FontValue → List FaultValue → Answer
-reported font faults = record { output = lines_of font faults; told = []; status = reported_status faults }
-
--- The same of the program's own faults.
-abbrev pub listed : FontValue → List Fault → Answer
-listed font faults = record { output = flat_map (fault_line font) faults; told = []; status = if length faults == 0 then Clean else Faults }
+reported font faults = record { output = lines_of font faults; told = []; status = status_of faults }
 
 -- The answer of a font that was read is what the options choose of its report; else the reason is told.
 abbrev pub IsAnswerTo : Options → Result FontValue Unread → Answer → Type 0
@@ -53,22 +47,3 @@ IsAnswerTo options (Err unread) answer = answer ≡ refused (told_of unread)
 -- The program's answer to its options and the bytes of a file.
 abbrev pub IsAnswer : Options → List ℕ → Answer → Type 0
 IsAnswer options input answer = IsAnswerTo options (font_of input) answer
-
--- There is no other answer.
-abbrev pub HasNoOtherAnswer : Type 0
-HasNoOtherAnswer = (options : Options) (input : List ℕ) (a b : Answer) → IsAnswer options input a → IsAnswer options input b → a ≡ b
-
--- This answer was given, where what went out is known.
-pub record Gave (answer : Answer) (result : Status) (out_old out_new told_old told_new : Option (List ℕ)) : Type 0 where
-  pub status : result ≡ answer.status
-  pub output : Appends out_old out_new answer.output
-  pub told : Appends told_old told_new answer.told
-
--- The answer to a file that was read so was given.
-abbrev pub Answered : Options → Result FontValue Unread → Status → Option (List ℕ) → Option (List ℕ) → Option (List ℕ) → Option (List ℕ) → Type 0
-Answered options read result out_old out_new told_old told_new =
-    (answer : Answer) × (IsAnswerTo options read answer × Gave answer result out_old out_new told_old told_new)
-
--- A front of the answer's text went out.
-abbrev pub WentOut : Options → Result FontValue Unread → Option (List ℕ) → Option (List ℕ) → Type 0
-WentOut options read out_old out_new = (answer : Answer) × (IsAnswerTo options read answer × AppendsFront out_old out_new answer.output)

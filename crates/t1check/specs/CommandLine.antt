@@ -1,5 +1,5 @@
 -- The command line: its arguments as clap sees them, and the options that words give by clap's rules.
-use Rattle.std.specs.Prelude.{◌≡◌, ℕ, List, [], ◌∷◌, Option, None, Some, IfSome, IsSome, option_map, codes, string_bytes}
+use Rattle.std.specs.Prelude.{◌≡◌, ◌<◌, ℕ, length, List, [], ◌∷◌, Option, None, Some, IfSome, IsSome, option_map, codes, string_bytes}
 use Rattle.std.specs.List.{Any}
 use Rattle.std.specs.Str.Parse.{IsNumeral, without_leading_plus, digits_value}
 use Rattle.clap.specs.Words.{App, IsUnsignedIn, Rule, Text, fault_of, first_of, matches_of, new_app, new_rule, with_rule}
@@ -74,3 +74,9 @@ abbrev pub IsHelpOrMemory : UsageError → Type 0
 IsHelpOrMemory (Help text) = Unit {0}
 IsHelpOrMemory (Usage text) = ⊥
 IsHelpOrMemory Memory = Unit {0}
+
+-- What is told says something: text is never empty.
+abbrev pub HasText : UsageError → Type 0
+HasText (Help text) = 0 < length (string_bytes text)
+HasText (Usage text) = 0 < length (string_bytes text)
+HasText Memory = Unit {0}

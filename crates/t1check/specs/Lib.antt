@@ -1,8 +1,9 @@
 pub mod Answers
 pub mod CommandLine
+pub mod Ends
 pub mod Exit
-pub mod Explained
 pub mod FontFiles
 pub mod Input
+pub mod Laws
 pub mod Lines
 pub mod Refusals

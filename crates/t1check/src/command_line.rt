@@ -1,7 +1,7 @@
-ghost use Rattle.std.specs.Prelude.{◌≡◌, ℕ, List, true, map, option_map, string_bytes, IfOk, IfErr};
+ghost use Rattle.std.specs.Prelude.{◌≡◌, ℕ, List, [], true, map, option_map, string_bytes, IfOk, IfErr};
 ghost use Rattle.clap.specs.Words.{FailsBy, app_of, fault_of, first_value, found_of, kind_of, matches_of, rows_of, takes};
 ghost use Rattle.clap.specs.declared.error.kind.ErrorKind.TheVariants.{OutOfMemory, DisplayHelp};
-ghost use Rattle.t1check.specs.CommandLine.{t1check, AreGiven, AreNumber, IsNumberArgument, IsTextOfNumber, IsHelp, IsHelpOrMemory, AsksHelp};
+ghost use Rattle.t1check.specs.CommandLine.{t1check, AreGiven, AreNumber, IsNumberArgument, IsTextOfNumber, IsHelp, IsHelpOrMemory, AsksHelp, HasText};
 
 use crate::asked::{Options, UsageError};
 use clap::error::ErrorKind;
@@ -24,7 +24,9 @@ Example:
 /// Reads the words of the command line, the program's name first.
 pub fn options<S: AsStr>(alloc: Global, words: &[S]) -> Result<Options, UsageError>
     ensures given { IfOk result (AreGiven (map S.text words.now)) }
+    ensures sound { IfOk result (λ _. fault_of t1check (map S.text words.now) ≡ []) }
     ensures taken { IfErr result (λ e. takes t1check (map S.text words.now) ≡ true → e ≡ UsageError.Memory) }
+    ensures text { IfErr result HasText }
     ensures help { IfErr result (λ e. AsksHelp (map S.text words.now) → IsHelpOrMemory e) }
     ensures only_help { IfErr result (λ e. IsHelp e → AsksHelp (map S.text words.now)) }
 {
@@ -83,24 +85,27 @@ fn command<'a>(alloc: Global) -> Result<Command<'a>, AllocError>
         .arg(file)
 }
 
+/// What is told of clap's error; where its text can't be had memory ran out.
 fn usage_error(alloc: Global, error: &clap::Error) -> UsageError
     ensures memory { kind_of error.now ≡ OutOfMemory → result ≡ UsageError.Memory }
     ensures help { kind_of error.now ≡ DisplayHelp → IsHelpOrMemory result }
     ensures only_help { IsHelp result → kind_of error.now ≡ DisplayHelp }
+    ensures text { HasText result }
 {
     let kind = error.kind();
     if kind == ErrorKind::OutOfMemory {
         return UsageError::Memory;
     }
-    match error.to_string(alloc) {
-        Err(_) => UsageError::Memory,
-        Ok(text) => {
-            if kind == ErrorKind::DisplayHelp {
-                UsageError::Help(text)
-            } else {
-                UsageError::Usage(text)
-            }
-        }
+    let Ok(text) = error.to_string(alloc) else {
+        return UsageError::Memory;
+    };
+    if text.is_empty() {
+        return UsageError::Memory;
+    }
+    if kind == ErrorKind::DisplayHelp {
+        UsageError::Help(text)
+    } else {
+        UsageError::Usage(text)
     }
 }
 

@@ -1,7 +1,6 @@
-ghost use Rattle.std.specs.Prelude.{◌≡◌, true, drop, OnOk, OnErr};
+ghost use Rattle.std.specs.Prelude.{◌≡◌, drop};
 ghost use Rattle.std.specs.List.{All, flat_map};
-ghost use Rattle.std.specs.Io.KnownBytes.{Appends};
-ghost use Rattle.t1_io.specs.Devices.{AppendsFront};
+ghost use Rattle.t1_io.specs.Devices.{Delivers, Writes};
 ghost use Rattle.t1_report.specs.Faults.{fault_value};
 ghost use Rattle.t1_report.specs.Lines.{IsInFont};
 ghost use Rattle.t1check.specs.Answers.{at_most};
@@ -14,15 +13,21 @@ use t1_report::{Fault, write_fault};
 /// Writes the lines of faults, one after another. After a failure a front of them went out.
 pub fn write_faults<W: Sink>(sink: &mut W, font: &Font<'_>, faults: &[Fault]) -> Result<(), Broken>
     requires { All (λ fault. IsInFont font.now (fault_value fault)) faults.now }
-    ensures all { OnOk result (Appends (W.written sink.old) (W.written sink.new) (flat_map (fault_line font.now) faults.now)) }
-    ensures front { OnErr result (AppendsFront (W.written sink.old) (W.written sink.new) (flat_map (fault_line font.now) faults.now)) }
-    ensures kept { OnOk result (W.failed sink.new ≡ W.failed sink.old) }
-    ensures broken { OnErr result (W.failed sink.new ≡ true) }
+    ensures { Writes (W.state sink.old) (W.state sink.new) (flat_map (fault_line font.now) faults.now) result }
 {
     for fault in faults {
         write_fault(sink, font, fault)?;
     }
     Ok(())
+}
+
+/// Writes the lines of faults, and flushes them.
+pub fn write_report<W: Sink>(sink: &mut W, font: &Font<'_>, faults: &[Fault]) -> Result<(), Broken>
+    requires { All (λ fault. IsInFont font.now (fault_value fault)) faults.now }
+    ensures { Delivers (W.state sink.old) (W.state sink.new) (flat_map (fault_line font.now) faults.now) result }
+{
+    write_faults(sink, font, faults)?;
+    sink.flush()
 }
 
 /// The report without its first `count` faults.

@@ -1,4 +1,4 @@
-ghost use Rattle.std.specs.Prelude.{◌≡◌, ◌≢◌, ℕ, ◌≤◌, ◌<◌, ◌+◌, true, false};
+ghost use Rattle.std.specs.Prelude.{◌≤◌, ◌+◌};
 ghost use Rattle.t1check.specs.Input.{Gathers, TakesAtMost};
 
 use std::alloc::Global;
@@ -26,11 +26,9 @@ pub enum Input {
 /// Reads to the end of the source, in as few calls as it allows, and no further than one byte past
 /// the size of a font's file.
 pub fn read_all<R: Source>(alloc: Global, source: &mut R) -> Input
-    ensures gathers { Gathers (R.left source.old) (R.left source.new) result }
-    ensures takes { R.takes source.new ≤ R.takes source.old + 16777217 }
-    ensures taken { TakesAtMost 16777217 (R.left source.old) (R.left source.new) }
-    ensures broken { result ≡ Input.Broken → R.failed source.new ≡ true }
-    ensures kept { result ≢ Input.Broken → R.failed source.new ≡ R.failed source.old }
+    ensures gathers { Gathers (R.state source.old) (R.state source.new) result }
+    ensures takes { (R.state source.new).takes ≤ (R.state source.old).takes + 16777217 }
+    ensures taken { TakesAtMost 16777217 (R.state source.old).left (R.state source.new).left }
 {
     let mut bytes = Vec::new(alloc);
     let mut buffer = [0u8; ROOM];

@@ -1,16 +1,16 @@
-ghost use Rattle.std.specs.Prelude.{◌≡◌, ◌≢◌, ℕ, ◌≤◌, ◌+◌, ◌⊎◌, true, false, codes, IfErr, IfOk, IfSome, OnErr};
-ghost use Rattle.std.specs.List.{All};
-ghost use Rattle.std.specs.Io.KnownBytes.{Appends, Keeps};
-ghost use Rattle.t1_io.specs.Devices.{AppendsFront};
-ghost use Rattle.t1check.specs.Input.{TakesAtMost};
+ghost use Rattle.std.specs.Prelude.{◌≡◌, ◌≤◌, ◌+◌, false};
+ghost use Rattle.std.specs.List.{All, flat_map};
 ghost use Rattle.t1_report.specs.Faults.{fault_value};
 ghost use Rattle.t1_report.specs.Lines.{IsInFont};
-ghost use Rattle.t1check.specs.Answers.{Answered, Gave, WentOut, listed};
-ghost use Rattle.t1check.specs.FontFiles.{font_in, font_of, IsUnread};
+ghost use Rattle.t1check.specs.Answers.{status_of};
+ghost use Rattle.t1check.specs.Ends.{Checks, Ends, Gives, Tells, stopped};
+ghost use Rattle.t1check.specs.FontFiles.{font_in};
+ghost use Rattle.t1check.specs.Input.{TakesAtMost};
+ghost use Rattle.t1check.specs.Lines.{fault_line};
 ghost use Rattle.t1check.specs.Refusals.{told_of};
 
 use crate::asked::Options;
-use crate::lines::{at_most, without_first, write_faults};
+use crate::lines::{at_most, without_first, write_report};
 use crate::reading::{Input, read_all};
 use crate::status::Status;
 use crate::telling::{READ_FAILED, WRITE_FAILED, tell};
@@ -29,37 +29,20 @@ pub fn run<R: Source, W: Sink, E: Sink>(
     out: &mut W,
     errors: &mut E,
 ) -> Status
-    requires source { R.failed source.old ≡ false }
-    requires out { W.failed out.old ≡ false }
-    requires errors { E.failed errors.old ≡ false }
-
-    ensures answer { result ≢ Status.Failed → IfSome (R.left source.old) (λ input.
-        Answered options.now (font_of input) result (W.written out.old) (W.written out.new)
-        (E.written errors.old) (E.written errors.new)) }
-    ensures flushed { (result ≡ Status.Clean) ⊎ (result ≡ Status.Faults) → W.flushed out.new ≡ true }
-    ensures nothing_waits { result ≢ Status.Failed → W.flushed out.old ≡ true → W.flushed out.new ≡ true }
-
-    ensures reads { R.takes source.new ≤ R.takes source.old + 16777217 }
-    ensures taken { TakesAtMost 16777217 (R.left source.old) (R.left source.new) }
-
-    ensures broken { (R.failed source.new ≡ true) ⊎ ((W.failed out.new ≡ true) ⊎ (E.failed errors.new ≡ true)) → result ≡ Status.Failed }
-    ensures read_failed { R.failed source.new ≡ true → E.failed errors.new ≡ false → Appends (E.written errors.old) (E.written errors.new) (codes "t1check: read failed\n") }
-    ensures write_failed { W.failed out.new ≡ true → E.failed errors.new ≡ false → Appends (E.written errors.old) (E.written errors.new) (codes "t1check: write failed\n") }
-    ensures no_memory { result ≡ Status.Failed → R.failed source.new ≡ false → W.failed out.new ≡ false → E.failed errors.new ≡ false
-        → Appends (E.written errors.old) (E.written errors.new) (codes "t1check: out of memory\n") }
-    ensures unwritten { result ≡ Status.Failed → W.failed out.new ≡ false → Keeps (W.written out.old) (W.written out.new) }
-    ensures unread { R.failed source.new ≡ true → W.failed out.new ≡ false }
-    ensures front { W.failed out.new ≡ true → IfSome (R.left source.old) (λ input.
-        WentOut options.now (font_of input) (W.written out.old) (W.written out.new)) }
+    requires source { (R.state source.old).failed ≡ false }
+    ensures ends { Ends options.now (R.state source.old).left (R.state source.new).failed
+        (W.state out.old) (W.state out.new) (E.state errors.old) (E.state errors.new) result }
+    ensures reads { (R.state source.new).takes ≤ (R.state source.old).takes + 16777217 }
+    ensures taken { TakesAtMost 16777217 (R.state source.old).left (R.state source.new).left }
 {
     match read_all(alloc, source) {
         Input::Bytes(bytes) => match check(alloc, bytes.as_slice(), options, out, errors) {
             Ok(status) => status,
-            Err(unread) => stop(unread, errors),
+            Err(unread) => tell_unread(unread, errors),
         },
-        Input::TooLarge => stop(Unread::TooLarge, errors),
+        Input::TooLarge => tell_unread(Unread::TooLarge, errors),
         Input::Broken => tell(errors, READ_FAILED, Status::Failed),
-        Input::NoMemory => stop(Unread::Memory, errors),
+        Input::NoMemory => tell_unread(Unread::Memory, errors),
     }
 }
 
@@ -71,19 +54,8 @@ fn check<W: Sink, E: Sink>(
     out: &mut W,
     errors: &mut E,
 ) -> Result<Status, Unread>
-    requires out { W.failed out.old ≡ false }
-    requires errors { E.failed errors.old ≡ false }
-
-    ensures unread { IfErr result (λ unread. IsUnread unread (font_in bytes.now)) }
-    ensures untouched { OnErr result ((out.new ≡ out.old) × (errors.new ≡ errors.old)) }
-    ensures answer { IfOk result (λ status. status ≢ Status.Failed →
-        Answered options.now (font_in bytes.now) status (W.written out.old) (W.written out.new)
-        (E.written errors.old) (E.written errors.new)) }
-    ensures flushed { IfOk result (λ status. status ≢ Status.Failed → W.flushed out.new ≡ true) }
-    ensures broken { IfOk result (λ status. (W.failed out.new ≡ true) ⊎ (E.failed errors.new ≡ true) → status ≡ Status.Failed) }
-    ensures failed { IfOk result (λ status. status ≡ Status.Failed → W.failed out.new ≡ true) }
-    ensures write_failed { W.failed out.new ≡ true → E.failed errors.new ≡ false → Appends (E.written errors.old) (E.written errors.new) (codes "t1check: write failed\n") }
-    ensures front { W.failed out.new ≡ true → WentOut options.now (font_in bytes.now) (W.written out.old) (W.written out.new) }
+    ensures { Checks options.now (font_in bytes.now)
+        (W.state out.old) (W.state out.new) (E.state errors.old) (E.state errors.new) result }
 {
     let joined = join(alloc, bytes)?;
     let clear = read_clear(alloc, &joined)?;
@@ -96,13 +68,8 @@ fn check<W: Sink, E: Sink>(
 }
 
 /// Tells why a file isn't read.
-fn stop<E: Sink>(unread: Unread, errors: &mut E) -> Status
-    requires { E.failed errors.old ≡ false }
-    ensures told { E.failed errors.new ≡ false → Appends (E.written errors.old) (E.written errors.new) (told_of unread) }
-    ensures status { unread ≢ Unread.Memory → E.failed errors.new ≡ false → result ≡ Status.Refused }
-    ensures broken { E.failed errors.new ≡ true → result ≡ Status.Failed }
-    ensures failed { result ≡ Status.Failed → E.failed errors.new ≡ false → unread ≡ Unread.Memory }
-    ensures memory { unread ≡ Unread.Memory → result ≡ Status.Failed }
+fn tell_unread<E: Sink>(unread: Unread, errors: &mut E) -> Status
+    ensures { Tells (told_of unread) (stopped unread) (E.state errors.old) (E.state errors.new) result }
 {
     let status = match unread {
         Unread::Memory => Status::Failed,
@@ -118,21 +85,20 @@ fn give_report<W: Sink, E: Sink>(
     out: &mut W,
     errors: &mut E,
 ) -> Status
-    requires out { W.failed out.old ≡ false }
-    requires errors { E.failed errors.old ≡ false }
-    requires font { All (λ fault. IsInFont font.now (fault_value fault)) faults.now }
-
-    ensures answer { result ≢ Status.Failed →
-        Gave (listed font.now faults.now) result (W.written out.old) (W.written out.new) (E.written errors.old) (E.written errors.new) }
-    ensures flushed { result ≢ Status.Failed → W.flushed out.new ≡ true }
-    ensures broken { (W.failed out.new ≡ true) ⊎ (E.failed errors.new ≡ true) → result ≡ Status.Failed }
-    ensures failed { result ≡ Status.Failed → W.failed out.new ≡ true }
-    ensures write_failed { W.failed out.new ≡ true → E.failed errors.new ≡ false → Appends (E.written errors.old) (E.written errors.new) (codes "t1check: write failed\n") }
-    ensures front { W.failed out.new ≡ true → AppendsFront (W.written out.old) (W.written out.new) (listed font.now faults.now).output }
+    requires { All (λ fault. IsInFont font.now (fault_value fault)) faults.now }
+    ensures { Gives (flat_map (fault_line font.now) faults.now) (status_of faults.now)
+        (W.state out.old) (W.state out.new) (E.state errors.old) (E.state errors.new) result }
 {
-    if write_faults(out, font, faults).is_err() || out.flush().is_err() {
-        return tell(errors, WRITE_FAILED, Status::Failed);
+    match write_report(out, font, faults) {
+        Ok(()) => status_of(faults),
+        Err(_) => tell(errors, WRITE_FAILED, Status::Failed),
     }
+}
+
+/// Whether lines were written.
+fn status_of(faults: &[Fault]) -> Status
+    ensures { result ≡ status_of faults.now }
+{
     if faults.is_empty() {
         Status::Clean
     } else {

@@ -1,6 +1,4 @@
-ghost use Rattle.std.specs.Prelude.{◌≡◌, ◌≢◌, true, false};
-ghost use Rattle.std.specs.Io.KnownBytes.{Appends};
-ghost use Rattle.t1_io.specs.Devices.{AppendsFront};
+ghost use Rattle.t1check.specs.Ends.{Tells};
 
 use crate::status::Status;
 use t1_io::{Sink, put_all};
@@ -15,12 +13,8 @@ pub const WRITE_FAILED: &str = "t1check: write failed\n";
 pub const READ_FAILED: &str = "t1check: read failed\n";
 
 /// Tells one text on standard error and answers the status, or `Failed` where that can't be told.
-pub fn tell<W: Sink>(errors: &mut W, text: &str, status: Status) -> Status
-    ensures told { W.failed errors.new ≡ false → Appends (W.written errors.old) (W.written errors.new) text.now }
-    ensures front { AppendsFront (W.written errors.old) (W.written errors.new) text.now }
-    ensures status { W.failed errors.new ≡ false → result ≡ status }
-    ensures broken { W.failed errors.old ≡ false → W.failed errors.new ≡ true → result ≡ Status.Failed }
-    ensures failed { status ≡ Status.Failed → result ≡ Status.Failed }
+pub fn tell<E: Sink>(errors: &mut E, text: &str, status: Status) -> Status
+    ensures { Tells text.now status (E.state errors.old) (E.state errors.new) result }
 {
     match put_all(errors, text.as_bytes()) {
         Ok(()) => status,

@@ -1,13 +1,11 @@
-use Rattle.std.proofs.Common.{length, ◌-◌, ◌≡◌, ◌==◌, ◌&&◌, take, ◌≤◌}
-use Rattle.std.specs.Io.KnownBytes.{Appends}
+use Rattle.std.proofs.Common.{length, ◌-◌, take, ◌≤◌}
+use Rattle.t1_io.specs.Devices.{Wrote}
 use Rattle.t1_io.proofs.writing.put_all.Given as goal
 
 abbrev pub invariant-loop-at : goal.invariant-loop-at
 invariant-loop-at g l = record {
   within : l.at ≤ length l.bytes;
-  written : Appends (g.W.Sink.written l.fn.sink) (g.W.Sink.written l.sink) (take l.at l.bytes);
-  flushed : g.W.Sink.flushed l.sink ≡ (g.W.Sink.flushed l.fn.sink && l.at == 0);
-  kept : g.W.Sink.failed l.sink ≡ g.W.Sink.failed l.fn.sink;
+  wrote : Wrote (g.W.Sink.state l.fn.sink) (g.W.Sink.state l.sink) (take l.at l.bytes);
 }
 
 abbrev pub decreases-loop-at : goal.decreases-loop-at

@@ -1,6 +1,6 @@
 use Rattle.std.proofs.Common.{◌∙◌, ap, slice_get}
 use Rattle.t1_report.specs.Lines.{name_in}
-use Rattle.t1_report.proofs.LineLemmas.{name_at}
+use Rattle.t1_report.proofs.GlyphNames.{name_at}
 use Rattle.t1_report.proofs.lines.glyph_name.Goals as goal
 
 pub returns-in-Some : goal.returns-in-Some

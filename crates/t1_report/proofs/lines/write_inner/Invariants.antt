@@ -1,11 +1,10 @@
-use Rattle.std.proofs.Common.{◌≡◌, take}
-use Rattle.std.specs.Io.KnownBytes.{Appends}
+use Rattle.std.proofs.Common.{take}
 use Rattle.std.specs.List.{flat_map}
+use Rattle.t1_io.specs.Devices.{Wrote}
 use Rattle.t1_report.specs.Lines.{inner_text}
 use Rattle.t1_report.proofs.lines.write_inner.Given as goal
 
 abbrev pub invariant-loop-number : goal.invariant-loop-number
 invariant-loop-number g l = record {
-  written : Appends (g.W.Sink.written l.fn.sink) (g.W.Sink.written l.sink) (flat_map inner_text (take l.number-index l.numbers));
-  kept : g.W.Sink.failed l.sink ≡ g.W.Sink.failed l.fn.sink;
+  wrote : Wrote (g.W.Sink.state l.fn.sink) (g.W.Sink.state l.sink) (flat_map inner_text (take l.number-index l.numbers));
 }

@@ -5,20 +5,20 @@ use Rattle.t1check.proofs.reading.read_all.Goals as goal
 
 pub returns-then-is_err-clause-taken : goal.returns-then-is_err-clause-taken
 returns-then-is_err-clause-taken g c =
-    TakesAtMost-more 16777217 _ _ _ c.loop-turn.bytes.items _ c.loop-turn.invariant.consumed c.in-Ok.ensures.bytes.0
-    (let held = c.loop-turn.bytes.ok.0 in omega (arith, c.in-Ok.ensures.bound, length-take {A = ℕ}))
+    TakesAtMost-more 16777217 _ _ _ c.loop-turn.bytes.items _ c.loop-turn.invariant.consumed c.in-Ok.ensures.takes.bytes
+    (let held = c.loop-turn.bytes.ok.0 in omega (arith, c.in-Ok.ensures.takes.bound, length-take {A = ℕ}))
 
 pub loop-turn-preserved : goal.loop-turn-preserved
 loop-turn-preserved g c =
     let items : c.extend_from_slice.new.self.items ≡ c.loop-turn.bytes.items ++ take c.in-Ok.count c.take.new.buffer =
     items-extended c.extend_from_slice.result c.loop-turn.bytes.items c.extend_from_slice.new.self.items c.take.new.buffer
-    (drop c.min-room.result c.loop-turn.buffer) c.in-Ok.count c.if-is_err.ensures.value c.extend_from_slice.ensures.items c.in-Ok.ensures.bound in
+    (drop c.min-room.result c.loop-turn.buffer) c.in-Ok.count c.if-is_err.ensures.value c.extend_from_slice.ensures.items c.in-Ok.ensures.takes.bound in
     let before : vec_len c.loop-turn.bytes ≡ length c.loop-turn.bytes.items = c.loop-turn.bytes.ok.0 in
     let after : vec_len c.extend_from_slice.new.self ≡ length c.extend_from_slice.new.self.items = c.extend_from_slice.new.self.ok.0 in
     record {
-      consumed = Consumes-more _ _ _ c.loop-turn.bytes.items _ _ c.loop-turn.invariant.consumed c.in-Ok.ensures.bytes.0 items;
-      counted = omega (arith, c.in-Ok.ensures.takes);
-      kept = c.in-Ok.ensures.kept ∙ c.loop-turn.invariant.kept;
-      long = omega (arith, ap length items, c.in-Ok.ensures.bound, length-append {A = ℕ}, length-take {A = ℕ});
+      consumed = Consumes-more _ _ _ c.loop-turn.bytes.items _ _ c.loop-turn.invariant.consumed c.in-Ok.ensures.takes.bytes items;
+      counted = omega (arith, c.in-Ok.ensures.takes.takes);
+      kept = c.in-Ok.ensures.takes.failed ∙ c.loop-turn.invariant.kept;
+      long = omega (arith, ap length items, c.in-Ok.ensures.takes.bound, length-append {A = ℕ}, length-take {A = ℕ});
       short = omega arith;
     }
