@@ -7,3 +7,4 @@ pub mod Input
 pub mod Laws
 pub mod Lines
 pub mod Refusals
+pub mod Words

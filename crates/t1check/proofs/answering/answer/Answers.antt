@@ -1,0 +1,26 @@
+use Rattle.std.proofs.Common.{ap, option_map, refl, string_bytes, sym}
+use Rattle.t1_io.specs.Devices.{SourceState}
+use Rattle.t1check.specs.Words.Answers.{explained, not_opened, read_file, read_input}
+use Rattle.t1check.proofs.answering.answer.Goals as goal
+
+pub returns-in-Err : goal.returns-in-Err
+returns-in-Err g c =
+    explained c.in-Err.error
+    (record { taken = c.in-Err.ensures.taken; text = c.in-Err.ensures.text; help = c.in-Err.ensures.help; only_help = c.in-Err.ensures.only_help })
+    c.explain.ensures
+
+pub returns-in_default : goal.returns-in_default
+returns-in_default g c =
+    read_input c.in-Ok.options (record { given = c.in-Ok.ensures.given; sound = c.in-Ok.ensures.sound }) c.in_default.is _ _
+    (c.input.result, c.input.ensures, sym (ap (λ (s : SourceState). s.left) c.new.ensures)) c.run.ensures.ends
+
+pub returns-in-Ok-open_file : goal.returns-in-Ok-open_file
+returns-in-Ok-open_file g c =
+    read_file c.in-Ok.options (string_bytes c.in-Some.name) (record { given = c.in-Ok.ensures.given; sound = c.in-Ok.ensures.sound }) (ap (option_map string_bytes) c.in-Some.is) _ _
+    (c.in-Ok-open_file.file, (c.as_str.result, c.in-Ok-open_file.ensures, c.as_str.ensures.value), sym (ap (λ (s : SourceState). s.left) c.new-in-Ok-open_file.ensures))
+    c.run-in-Ok-open_file.ensures.ends
+
+pub returns : goal.returns
+returns g c =
+    not_opened c.in-Ok.options (string_bytes c.in-Some.name) (record { given = c.in-Ok.ensures.given; sound = c.in-Ok.ensures.sound }) (ap (option_map string_bytes) c.in-Some.is)
+    (c.in-Err-open_file.field-0, (c.as_str.result, c.in-Err-open_file.ensures, c.as_str.ensures.value)) refl c.tell.ensures
