@@ -1,0 +1,2 @@
+pub mod Deciphering
+pub mod Skipping

@@ -1,0 +1,41 @@
+-- What a cursor has left: the bytes that are left of a slice, deciphered from the cipher's state on.
+use Rattle.std.specs.Prelude.{ℕ, ◌/◌, if◌then◌else◌, Bool, true, false, Option, Some, None, List, [], ◌∷◌, bit_xor}
+use Rattle.t1_seal.specs.declared.cipher.Cipher.{Cipher}
+use Rattle.t1_seal.specs.CipherLaws.{next_state}
+use Rattle.t1_char.specs.declared.cursor.Cursor.{Cursor}
+use Rattle.t1_char.specs.declared.token.CharToken.{CharToken}
+use Rattle.t1_char.specs.declared.token.CharToken.TheVariants.{Short, End}
+use Rattle.t1_char.specs.Tokens.{tokens_of}
+
+-- The cipher's state, or none where charstrings aren't encrypted.
+abbrev pub key_of : Option Cipher → Option ℕ
+key_of None = None
+key_of (Some cipher) = Some cipher.r
+
+-- The plain byte of a byte, and the key behind it.
+abbrev pub plain_by : Option ℕ → ℕ → ℕ
+plain_by None c = c
+plain_by (Some r) c = bit_xor c (r / 256)
+
+abbrev pub key_after : Option ℕ → ℕ → Option ℕ
+key_after None c = None
+key_after (Some r) c = Some (next_state r c)
+
+unfoldable pub deciphered : Option ℕ → List ℕ → List ℕ
+deciphered key [] = []
+deciphered key (c ∷ rest) = plain_by key c ∷ deciphered (key_after key c) rest
+
+-- The plain bytes and the tokens that a cursor has left.
+abbrev pub bytes_left : Cursor → List ℕ
+bytes_left cursor = deciphered (key_of cursor.cipher) cursor.left.now
+
+abbrev pub tokens_left : Cursor → List CharToken
+tokens_left cursor = if cursor.short then Short ∷ tokens_of (bytes_left cursor) else tokens_of (bytes_left cursor)
+
+abbrev pub is_end : CharToken → Bool
+is_end End = true
+is_end _ = false
+
+-- What stands behind a token: nothing behind End.
+abbrev pub behind_token : CharToken → List CharToken → List CharToken
+behind_token token rest = if is_end token then [] else rest

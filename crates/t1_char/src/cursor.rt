@@ -1,0 +1,186 @@
+//! A place in a charstring, at which it is deciphered as it is read.
+
+ghost use Rattle.std.specs.Prelude.{◌≡◌, false, ◌/◌, bit_xor, MatchOption, [], ◌∷◌, drop};
+ghost use Rattle.t1_seal.specs.CipherLaws.{next_state};
+ghost use Rattle.t1_char.specs.Tokens.{charstring_tokens, long_number, more_of, random_of, token_at};
+ghost use Rattle.t1_seal.specs.Cipher.{charstring_start, decrypted};
+ghost use Rattle.t1_char.specs.Workings.Cursors.{behind_token, bytes_left, is_end, key_after, key_of, plain_by, tokens_left};
+
+use crate::token::{CharToken, escaped_token, joined, pair, plain_token, signed};
+use t1_seal::Cipher;
+
+/// What is left of a charstring: bytes of its slice, the cipher's state, and whether it is shorter than
+/// lenIV, which is told first.
+#[derive(Clone, Copy)]
+pub(crate) struct Cursor<'a> {
+    left: &'a [u8],
+    /// None where charstrings aren't encrypted.
+    cipher: Option<Cipher>,
+    short: bool,
+}
+
+impl<'a> Cursor<'a> {
+    /// A cursor at the start of a charstring, behind its random bytes.
+    #[tactic(auto, using(crate::proofs::Deciphering::deciphered_plain), unfolding(crate::specs::Tokens::charstring_tokens, crate::specs::Tokens::tokens_behind))]
+    pub(crate) fn start(code: &'a [u8], len_iv: i8) -> Cursor<'a>
+        ensures { tokens_left result ≡ charstring_tokens len_iv code.entry.now }
+    {
+        match random_bytes(len_iv) {
+            None => Cursor {
+                left: code,
+                cipher: None,
+                short: false,
+            },
+            Some(random) if code.len() < random => Cursor {
+                left: &[],
+                cipher: None,
+                short: true,
+            },
+            Some(random) => Cursor::behind(code, random),
+        }
+    }
+
+    /// A cursor of an encrypted charstring, behind so many bytes.
+    fn behind(code: &'a [u8], random: usize) -> Cursor<'a>
+        ensures bytes { bytes_left result ≡ drop random (decrypted charstring_start code.entry.now) }
+        ensures short { result.short ≡ false }
+    {
+        let mut cursor = Cursor {
+            left: code,
+            cipher: Some(Cipher::charstring()),
+            short: false,
+        };
+        cursor.discard(random);
+        cursor
+    }
+
+    /// The next token.
+    #[tactic(auto, using(crate::proofs::Skipping::tokens_behind_is), unfolding(crate::specs::Tokens::tokens_behind))]
+    pub(crate) fn next_token(&mut self) -> CharToken
+        ensures { tokens_left self.old ≡ result ∷ behind_token result (tokens_left self.new) }
+    {
+        if self.short {
+            self.short = false;
+            return CharToken::Short;
+        }
+        match self.next_byte() {
+            None => CharToken::End,
+            Some(first) => self.token_behind(first),
+        }
+    }
+
+    /// The token of its first byte and the bytes behind it.
+    fn token_behind(&mut self, first: u8) -> CharToken
+        ensures token { result ≡ token_at first (bytes_left self.old) }
+        ensures left { bytes_left self.new ≡ drop (more_of first) (bytes_left self.old) }
+        ensures short { self.new.short ≡ self.old.short }
+        ensures goes_on { is_end result ≡ false }
+    {
+        match first {
+            12 => match self.next_byte() {
+                Some(second) => escaped_token(second),
+                None => CharToken::Cut,
+            },
+            0..=31 => plain_token(first),
+            32..=246 => CharToken::Number(i32::from(first) - 139),
+            247..=250 => match self.next_byte() {
+                Some(second) => CharToken::Number(i32::from(pair(first - 247, second))),
+                None => CharToken::Cut,
+            },
+            251..=254 => match self.next_byte() {
+                Some(second) => CharToken::Number(-i32::from(pair(first - 251, second))),
+                None => CharToken::Cut,
+            },
+            255 => self.long_number(),
+        }
+    }
+
+    /// The number of the next four bytes.
+    fn long_number(&mut self) -> CharToken
+        ensures token { result ≡ long_number (bytes_left self.old) }
+        ensures left { bytes_left self.new ≡ drop 4 (bytes_left self.old) }
+        ensures short { self.new.short ≡ self.old.short }
+        ensures goes_on { is_end result ≡ false }
+    {
+        let a = self.next_byte();
+        let b = self.next_byte();
+        let c = self.next_byte();
+        let d = self.next_byte();
+        match (a, b, c, d) {
+            (Some(a), Some(b), Some(c), Some(d)) => CharToken::Number(signed(joined(a, b, c, d))),
+            _ => CharToken::Cut,
+        }
+    }
+
+    fn discard(&mut self, count: usize)
+        ensures left { bytes_left self.new ≡ drop count (bytes_left self.old) }
+        ensures short { self.new.short ≡ self.old.short }
+    {
+        for _taken in 0..count {
+            self.next_byte();
+        }
+    }
+
+    /// The next plain byte.
+    #[tactic(auto, unfolding(crate::specs::Workings::Cursors::deciphered))]
+    fn next_byte(&mut self) -> Option<u8>
+        ensures byte { MatchOption result (bytes_left self.old ≡ []) (λ b. bytes_left self.old ≡ b ∷ bytes_left self.new) }
+        ensures left { bytes_left self.new ≡ drop 1 (bytes_left self.old) }
+        ensures short { self.new.short ≡ self.old.short }
+    {
+        match first_of(self.left) {
+            None => None,
+            Some((byte, rest)) => {
+                self.left = rest;
+                Some(self.plain(byte))
+            }
+        }
+    }
+
+    /// The plain byte of a byte; the cipher goes on.
+    fn plain(&mut self, byte: u8) -> u8
+        ensures byte { result ≡ plain_by (key_of self.old.cipher) byte }
+        ensures key { key_of self.new.cipher ≡ key_after (key_of self.old.cipher) byte }
+        ensures left { self.new.left.now ≡ self.old.left.now }
+        ensures short { self.new.short ≡ self.old.short }
+    {
+        match self.cipher {
+            None => byte,
+            Some(mut cipher) => {
+                let plain = next_plain(&mut cipher, byte);
+                self.cipher = Some(cipher);
+                plain
+            }
+        }
+    }
+}
+
+/// How many random bytes stand in front; none where charstrings aren't encrypted.
+fn random_bytes(len_iv: i8) -> Option<usize>
+    ensures { result ≡ random_of len_iv }
+{
+    if len_iv < 0 {
+        None
+    } else {
+        Some(len_iv as usize)
+    }
+}
+
+/// The first byte and the rest.
+fn first_of(left: &[u8]) -> Option<(u8, &[u8])>
+    ensures { MatchOption result (left.now ≡ []) (λ cut. left.now ≡ cut.0 ∷ cut.1.now) }
+{
+    match left {
+        [] => None,
+        [first, rest @ ..] => Some((*first, rest)),
+    }
+}
+
+/// The plain byte by the cipher's state, which goes on.
+fn next_plain(cipher: &mut Cipher, byte: u8) -> u8
+    ensures plain { result ≡ bit_xor byte (cipher.old.r / 256) }
+    ensures state { cipher.new.r ≡ next_state cipher.old.r byte }
+{
+    let _state = cipher.r;
+    cipher.next(byte)
+}
