@@ -1,3 +1,6 @@
 pub mod Commands
+pub mod Effects
+pub mod Numbers
+pub mod Stacks
 pub mod Tokens
 pub mod Workings

@@ -1,0 +1,64 @@
+//! The numbers on the stack, in units of 1/65536: Type 1 Font Format 1.1, chapter 6 (Charstring Number
+//! Encoding; div).
+
+ghost use Rattle.std.specs.Prelude.{◌≡◌, ◌≢◌, pos};
+ghost use Rattle.t1_char.specs.Numbers.{clamped, cut_quotient, natural, quotient, units};
+
+const UNIT: i64 = 65536;
+
+/// The greatest quotient, 32000.
+const GREATEST: i64 = 32000 * 65536;
+
+/// A number of a charstring in units of 1/65536.
+pub(crate) fn units(number: i32) -> i64
+    ensures { result ≡ units number }
+{
+    i64::from(number) * UNIT
+}
+
+/// The quotient of two numbers, cut towards zero and kept within -32000 to 32000; 0 where the divisor
+/// is 0.
+pub(crate) fn quotient(dividend: i64, divisor: i64) -> i64
+    ensures { result ≡ quotient dividend divisor }
+{
+    if divisor == 0 {
+        return 0;
+    }
+    clamped(cut_quotient(dividend, divisor))
+}
+
+/// The quotient of two numbers, cut towards zero.
+fn cut_quotient(dividend: i64, divisor: i64) -> i128
+    requires { divisor ≢ pos 0 }
+    ensures { result ≡ cut_quotient dividend divisor }
+{
+    i128::from(dividend) * i128::from(UNIT) / i128::from(divisor)
+}
+
+/// The number from -32000 to 32000 that is nearest.
+fn clamped(number: i128) -> i64
+    ensures { result ≡ clamped number }
+{
+    if number > i128::from(GREATEST) {
+        GREATEST
+    } else if number < -i128::from(GREATEST) {
+        -GREATEST
+    } else {
+        number as i64
+    }
+}
+
+/// The number as a count or the number of a Subr, where it is whole and not negative.
+pub(crate) fn natural(number: i64) -> Option<u32>
+    ensures { result ≡ natural number }
+{
+    if number < 0 {
+        return None;
+    }
+    let natural = number as u64;
+    if natural % 65536 == 0 && natural < 1 << 48 {
+        Some((natural / 65536) as u32)
+    } else {
+        None
+    }
+}

@@ -1,0 +1,106 @@
+//! The stack of numbers: Type 1 Font Format 1.1, chapter 6.
+
+ghost use Rattle.std.specs.Prelude.{◌≡◌, ◌≤◌, ◌<◌, [], length, nat_eq};
+ghost use Rattle.t1_char.specs.Stacks.{from_top, put, without};
+
+use std::marker::Model;
+
+/// The most numbers that a stack holds.
+const MOST: usize = 24;
+
+/// The numbers on the stack, bottom first, at most 24, in units of 1/65536.
+///
+/// What is taken off isn't overwritten, so that emptying it costs nothing.
+#[derive(Drop)]
+pub struct Stack {
+    cells: [i64; MOST],
+    len: usize,
+}
+
+impl Model for Stack {
+    ghost use Rattle.std.specs.Prelude.{ℤ, List, ◌≤◌, take};
+
+    ghost Value = { List ℤ };
+
+    ghost view = { λ s. take s.len s.cells };
+
+    ghost invariant = { λ s. s.len ≤ 24 };
+}
+
+impl Stack {
+    /// An empty stack.
+    pub(crate) fn new() -> Stack
+        ensures { result ≡ [] }
+    {
+        Stack {
+            cells: [0; MOST],
+            len: 0,
+        }
+    }
+
+    /// The numbers, bottom first.
+    pub fn as_slice(&self) -> &[i64]
+        ensures numbers { result.now ≡ self.now }
+        ensures most { length self.now ≤ 24 }
+    {
+        &self.cells[..self.len]
+    }
+
+    /// How many numbers there are.
+    pub fn len(&self) -> usize
+        ensures len { result ≡ length self.now }
+        ensures most { length self.now ≤ 24 }
+    {
+        self.len
+    }
+
+    /// Whether there is no number.
+    pub fn is_empty(&self) -> bool
+        ensures { result ≡ nat_eq (length self.now) 0 }
+    {
+        self.len == 0
+    }
+
+    /// A stack of the same numbers.
+    pub(crate) fn copy(&self) -> Stack
+        ensures { result ≡ self.now }
+    {
+        Stack {
+            cells: self.cells,
+            len: self.len,
+        }
+    }
+
+    /// Takes all numbers off.
+    pub(crate) fn clear(&mut self)
+        ensures { self.new ≡ [] }
+    {
+        self.len = 0;
+    }
+
+    /// Puts a number on top, or drops it where there are 24.
+    pub(crate) fn put(&mut self, number: i64)
+        ensures { self.new ≡ put self.old number }
+    {
+        if self.len < MOST {
+            self.cells[self.len] = number;
+            self.len += 1;
+        }
+    }
+
+    /// The number so many below the top.
+    pub(crate) fn from_top(&self, below: usize) -> i64
+        requires { below < length self.now }
+        ensures { result ≡ from_top self.now below }
+    {
+        self.cells[self.len - 1 - below]
+    }
+
+    /// Takes the topmost numbers off, so many.
+    pub(crate) fn take_off(&mut self, count: usize)
+        requires { count ≤ length self.old }
+        ensures { self.new ≡ without count self.old }
+    {
+        self.len -= count;
+    }
+}

@@ -1,0 +1,9 @@
+//! Subrs: Type 1 Font Format 1.1, chapter 8.
+
+/// A Subr of the font.
+#[derive(Clone, Copy)]
+pub(crate) struct Subr<'a> {
+    pub(crate) number: u32,
+    /// Its charstring, as it stands in the font.
+    pub(crate) code: &'a [u8],
+}
