@@ -1,6 +1,9 @@
+pub mod Charstrings
 pub mod Commands
 pub mod Effects
 pub mod Numbers
 pub mod Stacks
+pub mod StepValues
+pub mod Steps
 pub mod Tokens
 pub mod Workings

@@ -1,2 +1,4 @@
 pub mod Actions
 pub mod Cursors
+pub mod Listings
+pub mod Steps

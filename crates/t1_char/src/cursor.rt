@@ -4,7 +4,8 @@ ghost use Rattle.std.specs.Prelude.{◌≡◌, false, ◌/◌, bit_xor, MatchOpt
 ghost use Rattle.t1_seal.specs.CipherLaws.{next_state};
 ghost use Rattle.t1_char.specs.Tokens.{charstring_tokens, long_number, more_of, random_of, token_at};
 ghost use Rattle.t1_seal.specs.Cipher.{charstring_start, decrypted};
-ghost use Rattle.t1_char.specs.Workings.Cursors.{behind_token, bytes_left, is_end, key_after, key_of, plain_by, tokens_left};
+ghost use Rattle.t1_char.specs.Steps.{is_end};
+ghost use Rattle.t1_char.specs.Workings.Cursors.{behind_token, bytes_left, key_after, key_of, plain_by, tokens_left};
 
 use crate::token::{CharToken, escaped_token, joined, pair, plain_token, signed};
 use t1_seal::Cipher;

@@ -1,11 +1,12 @@
 -- What a cursor has left: the bytes that are left of a slice, deciphered from the cipher's state on.
-use Rattle.std.specs.Prelude.{ℕ, ◌/◌, if◌then◌else◌, Bool, true, false, Option, Some, None, List, [], ◌∷◌, bit_xor}
+use Rattle.std.specs.Prelude.{ℕ, ◌/◌, if◌then◌else◌, Option, Some, None, List, [], ◌∷◌, bit_xor}
 use Rattle.t1_seal.specs.declared.cipher.Cipher.{Cipher}
 use Rattle.t1_seal.specs.CipherLaws.{next_state}
 use Rattle.t1_char.specs.declared.cursor.Cursor.{Cursor}
 use Rattle.t1_char.specs.declared.token.CharToken.{CharToken}
-use Rattle.t1_char.specs.declared.token.CharToken.TheVariants.{Short, End}
+use Rattle.t1_char.specs.declared.token.CharToken.TheVariants.{Short}
 use Rattle.t1_char.specs.Tokens.{tokens_of}
+use Rattle.t1_char.specs.Steps.{is_end}
 
 -- The cipher's state, or none where charstrings aren't encrypted.
 abbrev pub key_of : Option Cipher → Option ℕ
@@ -31,10 +32,6 @@ bytes_left cursor = deciphered (key_of cursor.cipher) cursor.left.now
 
 abbrev pub tokens_left : Cursor → List CharToken
 tokens_left cursor = if cursor.short then Short ∷ tokens_of (bytes_left cursor) else tokens_of (bytes_left cursor)
-
-abbrev pub is_end : CharToken → Bool
-is_end End = true
-is_end _ = false
 
 -- What stands behind a token: nothing behind End.
 abbrev pub behind_token : CharToken → List CharToken → List CharToken

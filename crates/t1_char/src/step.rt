@@ -1,0 +1,99 @@
+//! The steps of a glyph: Type 1 Font Format 1.1, chapters 6 and 8.
+
+ghost use Rattle.std.specs.Prelude.{◌≡◌, nat_eq};
+ghost use Rattle.t1_char.specs.Steps.{is_callsubr, is_end, is_last, is_return, named_at};
+ghost use Rattle.t1_char.specs.Workings.Actions.{named_of};
+ghost use Rattle.t1_char.specs.Workings.Cursors.{behind_token, tokens_left};
+
+use crate::command::Command;
+use crate::cursor::Cursor;
+use crate::numbers::natural;
+use crate::stack::Stack;
+use crate::subr::Subr;
+use crate::token::CharToken;
+use arrayvec::ArrayVec;
+use t1_font::Font;
+
+/// The Subrs that are being executed, the outermost first.
+pub type Path = ArrayVec<u32, 10>;
+
+/// One token of a glyph that is executed.
+#[derive(Drop)]
+pub struct Step {
+    /// Its number among the glyph's steps, from 1 on.
+    pub number: u32,
+    pub token: CharToken,
+    /// The Subrs that are being executed, the outermost first.
+    pub path: Path,
+    /// The numbers on the stack before the step.
+    pub stack: Stack,
+    /// How many results of an OtherSubr wait for pop before the step.
+    pub waiting: usize,
+    /// Whether it calls a Subr by the number of one that is there, be the call made or not.
+    pub found: bool,
+    /// Whether what follows the token in its charstring is End alone, or, in a Subr, return and End.
+    pub last: bool,
+}
+
+/// The Subr that the top of the stack names, where the token calls it.
+pub(crate) fn named_at<'a>(font: &'a Font<'a>, token: CharToken, stack: &Stack) -> Option<Subr<'a>>
+    ensures { named_of result ≡ named_at font.now token stack.now }
+{
+    if !is_callsubr(token) || stack.len() == 0 {
+        return None;
+    }
+    match natural(stack.from_top(0)) {
+        None => None,
+        Some(number) => match font.subr(number) {
+            None => None,
+            Some(code) => Some(Subr { number, code }),
+        },
+    }
+}
+
+/// A path of the same Subrs.
+pub(crate) fn copy_of(path: &Path) -> Path
+    ensures { result.items ≡ path.now.items }
+{
+    let mut copy = ArrayVec::new();
+    let _copied = copy.try_extend_from_slice(path.as_slice());
+    copy
+}
+
+fn is_callsubr(token: CharToken) -> bool
+    ensures { result ≡ is_callsubr token }
+{
+    matches!(token, CharToken::Command(Command::Callsubr))
+}
+
+/// Whether what follows a token is End alone, or, in a Subr, return and End.
+pub(crate) fn is_last(token: CharToken, mut behind: Cursor<'_>, depth: usize) -> bool
+    ensures { result ≡ is_last depth (behind_token token (tokens_left behind.entry)) }
+{
+    if is_end(token) {
+        return false;
+    }
+    let next = behind.next_token();
+    if is_end(next) {
+        return true;
+    }
+    if depth == 0 {
+        return false;
+    }
+    if !is_return(next) {
+        return false;
+    }
+    is_end(behind.next_token())
+}
+
+fn is_end(token: CharToken) -> bool
+    ensures { result ≡ is_end token }
+{
+    matches!(token, CharToken::End)
+}
+
+fn is_return(token: CharToken) -> bool
+    ensures { result ≡ is_return token }
+{
+    matches!(token, CharToken::Command(Command::Return))
+}
