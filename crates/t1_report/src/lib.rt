@@ -25,8 +25,10 @@ mod lines;
 mod reporting;
 #[cfg(test)]
 mod tests;
+mod traces;
 
 pub use faults::Fault;
 pub use laws::a_font_has_one_report;
 pub use lines::write_fault;
 pub use reporting::report;
+pub use traces::write_step;

@@ -82,7 +82,7 @@ fn glyph_name<'a>(font: &Font<'a>, glyph: u32) -> &'a [u8]
 }
 
 /// Writes the Subrs that are being executed: `5>6`, or `-` where there is none.
-fn write_path<W: Sink>(sink: &mut W, path: &[u32]) -> Result<(), Broken>
+pub(crate) fn write_path<W: Sink>(sink: &mut W, path: &[u32]) -> Result<(), Broken>
     ensures { Writes (W.state sink.old) (W.state sink.new) (path_text path.now) result }
 {
     let Some((outermost, inner)) = path.split_first() else {

@@ -13,18 +13,19 @@ use Rattle.clap.specs.declared.builder.command.Command.{Command}
 use Rattle.clap.specs.declared.builder.command.Command.TheViews.{out-Command}
 use Rattle.clap.specs.declared.builder.value_parser.ValueParser.TheVariants as parser
 use Rattle.clap.specs.declared.parser.matches.ArgMatches.{ArgMatches}
-use Rattle.t1check.specs.CommandLine.{t1check, after_rule, file_rule, max_rule, IsNumberArgument, IsTextOfNumber}
+use Rattle.t1check.specs.CommandLine.{t1check, after_rule, file_rule, max_rule, trace_rule, IsNumberArgument, IsTextOfNumber}
 use Rattle.t1check.proofs.ValueLemmas.{first_value-passes}
 
--- a command with the three arguments is the program's
-pub app_of-t1check : (start first second third : Command) (after max file : Arg) → AddsArg start after first → AddsArg first max second → AddsArg second file third
-    → after.global ≡ false → max.global ≡ false → file.global ≡ false → app_of start ≡ new_app (codes "t1check")
-    → rule_of after ≡ after_rule → rule_of max ≡ max_rule → rule_of file ≡ file_rule → app_of third ≡ t1check
+-- a command with the four arguments is the program's
+pub app_of-t1check : (start first second third fourth : Command) (after max trace file : Arg) → AddsArg start after first → AddsArg first max second → AddsArg second trace third
+    → AddsArg third file fourth → after.global ≡ false → max.global ≡ false → trace.global ≡ false → file.global ≡ false → app_of start ≡ new_app (codes "t1check")
+    → rule_of after ≡ after_rule → rule_of max ≡ max_rule → rule_of trace ≡ trace_rule → rule_of file ≡ file_rule → app_of fourth ≡ t1check
 unfolding t1check
-app_of-t1check start first second third after max file one two three after_local max_local file_local new is_after is_max is_file =
-    three.shape file_local ∙ ap (with_rule (app_of second)) is_file
-    ∙ ap (λ (a : App). with_rule a file_rule) (two.shape max_local ∙ ap (with_rule (app_of first)) is_max
-    ∙ ap (λ (a : App). with_rule a max_rule) (one.shape after_local ∙ ap (with_rule (app_of start)) is_after ∙ ap (λ (a : App). with_rule a after_rule) new))
+app_of-t1check start first second third fourth after max trace file one two three four after_local max_local trace_local file_local new is_after is_max is_trace is_file =
+    four.shape file_local ∙ ap (with_rule (app_of third)) is_file
+    ∙ ap (λ (a : App). with_rule a file_rule) (three.shape trace_local ∙ ap (with_rule (app_of second)) is_trace
+    ∙ ap (λ (a : App). with_rule a trace_rule) (two.shape max_local ∙ ap (with_rule (app_of first)) is_max
+    ∙ ap (λ (a : App). with_rule a max_rule) (one.shape after_local ∙ ap (with_rule (app_of start)) is_after ∙ ap (λ (a : App). with_rule a after_rule) new)))
 
 -- a rule excludes nothing, and its id is neither empty nor that of an argument of clap's own
 abbrev is_own : Rule → Bool

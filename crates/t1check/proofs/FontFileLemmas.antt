@@ -113,7 +113,7 @@ module _ (bytes : List ℕ) (joined : JoinedText) (clear : ClearValue) (opened :
   font_found text font is h = opened_next text is ∙ ap as_unread (h (marks_in joined) read.text.stated read.font)
 
 -- A reason that is handed on, with nothing given or told.
-pub handed_on : (options : Options) (out errors : SinkState) (r : Result Status Unread) (e : Unread) (read : Result FontValue Unread) → IsErrAnd r (λ y. y ≡ e) → IsUnread e read
-    → Checks options read out out errors errors r
-handed_on options out errors (Ok status) e there never is = absurd never
-handed_on options out errors (Err y) e there same is = (subst (λ u. IsUnread u there) (sym same) is, refl, refl)
+pub handed_on : (options : Options) (out out' errors errors' : SinkState) (r : Result Status Unread) (e : Unread) (there : Result FontValue Unread)
+    → out' ≡ out → errors' ≡ errors → IsErrAnd r (λ y. y ≡ e) → IsUnread e there → Checks options there out out' errors errors' r
+handed_on options out out' errors errors' (Ok status) e there same same' never is = absurd never
+handed_on options out out' errors errors' (Err y) e there same same' reason is = (subst (λ u. IsUnread u there) (sym reason) is, same, same')

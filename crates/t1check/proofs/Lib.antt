@@ -1,6 +1,7 @@
 pub mod AnswerLemmas
 pub mod CommandLemmas
 pub mod FontFileLemmas
+pub mod GlyphPlaces
 pub mod InputLemmas
 pub mod ReportLemmas
 pub mod RunLaws

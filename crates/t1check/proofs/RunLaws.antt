@@ -1,5 +1,5 @@
 -- Each way in which a run ends keeps its promises.
-use Rattle.std.proofs.Common.{◌≡◌, ◌≢◌, ◌⊎◌, inl, inr, ℕ, Bool, true, false, true≢false, List, [], ◌∷◌, Option, None, Some, IfSome, Result, Err, codes, refl, sym, ap, subst, ◌∙◌}
+use Rattle.std.proofs.Common.{option_map, string_bytes, ◌≡◌, ◌≢◌, ◌⊎◌, inl, inr, ℕ, Bool, true, false, true≢false, List, [], ◌∷◌, Option, None, Some, IfSome, Result, Ok, Err, codes, refl, sym, ap, subst, ◌∙◌}
 use Rattle.std.specs.Io.KnownBytes.{Appends, Keeps}
 use Rattle.std.proofs.KnownBytes.{Appends-nil, Keeps-refl}
 use Rattle.t1_font.specs.Fonts.{FontValue}
@@ -9,9 +9,11 @@ use Rattle.t1check.specs.declared.status.Status.{Status}
 use Rattle.t1check.specs.declared.status.Status.TheVariants.{Clean, Failed, Faults, Refused}
 use Rattle.t1check.specs.declared.unread.Unread.{Unread}
 use Rattle.t1check.specs.declared.unread.Unread.TheVariants as unread
-use Rattle.t1check.specs.Answers.{IsAnswerTo, chosen, refused, reported, status_of}
-use Rattle.t1check.specs.Ends.{AreRead, Gives, Reports, Tells, stopped}
-use Rattle.t1check.specs.Ends.Ends.{no_memory as was_no_memory, read_failed as was_read_failed, refused as was_refused, reported as was_reported}
+use Rattle.t1check.specs.Answers.{Answer, IsAnswerTo, IsShown, chosen, refused, reported, status_of, traced_at}
+use Rattle.t1check.specs.Ends.{AreRead, Gives, Shows, Tells, stopped}
+use Rattle.t1check.specs.Ends.Shows.{no_glyph, reported as was_reported, traced as was_traced}
+use Rattle.t1check.specs.Traces.{no_glyph_line, trace_of}
+use Rattle.t1check.specs.Ends.Ends.{no_memory as was_no_memory, read_failed as was_read_failed, refused as was_refused, shown as was_shown}
 use Rattle.t1check.specs.Ends.Gives.{given, write_failed}
 use Rattle.t1check.specs.Ends.Tells.{told, untold}
 use Rattle.t1check.specs.FontFiles.{font_of}
@@ -86,23 +88,20 @@ of-read : (P : Result FontValue Unread → Type 0) (left : Option (List ℕ)) (r
 of-read P None read are holds = tt
 of-read P (Some input) read are holds = subst P (sym are) holds
 
--- ---- a report
+-- ---- a report or a trace
 
 module _ (options : Options) (left : Option (List ℕ)) (failed : Bool) (out out' errors errors' : SinkState) (result : Status) (sound : out.failed ≡ false) (errors_sound : errors.failed ≡ false) where
-  after_report : (read : Result FontValue Unread) → AreRead left read → failed ≡ false → (reports : Reports options read out out' errors errors' result)
-      → Gives (reported reports.font (chosen options reports.faults)).output (status_of (chosen options reports.faults)) out out' errors errors' result
+  -- an answer of the font that was given whole, with a status other than 2 and 3
+  after_given : (read : Result FontValue Unread) (answer : Answer) → AreRead left read → failed ≡ false → IsAnswerTo options read answer → answer.told ≡ []
+      → (answer.status ≡ Refused → ⊥) → (answer.status ≡ Failed → ⊥) → Gives answer.output answer.status out out' errors errors' result
       → Promises options left failed out out' errors errors' result
-  after_report read are unfailed reports (given wrote kept is) =
-      let lines = chosen options reports.faults in
-      let answer = reported reports.font lines in
-      let is_answer : IsAnswerTo options read answer = subst (λ (r : Result FontValue Unread). IsAnswerTo options r answer) (sym reports.is) (reports.faults, (reports.report, refl)) in
-      let ok : result ≡ Failed → ⊥ = λ three. list-not-failed lines (sym is ∙ three) in
+  after_given read answer are unfailed is_answer silent never_two never_three (given wrote kept is) =
       let out_sound : out'.failed ≡ false = wrote.failed ∙ sound in
       record {
         answer = λ went. of-read (λ (r : Result FontValue Unread). Answered options r result out out' errors errors') left read are
-            (answer, (is_answer, record { status = is; output = wrote.bytes; told = nothing-same errors errors' kept }));
+            (answer, (is_answer, record { status = is; output = wrote.bytes; told = subst (Appends errors.written errors'.written) (sym silent) (nothing-same errors errors' kept) }));
         flushed = λ either. (wrote.waits, wrote.flushes);
-        untouched = λ two. absurd (list-not-refused lines (sym is ∙ two));
+        untouched = λ two. absurd (never_two (sym is ∙ two));
         nothing_waits = λ went was. wrote.waits;
         broken = λ device. elim device [
           | inl source ↦ absurd (true≢false (sym source ∙ unfailed))
@@ -111,16 +110,13 @@ module _ (options : Options) (left : Option (List ℕ)) (failed : Bool) (out out
         ];
         read_failed = λ source. absurd (true≢false (sym source ∙ unfailed));
         write_failed = λ output. absurd (true≢false (sym output ∙ out_sound));
-        no_memory = λ three. absurd (ok three);
-        unwritten = λ three. absurd (ok three);
+        no_memory = λ three. absurd (never_three (sym is ∙ three));
+        unwritten = λ three. absurd (never_three (sym is ∙ three));
         unread = λ source. out_sound;
         front = λ output. absurd (true≢false (sym output ∙ out_sound));
-        unflushed = λ three. absurd (ok three);
+        unflushed = λ three. absurd (never_three (sym is ∙ three));
       }
-  after_report read are unfailed reports (write_failed broke tells) =
-      let lines = chosen options reports.faults in
-      let answer = reported reports.font lines in
-      let is_answer : IsAnswerTo options read answer = subst (λ (r : Result FontValue Unread). IsAnswerTo options r answer) (sym reports.is) (reports.faults, (reports.report, refl)) in
+  after_given read answer are unfailed is_answer silent never_two never_three (write_failed broke tells) =
       let three : result ≡ Failed = told-failed (codes "t1check: write failed\n") errors errors' result tells in
       record {
         answer = λ went. absurd (went three);
@@ -137,11 +133,51 @@ module _ (options : Options) (left : Option (List ℕ)) (failed : Bool) (out out
         unflushed = λ failure. broke.flushes;
       }
 
-  -- ---- no report
+  -- ---- neither
 
   -- the output as it was
   out_same : out' ≡ out → out'.failed ≡ false
   out_same same = ap (λ (s : SinkState). s.failed) same ∙ sound
+
+  -- the font has no glyph of the name
+  after_no_glyph : (font : FontValue) (name : List ℕ) → AreRead left (Ok font) → failed ≡ false → IsAnswerTo options (Ok font) (record { output = []; told = no_glyph_line name; status = Failed })
+      → out' ≡ out → Tells (no_glyph_line name) Failed errors errors' result → Promises options left failed out out' errors errors' result
+  after_no_glyph font name are unfailed is_answer same tells =
+      let three : result ≡ Failed = told-failed (no_glyph_line name) errors errors' result tells in
+      let answer : Answer = record { output = []; told = no_glyph_line name; status = Failed } in
+      record {
+        answer = λ went. absurd (went three);
+        flushed = λ either. absurd (never-report result either (inr three));
+        untouched = λ two. same;
+        nothing_waits = λ went. absurd (went three);
+        broken = λ device. three;
+        read_failed = λ source. absurd (true≢false (sym source ∙ unfailed));
+        write_failed = λ output. absurd (true≢false (sym output ∙ out_same same));
+        no_memory = λ failure source output whole. inr (of-read (λ (r : Result FontValue Unread). Answered options r result out out' errors errors') left (Ok font) are
+            (answer, (is_answer, record { status = three; output = nothing-same out out' same; told = told-text (no_glyph_line name) Failed errors errors' result tells whole })));
+        unwritten = λ failure output. keeps-same out out' same;
+        unread = λ source. out_same same;
+        front = λ output. absurd (true≢false (sym output ∙ out_same same));
+        unflushed = λ failure. ap (λ (s : SinkState). s.flushes) same;
+      }
+
+  -- the name that the options have
+  shown_by : (font : FontValue) (answer : Answer) (trace name : Option (List ℕ)) → trace ≡ name → IsShown options font name answer → IsShown options font trace answer
+  shown_by font answer trace name same is = subst (λ (n : Option (List ℕ)). IsShown options font n answer) (sym same) is
+
+  after_shown : (font : FontValue) → AreRead left (Ok font) → failed ≡ false → Shows options font out out' errors errors' result
+      → Promises options left failed out out' errors errors' result
+  after_shown font are unfailed (was_reported none faults report gives) =
+      let answer = reported font (chosen options faults) in
+      after_given (Ok font) answer are unfailed (shown_by font answer _ None (ap (option_map string_bytes) none) (faults, (report, refl))) refl
+      (list-not-refused (chosen options faults)) (list-not-failed (chosen options faults)) gives
+  after_shown font are unfailed (was_traced name is glyph there gives) =
+      let answer : Answer = record { output = trace_of font glyph; told = []; status = Clean } in
+      after_given (Ok font) answer are unfailed (shown_by font answer _ (Some name) is (sym (ap (traced_at font name) there))) refl
+      (λ two. cc) clean-failed gives
+  after_shown font are unfailed (no_glyph name is none same tells) =
+      let answer : Answer = record { output = []; told = no_glyph_line name; status = Failed } in
+      after_no_glyph font name are unfailed (shown_by font answer _ (Some name) is (sym (ap (traced_at font name) none))) same tells
 
   after_refusal : (reason : Unread) → AreRead left (Err reason) → failed ≡ false → out' ≡ out → Tells (told_of reason) (stopped reason) errors errors' result
       → (stopped reason ≡ Refused) ⊎ (reason ≡ unread.Memory) → Promises options left failed out out' errors errors' result
@@ -168,7 +204,7 @@ module _ (options : Options) (left : Option (List ℕ)) (failed : Bool) (out out
         write_failed = λ output. absurd (true≢false (sym output ∙ out_same same));
         no_memory = λ three source output whole. elim kind [
           | inl two ↦ absurd (refused-failed (sym two ∙ (status_where_whole whole tells) ∙ three))
-          | inr memory ↦ subst (λ (u : Unread). Appends errors.written errors'.written (told_of u)) memory (told-text (told_of reason) (stopped reason) errors errors' result tells whole)
+          | inr memory ↦ inl (subst (λ (u : Unread). Appends errors.written errors'.written (told_of u)) memory (told-text (told_of reason) (stopped reason) errors errors' result tells whole))
         ];
         unwritten = λ three output. keeps-same out out' same;
         unread = λ source. out_same same;
@@ -209,7 +245,7 @@ module _ (options : Options) (left : Option (List ℕ)) (failed : Bool) (out out
         broken = λ device. three;
         read_failed = λ source. absurd (true≢false (sym source ∙ unfailed));
         write_failed = λ output. absurd (true≢false (sym output ∙ out_same same));
-        no_memory = λ failure source output whole. told-text (codes "t1check: out of memory\n") Failed errors errors' result tells whole;
+        no_memory = λ failure source output whole. inl (told-text (codes "t1check: out of memory\n") Failed errors errors' result tells whole);
         unwritten = λ failure output. keeps-same out out' same;
         unread = λ source. out_same same;
         front = λ output. absurd (true≢false (sym output ∙ out_same same));
@@ -223,8 +259,8 @@ kind_of_reason unread.NotAFont = inl refl
 kind_of_reason _ = inl refl
 
 pub kept : RunsKeepPromises
-kept options left failed out out' errors errors' result sound errors_sound (was_reported read are unfailed reports) =
-    after_report options left failed out out' errors errors' result sound errors_sound read are unfailed reports reports.gives
+kept options left failed out out' errors errors' result sound errors_sound (was_shown font are unfailed shows) =
+    after_shown options left failed out out' errors errors' result sound errors_sound font are unfailed shows
 kept options left failed out out' errors errors' result sound errors_sound (was_refused reason are unfailed same tells) =
     after_refusal options left failed out out' errors errors' result sound errors_sound reason are unfailed same tells (kind_of_reason reason)
 kept options left failed out out' errors errors' result sound errors_sound (was_read_failed broken same tells) =

@@ -25,12 +25,16 @@ max_rule = record (new_rule (codes "max")) {
   parser = Some (parser.Unsigned 0 18446744073709551615);
 }
 
+-- --trace NAME
+abbrev pub trace_rule : Rule
+trace_rule = record (new_rule (codes "trace")) { long = Some (codes "trace"); value_names = 1 }
+
 -- FILE
 abbrev pub file_rule : Rule
 file_rule = record (new_rule (codes "file")) { value_names = 1 }
 
 unfoldable pub t1check : App
-t1check = with_rule (with_rule (with_rule (new_app (codes "t1check")) after_rule) max_rule) file_rule
+t1check = with_rule (with_rule (with_rule (with_rule (new_app (codes "t1check")) after_rule) max_rule) trace_rule) file_rule
 
 -- The id of an argument whose value is a number of 64 bits.
 abbrev pub IsNumberArgument : Text → Type 0
@@ -59,6 +63,7 @@ IsNumberOrZero (Some text) n = IsNumber text n
 pub record AreGiven (words : List Text) (options : Options) : Type 0 where
   pub after : IsNumberOrZero (first_of (codes "after") (matches_of t1check words)) options.after
   pub max : AreNumber (first_of (codes "max") (matches_of t1check words)) options.max
+  pub trace : option_map string_bytes options.trace ≡ first_of (codes "trace") (matches_of t1check words)
   pub file : option_map string_bytes options.file ≡ first_of (codes "file") (matches_of t1check words)
 
 -- The first fault that clap finds in the words is the request for help.

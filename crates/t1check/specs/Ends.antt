@@ -1,5 +1,5 @@
 -- How a run ends: what was given on the output, what was told on standard error, and the status.
-use Rattle.std.specs.Prelude.{◌≡◌, ℕ, Bool, true, false, List, Option, Result, Ok, Err, IfSome, codes, string_bytes}
+use Rattle.std.specs.Prelude.{◌≡◌, ℕ, Bool, true, false, List, Option, None, Some, option_map, Result, Ok, Err, IfSome, codes, string_bytes}
 use Rattle.t1_font.specs.Fonts.{FontValue}
 use Rattle.t1_io.specs.Devices.{Delivered, DeliveryFailed, PutFailed, SinkState, Wrote}
 use Rattle.t1_report.specs.Faults.{FaultValue}
@@ -15,6 +15,7 @@ use Rattle.t1check.specs.Answers.{chosen, status_of}
 use Rattle.t1check.specs.FontFiles.{IsUnread, font_of}
 use Rattle.t1check.specs.Lines.{lines_of}
 use Rattle.t1check.specs.Refusals.{told_of}
+use Rattle.t1check.specs.Traces.{glyph_named, no_glyph_line, trace_of}
 
 -- A text was to be told on standard error, and then a status to be answered; where that can't be told, Failed.
 pub data Tells (text : List ℕ) (status : Status) (errors errors' : SinkState) (result : Status) : Type 0 where
@@ -28,13 +29,18 @@ pub data Gives (text : List ℕ) (status : Status) (out out' errors errors' : Si
       DeliveryFailed out out' text → Tells (codes "t1check: write failed\n") Failed errors errors' result
       → Gives text status out out' errors errors' result
 
--- A font was read, and the lines that the options choose of its report were to be given.
-pub record Reports (options : Options) (read : Result FontValue Unread) (out out' errors errors' : SinkState) (result : Status) : Type 0 where
-  pub font : FontValue
-  pub is : read ≡ Ok font
-  pub faults : List FaultValue
-  pub report : IsReport font faults
-  pub gives : Gives (lines_of font (chosen options faults)) (status_of (chosen options faults)) out out' errors errors' result
+-- What the options ask for of a font: lines of its report, or the trace of a glyph, where there is one of the name.
+pub data Shows (options : Options) (font : FontValue) (out out' errors errors' : SinkState) (result : Status) : Type 0 where
+  reported :
+      options.trace ≡ None → (faults : List FaultValue) → IsReport font faults
+      → Gives (lines_of font (chosen options faults)) (status_of (chosen options faults)) out out' errors errors' result
+      → Shows options font out out' errors errors' result
+  traced :
+      (name : List ℕ) → option_map string_bytes options.trace ≡ Some name → (glyph : ℕ) → glyph_named font name ≡ Some glyph
+      → Gives (trace_of font glyph) Clean out out' errors errors' result → Shows options font out out' errors errors' result
+  no_glyph :
+      (name : List ℕ) → option_map string_bytes options.trace ≡ Some name → glyph_named font name ≡ None
+      → out' ≡ out → Tells (no_glyph_line name) Failed errors errors' result → Shows options font out out' errors errors' result
 
 -- The status where a file isn't read.
 abbrev pub stopped : Unread → Status
@@ -47,9 +53,9 @@ AreRead left read = IfSome left (λ input. font_of input ≡ read)
 
 -- How a run ends: these bytes were left in the source, and a read of it failed or didn't.
 pub data Ends (options : Options) (left : Option (List ℕ)) (failed : Bool) (out out' errors errors' : SinkState) (result : Status) : Type 0 where
-  -- status 0 or 1, or 3 where a write or the flush failed
-  reported :
-      (read : Result FontValue Unread) → AreRead left read → failed ≡ false → Reports options read out out' errors errors' result
+  -- status 0 or 1, or 3 where a write or the flush failed or there is no such glyph
+  shown :
+      (font : FontValue) → AreRead left (Ok font) → failed ≡ false → Shows options font out out' errors errors' result
       → Ends options left failed out out' errors errors' result
   -- status 2
   refused :
@@ -64,9 +70,14 @@ pub data Ends (options : Options) (left : Option (List ℕ)) (failed : Bool) (ou
       failed ≡ false → out' ≡ out → Tells (codes "t1check: out of memory\n") Failed errors errors' result
       → Ends options left failed out out' errors errors' result
 
--- How reading these bytes ends: with the report, or with a reason why they aren't read, and nothing given or told.
+-- How showing a font ends, where memory can be refused: then nothing was given or told.
+abbrev pub ShowsOrNot : {E : Type 0} → Options → FontValue → SinkState → SinkState → SinkState → SinkState → Result Status E → Type 0
+ShowsOrNot options font out out' errors errors' (Ok status) = Shows options font out out' errors errors' status
+ShowsOrNot options font out out' errors errors' (Err e) = (out' ≡ out) × (errors' ≡ errors)
+
+-- How reading these bytes ends: the font is shown, or there is a reason why they aren't read, and nothing given or told.
 abbrev pub Checks : Options → Result FontValue Unread → SinkState → SinkState → SinkState → SinkState → Result Status Unread → Type 0
-Checks options read out out' errors errors' (Ok status) = Reports options read out out' errors errors' status
+Checks options read out out' errors errors' (Ok status) = (font : FontValue) × (read ≡ Ok font) × Shows options font out out' errors errors' status
 Checks options read out out' errors errors' (Err reason) = IsUnread reason read × (out' ≡ out) × (errors' ≡ errors)
 
 -- What is answered to words of the command line that give no options: help on the output, all else on standard error.

@@ -7,4 +7,5 @@ pub mod Input
 pub mod Laws
 pub mod Lines
 pub mod Refusals
+pub mod Traces
 pub mod Words

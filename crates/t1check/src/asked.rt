@@ -11,6 +11,8 @@ pub struct Options {
     pub after: u64,
     /// How many of the other lines are written at most; all of them without it.
     pub max: Option<u64>,
+    /// The name of a glyph whose steps are written in place of the report.
+    pub trace: Option<String>,
     /// The name of the font's file; without it standard input is read.
     pub file: Option<String>,
 }

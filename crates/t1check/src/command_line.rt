@@ -9,17 +9,25 @@ use clap::{Arg, ArgMatches, Command, value_parser};
 use std::alloc::{AllocError, Global};
 use std::convert::AsStr;
 
-const ABOUT: &str = "Lists every rule of the book that an Adobe Type 1 font (PFA or PFB) breaks.";
+const ABOUT: &str = "\
+Lists every rule of the book that an Adobe Type 1 font (PFA or PFB) breaks. So far
+the first 25 rules are checked: those on the file and on the font's dictionaries.";
 
 const AFTER_HELP: &str = "\
+A line of the report:
+  NUMBER: font KEY INDEX RULE text    as in 1: font BlueValues 6 Z04 zone numbers fall
+  docs/RULES.md explains each RULE and each refusal (Enn), with an example and the cure
+
 Exit status:
-  0  no line of a report was written
+  0  no line of a report was written, or a trace was
   1  at least one line of a report was written
   2  the font was refused; standard error says why, with a number
-  3  the words weren't taken, a file or device failed, or memory ran out
+  3  usage error, no glyph NAME, a file or device failed, or memory ran out
 
-Example:
-  t1check --after 20 --max 10 font.pfb    writes the lines 21 to 30 of the report";
+Examples:
+  t1check font.pfb                        writes the whole report
+  t1check --after 20 --max 10 font.pfb    writes its lines 21 to 30
+  t1check --trace A font.pfb              writes the steps of glyph A";
 
 /// Reads the words of the command line, the program's name first.
 pub fn options<S: AsStr>(alloc: Global, words: &[S]) -> Result<Options, UsageError>
@@ -36,8 +44,14 @@ pub fn options<S: AsStr>(alloc: Global, words: &[S]) -> Result<Options, UsageErr
     };
     let after = number(matches.get_str("after")).unwrap_or(0);
     let max = number(matches.get_str("max"));
+    let trace = owned(alloc, matches.get_str("trace"))?;
     let file = owned(alloc, matches.get_str("file"))?;
-    Ok(Options { after, max, file })
+    Ok(Options {
+        after,
+        max,
+        trace,
+        file,
+    })
 }
 
 /// The number that an argument was given.
@@ -74,14 +88,19 @@ fn command<'a>(alloc: Global) -> Result<Command<'a>, AllocError>
         .value_name("M")
         .help("Writes at most M of the other lines")
         .value_parser(value_parser!(u64));
-    let file = Arg::new(alloc, "file")
-        .value_name("FILE")
-        .help("The font's file; without it standard input is read");
+    let trace = Arg::new(alloc, "trace")
+        .long("trace")
+        .value_name("NAME")
+        .help("Writes the steps of the glyph NAME in place of the report, STEP PATH TOKEN a line");
+    let file = Arg::new(alloc, "file").value_name("FILE").help(
+        "The font's file, one a run; without it standard input is read",
+    );
     Command::new(alloc, "t1check")
         .about(ABOUT)
         .after_help(AFTER_HELP)
         .arg(after)?
         .arg(max)?
+        .arg(trace)?
         .arg(file)
 }
 

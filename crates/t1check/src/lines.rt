@@ -30,25 +30,25 @@ pub fn write_report<W: Sink>(sink: &mut W, font: &Font<'_>, faults: &[Fault]) ->
     sink.flush()
 }
 
-/// The report without its first `count` faults.
-pub fn without_first(faults: &[Fault], count: u64) -> &[Fault]
-    ensures { result.now ≡ drop count faults.now }
+/// A list without its first elements, `count` of them.
+pub fn without_first<T>(items: &[T], count: u64) -> &[T]
+    ensures { result.now ≡ drop count items.now }
 {
-    match faults.get(count as usize..) {
+    match items.get(count as usize..) {
         Some(rest) => rest,
         None => &[],
     }
 }
 
-/// At most so many faults, or all of them.
-pub fn at_most(faults: &[Fault], max: Option<u64>) -> &[Fault]
-    ensures { result.now ≡ at_most max faults.now }
+/// At most so many elements of a list, or all of them.
+pub fn at_most<T>(items: &[T], max: Option<u64>) -> &[T]
+    ensures { result.now ≡ at_most max items.now }
 {
     let Some(max) = max else {
-        return faults;
+        return items;
     };
-    match faults.get(..max as usize) {
+    match items.get(..max as usize) {
         Some(front) => front,
-        None => faults,
+        None => items,
     }
 }

@@ -1,21 +1,25 @@
-ghost use Rattle.std.specs.Prelude.{◌≡◌, ◌≤◌, ◌+◌, false};
+ghost use Rattle.std.specs.Prelude.{◌≡◌, ◌≤◌, ◌+◌, false, map};
 ghost use Rattle.std.specs.List.{All, flat_map};
+ghost use Rattle.t1_char.specs.StepValues.{step_value};
 ghost use Rattle.t1_report.specs.Faults.{fault_value};
 ghost use Rattle.t1_report.specs.Lines.{IsInFont};
 ghost use Rattle.t1check.specs.Answers.{status_of};
-ghost use Rattle.t1check.specs.Ends.{Checks, Ends, Gives, Tells, stopped};
+ghost use Rattle.t1check.specs.Ends.{Checks, Ends, Gives, ShowsOrNot, Tells, stopped};
 ghost use Rattle.t1check.specs.FontFiles.{font_in};
 ghost use Rattle.t1check.specs.Input.{TakesAtMost};
 ghost use Rattle.t1check.specs.Lines.{fault_line};
 ghost use Rattle.t1check.specs.Refusals.{told_of};
+ghost use Rattle.t1check.specs.Traces.{trace_text};
 
 use crate::asked::Options;
 use crate::lines::{at_most, without_first, write_report};
 use crate::reading::{Input, read_all};
 use crate::status::Status;
-use crate::telling::{READ_FAILED, WRITE_FAILED, tell};
+use crate::telling::{READ_FAILED, WRITE_FAILED, tell, tell_no_glyph};
+use crate::tracing::{glyph_named, write_trace};
 use crate::unread::Unread;
-use std::alloc::Global;
+use std::alloc::{AllocError, Global};
+use t1_char::{STEP_LIMIT, Step, expand};
 use t1_font::{Font, read_clear, read_font};
 use t1_io::{Sink, Source};
 use t1_report::{Fault, report};
@@ -62,9 +66,30 @@ fn check<W: Sink, E: Sink>(
     let (_, section) = joined.bytes.as_slice().split_at(clear.after());
     let private = open_eexec(alloc, section)?;
     let font = read_font(alloc, clear, private.as_slice())?;
-    let faults = report(alloc, &font)?;
-    let chosen = at_most(without_first(faults.as_slice(), options.after), options.max);
-    Ok(give_report(&font, chosen, out, errors))
+    Ok(show(alloc, &font, options, out, errors)?)
+}
+
+/// Writes what the options ask for of a font: lines of its report, or the trace of a glyph.
+fn show<W: Sink, E: Sink>(
+    alloc: Global,
+    font: &Font<'_>,
+    options: &Options,
+    out: &mut W,
+    errors: &mut E,
+) -> Result<Status, AllocError>
+    ensures { ShowsOrNot options.now font.now
+        (W.state out.old) (W.state out.new) (E.state errors.old) (E.state errors.new) result }
+{
+    let Some(name) = &options.trace else {
+        let faults = report(alloc, font)?;
+        let chosen = at_most(without_first(faults.as_slice(), options.after), options.max);
+        return Ok(give_report(font, chosen, out, errors));
+    };
+    let Some(glyph) = glyph_named(font, name.as_bytes()) else {
+        return Ok(tell_no_glyph(name.as_str(), errors));
+    };
+    let steps = expand(alloc, font, glyph)?;
+    Ok(give_trace(steps.as_slice(), out, errors))
 }
 
 /// Tells why a file isn't read.
@@ -103,5 +128,16 @@ fn status_of(faults: &[Fault]) -> Status
         Status::Clean
     } else {
         Status::Faults
+    }
+}
+
+/// Writes the trace of these steps.
+fn give_trace<W: Sink, E: Sink>(steps: &[Step], out: &mut W, errors: &mut E) -> Status
+    ensures { Gives (trace_text STEP_LIMIT (map step_value steps.now)) Status.Clean
+        (W.state out.old) (W.state out.new) (E.state errors.old) (E.state errors.new) result }
+{
+    match write_trace(out, steps) {
+        Ok(()) => Status::Clean,
+        Err(_) => tell(errors, WRITE_FAILED, Status::Failed),
     }
 }

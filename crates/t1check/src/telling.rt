@@ -1,7 +1,9 @@
+ghost use Rattle.t1_io.specs.Devices.{whole_of};
 ghost use Rattle.t1check.specs.Ends.{Tells};
+ghost use Rattle.t1check.specs.Traces.{no_glyph_line};
 
 use crate::status::Status;
-use t1_io::{Sink, put_all};
+use t1_io::{Sink, put_all, put_parts};
 
 /// What is told where memory ran out.
 pub const OUT_OF_MEMORY: &str = "t1check: out of memory\n";
@@ -17,6 +19,24 @@ pub fn tell<E: Sink>(errors: &mut E, text: &str, status: Status) -> Status
     ensures { Tells text.now status (E.state errors.old) (E.state errors.new) result }
 {
     match put_all(errors, text.as_bytes()) {
+        Ok(()) => status,
+        Err(_) => Status::Failed,
+    }
+}
+
+/// Tells that a font has no glyph of this name.
+pub fn tell_no_glyph<E: Sink>(name: &str, errors: &mut E) -> Status
+    ensures { Tells (no_glyph_line name.now) Status.Failed (E.state errors.old) (E.state errors.new) result }
+{
+    let parts = [b"t1check: no glyph ".as_slice(), name.as_bytes(), b"\n"];
+    tell_parts(errors, &parts, Status::Failed)
+}
+
+/// Tells the parts of a text one after another, as [`tell`] tells one.
+fn tell_parts<E: Sink>(errors: &mut E, parts: &[&[u8]], status: Status) -> Status
+    ensures { Tells (whole_of parts.now) status (E.state errors.old) (E.state errors.new) result }
+{
+    match put_parts(errors, parts) {
         Ok(()) => status,
         Err(_) => Status::Failed,
     }

@@ -2,7 +2,9 @@ mod command_line;
 mod devices;
 mod dictionaries;
 mod fonts;
+mod passing_failures;
 mod refusals;
+mod scale;
 mod segments;
 
 use crate::asked::Options;
@@ -22,6 +24,14 @@ struct Answer {
 
 /// The report of a PFB file without an end segment.
 const NO_END_REPORT: &str = "1: font file 0 F01 no end segment\n";
+
+/// The whole report, of standard input.
+const ALL: Options = Options {
+    after: 0,
+    max: None,
+    trace: None,
+    file: None,
+};
 
 /// A sound PFB file but for its end, with encrypted charstrings and the zeros behind its section.
 fn ended_by(alloc: Global, end: &[u8]) -> Result<Vec<u8>, AllocError> {
@@ -44,6 +54,7 @@ fn answer_to(alloc: Global, bytes: &[u8], after: u64) -> Answer {
         &Options {
             after,
             max: None,
+            trace: None,
             file: None,
         },
     )
@@ -65,4 +76,10 @@ fn answer_with(alloc: Global, bytes: &[u8], options: &Options) -> Answer {
         output,
         told,
     }
+}
+
+/// Whether the program finds nothing to tell of a file.
+fn is_clean(alloc: Global, file: &[u8]) -> bool {
+    let answer = answer_to(alloc, file, 0);
+    answer.status == Status::Clean && answer.output.is_empty() && answer.told.is_empty()
 }

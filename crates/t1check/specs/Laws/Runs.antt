@@ -37,12 +37,13 @@ pub record Promises (options : Options) (left : Option (List ℕ)) (failed : Boo
   pub nothing_waits : result ≢ Failed → out.flushed ≡ true → out'.flushed ≡ true
   -- The status is 3 wherever a device failed.
   pub broken : (failed ≡ true) ⊎ ((out'.failed ≡ true) ⊎ (errors'.failed ≡ true)) → result ≡ Failed
-  -- Why it is 3 is told, where it can be.
+  -- Why it is 3 is told, where it can be: that no glyph has the name is an answer.
   pub read_failed : failed ≡ true → errors'.failed ≡ false → Appends errors.written errors'.written (codes "t1check: read failed\n")
   pub write_failed : out'.failed ≡ true → errors'.failed ≡ false → Appends errors.written errors'.written (codes "t1check: write failed\n")
   pub no_memory :
       result ≡ Failed → failed ≡ false → out'.failed ≡ false → errors'.failed ≡ false
       → Appends errors.written errors'.written (codes "t1check: out of memory\n")
+      ⊎ IfSome left (λ input. Answered options (font_of input) result out out' errors errors')
   -- What went out is a front of the answer's text, and nothing did where the output didn't fail.
   pub unwritten : result ≡ Failed → out'.failed ≡ false → Keeps out.written out'.written
   pub unread : failed ≡ true → out'.failed ≡ false

@@ -1,5 +1,5 @@
-use super::{NO_END_REPORT, ended_by};
-use crate::asked::{Options, UsageError};
+use super::{ALL, NO_END_REPORT, ended_by};
+use crate::asked::UsageError;
 use crate::explaining::explain;
 use crate::running::run;
 use crate::status::Status;
@@ -7,12 +7,6 @@ use std::io;
 use std::io::Read;
 use std::test::Fail;
 use t1_io::{Fuse, In, Limit, Out};
-
-const OPTIONS: Options = Options {
-    after: 0,
-    max: None,
-    file: None,
-};
 
 /// A reader that gives a byte a read, without end.
 #[derive(Drop)]
@@ -39,7 +33,7 @@ fn stops_at_the_limit_of_reads(rt: HostRuntime) {
     let status = run(
         rt.alloc(),
         &mut In::new(&mut reader),
-        &OPTIONS,
+        &ALL,
         &mut Out::new(&mut output),
         &mut Out::new(&mut told),
     );
@@ -61,7 +55,7 @@ fn moves_a_byte_a_call(rt: HostRuntime) -> Result<(), Fail> {
     let status = run(
         rt.alloc(),
         &mut Fuse::source(In::new(file.as_slice()), Limit::BytesPerCall(1)),
-        &OPTIONS,
+        &ALL,
         &mut Fuse::sink(Out::new(&mut output), Limit::BytesPerCall(1)),
         &mut Out::new(&mut told),
     );
@@ -81,7 +75,7 @@ fn tells_a_failed_write(rt: HostRuntime) -> Result<(), Fail> {
         let status = run(
             rt.alloc(),
             &mut In::new(file.as_slice()),
-            &OPTIONS,
+            &ALL,
             &mut Fuse::sink(Out::new(&mut output), Limit::Bytes(room)),
             &mut Out::new(&mut told),
         );
@@ -110,7 +104,7 @@ fn tells_a_failed_read(rt: HostRuntime) -> Result<(), Fail> {
         let status = run(
             rt.alloc(),
             &mut Fuse::source(In::new(file.as_slice()), Limit::Calls(calls)),
-            &OPTIONS,
+            &ALL,
             &mut Out::new(&mut output),
             &mut Out::new(&mut told),
         );
@@ -133,7 +127,7 @@ fn fails_where_nothing_can_be_told(rt: HostRuntime) {
         let status = run(
             rt.alloc(),
             &mut In::new(&[0x80u8][..]),
-            &OPTIONS,
+            &ALL,
             &mut Out::new(&mut output),
             &mut Fuse::sink(Out::new(&mut told), Limit::Bytes(room)),
         );

@@ -92,6 +92,7 @@ fn writes_what_the_options_choose(rt: HostRuntime) -> Result<(), Fail> {
         let options = Options {
             after,
             max,
+            trace: None,
             file: None,
         };
         let answer = answer_with(rt.alloc(), file.as_slice(), &options);

@@ -1,14 +1,7 @@
-use super::{answer_to, ended_by};
-use crate::status::Status;
+use super::{ended_by, is_clean};
 use std::alloc::{AllocError, Global};
 use std::test::Fail;
 use t1_samples::{Charstrings, FontFile, Sample, TRAILER};
-
-/// Whether the program finds nothing to tell of a file.
-fn is_clean(alloc: Global, file: &[u8]) -> bool {
-    let answer = answer_to(alloc, file, 0);
-    answer.status == Status::Clean && answer.output.is_empty() && answer.told.is_empty()
-}
 
 /// A sound font whose section is hexadecimal, as a PFA file.
 fn hexadecimal(alloc: Global) -> Result<Vec<u8>, AllocError> {

@@ -81,6 +81,28 @@ fn refuses_what_a_line_breaks(rt: HostRuntime) -> Result<(), Fail> {
     Ok(())
 }
 
+/// Nothing is written of a font without an end segment where its private text is refused.
+#[test]
+fn refuses_private_texts_without_an_end_segment(rt: HostRuntime) -> Result<(), Fail> {
+    let table: [(&[u8], &str); 3] = [
+        (
+            b"/CharStrings x",
+            "refused: E09 CharStrings malformed or absent\n",
+        ),
+        (b"/lenIV 65", "refused: E10 lenIV out of range\n"),
+        (b"/Subrs [] /Subrs 0 array", "refused: E12 second Subrs\n"),
+    ];
+    for (text, line) in table {
+        let file = FontFile {
+            end: b"",
+            ..FontFile::of(CLEAR, text)
+        }
+        .pfb(rt.alloc())?;
+        assert!(rt; is_refused(rt.alloc(), file.as_slice(), line), "{line}");
+    }
+    Ok(())
+}
+
 /// Nothing is written of a font without an end segment where its private text is cut.
 #[test]
 fn refuses_a_cut_private_text(rt: HostRuntime) -> Result<(), Fail> {

@@ -42,5 +42,6 @@ returns-clause-given g c =
           (first_of-found c.in-Ok.matches (codes "after") rows _ c.in-Ok.ensures.rows c.get_str.ensures) c.number.ensures));
       max = subst (λ (text : Option Text). AreNumber text c.number-max.result)
           (first_of-found c.in-Ok.matches (codes "max") rows _ c.in-Ok.ensures.rows c.get_str-2.ensures) c.number-max.ensures;
-      file = c.in_ok-file.ensures ∙ first_of-found c.in-Ok.matches (codes "file") rows _ c.in-Ok.ensures.rows c.get_str-3.ensures;
+      trace = c.in_ok-trace.ensures ∙ first_of-found c.in-Ok.matches (codes "trace") rows _ c.in-Ok.ensures.rows c.get_str-3.ensures;
+      file = c.in_ok-file.ensures ∙ first_of-found c.in-Ok.matches (codes "file") rows _ c.in-Ok.ensures.rows c.get_str-4.ensures;
     }

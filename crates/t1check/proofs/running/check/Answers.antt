@@ -1,53 +1,40 @@
 use Rattle.std.proofs.Common.{inl, refl}
-use Rattle.t1_report.specs.declared.faults.Fault.{Fault}
-use Rattle.t1_report.specs.Faults.{fault_value, faults_of}
-use Rattle.t1_report.specs.Lines.{IsInFont}
 use Rattle.t1_seal.specs.Joined.{joined_text}
-use Rattle.t1check.proofs.ReportLemmas.{all_chosen, gives_chosen}
 use Rattle.t1check.proofs.FontFileLemmas.{clear_fails, font_found, handed_on, joined_fails, private_fails, section_fails}
 use Rattle.t1check.proofs.running.check.Goals as goal
 
 pub returns-in_err-joined : goal.returns-in_err-joined
-returns-in_err-joined g c = handed_on _ _ _ _ _ _ c.from_residual.ensures.1 (joined_fails _ _ c.in_err-joined.ensures)
+returns-in_err-joined g c = handed_on _ _ _ _ _ _ _ _ refl refl c.from_residual.ensures.1 (joined_fails _ _ c.in_err-joined.ensures)
 
 pub returns-in_err-clear : goal.returns-in_err-clear
 returns-in_err-clear g c =
-    handed_on _ _ _ _ _ _ c.from_residual-in_err-clear.ensures.1 (clear_fails _ (joined_text c.in_ok-joined.joined) _ c.in_ok-joined.ensures c.in_err-clear.ensures.gives)
+    handed_on _ _ _ _ _ _ _ _ refl refl c.from_residual-in_err-clear.ensures.1 (clear_fails _ (joined_text c.in_ok-joined.joined) _ c.in_ok-joined.ensures c.in_err-clear.ensures.gives)
 
 pub returns-in_err-private : goal.returns-in_err-private
 returns-in_err-private g c =
-    handed_on _ _ _ _ _ _ c.from_residual-in_err-private.ensures.1
+    handed_on _ _ _ _ _ _ _ _ refl refl c.from_residual-in_err-private.ensures.1
     (section_fails _ (joined_text c.in_ok-joined.joined) c.in_ok-clear.clear
     (record { joined_is = c.in_ok-joined.ensures; clear_is = c.in_ok-clear.ensures.gives; behind = c.in_ok-clear.ensures.behind })
     _ (rw (c.split_at.ensures.back, c.as_slice.ensures.value, c.after.ensures) at c.in_err-private.ensures))
 
 pub returns-in_err-font : goal.returns-in_err-font
 returns-in_err-font g c =
-    handed_on _ _ _ _ _ _ c.from_residual-in_err-font.ensures.1
+    handed_on _ _ _ _ _ _ _ _ refl refl c.from_residual-in_err-font.ensures.1
     (private_fails _ (joined_text c.in_ok-joined.joined) c.in_ok-clear.clear
     (record { joined_is = c.in_ok-joined.ensures; clear_is = c.in_ok-clear.ensures.gives; behind = c.in_ok-clear.ensures.behind })
     c.in_ok-private.private.items _ (rw (c.split_at.ensures.back, c.as_slice.ensures.value, c.after.ensures) at c.in_ok-private.ensures)
     (rw c.as_slice-2.ensures.value at c.in_err-font.ensures))
 
-pub returns-in_err-faults : goal.returns-in_err-faults
-returns-in_err-faults g c = handed_on _ _ _ _ _ _ c.from_residual-in_err-faults.ensures.1 (inl refl)
+pub returns-in_err-show : goal.returns-in_err-show
+returns-in_err-show g c =
+    handed_on _ _ _ _ _ _ _ _ c.in_err-show.ensures.0 c.in_err-show.ensures.1 c.from_residual-in_err-show.ensures.1 (inl refl)
 
 pub returns : goal.returns
-returns g c = record {
-  font = c.in_ok-font.font;
-  is =
-      font_found _ (joined_text c.in_ok-joined.joined) c.in_ok-clear.clear
+returns g c = (
+  c.in_ok-font.font,
+  font_found _ (joined_text c.in_ok-joined.joined) c.in_ok-clear.clear
       (record { joined_is = c.in_ok-joined.ensures; clear_is = c.in_ok-clear.ensures.gives; behind = c.in_ok-clear.ensures.behind })
       c.in_ok-private.private.items c.in_ok-font.font (rw (c.split_at.ensures.back, c.as_slice.ensures.value, c.after.ensures) at c.in_ok-private.ensures)
-      (rw c.as_slice-2.ensures.value at c.in_ok-font.ensures);
-  faults = faults_of c.in_ok-faults.faults.items;
-  report = c.in_ok-faults.ensures.exact;
-  gives =
-      gives_chosen c.args.options.now c.in_ok-font.font c.in_ok-faults.faults.items _ _ _ _ _
-      (rw (c.at_most-chosen.ensures, c.without_first.ensures, c.as_slice-3.ensures.value) at c.give_report.ensures);
-}
-
-pub give_report-requires : goal.give_report-requires
-give_report-requires g c =
-    rw (c.at_most-chosen.ensures, c.without_first.ensures, c.as_slice-3.ensures.value)
-    (all_chosen (λ (fault : Fault). IsInFont c.in_ok-font.font (fault_value fault)) c.args.options.now c.in_ok-faults.faults.items c.in_ok-faults.ensures.in_font)
+      (rw c.as_slice-2.ensures.value at c.in_ok-font.ensures),
+  c.in_ok-show.ensures,
+)

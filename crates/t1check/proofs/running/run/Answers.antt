@@ -1,13 +1,15 @@
 use Rattle.std.proofs.Common.{◌∙◌, refl}
-use Rattle.t1check.specs.Ends.Ends.{refused, reported}
+use Rattle.t1check.specs.Ends.Ends.{refused, shown}
 use Rattle.t1check.specs.declared.unread.Unread.TheVariants.{TooLarge}
 use Rattle.t1check.proofs.AnswerLemmas.{are_read, too_large, unread_ends}
 use Rattle.t1check.proofs.running.run.Goals as goal
 
 pub returns-in-Ok-clause-ends : goal.returns-in-Ok-clause-ends
 returns-in-Ok-clause-ends g c =
-    reported _ (are_read _ _ c.in-Bytes.bytes.items _ c.in-Bytes.ensures.gathers.0 c.in-Bytes.ensures.gathers.1 c.in-Bytes.ensures.gathers.2 refl)
-    (c.in-Bytes.ensures.gathers.3 ∙ c.requires.source) (rw c.as_slice.ensures.value at c.in-Ok.ensures)
+    let checks = rw c.as_slice.ensures.value at c.in-Ok.ensures in
+    shown checks.0
+    (are_read _ _ c.in-Bytes.bytes.items _ c.in-Bytes.ensures.gathers.0 c.in-Bytes.ensures.gathers.1 c.in-Bytes.ensures.gathers.2 checks.1)
+    (c.in-Bytes.ensures.gathers.3 ∙ c.requires.source) checks.2
 
 pub returns-in-Bytes-clause-ends : goal.returns-in-Bytes-clause-ends
 returns-in-Bytes-clause-ends g c =

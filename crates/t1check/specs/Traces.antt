@@ -1,0 +1,25 @@
+-- The trace of a glyph: its steps, a line each.
+use Rattle.std.specs.Prelude.{ℕ, nat_lt, if◌then◌else◌, List, [], ◌∷◌, ◌++◌, length, map, take, Option, codes}
+use Rattle.std.specs.List.{concat, flat_map, position}
+use Rattle.t1_font.specs.Fonts.{FontValue}
+use Rattle.t1_font.specs.Keys.{same_name}
+use Rattle.t1_char.specs.Steps.{NumberedStep, first_steps}
+use Rattle.t1_char.specs.declared.expansion.TheConstants.{STEP_LIMIT}
+use Rattle.t1_report.specs.Traces.{step_line}
+
+-- The glyph of a name, by its place.
+abbrev pub glyph_named : FontValue → List ℕ → Option ℕ
+glyph_named font name = position (same_name name) (map (λ glyph. glyph.0) font.glyphs)
+
+-- The lines of steps up to the limit, and a line that tells of more.
+abbrev pub trace_text : ℕ → List NumberedStep → List ℕ
+trace_text limit steps =
+    flat_map step_line (take limit steps) ++ (if nat_lt limit (length steps) then codes "limit\n" else [])
+
+-- The trace of a glyph, by its place.
+abbrev pub trace_of : FontValue → ℕ → List ℕ
+trace_of font glyph = trace_text STEP_LIMIT (first_steps STEP_LIMIT font glyph)
+
+-- What is told where a font has no glyph of the name.
+abbrev pub no_glyph_line : List ℕ → List ℕ
+no_glyph_line name = concat (codes "t1check: no glyph " ∷ name ∷ codes "\n" ∷ [])

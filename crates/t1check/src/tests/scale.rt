@@ -1,0 +1,115 @@
+//! Fonts of the greatest sizes. No contract can rule out a body that answers want of memory there.
+
+use super::{answer_to, is_clean};
+use crate::status::Status;
+use std::alloc::{AllocError, Global};
+use std::test::Fail;
+use t1_font::{read_clear, read_font};
+use t1_report::report;
+use t1_samples::{CLEAR, FontFile, Sample};
+use t1_seal::{join, open_eexec};
+
+/// The greatest size of a file.
+const GREATEST: usize = 16_777_216;
+
+/// How many Subrs a font has at most.
+const SUBRS: u32 = 65_535;
+
+/// How many glyphs are given twice.
+const DOUBLED: u32 = 4_465;
+
+/// A sound private text behind so many blanks.
+fn padded(alloc: Global, blanks: usize) -> Result<Vec<u8>, AllocError> {
+    let mut text = vec![in alloc; b' '; blanks]?;
+    text.extend_from_slice(Sample::new(alloc)?.private()?.as_slice())?;
+    Ok(text)
+}
+
+/// All Subrs that a font may have, each an empty charstring, behind a head with this size.
+fn subrs(alloc: Global, size: u32) -> Result<Vec<u8>, AllocError> {
+    let mut lines = format!(in alloc; "/Subrs {size} array\n")?.into_bytes();
+    for number in 0..SUBRS {
+        let line = format!(in alloc; "dup {number} 0 RD  NP\n")?;
+        lines.extend_from_slice(line.as_bytes())?;
+    }
+    lines.extend_from_slice(b"ND\n")?;
+    Ok(lines)
+}
+
+#[test]
+fn reads_sixteen_megabytes_of_a_font(rt: HostRuntime) -> Result<(), Fail> {
+    let short = padded(rt.alloc(), 0)?;
+    let short = FontFile::of(CLEAR, short.as_slice());
+    let text = padded(
+        rt.alloc(),
+        GREATEST.saturating_sub(short.pfa(rt.alloc())?.len()),
+    )?;
+    let file = FontFile::of(CLEAR, text.as_slice()).pfa(rt.alloc())?;
+    assert_eq!(rt; file.len(), GREATEST);
+    assert!(rt; is_clean(rt.alloc(), file.as_slice()));
+    let text = padded(
+        rt.alloc(),
+        GREATEST.saturating_sub(short.pfb(rt.alloc())?.len()),
+    )?;
+    let file = FontFile::of(CLEAR, text.as_slice()).pfb(rt.alloc())?;
+    assert_eq!(rt; file.len(), GREATEST);
+    assert!(rt; is_clean(rt.alloc(), file.as_slice()));
+    Ok(())
+}
+
+/// The last digit has no second one, and is left out.
+#[test]
+fn reads_ten_megabytes_of_digits(rt: HostRuntime) -> Result<(), Fail> {
+    let text = padded(rt.alloc(), 5_000_000)?;
+    let file = FontFile {
+        trailer: b"5!\n",
+        ..FontFile::of(CLEAR, text.as_slice())
+    }
+    .pfa_hexadecimal(rt.alloc())?;
+    assert!(rt; file.len() > 10_000_000);
+    assert!(rt; is_clean(rt.alloc(), file.as_slice()));
+    Ok(())
+}
+
+#[test]
+fn reads_all_subrs(rt: HostRuntime) -> Result<(), Fail> {
+    let lines = subrs(rt.alloc(), SUBRS)?;
+    let file = Sample::new(rt.alloc())?.subrs(lines.as_slice())?.pfb()?;
+    assert!(rt; is_clean(rt.alloc(), file.as_slice()));
+    Ok(())
+}
+
+/// Each Subr stands past the array, and each glyph but `.notdef` is given twice: 70,000 lines.
+#[test]
+fn reports_seventy_thousand_lines(rt: HostRuntime) -> Result<(), Fail> {
+    let lines = subrs(rt.alloc(), 0)?;
+    let mut sample = Sample::new(rt.alloc())?.subrs(lines.as_slice())?;
+    for number in 0..DOUBLED {
+        let name = format!(in rt.alloc(); "g{number}")?;
+        sample = sample
+            .glyph(name.as_bytes(), b"")?
+            .glyph(name.as_bytes(), b"")?;
+    }
+    let file = sample.pfb()?;
+    let answer = answer_to(rt.alloc(), file.as_slice(), 0);
+    assert_eq!(rt; answer.status, Status::Faults);
+    assert_eq!(rt;
+        answer.output.iter().filter(|byte| **byte == b'\n').count(),
+        70_000
+    );
+    assert!(rt;
+        answer.output.starts_with(b"1: font Subrs 0 F14 Subr given twice or past the array\n")
+    );
+    assert!(rt;
+        answer
+            .output
+            .ends_with(b"\n70000: font CharStrings 4465 F10 glyph given twice\n")
+    );
+    let joined = join(rt.alloc(), file.as_slice())?;
+    let clear = read_clear(rt.alloc(), &joined)?;
+    let (_, section) = joined.bytes.as_slice().split_at(clear.after());
+    let private = open_eexec(rt.alloc(), section)?;
+    let font = read_font(rt.alloc(), clear, private.as_slice())?;
+    assert_eq!(rt; report(rt.alloc(), &font)?.len(), 70_000);
+    Ok(())
+}
