@@ -6,6 +6,7 @@ mod passing_failures;
 mod refusals;
 mod scale;
 mod segments;
+mod traces;
 
 use crate::asked::Options;
 use crate::running::run;

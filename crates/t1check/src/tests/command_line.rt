@@ -3,26 +3,34 @@ use crate::command_line::options;
 use std::test::Fail;
 
 const HELP: &str = "\
-Lists every rule of the book that an Adobe Type 1 font (PFA or PFB) breaks.
+Lists every rule of the book that an Adobe Type 1 font (PFA or PFB) breaks. So far
+the first 25 rules are checked: those on the file and on the font's dictionaries.
 
 Usage: t1check [OPTIONS] [FILE]
 
 Arguments:
-  [FILE]  The font's file; without it standard input is read
+  [FILE]  The font's file, one a run; without it standard input is read
 
 Options:
-      --after <K>  Leaves the first K lines of the report out [default: 0]
-      --max <M>    Writes at most M of the other lines
-  -h, --help       Print help
+      --after <K>     Leaves the first K lines of the report out [default: 0]
+      --max <M>       Writes at most M of the other lines
+      --trace <NAME>  Writes the steps of the glyph NAME in place of the report, STEP PATH TOKEN a line
+  -h, --help          Print help
+
+A line of the report:
+  NUMBER: font KEY INDEX RULE text    as in 1: font BlueValues 6 Z04 zone numbers fall
+  docs/RULES.md explains each RULE and each refusal (Enn), with an example and the cure
 
 Exit status:
-  0  no line of a report was written
+  0  no line of a report was written, or a trace was
   1  at least one line of a report was written
   2  the font was refused; standard error says why, with a number
-  3  the words weren't taken, a file or device failed, or memory ran out
+  3  usage error, no glyph NAME, a file or device failed, or memory ran out
 
-Example:
-  t1check --after 20 --max 10 font.pfb    writes the lines 21 to 30 of the report
+Examples:
+  t1check font.pfb                        writes the whole report
+  t1check --after 20 --max 10 font.pfb    writes its lines 21 to 30
+  t1check --trace A font.pfb              writes the steps of glyph A
 ";
 
 /// What words give: the count, and the file's name, empty where there is none.
@@ -53,6 +61,26 @@ fn takes_words(rt: HostRuntime) -> Result<(), Fail> {
         assert_eq!(rt; taken.max, None, "of {words:?}");
         let name = taken.file.as_ref().map(|name| name.as_str());
         assert_eq!(rt; name, file, "of {words:?}");
+    }
+    Ok(())
+}
+
+/// What words give for the name of a glyph, which may be empty.
+#[test]
+fn takes_the_name_of_a_glyph(rt: HostRuntime) -> Result<(), Fail> {
+    let table: [(&[&str], Option<&str>); 4] = [
+        (&["t1check", "font.pfb"], None),
+        (&["t1check", "--trace", "A", "font.pfb"], Some("A")),
+        (&["t1check", "--trace=", "font.pfb"], Some("")),
+        (&["t1check", "--max", "1", "--trace", "a.b"], Some("a.b")),
+    ];
+    for (words, name) in table {
+        let taken = options(rt.alloc(), words)?;
+        assert_eq!(rt;
+            taken.trace.as_ref().map(|name| name.as_str()),
+            name,
+            "of {words:?}"
+        );
     }
     Ok(())
 }
