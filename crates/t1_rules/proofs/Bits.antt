@@ -1,15 +1,10 @@
 -- The bits of a set of rules, as the operations on a number change them.
-use Rattle.std.proofs.Common.{◌≡◌, ℕ, zero, suc, ◌+◌, ◌*◌, ◌/◌, ◌%◌, ◌^◌, ◌<◌, ◌≤◌, ◌-◌, Bool, true, false, ◌||◌, nat_eq, refl, sym, ◌∙◌, ap, inl, inr, bit_or, max, arith}
+use Rattle.std.proofs.Common.{◌≡◌, ℕ, zero, suc, ◌+◌, ◌*◌, ◌/◌, ◌%◌, ◌^◌, ◌<◌, ◌≤◌, ◌-◌, true, false, ◌||◌, nat_eq, refl, sym, ◌∙◌, ap, inl, inr, bit_or, max, arith}
 use Rattle.std.specs.Int.{bit_at, trailing_zeros, w128}
 use Rattle.std.proofs.lemmas.Nat.{pow-add}
 use Rattle.std.proofs.lemmas.Nat.Bits.{bit_at_or, bit_at-lt, bit_at-zero, bit_at_set_same, bit_at_set_other, bit_at-trailing_zeros}
 use Rattle.std.proofs.Math.Nat.{div-div-eq-div-mul}
 use Rattle.std.proofs.lemmas.Bool.Decides.{eqb_tells}
-use Rattle.std.proofs.Math.Bool.{or-false}
-
-or-true : (b : Bool) → (b || true) ≡ true
-or-true true = refl
-or-true false = refl
 
 max_bit : (x y : ℕ) → x < 2 → y < 2 → nat_eq (max x y) 1 ≡ (nat_eq x 1 || nat_eq y 1)
 max_bit zero zero x2 y2 = refl
@@ -24,10 +19,11 @@ pub joined_bits : (a b n : ℕ) → nat_eq (bit_at (bit_or a b) n) 1 ≡ (nat_eq
 joined_bits a b n = rw (bit_at_or a b n) (max_bit (bit_at a n) (bit_at b n) (bit_at-lt a n) (bit_at-lt b n))
 
 -- One member more.
-pub set_bits : (b k : ℕ) → k < 128 → (n : ℕ) → nat_eq (bit_at (bit_or b (1 * 2 ^ k % 340282366920938463463374607431768211456)) n) 1 ≡ (nat_eq (bit_at b n) 1 || nat_eq k n)
+pub set_bits : (b k : ℕ) → k < 128 → (n : ℕ) →
+    nat_eq (bit_at (bit_or b (1 * 2 ^ k % 340282366920938463463374607431768211456)) n) 1 ≡ (nat_eq k n || nat_eq (bit_at b n) 1)
 set_bits b k within n = elim (eqb_tells k n) [
-  | inl same ↦ rw (same.0, sym same.1, bit_at_set_same w128 b k within) (sym (or-true (nat_eq (bit_at b k) 1)))
-  | inr other ↦ rw (other.0, bit_at_set_other w128 b k within n (λ e. other.1 (sym e))) (sym (or-false (nat_eq (bit_at b n) 1)))
+  | inl same ↦ rw (same.0, sym same.1, bit_at_set_same w128 b k within) refl
+  | inr other ↦ rw (other.0, bit_at_set_other w128 b k within n (λ e. other.1 (sym e))) refl
 ]
 
 -- The bits from one place on, counted from there.

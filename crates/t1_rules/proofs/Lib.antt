@@ -1,11 +1,11 @@
 pub mod Above
 pub mod AbsentEntries
 pub mod Bits
-pub mod Keyed
+pub mod RuleNumbers
 pub mod OneZone
-pub mod Ordered
 pub mod Past
 pub mod Products
 pub mod RuleLaws
+pub mod Tables
 pub mod ZoneLaws
 pub mod ZonesAt

@@ -1,5 +1,6 @@
 -- No rule is broken past the places of a key.
-use Rattle.std.proofs.Common.{◌≡◌, ℕ, zero, suc, ◌+◌, ◌%◌, ◌<◌, ◌≤◌, ◌==◌, ◌&&◌, Bool, true, false, None, nat_eq, nat_lt, ℤ, List, [], ◌∷◌, length, refl, ◌∙◌, arith}
+use Rattle.std.proofs.Common.{◌≡◌, ℕ, zero, suc, ◌+◌, ◌%◌, ◌<◌, ◌≤◌, ◌==◌, Bool, true, false, None, nat_eq, nat_lt, ℤ, List, [], ◌∷◌, length, refl, arith}
+use Rattle.std.proofs.Math.Bool.{and-false}
 use Rattle.std.proofs.lemmas.Bool.{ne_eqb, le-ltb, ltb-true}
 use Rattle.std.proofs.lemmas.List.{length-take}
 use Rattle.std.specs.Map.{lookup}
@@ -14,12 +15,7 @@ use Rattle.t1_rules.specs.Zones.{distance, scale, is_too_near, meets, is_too_hig
 use Rattle.t1_rules.specs.Glyphs.{is_wrong_subr, is_glyph_twice}
 use Rattle.t1_rules.specs.FontRules.{font_rules, violated}
 use Rattle.t1_rules.specs.Places.{subr_places, glyph_places, places_of}
-use Rattle.t1_rules.proofs.Ordered.{ordered}
-use Rattle.t1_rules.proofs.Keyed.{past_last}
-
-pub and-false : (b : Bool) → (b && false) ≡ false
-and-false true = refl
-and-false false = refl
+use Rattle.t1_rules.proofs.Tables.{past_last}
 
 not_less : (m n : ℕ) → n ≤ m → nat_lt m n ≡ false
 not_less m n le = le-ltb m n le
@@ -69,44 +65,45 @@ glyph_twice_past font index past = go (nat_lt index 65536) refl
 
 -- The rules that are said of an entry as a whole stand at index 0.
 pub past_places : (font : FontValue) (key index : ℕ) → places_of font key ≤ index → (n : ℕ) → violated font_rules n font key index ≡ false
-past_places font zero index past n = ordered font_rules n font 0 index ∙ rw (differs index 0 past) refl
-past_places font (suc zero) index past n = ordered font_rules n font 1 index ∙ rw (differs index 0 past) refl
-past_places font (suc (suc zero)) index past n = ordered font_rules n font 2 index ∙ rw (differs index 0 past) refl
-past_places font (suc (suc (suc zero))) index past n = ordered font_rules n font 3 index ∙ rw (differs index 0 past) refl
-past_places font (suc (suc (suc (suc zero)))) index past n = ordered font_rules n font 4 index ∙ rw (differs index 0 (omega arith), not_less index 256 past) refl
-past_places font (suc (suc (suc (suc (suc zero))))) index past n = ordered font_rules n font 5 index ∙ rw (differs index 0 past) refl
-past_places font (suc (suc (suc (suc (suc (suc zero)))))) index past n = ordered font_rules n font 6 index ∙ rw (differs index 0 past) refl
-past_places font (suc (suc (suc (suc (suc (suc (suc zero))))))) index past n = ordered font_rules n font 7 index ∙ rw (differs index 0 past) refl
-past_places font (suc (suc (suc (suc (suc (suc (suc (suc zero)))))))) index past n = ordered font_rules n font 8 index ∙ refl
+unfolding font_rules
+past_places font zero index past n = rw (differs index 0 past) refl
+past_places font (suc zero) index past n = rw (differs index 0 past) refl
+past_places font (suc (suc zero)) index past n = rw (differs index 0 past) refl
+past_places font (suc (suc (suc zero))) index past n = rw (differs index 0 past) refl
+past_places font (suc (suc (suc (suc zero)))) index past n = rw (differs index 0 (omega arith), not_less index 256 past) refl
+past_places font (suc (suc (suc (suc (suc zero))))) index past n = rw (differs index 0 past) refl
+past_places font (suc (suc (suc (suc (suc (suc zero)))))) index past n = rw (differs index 0 past) refl
+past_places font (suc (suc (suc (suc (suc (suc (suc zero))))))) index past n = rw (differs index 0 past) refl
+past_places font (suc (suc (suc (suc (suc (suc (suc (suc zero)))))))) index past n = refl
 past_places font (suc (suc (suc (suc (suc (suc (suc (suc (suc zero))))))))) index past n =
     let few = within 14 (value_at font keys.BlueValues) in
     let v = numbers_at font keys.BlueValues in
-    ordered font_rules n font 9 index ∙ rw (differs index 0 (omega arith), differs index 14 past, falls_past v index (omega arith), near_past (distance font) v index (omega arith), high_past (scale font) v index (omega arith)) refl
+    rw (differs index 0 (omega arith), differs index 14 past, falls_past v index (omega arith), near_past (distance font) v index (omega arith), high_past (scale font) v index (omega arith)) refl
 past_places font (suc (suc (suc (suc (suc (suc (suc (suc (suc (suc zero)))))))))) index past n =
     let few = within 10 (value_at font keys.OtherBlues) in
     let v = numbers_at font keys.OtherBlues in
-    ordered font_rules n font 10 index ∙ rw (differs index 0 (omega arith), differs index 10 past, falls_past v index (omega arith), near_past (distance font) v index (omega arith), meets_past (distance font) v (numbers_at font keys.BlueValues) index (omega arith), high_past (scale font) v index (omega arith)) refl
+    rw (differs index 0 (omega arith), differs index 10 past, falls_past v index (omega arith), near_past (distance font) v index (omega arith), meets_past (distance font) v (numbers_at font keys.BlueValues) index (omega arith), high_past (scale font) v index (omega arith)) refl
 past_places font (suc (suc (suc (suc (suc (suc (suc (suc (suc (suc (suc zero))))))))))) index past n =
     let few = within 14 (value_at font keys.FamilyBlues) in
     let v = numbers_at font keys.FamilyBlues in
-    ordered font_rules n font 11 index ∙ rw (differs index 0 (omega arith), differs index 14 past, falls_past v index (omega arith), near_past (distance font) v index (omega arith), high_past (scale font) v index (omega arith)) refl
+    rw (differs index 0 (omega arith), differs index 14 past, falls_past v index (omega arith), near_past (distance font) v index (omega arith), high_past (scale font) v index (omega arith)) refl
 past_places font (suc (suc (suc (suc (suc (suc (suc (suc (suc (suc (suc (suc zero)))))))))))) index past n =
     let few = within 10 (value_at font keys.FamilyOtherBlues) in
     let v = numbers_at font keys.FamilyOtherBlues in
-    ordered font_rules n font 12 index ∙ rw (differs index 0 (omega arith), differs index 10 past, falls_past v index (omega arith), near_past (distance font) v index (omega arith), meets_past (distance font) v (numbers_at font keys.FamilyBlues) index (omega arith), high_past (scale font) v index (omega arith)) refl
-past_places font (suc (suc (suc (suc (suc (suc (suc (suc (suc (suc (suc (suc (suc zero))))))))))))) index past n = ordered font_rules n font 13 index ∙ rw (differs index 0 past) refl
-past_places font (suc (suc (suc (suc (suc (suc (suc (suc (suc (suc (suc (suc (suc (suc zero)))))))))))))) index past n = ordered font_rules n font 14 index ∙ rw (differs index 0 past) refl
-past_places font (suc (suc (suc (suc (suc (suc (suc (suc (suc (suc (suc (suc (suc (suc (suc zero))))))))))))))) index past n = ordered font_rules n font 15 index ∙ rw (differs index 0 past) refl
-past_places font (suc (suc (suc (suc (suc (suc (suc (suc (suc (suc (suc (suc (suc (suc (suc (suc zero)))))))))))))))) index past n = ordered font_rules n font 16 index ∙ rw (differs index 0 past) refl
-past_places font (suc (suc (suc (suc (suc (suc (suc (suc (suc (suc (suc (suc (suc (suc (suc (suc (suc zero))))))))))))))))) index past n = ordered font_rules n font 17 index ∙ rw (differs index 0 past) refl
+    rw (differs index 0 (omega arith), differs index 10 past, falls_past v index (omega arith), near_past (distance font) v index (omega arith), meets_past (distance font) v (numbers_at font keys.FamilyBlues) index (omega arith), high_past (scale font) v index (omega arith)) refl
+past_places font (suc (suc (suc (suc (suc (suc (suc (suc (suc (suc (suc (suc (suc zero))))))))))))) index past n = rw (differs index 0 past) refl
+past_places font (suc (suc (suc (suc (suc (suc (suc (suc (suc (suc (suc (suc (suc (suc zero)))))))))))))) index past n = rw (differs index 0 past) refl
+past_places font (suc (suc (suc (suc (suc (suc (suc (suc (suc (suc (suc (suc (suc (suc (suc zero))))))))))))))) index past n = rw (differs index 0 past) refl
+past_places font (suc (suc (suc (suc (suc (suc (suc (suc (suc (suc (suc (suc (suc (suc (suc (suc zero)))))))))))))))) index past n = rw (differs index 0 past) refl
+past_places font (suc (suc (suc (suc (suc (suc (suc (suc (suc (suc (suc (suc (suc (suc (suc (suc (suc zero))))))))))))))))) index past n = rw (differs index 0 past) refl
 past_places font (suc (suc (suc (suc (suc (suc (suc (suc (suc (suc (suc (suc (suc (suc (suc (suc (suc (suc zero)))))))))))))))))) index past n =
     let few = within 12 (value_at font keys.StemSnapH) in
     let v = numbers_at font keys.StemSnapH in
-    ordered font_rules n font 18 index ∙ rw (differs index 0 (omega arith), differs index 12 past, falls_past v index (omega arith)) refl
+    rw (differs index 0 (omega arith), differs index 12 past, falls_past v index (omega arith)) refl
 past_places font (suc (suc (suc (suc (suc (suc (suc (suc (suc (suc (suc (suc (suc (suc (suc (suc (suc (suc (suc zero))))))))))))))))))) index past n =
     let few = within 12 (value_at font keys.StemSnapV) in
     let v = numbers_at font keys.StemSnapV in
-    ordered font_rules n font 19 index ∙ rw (differs index 0 (omega arith), differs index 12 past, falls_past v index (omega arith)) refl
-past_places font (suc (suc (suc (suc (suc (suc (suc (suc (suc (suc (suc (suc (suc (suc (suc (suc (suc (suc (suc (suc zero)))))))))))))))))))) index past n = ordered font_rules n font 20 index ∙ rw (wrong_subr_past font index past) refl
-past_places font (suc (suc (suc (suc (suc (suc (suc (suc (suc (suc (suc (suc (suc (suc (suc (suc (suc (suc (suc (suc (suc zero))))))))))))))))))))) index past n = ordered font_rules n font 21 index ∙ rw (differs index 0 (omega arith), glyph_twice_past font index past) refl
+    rw (differs index 0 (omega arith), differs index 12 past, falls_past v index (omega arith)) refl
+past_places font (suc (suc (suc (suc (suc (suc (suc (suc (suc (suc (suc (suc (suc (suc (suc (suc (suc (suc (suc (suc zero)))))))))))))))))))) index past n = rw (wrong_subr_past font index past) refl
+past_places font (suc (suc (suc (suc (suc (suc (suc (suc (suc (suc (suc (suc (suc (suc (suc (suc (suc (suc (suc (suc (suc zero))))))))))))))))))))) index past n = rw (differs index 0 (omega arith), glyph_twice_past font index past) refl
 past_places font (suc (suc (suc (suc (suc (suc (suc (suc (suc (suc (suc (suc (suc (suc (suc (suc (suc (suc (suc (suc (suc (suc key)))))))))))))))))))))) index past n = past_last (suc (suc (suc (suc (suc (suc (suc (suc (suc (suc (suc (suc (suc (suc (suc (suc (suc (suc (suc (suc (suc (suc key)))))))))))))))))))))) (omega arith) font index n

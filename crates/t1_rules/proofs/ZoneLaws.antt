@@ -1,6 +1,6 @@
 -- Proofs of the laws of lists of numbers and of zones.
 use Rattle.std.proofs.Common.{◌≡◌, ℕ, zero, suc, ◌+◌, ◌-◌, ◌*◌, ◌<◌, ◌≤◌, ◌⊎◌, ◌&&◌, Bool, true, false, T, not, nat_lt, int_lt, ℤ, pos, negsuc, ◌-ℤ◌, ◌≤ℤ◌, Some, None, List, [], ◌∷◌, length, slice_get, refl, sym, inl, inr, arith, subst}
-use Rattle.std.proofs.Math.Bool.{and_comm}
+use Rattle.std.proofs.Math.Bool.{and_comm, and-false}
 use Rattle.std.proofs.Math.Nat.{eq-or-lt_of_le}
 use Rattle.std.proofs.lemmas.Bool.{cases_lt, le-ltb, lt-ltb}
 use Rattle.std.specs.Int.Signed.{lt_z_no, ≤ℤ_refl}
@@ -41,10 +41,6 @@ apart_where_above d z w apart = go (int_lt (w.lower -ℤ z.upper) d) refl
     go : (b : Bool) → int_lt (w.lower -ℤ z.upper) d ≡ b → (d ≤ℤ (w.lower -ℤ z.upper)) ⊎ (d ≤ℤ (z.lower -ℤ w.upper))
     go false e = inl (not_less (w.lower -ℤ z.upper) d e)
     go true e = let second : int_lt (z.lower -ℤ w.upper) d ≡ false = rw e at apart in inr (not_less (z.lower -ℤ w.upper) d second)
-
-and-false : (b : Bool) → (b && false) ≡ false
-and-false true = refl
-and-false false = refl
 
 pub above_is_apart : (d : ℤ) (z w : Zone) → (d ≤ℤ (w.lower -ℤ z.upper)) ⊎ (d ≤ℤ (z.lower -ℤ w.upper)) → come_near d z w ≡ false
 above_is_apart d z w (inl le) = rw (above (w.lower -ℤ z.upper) d le) refl

@@ -1,6 +1,6 @@
 -- The numbers of the keys that a font's faults stand at: 0 is the file, 4, 20 and 21 are entries of a form
 -- of their own, and the others are plain keys (Type 1 Font Format, chapters 2 and 5).
-use Rattle.std.specs.Prelude.{ℕ, ◌==◌, Bool, false, List, [], ◌∷◌, if◌then◌else◌, slice_index_or}
+use Rattle.std.specs.Prelude.{ℕ, List, [], ◌∷◌, slice_index_or}
 use Rattle.t1_font.specs.declared.key.Key.{Key}
 use Rattle.t1_font.specs.declared.key.Key.TheVariants.{FontType, PaintType, UniqueId, PrivateUniqueId, Password, MinFeature, LenIv, BlueValues, OtherBlues, FamilyBlues, FamilyOtherBlues, BlueScale, BlueShift, BlueFuzz, StdHw, StdVw, StemSnapH, StemSnapV}
 use Rattle.t1_font.specs.Keys.{index_of}
@@ -48,7 +48,6 @@ key_number StemSnapV = 19
 abbrev pub value_at : FontValue → Key → Value
 value_at font key = slice_index_or font.plain (index_of key) absent
 
--- What a test says of the one of these keys that has this number; it fails where none has it.
-abbrev pub at_one_of : List Key → ℕ → (Key → Bool) → Bool
-at_one_of [] key test = false
-at_one_of (k ∷ ks) key test = if key == key_number k then test k else at_one_of ks key test
+-- The two UniqueIDs, that of the clear text and that of the Private dictionary.
+abbrev pub id_keys : List Key
+id_keys = UniqueId ∷ PrivateUniqueId ∷ []

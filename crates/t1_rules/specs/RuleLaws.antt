@@ -12,7 +12,7 @@ use Rattle.t1_rules.specs.Places.{places_of}
 -- The rows have the numbers from 1 to 25, in order and each once.
 abbrev pub NumbersInOrder : Type 0
 NumbersInOrder =
-    map (λ r. r.number) font_rules
+    map (λ r. number_of r.rule) font_rules
     ≡ 1 ∷ 2 ∷ 3 ∷ 4 ∷ 5 ∷ 6 ∷ 7 ∷ 8 ∷ 9 ∷ 10 ∷ 11 ∷ 12 ∷ 13 ∷ 14 ∷ 15 ∷ 16 ∷ 17 ∷ 18 ∷ 19 ∷ 20 ∷ 21 ∷ 22 ∷ 23 ∷ 24 ∷ 25 ∷ []
 
 -- What is broken has a number of the book, so neither 0 nor one past the last.

@@ -3,222 +3,96 @@ use Rattle.std.specs.Prelude.{ℕ, List, codes}
 use Rattle.t1_rules.specs.declared.rule.Rule.{Rule}
 use Rattle.t1_rules.specs.declared.rule.Rule.TheVariants.{F01, F02, F03, F04, F05, F06, F07, F08, F09, F10, F11, F12, F13, F14, Z01, Z02, Z03, Z04, Z05, Z06, Z07, Z08, Z09, Z10, Z11, C01, C02, C03, C04, C05, C06, C07, C08, C09, S01, S02, S03, S04, GE01, GE02, W01, W02, P01, P02, P03, H01, H02, H03, H04, R01, R02, X01, X02, X03, X04, X05, X06, O01, O02, O03, O04, K01, K02, K03, K04, K05, K06, K07, L01}
 
--- A rule's number is its place in the book, from 1 on.
+-- An entry of the book: a rule's number, which is its place there, from 1 on; its code, as it stands in a line of
+-- the report; and what is told of a violation.
+pub record Entry : Type 0 where
+  pub number : ℕ
+  pub code : List ℕ
+  pub text : List ℕ
+
+abbrev pub entry : ℕ → List ℕ → List ℕ → Entry
+entry number code text = record { number = number; code = code; text = text }
+
+abbrev pub entry_of : Rule → Entry
+entry_of F01 = entry 1 (codes "F01") (codes "no end segment")
+entry_of F02 = entry 2 (codes "F02") (codes "bytes after the end segment")
+entry_of F03 = entry 3 (codes "F03") (codes "FontType is not 1")
+entry_of F04 = entry 4 (codes "F04") (codes "PaintType is not 0 or 2")
+entry_of F05 = entry 5 (codes "F05") (codes "UniqueID out of range")
+entry_of F06 = entry 6 (codes "F06") (codes "UniqueIDs differ")
+entry_of F07 = entry 7 (codes "F07") (codes "password is not 5839")
+entry_of F08 = entry 8 (codes "F08") (codes "MinFeature is not {16 16}")
+entry_of F09 = entry 9 (codes "F09") (codes "no .notdef")
+entry_of F10 = entry 10 (codes "F10") (codes "glyph given twice")
+entry_of F11 = entry 11 (codes "F11") (codes "Encoding of another form")
+entry_of F12 = entry 12 (codes "F12") (codes "code past 255")
+entry_of F13 = entry 13 (codes "F13") (codes "encoded glyph missing")
+entry_of F14 = entry 14 (codes "F14") (codes "Subr given twice or past the array")
+entry_of Z01 = entry 15 (codes "Z01") (codes "value of another kind")
+entry_of Z02 = entry 16 (codes "Z02") (codes "too many zone numbers")
+entry_of Z03 = entry 17 (codes "Z03") (codes "odd count of zone numbers")
+entry_of Z04 = entry 18 (codes "Z04") (codes "zone numbers fall")
+entry_of Z05 = entry 19 (codes "Z05") (codes "zones too near")
+entry_of Z06 = entry 20 (codes "Z06") (codes "zones of two lists too near")
+entry_of Z07 = entry 21 (codes "Z07") (codes "zone too high for BlueScale")
+entry_of Z08 = entry 22 (codes "Z08") (codes "not one standard width")
+entry_of Z09 = entry 23 (codes "Z09") (codes "too many stem snaps")
+entry_of Z10 = entry 24 (codes "Z10") (codes "stem snaps fall")
+entry_of Z11 = entry 25 (codes "Z11") (codes "standard width not among the snaps")
+entry_of C01 = entry 26 (codes "C01") (codes "shorter than lenIV")
+entry_of C02 = entry 27 (codes "C02") (codes "breaks off in a token")
+entry_of C03 = entry 28 (codes "C03") (codes "unknown command")
+entry_of C04 = entry 29 (codes "C04") (codes "too few arguments")
+entry_of C05 = entry 30 (codes "C05") (codes "too many arguments")
+entry_of C06 = entry 31 (codes "C06") (codes "more than 24 numbers")
+entry_of C07 = entry 32 (codes "C07") (codes "number out of range")
+entry_of C08 = entry 33 (codes "C08") (codes "quotient out of range")
+entry_of C09 = entry 34 (codes "C09") (codes "division by zero")
+entry_of S01 = entry 35 (codes "S01") (codes "no such Subr")
+entry_of S02 = entry 36 (codes "S02") (codes "calls nested too deep")
+entry_of S03 = entry 37 (codes "S03") (codes "return outside a Subr")
+entry_of S04 = entry 38 (codes "S04") (codes "Subr without return")
+entry_of GE01 = entry 39 (codes "GE01") (codes "no endchar")
+entry_of GE02 = entry 40 (codes "GE02") (codes "tokens after the end")
+entry_of W01 = entry 41 (codes "W01") (codes "hsbw or sbw not first")
+entry_of W02 = entry 42 (codes "W02") (codes "hsbw or sbw again")
+entry_of P01 = entry 43 (codes "P01") (codes "drawing without a move")
+entry_of P02 = entry 44 (codes "P02") (codes "path not closed")
+entry_of P03 = entry 45 (codes "P03") (codes "closepath without a path")
+entry_of H01 = entry 46 (codes "H01") (codes "stem after drawing")
+entry_of H02 = entry 47 (codes "H02") (codes "stems overlap")
+entry_of H03 = entry 48 (codes "H03") (codes "stem of zero width")
+entry_of H04 = entry 49 (codes "H04") (codes "unequal stem3")
+entry_of R01 = entry 50 (codes "R01") (codes "no pop after hint replacement")
+entry_of R02 = entry 51 (codes "R02") (codes "no callsubr after hint replacement")
+entry_of X01 = entry 52 (codes "X01") (codes "flex inside flex")
+entry_of X02 = entry 53 (codes "X02") (codes "flex call outside flex")
+entry_of X03 = entry 54 (codes "X03") (codes "command inside flex")
+entry_of X04 = entry 55 (codes "X04") (codes "flex points are not seven pairs")
+entry_of X05 = entry 56 (codes "X05") (codes "flex ends elsewhere")
+entry_of X06 = entry 57 (codes "X06") (codes "setcurrentpoint outside flex")
+entry_of O01 = entry 58 (codes "O01") (codes "unknown OtherSubr")
+entry_of O02 = entry 59 (codes "O02") (codes "bad OtherSubr count")
+entry_of O03 = entry 60 (codes "O03") (codes "wrong count for this OtherSubr")
+entry_of O04 = entry 61 (codes "O04") (codes "pop of nothing")
+entry_of K01 = entry 62 (codes "K01") (codes "seac code is not 0 to 255")
+entry_of K02 = entry 63 (codes "K02") (codes "seac code not in StandardEncoding")
+entry_of K03 = entry 64 (codes "K03") (codes "seac component missing")
+entry_of K04 = entry 65 (codes "K04") (codes "seac of a seac")
+entry_of K05 = entry 66 (codes "K05") (codes "accent sidebearing differs")
+entry_of K06 = entry 67 (codes "K06") (codes "seac beside other commands")
+entry_of K07 = entry 68 (codes "K07") (codes "seac component without sidebearing")
+entry_of L01 = entry 69 (codes "L01") (codes "step limit")
+
 abbrev pub number_of : Rule → ℕ
-number_of F01 = 1
-number_of F02 = 2
-number_of F03 = 3
-number_of F04 = 4
-number_of F05 = 5
-number_of F06 = 6
-number_of F07 = 7
-number_of F08 = 8
-number_of F09 = 9
-number_of F10 = 10
-number_of F11 = 11
-number_of F12 = 12
-number_of F13 = 13
-number_of F14 = 14
-number_of Z01 = 15
-number_of Z02 = 16
-number_of Z03 = 17
-number_of Z04 = 18
-number_of Z05 = 19
-number_of Z06 = 20
-number_of Z07 = 21
-number_of Z08 = 22
-number_of Z09 = 23
-number_of Z10 = 24
-number_of Z11 = 25
-number_of C01 = 26
-number_of C02 = 27
-number_of C03 = 28
-number_of C04 = 29
-number_of C05 = 30
-number_of C06 = 31
-number_of C07 = 32
-number_of C08 = 33
-number_of C09 = 34
-number_of S01 = 35
-number_of S02 = 36
-number_of S03 = 37
-number_of S04 = 38
-number_of GE01 = 39
-number_of GE02 = 40
-number_of W01 = 41
-number_of W02 = 42
-number_of P01 = 43
-number_of P02 = 44
-number_of P03 = 45
-number_of H01 = 46
-number_of H02 = 47
-number_of H03 = 48
-number_of H04 = 49
-number_of R01 = 50
-number_of R02 = 51
-number_of X01 = 52
-number_of X02 = 53
-number_of X03 = 54
-number_of X04 = 55
-number_of X05 = 56
-number_of X06 = 57
-number_of O01 = 58
-number_of O02 = 59
-number_of O03 = 60
-number_of O04 = 61
-number_of K01 = 62
-number_of K02 = 63
-number_of K03 = 64
-number_of K04 = 65
-number_of K05 = 66
-number_of K06 = 67
-number_of K07 = 68
-number_of L01 = 69
+number_of rule = (entry_of rule).number
+
+abbrev pub code_of : Rule → List ℕ
+code_of rule = (entry_of rule).code
+
+abbrev pub text_of : Rule → List ℕ
+text_of rule = (entry_of rule).text
 
 -- The greatest number of a rule.
 abbrev pub last_number : ℕ
 last_number = 69
-
--- The code, as it stands in a line of the report.
-abbrev pub code_of : Rule → List ℕ
-code_of F01 = codes "F01"
-code_of F02 = codes "F02"
-code_of F03 = codes "F03"
-code_of F04 = codes "F04"
-code_of F05 = codes "F05"
-code_of F06 = codes "F06"
-code_of F07 = codes "F07"
-code_of F08 = codes "F08"
-code_of F09 = codes "F09"
-code_of F10 = codes "F10"
-code_of F11 = codes "F11"
-code_of F12 = codes "F12"
-code_of F13 = codes "F13"
-code_of F14 = codes "F14"
-code_of Z01 = codes "Z01"
-code_of Z02 = codes "Z02"
-code_of Z03 = codes "Z03"
-code_of Z04 = codes "Z04"
-code_of Z05 = codes "Z05"
-code_of Z06 = codes "Z06"
-code_of Z07 = codes "Z07"
-code_of Z08 = codes "Z08"
-code_of Z09 = codes "Z09"
-code_of Z10 = codes "Z10"
-code_of Z11 = codes "Z11"
-code_of C01 = codes "C01"
-code_of C02 = codes "C02"
-code_of C03 = codes "C03"
-code_of C04 = codes "C04"
-code_of C05 = codes "C05"
-code_of C06 = codes "C06"
-code_of C07 = codes "C07"
-code_of C08 = codes "C08"
-code_of C09 = codes "C09"
-code_of S01 = codes "S01"
-code_of S02 = codes "S02"
-code_of S03 = codes "S03"
-code_of S04 = codes "S04"
-code_of GE01 = codes "GE01"
-code_of GE02 = codes "GE02"
-code_of W01 = codes "W01"
-code_of W02 = codes "W02"
-code_of P01 = codes "P01"
-code_of P02 = codes "P02"
-code_of P03 = codes "P03"
-code_of H01 = codes "H01"
-code_of H02 = codes "H02"
-code_of H03 = codes "H03"
-code_of H04 = codes "H04"
-code_of R01 = codes "R01"
-code_of R02 = codes "R02"
-code_of X01 = codes "X01"
-code_of X02 = codes "X02"
-code_of X03 = codes "X03"
-code_of X04 = codes "X04"
-code_of X05 = codes "X05"
-code_of X06 = codes "X06"
-code_of O01 = codes "O01"
-code_of O02 = codes "O02"
-code_of O03 = codes "O03"
-code_of O04 = codes "O04"
-code_of K01 = codes "K01"
-code_of K02 = codes "K02"
-code_of K03 = codes "K03"
-code_of K04 = codes "K04"
-code_of K05 = codes "K05"
-code_of K06 = codes "K06"
-code_of K07 = codes "K07"
-code_of L01 = codes "L01"
-
--- What is told of a violation.
-abbrev pub text_of : Rule → List ℕ
-text_of F01 = codes "no end segment"
-text_of F02 = codes "bytes after the end segment"
-text_of F03 = codes "FontType is not 1"
-text_of F04 = codes "PaintType is not 0 or 2"
-text_of F05 = codes "UniqueID out of range"
-text_of F06 = codes "UniqueIDs differ"
-text_of F07 = codes "password is not 5839"
-text_of F08 = codes "MinFeature is not {16 16}"
-text_of F09 = codes "no .notdef"
-text_of F10 = codes "glyph given twice"
-text_of F11 = codes "Encoding of another form"
-text_of F12 = codes "code past 255"
-text_of F13 = codes "encoded glyph missing"
-text_of F14 = codes "Subr given twice or past the array"
-text_of Z01 = codes "value of another kind"
-text_of Z02 = codes "too many zone numbers"
-text_of Z03 = codes "odd count of zone numbers"
-text_of Z04 = codes "zone numbers fall"
-text_of Z05 = codes "zones too near"
-text_of Z06 = codes "zones of two lists too near"
-text_of Z07 = codes "zone too high for BlueScale"
-text_of Z08 = codes "not one standard width"
-text_of Z09 = codes "too many stem snaps"
-text_of Z10 = codes "stem snaps fall"
-text_of Z11 = codes "standard width not among the snaps"
-text_of C01 = codes "shorter than lenIV"
-text_of C02 = codes "breaks off in a token"
-text_of C03 = codes "unknown command"
-text_of C04 = codes "too few arguments"
-text_of C05 = codes "too many arguments"
-text_of C06 = codes "more than 24 numbers"
-text_of C07 = codes "number out of range"
-text_of C08 = codes "quotient out of range"
-text_of C09 = codes "division by zero"
-text_of S01 = codes "no such Subr"
-text_of S02 = codes "calls nested too deep"
-text_of S03 = codes "return outside a Subr"
-text_of S04 = codes "Subr without return"
-text_of GE01 = codes "no endchar"
-text_of GE02 = codes "tokens after the end"
-text_of W01 = codes "hsbw or sbw not first"
-text_of W02 = codes "hsbw or sbw again"
-text_of P01 = codes "drawing without a move"
-text_of P02 = codes "path not closed"
-text_of P03 = codes "closepath without a path"
-text_of H01 = codes "stem after drawing"
-text_of H02 = codes "stems overlap"
-text_of H03 = codes "stem of zero width"
-text_of H04 = codes "unequal stem3"
-text_of R01 = codes "no pop after hint replacement"
-text_of R02 = codes "no callsubr after hint replacement"
-text_of X01 = codes "flex inside flex"
-text_of X02 = codes "flex call outside flex"
-text_of X03 = codes "command inside flex"
-text_of X04 = codes "flex points are not seven pairs"
-text_of X05 = codes "flex ends elsewhere"
-text_of X06 = codes "setcurrentpoint outside flex"
-text_of O01 = codes "unknown OtherSubr"
-text_of O02 = codes "bad OtherSubr count"
-text_of O03 = codes "wrong count for this OtherSubr"
-text_of O04 = codes "pop of nothing"
-text_of K01 = codes "seac code is not 0 to 255"
-text_of K02 = codes "seac code not in StandardEncoding"
-text_of K03 = codes "seac component missing"
-text_of K04 = codes "seac of a seac"
-text_of K05 = codes "accent sidebearing differs"
-text_of K06 = codes "seac beside other commands"
-text_of K07 = codes "seac component without sidebearing"
-text_of L01 = codes "step limit"

@@ -11,7 +11,7 @@ use crate::number_lists::falls_at;
 use crate::rule::Rule;
 use crate::stem_snaps::{is_not_among, is_not_one_width};
 use crate::values::{count_in, first_in};
-use crate::zones::{distance, is_too_high, is_too_near, meets, scale};
+use crate::zones::{is_too_high, is_too_near, meets};
 use t1_font::{Entry, Font, Key};
 
 /// How many numbers a list of zones or stem snaps has at most.
@@ -65,15 +65,14 @@ fn zone_faults(font: &Font<'_>, key: Key, meeting: bool, index: u32) -> Mask
     let value = font.entry(key);
     let numbers = first_in(limit(key), &value);
     let place = index as usize;
-    Mask::of(&[
-        (Rule::Z01, is_of_another_kind(key, &value, index)),
-        (Rule::Z02, has_too_many(key, &value, index)),
-        (Rule::Z03, has_odd_count(&value, index)),
-        (Rule::Z04, falls_at(numbers, place)),
-        (Rule::Z05, is_too_near(distance(font), numbers, place)),
-        (Rule::Z06, meeting),
-        (Rule::Z07, is_too_high(scale(font), numbers, place)),
-    ])
+    Mask::empty()
+        .with(Rule::Z07, is_too_high(font, numbers, place))
+        .with(Rule::Z06, meeting)
+        .with(Rule::Z05, is_too_near(font, numbers, place))
+        .with(Rule::Z04, falls_at(numbers, place))
+        .with(Rule::Z03, has_odd_count(&value, index))
+        .with(Rule::Z02, has_too_many(key, &value, index))
+        .with(Rule::Z01, is_of_another_kind(key, &value, index))
 }
 
 /// What a list of high zones breaks at an index.
@@ -90,7 +89,7 @@ pub(crate) fn low_zone_faults(font: &Font<'_>, low: Key, high: Key, index: u32) 
     let low_value = font.entry(low);
     let high_value = font.entry(high);
     let meeting = meets(
-        distance(font),
+        font,
         first_in(limit(low), &low_value),
         first_in(limit(high), &high_value),
         index as usize,
@@ -103,7 +102,7 @@ pub(crate) fn number_faults(font: &Font<'_>, key: Key, index: u32) -> Mask
     ensures { (n : ℕ) → has result n ≡ broken_among (number_tests font.now key index) n }
 {
     let value = font.entry(key);
-    Mask::of(&[(Rule::Z01, is_of_another_kind(key, &value, index))])
+    Mask::empty().with(Rule::Z01, is_of_another_kind(key, &value, index))
 }
 
 /// What a standard width breaks at an index.
@@ -111,10 +110,9 @@ pub(crate) fn width_faults(font: &Font<'_>, key: Key, index: u32) -> Mask
     ensures { (n : ℕ) → has result n ≡ broken_among (width_tests font.now key index) n }
 {
     let value = font.entry(key);
-    Mask::of(&[
-        (Rule::Z01, is_of_another_kind(key, &value, index)),
-        (Rule::Z08, (index == 0) & is_not_one_width(&value)),
-    ])
+    Mask::empty()
+        .with(Rule::Z08, (index == 0) & is_not_one_width(&value))
+        .with(Rule::Z01, is_of_another_kind(key, &value, index))
 }
 
 /// What a list of stem snaps, beside a standard width, breaks at an index.
@@ -124,13 +122,12 @@ pub(crate) fn snap_faults(font: &Font<'_>, key: Key, width: Key, index: u32) -> 
     let value = font.entry(key);
     let snaps = first_in(limit(key), &value);
     let width = font.entry(width);
-    Mask::of(&[
-        (Rule::Z01, is_of_another_kind(key, &value, index)),
-        (Rule::Z09, has_too_many(key, &value, index)),
-        (Rule::Z10, falls_at(snaps, index as usize)),
-        (
+    Mask::empty()
+        .with(
             Rule::Z11,
             (index == 0) & is_not_among(first_in(1, &width), snaps),
-        ),
-    ])
+        )
+        .with(Rule::Z10, falls_at(snaps, index as usize))
+        .with(Rule::Z09, has_too_many(key, &value, index))
+        .with(Rule::Z01, is_of_another_kind(key, &value, index))
 }

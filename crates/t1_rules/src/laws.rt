@@ -4,7 +4,7 @@ ghost use Rattle.t1_rules.specs.RuleLaws.{AbsentIsFine, BrokenIsInTheBook, NoneP
 ghost use Rattle.t1_rules.specs.ZoneLaws.{ApartWhereOneIsAbove, MeetsOneOfTheOthers, NearBothWays, NearTheOneBefore, NoZonePastPairs, ReachesOne, RisesWhereNoneFalls, ZonesArePairs};
 
 /// The font rules have the numbers from 1 to 25, and what is broken is a rule of the book.
-#[tactic(auto, using(crate::proofs::RuleLaws::broken_is_in_the_book))]
+#[tactic(auto, using(crate::proofs::RuleLaws::numbers_in_order, crate::proofs::RuleLaws::broken_is_in_the_book))]
 pub fn rules_have_their_numbers()
     ensures order { NumbersInOrder }
     ensures book { BrokenIsInTheBook }

@@ -1,7 +1,7 @@
 //! Sets of rules.
 
 ghost use Rattle.std.specs.Prelude.{◌≡◌, ℕ, ◌==◌, ◌&&◌, ◌||◌, ◌↔◌, IsTrue, MatchOption, false};
-ghost use Rattle.t1_rules.specs.Masks.{HasNoneAbove, IsLeastAbove, broken_among, has};
+ghost use Rattle.t1_rules.specs.Masks.{HasNoneAbove, IsLeastAbove, has};
 ghost use Rattle.t1_rules.specs.Rules.{number_of};
 
 use crate::numbers::numbered;
@@ -24,9 +24,10 @@ impl Mask {
         Mask { bits: 0 }
     }
 
-    /// This set, with one rule more where that is broken.
+    /// This set, with one rule more where that is broken. A set is written from its last rule to its
+    /// first, so that it reads as the rows of the rule book, each in front of those behind it.
     pub fn with(self, rule: Rule, broken: bool) -> Mask
-        ensures { (n : ℕ) → has result n ≡ (has self n || (broken && number_of rule == n)) }
+        ensures { (n : ℕ) → has result n ≡ (broken && number_of rule == n || has self n) }
     {
         if broken {
             Mask {
@@ -58,16 +59,5 @@ impl Mask {
             return None;
         }
         numbered(floor + 1 + after.trailing_zeros() as u8)
-    }
-
-    /// The set of the rules that are broken.
-    pub(crate) fn of(tests: &[(Rule, bool)]) -> Mask
-        ensures { (n : ℕ) → has result n ≡ broken_among tests.now n }
-    {
-        let mut mask = Mask::empty();
-        for (rule, broken) in tests {
-            mask = mask.with(*rule, *broken);
-        }
-        mask
     }
 }

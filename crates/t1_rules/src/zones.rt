@@ -25,14 +25,14 @@ pub(crate) struct Edges {
 }
 
 /// The distance that zones keep: twice BlueFuzz and one.
-pub(crate) fn distance(font: &Font<'_>) -> i128
+fn distance(font: &Font<'_>) -> i128
     ensures { result ≡ distance font.now }
 {
     2 * i128::from(number_or(ONE, &font.entry(Key::BlueFuzz))) + i128::from(ONE)
 }
 
 /// BlueScale.
-pub(crate) fn scale(font: &Font<'_>) -> i64
+fn scale(font: &Font<'_>) -> i64
     ensures { result ≡ scale font.now }
 {
     number_or(USUAL_SCALE, &font.entry(Key::BlueScale))
@@ -53,12 +53,12 @@ fn begins_zone(numbers: &[i64], index: usize) -> bool
 }
 
 /// Whether a zone begins here that is nearer to the one before it than the distance.
-pub(crate) fn is_too_near(distance: i128, numbers: &[i64], index: usize) -> bool
-    ensures { result ≡ is_too_near distance numbers.now index }
+pub(crate) fn is_too_near(font: &Font<'_>, numbers: &[i64], index: usize) -> bool
+    ensures { result ≡ is_too_near (distance font.now) numbers.now index }
 {
     0 < index
         && begins_zone(numbers, index)
-        && difference(numbers[index], numbers[index - 1]) < distance
+        && difference(numbers[index], numbers[index - 1]) < distance(font)
 }
 
 /// Whether two zones are nearer to one another than the distance.
@@ -87,8 +87,8 @@ fn comes_near_one(distance: i128, zone: Edges, others: &[i64]) -> bool
 }
 
 /// Whether a zone begins here that comes near to one of another list.
-pub(crate) fn meets(distance: i128, numbers: &[i64], others: &[i64], index: usize) -> bool
-    ensures { result ≡ meets distance numbers.now others.now index }
+pub(crate) fn meets(font: &Font<'_>, numbers: &[i64], others: &[i64], index: usize) -> bool
+    ensures { result ≡ meets (distance font.now) numbers.now others.now index }
 {
     if !begins_zone(numbers, index) {
         return false;
@@ -97,7 +97,7 @@ pub(crate) fn meets(distance: i128, numbers: &[i64], others: &[i64], index: usiz
         lower: numbers[index],
         upper: numbers[index + 1],
     };
-    comes_near_one(distance, zone, others)
+    comes_near_one(distance(font), zone, others)
 }
 
 /// Whether a height times BlueScale is 1 or more.
@@ -108,10 +108,10 @@ fn reaches_one(lower: i64, upper: i64, scale: i64) -> bool
 }
 
 /// Whether the height of the zone that ends here, times BlueScale, is 1 or more.
-pub(crate) fn is_too_high(scale: i64, numbers: &[i64], index: usize) -> bool
-    ensures { result ≡ is_too_high scale numbers.now index }
+pub(crate) fn is_too_high(font: &Font<'_>, numbers: &[i64], index: usize) -> bool
+    ensures { result ≡ is_too_high (scale font.now) numbers.now index }
 {
     index % 2 == 1
         && index < numbers.len()
-        && reaches_one(numbers[index - 1], numbers[index], scale)
+        && reaches_one(numbers[index - 1], numbers[index], scale(font))
 }

@@ -1,8 +1,0 @@
-use Rattle.t1_font.specs.declared.key.Key.TheVariants as keys
-use Rattle.t1_rules.specs.FontRules.{font_rules}
-use Rattle.t1_rules.specs.Keys.{key_number}
-use Rattle.t1_rules.proofs.Ordered.{ordered}
-use Rattle.t1_rules.proofs.entry_faults.private_unique_id_faults.Goals as goal
-
-pub returns : goal.returns
-returns c = λ n. rw (ordered font_rules n c.args.font.now (key_number keys.PrivateUniqueId) c.args.index) (let h = c.of.ensures n in cc)
