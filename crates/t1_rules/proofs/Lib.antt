@@ -1,6 +1,7 @@
 pub mod Above
 pub mod AbsentEntries
 pub mod Bits
+pub mod BookRows
 pub mod RuleNumbers
 pub mod OneZone
 pub mod Past

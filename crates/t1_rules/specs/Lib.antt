@@ -1,3 +1,4 @@
+pub mod BookRows
 pub mod FontRules
 pub mod Glyphs
 pub mod KeyTests

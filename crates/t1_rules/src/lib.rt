@@ -23,7 +23,7 @@
 //! ```
 #![tactic(auto)]
 
-mod codes;
+mod book;
 mod entry_faults;
 mod font_rules;
 mod glyphs;
@@ -32,15 +32,13 @@ mod key_texts;
 mod laws;
 mod mask;
 mod number_lists;
-mod numbers;
 mod places_of_keys;
 mod rule;
 mod stem_snaps;
-mod texts;
 mod values;
 mod zones;
 
-pub use codes::rule_code;
+pub use book::{rule_code, rule_text};
 pub use font_rules::font_faults;
 pub use key_texts::key_text;
 pub use laws::{
@@ -50,7 +48,6 @@ pub use laws::{
 pub use mask::Mask;
 pub use places_of_keys::places;
 pub use rule::Rule;
-pub use texts::rule_text;
 
 #[cfg(test)]
 mod tests;

@@ -4,7 +4,7 @@ ghost use Rattle.std.specs.Prelude.{◌≡◌, ℕ, ◌==◌, ◌&&◌, ◌||◌
 ghost use Rattle.t1_rules.specs.Masks.{HasNoneAbove, IsLeastAbove, has};
 ghost use Rattle.t1_rules.specs.Rules.{number_of};
 
-use crate::numbers::numbered;
+use crate::book::numbered;
 use crate::rule::Rule;
 
 /// A set of rules.
