@@ -1,12 +1,1 @@
-pub mod Above
-pub mod AbsentEntries
-pub mod Bits
-pub mod BookRows
-pub mod RuleNumbers
-pub mod OneZone
-pub mod Past
-pub mod Products
-pub mod RuleLaws
-pub mod Tables
-pub mod ZoneLaws
-pub mod ZonesAt
+pub mod Lemmas

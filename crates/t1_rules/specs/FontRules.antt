@@ -1,4 +1,12 @@
 -- The font rules as a table: where a font's value breaks which of them, each by a key and an index.
+pub mod Encoding
+pub mod Glyphs
+pub mod Hints
+pub mod Ids
+pub mod Stems
+pub mod Subrs
+pub mod Values
+pub mod Zones
 use Rattle.std.specs.Prelude.{ℕ, ◌==◌, ◌&&◌, ◌||◌, Bool, false, not, List, [], ◌∷◌, map, if◌then◌else◌}
 use Rattle.std.specs.List.{list_any}
 use Rattle.t1_font.specs.declared.key.Key.{Key}
@@ -7,14 +15,16 @@ use Rattle.t1_font.specs.Fonts.{FontValue}
 use Rattle.t1_font.specs.Values.{Value}
 use Rattle.t1_rules.specs.declared.rule.Rule.{Rule}
 use Rattle.t1_rules.specs.declared.rule.Rule.TheVariants.{F01, F02, F03, F04, F05, F06, F07, F08, F09, F10, F11, F12, F13, F14, Z01, Z02, Z03, Z04, Z05, Z06, Z07, Z08, Z09, Z10, Z11}
-use Rattle.t1_rules.specs.Rules.{number_of}
-use Rattle.t1_rules.specs.Keys.{file_key, encoding_key, subrs_key, glyphs_key, id_keys, key_number, value_at}
-use Rattle.t1_rules.specs.Lists.{low_zone_keys, zone_keys, width_keys, snap_keys, hint_keys, high_of, width_of, is_of_another_kind, numbers_at, has_too_many, has_odd_count}
-use Rattle.t1_rules.specs.PlainValues.{is_the_number, is_past_range, differ, is_sixteen_twice, first_in}
-use Rattle.t1_rules.specs.NumberLists.{falls_at}
-use Rattle.t1_rules.specs.Zones.{distance, scale, is_too_near, meets, is_too_high}
-use Rattle.t1_rules.specs.StemSnaps.{is_not_one_width, is_not_among}
-use Rattle.t1_rules.specs.Glyphs.{not_defined, has_glyph, is_no_form, encodes_missing, is_wrong_subr, is_glyph_twice}
+use Rattle.t1_rules.specs.Book.{number_of}
+use Rattle.t1_rules.specs.Keys.{file_key, encoding_key, subrs_key, glyphs_key, key_number, value_at}
+use Rattle.t1_rules.specs.FontRules.Values.{is_the_number, is_sixteen_twice, first_in}
+use Rattle.t1_rules.specs.FontRules.Ids.{id_keys, is_past_range, differ}
+use Rattle.t1_rules.specs.FontRules.Glyphs.{not_defined, has_glyph, is_glyph_twice}
+use Rattle.t1_rules.specs.FontRules.Encoding.{is_no_form, encodes_missing}
+use Rattle.t1_rules.specs.FontRules.Subrs.{is_wrong_subr}
+use Rattle.t1_rules.specs.FontRules.Hints.{hint_keys, is_of_another_kind, numbers_at, has_too_many, falls_at}
+use Rattle.t1_rules.specs.FontRules.Zones.{low_zone_keys, zone_keys, high_of, has_odd_count, distance, scale, is_too_near, meets, is_too_high}
+use Rattle.t1_rules.specs.FontRules.Stems.{width_keys, snap_keys, width_of, is_not_one_width, is_not_among}
 
 -- What is broken at one key: whether a font breaks it there at an index.
 pub record KeyTest : Type 0 where

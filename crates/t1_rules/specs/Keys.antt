@@ -1,6 +1,7 @@
--- The numbers of the keys that a font's faults stand at: 0 is the file, 4, 20 and 21 are entries of a form
--- of their own, and the others are plain keys (Type 1 Font Format, chapters 2 and 5).
-use Rattle.std.specs.Prelude.{ℕ, List, [], ◌∷◌, slice_index_or}
+-- The keys that a font's faults stand at: their numbers, what they are called, and how many indexes each has.
+-- Key 0 is the file, 4, 20 and 21 are entries of a form of their own, and the others are plain keys (Type 1 Font
+-- Format, chapters 2 and 5).
+use Rattle.std.specs.Prelude.{ℕ, ◌+◌, min, max, List, [], ◌∷◌, codes, length, slice_index_or}
 use Rattle.t1_font.specs.declared.key.Key.{Key}
 use Rattle.t1_font.specs.declared.key.Key.TheVariants.{FontType, PaintType, UniqueId, PrivateUniqueId, Password, MinFeature, LenIv, BlueValues, OtherBlues, FamilyBlues, FamilyOtherBlues, BlueScale, BlueShift, BlueFuzz, StdHw, StdVw, StemSnapH, StemSnapV}
 use Rattle.t1_font.specs.Keys.{index_of}
@@ -48,6 +49,54 @@ key_number StemSnapV = 19
 abbrev pub value_at : FontValue → Key → Value
 value_at font key = slice_index_or font.plain (index_of key) absent
 
--- The two UniqueIDs, that of the clear text and that of the Private dictionary.
-abbrev pub id_keys : List Key
-id_keys = UniqueId ∷ PrivateUniqueId ∷ []
+-- What the keys are called, in the order of their numbers, from 0 on.
+abbrev pub key_texts : List (List ℕ)
+key_texts =
+    codes "file"
+    ∷ codes "FontType"
+    ∷ codes "PaintType"
+    ∷ codes "UniqueID"
+    ∷ codes "Encoding"
+    ∷ codes "PrivateUniqueID"
+    ∷ codes "password"
+    ∷ codes "MinFeature"
+    ∷ codes "lenIV"
+    ∷ codes "BlueValues"
+    ∷ codes "OtherBlues"
+    ∷ codes "FamilyBlues"
+    ∷ codes "FamilyOtherBlues"
+    ∷ codes "BlueScale"
+    ∷ codes "BlueShift"
+    ∷ codes "BlueFuzz"
+    ∷ codes "StdHW"
+    ∷ codes "StdVW"
+    ∷ codes "StemSnapH"
+    ∷ codes "StemSnapV"
+    ∷ codes "Subrs"
+    ∷ codes "CharStrings"
+    ∷ []
+
+-- What a key is called; it is empty past the last one.
+abbrev pub key_text_of : ℕ → List ℕ
+key_text_of key = slice_index_or key_texts key []
+
+-- How many indexes the Subrs have: past the greatest number of one, and at most 65,536.
+abbrev pub subr_places : List (ℕ × List ℕ) → ℕ
+subr_places [] = 0
+subr_places (subr ∷ subrs) = max (min (subr.0 + 1) 65536) (subr_places subrs)
+
+-- One for each glyph, and index 0 where there is none.
+abbrev pub glyph_places : FontValue → ℕ
+glyph_places font = max 1 (min (length font.glyphs) 65536)
+
+-- How many indexes each key has, in the order of the keys: one index for what is said of an entry, the codes of an Encoding, a place for
+-- each number of a list and one more, the Subrs and the glyphs.
+abbrev pub places_by_key : FontValue → List ℕ
+places_by_key font =
+    1 ∷ 1 ∷ 1 ∷ 1 ∷ 256 ∷ 1 ∷ 1 ∷ 1 ∷ 0
+    ∷ 15 ∷ 11 ∷ 15 ∷ 11 ∷ 1 ∷ 1 ∷ 1 ∷ 1 ∷ 1 ∷ 13 ∷ 13
+    ∷ subr_places font.subrs ∷ glyph_places font ∷ []
+
+-- How many indexes a key can have a fault at, from 0 on.
+abbrev pub places_of : FontValue → ℕ → ℕ
+places_of font key = slice_index_or (places_by_key font) key 0

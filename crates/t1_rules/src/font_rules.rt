@@ -2,17 +2,30 @@
 
 ghost use Rattle.std.specs.Prelude.{◌≡◌, ℕ};
 ghost use Rattle.t1_rules.specs.FontRules.{font_rules, violated};
-ghost use Rattle.t1_rules.specs.Masks.{has};
+ghost use Rattle.t1_rules.specs.Mask.{has};
 
-use crate::entry_faults::{
-    encoding_faults, file_faults, font_type_faults, glyph_faults, min_feature_faults,
-    paint_type_faults, password_faults, private_unique_id_faults, subr_faults, unique_id_faults,
-};
-use crate::hint_faults::{
-    high_zone_faults, low_zone_faults, number_faults, snap_faults, width_faults,
-};
+mod encoding;
+mod entries;
+mod file;
+mod glyphs;
+mod hints;
+mod ids;
+mod stems;
+mod subrs;
+mod values;
+mod zones;
+
 use crate::mask::Mask;
+use encoding::encoding_faults;
+use entries::{font_type_faults, min_feature_faults, paint_type_faults, password_faults};
+use file::file_faults;
+use glyphs::glyph_faults;
+use hints::number_faults;
+use ids::{private_unique_id_faults, unique_id_faults};
+use stems::{snap_faults, width_faults};
+use subrs::subr_faults;
 use t1_font::{Font, Key};
+use zones::{high_zone_faults, low_zone_faults};
 
 /// The font rules that are broken at a key and an index: 0 for what is said of the key as a whole, and
 /// else a place in its list of numbers, a code, a Subr's number or a glyph's. There is none past key 21

@@ -24,29 +24,20 @@
 #![tactic(auto)]
 
 mod book;
-mod entry_faults;
 mod font_rules;
-mod glyphs;
-mod hint_faults;
-mod key_texts;
+mod keys;
 mod laws;
 mod mask;
-mod number_lists;
-mod places_of_keys;
 mod rule;
-mod stem_snaps;
-mod values;
-mod zones;
 
 pub use book::{rule_code, rule_text};
 pub use font_rules::font_faults;
-pub use key_texts::key_text;
+pub use keys::{key_text, places};
 pub use laws::{
     absent_entries_are_fine, numbers_rise_where_none_falls, rules_are_on_zones,
     rules_have_their_numbers, rules_have_their_places, zones_are_pairs, zones_come_near_both_ways,
 };
 pub use mask::Mask;
-pub use places_of_keys::places;
 pub use rule::Rule;
 
 #[cfg(test)]

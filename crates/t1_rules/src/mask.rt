@@ -1,8 +1,8 @@
 //! Sets of rules.
 
 ghost use Rattle.std.specs.Prelude.{◌≡◌, ℕ, ◌==◌, ◌&&◌, ◌||◌, ◌↔◌, IsTrue, MatchOption, false};
-ghost use Rattle.t1_rules.specs.Masks.{HasNoneAbove, IsLeastAbove, has};
-ghost use Rattle.t1_rules.specs.Rules.{number_of};
+ghost use Rattle.t1_rules.specs.Mask.{HasNoneAbove, IsLeastAbove, has};
+ghost use Rattle.t1_rules.specs.Book.{number_of};
 
 use crate::book::numbered;
 use crate::rule::Rule;

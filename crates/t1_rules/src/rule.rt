@@ -1,7 +1,7 @@
 //! The rules and their numbers.
 
 ghost use Rattle.std.specs.Prelude.{◌≡◌, ◌⊎◌, ◌<◌, ◌≤◌, IfNone, IfSome};
-ghost use Rattle.t1_rules.specs.Rules.{last_number, number_of};
+ghost use Rattle.t1_rules.specs.Book.{last_number, number_of};
 
 /// A rule of the rule book. Its number is its place there, from 1 on.
 #[derive(Clone, Copy, Debug, PartialEq, Eq)]

@@ -1,6 +1,6 @@
 use Rattle.std.proofs.Common.{◌≡◌, ◌+◌, ap, ◌∙◌, arith}
-use Rattle.t1_rules.specs.Rules.{number_of}
-use Rattle.t1_rules.proofs.BookRows.{number_at}
+use Rattle.t1_rules.specs.Book.{number_of}
+use Rattle.t1_rules.proofs.Lemmas.Book.{number_at}
 use Rattle.t1_rules.proofs.book.numbered.Goals as goal
 
 pub returns-in-Some-clause-some : goal.returns-in-Some-clause-some

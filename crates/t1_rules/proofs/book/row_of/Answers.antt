@@ -1,6 +1,6 @@
 use Rattle.std.proofs.Common.{◌≡◌, ◌-◌, ap, arith}
-use Rattle.t1_rules.specs.Rules.{number_of}
-use Rattle.t1_rules.proofs.BookRows.{row_at}
+use Rattle.t1_rules.specs.Book.{number_of}
+use Rattle.t1_rules.proofs.Lemmas.Book.{row_at}
 use Rattle.t1_rules.proofs.book.row_of.Goals as goal
 
 pub returns-clause-code : goal.returns-clause-code

@@ -1,0 +1,8 @@
+-- Lemmas by what they are about.
+pub mod AbsentEntries
+pub mod Book
+pub mod FontRules
+pub mod Keys
+pub mod Mask
+pub mod Products
+pub mod Zones

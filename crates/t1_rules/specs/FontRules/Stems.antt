@@ -1,0 +1,32 @@
+-- Standard widths and stem snaps (Type 1 Font Format, chapter 5).
+use Rattle.std.specs.Prelude.{◌==◌, ◌&&◌, Bool, false, not, ℤ, List, [], ◌∷◌}
+use Rattle.std.specs.List.{list_any}
+use Rattle.std.specs.Ordering.{int_eq}
+use Rattle.t1_font.specs.declared.key.Key.{Key}
+use Rattle.t1_font.specs.declared.key.Key.TheVariants.{StdHw, StdVw, StemSnapH, StemSnapV}
+use Rattle.t1_font.specs.Values.{Value}
+use Rattle.t1_rules.specs.FontRules.Values.{is_numbers, count_in}
+
+-- The standard widths.
+abbrev pub width_keys : List Key
+width_keys = StdHw ∷ StdVw ∷ []
+
+-- The lists of stem snaps.
+abbrev pub snap_keys : List Key
+snap_keys = StemSnapH ∷ StemSnapV ∷ []
+
+-- The standard width beside a list of stem snaps.
+abbrev pub width_of : Key → Key
+width_of StemSnapH = StdHw
+width_of StemSnapV = StdVw
+width_of k = k
+
+-- Numbers, and not one.
+abbrev pub is_not_one_width : Value → Bool
+is_not_one_width value = is_numbers value && not (count_in value == 1)
+
+-- There are snaps, and the first width isn't one of them.
+abbrev pub is_not_among : List ℤ → List ℤ → Bool
+is_not_among [] snaps = false
+is_not_among (width ∷ widths) [] = false
+is_not_among (width ∷ widths) (snap ∷ snaps) = not (list_any (int_eq width) (snap ∷ snaps))

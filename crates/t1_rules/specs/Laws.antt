@@ -1,0 +1,3 @@
+-- Statements of laws, which the functions of src/laws.rt prove.
+pub mod FontRules
+pub mod Zones

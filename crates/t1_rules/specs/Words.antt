@@ -1,0 +1,4 @@
+-- Words that private contracts alone cite: no clause of the report rests on them.
+pub mod BookRows
+pub mod Edges
+pub mod KeyTests

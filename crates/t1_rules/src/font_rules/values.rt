@@ -1,0 +1,70 @@
+//! Plain values: what they are, and their numbers. Numbers are in units of 10^-9, and are compared exactly.
+
+ghost use Rattle.std.specs.Prelude.{◌≡◌, ℤ};
+ghost use Rattle.t1_font.specs.Entries.{entry_view};
+ghost use Rattle.t1_rules.specs.FontRules.Values.{count_in, first_in, is_sixteen_twice, is_the_number, number_or};
+
+use t1_font::Entry;
+
+/// One, in the unit of numbers.
+pub(crate) const ONE: i64 = 1_000_000_000;
+
+/// Whether a value is this whole number.
+pub(crate) fn is_the_number(whole: u32, value: &Entry) -> bool
+    ensures { result ≡ is_the_number whole (entry_view value.now) }
+{
+    match value {
+        Entry::Number(number) => *number == i64::from(whole) * ONE,
+        Entry::Absent | Entry::Numbers { .. } | Entry::Other => false,
+    }
+}
+
+/// Whether a value is the two numbers 16 and 16.
+pub(crate) fn is_sixteen_twice(value: &Entry) -> bool
+    ensures { result ≡ is_sixteen_twice (entry_view value.now) }
+{
+    let Entry::Numbers { count, first } = value else {
+        return false;
+    };
+    match first.as_slice() {
+        [one, other, ..] => (*count == 2) & (*one == 16 * ONE) & (*other == 16 * ONE),
+        _ => false,
+    }
+}
+
+/// The number that a value is, or one in its place.
+pub(crate) fn number_or(otherwise: i64, value: &Entry) -> i64
+    ensures { result ≡ number_or otherwise (entry_view value.now) }
+{
+    match value {
+        Entry::Number(number) => *number,
+        Entry::Absent | Entry::Numbers { .. } | Entry::Other => otherwise,
+    }
+}
+
+/// How many numbers a value has.
+pub(crate) fn count_in(value: &Entry) -> usize
+    ensures { result ≡ count_in (entry_view value.now) }
+{
+    match value {
+        Entry::Numbers { count, .. } => *count,
+        Entry::Absent | Entry::Number(_) | Entry::Other => 0,
+    }
+}
+
+/// The first numbers of a value, at most as many as its limit.
+pub(crate) fn first_in(limit: usize, value: &Entry) -> &[i64]
+    ensures { result.now ≡ first_in limit (entry_view value.now) }
+{
+    match value {
+        Entry::Numbers { first, .. } => {
+            let numbers = first.as_slice();
+            if limit < numbers.len() {
+                &numbers[..limit]
+            } else {
+                numbers
+            }
+        }
+        Entry::Absent | Entry::Number(_) | Entry::Other => &[],
+    }
+}
