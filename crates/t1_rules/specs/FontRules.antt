@@ -10,21 +10,21 @@ pub mod Zones
 use Rattle.std.specs.Prelude.{ℕ, ◌==◌, ◌&&◌, ◌||◌, Bool, false, not, List, [], ◌∷◌, map, if◌then◌else◌}
 use Rattle.std.specs.List.{list_any}
 use Rattle.t1_font.specs.declared.key.Key.{Key}
-use Rattle.t1_font.specs.declared.key.Key.TheVariants.{FontType, PaintType, UniqueId, PrivateUniqueId, Password, MinFeature}
+use Rattle.t1_font.specs.declared.key.Key.TheVariants.{FontType, PaintType, PrivateUniqueId, Password, MinFeature}
 use Rattle.t1_font.specs.Fonts.{FontValue}
 use Rattle.t1_font.specs.Values.{Value}
 use Rattle.t1_rules.specs.declared.rule.Rule.{Rule}
 use Rattle.t1_rules.specs.declared.rule.Rule.TheVariants.{F01, F02, F03, F04, F05, F06, F07, F08, F09, F10, F11, F12, F13, F14, Z01, Z02, Z03, Z04, Z05, Z06, Z07, Z08, Z09, Z10, Z11}
 use Rattle.t1_rules.specs.Book.{number_of}
 use Rattle.t1_rules.specs.Keys.{file_key, encoding_key, subrs_key, glyphs_key, key_number, value_at}
-use Rattle.t1_rules.specs.FontRules.Values.{is_the_number, is_sixteen_twice, first_in}
-use Rattle.t1_rules.specs.FontRules.Ids.{id_keys, is_past_range, differ}
+use Rattle.t1_rules.specs.FontRules.Values.{is_the_number, is_sixteen_twice}
+use Rattle.t1_rules.specs.FontRules.Ids.{id_keys, is_past_range, ids_differ}
 use Rattle.t1_rules.specs.FontRules.Glyphs.{not_defined, has_glyph, is_glyph_twice}
 use Rattle.t1_rules.specs.FontRules.Encoding.{is_no_form, encodes_missing}
 use Rattle.t1_rules.specs.FontRules.Subrs.{is_wrong_subr}
 use Rattle.t1_rules.specs.FontRules.Hints.{hint_keys, is_of_another_kind, numbers_at, has_too_many, falls_at}
-use Rattle.t1_rules.specs.FontRules.Zones.{low_zone_keys, zone_keys, high_of, has_odd_count, distance, scale, is_too_near, meets, is_too_high}
-use Rattle.t1_rules.specs.FontRules.Stems.{width_keys, snap_keys, width_of, is_not_one_width, is_not_among}
+use Rattle.t1_rules.specs.FontRules.Zones.{low_zone_keys, zone_keys, has_odd_count, distance, scale, is_too_near, comes_near_high, is_too_high}
+use Rattle.t1_rules.specs.FontRules.Stems.{width_keys, snap_keys, is_not_one_width, width_is_apart}
 
 -- What is broken at one key: whether a font breaks it there at an index.
 pub record KeyTest : Type 0 where
@@ -69,7 +69,7 @@ font_rules =
     -- A UniqueID is out of its range. Type 1 Font Format, chapter 2.
     ∷ row F05 (each_of id_keys (λ font k index. index == 0 && is_past_range (value_at font k)))
     -- The two UniqueIDs differ. Type 1 Font Format, chapter 5.
-    ∷ row F06 (once (key_number PrivateUniqueId) (λ font. differ (value_at font UniqueId) (value_at font PrivateUniqueId)))
+    ∷ row F06 (once (key_number PrivateUniqueId) ids_differ)
     -- The password isn't 5839. Type 1 Font Format, chapter 5.
     ∷ row F07 (value Password (λ v. not (is_the_number 5839 v)))
     -- MinFeature isn't {16 16}. Type 1 Font Format, chapter 5.
@@ -94,11 +94,11 @@ font_rules =
     ∷ row Z03 (each_of zone_keys (λ font k index. has_odd_count (value_at font k) index))
     -- A zone number is less than the one before it; the index is its place. Type 1 Font Format, chapter 5.
     ∷ row Z04 (each_of zone_keys (λ font k index. falls_at (numbers_at font k) index))
-    -- A zone is too near to the one before it; the index is the place of its lower edge. Type 1 Font Format, chapter 5.
+    -- A zone is too near to the one before it; its lower edge is the index. Type 1 Font Format, chapter 5.
     ∷ row Z05 (each_of zone_keys (λ font k index. is_too_near (distance font) (numbers_at font k) index))
-    -- A low zone is too near to a high one; the index is the place of its lower edge. Type 1 Font Format, chapter 5.
-    ∷ row Z06 (each_of low_zone_keys (λ font k index. meets (distance font) (numbers_at font k) (numbers_at font (high_of k)) index))
-    -- A zone is too high for BlueScale; the index is the place of its upper edge. Type 1 Font Format, chapter 5.
+    -- A low zone is too near to a high one; its lower edge is the index. Type 1 Font Format, chapter 5.
+    ∷ row Z06 (each_of low_zone_keys comes_near_high)
+    -- A zone is too high for BlueScale; its upper edge is the index. Type 1 Font Format, chapter 5.
     ∷ row Z07 (each_of zone_keys (λ font k index. is_too_high (scale font) (numbers_at font k) index))
     -- A standard width has none or several numbers. Type 1 Font Format, chapter 5.
     ∷ row Z08 (each_of width_keys (λ font k index. index == 0 && is_not_one_width (value_at font k)))
@@ -107,7 +107,7 @@ font_rules =
     -- A stem snap is less than the one before it; the index is its place. Type 1 Font Format, chapter 5.
     ∷ row Z10 (each_of snap_keys (λ font k index. falls_at (numbers_at font k) index))
     -- The first number of the standard width isn't one of the stem snaps. Type 1 Font Format, chapter 5.
-    ∷ row Z11 (each_of snap_keys (λ font k index. index == 0 && is_not_among (first_in 1 (value_at font (width_of k))) (numbers_at font k)))
+    ∷ row Z11 (each_of snap_keys (λ font k index. index == 0 && width_is_apart font k))
     ∷ []
 
 -- What the tests of a rule say at a key and an index; nothing at a key that none of them has.

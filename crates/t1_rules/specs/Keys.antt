@@ -1,6 +1,6 @@
 -- The keys that a font's faults stand at: their numbers, what they are called, and how many indexes each has.
--- Key 0 is the file, 4, 20 and 21 are entries of a form of their own, and the others are plain keys (Type 1 Font
--- Format, chapters 2 and 5).
+-- Key 0 is the file, 4, 20 and 21 are entries of a form of their own, and the others are plain keys (Type 1
+-- Font Format, chapters 2 and 5).
 use Rattle.std.specs.Prelude.{ℕ, ◌+◌, min, max, List, [], ◌∷◌, codes, length, slice_index_or}
 use Rattle.t1_font.specs.declared.key.Key.{Key}
 use Rattle.t1_font.specs.declared.key.Key.TheVariants.{FontType, PaintType, UniqueId, PrivateUniqueId, Password, MinFeature, LenIv, BlueValues, OtherBlues, FamilyBlues, FamilyOtherBlues, BlueScale, BlueShift, BlueFuzz, StdHw, StdVw, StemSnapH, StemSnapV}
@@ -89,8 +89,8 @@ subr_places (subr ∷ subrs) = max (min (subr.0 + 1) 65536) (subr_places subrs)
 abbrev pub glyph_places : FontValue → ℕ
 glyph_places font = max 1 (min (length font.glyphs) 65536)
 
--- How many indexes each key has, in the order of the keys: one index for what is said of an entry, the codes of an Encoding, a place for
--- each number of a list and one more, the Subrs and the glyphs.
+-- How many indexes each key has, in the order of the keys: one index for what is said of an entry, the codes
+-- of an Encoding, a place for each number of a list and one more, the Subrs and the glyphs.
 abbrev pub places_by_key : FontValue → List ℕ
 places_by_key font =
     1 ∷ 1 ∷ 1 ∷ 1 ∷ 256 ∷ 1 ∷ 1 ∷ 1 ∷ 0

@@ -102,7 +102,8 @@ pub enum Rule {
     H02,
     /// A stem has a width. Type 1 Font Format, chapter 6.
     H03,
-    /// The outer stems of three are equally wide and equally far from the middle one. Type 1 Font Format, chapter 6.
+    /// The outer stems of three are equally wide and equally far from the middle one. Type 1 Font Format,
+    /// chapter 6.
     H04,
     /// `pop` follows hint replacement. Type 1 Font Format, chapter 8.
     R01,

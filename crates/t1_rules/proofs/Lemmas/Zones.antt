@@ -4,7 +4,7 @@ use Rattle.std.proofs.Math.Bool.{and_comm, and-false}
 use Rattle.std.proofs.Math.Nat.{eq-or-lt_of_le}
 use Rattle.std.proofs.lemmas.Bool.{cases_lt, le-ltb, lt-ltb, eq-eqb}
 use Rattle.std.specs.Int.Signed.{lt_z_no, ≤ℤ_refl}
-use Rattle.t1_rules.specs.FontRules.Values.{billion, whole}
+use Rattle.t1_rules.specs.FontRules.Values.{product_one}
 use Rattle.t1_rules.specs.FontRules.Hints.{at, falls_at}
 use Rattle.t1_rules.specs.FontRules.Zones.{Zone, zones, come_near, is_too_near, meets, is_too_high}
 use Rattle.t1_rules.specs.Laws.Zones.{IsRising, ZoneAt}
@@ -134,9 +134,9 @@ meets_one d v others j z is =
     rw (begins, ends) (ap (λ zone. list_any (come_near d zone) (zones others)) (sym (edges v j z is)))
 
 pub reaches_one : (s : ℤ) (v : List ℤ) (j : ℕ) (z : Zone) → ZoneAt v j z →
-    is_too_high s v (2 * j + 1) ≡ int_le (whole billion) ((z.upper -ℤ z.lower) *ℤ s)
+    is_too_high s v (2 * j + 1) ≡ int_le product_one ((z.upper -ℤ z.lower) *ℤ s)
 reaches_one s v j z is =
     let is_odd : ((2 * j + 1) % 2 == 1) ≡ true = eq-eqb ((2 * j + 1) % 2) 1 (odd j) in
     let ends : nat_lt (2 * j + 1) (length v) ≡ true = lt-ltb (2 * j + 1) (length v) (there v j z is) in
     let one_less : 2 * j + 1 - 1 ≡ 2 * j = omega arith in
-    rw (is_odd, ends, one_less) (ap (λ zone. int_le (whole billion) ((zone.upper -ℤ zone.lower) *ℤ s)) (sym (edges v j z is)))
+    rw (is_odd, ends, one_less) (ap (λ zone. int_le product_one ((zone.upper -ℤ zone.lower) *ℤ s)) (sym (edges v j z is)))

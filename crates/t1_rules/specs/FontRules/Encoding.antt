@@ -28,4 +28,5 @@ is_missing font (Some name) = not (same_name name not_defined) && not (has_glyph
 
 -- A custom Encoding gives the code a name that no glyph has; codes are below 256.
 abbrev pub encodes_missing : FontValue → ℕ → Bool
-encodes_missing font code = nat_lt code 256 && is_custom font.encoding && is_missing font (lookup (nat_eq code) font.codes)
+encodes_missing font code =
+    nat_lt code 256 && is_custom font.encoding && is_missing font (lookup (nat_eq code) font.codes)

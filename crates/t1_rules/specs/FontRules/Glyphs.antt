@@ -15,4 +15,5 @@ has_glyph font name = list_any (λ glyph. same_name name glyph.0) font.glyphs
 
 -- The glyph of a number is given twice; indexes are below 65,536.
 abbrev pub is_glyph_twice : FontValue → ℕ → Bool
-is_glyph_twice font glyph = nat_lt glyph 65536 && nat_lt glyph (length font.glyphs) && flag_of (slice_get font.glyphs_twice glyph)
+is_glyph_twice font glyph =
+    nat_lt glyph 65536 && nat_lt glyph (length font.glyphs) && flag_of (slice_get font.glyphs_twice glyph)

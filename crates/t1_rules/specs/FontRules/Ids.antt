@@ -3,7 +3,9 @@ use Rattle.std.specs.Prelude.{ℕ, ◌*◌, ◌%◌, ◌==◌, ◌&&◌, Bool, f
 use Rattle.std.specs.Ordering.{int_eq}
 use Rattle.t1_font.specs.declared.key.Key.{Key}
 use Rattle.t1_font.specs.declared.key.Key.TheVariants.{UniqueId, PrivateUniqueId}
+use Rattle.t1_font.specs.Fonts.{FontValue}
 use Rattle.t1_font.specs.Values.{Value, absent, number, numbers, other}
+use Rattle.t1_rules.specs.Keys.{value_at}
 use Rattle.t1_rules.specs.FontRules.Values.{billion, is_absent}
 
 -- The two UniqueIDs, that of the clear text and that of the Private dictionary.
@@ -30,3 +32,7 @@ is_past_range value = not (is_absent value) && not (is_whole_number_to 16777215 
 abbrev pub differ : Value → Value → Bool
 differ (number a) (number b) = not (int_eq a b)
 differ _ _ = false
+
+-- The two UniqueIDs are numbers that differ.
+abbrev pub ids_differ : FontValue → Bool
+ids_differ font = differ (value_at font UniqueId) (value_at font PrivateUniqueId)

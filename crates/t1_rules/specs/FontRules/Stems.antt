@@ -4,8 +4,11 @@ use Rattle.std.specs.List.{list_any}
 use Rattle.std.specs.Ordering.{int_eq}
 use Rattle.t1_font.specs.declared.key.Key.{Key}
 use Rattle.t1_font.specs.declared.key.Key.TheVariants.{StdHw, StdVw, StemSnapH, StemSnapV}
+use Rattle.t1_font.specs.Fonts.{FontValue}
 use Rattle.t1_font.specs.Values.{Value}
-use Rattle.t1_rules.specs.FontRules.Values.{is_numbers, count_in}
+use Rattle.t1_rules.specs.Keys.{value_at}
+use Rattle.t1_rules.specs.FontRules.Values.{is_numbers, count_in, first_in}
+use Rattle.t1_rules.specs.FontRules.Hints.{numbers_at}
 
 -- The standard widths.
 abbrev pub width_keys : List Key
@@ -30,3 +33,7 @@ abbrev pub is_not_among : List ℤ → List ℤ → Bool
 is_not_among [] snaps = false
 is_not_among (width ∷ widths) [] = false
 is_not_among (width ∷ widths) (snap ∷ snaps) = not (list_any (int_eq width) (snap ∷ snaps))
+
+-- The first number of the standard width isn't one of the snaps beside it.
+abbrev pub width_is_apart : FontValue → Key → Bool
+width_is_apart font k = is_not_among (first_in 1 (value_at font (width_of k))) (numbers_at font k)

@@ -4,7 +4,8 @@ use Rattle.std.specs.Map.{lookup}
 use Rattle.std.specs.Option.{unwrap_or}
 use Rattle.t1_font.specs.Fonts.{FontValue}
 
--- A Subr that is there is given twice, or its number isn't below the size of the array; indexes are below 65,536.
+-- A Subr that is there is given twice, or its number isn't below the size of the array. Indexes are below
+-- 65,536.
 abbrev pub is_wrong_subr : FontValue → ℕ → Bool
 is_wrong_subr font n =
     nat_lt n 65536 && is_some (lookup (nat_eq n) font.subrs)

@@ -7,6 +7,10 @@ use Rattle.t1_font.specs.Values.{Value, absent, number, numbers, other}
 abbrev pub billion : ℕ
 billion = 1000000000
 
+-- One, in the unit of a product of two numbers.
+abbrev pub product_one : ℤ
+product_one = pos (billion * billion)
+
 -- A whole number in billionths.
 abbrev pub whole : ℕ → ℤ
 whole n = pos (n * billion)

@@ -6,8 +6,8 @@ use Rattle.t1_font.specs.declared.key.Key.TheVariants.{BlueValues, OtherBlues, F
 use Rattle.t1_font.specs.Fonts.{FontValue}
 use Rattle.t1_font.specs.Values.{Value}
 use Rattle.t1_rules.specs.Keys.{value_at}
-use Rattle.t1_rules.specs.FontRules.Values.{billion, whole, number_or, count_in}
-use Rattle.t1_rules.specs.FontRules.Hints.{at}
+use Rattle.t1_rules.specs.FontRules.Values.{product_one, whole, number_or, count_in}
+use Rattle.t1_rules.specs.FontRules.Hints.{at, numbers_at}
 
 -- The lists of zones.
 abbrev pub zone_keys : List Key
@@ -59,8 +59,16 @@ come_near d z w = int_lt (w.lower -ℤ z.upper) d && int_lt (z.lower -ℤ w.uppe
 
 -- A zone that begins here comes near to one of the other list.
 abbrev pub meets : ℤ → List ℤ → List ℤ → ℕ → Bool
-meets d v others index = begins_zone v index && list_any (come_near d (record { lower = at v index; upper = at v (index + 1) })) (zones others)
+meets d v others index =
+    begins_zone v index
+    && list_any (come_near d (record { lower = at v index; upper = at v (index + 1) })) (zones others)
+
+-- A low zone that begins here comes near to a high one.
+abbrev pub comes_near_high : FontValue → Key → ℕ → Bool
+comes_near_high font k index = meets (distance font) (numbers_at font k) (numbers_at font (high_of k)) index
 
 -- The height of the zone that ends here, times BlueScale, is 1 or more.
 abbrev pub is_too_high : ℤ → List ℤ → ℕ → Bool
-is_too_high s v index = index % 2 == 1 && nat_lt index (length v) && int_le (whole billion) ((at v index -ℤ at v (index - 1)) *ℤ s)
+is_too_high s v index =
+    index % 2 == 1 && nat_lt index (length v)
+    && int_le product_one ((at v index -ℤ at v (index - 1)) *ℤ s)

@@ -1,7 +1,7 @@
 -- Laws of lists of numbers and of zones.
 use Rattle.std.specs.Prelude.{◌≡◌, ℕ, suc, int_lt, int_le, ◌*ℤ◌, ◌+◌, ◌*◌, ◌<◌, ◌≤◌, ◌⊎◌, ◌↔◌, false, ℤ, ◌-ℤ◌, ◌≤ℤ◌, Some, None, List, length, slice_get}
 use Rattle.std.specs.List.{AllPairs, list_any}
-use Rattle.t1_rules.specs.FontRules.Values.{billion, whole}
+use Rattle.t1_rules.specs.FontRules.Values.{product_one}
 use Rattle.t1_rules.specs.FontRules.Hints.{at, falls_at}
 use Rattle.t1_rules.specs.FontRules.Zones.{Zone, zones, come_near, is_too_near, meets, is_too_high}
 
@@ -16,7 +16,8 @@ ListsRiseWhereNoneFalls = (v : List ℤ) → ((index : ℕ) → falls_at v index
 -- Zone j is the numbers 2j and 2j + 1, where both are there.
 abbrev pub ZonesArePairs : Type 0
 ZonesArePairs =
-    (v : List ℤ) (j : ℕ) → 2 * j + 1 < length v → slice_get (zones v) j ≡ Some (record { lower = at v (2 * j); upper = at v (2 * j + 1) })
+    (v : List ℤ) (j : ℕ) → 2 * j + 1 < length v →
+    slice_get (zones v) j ≡ Some (record { lower = at v (2 * j); upper = at v (2 * j + 1) })
 
 -- There is no other zone.
 abbrev pub NoZoneIsPastPairs : Type 0
@@ -35,18 +36,20 @@ ZonesAreNearTheOneBefore =
 -- At the lower edge of a zone: it comes near to a zone of the other list.
 abbrev pub ZonesMeetOneOfTheOthers : Type 0
 ZonesMeetOneOfTheOthers =
-    (d : ℤ) (v others : List ℤ) (j : ℕ) (z : Zone) → ZoneAt v j z → meets d v others (2 * j) ≡ list_any (come_near d z) (zones others)
+    (d : ℤ) (v others : List ℤ) (j : ℕ) (z : Zone) → ZoneAt v j z →
+    meets d v others (2 * j) ≡ list_any (come_near d z) (zones others)
 
 -- At the upper edge of a zone: its height times BlueScale is 1 or more.
 abbrev pub ZonesReachOne : Type 0
 ZonesReachOne =
     (s : ℤ) (v : List ℤ) (j : ℕ) (z : Zone) → ZoneAt v j z →
-    is_too_high s v (2 * j + 1) ≡ int_le (whole billion) ((z.upper -ℤ z.lower) *ℤ s)
+    is_too_high s v (2 * j + 1) ≡ int_le product_one ((z.upper -ℤ z.lower) *ℤ s)
 
 -- Two zones are apart where one lies the distance, or more, above the other.
 abbrev pub ZonesAreApartWhereOneIsAbove : Type 0
 ZonesAreApartWhereOneIsAbove =
-    (d : ℤ) (z w : Zone) → (come_near d z w ≡ false) ↔ ((d ≤ℤ (w.lower -ℤ z.upper)) ⊎ (d ≤ℤ (z.lower -ℤ w.upper)))
+    (d : ℤ) (z w : Zone) → (come_near d z w ≡ false)
+    ↔ ((d ≤ℤ (w.lower -ℤ z.upper)) ⊎ (d ≤ℤ (z.lower -ℤ w.upper)))
 
 -- It is the same whichever zone is looked at first.
 abbrev pub ZonesAreNearBothWays : Type 0

@@ -34,7 +34,8 @@ high_zone_tests font k index = zone_tests font k false index
 
 -- Of a list of low zones, beside the high ones that they must not meet.
 abbrev pub low_zone_tests : FontValue → Key → Key → ℕ → List (Rule × Bool)
-low_zone_tests font low high index = zone_tests font low (meets (distance font) (numbers_at font low) (numbers_at font high) index) index
+low_zone_tests font low high index =
+    zone_tests font low (meets (distance font) (numbers_at font low) (numbers_at font high) index) index
 
 -- Of an entry that is a number.
 abbrev pub number_tests : FontValue → Key → ℕ → List (Rule × Bool)

@@ -59,10 +59,8 @@ pub(crate) fn private_unique_id_faults(font: &Font<'_>, index: u32) -> Mask
     ensures { (n : ℕ) → has result n ≡ violated font_rules n font.now (key_number keys.PrivateUniqueId) index }
 {
     let id = font.entry(Key::PrivateUniqueId);
+    let other = font.entry(Key::UniqueId);
     Mask::empty()
-        .with(
-            Rule::F06,
-            (index == 0) & differ(&font.entry(Key::UniqueId), &id),
-        )
+        .with(Rule::F06, (index == 0) & differ(&other, &id))
         .with(Rule::F05, (index == 0) & is_past_range(&id))
 }

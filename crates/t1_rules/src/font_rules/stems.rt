@@ -49,11 +49,9 @@ pub(crate) fn snap_faults(font: &Font<'_>, key: Key, width: Key, index: u32) -> 
     let value = font.entry(key);
     let snaps = first_in(limit(key), &value);
     let width = font.entry(width);
+    let widths = first_in(1, &width);
     Mask::empty()
-        .with(
-            Rule::Z11,
-            (index == 0) & is_not_among(first_in(1, &width), snaps),
-        )
+        .with(Rule::Z11, (index == 0) & is_not_among(widths, snaps))
         .with(Rule::Z10, falls_at(snaps, index as usize))
         .with(Rule::Z09, has_too_many(key, &value, index))
         .with(Rule::Z01, is_of_another_kind(key, &value, index))

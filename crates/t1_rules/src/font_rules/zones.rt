@@ -1,10 +1,10 @@
-//! The rules on alignment zones: Type 1 Font Format 1.1, chapter 5. A zone is a pair of numbers, its lower and
-//! its upper edge. Numbers are in units of 10^-9.
+//! The rules on alignment zones: Type 1 Font Format 1.1, chapter 5. A zone is a pair of numbers, its lower
+//! and its upper edge. Numbers are in units of 10^-9.
 
 ghost use Rattle.std.specs.Prelude.{◌≡◌, ℕ, ◌*ℤ◌, ◌-ℤ◌, int_le};
 ghost use Rattle.std.specs.List.{list_any};
 ghost use Rattle.t1_font.specs.Entries.{entry_view};
-ghost use Rattle.t1_rules.specs.FontRules.Values.{billion, whole};
+ghost use Rattle.t1_rules.specs.FontRules.Values.{product_one};
 ghost use Rattle.t1_rules.specs.FontRules.Zones.{begins_zone, come_near, distance, has_odd_count, is_too_high, is_too_near, meets, scale, zones};
 ghost use Rattle.t1_rules.specs.Mask.{has};
 ghost use Rattle.t1_rules.specs.Words.Edges.{zone_of};
@@ -107,7 +107,7 @@ fn meets(font: &Font<'_>, numbers: &[i64], others: &[i64], index: usize) -> bool
 
 /// Whether a height times BlueScale is 1 or more.
 fn reaches_one(lower: i64, upper: i64, scale: i64) -> bool
-    ensures { result ≡ int_le (whole billion) ((upper -ℤ lower) *ℤ scale) }
+    ensures { result ≡ int_le product_one ((upper -ℤ lower) *ℤ scale) }
 {
     PRODUCT_ONE <= difference(upper, lower) * i128::from(scale)
 }
