@@ -20,9 +20,6 @@ use Rattle.t1_rules.specs.Keys.{subr_places, glyph_places, places_of, places_by_
 use Rattle.t1_rules.proofs.Lemmas.Book.{both}
 use Rattle.t1_rules.proofs.Lemmas.FontRules.{past_last}
 
-not_less : (m n : ℕ) → n ≤ m → nat_lt m n ≡ false
-not_less m n le = le-ltb m n le
-
 differs : (m n : ℕ) → n < m → (m == n) ≡ false
 differs m n less = ne_eqb m n (λ e. omega arith)
 
@@ -33,16 +30,16 @@ within limit (numbers count first) = let taken = length-take limit first in omeg
 within limit other = omega arith
 
 pub falls_past : (v : List ℤ) (index : ℕ) → length v ≤ index → falls_at v index ≡ false
-falls_past v index past = rw (not_less index (length v) past, and-false (nat_lt 0 index)) refl
+falls_past v index past = rw (le-ltb index (length v) past, and-false (nat_lt 0 index)) refl
 
 pub near_past : (d : ℤ) (v : List ℤ) (index : ℕ) → length v ≤ index → is_too_near d v index ≡ false
-near_past d v index past = rw (not_less (index + 1) (length v) (omega arith), and-false (index % 2 == 0), and-false (nat_lt 0 index)) refl
+near_past d v index past = rw (le-ltb (index + 1) (length v) (omega arith), and-false (index % 2 == 0), and-false (nat_lt 0 index)) refl
 
 pub meets_past : (d : ℤ) (v others : List ℤ) (index : ℕ) → length v ≤ index → meets d v others index ≡ false
-meets_past d v others index past = rw (not_less (index + 1) (length v) (omega arith), and-false (index % 2 == 0)) refl
+meets_past d v others index past = rw (le-ltb (index + 1) (length v) (omega arith), and-false (index % 2 == 0)) refl
 
 pub high_past : (s : ℤ) (v : List ℤ) (index : ℕ) → length v ≤ index → is_too_high s v index ≡ false
-high_past s v index past = rw (not_less index (length v) past, and-false (index % 2 == 1)) refl
+high_past s v index past = rw (le-ltb index (length v) past, and-false (index % 2 == 1)) refl
 
 lookup_past : (subrs : List (ℕ × List ℕ)) (index : ℕ) → index < 65536 → subr_places subrs ≤ index → lookup (nat_eq index) subrs ≡ None
 lookup_past [] index small past = refl
@@ -63,7 +60,7 @@ glyph_twice_past font index past = go (nat_lt index 65536) refl
     go : (b : Bool) → nat_lt index 65536 ≡ b → is_glyph_twice font index ≡ false
     go true e =
         let small = ltb-true index 65536 e in
-        rw (not_less index (length font.glyphs) (omega arith), and-false (nat_lt index 65536)) refl
+        rw (le-ltb index (length font.glyphs) (omega arith), and-false (nat_lt index 65536)) refl
     go false e = rw e refl
 
 -- The rules that are said of an entry as a whole stand at index 0.
@@ -73,7 +70,7 @@ past_places font zero index past n = rw (differs index 0 past) refl
 past_places font (suc zero) index past n = rw (differs index 0 past) refl
 past_places font (suc (suc zero)) index past n = rw (differs index 0 past) refl
 past_places font (suc (suc (suc zero))) index past n = rw (differs index 0 past) refl
-past_places font (suc (suc (suc (suc zero)))) index past n = rw (differs index 0 (omega arith), not_less index 256 past) refl
+past_places font (suc (suc (suc (suc zero)))) index past n = rw (differs index 0 (omega arith), le-ltb index 256 past) refl
 past_places font (suc (suc (suc (suc (suc zero))))) index past n = rw (differs index 0 past) refl
 past_places font (suc (suc (suc (suc (suc (suc zero)))))) index past n = rw (differs index 0 past) refl
 past_places font (suc (suc (suc (suc (suc (suc (suc zero))))))) index past n = rw (differs index 0 past) refl
