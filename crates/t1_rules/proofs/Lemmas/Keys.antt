@@ -8,15 +8,13 @@ use Rattle.std.specs.List.{list_all}
 use Rattle.t1_font.specs.Fonts.{FontValue}
 use Rattle.t1_font.specs.Values.{Value, absent, number, numbers, other}
 use Rattle.t1_font.specs.declared.key.Key.TheVariants as keys
-use Rattle.t1_rules.specs.Keys.{value_at}
+use Rattle.t1_rules.specs.Keys.{value_at, subr_places, glyph_places, places_of, places_by_key}
 use Rattle.t1_rules.specs.FontRules.Values.{first_in}
-use Rattle.t1_rules.specs.FontRules.Hints.{falls_at}
-use Rattle.t1_rules.specs.FontRules.Hints.{numbers_at}
+use Rattle.t1_rules.specs.FontRules.Hints.{falls_at, numbers_at}
 use Rattle.t1_rules.specs.FontRules.Zones.{distance, scale, is_too_near, meets, is_too_high}
 use Rattle.t1_rules.specs.FontRules.Subrs.{is_wrong_subr}
 use Rattle.t1_rules.specs.FontRules.Glyphs.{is_glyph_twice}
 use Rattle.t1_rules.specs.FontRules.{font_rules, violated}
-use Rattle.t1_rules.specs.Keys.{subr_places, glyph_places, places_of, places_by_key}
 use Rattle.t1_rules.proofs.Lemmas.Book.{both}
 use Rattle.t1_rules.proofs.Lemmas.FontRules.{past_last}
 

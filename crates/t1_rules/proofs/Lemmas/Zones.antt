@@ -7,8 +7,8 @@ use Rattle.std.specs.Int.Signed.{lt_z_no, ≤ℤ_refl}
 use Rattle.t1_rules.specs.FontRules.Values.{product_one}
 use Rattle.t1_rules.specs.FontRules.Hints.{at, falls_at}
 use Rattle.t1_rules.specs.FontRules.Zones.{Zone, zones, come_near, is_too_near, meets, is_too_high}
-use Rattle.t1_rules.specs.Laws.Zones.{IsRising, ZoneAt}
-use Rattle.std.specs.List.{list_any}
+use Rattle.t1_rules.specs.Laws.Zones.{ZoneAt}
+use Rattle.std.specs.List.{AllPairs, list_any}
 use Rattle.std.proofs.Math.Seq.{take-length}
 
 pub near_both_ways : (d : ℤ) (z w : Zone) → come_near d z w ≡ come_near d w z
@@ -79,11 +79,11 @@ default_past [] i d less = absurd (omega arith)
 default_past (x ∷ v) zero d less = refl
 default_past (x ∷ v) (suc i) d less = default_past v i d (omega arith)
 
-pub rising_where_none_falls : (v : List ℤ) → ((index : ℕ) → falls_at v index ≡ false) → IsRising v
+pub rising_where_none_falls : (v : List ℤ) → ((index : ℕ) → falls_at v index ≡ false) → AllPairs ◌≤ℤ◌ v
 rising_where_none_falls v none i j d before less =
     rw (default_past v i d (omega arith), default_past v j d less) (rises v none i j (omega arith) less)
 
-pub falls_nowhere : (v : List ℤ) → IsRising v → (index : ℕ) → falls_at v index ≡ false
+pub falls_nowhere : (v : List ℤ) → AllPairs ◌≤ℤ◌ v → (index : ℕ) → falls_at v index ≡ false
 falls_nowhere v rising zero = refl
 falls_nowhere v rising (suc j) = elim (cases_lt (suc j) (length v)) [
   | inl less ↦

@@ -5,13 +5,9 @@ use Rattle.t1_rules.specs.FontRules.Values.{product_one}
 use Rattle.t1_rules.specs.FontRules.Hints.{at, falls_at}
 use Rattle.t1_rules.specs.FontRules.Zones.{Zone, zones, come_near, is_too_near, meets, is_too_high}
 
--- No number of a list is less than one before it.
-abbrev pub IsRising : List ℤ → Type 0
-IsRising v = AllPairs (λ x y. x ≤ℤ y) v
-
--- Where no number falls behind the one before it, the list rises, and only there.
+-- Where no number falls behind the one before it, none is less than any before it; and only there.
 abbrev pub ListsRiseWhereNoneFalls : Type 0
-ListsRiseWhereNoneFalls = (v : List ℤ) → ((index : ℕ) → falls_at v index ≡ false) ↔ IsRising v
+ListsRiseWhereNoneFalls = (v : List ℤ) → ((index : ℕ) → falls_at v index ≡ false) ↔ AllPairs ◌≤ℤ◌ v
 
 -- Zone j is the numbers 2j and 2j + 1, where both are there.
 abbrev pub ZonesArePairs : Type 0

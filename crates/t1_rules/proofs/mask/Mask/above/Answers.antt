@@ -1,7 +1,6 @@
 use Rattle.std.proofs.Common.{◌<◌, ◌+◌, ◌^◌, arith, rules}
 use Rattle.t1_rules.proofs.mask.Mask.above.Goals as goal
-use Rattle.t1_rules.proofs.Lemmas.Mask.{none_from}
-use Rattle.t1_rules.proofs.Lemmas.Mask.{found_above}
+use Rattle.t1_rules.proofs.Lemmas.Mask.{none_from, found_above}
 
 pub returns-then-after-eq0 : goal.returns-then-after-eq0
 returns-then-after-eq0 c = λ n above last. none_from c.args.self.bits (c.args.floor + 1) c.if-after-eq0.true n (omega arith)
