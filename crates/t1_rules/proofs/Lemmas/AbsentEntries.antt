@@ -10,9 +10,9 @@ use Rattle.t1_rules.specs.Keys.{key_number, value_at}
 use Rattle.t1_rules.specs.FontRules.Values.{first_in}
 use Rattle.t1_rules.specs.FontRules.Hints.{numbers_at}
 use Rattle.t1_rules.specs.FontRules.Stems.{is_not_among}
-use Rattle.t1_rules.specs.FontRules.Zones.{distance, scale}
+use Rattle.t1_rules.specs.FontRules.Zones.{distance}
 use Rattle.t1_rules.specs.FontRules.{font_rules, violated}
-use Rattle.t1_rules.proofs.Lemmas.Keys.{falls_past, near_past, meets_past, high_past}
+use Rattle.t1_rules.proofs.Lemmas.Keys.{falls_past, meets_past, zones_past}
 
 before : (m n : ℕ) → m < 15 → 15 ≤ n → (m == n) ≡ false
 before m n less past = ne_eqb m n (λ e. omega arith)
@@ -30,14 +30,28 @@ absent_is_fine font PrivateUniqueId index n none past = simp (before 5 n (lit< t
 absent_is_fine font Password index n none past = simp (before 7 n (lit< tt) past, and-false) refl
 absent_is_fine font MinFeature index n none past = simp (before 8 n (lit< tt) past, and-false) refl
 absent_is_fine font LenIv index n none past = refl
-absent_is_fine font BlueValues index n none past = rw (none, and-false (index == 0), and-false (index == 14), falls_past [] index (omega arith), near_past (distance font) [] index (omega arith), high_past (scale font) [] index (omega arith)) refl
-absent_is_fine font OtherBlues index n none past = rw (none, and-false (index == 0), and-false (index == 10), falls_past [] index (omega arith), near_past (distance font) [] index (omega arith), meets_past (distance font) [] (numbers_at font BlueValues) index (omega arith), high_past (scale font) [] index (omega arith)) refl
-absent_is_fine font FamilyBlues index n none past = rw (none, and-false (index == 0), and-false (index == 14), falls_past [] index (omega arith), near_past (distance font) [] index (omega arith), high_past (scale font) [] index (omega arith)) refl
-absent_is_fine font FamilyOtherBlues index n none past = rw (none, and-false (index == 0), and-false (index == 10), falls_past [] index (omega arith), near_past (distance font) [] index (omega arith), meets_past (distance font) [] (numbers_at font FamilyBlues) index (omega arith), high_past (scale font) [] index (omega arith)) refl
+absent_is_fine font BlueValues index n none past =
+    let zones = zones_past font [] index (omega arith) in
+    rw (none, and-false (index == 0), and-false (index == 14), zones.0, zones.1, zones.2) refl
+absent_is_fine font OtherBlues index n none past =
+    let zones = zones_past font [] index (omega arith) in
+    let meeting = meets_past (distance font) [] (numbers_at font BlueValues) index (omega arith) in
+    rw (none, and-false (index == 0), and-false (index == 10), zones.0, zones.1, zones.2, meeting) refl
+absent_is_fine font FamilyBlues index n none past =
+    let zones = zones_past font [] index (omega arith) in
+    rw (none, and-false (index == 0), and-false (index == 14), zones.0, zones.1, zones.2) refl
+absent_is_fine font FamilyOtherBlues index n none past =
+    let zones = zones_past font [] index (omega arith) in
+    let meeting = meets_past (distance font) [] (numbers_at font FamilyBlues) index (omega arith) in
+    rw (none, and-false (index == 0), and-false (index == 10), zones.0, zones.1, zones.2, meeting) refl
 absent_is_fine font BlueScale index n none past = rw (none, and-false (index == 0)) refl
 absent_is_fine font BlueShift index n none past = rw (none, and-false (index == 0)) refl
 absent_is_fine font BlueFuzz index n none past = rw (none, and-false (index == 0)) refl
 absent_is_fine font StdHw index n none past = rw (none, and-false (index == 0)) refl
 absent_is_fine font StdVw index n none past = rw (none, and-false (index == 0)) refl
-absent_is_fine font StemSnapH index n none past = rw (none, not_among_none (first_in 1 (value_at font StdHw)), and-false (index == 0), and-false (index == 12), falls_past [] index (omega arith)) refl
-absent_is_fine font StemSnapV index n none past = rw (none, not_among_none (first_in 1 (value_at font StdVw)), and-false (index == 0), and-false (index == 12), falls_past [] index (omega arith)) refl
+absent_is_fine font StemSnapH index n none past =
+    let among = not_among_none (first_in 1 (value_at font StdHw)) in
+    rw (none, among, and-false (index == 0), and-false (index == 12), falls_past [] index (omega arith)) refl
+absent_is_fine font StemSnapV index n none past =
+    let among = not_among_none (first_in 1 (value_at font StdVw)) in
+    rw (none, among, and-false (index == 0), and-false (index == 12), falls_past [] index (omega arith)) refl

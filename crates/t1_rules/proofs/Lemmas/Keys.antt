@@ -39,6 +39,12 @@ meets_past d v others index past = rw (le-ltb (index + 1) (length v) (omega arit
 pub high_past : (s : ℤ) (v : List ℤ) (index : ℕ) → length v ≤ index → is_too_high s v index ≡ false
 high_past s v index past = rw (le-ltb index (length v) past, and-false (index % 2 == 1)) refl
 
+-- The numbers of a list of zones say nothing past their last place.
+pub zones_past : (font : FontValue) (v : List ℤ) (index : ℕ) → length v ≤ index →
+    (falls_at v index ≡ false) × (is_too_near (distance font) v index ≡ false) × (is_too_high (scale font) v index ≡ false)
+zones_past font v index past =
+    (falls_past v index past, near_past (distance font) v index past, high_past (scale font) v index past)
+
 lookup_past : (subrs : List (ℕ × List ℕ)) (index : ℕ) → index < 65536 → subr_places subrs ≤ index → lookup (nat_eq index) subrs ≡ None
 lookup_past [] index small past = refl
 lookup_past (subr ∷ subrs) index small past =
@@ -75,20 +81,24 @@ past_places font (suc (suc (suc (suc (suc (suc (suc zero))))))) index past n = r
 past_places font (suc (suc (suc (suc (suc (suc (suc (suc zero)))))))) index past n = refl
 past_places font (suc (suc (suc (suc (suc (suc (suc (suc (suc zero))))))))) index past n =
     let few = within 14 (value_at font keys.BlueValues) in
-    let v = numbers_at font keys.BlueValues in
-    rw (differs index 0 (omega arith), differs index 14 past, falls_past v index (omega arith), near_past (distance font) v index (omega arith), high_past (scale font) v index (omega arith)) refl
+    let zones = zones_past font (numbers_at font keys.BlueValues) index (omega arith) in
+    rw (differs index 0 (omega arith), differs index 14 past, zones.0, zones.1, zones.2) refl
 past_places font (suc (suc (suc (suc (suc (suc (suc (suc (suc (suc zero)))))))))) index past n =
     let few = within 10 (value_at font keys.OtherBlues) in
-    let v = numbers_at font keys.OtherBlues in
-    rw (differs index 0 (omega arith), differs index 10 past, falls_past v index (omega arith), near_past (distance font) v index (omega arith), meets_past (distance font) v (numbers_at font keys.BlueValues) index (omega arith), high_past (scale font) v index (omega arith)) refl
+    let zones = zones_past font (numbers_at font keys.OtherBlues) index (omega arith) in
+    let meeting =
+    meets_past (distance font) (numbers_at font keys.OtherBlues) (numbers_at font keys.BlueValues) index (omega arith) in
+    rw (differs index 0 (omega arith), differs index 10 past, zones.0, zones.1, zones.2, meeting) refl
 past_places font (suc (suc (suc (suc (suc (suc (suc (suc (suc (suc (suc zero))))))))))) index past n =
     let few = within 14 (value_at font keys.FamilyBlues) in
-    let v = numbers_at font keys.FamilyBlues in
-    rw (differs index 0 (omega arith), differs index 14 past, falls_past v index (omega arith), near_past (distance font) v index (omega arith), high_past (scale font) v index (omega arith)) refl
+    let zones = zones_past font (numbers_at font keys.FamilyBlues) index (omega arith) in
+    rw (differs index 0 (omega arith), differs index 14 past, zones.0, zones.1, zones.2) refl
 past_places font (suc (suc (suc (suc (suc (suc (suc (suc (suc (suc (suc (suc zero)))))))))))) index past n =
     let few = within 10 (value_at font keys.FamilyOtherBlues) in
-    let v = numbers_at font keys.FamilyOtherBlues in
-    rw (differs index 0 (omega arith), differs index 10 past, falls_past v index (omega arith), near_past (distance font) v index (omega arith), meets_past (distance font) v (numbers_at font keys.FamilyBlues) index (omega arith), high_past (scale font) v index (omega arith)) refl
+    let zones = zones_past font (numbers_at font keys.FamilyOtherBlues) index (omega arith) in
+    let meeting =
+    meets_past (distance font) (numbers_at font keys.FamilyOtherBlues) (numbers_at font keys.FamilyBlues) index (omega arith) in
+    rw (differs index 0 (omega arith), differs index 10 past, zones.0, zones.1, zones.2, meeting) refl
 past_places font (suc (suc (suc (suc (suc (suc (suc (suc (suc (suc (suc (suc (suc zero))))))))))))) index past n = rw (differs index 0 past) refl
 past_places font (suc (suc (suc (suc (suc (suc (suc (suc (suc (suc (suc (suc (suc (suc zero)))))))))))))) index past n = rw (differs index 0 past) refl
 past_places font (suc (suc (suc (suc (suc (suc (suc (suc (suc (suc (suc (suc (suc (suc (suc zero))))))))))))))) index past n = rw (differs index 0 past) refl
