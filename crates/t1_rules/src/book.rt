@@ -112,7 +112,7 @@ pub fn rule_text(rule: Rule) -> &'static str
 }
 
 /// The rule of a number, if there is one.
-pub(crate) fn numbered(number: u8) -> Option<Rule>
+pub(crate) fn rule_of(number: u8) -> Option<Rule>
     ensures some { IfSome result (λ rule. number_of rule ≡ number) }
     ensures none { IfNone result ((number ≡ 0) ⊎ (last_number < number)) }
 {

@@ -1,10 +1,10 @@
 //! Sets of rules.
 
-ghost use Rattle.std.specs.Prelude.{◌≡◌, ℕ, ◌==◌, ◌&&◌, ◌||◌, ◌↔◌, IsTrue, MatchOption, false};
+ghost use Rattle.std.specs.Prelude.{◌≡◌, ℕ, ◌==◌, ◌&&◌, ◌||◌, MatchOption, false};
 ghost use Rattle.t1_rules.specs.Mask.{HasNoneAbove, IsLeastAbove, has};
 ghost use Rattle.t1_rules.specs.Book.{number_of};
 
-use crate::book::numbered;
+use crate::book::rule_of;
 use crate::rule::Rule;
 
 /// A set of rules.
@@ -58,6 +58,6 @@ impl Mask {
         if after == 0 {
             return None;
         }
-        numbered(floor + 1 + after.trailing_zeros() as u8)
+        rule_of(floor + 1 + after.trailing_zeros() as u8)
     }
 }

@@ -1,6 +1,6 @@
 //! The rules and their numbers.
 
-ghost use Rattle.std.specs.Prelude.{◌≡◌, ◌⊎◌, ◌<◌, ◌≤◌, IfNone, IfSome};
+ghost use Rattle.std.specs.Prelude.{◌≡◌, ◌≤◌};
 ghost use Rattle.t1_rules.specs.Book.{last_number, number_of};
 
 /// A rule of the rule book. Its number is its place there, from 1 on.

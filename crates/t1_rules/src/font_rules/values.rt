@@ -1,6 +1,6 @@
 //! Plain values: what they are, and their numbers. Numbers are in units of 10^-9, and are compared exactly.
 
-ghost use Rattle.std.specs.Prelude.{◌≡◌, ℤ};
+ghost use Rattle.std.specs.Prelude.{◌≡◌};
 ghost use Rattle.t1_font.specs.Entries.{entry_view};
 ghost use Rattle.t1_rules.specs.FontRules.Values.{count_in, first_in, is_sixteen_twice, is_the_number, number_or};
 

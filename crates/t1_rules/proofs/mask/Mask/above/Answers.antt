@@ -8,4 +8,4 @@ returns-then-after-eq0 c = λ n above last. none_from c.args.self.bits (c.args.f
 pub returns : goal.returns
 returns c =
     let fits : c.args.self.bits < 2 ^ 128 = search rules in
-    found_above c.args.self c.args.floor c.numbered.result fits c.if-after-eq0.false c.numbered.ensures.some c.numbered.ensures.none
+    found_above c.args.self c.args.floor c.rule_of.result fits c.if-after-eq0.false c.rule_of.ensures.some c.rule_of.ensures.none

@@ -1,7 +1,7 @@
 use Rattle.std.proofs.Common.{◌≡◌, ◌+◌, ap, ◌∙◌, arith}
 use Rattle.t1_rules.specs.Book.{number_of}
 use Rattle.t1_rules.proofs.Lemmas.Book.{number_at}
-use Rattle.t1_rules.proofs.book.numbered.Goals as goal
+use Rattle.t1_rules.proofs.book.rule_of.Goals as goal
 
 pub returns-in-Some-clause-some : goal.returns-in-Some-clause-some
 returns-in-Some-clause-some c =
