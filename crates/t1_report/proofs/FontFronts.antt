@@ -5,17 +5,17 @@ use Rattle.std.proofs.lemmas.Bool.{cases_lt}
 use Rattle.t1_font.specs.Fonts.{FontValue}
 use Rattle.t1_rules.specs.declared.rule.Rule.{Rule}
 use Rattle.t1_rules.specs.FontRules.{font_rules, violated}
-use Rattle.t1_rules.specs.Masks.{HasNoneAbove, IsLeastAbove, has}
+use Rattle.t1_rules.specs.Mask.{HasNoneAbove, IsLeastAbove, has}
 use Rattle.t1_rules.specs.declared.mask.Mask.{Mask}
-use Rattle.t1_rules.specs.Places.{places_of}
-use Rattle.t1_rules.specs.Rules.{number_of}
-use Rattle.t1_rules.proofs.Past.{past_places}
-use Rattle.t1_rules.proofs.Keyed.{past_last}
+use Rattle.t1_rules.specs.Keys.{places_of}
+use Rattle.t1_rules.specs.Book.{number_of}
+use Rattle.t1_rules.proofs.Lemmas.Keys.{past_places}
+use Rattle.t1_rules.proofs.Lemmas.FontRules.{past_last}
 use Rattle.t1_report.specs.declared.faults.Fault.{Fault}
 use Rattle.t1_report.specs.Faults.{FaultValue, fault_value, faults_of}
 use Rattle.t1_report.specs.Reports.{Comes, IsFrontOf, IsReport, IsViolated, Place, path_at}
 use Rattle.t1_report.proofs.Fronts.{comes_on, fault_at, front_ends, front_on, front_with}
-use Rattle.t1_report.proofs.RuleNumbers.{in_book}
+use Rattle.t1_rules.proofs.Lemmas.Book.{in_book}
 
 -- What is violated in the font is what breaks a font rule, at the key and the index of its step.
 pub record HasFontRules (font : FontValue) (Violated : Place → Type 0) (path_of : Place → List ℕ) : Type 0 where

@@ -5,10 +5,10 @@ use Rattle.std.specs.List.{All, Any}
 use Rattle.std.proofs.Math.ListN.{get_or-append}
 use Rattle.std.proofs.Math.Seq.{get_or-append_seam}
 use Rattle.t1_rules.specs.declared.rule.Rule.{Rule}
-use Rattle.t1_rules.specs.Rules.{number_of}
+use Rattle.t1_rules.specs.Book.{number_of}
 use Rattle.t1_report.specs.Faults.{FaultValue}
 use Rattle.t1_report.specs.Reports.{Place, Comes, IsBefore, IsViolationOf, IsFrontOf, IsReportOf, place_of, StandsAt, IsRising, AreNumbered}
-use Rattle.t1_report.proofs.RuleNumbers.{one_rule}
+use Rattle.t1_rules.proofs.Lemmas.Book.{one_rule}
 
 -- ---- the order of places
 

@@ -4,8 +4,8 @@ use Rattle.std.proofs.lemmas.Bool.{cases_lt}
 use Rattle.std.proofs.lemmas.List.{length-map}
 use Rattle.std.specs.List.{All}
 use Rattle.t1_font.specs.Fonts.{FontValue}
-use Rattle.t1_rules.specs.Rules.{number_of}
-use Rattle.t1_rules.proofs.Keyed.{past_last}
+use Rattle.t1_rules.specs.Book.{number_of}
+use Rattle.t1_rules.proofs.Lemmas.FontRules.{past_last}
 use Rattle.t1_report.specs.declared.faults.Fault.{Fault}
 use Rattle.t1_report.specs.Faults.{FaultValue, fault_value, faults_of}
 use Rattle.t1_report.specs.Lines.{IsInFont}

@@ -1,6 +1,5 @@
 pub mod DecimalLemmas
 pub mod OneReport
-pub mod RuleNumbers
 pub mod FontFronts
 pub mod Fronts
 pub mod InFont

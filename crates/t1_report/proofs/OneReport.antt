@@ -1,7 +1,7 @@
 -- There are no two reports of the same violations.
 use Rattle.std.proofs.Common.{◌≡◌, ℕ, ◌+◌, ◌<◌, zero, suc, List, [], ◌∷◌, length, refl, sym, ap, subst, ◌∙◌, ◌⊎◌, inl, inr, arith}
 use Rattle.std.specs.List.{Any, slice_index_or}
-use Rattle.t1_rules.specs.Rules.{number_of}
+use Rattle.t1_rules.specs.Book.{number_of}
 use Rattle.t1_report.specs.Faults.{FaultValue}
 use Rattle.t1_report.specs.Reports.{Place, Comes, IsBefore, place_of, StandsAt, IsRising, AreNumbered, HasNoOtherReport, IsReportOf, IsViolated, path_at}
 

@@ -3,8 +3,8 @@ use Rattle.std.specs.Prelude.{◌≡◌, ℕ, ◌==◌, ◌/◌, ◌%◌, ◌-�
 use Rattle.std.specs.List.{concat, flat_map}
 use Rattle.std.specs.Fmt.{decimal}
 use Rattle.t1_font.specs.Fonts.{FontValue}
-use Rattle.t1_rules.specs.KeyTexts.{key_text_of}
-use Rattle.t1_rules.specs.Rules.{code_of, text_of}
+use Rattle.t1_rules.specs.Keys.{key_text_of}
+use Rattle.t1_rules.specs.Book.{code_of, text_of}
 use Rattle.t1_report.specs.Faults.{FaultValue}
 
 -- `font KEY INDEX`, by the step.

@@ -4,7 +4,7 @@ use Rattle.std.specs.List.{All, Any, slice_index_or}
 use Rattle.t1_font.specs.Fonts.{FontValue}
 use Rattle.t1_rules.specs.declared.rule.Rule.{Rule}
 use Rattle.t1_rules.specs.FontRules.{font_rules, violated}
-use Rattle.t1_rules.specs.Rules.{number_of}
+use Rattle.t1_rules.specs.Book.{number_of}
 use Rattle.t1_report.specs.Faults.{FaultValue}
 
 -- A place and a rule: unit 0 is the font, whose step is 65,536 times a key's number plus an index.

@@ -5,7 +5,7 @@ ghost use Rattle.std.specs.List.{All};
 ghost use Rattle.t1_report.specs.Faults.{fault_value, faults_of};
 ghost use Rattle.t1_report.specs.Lines.{IsInFont};
 ghost use Rattle.t1_report.specs.Reports.{IsFront, IsReport};
-ghost use Rattle.t1_rules.specs.Places.{places_of};
+ghost use Rattle.t1_rules.specs.Keys.{places_of};
 
 use crate::faults::Fault;
 use arrayvec::ArrayVec;

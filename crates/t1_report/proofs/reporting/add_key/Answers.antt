@@ -1,6 +1,6 @@
 use Rattle.std.proofs.Common.{ℕ, ◌≡◌, ◌+◌, ◌*◌, subst, arith}
-use Rattle.t1_rules.specs.Places.{places_of}
-use Rattle.t1_rules.proofs.RuleLaws.{few_places}
+use Rattle.t1_rules.specs.Keys.{places_of}
+use Rattle.t1_rules.proofs.Lemmas.Keys.{few_places}
 use Rattle.t1_report.specs.Faults.{faults_of}
 use Rattle.t1_report.specs.Reports.{IsFront, IsViolated, path_at}
 use Rattle.t1_report.proofs.FontFronts.{font_alone, key_ends}

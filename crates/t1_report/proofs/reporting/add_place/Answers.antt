@@ -1,5 +1,5 @@
 use Rattle.std.proofs.Common.{ℕ, ◌+◌, ◌*◌, ◌∙◌, refl, ap, subst, sym}
-use Rattle.t1_rules.specs.Rules.{number_of}
+use Rattle.t1_rules.specs.Book.{number_of}
 use Rattle.t1_report.specs.Faults.{faults_of}
 use Rattle.t1_report.specs.Reports.{IsFront, IsViolated, path_at}
 use Rattle.t1_report.proofs.FontFronts.{fault_more, font_alone, parts_of_step, place_ends, pushed}

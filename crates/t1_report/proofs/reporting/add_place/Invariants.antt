@@ -1,6 +1,6 @@
 use Rattle.std.proofs.Common.{◌≡◌, ◌≤◌, ◌+◌, ◌*◌, ◌-◌, ℕ}
 use Rattle.t1_rules.specs.FontRules.{font_rules, violated}
-use Rattle.t1_rules.specs.Masks.{has}
+use Rattle.t1_rules.specs.Mask.{has}
 use Rattle.t1_report.specs.Faults.{faults_of}
 use Rattle.t1_report.specs.Reports.{IsFront}
 use Rattle.t1_report.proofs.reporting.add_place.Given as goal
