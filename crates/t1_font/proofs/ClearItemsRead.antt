@@ -1,5 +1,5 @@
 -- A clear text in the usual form is read as what its items state.
-use Rattle.std.proofs.Common.{◌≡◌, ◌≤◌, ◌==◌, ℕ, true, false, Option, Some, None, Result, Ok, Err, List, [], ◌∷◌, ◌++◌, flat_map, refl, ap, sym, ◌∙◌, append_assoc, append-nil, codes, arith}
+use Rattle.std.proofs.Common.{◌≡◌, ℕ, true, false, Option, Some, None, Ok, List, [], ◌∷◌, ◌++◌, flat_map, refl, ap, sym, ◌∙◌, append_assoc, append-nil, codes}
 use Rattle.std.proofs.lemmas.List.Elements.{All-head, All-tail}
 use Rattle.std.specs.List.{All}
 use Rattle.t1_scan.specs.declared.token.Kind.TheVariants.{Name}
@@ -7,12 +7,12 @@ use Rattle.t1_scan.specs.Spelling.{Plain, name, word, spelled, meant}
 use Rattle.t1_scan.specs.Texts.{BeginsWith, lexeme_of}
 use Rattle.t1_font.specs.declared.encoding.Encoding.TheVariants.{Standard, Custom, Other}
 use Rattle.t1_font.specs.declared.key.Key.{Key}
-use Rattle.t1_font.specs.declared.mode.Mode.TheVariants.{Outside, Codes}
-use Rattle.t1_font.specs.declared.refusal.Refusal.{Refusal}
-use Rattle.t1_font.specs.declared.refusal.Refusal.TheVariants.{NoEexec, PastLimit}
+use Rattle.t1_font.specs.declared.mode.ClearMode.{ClearMode}
+use Rattle.t1_font.specs.declared.mode.ClearMode.TheVariants.{Outside, Codes}
+use Rattle.t1_font.specs.declared.refusal.Refusal.TheVariants.{NoEexec}
 use Rattle.t1_font.specs.Keys.{clear_key, same_name}
 use Rattle.t1_font.specs.Fonts.{Stated, Marks, FontValue, value_of, plain, encoding}
-use Rattle.t1_font.specs.Turns.{Turned, over, goes, stated_in}
+use Rattle.t1_font.specs.Turns.{TurnValue, over, goes, stated_in}
 use Rattle.t1_font.specs.ClearText.{clear_turn, clear_value, is_code_count, begins, array_at, encoding_at, encoding_turn, clear_outside, clear_of}
 use Rattle.t1_font.specs.Written.{token, IsWritten, IsWhole}
 use Rattle.t1_font.specs.UsualClearText.{code_states, ClearItem, key, standard, custom, other_name, other_token, clear_pieces, clear_states, IsOtherClearName, PassesInClear, IsClearItem, all_clear_states}
@@ -20,7 +20,7 @@ use Rattle.t1_font.specs.UsualForms.{ReadsUsualClear}
 use Rattle.t1_font.proofs.CodesRead.{codes_read}
 use Rattle.t1_font.proofs.Shorter.{clear_shortens}
 use Rattle.t1_font.proofs.Steps.{goes_on, is_over}
-use Rattle.t1_font.proofs.WrittenRead.{is_other, wanted_is, ahead_is, last_token, parts, natural_is, whole_is_no_word}
+use Rattle.t1_font.proofs.WrittenRead.{is_other, wanted_is, ahead_is, last_token, parts, whole_is_no_word}
 
 -- A token outside.
 outside : (v : FontValue) (s : List ℕ) (t : Plain) (left : List ℕ) → BeginsWith s t left → clear_turn v Outside s ≡ clear_outside (meant t) (spelled t) left
@@ -76,7 +76,7 @@ unfolding clear_outside
 encoding_name v s left h = outside v s (name (codes "Encoding")) left h
 
 -- What was found behind /Encoding, or another form.
-abbrev found_or : List ℕ → Option Turned → Turned
+abbrev found_or : List ℕ → Option (TurnValue ClearMode) → TurnValue ClearMode
 found_or s r = elim r [ Some t ↦ t | None ↦ begins Other Outside s ]
 
 standard_at : (s left : List ℕ) → BeginsWith s (word (codes "StandardEncoding")) left → encoding_at s ≡ Some (goes (Some (encoding Standard)) Outside left)
@@ -87,9 +87,8 @@ standard_is : (s left : List ℕ) → BeginsWith s (word (codes "StandardEncodin
 unfolding encoding_turn
 standard_is s left h = ap (found_or s) (standard_at s left h)
 
-count_is : (count : Plain) → IsWhole count 256 → 256 ≤ 256 → is_code_count (meant count) ≡ true
-unfolding is_code_count
-count_is count h le = ap (λ (r : Result ℕ Refusal). elim r [ Ok n ↦ n == 256 | Err _ ↦ false ]) (natural_is PastLimit 256 256 count h le)
+count_is : (count : Plain) → IsWhole count 256 → is_code_count (meant count) ≡ true
+count_is count h = rw h refl
 
 array_is : (s left : List ℕ) → BeginsWith s (word (codes "array")) left → array_at s ≡ Some left
 unfolding array_at
@@ -98,7 +97,7 @@ array_is s left h = rw (ahead_is s (word (codes "array")) left h) refl
 custom_at : (count : Plain) (s mid left : List ℕ) → IsWhole count 256 → BeginsWith s count mid → BeginsWith mid (word (codes "array")) left → encoding_at s ≡ Some (goes (Some (encoding Custom)) Codes left)
 unfolding encoding_at
 custom_at count s mid left is h k =
-    rw (ahead_is s count mid h, whole_is_no_word count 256 is, count_is count is (omega arith), array_is mid left k) refl
+    rw (ahead_is s count mid h, whole_is_no_word count 256 is, count_is count is, array_is mid left k) refl
 
 custom_is : (count : Plain) (s mid left : List ℕ) → IsWhole count 256 → BeginsWith s count mid → BeginsWith mid (word (codes "array")) left → encoding_turn s ≡ goes (Some (encoding Custom)) Codes left
 unfolding encoding_turn

@@ -1,52 +1,52 @@
 -- What stands in a custom encoding is read as what it states.
-use Rattle.std.proofs.Common.{◌≡◌, ◌≤◌, ℕ, true, false, Option, Some, None, Result, Ok, Err, List, [], ◌∷◌, ◌++◌, flat_map, refl, ap, sym, ◌∙◌, append_assoc, append-nil, codes, inl, inr}
+use Rattle.std.proofs.Common.{◌≡◌, ◌≤◌, ℕ, true, false, Option, Some, None, Result, Ok, List, [], ◌∷◌, ◌++◌, flat_map, refl, ap, sym, ◌∙◌, append_assoc, append-nil, codes, inl, inr}
 use Rattle.std.proofs.lemmas.Bool.{cases_Bool}
 use Rattle.t1_scan.specs.Spelling.{Plain, name, word, spelled, meant}
 use Rattle.t1_scan.specs.Texts.{BeginsWith}
-use Rattle.t1_font.specs.declared.mode.Mode.{Mode}
-use Rattle.t1_font.specs.declared.mode.Mode.TheVariants.{Outside, Codes}
+use Rattle.t1_font.specs.declared.mode.ClearMode.{ClearMode}
+use Rattle.t1_font.specs.declared.mode.ClearMode.TheVariants.{Outside, Codes}
 use Rattle.t1_font.specs.declared.refusal.Refusal.{Refusal}
-use Rattle.t1_font.specs.declared.refusal.Refusal.TheVariants.{NoEexec, PastLimit}
+use Rattle.t1_font.specs.declared.refusal.Refusal.TheVariants.{NoEexec}
 use Rattle.t1_font.specs.Tokens.{is_name_kind, is_number_kind}
 use Rattle.t1_font.specs.Fonts.{Stated, Marks, FontValue, value_of, code, bad_code}
-use Rattle.t1_font.specs.Turns.{Turned, TextRead, goes, with_one, stated_in}
-use Rattle.t1_font.specs.ClearText.{clear_turn, coded, code_at, code_turn, code_outside}
+use Rattle.t1_font.specs.Turns.{TurnValue, TextRead, goes, with_one, stated_in}
+use Rattle.t1_font.specs.ClearText.{clear_turn, code_statement, code_at, code_turn, code_token}
 use Rattle.t1_font.specs.Written.{Piece, token, IsWritten, IsWhole, is_word_of}
 use Rattle.t1_font.specs.UsualClearText.{CodeItem, group, between_groups, lone_dup, code_pieces, code_states, PassesInCodes, ends_group, AreCodeItems}
 use Rattle.t1_font.proofs.Shorter.{clear_shortens}
 use Rattle.t1_font.proofs.Steps.{goes_on}
-use Rattle.t1_font.proofs.WrittenRead.{wanted_is, ahead_is, last_token, natural_is, whole_is_number}
+use Rattle.t1_font.proofs.WrittenRead.{wanted_is, ahead_is, last_token, whole_up_to_is, whole_is_number}
 
 -- A token in a custom encoding.
-inside : (v : FontValue) (s : List ℕ) (t : Plain) (left : List ℕ) → BeginsWith s t left → clear_turn v Codes s ≡ Ok (code_outside (meant t) (spelled t) left)
+inside : (v : FontValue) (s : List ℕ) (t : Plain) (left : List ℕ) → BeginsWith s t left → clear_turn v Codes s ≡ Ok (code_token (meant t) (spelled t) left)
 unfolding clear_turn
 inside v s t left h = rw (wanted_is NoEexec s t left h) refl
 
 dup_turn : (v : FontValue) (s left : List ℕ) → BeginsWith s (word (codes "dup")) left → clear_turn v Codes s ≡ Ok (code_turn left)
-unfolding code_outside
+unfolding code_token
 dup_turn v s left h = inside v s (word (codes "dup")) left h
 
 passes : (v : FontValue) (s : List ℕ) (t : Plain) (left : List ℕ) → PassesInCodes t → BeginsWith s t left → clear_turn v Codes s ≡ Ok (goes None Codes left)
-unfolding code_outside
+unfolding code_token
 passes v s t left p h = inside v s t left h ∙ rw (p.not_eexec, p.not_def, p.not_dup) refl
 
 def_turn : (v : FontValue) (s left : List ℕ) → BeginsWith s (word (codes "def")) left → clear_turn v Codes s ≡ Ok (goes None Outside left)
-unfolding code_outside
+unfolding code_token
 def_turn v s left h = inside v s (word (codes "def")) left h
 
 -- What was found behind a dup, or the dup alone.
-abbrev found_or : List ℕ → Option Turned → Turned
+abbrev found_or : List ℕ → Option (TurnValue ClearMode) → TurnValue ClearMode
 found_or s r = elim r [ Some t ↦ t | None ↦ goes None Codes s ]
 
 -- A group behind its dup.
-coded_is : (n : ℕ) (number : Plain) (run : List ℕ) → IsWhole number n → n ≤ 255 → coded (meant number) (47 ∷ run) ≡ code n run
-unfolding coded
-coded_is n number run h le = ap (λ (r : Result ℕ Refusal). elim r [ Ok m ↦ code m run | Err _ ↦ bad_code ]) (natural_is PastLimit 255 n number h le)
+code_statement_is : (n : ℕ) (number : Plain) (run : List ℕ) → IsWhole number n → n ≤ 255 → code_statement (meant number) (47 ∷ run) ≡ code n run
+unfolding code_statement
+code_statement_is n number run h le = ap (λ (r : Option ℕ). elim r [ Some m ↦ code m run | None ↦ bad_code ]) (whole_up_to_is 255 n number h le)
 
 group_at : (n : ℕ) (number : Plain) (run s mid last left : List ℕ) → IsWhole number n → n ≤ 255 → BeginsWith s number mid → BeginsWith mid (name run) last → BeginsWith last (word (codes "put")) left → code_at s ≡ Some (goes (Some (code n run)) Codes left)
 unfolding code_at
 group_at n number run s mid last left is small h k l =
-    rw (ahead_is s number mid h, whole_is_number number n is, ahead_is mid (name run) last k, ahead_is last (word (codes "put")) left l, coded_is n number run is small) refl
+    rw (ahead_is s number mid h, whole_is_number number n is, ahead_is mid (name run) last k, ahead_is last (word (codes "put")) left l, code_statement_is n number run is small) refl
 
 group_is : (n : ℕ) (number : Plain) (run s mid last left : List ℕ) → IsWhole number n → n ≤ 255 → BeginsWith s number mid → BeginsWith mid (name run) last → BeginsWith last (word (codes "put")) left → code_turn s ≡ goes (Some (code n run)) Codes left
 unfolding code_turn
@@ -116,10 +116,10 @@ unfolding code_turn
 lone_is items s left none w = ap (found_or s) (lone_at items s left none w)
 
 module _ (marks : Marks) where
-  abbrev read : List Stated → Mode → List ℕ → Result TextRead Refusal
+  abbrev read : List Stated → ClearMode → List ℕ → Result TextRead Refusal
   read before mode s = stated_in clear_turn NoEexec marks before mode s
 
-  on : (before : List Stated) (s : List ℕ) (e : Option Stated) (next : Mode) (left : List ℕ) → clear_turn (value_of marks before) Codes s ≡ Ok (goes e next left) → read before Codes s ≡ read (with_one before e) next left
+  on : (before : List Stated) (s : List ℕ) (e : Option Stated) (next : ClearMode) (left : List ℕ) → clear_turn (value_of marks before) Codes s ≡ Ok (goes e next left) → read before Codes s ≡ read (with_one before e) next left
   on before s e next left h = goes_on clear_turn NoEexec clear_shortens marks before Codes s e next left h
 
   -- A custom encoding is read behind its array, to its def.

@@ -5,13 +5,13 @@ use Rattle.std.specs.List.{All}
 use Rattle.t1_scan.specs.declared.token.Kind.TheVariants.{Name}
 use Rattle.t1_scan.specs.Spelling.{Plain, name, word, spelled, meant}
 use Rattle.t1_scan.specs.Texts.{BeginsWith}
-use Rattle.t1_font.specs.declared.mode.Mode.TheVariants.{Glyphs}
+use Rattle.t1_font.specs.declared.mode.PrivateMode.TheVariants.{Glyphs}
 use Rattle.t1_font.specs.declared.refusal.Refusal.TheVariants.{BadCharStrings}
 use Rattle.t1_font.specs.Keys.{same_name}
 use Rattle.t1_font.specs.Tokens.{is_word_kind}
 use Rattle.t1_font.specs.Fonts.{Stated, Marks, FontValue, value_of, glyph, firsts}
 use Rattle.t1_font.specs.Turns.{over, goes}
-use Rattle.t1_font.specs.PrivateText.{has_key, glyphs_at, glyph_turn, glyphs_outside, private_outside, private_turn}
+use Rattle.t1_font.specs.PrivateText.{has_key, glyphs_at, glyph_turn, glyphs_token, private_outside, private_turn}
 use Rattle.t1_font.specs.Written.{token, IsWritten, is_word_of, Charstring, charstring_pieces, IsCharstring}
 use Rattle.t1_font.specs.UsualPrivateText.{GlyphItem, glyph_entry, between_glyphs, glyph_pieces, glyph_states, glyph_names, IsGlyphItem, IsCount, glyphs_pieces}
 use Rattle.t1_font.proofs.GlyphNames.{names_of, names_more, has_room}
@@ -44,20 +44,20 @@ name_turn true v s left h = name_among v s (codes "CharStrings") left h ∙ glyp
 name_turn false v s left h = outside v s (name (codes "CharStrings")) left h ∙ glyphs_name v left
 
 -- A token among the glyphs.
-among : (v : FontValue) (s : List ℕ) (t : Plain) (left : List ℕ) → BeginsWith s t left → private_turn v Glyphs s ≡ glyphs_outside v (meant t) (spelled t) left
+among : (v : FontValue) (s : List ℕ) (t : Plain) (left : List ℕ) → BeginsWith s t left → private_turn v Glyphs s ≡ glyphs_token v (meant t) (spelled t) left
 unfolding private_turn
 among v s t left h = rw (wanted_is BadCharStrings s t left h) refl
 
 end_turn : (v : FontValue) (s rest : List ℕ) → BeginsWith s (word (codes "end")) rest → private_turn v Glyphs s ≡ Ok (over rest)
-unfolding glyphs_outside
+unfolding glyphs_token
 end_turn v s rest h = among v s (word (codes "end")) rest h
 
-word_among : (v : FontValue) (t : Plain) (rest : List ℕ) → is_word_kind (meant t) ≡ true → is_word_of (codes "end") t ≡ false → glyphs_outside v (meant t) (spelled t) rest ≡ Ok (goes None Glyphs rest)
-unfolding glyphs_outside
+word_among : (v : FontValue) (t : Plain) (rest : List ℕ) → is_word_kind (meant t) ≡ true → is_word_of (codes "end") t ≡ false → glyphs_token v (meant t) (spelled t) rest ≡ Ok (goes None Glyphs rest)
+unfolding glyphs_token
 word_among v t rest is other = rw (other, is) refl
 
 name_among_glyphs : (v : FontValue) (s run left : List ℕ) → BeginsWith s (name run) left → private_turn v Glyphs s ≡ glyph_turn v run left
-unfolding glyphs_outside
+unfolding glyphs_token
 name_among_glyphs v s run left h = among v s (name run) left h
 
 -- A glyph behind its name, where there is room for it.

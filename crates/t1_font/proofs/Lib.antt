@@ -1,5 +1,6 @@
 pub mod ClearItemsRead
 pub mod CodesRead
+pub mod Compose
 pub mod DifferentKeys
 pub mod EntriesAlone
 pub mod FontMaps

@@ -5,8 +5,8 @@ use Rattle.std.proofs.lemmas.Bool.Decides.{nat_tests}
 use Rattle.std.proofs.lemmas.List.Elements.{All-nil, All-cons, All-head, All-tail}
 use Rattle.std.specs.List.{All}
 use Rattle.std.specs.Map.{lookup}
-use Rattle.t1_font.specs.declared.mode.Mode.{Mode}
-use Rattle.t1_font.specs.declared.mode.Mode.TheVariants.{Outside}
+use Rattle.t1_font.specs.declared.mode.ClearMode.TheVariants as clear_modes
+use Rattle.t1_font.specs.declared.mode.PrivateMode.TheVariants.{Outside}
 use Rattle.t1_font.specs.declared.refusal.Refusal.{Refusal}
 use Rattle.t1_font.specs.declared.refusal.Refusal.TheVariants.{BadCharStrings, NoEexec}
 use Rattle.t1_font.specs.Refusals.{◌>>=◌}
@@ -19,7 +19,8 @@ use Rattle.t1_font.specs.PrivateText.{has_key, private_turn, private_of}
 use Rattle.t1_font.specs.Texts.{font_value_of}
 use Rattle.t1_font.specs.Limits.{IsWithinLimits, ReadWithinLimits, FontsWithinLimits, NothingPastTheEnd}
 use Rattle.t1_font.proofs.Stating.{value_step}
-use Rattle.t1_font.proofs.TurnsWithin.{Fits, FitsOne, Keeps, either, clear_fits, private_fits}
+use Rattle.t1_font.proofs.Compose.{either}
+use Rattle.t1_font.proofs.TurnsWithin.{Fits, FitsOne, Keeps, clear_fits, private_fits}
 
 -- What was read is within the limits.
 abbrev Within : Marks → TextRead → Type 0
@@ -72,12 +73,12 @@ put_within v (subr n bytes) w h = record { codes = w.codes; subrs = keys_put (λ
 put_within v (glyph name bytes) w h = record { codes = w.codes; subrs = w.subrs; glyphs = room_put v.glyphs name bytes w.glyphs h; size = w.size }
 
 -- A text whose turns state what fits leaves a value within the limits.
-module _ (turn : Reader) (ended : Refusal) (marks : Marks) (fits : (v : FontValue) (mode : Mode) (s : List ℕ) → IfOk (turn v mode s) (Keeps v)) where
+module _ {M : Type 0} (turn : Reader M) (ended : Refusal) (marks : Marks) (fits : (v : FontValue) (mode : M) (s : List ℕ) → IfOk (turn v mode s) (Keeps v)) where
   one_within : (before : List Stated) (e : Option Stated) → IsWithinLimits (value_of marks before) → FitsOne (value_of marks before) e → IsWithinLimits (value_of marks (with_one before e))
   one_within before None w h = w
   one_within before (Some e) w h = subst IsWithinLimits (sym (value_step marks before e)) (put_within (value_of marks before) e w h)
 
-  text_within : (n : ℕ) (before : List Stated) (mode : Mode) (s : List ℕ) → IsWithinLimits (value_of marks before) → IfOk (stated_within turn ended marks n before mode s) (Within marks)
+  text_within : (n : ℕ) (before : List Stated) (mode : M) (s : List ℕ) → IsWithinLimits (value_of marks before) → IfOk (stated_within turn ended marks n before mode s) (Within marks)
   unfolding stated_within
   text_within zero before mode s w = tt
   text_within (suc n) before mode s w =
@@ -96,7 +97,7 @@ start_within marks = record { codes = All-nil (λ p. p.0 < 256); subrs = All-nil
 
 clear_within : (marks : Marks) (s : List ℕ) → IfOk (clear_of marks s) (Within marks)
 unfolding clear_of
-clear_within marks s = either (Within marks) (begins_as_font s) (stated_within clear_turn NoEexec marks (suc (length s)) [] Outside s) (Err NoEexec) (text_within clear_turn NoEexec marks clear_fits (suc (length s)) [] Outside s (start_within marks)) tt
+clear_within marks s = either (Within marks) (begins_as_font s) (stated_within clear_turn NoEexec marks (suc (length s)) [] clear_modes.Outside s) (Err NoEexec) (text_within clear_turn NoEexec marks clear_fits (suc (length s)) [] clear_modes.Outside s (start_within marks)) tt
 
 private_within : (marks : Marks) (before : List Stated) (s : List ℕ) → IsWithinLimits (value_of marks before) → IfOk (private_of marks before s) (Within marks)
 unfolding private_of

@@ -13,7 +13,7 @@ use Rattle.t1_scan.proofs.TextsRead.{reads_token}
 use Rattle.t1_scan.proofs.TokensFound.{ends_in_blanks}
 use Rattle.t1_font.specs.ListLaws.{kinds_of, IsReadAsNumbers, IsWrittenWith, has_other_kind, BothAre, CountsNumbers, NumbersAlone, OtherElse, OtherToken, InsideDecides, WrittenNumbers, WrittenOthers}
 use Rattle.t1_font.specs.Tokens.{token_at, is_number_kind, inside_of}
-use Rattle.t1_font.specs.Values.{Value, numbers, other, ListItem, ends, is_other, item_of, item_at, number_first, numbers_from, numbers_within, numbers_of, told, list_value, value_of_token}
+use Rattle.t1_font.specs.Values.{Value, numbers, other, ListItem, ends, is_other, item_of, item_at, number_first, numbers_from, numbers_within, numbers_of, list_after, list_value, value_of_token}
 use Rattle.t1_font.specs.Written.{token, IsWritten}
 
 -- What comes next, by the first token.
@@ -121,10 +121,10 @@ read_as_numbers (suc n) s values h =
     ] refl
 
 -- The value, by the numbers.
-value_of_values : (values : List ℤ) → told 0 [] (Some values) ≡ numbers (length values) (take 16 values)
+value_of_values : (values : List ℤ) → list_after 0 [] (Some values) ≡ numbers (length values) (take 16 values)
 value_of_values values = let e : 0 + length values ≡ length values = omega arith in rw e refl
 
-list_value_is : (s : List ℕ) → list_value s ≡ told 0 [] (numbers_of s)
+list_value_is : (s : List ℕ) → list_value s ≡ list_after 0 [] (numbers_of s)
 unfolding list_value
 list_value_is s = refl
 
@@ -132,7 +132,7 @@ values_of : (s : List ℕ) (values : List ℤ) → IsReadAsNumbers s values → 
 values_of s values h = gives_values (suc (length s)) s h.tokens values (omega arith) h.read h.kinds
 
 pub counts_numbers : CountsNumbers
-counts_numbers s values h = list_value_is s ∙ ap (told 0 []) (values_of s values h) ∙ value_of_values values
+counts_numbers s values h = list_value_is s ∙ ap (list_after 0 []) (values_of s values h) ∙ value_of_values values
 
 -- A list's numbers are none, or those that it is read as.
 none_or_some : (s : List ℕ) → (numbers_of s ≡ None) ⊎ ((values : List ℤ) × (numbers_of s ≡ Some values))
@@ -142,7 +142,7 @@ none_or_some s = elim (numbers_of s) as (λ o. numbers_of s ≡ o → (numbers_o
 ] refl
 
 value_of_none : (s : List ℕ) → numbers_of s ≡ None → list_value s ≡ other
-value_of_none s h = list_value_is s ∙ ap (told 0 []) h
+value_of_none s h = list_value_is s ∙ ap (list_after 0 []) h
 
 pub numbers_alone : NumbersAlone
 numbers_alone s count first h = elim (none_or_some s) [

@@ -3,8 +3,9 @@ use Rattle.std.proofs.Common.{◌≡◌, ◌<◌, ◌≤◌, ◌+◌, ℕ, zero,
 use Rattle.t1_scan.specs.declared.token.Kind.{Kind}
 use Rattle.t1_scan.specs.declared.token.Kind.TheVariants.{Number, Name, Word, Text, Proc, Array}
 use Rattle.t1_font.specs.Tokens.{token_at}
-use Rattle.t1_font.specs.Values.{numbers, other, ListItem, ends, is_number, is_other, item_of, item_at, number_first, numbers_from, numbers_within, numbers_of, told}
-use Rattle.t1_font.proofs.Shorter.{token_less}
+use Rattle.t1_font.specs.Values.{numbers, other, ListItem, ends, is_number, is_other, item_of, item_at, number_first, numbers_from, numbers_within, numbers_of, list_after}
+use Rattle.t1_font.proofs.Running.{is_shorter}
+use Rattle.t1_font.proofs.Shorter.{token_behind}
 
 -- What follows a number is shorter.
 abbrev pub RestOfItem : ℕ → ListItem → Type 0
@@ -26,7 +27,7 @@ item_less s = elim (token_at s) as (λ r. token_at s ≡ r → RestOfItem (lengt
   | Err x ↦ λ h. tt
   | Ok found ↦ elim found as (λ found. token_at s ≡ Ok found → RestOfItem (length s) (elim found [ None ↦ ends | Some t ↦ item_of t.kind t.rest ])) [
     | None ↦ λ h. tt
-    | Some t ↦ λ h. of_kind t.kind t.rest (length s) (token_less s t h)
+    | Some t ↦ λ h. of_kind t.kind t.rest (length s) (is_shorter s t.rest (token_behind s t h))
   ]
 ] refl
 
@@ -58,9 +59,9 @@ take_front zero xs ys = refl
 take_front (suc n) [] ys = refl
 take_front (suc n) (x ∷ xs) ys = ap (λ zs. x ∷ zs) (take_front n xs ys)
 
-told_more : (count : ℕ) (first : List ℤ) (z : ℤ) (more : Option (List ℤ)) → told (count + 1) (take 16 (first ++ z ∷ [])) more ≡ told count first (number_first z more)
-told_more count first z None = refl
-told_more count first z (Some zs) =
+list_after_more : (count : ℕ) (first : List ℤ) (z : ℤ) (more : Option (List ℤ)) → list_after (count + 1) (take 16 (first ++ z ∷ [])) more ≡ list_after count first (number_first z more)
+list_after_more count first z None = refl
+list_after_more count first z (Some zs) =
     let counts : count + 1 + length zs ≡ count + suc (length zs) = omega arith in
     let kept : take 16 (take 16 (first ++ z ∷ []) ++ zs) ≡ take 16 (first ++ (z ∷ zs)) = take_front 16 (first ++ z ∷ []) zs ∙ ap (take 16) (append_assoc first (z ∷ []) zs) in
     rw (counts, kept) refl
@@ -72,18 +73,18 @@ take_all (suc n) [] h = refl
 take_all (suc n) (x ∷ xs) h = ap (λ ys. x ∷ ys) (take_all n xs (omega arith))
 
 -- The list ends here.
-pub told_end : (count : ℕ) (first : List ℤ) (s : List ℕ) → length first ≤ 16 → ends ≡ item_at s → told count first (numbers_of s) ≡ numbers count first
-told_end count first s h e =
+pub list_after_end : (count : ℕ) (first : List ℤ) (s : List ℕ) → length first ≤ 16 → ends ≡ item_at s → list_after count first (numbers_of s) ≡ numbers count first
+list_after_end count first s h e =
     let same : count + 0 ≡ count = omega arith in
     rw (numbers_step s, ← e) (rw (same, take_all 16 first h) refl)
 
 -- Something else stands here.
-pub told_other : (count : ℕ) (first : List ℤ) (s : List ℕ) → is_other ≡ item_at s → told count first (numbers_of s) ≡ other
-told_other count first s e = rw (numbers_step s, ← e) refl
+pub list_after_other : (count : ℕ) (first : List ℤ) (s : List ℕ) → is_other ≡ item_at s → list_after count first (numbers_of s) ≡ other
+list_after_other count first s e = rw (numbers_step s, ← e) refl
 
 -- A number more was passed.
-pub told_number : (count : ℕ) (first : List ℤ) (z : ℤ) (s rest : List ℕ) → is_number z rest ≡ item_at s → told (count + 1) (take 16 (first ++ z ∷ [])) (numbers_of rest) ≡ told count first (numbers_of s)
-told_number count first z s rest e = rw (numbers_step s, ← e) (told_more count first z (numbers_of rest))
+pub list_after_number : (count : ℕ) (first : List ℤ) (z : ℤ) (s rest : List ℕ) → is_number z rest ≡ item_at s → list_after (count + 1) (take 16 (first ++ z ∷ [])) (numbers_of rest) ≡ list_after count first (numbers_of s)
+list_after_number count first z s rest e = rw (numbers_step s, ← e) (list_after_more count first z (numbers_of rest))
 
 -- A list that is full takes no more.
 pub take_full : {A : Type 0} (n : ℕ) (xs ys : List A) → length xs ≡ n → take n (xs ++ ys) ≡ xs

@@ -1,41 +1,41 @@
 -- What stands before and behind the Subrs of a private text is read as what it states.
-use Rattle.std.proofs.Common.{◌≡◌, ◌&&◌, ℕ, Bool, true, false, not, if◌then◌else◌, Option, Some, None, Result, Ok, is_ok, List, [], ◌∷◌, ◌++◌, flat_map, refl, ap, sym, ◌∙◌, append_assoc, append-nil, codes, inl, inr}
+use Rattle.std.proofs.Common.{◌≡◌, ◌&&◌, ℕ, Bool, true, false, not, if◌then◌else◌, Option, Some, None, Result, Ok, is_some, pos, ◌*◌, List, [], ◌∷◌, ◌++◌, flat_map, refl, ap, sym, ◌∙◌, append_assoc, append-nil, codes, inl, inr}
 use Rattle.std.proofs.lemmas.Bool.{cases_Bool}
 use Rattle.std.proofs.lemmas.List.Elements.{All-head, All-tail}
 use Rattle.std.specs.List.{All}
 use Rattle.t1_scan.specs.declared.token.Kind.{Kind}
-use Rattle.t1_scan.specs.declared.token.Kind.TheVariants.{Name}
+use Rattle.t1_scan.specs.declared.token.Kind.TheVariants.{Name, Number}
 use Rattle.t1_scan.specs.Spelling.{Plain, name, spelled, meant}
 use Rattle.t1_scan.specs.Texts.{BeginsWith, lexeme_of}
 use Rattle.t1_font.specs.declared.key.Key.{Key}
 use Rattle.t1_font.specs.declared.key.Key.TheVariants.{LenIv}
-use Rattle.t1_font.specs.declared.mode.Mode.{Mode}
-use Rattle.t1_font.specs.declared.mode.Mode.TheVariants.{Outside, Subrs}
+use Rattle.t1_font.specs.declared.mode.PrivateMode.{PrivateMode}
+use Rattle.t1_font.specs.declared.mode.PrivateMode.TheVariants.{Outside, Subrs}
 use Rattle.t1_font.specs.declared.refusal.Refusal.{Refusal}
 use Rattle.t1_font.specs.declared.refusal.Refusal.TheVariants.{BadCharStrings, BadLenIv}
 use Rattle.t1_font.specs.Keys.{private_key, same_name}
-use Rattle.t1_font.specs.Tokens.{is_word_kind, is_name_kind, natural}
+use Rattle.t1_font.specs.Tokens.{billion, is_word_kind, is_name_kind}
 use Rattle.t1_font.specs.Fonts.{Stated, Marks, FontValue, value_of, plain}
 use Rattle.t1_font.specs.Turns.{TextRead, goes, with_one, stated_in}
-use Rattle.t1_font.specs.PrivateText.{is_len_iv, is_len_iv_key, private_value, private_outside, subrs_outside, private_turn}
+use Rattle.t1_font.specs.PrivateText.{is_len_iv, is_len_iv_key, private_value, private_outside, subrs_token, private_turn}
 use Rattle.t1_font.specs.Written.{IsWritten, is_word_of}
 use Rattle.t1_font.specs.UsualPrivateText.{PrivateItem, key, other_name, other_token, private_pieces, private_states, IsLenIv, FitsKey, IsOtherPrivateName, IsPrivateItem, IsNoDup}
 use Rattle.t1_font.proofs.Shorter.{private_shortens}
 use Rattle.t1_font.proofs.Steps.{goes_on}
-use Rattle.t1_font.proofs.WrittenRead.{is_other, wanted_is, last_token, parts, whole_is}
+use Rattle.t1_font.proofs.WrittenRead.{is_other, wanted_is, last_token, parts, whole_number, whole_up_to_kind}
 
 -- A token outside, and among the Subrs.
 pub outside : (v : FontValue) (s : List ℕ) (t : Plain) (left : List ℕ) → BeginsWith s t left → private_turn v Outside s ≡ private_outside v (meant t) (spelled t) left
 unfolding private_turn
 outside v s t left h = rw (wanted_is BadCharStrings s t left h) refl
 
-pub among : (v : FontValue) (s : List ℕ) (t : Plain) (left : List ℕ) → BeginsWith s t left → private_turn v Subrs s ≡ subrs_outside v (meant t) (spelled t) left
+pub among : (v : FontValue) (s : List ℕ) (t : Plain) (left : List ℕ) → BeginsWith s t left → private_turn v Subrs s ≡ subrs_token v (meant t) (spelled t) left
 unfolding private_turn
 among v s t left h = rw (wanted_is BadCharStrings s t left h) refl
 
 -- A name is no word, so it is read among the Subrs as outside.
 pub name_among : (v : FontValue) (s run left : List ℕ) → BeginsWith s (name run) left → private_turn v Subrs s ≡ private_outside v Name (47 ∷ run) left
-unfolding subrs_outside
+unfolding subrs_token
 name_among v s run left h = among v s (name run) left h
 
 -- The names of another meaning are no plain keys.
@@ -53,9 +53,10 @@ name_outside v text rest a b = rw (a, b) refl
 
 -- A lenIV from -1 to 64 is one.
 len_iv_is : (kind : Kind) → IsLenIv kind → is_len_iv kind ≡ true
-unfolding is_len_iv natural
+unfolding is_len_iv
 len_iv_is kind (inl e) = rw e refl
-len_iv_is kind (inr h) = rw h.2 (ap is_ok (whole_is BadLenIv 64 h.0 h.1))
+len_iv_is kind (inr h) =
+    rw h.2 (ap is_some (whole_up_to_kind 64 h.0 (Number (pos (h.0 * billion))) (whole_number h.0) h.1))
 
 fits : (k : Key) (kind : Kind) → FitsKey k kind → (is_len_iv_key k && not (is_len_iv kind)) ≡ false
 fits LenIv kind h = rw (len_iv_is kind h) refl
@@ -84,27 +85,27 @@ unfolding private_outside
 token_outside v kind text rest is = rw is refl
 
 -- Among the Subrs a word leaves reading there, and any other token ends them.
-word_among : (v : FontValue) (t : Plain) (rest : List ℕ) → is_word_of (codes "dup") t ≡ false → is_word_kind (meant t) ≡ true → subrs_outside v (meant t) (spelled t) rest ≡ Ok (goes None Subrs rest)
-unfolding subrs_outside
+word_among : (v : FontValue) (t : Plain) (rest : List ℕ) → is_word_of (codes "dup") t ≡ false → is_word_kind (meant t) ≡ true → subrs_token v (meant t) (spelled t) rest ≡ Ok (goes None Subrs rest)
+unfolding subrs_token
 word_among v t rest other is = rw (other, is) refl
 
-token_among : (v : FontValue) (t : Plain) (rest : List ℕ) → is_word_of (codes "dup") t ≡ false → is_word_kind (meant t) ≡ false → subrs_outside v (meant t) (spelled t) rest ≡ private_outside v (meant t) (spelled t) rest
-unfolding subrs_outside
+token_among : (v : FontValue) (t : Plain) (rest : List ℕ) → is_word_of (codes "dup") t ≡ false → is_word_kind (meant t) ≡ false → subrs_token v (meant t) (spelled t) rest ≡ private_outside v (meant t) (spelled t) rest
+unfolding subrs_token
 token_among v t rest other is = rw (other, is) refl
 
 -- Reading goes on outside, or still among the Subrs.
-abbrev pub mode_of : Bool → Mode
+abbrev pub mode_of : Bool → PrivateMode
 mode_of true = Subrs
 mode_of false = Outside
 
 module _ (marks : Marks) where
-  abbrev pub read : List Stated → Mode → List ℕ → Result TextRead Refusal
+  abbrev pub read : List Stated → PrivateMode → List ℕ → Result TextRead Refusal
   read before mode s = stated_in private_turn BadCharStrings marks before mode s
 
-  pub on : (before : List Stated) (mode : Mode) (s : List ℕ) (e : Option Stated) (next : Mode) (left : List ℕ) → private_turn (value_of marks before) mode s ≡ Ok (goes e next left) → read before mode s ≡ read (with_one before e) next left
+  pub on : (before : List Stated) (mode : PrivateMode) (s : List ℕ) (e : Option Stated) (next : PrivateMode) (left : List ℕ) → private_turn (value_of marks before) mode s ≡ Ok (goes e next left) → read before mode s ≡ read (with_one before e) next left
   on before mode s e next left h = goes_on private_turn BadCharStrings private_shortens marks before mode s e next left h
 
-  pub nothing_more : (before : List Stated) (mode : Mode) (s : List ℕ) → read before mode s ≡ read (before ++ []) mode s
+  pub nothing_more : (before : List Stated) (mode : PrivateMode) (s : List ℕ) → read before mode s ≡ read (before ++ []) mode s
   nothing_more before mode s = ap (λ es. read es mode s) (sym (append-nil before))
 
   item_read : (item : PrivateItem) (before : List Stated) (s left : List ℕ) → IsPrivateItem item → IsWritten s (private_pieces item) left → read before Outside s ≡ read (before ++ private_states item) Outside left

@@ -1,6 +1,8 @@
 -- What the two calls that read a font are owed, from what their loops give.
-use Rattle.std.proofs.Common.{◌≡◌, ◌≤◌, ◌-◌, ℕ, suc, true, false, Result, Ok, Err, List, [], length, drop, refl, ap, sym, ◌∙◌, arith, length-drop}
-use Rattle.t1_font.specs.declared.mode.Mode.TheVariants.{Outside}
+use Rattle.std.proofs.Common.{◌≡◌, ◌≤◌, ◌-◌, ℕ, suc, true, false, Result, Ok, Err, List, [], length, drop, refl, ap, sym, ◌∙◌, arith, ◌++◌, length-append}
+use Rattle.std.proofs.Math.Seq.{drop-append_seam}
+use Rattle.t1_font.specs.declared.mode.ClearMode.TheVariants as clear_modes
+use Rattle.t1_font.specs.declared.mode.PrivateMode.TheVariants.{Outside}
 use Rattle.t1_font.specs.declared.refusal.Refusal.{Refusal}
 use Rattle.t1_font.specs.declared.refusal.Refusal.TheVariants.{NoEexec, Unclosed, BadSubrs, BadCharStrings, BadLenIv, PastLimit, SecondSubrs, MultipleMaster, Memory}
 use Rattle.t1_font.specs.Refusals.{Refuses}
@@ -11,26 +13,33 @@ use Rattle.t1_font.specs.ClearText.{begins_as_font, clear_turn, clear_of}
 use Rattle.t1_font.specs.PrivateText.{private_turn, private_of}
 use Rattle.t1_font.specs.Texts.{clear_value_of, clear_read, font_value_of, font_read, value_alone}
 use Rattle.t1_font.specs.Laws.{ReadAsStated}
-use Rattle.t1_font.proofs.Running.{run_is_read}
+use Rattle.t1_font.proofs.Running.{IsEndOf, run_ends, run_is_read}
+use Rattle.t1_font.proofs.Shorter.{clear_shortens}
 use Rattle.t1_font.proofs.Stating.{value_step}
 
-pub read_as_stated : ReadAsStated
+pub read_as_stated : {M : Type 0} → ReadAsStated M
 read_as_stated turn ended marks before mode s = run_is_read turn ended marks (value_step marks) (suc (length s)) before mode s
 
--- What is left of a text tells the place.
-place_by_rest : (s : List ℕ) (after : ℕ) → after ≤ length s → length s - length (drop after s) ≡ after
-place_by_rest s after h = rw (length-drop after s) (omega arith)
+-- What follows the clear text stands at the text's end.
+pub clear_ends : (text rest : List ℕ) (old v : FontValue) → run_of clear_turn NoEexec old clear_modes.Outside text ≡ Ok (record { value = v; rest = rest }) → IsEndOf text rest
+clear_ends text rest old v given = rw given at (run_ends clear_turn NoEexec clear_shortens (suc (length text)) old clear_modes.Outside text)
+
+pub is_no_longer : (s rest : List ℕ) → IsEndOf s rest → length rest ≤ length s
+is_no_longer s rest h = let e : length s ≡ length (h.front ++ rest) = ap length h.whole in omega (arith, e, length-append h.front rest)
+
+-- The length of what is left tells the place.
+rest_by_place : (s rest : List ℕ) → IsEndOf s rest → rest ≡ drop (length s - length rest) s
+rest_by_place s rest h =
+    let e : length s ≡ length (h.front ++ rest) = ap length h.whole in
+    let place : length s - length rest ≡ length h.front = omega (arith, e, length-append h.front rest) in
+    rw (place, h.whole) (sym (drop-append_seam h.front rest))
 
 ok_value : {X : Type 0} (a b : X) → ◌≡◌ {A = Result X Refusal} (Ok a) (Ok b) → a ≡ b
 ok_value {X} a b h = ap (λ (r : Result X Refusal). elim r [ Ok x ↦ x | Err e ↦ a ]) h
 
-clear_by_rest : (marks : Marks) (s : List ℕ) (read : Result TextRead Refusal) (v : FontValue) (after : ℕ) → after ≤ length s → value_read marks read ≡ Ok (record { value = v; rest = drop after s }) → clear_value_of marks s read ≡ Ok (record { font = v; after = after })
-clear_by_rest marks s (Err e) v after h given = cc
-clear_by_rest marks s (Ok read) v after h given =
-    let both : ◌≡◌ {A = FontRead} (record { value = value_of marks read.stated; rest = read.rest }) (record { value = v; rest = drop after s }) = ok_value _ _ given in
-    let value : value_of marks read.stated ≡ v = ap (λ (r : FontRead). r.value) both in
-    let rest : length s - length read.rest ≡ after = ap (λ (r : FontRead). length s - length r.rest) both ∙ place_by_rest s after h in
-    rw (value, rest) refl
+clear_by_rest : (marks : Marks) (s : List ℕ) (read : Result TextRead Refusal) (v : FontValue) (rest : List ℕ) → value_read marks read ≡ Ok (record { value = v; rest = rest }) → clear_value_of marks s read ≡ Ok (record { font = v; after = length s - length rest })
+clear_by_rest marks s (Err e) v rest given = cc
+clear_by_rest marks s (Ok read) v rest given = ap (λ (r : FontRead). Ok (record { font = r.value; after = length s - length r.rest })) (ok_value _ _ given)
 
 -- What the fold over a text gives, by what is stated in it.
 alone_read : (marks : Marks) (read : Result TextRead Refusal) → value_alone (value_read marks read) ≡ font_value_of marks read
@@ -57,30 +66,32 @@ clear_error marks s (Err x) SecondSubrs given = cc
 clear_error marks s (Err x) MultipleMaster given = cc
 clear_error marks s (Err x) Memory given = tt
 
-pub clear_is_read : (marks : Marks) (text s : List ℕ) (old v : FontValue) (after : ℕ) → text ≡ s → old ≡ value_of marks [] → begins_as_font text ≡ true → after ≤ length text → run_of clear_turn NoEexec old Outside text ≡ Ok (record { value = v; rest = drop after text }) → clear_read marks s ≡ Ok (record { font = v; after = after })
+pub clear_is_read : (marks : Marks) (text s rest : List ℕ) (old v : FontValue) → text ≡ s → old ≡ value_of marks [] → begins_as_font text ≡ true → run_of clear_turn NoEexec old clear_modes.Outside text ≡ Ok (record { value = v; rest = rest }) → clear_read marks s ≡ Ok (record { font = v; after = length text - length rest })
 unfolding clear_of
-clear_is_read marks text s old v after same start begins h given =
-    let run = rw (start, read_as_stated clear_turn NoEexec marks [] Outside text) at given in
-    rw (← same, begins) (clear_by_rest marks text (stated_in clear_turn NoEexec marks [] Outside text) v after h run)
+clear_is_read marks text s rest old v same start begins given =
+    let run = rw (start, read_as_stated clear_turn NoEexec marks [] clear_modes.Outside text) at given in
+    rw (← same, begins) (clear_by_rest marks text (stated_in clear_turn NoEexec marks [] clear_modes.Outside text) v rest run)
 
 -- What follows the word eexec stands behind the place that is told.
-clear_rest : (marks : Marks) (s : List ℕ) (read : Result TextRead Refusal) (v : FontValue) (after : ℕ) → value_read marks read ≡ Ok (record { value = v; rest = drop after s }) → (found : TextRead) → read ≡ Ok found → found.rest ≡ drop after s
-clear_rest marks s read v after given found is =
-    let both : ◌≡◌ {A = FontRead} (record { value = value_of marks found.stated; rest = found.rest }) (record { value = v; rest = drop after s }) = ok_value _ _ (ap (value_read marks) (sym is) ∙ given) in
+clear_rest : (marks : Marks) (read : Result TextRead Refusal) (v : FontValue) (rest : List ℕ) → value_read marks read ≡ Ok (record { value = v; rest = rest }) → (found : TextRead) → read ≡ Ok found → found.rest ≡ rest
+clear_rest marks read v rest given found is =
+    let both : ◌≡◌ {A = FontRead} (record { value = value_of marks found.stated; rest = found.rest }) (record { value = v; rest = rest }) = ok_value _ _ (ap (value_read marks) (sym is) ∙ given) in
     ap (λ (r : FontRead). r.rest) both
 
-pub clear_is_behind : (marks : Marks) (text s : List ℕ) (old v : FontValue) (after : ℕ) → text ≡ s → old ≡ value_of marks [] → begins_as_font text ≡ true → run_of clear_turn NoEexec old Outside text ≡ Ok (record { value = v; rest = drop after text }) → (found : TextRead) → clear_of marks s ≡ Ok found → found.rest ≡ drop after s
+pub clear_is_behind : (marks : Marks) (text s rest : List ℕ) (old v : FontValue) → text ≡ s → old ≡ value_of marks [] → begins_as_font text ≡ true → run_of clear_turn NoEexec old clear_modes.Outside text ≡ Ok (record { value = v; rest = rest }) → (found : TextRead) → clear_of marks s ≡ Ok found → found.rest ≡ drop (length text - length rest) s
 unfolding clear_of
-clear_is_behind marks text s old v after same start begins given found is =
-    let run = rw (start, read_as_stated clear_turn NoEexec marks [] Outside text) at given in
-    let read : stated_in clear_turn NoEexec marks [] Outside text ≡ Ok found = rw (← same, begins) at is in
-    rw (← same) (clear_rest marks text (stated_in clear_turn NoEexec marks [] Outside text) v after run found read)
+clear_is_behind marks text s rest old v same start begins given found is =
+    let run = rw (start, read_as_stated clear_turn NoEexec marks [] clear_modes.Outside text) at given in
+    let read : stated_in clear_turn NoEexec marks [] clear_modes.Outside text ≡ Ok found = rw (← same, begins) at is in
+    clear_rest marks (stated_in clear_turn NoEexec marks [] clear_modes.Outside text) v rest run found read
+    ∙ rest_by_place text rest (clear_ends text rest old v given)
+    ∙ ap (drop (length text - length rest)) same
 
-pub clear_is_refused : (marks : Marks) (text s : List ℕ) (old : FontValue) (e : Refusal) → text ≡ s → old ≡ value_of marks [] → begins_as_font text ≡ true → Refuses e (run_of clear_turn NoEexec old Outside text) → Refuses e (clear_read marks s)
+pub clear_is_refused : (marks : Marks) (text s : List ℕ) (old : FontValue) (e : Refusal) → text ≡ s → old ≡ value_of marks [] → begins_as_font text ≡ true → Refuses e (run_of clear_turn NoEexec old clear_modes.Outside text) → Refuses e (clear_read marks s)
 unfolding clear_of
 clear_is_refused marks text s old e same start begins given =
-    let run = rw (start, read_as_stated clear_turn NoEexec marks [] Outside text) at given in
-    rw (← same, begins) (clear_error marks text (stated_in clear_turn NoEexec marks [] Outside text) e run)
+    let run = rw (start, read_as_stated clear_turn NoEexec marks [] clear_modes.Outside text) at given in
+    rw (← same, begins) (clear_error marks text (stated_in clear_turn NoEexec marks [] clear_modes.Outside text) e run)
 
 pub clear_is_no_font : (marks : Marks) (text s : List ℕ) → text ≡ s → begins_as_font text ≡ false → clear_read marks s ≡ Err NoEexec
 unfolding clear_of

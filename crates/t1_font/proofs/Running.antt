@@ -1,67 +1,111 @@
 -- A text is read turn by turn, whatever its turns are, as long as each takes a byte.
-use Rattle.std.proofs.Common.{◌≡◌, ◌<◌, ℕ, zero, suc, Option, Some, None, Result, Ok, Err, IfOk, List, [], ◌∷◌, ◌++◌, length, refl, ap, sym, ◌∙◌, arith}
-use Rattle.t1_font.specs.declared.mode.Mode.{Mode}
+use Rattle.std.proofs.Common.{◌≡◌, ◌<◌, ℕ, zero, suc, Option, Some, None, Result, Ok, Err, IfOk, List, [], ◌∷◌, ◌++◌, length, refl, ap, sym, ◌∙◌, arith, append_assoc, length-append}
 use Rattle.t1_font.specs.declared.refusal.Refusal.{Refusal}
 use Rattle.t1_font.specs.declared.refusal.Refusal.TheVariants.{NoEexec, Unclosed, BadSubrs, BadCharStrings, BadLenIv, PastLimit, SecondSubrs, MultipleMaster, Memory}
 use Rattle.t1_font.specs.Refusals.{◌>>=◌, Refuses}
 use Rattle.t1_font.specs.Fonts.{Stated, Marks, FontValue, value_of}
 use Rattle.t1_font.specs.Puts.{put, put_one}
-use Rattle.t1_font.specs.Turns.{Turned, over, goes, Reader, follow, with_one, stated_within}
+use Rattle.t1_font.specs.Turns.{TurnValue, over, goes, Reader, follow, with_one, stated_within}
 use Rattle.t1_font.specs.Runs.{go_on, run_within, run_of, value_read}
 
--- What a turn leaves is shorter than n.
-abbrev pub Less : ℕ → Turned → Type 0
-Less n (over rest) = Unit {0}
-Less n (goes e mode left) = length left < n
+-- A rest stands at the end of a text, behind a byte or more.
+pub record IsBehind (s rest : List ℕ) : Type 0 where
+  pub front : List ℕ
+  pub whole : s ≡ front ++ rest
+  pub some : 0 < length front
 
--- Each turn that doesn't end a text takes a byte or more.
-pub record Shortens (turn : Reader) : Type 0 where
-  pub less : (v : FontValue) (mode : Mode) (s : List ℕ) → IfOk (turn v mode s) (Less (length s))
+pub is_shorter : (s rest : List ℕ) → IsBehind s rest → length rest < length s
+is_shorter s rest h = let e : length s ≡ length (h.front ++ rest) = ap length h.whole in omega (arith, e, h.some, length-append h.front rest)
 
-module _ (turn : Reader) (ended : Refusal) (shortens : Shortens turn) where
-  pub enough : (n m : ℕ) (v : FontValue) (mode : Mode) (s : List ℕ) → length s < n → length s < m → run_within turn ended n v mode s ≡ run_within turn ended m v mode s
+-- What follows a rest, a byte or none, is behind as well.
+pub is_behind_rest : (s rest front left : List ℕ) → IsBehind s rest → rest ≡ front ++ left → IsBehind s left
+is_behind_rest s rest front left h e = record {
+  front = h.front ++ front;
+  whole = h.whole ∙ ap (λ x. h.front ++ x) e ∙ sym (append_assoc h.front front left);
+  some = omega (arith, h.some, length-append h.front front);
+}
+
+-- What a turn leaves stands behind a byte or more.
+abbrev pub Leaves : {M : Type 0} → List ℕ → TurnValue M → Type 0
+Leaves s (over rest) = IsBehind s rest
+Leaves s (goes e mode left) = IsBehind s left
+
+-- Each turn takes a byte or more.
+pub record Shortens {M : Type 0} (turn : Reader M) : Type 0 where
+  pub less : (v : FontValue) (mode : M) (s : List ℕ) → IfOk (turn v mode s) (Leaves s)
+
+-- A rest stands at the end of a text.
+pub record IsEndOf (s rest : List ℕ) : Type 0 where
+  pub front : List ℕ
+  pub whole : s ≡ front ++ rest
+
+is_end_behind : (s left rest : List ℕ) → IsBehind s left → IsEndOf left rest → IsEndOf s rest
+is_end_behind s left rest h e = record {
+  front = h.front ++ e.front;
+  whole = h.whole ∙ ap (λ x. h.front ++ x) e.whole ∙ sym (append_assoc h.front e.front rest);
+}
+
+mapped_ok : {A : Type 0} (P Q : A → Type 0) (r : Result A Refusal) → ((x : A) → P x → Q x) → IfOk r P → IfOk r Q
+mapped_ok P Q (Ok x) f h = f x h
+mapped_ok P Q (Err e) f h = tt
+
+module _ {M : Type 0} (turn : Reader M) (ended : Refusal) (shortens : Shortens turn) where
+  pub enough : (n m : ℕ) (v : FontValue) (mode : M) (s : List ℕ) → length s < n → length s < m → run_within turn ended n v mode s ≡ run_within turn ended m v mode s
   unfolding run_within
   enough zero m v mode s a b = absurd (omega arith)
   enough (suc n) zero v mode s a b = absurd (omega arith)
   enough (suc n) (suc m) v mode s a b =
-      elim (turn v mode s) as (λ r. IfOk r (Less (length s)) → (r >>= go_on (run_within turn ended n) v) ≡ (r >>= go_on (run_within turn ended m) v)) [
+      elim (turn v mode s) as (λ r. IfOk r (Leaves s) → (r >>= go_on (run_within turn ended n) v) ≡ (r >>= go_on (run_within turn ended m) v)) [
         | Err e ↦ λ _. refl
-        | Ok t ↦ elim t as (λ t. Less (length s) t → go_on (run_within turn ended n) v t ≡ go_on (run_within turn ended m) v t) [
+        | Ok t ↦ elim t as (λ t. Leaves s t → go_on (run_within turn ended n) v t ≡ go_on (run_within turn ended m) v t) [
           | over rest ↦ λ _. refl
-          | goes e next left ↦ λ h. enough n m (put_one v e) next left (omega arith) (omega arith)
+          | goes e next left ↦ λ h. (let less = is_shorter s left h in enough n m (put_one v e) next left (omega (arith, less)) (omega (arith, less)))
         ]
       ] (shortens.less v mode s)
 
-  pub run_step : (v : FontValue) (mode : Mode) (s : List ℕ) → run_of turn ended v mode s ≡ (turn v mode s >>= go_on (run_of turn ended) v)
+  pub run_step : (v : FontValue) (mode : M) (s : List ℕ) → run_of turn ended v mode s ≡ (turn v mode s >>= go_on (run_of turn ended) v)
   unfolding run_within
   run_step v mode s =
-      elim (turn v mode s) as (λ r. IfOk r (Less (length s)) → (r >>= go_on (run_within turn ended (length s)) v) ≡ (r >>= go_on (run_of turn ended) v)) [
+      elim (turn v mode s) as (λ r. IfOk r (Leaves s) → (r >>= go_on (run_within turn ended (length s)) v) ≡ (r >>= go_on (run_of turn ended) v)) [
         | Err e ↦ λ _. refl
-        | Ok t ↦ elim t as (λ t. Less (length s) t → go_on (run_within turn ended (length s)) v t ≡ go_on (run_of turn ended) v t) [
+        | Ok t ↦ elim t as (λ t. Leaves s t → go_on (run_within turn ended (length s)) v t ≡ go_on (run_of turn ended) v t) [
           | over rest ↦ λ _. refl
-          | goes e next left ↦ λ h. enough (length s) (suc (length left)) (put_one v e) next left h (omega arith)
+          | goes e next left ↦ λ h. enough (length s) (suc (length left)) (put_one v e) next left (is_shorter s left h) (omega arith)
         ]
       ] (shortens.less v mode s)
 
-  pub run_fails : (v : FontValue) (mode : Mode) (s : List ℕ) (e : Refusal) → turn v mode s ≡ Err e → run_of turn ended v mode s ≡ Err e
+  pub run_fails : (v : FontValue) (mode : M) (s : List ℕ) (e : Refusal) → turn v mode s ≡ Err e → run_of turn ended v mode s ≡ Err e
   run_fails v mode s e h = run_step v mode s ∙ ap (λ r. r >>= go_on (run_of turn ended) v) h
 
-  pub run_over : (v : FontValue) (mode : Mode) (s rest : List ℕ) → turn v mode s ≡ Ok (over rest) → run_of turn ended v mode s ≡ Ok (record { value = v; rest = rest })
+  pub run_over : (v : FontValue) (mode : M) (s rest : List ℕ) → turn v mode s ≡ Ok (over rest) → run_of turn ended v mode s ≡ Ok (record { value = v; rest = rest })
   run_over v mode s rest h = run_step v mode s ∙ ap (λ r. r >>= go_on (run_of turn ended) v) h
 
-  pub run_goes : (v : FontValue) (mode : Mode) (s : List ℕ) (e : Option Stated) (next : Mode) (left : List ℕ) → turn v mode s ≡ Ok (goes e next left) → run_of turn ended v mode s ≡ run_of turn ended (put_one v e) next left
+  pub run_goes : (v : FontValue) (mode : M) (s : List ℕ) (e : Option Stated) (next : M) (left : List ℕ) → turn v mode s ≡ Ok (goes e next left) → run_of turn ended v mode s ≡ run_of turn ended (put_one v e) next left
   run_goes v mode s e next left h = run_step v mode s ∙ ap (λ r. r >>= go_on (run_of turn ended) v) h
 
-  pub shorter : (v : FontValue) (mode : Mode) (s : List ℕ) (e : Option Stated) (next : Mode) (left : List ℕ) → turn v mode s ≡ Ok (goes e next left) → length left < length s
-  shorter v mode s e next left h = rw h at (shortens.less v mode s)
+  pub shorter : (v : FontValue) (mode : M) (s : List ℕ) (e : Option Stated) (next : M) (left : List ℕ) → turn v mode s ≡ Ok (goes e next left) → length left < length s
+  shorter v mode s e next left h = let behind : IsBehind s left = rw h at (shortens.less v mode s) in is_shorter s left behind
+
+  -- What follows a text stands at its end.
+  pub run_ends : (n : ℕ) (v : FontValue) (mode : M) (s : List ℕ) → IfOk (run_within turn ended n v mode s) (λ read. IsEndOf s read.rest)
+  unfolding run_within
+  run_ends zero v mode s = tt
+  run_ends (suc n) v mode s =
+      elim (turn v mode s) as (λ r. IfOk r (Leaves s) → IfOk (r >>= go_on (run_within turn ended n) v) (λ read. IsEndOf s read.rest)) [
+        | Err e ↦ λ _. tt
+        | Ok t ↦ elim t as (λ t. Leaves s t → IfOk (go_on (run_within turn ended n) v t) (λ read. IsEndOf s read.rest)) [
+          | over rest ↦ λ h. record { front = h.front; whole = h.whole }
+          | goes e next left ↦ λ h. mapped_ok (λ read. IsEndOf left read.rest) (λ read. IsEndOf s read.rest) (run_within turn ended n (put_one v e) next left) (λ read k. is_end_behind s left read.rest h k) (run_ends n (put_one v e) next left)
+        ]
+      ] (shortens.less v mode s)
 
 -- The value that is kept is that of all that was stated, looked up afterwards.
-module _ (turn : Reader) (ended : Refusal) (marks : Marks) (step : (es : List Stated) (e : Stated) → value_of marks (es ++ e ∷ []) ≡ put (value_of marks es) e) where
+module _ {M : Type 0} (turn : Reader M) (ended : Refusal) (marks : Marks) (step : (es : List Stated) (e : Stated) → value_of marks (es ++ e ∷ []) ≡ put (value_of marks es) e) where
   one_step : (es : List Stated) (e : Option Stated) → put_one (value_of marks es) e ≡ value_of marks (with_one es e)
   one_step es None = refl
   one_step es (Some e) = sym (step es e)
 
-  pub run_is_read : (n : ℕ) (before : List Stated) (mode : Mode) (s : List ℕ) → run_within turn ended n (value_of marks before) mode s ≡ value_read marks (stated_within turn ended marks n before mode s)
+  pub run_is_read : (n : ℕ) (before : List Stated) (mode : M) (s : List ℕ) → run_within turn ended n (value_of marks before) mode s ≡ value_read marks (stated_within turn ended marks n before mode s)
   unfolding run_within stated_within
   run_is_read zero before mode s = refl
   run_is_read (suc n) before mode s =

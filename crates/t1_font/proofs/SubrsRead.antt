@@ -9,13 +9,14 @@ use Rattle.t1_scan.specs.Tokens.{Found}
 use Rattle.t1_scan.specs.Spelling.{Plain, name, word, bracketed, Body, body_text, spelled, meant}
 use Rattle.t1_scan.specs.Texts.{BeginsWith, are_blanks}
 use Rattle.t1_scan.proofs.TokensFound.{ends_in_blanks}
-use Rattle.t1_font.specs.declared.mode.Mode.TheVariants.{Outside, Subrs}
+use Rattle.t1_font.specs.declared.mode.PrivateMode.{PrivateMode}
+use Rattle.t1_font.specs.declared.mode.PrivateMode.TheVariants.{Outside, Subrs}
 use Rattle.t1_font.specs.declared.refusal.Refusal.{Refusal}
 use Rattle.t1_font.specs.declared.refusal.Refusal.TheVariants.{BadSubrs}
 use Rattle.t1_font.specs.Tokens.{token_at, inside_of, is_array_kind, is_number_kind, is_word_kind}
 use Rattle.t1_font.specs.Fonts.{Stated, Marks, FontValue, value_of, size, subr, size_of}
-use Rattle.t1_font.specs.Turns.{Turned, goes}
-use Rattle.t1_font.specs.PrivateText.{is_blank_text, subrs_at, subrs_turn, subr_at, dup_turn, subrs_outside, private_outside, private_turn}
+use Rattle.t1_font.specs.Turns.{TurnValue, goes}
+use Rattle.t1_font.specs.PrivateText.{is_blank_text, subrs_at, subrs_turn, subr_at, dup_turn, subrs_token, private_outside, private_turn}
 use Rattle.t1_font.specs.Written.{IsWritten, IsWhole, is_word_of, Charstring, charstring_pieces, IsCharstring}
 use Rattle.t1_font.specs.UsualPrivateText.{SubrItem, subr_entry, between_subrs, subr_pieces, subr_states, IsSubrItem, SubrsPart, no_subrs, empty_subrs, some_subrs, subrs_pieces, subrs_states, IsSubrsPart}
 use Rattle.t1_font.proofs.PrivateItemsRead.{read, on, nothing_more, outside, among, mode_of}
@@ -61,7 +62,7 @@ unfolding subr_at
 subr_is n number c s left is small good h = rw (natural_is BadSubrs 65534 n number is small, charstring_is BadSubrs c s left good h) refl
 
 -- A number behind a dup begins a Subr.
-abbrev behind_dup : List ℕ → Option Found → Result Turned Refusal
+abbrev behind_dup : List ℕ → Option Found → Result (TurnValue PrivateMode) Refusal
 behind_dup rest r = elim r [
   | None ↦ Ok (goes None Outside rest)
   | Some t ↦ if is_number_kind t.kind then subr_at t.kind t.rest else Ok (goes None Outside rest)
@@ -72,11 +73,11 @@ unfolding dup_turn
 number_is n number s mid is h = ap (behind_dup s) (ahead_is s number mid h) ∙ rw (whole_is_number number n is) refl
 
 dup_among : (v : FontValue) (s left : List ℕ) → BeginsWith s (word (codes "dup")) left → private_turn v Subrs s ≡ dup_turn left
-unfolding subrs_outside
+unfolding subrs_token
 dup_among v s left h = among v s (word (codes "dup")) left h
 
-word_among : (v : FontValue) (t : Plain) (rest : List ℕ) → is_word_kind (meant t) ≡ true → is_word_of (codes "dup") t ≡ false → subrs_outside v (meant t) (spelled t) rest ≡ Ok (goes None Subrs rest)
-unfolding subrs_outside
+word_among : (v : FontValue) (t : Plain) (rest : List ℕ) → is_word_kind (meant t) ≡ true → is_word_of (codes "dup") t ≡ false → subrs_token v (meant t) (spelled t) rest ≡ Ok (goes None Subrs rest)
+unfolding subrs_token
 word_among v t rest is other = rw (other, is) refl
 
 module _ (marks : Marks) where

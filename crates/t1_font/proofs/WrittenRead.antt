@@ -1,18 +1,21 @@
 -- What is written is read: tokens, whole numbers, words, charstrings.
-use Rattle.std.proofs.Common.{◌≡◌, ◌<◌, ◌≤◌, ◌+◌, ◌*◌, ℕ, suc, pos, true, false, Option, Some, None, Result, Ok, Err, List, [], ◌∷◌, ◌++◌, length, nat_lt, refl, ap, subst, ◌∙◌, inl, inr, arith, one-add, length-append}
+use Rattle.std.proofs.Common.{◌≡◌, ◌<◌, ◌≤◌, ◌+◌, ◌*◌, ℕ, suc, pos, true, false, Option, Some, None, Result, Ok, Err, List, [], ◌∷◌, ◌++◌, length, nat_lt, if◌then◌else◌, refl, ap, subst, ◌∙◌, inl, inr, arith, one-add, length-append}
 use Rattle.std.proofs.Math.Nat.{mul-mod_left, mul-div_cancel}
 use Rattle.std.proofs.Math.Seq.{drop-append_seam, take-append_seam}
 use Rattle.std.proofs.lemmas.Bool.{cases_Bool}
 use Rattle.std.proofs.lemmas.Bool.Decides.{nat_tests}
 use Rattle.t1_scan.specs.declared.error.ScanError.{ScanError}
+use Rattle.t1_scan.specs.declared.token.Kind.{Kind}
+use Rattle.t1_scan.specs.declared.token.Kind.TheVariants.{Number}
 use Rattle.t1_scan.specs.Tokens.{Found}
 use Rattle.t1_scan.specs.Spelling.{Plain, word, spelled, meant}
 use Rattle.t1_scan.specs.Texts.{BeginsWith}
 use Rattle.t1_scan.proofs.TextsRead.{reads_token}
 use Rattle.t1_font.specs.declared.refusal.Refusal.{Refusal}
+use Rattle.t1_font.specs.declared.refusal.Refusal.TheVariants.{PastLimit}
 use Rattle.t1_font.specs.declared.key.Key.{Key}
 use Rattle.t1_font.specs.Keys.{same_name}
-use Rattle.t1_font.specs.Tokens.{token_at, wanted, ahead, billion, natural_of, natural, is_word_kind, is_number_kind, past_word, raw_of, charstring_at}
+use Rattle.t1_font.specs.Tokens.{token_at, wanted, token_ahead, billion, whole, whole_up_to, natural, is_word_kind, is_number_kind, past_word, raw_of, charstring_at}
 use Rattle.t1_font.specs.Written.{Piece, token, raw, IsWritten, IsWhole, Charstring, charstring_pieces, IsCharstring}
 use Rattle.t1_font.proofs.Steps.{found}
 use Rattle.t1_font.proofs.Tables.{name_exact}
@@ -24,8 +27,8 @@ seen t left = record { kind = meant t; text = spelled t; rest = left }
 pub wanted_is : (ended : Refusal) (s : List ℕ) (t : Plain) (left : List ℕ) → BeginsWith s t left → wanted ended s ≡ Ok (seen t left)
 wanted_is ended s t left h = found ended s (seen t left) (reads_token s t left h)
 
-pub ahead_is : (s : List ℕ) (t : Plain) (left : List ℕ) → BeginsWith s t left → ahead s ≡ Some (seen t left)
-unfolding ahead token_at
+pub ahead_is : (s : List ℕ) (t : Plain) (left : List ℕ) → BeginsWith s t left → token_ahead s ≡ Some (seen t left)
+unfolding token_ahead token_at
 ahead_is s t left h = ap (λ (r : Result (Option Found) ScanError). elim r [ Err _ ↦ None | Ok some ↦ some ]) (reads_token s t left h)
 
 -- The last piece that is written ends where the rest begins.
@@ -45,16 +48,30 @@ parts s (token t ∷ pieces) more rest h =
 parts s (raw b bytes ∷ pieces) more rest h =
     let p = parts h.0 pieces more rest h.2 in record { left = p.left; front = (h.0, h.1, p.front); back = p.back }
 
--- A whole number within a limit.
-pub whole_is : (bad : Refusal) (limit n : ℕ) → n ≤ limit → natural_of bad limit (pos (n * billion)) ≡ Ok n
-whole_is bad limit n le =
-    let within : nat_lt limit n ≡ false = grind (arith, nat_tests) in
+-- A whole number, and one within a limit.
+pub whole_number : (n : ℕ) → whole (Number (pos (n * billion))) ≡ Some n
+unfolding whole
+whole_number n =
     let positive : 0 < billion = omega arith in
-    rw (mul-mod_left n billion, mul-div_cancel n positive, within) refl
+    rw (mul-mod_left n billion, mul-div_cancel n positive) refl
+
+pub whole_is : (t : Plain) (n : ℕ) → IsWhole t n → whole (meant t) ≡ Some n
+whole_is t n h = rw h (whole_number n)
+
+pub whole_up_to_kind : (limit n : ℕ) (kind : Kind) → whole kind ≡ Some n → n ≤ limit → whole_up_to limit kind ≡ Some n
+unfolding whole_up_to
+whole_up_to_kind limit n kind h le =
+    let within : nat_lt limit n ≡ false = grind (arith, nat_tests) in
+    rw (h, within) refl
+
+pub whole_up_to_is : (limit n : ℕ) (t : Plain) → IsWhole t n → n ≤ limit → whole_up_to limit (meant t) ≡ Some n
+whole_up_to_is limit n t h le = whole_up_to_kind limit n (meant t) (whole_is t n h) le
 
 pub natural_is : (bad : Refusal) (limit n : ℕ) (t : Plain) → IsWhole t n → n ≤ limit → natural bad limit (meant t) ≡ Ok n
 unfolding natural
-natural_is bad limit n t h le = rw h (whole_is bad limit n le)
+natural_is bad limit n t h le =
+    let within : nat_lt limit n ≡ false = grind (arith, nat_tests) in
+    ap (λ (r : Option ℕ). elim r [ None ↦ Err bad | Some m ↦ if nat_lt limit m then Err PastLimit else Ok m ]) (whole_is t n h) ∙ rw within refl
 
 pub whole_is_number : (t : Plain) (n : ℕ) → IsWhole t n → is_number_kind (meant t) ≡ true
 whole_is_number t n h = rw h refl

@@ -1,97 +1,93 @@
 -- The clear text, to the word eexec (Type 1 Font Format, chapter 2): the plain keys with their values,
 -- and the Encoding.
-use Rattle.std.specs.Prelude.{ℕ, Bool, false, Option, Some, None, Result, Ok, Err, List, [], ◌∷◌, ◌==◌, ◌&&◌, if◌then◌else◌, codes, not}
+use Rattle.std.specs.Prelude.{ℕ, Bool, false, Option, Some, None, Result, Ok, Err, List, [], ◌∷◌, ◌*◌, ◌==◌, ◌&&◌, if◌then◌else◌, codes, not, pos}
 use Rattle.t1_scan.specs.declared.token.Kind.{Kind}
+use Rattle.t1_scan.specs.declared.token.Kind.TheVariants.{Number}
 use Rattle.t1_font.specs.declared.encoding.Encoding.{Encoding}
 use Rattle.t1_font.specs.declared.encoding.Encoding.TheVariants.{Standard, Custom, Other}
-use Rattle.t1_font.specs.declared.mode.Mode.{Mode}
-use Rattle.t1_font.specs.declared.mode.Mode.TheVariants.{Outside, Codes, Subrs, Glyphs}
+use Rattle.t1_font.specs.declared.mode.ClearMode.{ClearMode}
+use Rattle.t1_font.specs.declared.mode.ClearMode.TheVariants.{Outside, Codes}
 use Rattle.t1_font.specs.declared.refusal.Refusal.{Refusal}
-use Rattle.t1_font.specs.declared.refusal.Refusal.TheVariants.{NoEexec, PastLimit, MultipleMaster}
+use Rattle.t1_font.specs.declared.refusal.Refusal.TheVariants.{NoEexec, MultipleMaster}
 use Rattle.t1_font.specs.Refusals.{◌>>=◌}
 use Rattle.t1_font.specs.declared.key.Key.{Key}
 use Rattle.t1_font.specs.Keys.{clear_key, same_name}
-use Rattle.t1_font.specs.Tokens.{wanted, ahead, natural, spells, is_name_kind, is_number_kind, name_of, ◌>?◌}
+use Rattle.t1_font.specs.Tokens.{billion, wanted, token_ahead, whole_up_to, spells, is_name_kind, is_number_kind, name_of, ◌>?◌}
 use Rattle.t1_font.specs.Fonts.{Stated, Marks, FontValue, plain, encoding, code, bad_code}
-use Rattle.t1_font.specs.Turns.{Turned, over, goes, TextRead, stated_in}
-
--- Reading goes on behind a token, outside or in a custom encoding.
-abbrev pub passed : Mode → List ℕ → Turned
-passed mode rest = goes None mode rest
+use Rattle.t1_font.specs.Turns.{TurnValue, over, goes, pass, TextRead, stated_in}
 
 -- A plain key takes the next token as its value, whatever it is.
-unfoldable pub clear_value : Option Key → List ℕ → Result Turned Refusal
-clear_value None rest = Ok (passed Outside rest)
+unfoldable pub clear_value : Option Key → List ℕ → Result (TurnValue ClearMode) Refusal
+clear_value None rest = Ok (pass Outside rest)
 clear_value (Some k) rest =
     wanted NoEexec rest >>= λ t.
     Ok (goes (Some (plain k (record { kind = t.kind; text = t.text }))) Outside t.rest)
 
 -- The number 256.
-unfoldable pub is_code_count : Kind → Bool
-is_code_count kind = elim (natural PastLimit 256 kind) [ Ok n ↦ n == 256 | Err _ ↦ false ]
+abbrev pub is_code_count : Kind → Bool
+is_code_count (Number (pos n)) = n == 256 * billion
+is_code_count _ = false
 
 -- An Encoding of a form begins.
-abbrev pub begins : Encoding → Mode → List ℕ → Turned
+abbrev pub begins : Encoding → ClearMode → List ℕ → TurnValue ClearMode
 begins form mode rest = goes (Some (encoding form)) mode rest
 
 -- What follows the word array.
 unfoldable pub array_at : List ℕ → Option (List ℕ)
-array_at s = ahead s >? λ t. if spells (codes "array") t.kind t.text then Some t.rest else None
+array_at s = token_ahead s >? λ t. if spells (codes "array") t.kind t.text then Some t.rest else None
 
 -- What follows /Encoding: StandardEncoding, or 256 array; else the form is another, and reading goes
 -- on right here.
-unfoldable pub encoding_at : List ℕ → Option Turned
-encoding_at s = ahead s >? λ t.
+unfoldable pub encoding_at : List ℕ → Option (TurnValue ClearMode)
+encoding_at s = token_ahead s >? λ t.
     if spells (codes "StandardEncoding") t.kind t.text then Some (begins Standard Outside t.rest)
-    else (if is_code_count t.kind then (array_at t.rest >? λ rest. Some (begins Custom Codes rest))
-    else None)
+    else if is_code_count t.kind then (array_at t.rest >? λ rest. Some (begins Custom Codes rest))
+    else None
 
-unfoldable pub encoding_turn : List ℕ → Turned
+unfoldable pub encoding_turn : List ℕ → TurnValue ClearMode
 encoding_turn s = elim (encoding_at s) [ Some t ↦ t | None ↦ begins Other Outside s ]
 
--- A token outside, and what follows it.
-unfoldable pub clear_outside : Kind → List ℕ → List ℕ → Result Turned Refusal
+-- A token outside a custom encoding, and what follows it.
+unfoldable pub clear_outside : Kind → List ℕ → List ℕ → Result (TurnValue ClearMode) Refusal
 clear_outside kind text rest =
     if spells (codes "eexec") kind text then Ok (over rest)
-    else (if not (is_name_kind kind) then Ok (passed Outside rest)
-    else (if same_name text (codes "/WeightVector") then Err MultipleMaster
-    else (if same_name text (codes "/Encoding") then Ok (encoding_turn rest)
-    else clear_value (clear_key text) rest)))
+    else if not (is_name_kind kind) then Ok (pass Outside rest)
+    else if same_name text (codes "/WeightVector") then Err MultipleMaster
+    else if same_name text (codes "/Encoding") then Ok (encoding_turn rest)
+    else clear_value (clear_key text) rest
 
 -- A code with its name; one that isn't whole from 0 to 255 sets nothing.
-unfoldable pub coded : Kind → List ℕ → Stated
-coded kind text = elim (natural PastLimit 255 kind) [ Ok n ↦ code n (name_of text) | Err _ ↦ bad_code ]
+unfoldable pub code_statement : Kind → List ℕ → Stated
+code_statement kind text = elim (whole_up_to 255 kind) [ Some n ↦ code n (name_of text) | None ↦ bad_code ]
 
 -- What follows dup: a number, a name and the word put.
-unfoldable pub code_at : List ℕ → Option Turned
+unfoldable pub code_at : List ℕ → Option (TurnValue ClearMode)
 code_at s =
-    ahead s >? λ number.
-    if not (is_number_kind number.kind) then None else (
-    ahead number.rest >? λ name.
-    if not (is_name_kind name.kind) then None else (
-    ahead name.rest >? λ last.
+    token_ahead s >? λ number.
+    if not (is_number_kind number.kind) then None else
+    token_ahead number.rest >? λ name.
+    if not (is_name_kind name.kind) then None else
+    token_ahead name.rest >? λ last.
     if spells (codes "put") last.kind last.text
-    then Some (goes (Some (coded number.kind name.text)) Codes last.rest) else None))
+    then Some (goes (Some (code_statement number.kind name.text)) Codes last.rest) else None
 
 -- A dup that begins no group is passed over alone.
-unfoldable pub code_turn : List ℕ → Turned
-code_turn s = elim (code_at s) [ Some t ↦ t | None ↦ passed Codes s ]
+unfoldable pub code_turn : List ℕ → TurnValue ClearMode
+code_turn s = elim (code_at s) [ Some t ↦ t | None ↦ pass Codes s ]
 
 -- A token in a custom encoding, and what follows it.
-unfoldable pub code_outside : Kind → List ℕ → List ℕ → Turned
-code_outside kind text rest =
+unfoldable pub code_token : Kind → List ℕ → List ℕ → TurnValue ClearMode
+code_token kind text rest =
     if spells (codes "eexec") kind text then over rest
-    else (if spells (codes "def") kind text then passed Outside rest
-    else (if spells (codes "dup") kind text then code_turn rest
-    else passed Codes rest))
+    else if spells (codes "def") kind text then pass Outside rest
+    else if spells (codes "dup") kind text then code_turn rest
+    else pass Codes rest
 
 -- A turn of the clear text.
-unfoldable pub clear_turn : FontValue → Mode → List ℕ → Result Turned Refusal
+unfoldable pub clear_turn : FontValue → ClearMode → List ℕ → Result (TurnValue ClearMode) Refusal
 clear_turn v mode s = wanted NoEexec s >>= λ t. elim mode [
   | Outside ↦ clear_outside t.kind t.text t.rest
-  | Codes ↦ Ok (code_outside t.kind t.text t.rest)
-  | Subrs ↦ clear_outside t.kind t.text t.rest
-  | Glyphs ↦ clear_outside t.kind t.text t.rest
+  | Codes ↦ Ok (code_token t.kind t.text t.rest)
 ]
 
 -- The bytes begin with %!.

@@ -12,29 +12,29 @@ same_name = pointwise nat_eq
 unfoldable pub clear_key : List ℕ → Option Key
 clear_key name =
     if same_name name (codes "/FontType") then Some FontType
-    else (if same_name name (codes "/PaintType") then Some PaintType
-    else (if same_name name (codes "/UniqueID") then Some UniqueId
-    else None))
+    else if same_name name (codes "/PaintType") then Some PaintType
+    else if same_name name (codes "/UniqueID") then Some UniqueId
+    else None
 
 -- The plain keys of the Private dictionary.
 unfoldable pub private_key : List ℕ → Option Key
 private_key name =
     if same_name name (codes "/UniqueID") then Some PrivateUniqueId
-    else (if same_name name (codes "/password") then Some Password
-    else (if same_name name (codes "/MinFeature") then Some MinFeature
-    else (if same_name name (codes "/lenIV") then Some LenIv
-    else (if same_name name (codes "/BlueValues") then Some BlueValues
-    else (if same_name name (codes "/OtherBlues") then Some OtherBlues
-    else (if same_name name (codes "/FamilyBlues") then Some FamilyBlues
-    else (if same_name name (codes "/FamilyOtherBlues") then Some FamilyOtherBlues
-    else (if same_name name (codes "/BlueScale") then Some BlueScale
-    else (if same_name name (codes "/BlueShift") then Some BlueShift
-    else (if same_name name (codes "/BlueFuzz") then Some BlueFuzz
-    else (if same_name name (codes "/StdHW") then Some StdHw
-    else (if same_name name (codes "/StdVW") then Some StdVw
-    else (if same_name name (codes "/StemSnapH") then Some StemSnapH
-    else (if same_name name (codes "/StemSnapV") then Some StemSnapV
-    else None))))))))))))))
+    else if same_name name (codes "/password") then Some Password
+    else if same_name name (codes "/MinFeature") then Some MinFeature
+    else if same_name name (codes "/lenIV") then Some LenIv
+    else if same_name name (codes "/BlueValues") then Some BlueValues
+    else if same_name name (codes "/OtherBlues") then Some OtherBlues
+    else if same_name name (codes "/FamilyBlues") then Some FamilyBlues
+    else if same_name name (codes "/FamilyOtherBlues") then Some FamilyOtherBlues
+    else if same_name name (codes "/BlueScale") then Some BlueScale
+    else if same_name name (codes "/BlueShift") then Some BlueShift
+    else if same_name name (codes "/BlueFuzz") then Some BlueFuzz
+    else if same_name name (codes "/StdHW") then Some StdHw
+    else if same_name name (codes "/StdVW") then Some StdVw
+    else if same_name name (codes "/StemSnapH") then Some StemSnapH
+    else if same_name name (codes "/StemSnapV") then Some StemSnapV
+    else None
 
 -- The place of a key among them.
 abbrev pub index_of : Key → ℕ

@@ -1,6 +1,5 @@
 -- Laws of what texts state.
 use Rattle.std.specs.Prelude.{◌≡◌, ℕ, List, [], ◌∷◌, ◌++◌}
-use Rattle.t1_font.specs.declared.mode.Mode.{Mode}
 use Rattle.t1_font.specs.declared.refusal.Refusal.{Refusal}
 use Rattle.t1_font.specs.Fonts.{Stated, Marks, value_of}
 use Rattle.t1_font.specs.Puts.{put}
@@ -12,6 +11,6 @@ abbrev pub OneMore : Type 0
 OneMore = (marks : Marks) (es : List Stated) (e : Stated) → value_of marks (es ++ e ∷ []) ≡ put (value_of marks es) e
 
 -- Reading while a value is kept is looking up afterwards.
-abbrev pub ReadAsStated : Type 0
-ReadAsStated = (turn : Reader) (ended : Refusal) (marks : Marks) (before : List Stated) (mode : Mode) (s : List ℕ) →
+abbrev pub ReadAsStated : Type 0 → Type 0
+ReadAsStated M = (turn : Reader M) (ended : Refusal) (marks : Marks) (before : List Stated) (mode : M) (s : List ℕ) →
     run_of turn ended (value_of marks before) mode s ≡ value_read marks (stated_in turn ended marks before mode s)

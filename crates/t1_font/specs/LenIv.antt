@@ -4,10 +4,10 @@ use Rattle.std.specs.Prelude.{ℤ, pos, negsuc, ◌&&◌, if◌then◌else◌, i
 use Rattle.t1_font.specs.Values.{Value, number}
 
 -- The whole of a number of billionths.
-abbrev pub whole_of : ℤ → ℤ
-whole_of z = int_div z (pos 1000000000)
+abbrev pub whole_part : ℤ → ℤ
+whole_part z = int_div z (pos 1000000000)
 
 unfoldable pub len_iv_of : Value → ℤ
 len_iv_of (number z) =
-    if int_le (negsuc 0) (whole_of z) && int_le (whole_of z) (pos 64) then whole_of z else pos 4
+    if int_le (negsuc 0) (whole_part z) && int_le (whole_part z) (pos 64) then whole_part z else pos 4
 len_iv_of _ = pos 4

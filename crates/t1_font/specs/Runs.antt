@@ -1,11 +1,10 @@
 -- Reading a text while a font's value is kept: each statement is put where it belongs.
 use Rattle.std.specs.Prelude.{ℕ, zero, suc, Result, Ok, Err, List, length}
-use Rattle.t1_font.specs.declared.mode.Mode.{Mode}
 use Rattle.t1_font.specs.declared.refusal.Refusal.{Refusal}
 use Rattle.t1_font.specs.Refusals.{◌>>=◌}
 use Rattle.t1_font.specs.Fonts.{Marks, FontValue, value_of}
 use Rattle.t1_font.specs.Puts.{put_one}
-use Rattle.t1_font.specs.Turns.{Turned, over, goes, Reader, TextRead}
+use Rattle.t1_font.specs.Turns.{TurnValue, over, goes, Reader, TextRead}
 
 -- The value that a text leaves, and what follows the text.
 pub record FontRead : Type 0 where
@@ -13,16 +12,16 @@ pub record FontRead : Type 0 where
   pub rest : List ℕ
 
 -- What follows a turn.
-abbrev pub go_on : (FontValue → Mode → List ℕ → Result FontRead Refusal) → FontValue → Turned → Result FontRead Refusal
+abbrev pub go_on : {M : Type 0} → (FontValue → M → List ℕ → Result FontRead Refusal) → FontValue → TurnValue M → Result FontRead Refusal
 go_on after v (over rest) = Ok (record { value = v; rest = rest })
 go_on after v (goes e mode left) = after (put_one v e) mode left
 
 -- Reading from this value on, by at most n turns.
-unfoldable pub run_within : Reader → Refusal → ℕ → FontValue → Mode → List ℕ → Result FontRead Refusal
+unfoldable pub run_within : {M : Type 0} → Reader M → Refusal → ℕ → FontValue → M → List ℕ → Result FontRead Refusal
 run_within turn ended zero v mode s = Err ended
 run_within turn ended (suc n) v mode s = turn v mode s >>= go_on (run_within turn ended n) v
 
-abbrev pub run_of : Reader → Refusal → FontValue → Mode → List ℕ → Result FontRead Refusal
+abbrev pub run_of : {M : Type 0} → Reader M → Refusal → FontValue → M → List ℕ → Result FontRead Refusal
 run_of turn ended v mode s = run_within turn ended (suc (length s)) v mode s
 
 -- What a text leaves, by all that is stated in it and before it.

@@ -1,5 +1,5 @@
 -- What a statement and a turn of the program say.
-use Rattle.std.specs.Prelude.{ℕ, Option, Some, None, List}
+use Rattle.std.specs.Prelude.{Option, Some, None}
 use Rattle.t1_scan.specs.declared.token.Token.{Token}
 use Rattle.t1_scan.specs.Texts.{Lexeme}
 use Rattle.t1_font.specs.declared.statement.Statement.{Statement}
@@ -7,24 +7,24 @@ use Rattle.t1_font.specs.declared.statement.Statement.TheVariants.{Plain, Encodi
 use Rattle.t1_font.specs.declared.statement.Turn.{Turn}
 use Rattle.t1_font.specs.declared.statement.Turn.TheVariants.{Over, Goes}
 use Rattle.t1_font.specs.Fonts.{Stated, plain, encoding, code, bad_code, size, subr, glyph}
-use Rattle.t1_font.specs.Turns.{Turned, over, goes}
+use Rattle.t1_font.specs.Turns.{TurnValue, over, goes}
 
 abbrev pub lexeme_of : Token → Lexeme
 lexeme_of t = record { kind = t.kind; text = t.text.now }
 
-abbrev pub stated : Statement → Stated
-stated (Plain k t) = plain k (lexeme_of t)
-stated (Encoding form) = encoding form
-stated (Code n name) = code n name.now
-stated BadCode = bad_code
-stated (Size n) = size n
-stated (Subr n bytes) = subr n bytes.now
-stated (Glyph name bytes) = glyph name.now bytes.now
+abbrev pub statement_view : Statement → Stated
+statement_view (Plain k t) = plain k (lexeme_of t)
+statement_view (Encoding form) = encoding form
+statement_view (Code n name) = code n name.now
+statement_view BadCode = bad_code
+statement_view (Size n) = size n
+statement_view (Subr n bytes) = subr n bytes.now
+statement_view (Glyph name bytes) = glyph name.now bytes.now
 
-abbrev pub stated_one : Option Statement → Option Stated
-stated_one None = None
-stated_one (Some s) = Some (stated s)
+abbrev pub view_if_any : Option Statement → Option Stated
+view_if_any None = None
+view_if_any (Some s) = Some (statement_view s)
 
-abbrev pub turned : Turn → List ℕ → Turned
-turned Over left = over left
-turned (Goes s mode) left = goes (stated_one s) mode left
+abbrev pub turn_view : {M : Type 0} → Turn M → TurnValue M
+turn_view (Over left) = over left.now
+turn_view (Goes s mode left) = goes (view_if_any s) mode left.now

@@ -1,34 +1,29 @@
 -- Tokens as the texts of a font are read by them.
 use Rattle.std.specs.Prelude.{◌≡◌, ℕ, ℤ, pos, Bool, true, false, Option, Some, None, Result, Ok, Err, List, ◌+◌, ◌/◌, ◌%◌, ◌==◌, ◌&&◌, ◌-◌, if◌then◌else◌, nat_lt, length, take, drop}
+use Rattle.std.specs.Borrow.{Bor}
 use Rattle.t1_scan.specs.declared.error.ScanError.{ScanError}
-use Rattle.t1_scan.specs.declared.scanner.Scanner.{Scanner}
 use Rattle.t1_scan.specs.declared.token.Kind.{Kind}
 use Rattle.t1_scan.specs.declared.token.Kind.TheVariants.{Number, Name, Word, Array}
 use Rattle.t1_scan.specs.declared.token.Token.{Token}
-use Rattle.t1_scan.specs.State.{left_of}
 use Rattle.t1_scan.specs.Tokens.{Found, token_of}
 use Rattle.t1_font.specs.declared.refusal.Refusal.{Refusal}
 use Rattle.t1_font.specs.declared.refusal.Refusal.TheVariants.{Unclosed, PastLimit}
 use Rattle.t1_font.specs.Refusals.{◌>>=◌}
 use Rattle.t1_font.specs.Keys.{same_name}
 
--- What is left of a scanner's text.
-unfoldable pub unread : Scanner → List ℕ
-unread s = left_of s
-
 -- The first token of a text, and what follows it.
 unfoldable pub token_at : List ℕ → Result (Option Found) ScanError
 token_at s = token_of s
 
 -- A token in front of a rest.
-abbrev pub before : Token → List ℕ → Found
-before t rest = record { kind = t.kind; text = t.text.now; rest = rest }
+abbrev pub found_of : Token → List ℕ → Found
+found_of t rest = record { kind = t.kind; text = t.text.now; rest = rest }
 
--- What a scanner gave is the first token of what was left.
-abbrev pub IsNext : List ℕ → Result (Option Token) ScanError → List ℕ → Type 0
-IsNext old (Ok (Some t)) new = token_at old ≡ Ok (Some (before t new))
-IsNext old (Ok None) new = token_at old ≡ Ok None
-IsNext old (Err e) new = token_at old ≡ Err e
+-- What was given is the first token of a text, and what follows it.
+abbrev pub IsFirst : List ℕ → Result (Option (Token × Bor (List ℕ))) ScanError → Type 0
+IsFirst s (Ok (Some p)) = token_at s ≡ Ok (Some (found_of p.0 p.1.now))
+IsFirst s (Ok None) = token_at s ≡ Ok None
+IsFirst s (Err e) = token_at s ≡ Err e
 
 -- A token that is wanted: one that isn't closed is refused as such, the end of the text as told.
 unfoldable pub wanted : Refusal → List ℕ → Result Found Refusal
@@ -38,8 +33,8 @@ wanted ended s = elim (token_at s) [
 ]
 
 -- A token that is looked at, if there is one.
-unfoldable pub ahead : List ℕ → Option Found
-ahead s = elim (token_at s) [ Err _ ↦ None | Ok found ↦ found ]
+unfoldable pub token_ahead : List ℕ → Option Found
+token_ahead s = elim (token_at s) [ Err _ ↦ None | Ok found ↦ found ]
 
 abbrev pub is_word_kind : Kind → Bool
 is_word_kind Word = true
@@ -57,25 +52,36 @@ abbrev pub is_array_kind : Kind → Bool
 is_array_kind Array = true
 is_array_kind _ = false
 
--- The word of these bytes.
-abbrev pub is_word : List ℕ → Found → Bool
-is_word bytes t = is_word_kind t.kind && same_name t.text bytes
-
 -- A number's value is counted in billionths.
 abbrev pub billion : ℕ
 billion = 1000000000
 
--- A whole number of 0 or more, at most this limit.
-abbrev pub natural_of : Refusal → ℕ → ℤ → Result ℕ Refusal
-natural_of bad limit (pos n) =
-    if n % billion == 0
-    then (if nat_lt limit (n / billion) then Err PastLimit else Ok (n / billion))
-    else Err bad
-natural_of bad limit _ = Err bad
+-- The whole number of 0 or more that so many billionths are.
+abbrev pub whole_of : ℤ → Option ℕ
+whole_of (pos n) = if n % billion == 0 then Some (n / billion) else None
+whole_of _ = None
 
+-- The whole number of 0 or more that a token is.
+unfoldable pub whole : Kind → Option ℕ
+whole (Number z) = whole_of z
+whole _ = None
+
+-- What is looked at next, if there is what was looked at first.
+infixl 10 ◌>?◌
+abbrev pub ◌>?◌ : {X Y : Type 0} → Option X → (X → Option Y) → Option Y
+(Some x) >? f = f x
+None >? f = None
+
+-- The whole number from 0 to a limit that a token is.
+unfoldable pub whole_up_to : ℕ → Kind → Option ℕ
+whole_up_to limit kind = whole kind >? λ n. if nat_lt limit n then None else Some n
+
+-- A whole number of 0 or more that is wanted, at most this limit.
 unfoldable pub natural : Refusal → ℕ → Kind → Result ℕ Refusal
-natural bad limit (Number z) = natural_of bad limit z
-natural bad limit _ = Err bad
+natural bad limit kind = elim (whole kind) [
+  | None ↦ Err bad
+  | Some n ↦ if nat_lt limit n then Err PastLimit else Ok n
+]
 
 -- One byte of any value, and so many that follow it, and the rest.
 unfoldable pub raw_of : ℕ → List ℕ → Option (List ℕ × List ℕ)
@@ -84,12 +90,6 @@ raw_of len s = if nat_lt (length s) (1 + len) then None else Some (take len (dro
 abbrev pub some_raw : Refusal → Option (List ℕ × List ℕ) → Result (List ℕ × List ℕ) Refusal
 some_raw bad None = Err bad
 some_raw bad (Some p) = Ok p
-
--- What is looked at next, if there is what was looked at first.
-infixl 10 ◌>?◌
-abbrev pub ◌>?◌ : {X Y : Type 0} → Option X → (X → Option Y) → Option Y
-(Some x) >? f = f x
-None >? f = None
 
 -- What was looked at, seen by view, is what there was.
 abbrev pub Sees : {X Y : Type 0} → (X → Y) → Option X → Option Y → Type 0

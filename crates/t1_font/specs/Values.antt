@@ -53,12 +53,12 @@ abbrev pub numbers_of : List ℕ → Option (List ℤ)
 numbers_of s = numbers_within (suc (length s)) s
 
 -- The value of a list, where so many numbers were passed, and these of them kept.
-abbrev pub told : ℕ → List ℤ → Option (List ℤ) → Value
-told count first None = other
-told count first (Some zs) = numbers (count + length zs) (take 16 (first ++ zs))
+abbrev pub list_after : ℕ → List ℤ → Option (List ℤ) → Value
+list_after count first None = other
+list_after count first (Some zs) = numbers (count + length zs) (take 16 (first ++ zs))
 
 unfoldable pub list_value : List ℕ → Value
-list_value inside = told 0 [] (numbers_of inside)
+list_value inside = list_after 0 [] (numbers_of inside)
 
 -- The value that a token is.
 unfoldable pub value_of_token : Lexeme → Value

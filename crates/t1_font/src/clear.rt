@@ -64,7 +64,8 @@ pub fn read_clear<'a>(alloc: Global, joined: &'a Joined) -> Result<Clear<'a>, Re
     }
     let no_end = joined.pfb & !joined.end_segment;
     let mut font = Font::new(alloc, no_end, joined.trailing);
-    let after = take_clear(&mut font, text)?;
+    let rest = take_clear(&mut font, text)?;
+    let after = text.len() - rest.len();
     Ok(Clear { font, after })
 }
 

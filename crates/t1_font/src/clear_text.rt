@@ -1,61 +1,56 @@
 //! Turns of the clear text: Type 1 Font Format 1.1, chapter 2.
 
-ghost use Rattle.std.specs.Prelude.{◌≡◌, false, OnOk, OnSome};
-ghost use Rattle.t1_scan.specs.State.{has_failed, text_of};
-ghost use Rattle.t1_font.specs.ClearText.{array_at, clear_outside, clear_turn, clear_value, code_at, code_outside, code_turn, coded, encoding_at, encoding_turn, is_code_count};
+ghost use Rattle.std.specs.Prelude.{◌≡◌};
+ghost use Rattle.t1_font.specs.ClearText.{array_at, clear_outside, clear_turn, clear_value, code_at, code_statement, code_token, code_turn, encoding_at, encoding_turn, is_code_count};
 ghost use Rattle.t1_font.specs.Fonts.{FontValue};
 ghost use Rattle.t1_font.specs.Refusals.{Is};
-ghost use Rattle.t1_font.specs.Statements.{stated, turned};
-ghost use Rattle.t1_font.specs.Tokens.{Sees, unread};
+ghost use Rattle.t1_font.specs.Statements.{statement_view, turn_view};
+ghost use Rattle.t1_font.specs.Tokens.{Sees};
 
 use crate::encoding::Encoding;
 use crate::key::{Key, clear_key};
-use crate::mode::Mode;
+use crate::mode::ClearMode;
 use crate::refusal::Refusal;
 use crate::statement::{Statement, Turn};
-use crate::tokens::{ahead, is_name, is_number, is_word, name, natural, wanted};
-use t1_scan::{Kind, Scanner};
+use crate::tokens::{BILLION, is_name, is_number, is_word, name, token_ahead, wanted, whole_up_to};
+use t1_scan::Kind;
 
-/// How many codes an encoding has.
-const CODES: u32 = 256;
+/// How many codes an encoding has, as `/Encoding` counts them.
+const CODES: i64 = 256;
+
+/// The greatest code.
+const LAST_CODE: u32 = 255;
 
 /// Takes a plain key's value, whatever it is.
 #[tactic(auto, unfolding(crate::specs::ClearText::clear_value))]
-fn clear_value<'a>(key: Option<Key>, scanner: &mut Scanner<'a>) -> Result<Turn<'a>, Refusal>
-    requires { has_failed scanner.old ≡ false }
-    ensures is { Is (λ t. turned t (unread scanner.new)) result (clear_value key (unread scanner.old)) }
-    ensures text { text_of scanner.new ≡ text_of scanner.old }
-    ensures live { OnOk result (has_failed scanner.new ≡ false) }
+fn clear_value<'a>(key: Option<Key>, text: &'a [u8]) -> Result<Turn<'a, ClearMode>, Refusal>
+    ensures { Is turn_view result (clear_value key text.now) }
 {
     let Some(key) = key else {
-        return Ok(Turn::Goes(None, Mode::Outside));
+        return Ok(Turn::Goes(None, ClearMode::Outside, text));
     };
-    let value = wanted(scanner, Refusal::NoEexec)?;
-    Ok(Turn::Goes(Some(Statement::Plain(key, value)), Mode::Outside))
+    let (value, rest) = wanted(text, Refusal::NoEexec)?;
+    Ok(Turn::Goes(Some(Statement::Plain(key, value)), ClearMode::Outside, rest))
 }
 
 /// Whether a token is the number 256.
-#[tactic(auto, unfolding(crate::specs::ClearText::is_code_count))]
 fn is_code_count(kind: Kind) -> bool
     ensures { result ≡ is_code_count kind }
 {
-    match natural(Refusal::PastLimit, CODES, kind) {
-        Ok(count) => count == CODES,
-        Err(_) => false,
+    match kind {
+        Kind::Number(value) => value == CODES * BILLION,
+        _ => false,
     }
 }
 
-/// Passes the word `array`, if it stands here.
+/// What is left behind the word `array`, if it stands here.
 #[tactic(auto, unfolding(crate::specs::ClearText::array_at))]
-fn pass_array(scanner: &mut Scanner<'_>) -> Option<()>
-    requires { has_failed scanner.old ≡ false }
-    ensures is { Sees (λ _. unread scanner.new) result (array_at (unread scanner.old)) }
-    ensures text { text_of scanner.new ≡ text_of scanner.old }
-    ensures live { OnSome result (has_failed scanner.new ≡ false) }
+fn past_array(text: &[u8]) -> Option<&[u8]>
+    ensures { Sees (λ rest. rest.now) result (array_at text.now) }
 {
-    let token = ahead(scanner)?;
+    let (token, rest) = token_ahead(text)?;
     if is_word(b"array", token.kind, token.text) {
-        Some(())
+        Some(rest)
     } else {
         None
     }
@@ -63,38 +58,40 @@ fn pass_array(scanner: &mut Scanner<'_>) -> Option<()>
 
 /// A standard or a custom encoding, if one stands here.
 #[tactic(auto, unfolding(crate::specs::ClearText::encoding_at))]
-fn encoding_at<'a>(scanner: &mut Scanner<'a>) -> Option<Turn<'a>>
-    requires { has_failed scanner.old ≡ false }
-    ensures is { Sees (λ t. turned t (unread scanner.new)) result (encoding_at (unread scanner.old)) }
-    ensures text { text_of scanner.new ≡ text_of scanner.old }
-    ensures live { OnSome result (has_failed scanner.new ≡ false) }
+fn encoding_at<'a>(text: &'a [u8]) -> Option<Turn<'a, ClearMode>>
+    ensures { Sees turn_view result (encoding_at text.now) }
 {
-    let token = ahead(scanner)?;
+    let (token, rest) = token_ahead(text)?;
     if is_word(b"StandardEncoding", token.kind, token.text) {
-        return Some(Turn::Goes(Some(Statement::Encoding(Encoding::Standard)), Mode::Outside));
+        return Some(Turn::Goes(
+            Some(Statement::Encoding(Encoding::Standard)),
+            ClearMode::Outside,
+            rest,
+        ));
     }
     if !is_code_count(token.kind) {
         return None;
     }
-    pass_array(scanner)?;
-    Some(Turn::Goes(Some(Statement::Encoding(Encoding::Custom)), Mode::Codes))
+    let rest = past_array(rest)?;
+    Some(Turn::Goes(
+        Some(Statement::Encoding(Encoding::Custom)),
+        ClearMode::Codes,
+        rest,
+    ))
 }
 
 /// What follows `/Encoding`; a token that doesn't fit isn't taken.
 #[tactic(auto, unfolding(crate::specs::ClearText::encoding_turn))]
-fn encoding_turn<'a>(scanner: &mut Scanner<'a>) -> Turn<'a>
-    requires { has_failed scanner.old ≡ false }
-    ensures is { turned result (unread scanner.new) ≡ encoding_turn (unread scanner.old) }
-    ensures text { text_of scanner.new ≡ text_of scanner.old }
-    ensures live { has_failed scanner.new ≡ false }
+fn encoding_turn<'a>(text: &'a [u8]) -> Turn<'a, ClearMode>
+    ensures { turn_view result ≡ encoding_turn text.now }
 {
-    let mut looking = *scanner;
-    match encoding_at(&mut looking) {
-        Some(turn) => {
-            *scanner = looking;
-            turn
-        }
-        None => Turn::Goes(Some(Statement::Encoding(Encoding::Other)), Mode::Outside),
+    match encoding_at(text) {
+        Some(turn) => turn,
+        None => Turn::Goes(
+            Some(Statement::Encoding(Encoding::Other)),
+            ClearMode::Outside,
+            text,
+        ),
     }
 }
 
@@ -103,113 +100,96 @@ fn encoding_turn<'a>(scanner: &mut Scanner<'a>) -> Turn<'a>
 fn clear_outside<'a>(
     kind: Kind,
     text: &'a [u8],
-    scanner: &mut Scanner<'a>,
-) -> Result<Turn<'a>, Refusal>
-    requires { has_failed scanner.old ≡ false }
-    ensures is { Is (λ t. turned t (unread scanner.new)) result (clear_outside kind text.now (unread scanner.old)) }
-    ensures text { text_of scanner.new ≡ text_of scanner.old }
-    ensures live { OnOk result (has_failed scanner.new ≡ false) }
+    rest: &'a [u8],
+) -> Result<Turn<'a, ClearMode>, Refusal>
+    ensures { Is turn_view result (clear_outside kind text.now rest.now) }
 {
     if is_word(b"eexec", kind, text) {
-        return Ok(Turn::Over);
+        return Ok(Turn::Over(rest));
     }
     if !is_name(kind) {
-        return Ok(Turn::Goes(None, Mode::Outside));
+        return Ok(Turn::Goes(None, ClearMode::Outside, rest));
     }
     if text == b"/WeightVector".as_slice() {
         return Err(Refusal::MultipleMaster);
     }
     if text == b"/Encoding".as_slice() {
-        return Ok(encoding_turn(scanner));
+        return Ok(encoding_turn(rest));
     }
-    clear_value(clear_key(text), scanner)
+    clear_value(clear_key(text), rest)
 }
 
 /// What a custom encoding's code and name say.
-#[tactic(auto, unfolding(crate::specs::ClearText::coded))]
-fn coded<'a>(kind: Kind, text: &'a [u8]) -> Statement<'a>
-    ensures { stated result ≡ coded kind text.now }
+#[tactic(auto, unfolding(crate::specs::ClearText::code_statement))]
+fn code_statement<'a>(kind: Kind, text: &'a [u8]) -> Statement<'a>
+    ensures { statement_view result ≡ code_statement kind text.now }
 {
-    match natural(Refusal::PastLimit, CODES - 1, kind) {
-        Ok(code) => Statement::Code(code, name(text)),
-        Err(_) => Statement::BadCode,
+    match whole_up_to(LAST_CODE, kind) {
+        Some(code) => Statement::Code(code, name(text)),
+        None => Statement::BadCode,
     }
 }
 
 /// A group of a custom encoding behind its `dup`, if one stands here.
 #[tactic(auto, unfolding(crate::specs::ClearText::code_at))]
-fn code_at<'a>(scanner: &mut Scanner<'a>) -> Option<Turn<'a>>
-    requires { has_failed scanner.old ≡ false }
-    ensures is { Sees (λ t. turned t (unread scanner.new)) result (code_at (unread scanner.old)) }
-    ensures text { text_of scanner.new ≡ text_of scanner.old }
-    ensures live { OnSome result (has_failed scanner.new ≡ false) }
+fn code_at<'a>(text: &'a [u8]) -> Option<Turn<'a, ClearMode>>
+    ensures { Sees turn_view result (code_at text.now) }
 {
-    let number = ahead(scanner)?;
+    let (number, rest) = token_ahead(text)?;
     if !is_number(number.kind) {
         return None;
     }
-    let name = ahead(scanner)?;
+    let (name, rest) = token_ahead(rest)?;
     if !is_name(name.kind) {
         return None;
     }
-    let last = ahead(scanner)?;
+    let (last, rest) = token_ahead(rest)?;
     if !is_word(b"put", last.kind, last.text) {
         return None;
     }
-    Some(Turn::Goes(Some(coded(number.kind, name.text)), Mode::Codes))
+    let code = code_statement(number.kind, name.text);
+    Some(Turn::Goes(Some(code), ClearMode::Codes, rest))
 }
 
 /// What follows a `dup` of a custom encoding; one that begins no group is passed over alone.
 #[tactic(auto, unfolding(crate::specs::ClearText::code_turn))]
-fn code_turn<'a>(scanner: &mut Scanner<'a>) -> Turn<'a>
-    requires { has_failed scanner.old ≡ false }
-    ensures is { turned result (unread scanner.new) ≡ code_turn (unread scanner.old) }
-    ensures text { text_of scanner.new ≡ text_of scanner.old }
-    ensures live { has_failed scanner.new ≡ false }
+fn code_turn<'a>(text: &'a [u8]) -> Turn<'a, ClearMode>
+    ensures { turn_view result ≡ code_turn text.now }
 {
-    let mut looking = *scanner;
-    match code_at(&mut looking) {
-        Some(turn) => {
-            *scanner = looking;
-            turn
-        }
-        None => Turn::Goes(None, Mode::Codes),
+    match code_at(text) {
+        Some(turn) => turn,
+        None => Turn::Goes(None, ClearMode::Codes, text),
     }
 }
 
 /// A token of a custom encoding.
-#[tactic(auto, unfolding(crate::specs::ClearText::code_outside))]
-fn code_outside<'a>(kind: Kind, text: &'a [u8], scanner: &mut Scanner<'a>) -> Turn<'a>
-    requires { has_failed scanner.old ≡ false }
-    ensures is { turned result (unread scanner.new) ≡ code_outside kind text.now (unread scanner.old) }
-    ensures text { text_of scanner.new ≡ text_of scanner.old }
-    ensures live { has_failed scanner.new ≡ false }
+#[tactic(auto, unfolding(crate::specs::ClearText::code_token))]
+fn code_token<'a>(kind: Kind, text: &'a [u8], rest: &'a [u8]) -> Turn<'a, ClearMode>
+    ensures { turn_view result ≡ code_token kind text.now rest.now }
 {
     if is_word(b"eexec", kind, text) {
-        return Turn::Over;
+        return Turn::Over(rest);
     }
     if is_word(b"def", kind, text) {
-        return Turn::Goes(None, Mode::Outside);
+        return Turn::Goes(None, ClearMode::Outside, rest);
     }
     if is_word(b"dup", kind, text) {
-        return code_turn(scanner);
+        return code_turn(rest);
     }
-    Turn::Goes(None, Mode::Codes)
+    Turn::Goes(None, ClearMode::Codes, rest)
 }
 
 /// One turn of the clear text.
 #[tactic(auto, unfolding(crate::specs::ClearText::clear_turn))]
-pub(crate) fn clear_turn<'a>(mode: Mode, scanner: &mut Scanner<'a>) -> Result<Turn<'a>, Refusal>
-    requires { has_failed scanner.old ≡ false }
-    ensures is { (v : FontValue) → Is (λ t. turned t (unread scanner.new)) result (clear_turn v mode (unread scanner.old)) }
-    ensures text { text_of scanner.new ≡ text_of scanner.old }
-    ensures live { OnOk result (has_failed scanner.new ≡ false) }
+pub(crate) fn clear_turn<'a>(
+    mode: ClearMode,
+    text: &'a [u8],
+) -> Result<Turn<'a, ClearMode>, Refusal>
+    ensures { (v : FontValue) → Is turn_view result (clear_turn v mode text.now) }
 {
-    let token = wanted(scanner, Refusal::NoEexec)?;
+    let (token, rest) = wanted(text, Refusal::NoEexec)?;
     match mode {
-        Mode::Codes => Ok(code_outside(token.kind, token.text, scanner)),
-        Mode::Outside | Mode::Subrs | Mode::Glyphs => {
-            clear_outside(token.kind, token.text, scanner)
-        }
+        ClearMode::Outside => clear_outside(token.kind, token.text, rest),
+        ClearMode::Codes => Ok(code_token(token.kind, token.text, rest)),
     }
 }

@@ -1,15 +1,13 @@
 //! Plain values: Type 1 Font Format 1.1, chapters 2 and 5.
 
 ghost use Rattle.std.specs.Prelude.{◌≡◌, ◌++◌, ◌∷◌, ◌≤◌, [], false, length, take};
-ghost use Rattle.t1_scan.specs.State.{has_failed};
-ghost use Rattle.t1_font.specs.Entries.{IsLiveItem, entry_view, item_view, kind_item};
+ghost use Rattle.t1_font.specs.Entries.{entry_view, item_view};
 ghost use Rattle.t1_font.specs.LenIv.{len_iv_of};
-ghost use Rattle.t1_font.specs.Tokens.{unread};
-ghost use Rattle.t1_font.specs.Values.{item_at, list_value, value_of_token};
+ghost use Rattle.t1_font.specs.Values.{item_at, item_of, list_value, value_of_token};
 
-use crate::tokens::{first_token, inside, scanner_over};
+use crate::tokens::{BILLION, first, inside};
 use arrayvec::ArrayVec;
-use t1_scan::{Kind, Scanner};
+use t1_scan::Kind;
 
 /// How many numbers of a list are kept.
 const KEPT: usize = 16;
@@ -56,7 +54,7 @@ impl Entry {
         let Entry::Number(value) = self else {
             return DEFAULT_LEN_IV;
         };
-        let whole = *value / 1_000_000_000;
+        let whole = *value / BILLION;
         if whole >= -1 && whole <= 64 {
             whole as i8
         } else {
@@ -76,32 +74,31 @@ fn copied(first: &ArrayVec<i64, 16>) -> ArrayVec<i64, 16>
 
 /// What a list has next.
 #[derive(Clone, Copy)]
-enum Item {
+enum Item<'a> {
     End,
-    Number(i64),
+    /// A number, and what follows it.
+    Number(i64, &'a [u8]),
     /// A token that isn't a number, or isn't closed.
     Other,
 }
 
 /// What a token is in a list.
-fn listed(kind: Kind) -> Item
-    ensures { result ≡ kind_item kind }
+fn listed(kind: Kind, rest: &[u8]) -> Item<'_>
+    ensures { item_view result ≡ item_of kind rest.now }
 {
     match kind {
-        Kind::Number(number) => Item::Number(number),
+        Kind::Number(number) => Item::Number(number, rest),
         _ => Item::Other,
     }
 }
 
-/// What follows in a list.
+/// What a list begins with.
 #[tactic(auto, unfolding(crate::specs::Values::item_at))]
-fn next_item(scanner: &mut Scanner<'_>) -> Item
-    requires { has_failed scanner.old ≡ false }
-    ensures is { item_view result (unread scanner.new) ≡ item_at (unread scanner.old) }
-    ensures live { IsLiveItem result (has_failed scanner.new) }
+fn first_item(text: &[u8]) -> Item<'_>
+    ensures { item_view result ≡ item_at text.now }
 {
-    match first_token(scanner) {
-        Ok(Some(token)) => listed(token.kind),
+    match first(text) {
+        Ok(Some((token, rest))) => listed(token.kind, rest),
         Ok(None) => Item::End,
         Err(_) => Item::Other,
     }
@@ -122,15 +119,16 @@ fn keep(first: &mut ArrayVec<i64, 16>, number: i64)
 fn list(text: &[u8]) -> Entry
     ensures { entry_view result ≡ list_value text.now }
 {
-    let mut scanner = scanner_over(text);
+    let mut left = text;
     let mut count = 0;
-    let mut first = ArrayVec::new();
+    let mut kept = ArrayVec::new();
     'items: loop {
-        match next_item(&mut scanner) {
-            Item::End => return Entry::Numbers { count, first },
-            Item::Number(number) => {
-                keep(&mut first, number);
+        match first_item(left) {
+            Item::End => return Entry::Numbers { count, first: kept },
+            Item::Number(number, rest) => {
+                keep(&mut kept, number);
                 count += 1;
+                left = rest;
             }
             Item::Other => return Entry::Other,
         }

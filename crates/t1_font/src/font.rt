@@ -8,7 +8,7 @@ ghost use Rattle.t1_font.specs.Keys.{index_of, same_name};
 ghost use Rattle.t1_font.specs.LenIv.{len_iv_of};
 ghost use Rattle.t1_font.specs.PrivateText.{has_key};
 ghost use Rattle.t1_font.specs.Puts.{put, put_one};
-ghost use Rattle.t1_font.specs.Statements.{lexeme_of, stated, stated_one};
+ghost use Rattle.t1_font.specs.Statements.{lexeme_of, statement_view, view_if_any};
 ghost use Rattle.t1_font.specs.Values.{absent};
 ghost use Rattle.t1_font.specs.Views.{bytes_of, flag_of, name_pair, number_pair};
 ghost use Rattle.t1_font.specs.declared.key.Key.TheVariants.{LenIv};
@@ -204,7 +204,7 @@ impl<'a> Font<'a> {
 
     /// Takes what a text states. Where memory is wanting the font is of no more use.
     pub(crate) fn put_one(&mut self, statement: Option<Statement<'a>>) -> Result<(), Refusal>
-        ensures ok { OnOk result (self.new ≡ put_one self.old (stated_one statement.entry)) }
+        ensures ok { OnOk result (self.new ≡ put_one self.old (view_if_any statement.entry)) }
         ensures memory { IfErr result (λ e. e ≡ Memory) }
     {
         match statement {
@@ -214,7 +214,7 @@ impl<'a> Font<'a> {
     }
 
     fn put(&mut self, statement: Statement<'a>) -> Result<(), Refusal>
-        ensures ok { OnOk result (self.new ≡ put self.old (stated statement.entry)) }
+        ensures ok { OnOk result (self.new ≡ put self.old (statement_view statement.entry)) }
         ensures memory { IfErr result (λ e. e ≡ Memory) }
     {
         match statement {

@@ -2,6 +2,8 @@
 
 ghost use Rattle.t1_font.specs.DifferentKeys.{DifferentStay};
 ghost use Rattle.t1_font.specs.Laws.{OneMore, ReadAsStated};
+ghost use Rattle.t1_font.specs.declared.mode.ClearMode.{ClearMode};
+ghost use Rattle.t1_font.specs.declared.mode.PrivateMode.{PrivateMode};
 ghost use Rattle.t1_font.specs.UsualExample.{SmallFontIsUsual};
 ghost use Rattle.t1_font.specs.UsualForms.{AdditionsInClear, AdditionsInPrivate, BlanksPass, BlanksPassInPrivate, DupPassesInCodes, ReadsUsualClear, ReadsUsualFonts, ReadsUsualPrivate, WordsPass, WordsPassInCodes, WordsPassInGlyphs, WordsPassInPrivate, WordsPassInSubrs};
 
@@ -14,7 +16,8 @@ pub fn statements_change_the_value()
 
 /// A text is read, while a value is kept, as what is looked up afterwards in all that it states.
 pub fn texts_are_read_as_stated()
-    ensures { ReadAsStated }
+    ensures clear { ReadAsStated ClearMode }
+    ensures private { ReadAsStated PrivateMode }
 {}
 
 /// Subrs, glyphs and codes whose numbers or names are all different are the font's just as they are

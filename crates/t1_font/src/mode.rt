@@ -1,12 +1,19 @@
-//! Where in a text reading is.
+//! Where in a text reading is: what the next token belongs to.
 
-/// What the next token belongs to.
+/// In the clear text.
 #[derive(Clone, Copy, Debug, PartialEq, Eq)]
-pub enum Mode {
-    /// A dictionary.
+pub enum ClearMode {
+    /// The font's dictionaries.
     Outside,
     /// A custom encoding.
     Codes,
+}
+
+/// In the private text.
+#[derive(Clone, Copy, Debug, PartialEq, Eq)]
+pub enum PrivateMode {
+    /// The Private dictionary.
+    Outside,
     Subrs,
     Glyphs,
 }

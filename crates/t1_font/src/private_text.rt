@@ -1,22 +1,20 @@
 //! Turns of the private text: Type 1 Font Format 1.1, chapters 2, 5 and 6.
 
-ghost use Rattle.std.specs.Prelude.{◌≡◌, false, OnOk};
-ghost use Rattle.t1_scan.specs.State.{has_failed};
-ghost use Rattle.t1_font.specs.PrivateText.{dup_turn, glyph_turn, glyphs_at, glyphs_outside, is_blank_text, is_len_iv, is_len_iv_key, is_minus_one, private_outside, private_turn, private_value, subr_at, subrs_at, subrs_outside, subrs_turn};
+ghost use Rattle.std.specs.Prelude.{◌≡◌};
+ghost use Rattle.t1_font.specs.PrivateText.{dup_turn, glyph_turn, glyphs_at, glyphs_token, is_blank_text, is_len_iv, is_len_iv_key, is_minus_one, private_outside, private_turn, private_value, subr_at, subrs_at, subrs_token, subrs_turn};
 ghost use Rattle.t1_font.specs.Refusals.{Is};
-ghost use Rattle.t1_font.specs.Statements.{turned};
-ghost use Rattle.t1_font.specs.Tokens.{unread};
+ghost use Rattle.t1_font.specs.Statements.{turn_view};
 
 use crate::font::Font;
 use crate::key::{Key, private_key};
-use crate::mode::Mode;
+use crate::mode::PrivateMode;
 use crate::refusal::Refusal;
 use crate::statement::{Statement, Turn};
 use crate::tokens::{
-    ahead, first_token, inside, is_any_word, is_array, is_name, is_number, is_word, name, natural,
-    next_charstring, pass_word, scanner_over, wanted,
+    BILLION, charstring, first, inside, is_any_word, is_array, is_name, is_number, is_word, name,
+    natural, past_word, token_ahead, wanted, whole_up_to,
 };
-use t1_scan::{Kind, Scanner};
+use t1_scan::Kind;
 
 /// A head counts at most so many Subrs or glyphs, and a font has at most so many glyphs.
 const MOST: u32 = 65_535;
@@ -27,15 +25,12 @@ const LAST_SUBR: u32 = 65_534;
 /// The greatest lenIV.
 const GREATEST_LEN_IV: u32 = 64;
 
-/// The least lenIV, in billionths.
-const LEAST_LEN_IV: i64 = -1_000_000_000;
-
 /// Whether a number is the least lenIV, which says that charstrings aren't encrypted.
 fn is_minus_one(kind: Kind) -> bool
     ensures { result ≡ is_minus_one kind }
 {
     match kind {
-        Kind::Number(value) => value == LEAST_LEN_IV,
+        Kind::Number(value) => value == -BILLION,
         _ => false,
     }
 }
@@ -45,7 +40,7 @@ fn is_minus_one(kind: Kind) -> bool
 fn is_len_iv(kind: Kind) -> bool
     ensures { result ≡ is_len_iv kind }
 {
-    is_minus_one(kind) || natural(Refusal::BadLenIv, GREATEST_LEN_IV, kind).is_ok()
+    is_minus_one(kind) || whole_up_to(GREATEST_LEN_IV, kind).is_some()
 }
 
 /// Whether a key is `/lenIV`.
@@ -57,24 +52,26 @@ fn is_len_iv_key(key: Key) -> bool
 
 /// Takes a plain key's value.
 #[tactic(auto, unfolding(crate::specs::PrivateText::private_value))]
-fn private_value<'a>(key: Option<Key>, scanner: &mut Scanner<'a>) -> Result<Turn<'a>, Refusal>
-    requires { has_failed scanner.old ≡ false }
-    ensures is { Is (λ t. turned t (unread scanner.new)) result (private_value key (unread scanner.old)) }
-    ensures live { OnOk result (has_failed scanner.new ≡ false) }
+fn private_value<'a>(key: Option<Key>, text: &'a [u8]) -> Result<Turn<'a, PrivateMode>, Refusal>
+    ensures { Is turn_view result (private_value key text.now) }
 {
     let Some(key) = key else {
-        return Ok(Turn::Goes(None, Mode::Outside));
+        return Ok(Turn::Goes(None, PrivateMode::Outside, text));
     };
     let ended = if is_len_iv_key(key) {
         Refusal::BadLenIv
     } else {
         Refusal::BadCharStrings
     };
-    let value = wanted(scanner, ended)?;
+    let (value, rest) = wanted(text, ended)?;
     if is_len_iv_key(key) && !is_len_iv(value.kind) {
         return Err(Refusal::BadLenIv);
     }
-    Ok(Turn::Goes(Some(Statement::Plain(key, value)), Mode::Outside))
+    Ok(Turn::Goes(
+        Some(Statement::Plain(key, value)),
+        PrivateMode::Outside,
+        rest,
+    ))
 }
 
 /// Whether blanks and comments alone stand in a text.
@@ -82,8 +79,7 @@ fn private_value<'a>(key: Option<Key>, scanner: &mut Scanner<'a>) -> Result<Turn
 fn is_blank_text(text: &[u8]) -> bool
     ensures { result ≡ is_blank_text text.now }
 {
-    let mut scanner = scanner_over(text);
-    match first_token(&mut scanner) {
+    match first(text) {
         Ok(None) => true,
         Ok(Some(_)) => false,
         Err(_) => false,
@@ -92,50 +88,44 @@ fn is_blank_text(text: &[u8]) -> bool
 
 /// The head of the Subrs: an array with nothing in it, or a count and the word `array`.
 #[tactic(auto, unfolding(crate::specs::PrivateText::subrs_at))]
-fn subrs_at<'a>(scanner: &mut Scanner<'a>) -> Result<Turn<'a>, Refusal>
-    requires { has_failed scanner.old ≡ false }
-    ensures is { Is (λ t. turned t (unread scanner.new)) result (subrs_at (unread scanner.old)) }
-    ensures live { OnOk result (has_failed scanner.new ≡ false) }
+fn subrs_at<'a>(text: &'a [u8]) -> Result<Turn<'a, PrivateMode>, Refusal>
+    ensures { Is turn_view result (subrs_at text.now) }
 {
-    let token = wanted(scanner, Refusal::BadSubrs)?;
+    let (token, rest) = wanted(text, Refusal::BadSubrs)?;
     if is_array(token.kind) {
         if !is_blank_text(inside(token.text)) {
             return Err(Refusal::BadSubrs);
         }
-        return Ok(Turn::Goes(Some(Statement::Size(0)), Mode::Outside));
+        return Ok(Turn::Goes(Some(Statement::Size(0)), PrivateMode::Outside, rest));
     }
     let size = natural(Refusal::BadSubrs, MOST, token.kind)?;
-    pass_word(scanner, Refusal::BadSubrs, b"array")?;
-    Ok(Turn::Goes(Some(Statement::Size(size)), Mode::Subrs))
+    let rest = past_word(rest, Refusal::BadSubrs, b"array")?;
+    Ok(Turn::Goes(Some(Statement::Size(size)), PrivateMode::Subrs, rest))
 }
 
 /// What follows `/Subrs`, which may stand once.
 #[tactic(auto, unfolding(crate::specs::PrivateText::subrs_turn))]
-fn subrs_turn<'a>(font: &Font<'a>, scanner: &mut Scanner<'a>) -> Result<Turn<'a>, Refusal>
-    requires { has_failed scanner.old ≡ false }
-    ensures is { Is (λ t. turned t (unread scanner.new)) result (subrs_turn font.now (unread scanner.old)) }
-    ensures live { OnOk result (has_failed scanner.new ≡ false) }
+fn subrs_turn<'a>(font: &Font<'a>, text: &'a [u8]) -> Result<Turn<'a, PrivateMode>, Refusal>
+    ensures { Is turn_view result (subrs_turn font.now text.now) }
 {
     if font.has_size() {
         Err(Refusal::SecondSubrs)
     } else {
-        subrs_at(scanner)
+        subrs_at(text)
     }
 }
 
 /// The head of the CharStrings.
 #[tactic(auto, unfolding(crate::specs::PrivateText::glyphs_at))]
-fn glyphs_at<'a>(scanner: &mut Scanner<'a>) -> Result<Turn<'a>, Refusal>
-    requires { has_failed scanner.old ≡ false }
-    ensures is { Is (λ t. turned t (unread scanner.new)) result (glyphs_at (unread scanner.old)) }
-    ensures live { OnOk result (has_failed scanner.new ≡ false) }
+fn glyphs_at<'a>(text: &'a [u8]) -> Result<Turn<'a, PrivateMode>, Refusal>
+    ensures { Is turn_view result (glyphs_at text.now) }
 {
-    let count = wanted(scanner, Refusal::BadCharStrings)?;
+    let (count, rest) = wanted(text, Refusal::BadCharStrings)?;
     natural(Refusal::BadCharStrings, MOST, count.kind)?;
-    pass_word(scanner, Refusal::BadCharStrings, b"dict")?;
-    pass_word(scanner, Refusal::BadCharStrings, b"dup")?;
-    pass_word(scanner, Refusal::BadCharStrings, b"begin")?;
-    Ok(Turn::Goes(None, Mode::Glyphs))
+    let rest = past_word(rest, Refusal::BadCharStrings, b"dict")?;
+    let rest = past_word(rest, Refusal::BadCharStrings, b"dup")?;
+    let rest = past_word(rest, Refusal::BadCharStrings, b"begin")?;
+    Ok(Turn::Goes(None, PrivateMode::Glyphs, rest))
 }
 
 /// A token outside the Subrs and the CharStrings.
@@ -144,73 +134,67 @@ fn private_outside<'a>(
     font: &Font<'a>,
     kind: Kind,
     text: &'a [u8],
-    scanner: &mut Scanner<'a>,
-) -> Result<Turn<'a>, Refusal>
-    requires { has_failed scanner.old ≡ false }
-    ensures is { Is (λ t. turned t (unread scanner.new)) result (private_outside font.now kind text.now (unread scanner.old)) }
-    ensures live { OnOk result (has_failed scanner.new ≡ false) }
+    rest: &'a [u8],
+) -> Result<Turn<'a, PrivateMode>, Refusal>
+    ensures { Is turn_view result (private_outside font.now kind text.now rest.now) }
 {
     if !is_name(kind) {
-        return Ok(Turn::Goes(None, Mode::Outside));
+        return Ok(Turn::Goes(None, PrivateMode::Outside, rest));
     }
     if text == b"/Subrs".as_slice() {
-        return subrs_turn(font, scanner);
+        return subrs_turn(font, rest);
     }
     if text == b"/CharStrings".as_slice() {
-        return glyphs_at(scanner);
+        return glyphs_at(rest);
     }
-    private_value(private_key(text), scanner)
+    private_value(private_key(text), rest)
 }
 
 /// A Subr, behind its `dup` and its number.
 #[tactic(auto, unfolding(crate::specs::PrivateText::subr_at))]
-fn subr_at<'a>(kind: Kind, scanner: &mut Scanner<'a>) -> Result<Turn<'a>, Refusal>
-    requires { has_failed scanner.old ≡ false }
-    ensures is { Is (λ t. turned t (unread scanner.new)) result (subr_at kind (unread scanner.old)) }
-    ensures live { OnOk result (has_failed scanner.new ≡ false) }
+fn subr_at<'a>(kind: Kind, text: &'a [u8]) -> Result<Turn<'a, PrivateMode>, Refusal>
+    ensures { Is turn_view result (subr_at kind text.now) }
 {
     let number = natural(Refusal::BadSubrs, LAST_SUBR, kind)?;
-    let bytes = next_charstring(scanner, Refusal::BadSubrs)?;
-    Ok(Turn::Goes(Some(Statement::Subr(number, bytes)), Mode::Subrs))
+    let (bytes, rest) = charstring(text, Refusal::BadSubrs)?;
+    Ok(Turn::Goes(
+        Some(Statement::Subr(number, bytes)),
+        PrivateMode::Subrs,
+        rest,
+    ))
 }
 
 /// What follows a `dup` of the Subrs: one without a number ends them.
 #[tactic(auto, unfolding(crate::specs::PrivateText::dup_turn))]
-fn dup_turn<'a>(scanner: &mut Scanner<'a>) -> Result<Turn<'a>, Refusal>
-    requires { has_failed scanner.old ≡ false }
-    ensures is { Is (λ t. turned t (unread scanner.new)) result (dup_turn (unread scanner.old)) }
-    ensures live { OnOk result (has_failed scanner.new ≡ false) }
+fn dup_turn<'a>(text: &'a [u8]) -> Result<Turn<'a, PrivateMode>, Refusal>
+    ensures { Is turn_view result (dup_turn text.now) }
 {
-    let mut looking = *scanner;
-    let Some(token) = ahead(&mut looking) else {
-        return Ok(Turn::Goes(None, Mode::Outside));
+    let Some((token, rest)) = token_ahead(text) else {
+        return Ok(Turn::Goes(None, PrivateMode::Outside, text));
     };
     if !is_number(token.kind) {
-        return Ok(Turn::Goes(None, Mode::Outside));
+        return Ok(Turn::Goes(None, PrivateMode::Outside, text));
     }
-    *scanner = looking;
-    subr_at(token.kind, scanner)
+    subr_at(token.kind, rest)
 }
 
 /// A token among the Subrs.
-#[tactic(auto, unfolding(crate::specs::PrivateText::subrs_outside))]
-fn subrs_outside<'a>(
+#[tactic(auto, unfolding(crate::specs::PrivateText::subrs_token))]
+fn subrs_token<'a>(
     font: &Font<'a>,
     kind: Kind,
     text: &'a [u8],
-    scanner: &mut Scanner<'a>,
-) -> Result<Turn<'a>, Refusal>
-    requires { has_failed scanner.old ≡ false }
-    ensures is { Is (λ t. turned t (unread scanner.new)) result (subrs_outside font.now kind text.now (unread scanner.old)) }
-    ensures live { OnOk result (has_failed scanner.new ≡ false) }
+    rest: &'a [u8],
+) -> Result<Turn<'a, PrivateMode>, Refusal>
+    ensures { Is turn_view result (subrs_token font.now kind text.now rest.now) }
 {
     if is_word(b"dup", kind, text) {
-        return dup_turn(scanner);
+        return dup_turn(rest);
     }
     if is_any_word(kind) {
-        return Ok(Turn::Goes(None, Mode::Subrs));
+        return Ok(Turn::Goes(None, PrivateMode::Subrs, rest));
     }
-    private_outside(font, kind, text, scanner)
+    private_outside(font, kind, text, rest)
 }
 
 /// A glyph, behind its name.
@@ -218,39 +202,39 @@ fn subrs_outside<'a>(
 fn glyph_turn<'a>(
     font: &Font<'a>,
     name: &'a [u8],
-    scanner: &mut Scanner<'a>,
-) -> Result<Turn<'a>, Refusal>
-    requires { has_failed scanner.old ≡ false }
-    ensures is { Is (λ t. turned t (unread scanner.new)) result (glyph_turn font.now name.now (unread scanner.old)) }
-    ensures live { OnOk result (has_failed scanner.new ≡ false) }
+    text: &'a [u8],
+) -> Result<Turn<'a, PrivateMode>, Refusal>
+    ensures { Is turn_view result (glyph_turn font.now name.now text.now) }
 {
-    if (font.glyph_count() >= MOST as usize) & !font.has_glyph(name) {
+    if font.glyph_count() >= MOST as usize && !font.has_glyph(name) {
         return Err(Refusal::PastLimit);
     }
-    let bytes = next_charstring(scanner, Refusal::BadCharStrings)?;
-    Ok(Turn::Goes(Some(Statement::Glyph(name, bytes)), Mode::Glyphs))
+    let (bytes, rest) = charstring(text, Refusal::BadCharStrings)?;
+    Ok(Turn::Goes(
+        Some(Statement::Glyph(name, bytes)),
+        PrivateMode::Glyphs,
+        rest,
+    ))
 }
 
 /// A token among the glyphs.
-#[tactic(auto, unfolding(crate::specs::PrivateText::glyphs_outside))]
-fn glyphs_outside<'a>(
+#[tactic(auto, unfolding(crate::specs::PrivateText::glyphs_token))]
+fn glyphs_token<'a>(
     font: &Font<'a>,
     kind: Kind,
     text: &'a [u8],
-    scanner: &mut Scanner<'a>,
-) -> Result<Turn<'a>, Refusal>
-    requires { has_failed scanner.old ≡ false }
-    ensures is { Is (λ t. turned t (unread scanner.new)) result (glyphs_outside font.now kind text.now (unread scanner.old)) }
-    ensures live { OnOk result (has_failed scanner.new ≡ false) }
+    rest: &'a [u8],
+) -> Result<Turn<'a, PrivateMode>, Refusal>
+    ensures { Is turn_view result (glyphs_token font.now kind text.now rest.now) }
 {
     if is_word(b"end", kind, text) {
-        return Ok(Turn::Over);
+        return Ok(Turn::Over(rest));
     }
     if is_any_word(kind) {
-        return Ok(Turn::Goes(None, Mode::Glyphs));
+        return Ok(Turn::Goes(None, PrivateMode::Glyphs, rest));
     }
     if is_name(kind) {
-        return glyph_turn(font, name(text), scanner);
+        return glyph_turn(font, name(text), rest);
     }
     Err(Refusal::BadCharStrings)
 }
@@ -259,17 +243,15 @@ fn glyphs_outside<'a>(
 #[tactic(auto, unfolding(crate::specs::PrivateText::private_turn))]
 pub(crate) fn private_turn<'a>(
     font: &Font<'a>,
-    mode: Mode,
-    scanner: &mut Scanner<'a>,
-) -> Result<Turn<'a>, Refusal>
-    requires { has_failed scanner.old ≡ false }
-    ensures is { Is (λ t. turned t (unread scanner.new)) result (private_turn font.now mode (unread scanner.old)) }
-    ensures live { OnOk result (has_failed scanner.new ≡ false) }
+    mode: PrivateMode,
+    text: &'a [u8],
+) -> Result<Turn<'a, PrivateMode>, Refusal>
+    ensures { Is turn_view result (private_turn font.now mode text.now) }
 {
-    let token = wanted(scanner, Refusal::BadCharStrings)?;
+    let (token, rest) = wanted(text, Refusal::BadCharStrings)?;
     match mode {
-        Mode::Outside | Mode::Codes => private_outside(font, token.kind, token.text, scanner),
-        Mode::Subrs => subrs_outside(font, token.kind, token.text, scanner),
-        Mode::Glyphs => glyphs_outside(font, token.kind, token.text, scanner),
+        PrivateMode::Outside => private_outside(font, token.kind, token.text, rest),
+        PrivateMode::Subrs => subrs_token(font, token.kind, token.text, rest),
+        PrivateMode::Glyphs => glyphs_token(font, token.kind, token.text, rest),
     }
 }

@@ -2,7 +2,6 @@
 
 use crate::encoding::Encoding;
 use crate::key::Key;
-use crate::mode::Mode;
 use t1_scan::Token;
 
 /// What a text states.
@@ -24,11 +23,11 @@ pub enum Statement<'a> {
     Glyph(&'a [u8], &'a [u8]),
 }
 
-/// One turn of reading.
+/// One turn of reading, `M` the modes of the text.
 #[derive(Clone, Copy)]
-pub enum Turn<'a> {
-    /// The text is over.
-    Over,
-    /// Reading goes on, after a statement or none.
-    Goes(Option<Statement<'a>>, Mode),
+pub enum Turn<'a, M> {
+    /// The text is over, and this is left.
+    Over(&'a [u8]),
+    /// Reading goes on at what is left, after a statement or none.
+    Goes(Option<Statement<'a>>, M, &'a [u8]),
 }

@@ -1,64 +1,53 @@
-//! Tokens and raw bytes, as the texts of a font are read by them.
+//! Tokens and raw bytes, as the texts of a font are read by them. Each reader takes what is left of a
+//! text, and gives what it reads and what is left behind that.
 
-ghost use Rattle.std.specs.Prelude.{◌≡◌, false, OnOk, OnSome, List, ℕ};
-ghost use Rattle.t1_scan.specs.State.{has_failed, text_of};
+ghost use Rattle.std.specs.Prelude.{◌≡◌};
 ghost use Rattle.t1_font.specs.Refusals.{Is};
-ghost use Rattle.t1_font.specs.Tokens.{IsNext, Sees, ahead, before, charstring_at, inside_of, is_array_kind, is_name_kind, is_number_kind, is_word_kind, name_of, natural, past_word, raw_of, some_raw, spells, unread, wanted};
+ghost use Rattle.t1_font.specs.Tokens.{IsFirst, Sees, charstring_at, found_of, inside_of, is_array_kind, is_name_kind, is_number_kind, is_word_kind, name_of, natural, past_word, raw_of, some_raw, spells, token_ahead, wanted, whole, whole_up_to};
 
 use crate::refusal::Refusal;
 use t1_scan::{Kind, ScanError, Scanner, Token};
 
 /// A number's value is counted in billionths.
-const BILLION: u64 = 1_000_000_000;
+pub(crate) const BILLION: i64 = 1_000_000_000;
 
 /// A charstring has at most so many bytes.
 const LONGEST_CHARSTRING: u32 = 65_535;
 
-/// A scanner that stands in front of a text.
-#[tactic(auto, unfolding(crate::specs::Tokens::unread))]
-pub(crate) fn scanner_over(text: &[u8]) -> Scanner<'_>
-    ensures unread { unread result ≡ text.now }
-    ensures text { text_of result ≡ text.now }
-    ensures live { has_failed result ≡ false }
+/// The first token, if one is left.
+pub(crate) fn first<'a>(text: &'a [u8]) -> Result<Option<(Token<'a>, &'a [u8])>, ScanError>
+    ensures { IsFirst text.now result }
 {
-    Scanner::new(text)
-}
-
-/// The first token of what is left.
-pub(crate) fn first_token<'a>(scanner: &mut Scanner<'a>) -> Result<Option<Token<'a>>, ScanError>
-    requires { has_failed scanner.old ≡ false }
-    ensures is { IsNext (unread scanner.old) result (unread scanner.new) }
-    ensures text { text_of scanner.new ≡ text_of scanner.old }
-    ensures live { OnOk result (has_failed scanner.new ≡ false) }
-{
-    scanner.next()
+    let mut scanner = Scanner::new(text);
+    match scanner.next() {
+        Ok(Some(token)) => {
+            let (_, rest) = text.split_at(token.to);
+            Ok(Some((token, rest)))
+        }
+        Ok(None) => Ok(None),
+        Err(error) => Err(error),
+    }
 }
 
 /// The token that has to follow; where the text is over the answer is `ended`.
 #[tactic(auto, unfolding(crate::specs::Tokens::wanted))]
-pub(crate) fn wanted<'a>(scanner: &mut Scanner<'a>, ended: Refusal) -> Result<Token<'a>, Refusal>
-    requires { has_failed scanner.old ≡ false }
-    ensures is { Is (λ t. before t (unread scanner.new)) result (wanted ended (unread scanner.old)) }
-    ensures text { text_of scanner.new ≡ text_of scanner.old }
-    ensures live { OnOk result (has_failed scanner.new ≡ false) }
+pub(crate) fn wanted<'a>(text: &'a [u8], ended: Refusal) -> Result<(Token<'a>, &'a [u8]), Refusal>
+    ensures { Is (λ p. found_of p.0 p.1.now) result (wanted ended text.now) }
 {
-    match first_token(scanner) {
-        Ok(Some(token)) => Ok(token),
+    match first(text) {
+        Ok(Some(found)) => Ok(found),
         Ok(None) => Err(ended),
         Err(ScanError::Unclosed) => Err(Refusal::Unclosed),
     }
 }
 
-/// The token that follows, if there is one; a scanner that only looks ahead is a copy.
-#[tactic(auto, unfolding(crate::specs::Tokens::ahead))]
-pub(crate) fn ahead<'a>(scanner: &mut Scanner<'a>) -> Option<Token<'a>>
-    requires { has_failed scanner.old ≡ false }
-    ensures is { Sees (λ t. before t (unread scanner.new)) result (ahead (unread scanner.old)) }
-    ensures text { text_of scanner.new ≡ text_of scanner.old }
-    ensures live { OnSome result (has_failed scanner.new ≡ false) }
+/// The token that follows, if there is one that is closed.
+#[tactic(auto, unfolding(crate::specs::Tokens::token_ahead))]
+pub(crate) fn token_ahead<'a>(text: &'a [u8]) -> Option<(Token<'a>, &'a [u8])>
+    ensures { Sees (λ p. found_of p.0 p.1.now) result (token_ahead text.now) }
 {
-    match first_token(scanner) {
-        Ok(token) => token,
+    match first(text) {
+        Ok(found) => found,
         Err(ScanError::Unclosed) => None,
     }
 }
@@ -98,70 +87,81 @@ pub(crate) fn is_word(word: &[u8], kind: Kind, text: &[u8]) -> bool
     is_any_word(kind) && text == word
 }
 
-/// The whole number of 0 or more, at most the limit, that a token is.
+/// The whole number of 0 or more that a token is.
+#[tactic(auto, unfolding(crate::specs::Tokens::whole))]
+fn whole(kind: Kind) -> Option<u64>
+    ensures { result ≡ whole kind }
+{
+    let Kind::Number(value) = kind else {
+        return None;
+    };
+    if value < 0 || value % BILLION != 0 {
+        return None;
+    }
+    Some((value / BILLION) as u64)
+}
+
+/// The whole number from 0 to a limit that a token is.
+#[tactic(auto, unfolding(crate::specs::Tokens::whole_up_to))]
+pub(crate) fn whole_up_to(limit: u32, kind: Kind) -> Option<u32>
+    ensures { result ≡ whole_up_to limit kind }
+{
+    let whole = whole(kind)?;
+    if whole > u64::from(limit) {
+        return None;
+    }
+    Some(whole as u32)
+}
+
+/// The whole number of 0 or more, at most the limit, that has to stand here.
 #[tactic(auto, unfolding(crate::specs::Tokens::natural))]
 pub(crate) fn natural(bad: Refusal, limit: u32, kind: Kind) -> Result<u32, Refusal>
     ensures { Is (λ n. n) result (natural bad limit kind) }
 {
-    let Kind::Number(value) = kind else {
+    let Some(whole) = whole(kind) else {
         return Err(bad);
     };
-    if value < 0 {
-        return Err(bad);
-    }
-    let units = value as u64;
-    if units % BILLION != 0 {
-        return Err(bad);
-    }
-    let whole = units / BILLION;
     if whole > u64::from(limit) {
         return Err(Refusal::PastLimit);
     }
     Ok(whole as u32)
 }
 
-/// Passes one byte of any value, and gives so many that follow it.
-fn next_raw<'a>(scanner: &mut Scanner<'a>, bad: Refusal, len: u32) -> Result<&'a [u8], Refusal>
-    requires { has_failed scanner.old ≡ false }
-    ensures is { Is (λ bytes. (bytes.now, unread scanner.new)) result (some_raw bad (raw_of len (unread scanner.old))) }
-    ensures live { has_failed scanner.new ≡ false }
+/// Passes one byte of any value, and gives so many that follow it, and what is left.
+#[tactic(auto, unfolding(crate::specs::Tokens::raw_of))]
+fn raw<'a>(text: &'a [u8], bad: Refusal, len: u32) -> Result<(&'a [u8], &'a [u8]), Refusal>
+    ensures { Is (λ p. (p.0.now, p.1.now)) result (some_raw bad (raw_of len text.now)) }
 {
-    match scanner.raw(len as usize) {
-        Some(bytes) => Ok(bytes),
-        None => Err(bad),
+    let len = len as usize;
+    if len >= text.len() {
+        return Err(bad);
     }
+    Ok(text[1..].split_at(len))
 }
 
-/// Passes a word that has to stand here.
+/// What is left behind a word that has to stand here.
 #[tactic(auto, unfolding(crate::specs::Tokens::past_word))]
-pub(crate) fn pass_word(scanner: &mut Scanner<'_>, bad: Refusal, word: &[u8]) -> Result<(), Refusal>
-    requires { has_failed scanner.old ≡ false }
-    ensures is { Is (λ _. unread scanner.new) result (past_word bad word.now (unread scanner.old)) }
-    ensures live { OnOk result (has_failed scanner.new ≡ false) }
+pub(crate) fn past_word<'a>(text: &'a [u8], bad: Refusal, word: &[u8]) -> Result<&'a [u8], Refusal>
+    ensures { Is (λ rest. rest.now) result (past_word bad word.now text.now) }
 {
-    let token = wanted(scanner, bad)?;
+    let (token, rest) = wanted(text, bad)?;
     if is_word(word, token.kind, token.text) {
-        Ok(())
+        Ok(rest)
     } else {
         Err(bad)
     }
 }
 
-/// The bytes of a charstring, behind their count, any word and one byte.
+/// The bytes of a charstring, behind their count, any word and one byte; and what is left.
 #[tactic(auto, unfolding(crate::specs::Tokens::charstring_at))]
-pub(crate) fn next_charstring<'a>(
-    scanner: &mut Scanner<'a>,
-    bad: Refusal,
-) -> Result<&'a [u8], Refusal>
-    requires { has_failed scanner.old ≡ false }
-    ensures is { Is (λ bytes. (bytes.now, unread scanner.new)) result (charstring_at bad (unread scanner.old)) }
-    ensures live { OnOk result (has_failed scanner.new ≡ false) }
+pub(crate) fn charstring<'a>(text: &'a [u8], bad: Refusal) -> Result<(&'a [u8], &'a [u8]), Refusal>
+    ensures { Is (λ p. (p.0.now, p.1.now)) result (charstring_at bad text.now) }
 {
-    let count = wanted(scanner, bad)?;
+    let (count, rest) = wanted(text, bad)?;
     let len = natural(bad, LONGEST_CHARSTRING, count.kind)?;
-    let word = wanted(scanner, bad)?;
+    let (word, rest) = wanted(rest, bad)?;
     if is_any_word(word.kind) {
-        next_raw(scanner, bad, len)
+        raw(rest, bad, len)
     } else {
         Err(bad)
     }

@@ -1,5 +1,8 @@
 use Rattle.t1_font.proofs.Reading.{read_as_stated}
 use Rattle.t1_font.proofs.laws.texts_are_read_as_stated.Goals as goal
 
-pub returns : goal.returns
-returns c = read_as_stated
+pub returns-clause-clear : goal.returns-clause-clear
+returns-clause-clear c = read_as_stated
+
+pub returns-clause-private : goal.returns-clause-private
+returns-clause-private c = read_as_stated
