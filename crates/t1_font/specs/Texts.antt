@@ -1,12 +1,14 @@
 -- What the two texts of a font are read as.
 use Rattle.std.specs.Prelude.{ℕ, ◌-◌, not, ◌&&◌, Result, Ok, Err, List, length}
 use Rattle.t1_seal.specs.declared.joined.Joined.{Joined}
+use Rattle.t1_font.specs.declared.mode.PrivateMode.TheVariants.{Outside}
 use Rattle.t1_font.specs.declared.refusal.Refusal.{Refusal}
+use Rattle.t1_font.specs.declared.refusal.Refusal.TheVariants.{BadCharStrings}
 use Rattle.t1_font.specs.Fonts.{Stated, Marks, FontValue, value_of}
 use Rattle.t1_font.specs.Turns.{TextRead}
-use Rattle.t1_font.specs.Runs.{FontRead}
+use Rattle.t1_font.specs.Runs.{FontRead, run_of}
 use Rattle.t1_font.specs.ClearText.{clear_of}
-use Rattle.t1_font.specs.PrivateText.{private_of}
+use Rattle.t1_font.specs.PrivateText.{private_turn, private_of}
 
 -- The marks of a font's file.
 abbrev pub marks_of : Joined → Marks
@@ -36,3 +38,7 @@ font_read marks before s = font_value_of marks (private_of marks before s)
 abbrev pub value_alone : Result FontRead Refusal → Result FontValue Refusal
 value_alone (Ok read) = Ok read.value
 value_alone (Err e) = Err e
+
+-- The font that the private text leaves, read on from this value.
+abbrev pub font_after : FontValue → List ℕ → Result FontValue Refusal
+font_after v s = value_alone (run_of private_turn BadCharStrings v Outside s)

@@ -4,7 +4,7 @@ ghost use Rattle.std.specs.Prelude.{◌≡◌, ◌≤◌, IfOk, List, Ok, drop, 
 ghost use Rattle.t1_font.specs.ClearText.{begins_as_font, clear_of};
 ghost use Rattle.t1_font.specs.Fonts.{Marks, Stated, value_of};
 ghost use Rattle.t1_font.specs.Refusals.{Gives};
-ghost use Rattle.t1_font.specs.Texts.{clear_read, font_read, marks_of};
+ghost use Rattle.t1_font.specs.Texts.{clear_read, font_after, font_read, marks_of};
 ghost use Rattle.t1_font.specs.Turns.{TextRead};
 
 use crate::font::Font;
@@ -72,7 +72,8 @@ pub fn read_clear<'a>(alloc: Global, joined: &'a Joined) -> Result<Clear<'a>, Re
 /// Reads the private text of a font, up to the `end` of its CharStrings, over what its clear text
 /// states. The font's maps grow by the allocator that `read_clear` was given.
 pub fn read_font<'a>(_alloc: Global, clear: Clear<'a>, text: &'a [u8]) -> Result<Font<'a>, Refusal>
-    ensures { (marks : Marks) (before : List Stated) → clear.entry.font ≡ value_of marks before →
+    ensures run { Gives (λ f. f) result (font_after clear.entry.font text.now) }
+    ensures stated { (marks : Marks) (before : List Stated) → clear.entry.font ≡ value_of marks before →
         Gives (λ f. f) result (font_read marks before text.now) }
 {
     let mut font = clear.into_font();

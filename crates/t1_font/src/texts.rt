@@ -8,7 +8,7 @@ ghost use Rattle.t1_font.specs.ClearText.{clear_turn};
 ghost use Rattle.t1_font.specs.PrivateText.{private_turn};
 ghost use Rattle.t1_font.specs.Refusals.{Gives};
 ghost use Rattle.t1_font.specs.Runs.{run_of};
-ghost use Rattle.t1_font.specs.Texts.{value_alone};
+ghost use Rattle.t1_font.specs.Texts.{font_after};
 
 use crate::clear_text::clear_turn;
 use crate::font::Font;
@@ -37,7 +37,7 @@ pub(crate) fn take_clear<'a>(font: &mut Font<'a>, text: &'a [u8]) -> Result<&'a 
 
 /// Takes what the private text states.
 pub(crate) fn take_private<'a>(font: &mut Font<'a>, text: &'a [u8]) -> Result<(), Refusal>
-    ensures { Gives (λ _. font.new) result (value_alone (run_of private_turn BadCharStrings font.old Outside text.now)) }
+    ensures { Gives (λ _. font.new) result (font_after font.old text.now) }
 {
     let mut left = text;
     let mut mode = PrivateMode::Outside;
