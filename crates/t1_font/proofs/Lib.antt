@@ -14,6 +14,7 @@ pub mod NumberLists
 pub mod PrivateItemsRead
 pub mod PrivateRead
 pub mod Reading
+pub mod Room
 pub mod Running
 pub mod Scanning
 pub mod Shorter

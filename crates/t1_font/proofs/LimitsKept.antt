@@ -1,6 +1,5 @@
 -- The value of all that a text states is within the limits, since each turn states what is.
-use Rattle.std.proofs.Common.{◌≡◌, ◌<◌, ◌≤◌, ◌+◌, ◌&&◌, ◌||◌, ℕ, zero, suc, Bool, true, false, cond, not, Option, Some, None, Result, Ok, Err, IfOk, List, [], ◌∷◌, length, nat_eq, nat_le, refl, ap, sym, ◌∙◌, subst, arith, inl, inr}
-use Rattle.std.proofs.lemmas.Bool.{cases_Bool}
+use Rattle.std.proofs.Common.{◌≡◌, ◌<◌, ◌≤◌, ℕ, zero, suc, true, false, cond, Option, Some, None, Result, Ok, Err, IfOk, List, [], ◌∷◌, length, nat_eq, refl, sym, subst, arith}
 use Rattle.std.proofs.lemmas.Bool.Decides.{nat_tests}
 use Rattle.std.proofs.lemmas.List.Elements.{All-nil, All-cons, All-head, All-tail}
 use Rattle.std.specs.List.{All}
@@ -10,14 +9,14 @@ use Rattle.t1_font.specs.declared.mode.PrivateMode.TheVariants.{Outside}
 use Rattle.t1_font.specs.declared.refusal.Refusal.{Refusal}
 use Rattle.t1_font.specs.declared.refusal.Refusal.TheVariants.{BadCharStrings, NoEexec}
 use Rattle.t1_font.specs.Refusals.{◌>>=◌}
-use Rattle.t1_font.specs.Keys.{same_name}
 use Rattle.t1_font.specs.Fonts.{Stated, Marks, FontValue, plain, encoding, code, bad_code, size, subr, glyph, value_of}
 use Rattle.t1_font.specs.Puts.{put, put_pair}
 use Rattle.t1_font.specs.Turns.{over, goes, TextRead, Reader, follow, with_one, stated_within}
 use Rattle.t1_font.specs.ClearText.{clear_turn, begins_as_font, clear_of}
-use Rattle.t1_font.specs.PrivateText.{has_key, private_turn, private_of}
+use Rattle.t1_font.specs.PrivateText.{private_turn, private_of}
 use Rattle.t1_font.specs.Texts.{font_value_of}
 use Rattle.t1_font.specs.Limits.{IsWithinLimits, ReadWithinLimits, FontsWithinLimits, NothingPastTheEnd}
+use Rattle.t1_font.proofs.Room.{room_put}
 use Rattle.t1_font.proofs.Stating.{value_step}
 use Rattle.t1_font.proofs.Compose.{either}
 use Rattle.t1_font.proofs.TurnsWithin.{Fits, FitsOne, Keeps, clear_fits, private_fits}
@@ -35,31 +34,6 @@ keys_put P (p ∷ ps) k v h a =
     elim (nat_eq k p.0) as (λ b. All (λ p. P p.0) (cond b ((p.0, v) ∷ ps) (p ∷ put_pair nat_eq ps k v))) [
       | true ↦ All-cons (λ p. P p.0) (p.0, v) ps first others
       | false ↦ All-cons (λ p. P p.0) p (put_pair nat_eq ps k v) first (keys_put P ps k v h others)
-    ]
-
-length_put : {K V : Type 0} (eq : K → K → Bool) (ps : List (K × V)) (k : K) (v : V) → length (put_pair eq ps k v) ≡ cond (has_key eq ps k) (length ps) (length ps + 1)
-length_put eq [] k v = refl
-length_put eq (p ∷ ps) k v =
-    elim (eq k p.0) as (λ b. length (cond b ((p.0, v) ∷ ps) (p ∷ put_pair eq ps k v)) ≡ cond (b || has_key eq ps k) (suc (length ps)) (suc (length ps) + 1)) [
-      | true ↦ refl
-      | false ↦ ap suc (length_put eq ps k v) ∙ (elim (has_key eq ps k) as (λ b. suc (cond b (length ps) (length ps + 1)) ≡ cond b (suc (length ps)) (suc (length ps) + 1)) [ true ↦ refl | false ↦ (let one : suc (length ps + 1) ≡ suc (length ps) + 1 = omega arith in one) ])
-    ]
-
--- There is room for one more.
-below : (n : ℕ) → (nat_le 65535 n && true) ≡ false → n < 65535
-below n h = elim (cases_Bool (nat_le 65535 n)) [
-  | inl y ↦ (let no : true ≡ false = rw y at h in cc)
-  | inr m ↦ grind (arith, nat_tests, m)
-]
-
-room_put : (ps : List (List ℕ × List ℕ)) (name bytes : List ℕ) → length ps ≤ 65535 → (nat_le 65535 (length ps) && not (has_key same_name ps name)) ≡ false → length (put_pair same_name ps name bytes) ≤ 65535
-room_put ps name bytes few room =
-    let count = length_put same_name ps name bytes in
-    elim (cases_Bool (has_key same_name ps name)) [
-      | inl y ↦ (let same : length (put_pair same_name ps name bytes) ≡ length ps = rw y at count in omega (arith, same, few))
-      | inr n ↦ (let more : length (put_pair same_name ps name bytes) ≡ length ps + 1 = rw n at count in
-          let free : (nat_le 65535 (length ps) && true) ≡ false = rw n at room in
-          let small = below (length ps) free in omega (arith, more, small))
     ]
 
 -- A statement more.

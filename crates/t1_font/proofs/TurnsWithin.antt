@@ -1,5 +1,5 @@
 -- Each turn of a text states only what is within the limits.
-use Rattle.std.proofs.Common.{◌≡◌, ◌<◌, ◌≤◌, ◌&&◌, ℕ, false, not, if◌then◌else◌, Option, Some, None, Ok, Err, rules, IfOk, IfSome, List, length, nat_lt, nat_le, arith, codes, inl, inr}
+use Rattle.std.proofs.Common.{◌≡◌, ◌<◌, ◌≤◌, ◌&&◌, ℕ, not, if◌then◌else◌, Option, Some, None, Ok, Err, rules, IfOk, IfSome, List, length, nat_lt, nat_le, arith, codes, inl, inr}
 use Rattle.std.proofs.lemmas.Bool.{cases_Bool}
 use Rattle.std.proofs.lemmas.Bool.Decides.{nat_tests}
 use Rattle.t1_scan.specs.declared.token.Kind.{Kind}
@@ -18,11 +18,8 @@ use Rattle.t1_font.specs.Fonts.{Stated, FontValue, plain, encoding, code, bad_co
 use Rattle.t1_font.specs.Turns.{TurnValue, over, goes}
 use Rattle.t1_font.specs.ClearText.{clear_value, array_at, encoding_at, encoding_turn, clear_outside, code_statement, code_at, code_turn, code_token, clear_turn, begins}
 use Rattle.t1_font.specs.PrivateText.{has_key, private_value, subrs_at, subrs_turn, glyphs_at, private_outside, subr_at, dup_turn, subrs_token, glyph_turn, glyphs_token, private_turn}
+use Rattle.t1_font.specs.Limits.{HasRoom, HasRoomFor}
 use Rattle.t1_font.proofs.Compose.{bind, next, either, choose, glance, which, found_or}
-
--- There is room for this glyph.
-abbrev pub HasRoom : FontValue → List ℕ → Type 0
-HasRoom v name = (nat_le 65535 (length v.glyphs) && not (has_key same_name v.glyphs name)) ≡ false
 
 -- A statement that leaves a value within the limits.
 abbrev pub Fits : FontValue → Stated → Type 0
@@ -37,6 +34,16 @@ Fits v (glyph name bytes) = HasRoom v name
 abbrev pub FitsOne : FontValue → Option Stated → Type 0
 FitsOne v None = Unit {0}
 FitsOne v (Some e) = Fits v e
+
+pub room_for : (v : FontValue) (e : Option Stated) → FitsOne v e → HasRoomFor v e
+room_for v None h = tt
+room_for v (Some (plain k t)) h = tt
+room_for v (Some (encoding form)) h = tt
+room_for v (Some (code n name)) h = tt
+room_for v (Some bad_code) h = tt
+room_for v (Some (size n)) h = tt
+room_for v (Some (subr n bytes)) h = tt
+room_for v (Some (glyph name bytes)) h = h
 
 -- What a turn states fits.
 abbrev pub Keeps : {M : Type 0} → FontValue → TurnValue M → Type 0
@@ -193,3 +200,9 @@ module _ (v : FontValue) where
   unfolding clear_turn
   clear_fits clear_modes.Outside s = next (Keeps v) (wanted NoEexec s) _ (λ t. clear_outside_fits t.kind t.text t.rest)
   clear_fits clear_modes.Codes s = next (Keeps v) (wanted NoEexec s) _ (λ t. code_token_fits t.kind t.text t.rest)
+
+pub private_room : (v : FontValue) (mode : PrivateMode) (s : List ℕ) (e : Option Stated) (next : PrivateMode) (left : List ℕ) → private_turn v mode s ≡ Ok (goes e next left) → HasRoomFor v e
+private_room v mode s e next left turn = let fits : FitsOne v e = rw turn at (private_fits v mode s) in room_for v e fits
+
+pub clear_room : (v : FontValue) (mode : ClearMode) (s : List ℕ) (e : Option Stated) (next : ClearMode) (left : List ℕ) → clear_turn v mode s ≡ Ok (goes e next left) → HasRoomFor v e
+clear_room v mode s e next left turn = let fits : FitsOne v e = rw turn at (clear_fits v mode s) in room_for v e fits

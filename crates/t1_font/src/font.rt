@@ -1,11 +1,12 @@
 //! The font: what was stated last of each thing.
 
-ghost use Rattle.std.specs.Prelude.{◌≡◌, [], false, nat_eq, length, map, is_some, OnOk, IfErr, slice_get, slice_index_or};
+ghost use Rattle.std.specs.Prelude.{◌≡◌, ◌≤◌, [], false, Some, nat_eq, length, map, is_some, OnOk, IfErr, slice_get, slice_index_or};
 ghost use Rattle.std.specs.Map.{lookup};
 ghost use Rattle.t1_font.specs.Fonts.{FontValue, Marks, value_of, plain, encoding, code, subr, glyph, some_or};
 ghost use Rattle.t1_font.specs.Entries.{entry_view};
 ghost use Rattle.t1_font.specs.Keys.{index_of, same_name};
 ghost use Rattle.t1_font.specs.LenIv.{len_iv_of};
+ghost use Rattle.t1_font.specs.Limits.{HasRoom, HasRoomFor};
 ghost use Rattle.t1_font.specs.PrivateText.{has_key};
 ghost use Rattle.t1_font.specs.Puts.{put, put_one};
 ghost use Rattle.t1_font.specs.Statements.{lexeme_of, statement_view, view_if_any};
@@ -42,7 +43,7 @@ pub struct Font<'a> {
 }
 
 impl<'a> Model for Font<'a> {
-    ghost use Rattle.std.specs.Prelude.{map};
+    ghost use Rattle.std.specs.Prelude.{◌≤◌, length, map};
     ghost use Rattle.t1_font.specs.Fonts.{FontValue};
     ghost use Rattle.t1_font.specs.Views.{number_pair, name_pair, name_flag};
 
@@ -61,6 +62,8 @@ impl<'a> Model for Font<'a> {
       no_end = f.no_end;
       extra = f.extra;
     } };
+
+    ghost invariant = { λ f. length f.glyphs.entries ≤ 65535 };
 }
 
 impl<'a> Font<'a> {
@@ -84,9 +87,10 @@ impl<'a> Font<'a> {
         }
     }
 
-    /// The glyphs, in the order of their first appearance, each with its last charstring.
+    /// The glyphs, in the order of their first appearance, each with its last charstring: at most 65,535.
     pub fn glyphs(&self) -> &IndexMap<&'a [u8], &'a [u8]>
-        ensures { map name_pair result.now.entries ≡ self.now.glyphs }
+        ensures entries { map name_pair result.now.entries ≡ self.now.glyphs }
+        ensures few { length self.now.glyphs ≤ 65535 }
     {
         &self.glyphs
     }
@@ -204,6 +208,7 @@ impl<'a> Font<'a> {
 
     /// Takes what a text states. Where memory is wanting the font is of no more use.
     pub(crate) fn put_one(&mut self, statement: Option<Statement<'a>>) -> Result<(), Refusal>
+        requires { HasRoomFor self.old (view_if_any statement) }
         ensures ok { OnOk result (self.new ≡ put_one self.old (view_if_any statement.entry)) }
         ensures memory { IfErr result (λ e. e ≡ Memory) }
     {
@@ -214,6 +219,7 @@ impl<'a> Font<'a> {
     }
 
     fn put(&mut self, statement: Statement<'a>) -> Result<(), Refusal>
+        requires { HasRoomFor self.old (Some (statement_view statement)) }
         ensures ok { OnOk result (self.new ≡ put self.old (statement_view statement.entry)) }
         ensures memory { IfErr result (λ e. e ≡ Memory) }
     {
@@ -274,6 +280,7 @@ impl<'a> Font<'a> {
     }
 
     fn put_glyph(&mut self, name: &'a [u8], bytes: &'a [u8]) -> Result<(), Refusal>
+        requires { HasRoom self.old name.now }
         ensures ok { OnOk result (self.new ≡ put self.old (glyph name.now bytes.now)) }
         ensures memory { IfErr result (λ e. e ≡ Memory) }
     {

@@ -4,6 +4,7 @@ use Rattle.t1_font.specs.declared.refusal.Refusal.TheVariants.{NoEexec}
 use Rattle.t1_font.specs.ClearText.{clear_turn}
 use Rattle.t1_font.proofs.Running.{fails, run_fails, run_goes, run_over, shorter}
 use Rattle.t1_font.proofs.Shorter.{clear_shortens}
+use Rattle.t1_font.proofs.TurnsWithin.{clear_room}
 use Rattle.t1_font.proofs.texts.take_clear.Goals as goal
 
 pub returns-in_err-rest : goal.returns-in_err-rest
@@ -30,3 +31,8 @@ turns-preserved c =
           rw c.in_ok-put_one-in-Goes.ensures.ok
           (sym (run_goes clear_turn NoEexec clear_shortens _ _ _ _ _ _ turn) ∙ c.turns.invariant.rest);
     }
+
+pub put_one-requires : goal.put_one-requires
+put_one-requires c =
+    let turn = rw c.in-Goes.is at (c.in_ok-rest.ensures c.turns.font) in
+    clear_room _ _ _ _ _ _ turn

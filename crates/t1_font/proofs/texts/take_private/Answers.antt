@@ -5,6 +5,7 @@ use Rattle.t1_font.specs.PrivateText.{private_turn}
 use Rattle.t1_font.specs.Texts.{value_alone}
 use Rattle.t1_font.proofs.Running.{fails, run_fails, run_goes, run_over, shorter}
 use Rattle.t1_font.proofs.Shorter.{private_shortens}
+use Rattle.t1_font.proofs.TurnsWithin.{private_room}
 use Rattle.t1_font.proofs.texts.take_private.Goals as goal
 
 pub returns-in_err-private_turn : goal.returns-in_err-private_turn
@@ -31,3 +32,8 @@ turns-preserved c =
           rw c.in_ok-put_one-in-Goes.ensures.ok
           (sym (run_goes private_turn BadCharStrings private_shortens _ _ _ _ _ _ turn) ∙ c.turns.invariant.rest);
     }
+
+pub put_one-requires : goal.put_one-requires
+put_one-requires c =
+    let turn = rw c.in-Goes.is at c.in_ok-private_turn.ensures in
+    private_room _ _ _ _ _ _ turn
