@@ -28,7 +28,7 @@ one_more names run =
     ]
 
 -- Names more.
-fewer : (more names : List (List ℕ)) → length (firsts same_name names) ≤ length (firsts same_name (names ++ more))
+pub fewer : (more names : List (List ℕ)) → length (firsts same_name names) ≤ length (firsts same_name (names ++ more))
 fewer [] names = rw (append-nil names) (omega arith)
 fewer (run ∷ more) names =
     let one = one_more names run in

@@ -30,16 +30,16 @@ pub record Header (count : Plain) (s left : List ℕ) : Type 0 where
   pub dup : BeginsWith b (word (codes "dup")) c
   pub begin : BeginsWith c (word (codes "begin")) left
 
-header_is : (count : Plain) (s left : List ℕ) → IsCount count → Header count s left → glyphs_at s ≡ Ok (goes None Glyphs left)
+pub header_is : (count : Plain) (s left : List ℕ) → IsCount count → Header count s left → glyphs_at s ≡ Ok (goes None Glyphs left)
 unfolding glyphs_at
 header_is count s left is h =
     rw (wanted_is BadCharStrings s count h.a h.number, natural_is BadCharStrings 65535 is.value count is.whole is.small, past_word_is BadCharStrings (codes "dict") h.a h.b h.dict, past_word_is BadCharStrings (codes "dup") h.b h.c h.dup, past_word_is BadCharStrings (codes "begin") h.c left h.begin) refl
 
-glyphs_name : (v : FontValue) (rest : List ℕ) → private_outside v Name (codes "/CharStrings") rest ≡ glyphs_at rest
+pub glyphs_name : (v : FontValue) (rest : List ℕ) → private_outside v Name (codes "/CharStrings") rest ≡ glyphs_at rest
 unfolding private_outside
 glyphs_name v rest = refl
 
-name_turn : (still : Bool) (v : FontValue) (s left : List ℕ) → BeginsWith s (name (codes "CharStrings")) left → private_turn v (mode_of still) s ≡ glyphs_at left
+pub name_turn : (still : Bool) (v : FontValue) (s left : List ℕ) → BeginsWith s (name (codes "CharStrings")) left → private_turn v (mode_of still) s ≡ glyphs_at left
 name_turn true v s left h = name_among v s (codes "CharStrings") left h ∙ glyphs_name v left
 name_turn false v s left h = outside v s (name (codes "CharStrings")) left h ∙ glyphs_name v left
 
@@ -56,7 +56,7 @@ word_among : (v : FontValue) (t : Plain) (rest : List ℕ) → is_word_kind (mea
 unfolding glyphs_token
 word_among v t rest is other = rw (other, is) refl
 
-name_among_glyphs : (v : FontValue) (s run left : List ℕ) → BeginsWith s (name run) left → private_turn v Glyphs s ≡ glyph_turn v run left
+pub name_among_glyphs : (v : FontValue) (s run left : List ℕ) → BeginsWith s (name run) left → private_turn v Glyphs s ≡ glyph_turn v run left
 unfolding glyphs_token
 name_among_glyphs v s run left h = among v s (name run) left h
 
@@ -66,9 +66,13 @@ unfolding glyph_turn
 glyph_is v run c s left room good h = rw (room, charstring_is BadCharStrings c s left good h) refl
 
 -- What an item states has its names.
-item_names : (item : GlyphItem) → names_of (glyph_states item) ≡ glyph_names item
+pub item_names : (item : GlyphItem) → names_of (glyph_states item) ≡ glyph_names item
 item_names (glyph_entry run c) = refl
 item_names (between_glyphs t) = refl
+
+pub items_names : (items : List GlyphItem) → names_of (flat_map glyph_states items) ≡ flat_map glyph_names items
+items_names [] = refl
+items_names (item ∷ items) = names_more (glyph_states item) (flat_map glyph_states items) ∙ rw (item_names item, items_names items) refl
 
 few_left : (item : GlyphItem) (before : List Stated) (more : List (List ℕ)) → length (firsts same_name (names_of before ++ (glyph_names item ++ more))) ≤ 65535 → length (firsts same_name (names_of (before ++ glyph_states item) ++ more)) ≤ 65535
 few_left item before more few =
@@ -87,7 +91,7 @@ module _ (marks : Marks) where
       on marks before Glyphs s None Glyphs left (among v s t left (last_token s t left h) ∙ word_among v t left is_word is.1)
       ∙ nothing_more marks before Glyphs left
 
-  items_read : (items : List GlyphItem) (before : List Stated) (s left : List ℕ) → All IsGlyphItem items → length (firsts same_name (names_of before ++ flat_map glyph_names items)) ≤ 65535 → IsWritten s (flat_map glyph_pieces items) left → read marks before Glyphs s ≡ read marks (before ++ flat_map glyph_states items) Glyphs left
+  pub items_read : (items : List GlyphItem) (before : List Stated) (s left : List ℕ) → All IsGlyphItem items → length (firsts same_name (names_of before ++ flat_map glyph_names items)) ≤ 65535 → IsWritten s (flat_map glyph_pieces items) left → read marks before Glyphs s ≡ read marks (before ++ flat_map glyph_states items) Glyphs left
   items_read [] before s left are few h = ap (read marks before Glyphs) h ∙ nothing_more marks before Glyphs left
   items_read (item ∷ items) before s left are few h =
       let p = parts s (glyph_pieces item) (flat_map glyph_pieces items) left h in

@@ -1,3 +1,4 @@
+pub mod BrokenRead
 pub mod ClearItemsRead
 pub mod CodesRead
 pub mod Compose

@@ -39,15 +39,15 @@ unfolding subrs_token
 name_among v s run left h = among v s (name run) left h
 
 -- The names of another meaning are no plain keys.
-no_subrs_key : private_key (codes "/Subrs") ≡ None
+pub no_subrs_key : private_key (codes "/Subrs") ≡ None
 unfolding private_key
 no_subrs_key = refl
 
-no_glyphs_key : private_key (codes "/CharStrings") ≡ None
+pub no_glyphs_key : private_key (codes "/CharStrings") ≡ None
 unfolding private_key
 no_glyphs_key = refl
 
-name_outside : (v : FontValue) (text rest : List ℕ) → same_name text (codes "/Subrs") ≡ false → same_name text (codes "/CharStrings") ≡ false → private_outside v Name text rest ≡ private_value (private_key text) rest
+pub name_outside : (v : FontValue) (text rest : List ℕ) → same_name text (codes "/Subrs") ≡ false → same_name text (codes "/CharStrings") ≡ false → private_outside v Name text rest ≡ private_value (private_key text) rest
 unfolding private_outside
 name_outside v text rest a b = rw (a, b) refl
 

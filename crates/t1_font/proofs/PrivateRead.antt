@@ -15,13 +15,13 @@ use Rattle.t1_font.proofs.SubrsRead.{subrs_read}
 use Rattle.t1_font.proofs.WrittenRead.{parts}
 
 -- Keys state no size of the Subrs and no glyph; Subrs state no glyph.
-keys_no_size : (items : List PrivateItem) → flat_map size_of (flat_map private_states items) ≡ []
+pub keys_no_size : (items : List PrivateItem) → flat_map size_of (flat_map private_states items) ≡ []
 keys_no_size [] = refl
 keys_no_size (key k run value ∷ items) = keys_no_size items
 keys_no_size (other_name run ∷ items) = keys_no_size items
 keys_no_size (other_token t ∷ items) = keys_no_size items
 
-keys_no_glyph : (items : List PrivateItem) → flat_map glyph_of (flat_map private_states items) ≡ []
+pub keys_no_glyph : (items : List PrivateItem) → flat_map glyph_of (flat_map private_states items) ≡ []
 keys_no_glyph [] = refl
 keys_no_glyph (key k run value ∷ items) = keys_no_glyph items
 keys_no_glyph (other_name run ∷ items) = keys_no_glyph items
@@ -32,12 +32,12 @@ subr_items_no_glyph [] = refl
 subr_items_no_glyph (subr_entry n number c ∷ items) = subr_items_no_glyph items
 subr_items_no_glyph (between_subrs t ∷ items) = subr_items_no_glyph items
 
-subrs_no_glyph : (part : SubrsPart) → flat_map glyph_of (subrs_states part) ≡ []
+pub subrs_no_glyph : (part : SubrsPart) → flat_map glyph_of (subrs_states part) ≡ []
 subrs_no_glyph no_subrs = refl
 subrs_no_glyph (empty_subrs body) = refl
 subrs_no_glyph (some_subrs n count items) = subr_items_no_glyph items
 
-none_of_both : {A : Type 0} (f : Stated → List A) (es more : List Stated) → flat_map f es ≡ [] → flat_map f more ≡ [] → flat_map f (es ++ more) ≡ []
+pub none_of_both : {A : Type 0} (f : Stated → List A) (es more : List Stated) → flat_map f es ≡ [] → flat_map f more ≡ [] → flat_map f (es ++ more) ≡ []
 none_of_both f es more a b = flat_map-append f es more ∙ rw (a, b) refl
 
 module _ (marks : Marks) (p : PrivateParts) where

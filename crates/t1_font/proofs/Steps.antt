@@ -54,6 +54,9 @@ module _ {M : Type 0} (turn : Reader M) (ended : Refusal) (shortens : Shortens t
   same_turn : (before : List Stated) (mode : M) (s text : List ℕ) → turn (value_of marks before) mode s ≡ turn (value_of marks before) mode text → stated_in turn ended marks before mode s ≡ stated_in turn ended marks before mode text
   same_turn before mode s text h = step before mode s ∙ ap (λ r. r >>= follow (stated_in turn ended marks) before) h ∙ sym (step before mode text)
 
+  pub refused : (before : List Stated) (mode : M) (s : List ℕ) (e : Refusal) → turn (value_of marks before) mode s ≡ Err e → stated_in turn ended marks before mode s ≡ Err e
+  refused before mode s e h = step before mode s ∙ ap (λ r. r >>= follow (stated_in turn ended marks) before) h
+
   pub is_over : (before : List Stated) (mode : M) (s rest : List ℕ) → turn (value_of marks before) mode s ≡ Ok (over rest) → stated_in turn ended marks before mode s ≡ Ok (record { stated = before; rest = rest })
   is_over before mode s rest h = step before mode s ∙ ap (λ r. r >>= follow (stated_in turn ended marks) before) h
 

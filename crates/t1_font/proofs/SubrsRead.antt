@@ -23,16 +23,16 @@ use Rattle.t1_font.proofs.PrivateItemsRead.{read, on, nothing_more, outside, amo
 use Rattle.t1_font.proofs.WrittenRead.{wanted_is, ahead_is, last_token, parts, natural_is, whole_is_number, past_word_is, charstring_is}
 
 -- The name /Subrs, where none came before it.
-no_size : (marks : Marks) (before : List Stated) → flat_map size_of before ≡ [] → is_some (value_of marks before).size ≡ false
+pub no_size : (marks : Marks) (before : List Stated) → flat_map size_of before ≡ [] → is_some (value_of marks before).size ≡ false
 unfolding value_of
 no_size marks before none = rw none refl
 
-subrs_name : (v : FontValue) (rest : List ℕ) → is_some v.size ≡ false → private_outside v Name (codes "/Subrs") rest ≡ subrs_at rest
+pub subrs_name : (v : FontValue) (rest : List ℕ) → is_some v.size ≡ false → private_outside v Name (codes "/Subrs") rest ≡ subrs_at rest
 unfolding private_outside subrs_turn
 subrs_name v rest none = rw none refl
 
 -- A count and the word array.
-no_array : (t : Plain) (n : ℕ) → IsWhole t n → is_array_kind (meant t) ≡ false
+pub no_array : (t : Plain) (n : ℕ) → IsWhole t n → is_array_kind (meant t) ≡ false
 no_array t n h = rw h refl
 
 counted_is : (count : Plain) (n : ℕ) (s mid left : List ℕ) → IsWhole count n → n ≤ 65535 → BeginsWith s count mid → BeginsWith mid (word (codes "array")) left → subrs_at s ≡ Ok (goes (Some (size n)) Subrs left)
@@ -62,17 +62,17 @@ unfolding subr_at
 subr_is n number c s left is small good h = rw (natural_is BadSubrs 65534 n number is small, charstring_is BadSubrs c s left good h) refl
 
 -- A number behind a dup begins a Subr.
-abbrev behind_dup : List ℕ → Option Found → Result (TurnValue PrivateMode) Refusal
+abbrev pub behind_dup : List ℕ → Option Found → Result (TurnValue PrivateMode) Refusal
 behind_dup rest r = elim r [
   | None ↦ Ok (goes None Outside rest)
   | Some t ↦ if is_number_kind t.kind then subr_at t.kind t.rest else Ok (goes None Outside rest)
 ]
 
-number_is : (n : ℕ) (number : Plain) (s mid : List ℕ) → IsWhole number n → BeginsWith s number mid → dup_turn s ≡ subr_at (meant number) mid
+pub number_is : (n : ℕ) (number : Plain) (s mid : List ℕ) → IsWhole number n → BeginsWith s number mid → dup_turn s ≡ subr_at (meant number) mid
 unfolding dup_turn
 number_is n number s mid is h = ap (behind_dup s) (ahead_is s number mid h) ∙ rw (whole_is_number number n is) refl
 
-dup_among : (v : FontValue) (s left : List ℕ) → BeginsWith s (word (codes "dup")) left → private_turn v Subrs s ≡ dup_turn left
+pub dup_among : (v : FontValue) (s left : List ℕ) → BeginsWith s (word (codes "dup")) left → private_turn v Subrs s ≡ dup_turn left
 unfolding subrs_token
 dup_among v s left h = among v s (word (codes "dup")) left h
 
@@ -98,16 +98,18 @@ module _ (marks : Marks) where
       ∙ items_read items (before ++ subr_states item) p.left left (All-tail IsSubrItem item items are) p.back
       ∙ ap (λ es. read marks es Subrs left) (append_assoc before (subr_states item) (flat_map subr_states items))
 
+  -- Subrs that have a count are read, and reading goes on among them.
+  pub some_subrs_read : (n : ℕ) (count : Plain) (items : List SubrItem) (before : List Stated) (s left : List ℕ) → flat_map size_of before ≡ [] → IsSubrsPart (some_subrs n count items) → IsWritten s (subrs_pieces (some_subrs n count items)) left → read marks before Outside s ≡ read marks (before ++ subrs_states (some_subrs n count items)) Subrs left
+  some_subrs_read n count items before s left none is h =
+      let v = value_of marks before in
+      on marks before Outside s (Some (size n)) Subrs h.2.2.0 (outside v s (name (codes "Subrs")) h.0 h.1 ∙ subrs_name v h.0 (no_size marks before none) ∙ counted_is count n h.0 h.2.0 h.2.2.0 is.0 is.1 h.2.1 h.2.2.1)
+      ∙ items_read items (before ++ size n ∷ []) h.2.2.0 left is.2 h.2.2.2
+      ∙ ap (λ es. read marks es Subrs left) (append_assoc before (size n ∷ []) (flat_map subr_states items))
+
   -- The Subrs are read, and then reading goes on outside or still among them.
   pub subrs_read : (part : SubrsPart) (before : List Stated) (s left : List ℕ) → flat_map size_of before ≡ [] → IsSubrsPart part → IsWritten s (subrs_pieces part) left → (still : Bool) × (read marks before Outside s ≡ read marks (before ++ subrs_states part) (mode_of still) left)
   subrs_read no_subrs before s left none is h = (false, ap (read marks before Outside) h ∙ nothing_more marks before Outside left)
   subrs_read (empty_subrs body) before s left none is h =
       let v = value_of marks before in
       (false, on marks before Outside s (Some (size 0)) Outside left (outside v s (name (codes "Subrs")) h.0 h.1 ∙ subrs_name v h.0 (no_size marks before none) ∙ empty_is body h.0 left is (last_token h.0 (bracketed body) left h.2)))
-  subrs_read (some_subrs n count items) before s left none is h =
-      let v = value_of marks before in (
-        true,
-        on marks before Outside s (Some (size n)) Subrs h.2.2.0 (outside v s (name (codes "Subrs")) h.0 h.1 ∙ subrs_name v h.0 (no_size marks before none) ∙ counted_is count n h.0 h.2.0 h.2.2.0 is.0 is.1 h.2.1 h.2.2.1)
-            ∙ items_read items (before ++ size n ∷ []) h.2.2.0 left is.2 h.2.2.2
-            ∙ ap (λ es. read marks es Subrs left) (append_assoc before (size n ∷ []) (flat_map subr_states items)),
-      )
+  subrs_read (some_subrs n count items) before s left none is h = (true, some_subrs_read n count items before s left none is h)

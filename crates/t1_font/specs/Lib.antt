@@ -1,3 +1,4 @@
+pub mod BrokenPrivateText
 pub mod ClearText
 pub mod DifferentKeys
 pub mod Entries
@@ -9,6 +10,7 @@ pub mod Limits
 pub mod ListLaws
 pub mod PrivateText
 pub mod Puts
+pub mod RefusalLaws
 pub mod Refusals
 pub mod Runs
 pub mod Statements

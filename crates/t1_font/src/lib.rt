@@ -34,6 +34,7 @@ mod mode;
 mod plain_values;
 mod private_text;
 mod refusal;
+mod refusal_laws;
 mod statement;
 #[cfg(test)]
 mod tests;
@@ -54,4 +55,7 @@ pub use laws::{
 };
 pub use limit_laws::limits_are_kept;
 pub use refusal::Refusal;
+pub use refusal_laws::{
+    ends_are_refused, long_charstrings_are_refused, unclosed_tokens_are_refused,
+};
 pub use value_laws::tokens_decide_lists;
