@@ -1,12 +1,13 @@
 -- A table of different keys is the pairs as they stand.
 use Rattle.std.proofs.Common.{◌≡◌, Bool, false, not, Option, Some, None, List, [], ◌∷◌, map, filter, flat_map, nat_eq, refl, ap, ◌∙◌}
+use Rattle.std.specs.Option.{option_or, unwrap_or}
 use Rattle.std.specs.List.{AllByRecursion, IsDistinct}
 use Rattle.t1_font.specs.Keys.{same_name}
-use Rattle.t1_font.specs.Fonts.{code_of, subr_of, glyph_of, is_encoding, or_else, some_or, after_last, firsts, last_under, keys_of, table_of, value_of}
+use Rattle.t1_font.specs.Fonts.{code_of, subr_of, glyph_of, is_encoding, after_last, firsts, last_under, keys_of, table_of, value_of}
 use Rattle.t1_font.specs.DifferentKeys.{DifferentStay}
 use Rattle.t1_font.proofs.Tables.{IsExact, nat_exact, name_exact, flipped}
 
-or_none : {A : Type 0} (x : Option A) → or_else x None ≡ x
+or_none : {A : Type 0} (x : Option A) → option_or x None ≡ x
 or_none None = refl
 or_none (Some x) = refl
 
@@ -23,7 +24,7 @@ module _ {K : Type 0} (eq : K → K → Bool) (e : IsExact eq) where
 
   module _ {V : Type 0} (v : V) where
     abbrev under : List (K × V) → K → K × V
-    under ps k = (k, some_or v (last_under eq k ps))
+    under ps k = (k, unwrap_or (last_under eq k ps) v)
 
     none_under : (k : K) (ps : List (K × V)) → AllByRecursion (λ y. eq k y ≡ false) (keys_of ps) → last_under eq k ps ≡ None
     none_under k [] a = refl

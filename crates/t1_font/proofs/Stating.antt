@@ -1,5 +1,6 @@
 -- One statement more, and the value of all.
-use Rattle.std.proofs.Common.{◌≡◌, ◌+◌, ℕ, Bool, true, false, cond, ◌||◌, Some, None, List, [], ◌∷◌, ◌++◌, map, refl, ap, sym, ◌∙◌, arith, nat_eq, nat_lt, count_by, set, inl, inr, flat_map}
+use Rattle.std.proofs.Common.{◌≡◌, ◌+◌, ℕ, Bool, true, false, cond, ◌||◌, Some, None, List, [], ◌∷◌, ◌++◌, map, refl, ap, sym, ◌∙◌, arith, nat_eq, nat_lt, count_by, set, inl, inr, flat_map, append_assoc}
+use Rattle.std.specs.Option.{option_or, unwrap_or}
 use Rattle.std.proofs.Math.Bool.{or-false}
 use Rattle.std.proofs.lemmas.Grind.{common_steps, flat_map-append}
 use Rattle.std.proofs.lemmas.List.{append-nil}
@@ -14,11 +15,12 @@ use Rattle.t1_font.specs.declared.encoding.Encoding.TheVariants.{Absent}
 use Rattle.t1_font.specs.declared.key.Key.{Key}
 use Rattle.t1_font.specs.declared.key.Key.TheVariants.{FontType, PaintType, UniqueId, PrivateUniqueId, Password, MinFeature, LenIv, BlueValues, OtherBlues, FamilyBlues, FamilyOtherBlues, BlueScale, BlueShift, BlueFuzz, StdHw, StdVw, StemSnapH, StemSnapV}
 use Rattle.t1_font.specs.Keys.{same_name, index_of, key_places}
-use Rattle.t1_font.specs.Puts.{put, put_pair}
+use Rattle.t1_font.specs.Puts.{put, put_pair, twice_more}
 use Rattle.t1_font.specs.PrivateText.{has_key}
-use Rattle.t1_font.specs.Fonts.{Stated, Marks, FontValue, plain, encoding, code, bad_code, size, subr, glyph, plain_of, encoding_of, code_of, size_of, subr_of, glyph_of, is_encoding, is_bad_code, or_else, some_or, last_of, after_last, firsts, last_under, keys_of, table_of, twice_of, value_of}
+use Rattle.t1_font.specs.Fonts.{Stated, Marks, FontValue, plain, encoding, code, bad_code, size, subr, glyph, plain_of, encoding_of, code_of, size_of, subr_of, glyph_of, is_encoding, is_bad_code, last_of, after_last, firsts, last_under, keys_of, table_of, again_from, twice_of, value_of}
+use Rattle.t1_font.specs.DifferentKeys.{TwiceIsAgain}
 use Rattle.t1_font.specs.Values.{value_of_entry, value_of_token}
-use Rattle.t1_font.proofs.Tables.{IsExact, nat_exact, name_exact, any_firsts, tab_step}
+use Rattle.t1_font.proofs.Tables.{IsExact, nat_exact, name_exact, any_firsts, firsts_one, tab_step}
 
 -- The last of a list with one more.
 last_more : {A : Type 0} (xs : List A) (x : A) → last_of (xs ++ x ∷ []) ≡ Some x
@@ -44,10 +46,10 @@ after_one a (y ∷ ys) x =
 module _ {K : Type 0} (eq : K → K → Bool) where
   -- What was set last, with one more.
   pub last_one : {V : Type 0} (j k : K) (v : V) (ps : List (K × V)) → last_under eq j (ps ++ (k, v) ∷ []) ≡ cond (eq j k) (Some v) (last_under eq j ps)
-  last_one j k v [] = elim (eq j k) as (λ b. or_else None (cond b (Some v) None) ≡ cond b (Some v) None) [ true ↦ refl | false ↦ refl ]
+  last_one j k v [] = elim (eq j k) as (λ b. option_or None (cond b (Some v) None) ≡ cond b (Some v) None) [ true ↦ refl | false ↦ refl ]
   last_one j k v (p ∷ ps) =
       rw (last_one j k v ps)
-      (elim (eq j k) as (λ b. or_else (cond b (Some v) (last_under eq j ps)) (cond (eq j p.0) (Some p.1) None) ≡ cond b (Some v) (or_else (last_under eq j ps) (cond (eq j p.0) (Some p.1) None))) [ true ↦ refl | false ↦ refl ])
+      (elim (eq j k) as (λ b. option_or (cond b (Some v) (last_under eq j ps)) (cond (eq j p.0) (Some p.1) None) ≡ cond b (Some v) (option_or (last_under eq j ps) (cond (eq j p.0) (Some p.1) None))) [ true ↦ refl | false ↦ refl ])
 
   keys_one : {V : Type 0} (ps : List (K × V)) (k : K) (v : V) → keys_of (ps ++ (k, v) ∷ []) ≡ keys_of ps ++ k ∷ []
   keys_one [] k v = refl
@@ -61,47 +63,69 @@ module _ {K : Type 0} (eq : K → K → Bool) where
   pub table_one : IsExact eq → {V : Type 0} (d : V) (ps : List (K × V)) (k : K) (v : V) → table_of eq d (ps ++ (k, v) ∷ []) ≡ put_pair eq (table_of eq d ps) k v
   table_one e d ps k v =
       rw (keys_one ps k v)
-      (tab_step eq e (λ j. some_or d (last_under eq j ps)) (λ j. some_or d (last_under eq j (ps ++ (k, v) ∷ []))) k v
-      (λ j. ap (some_or d) (last_one j k v ps) ∙ elim (eq j k) as (λ b. some_or d (cond b (Some v) (last_under eq j ps)) ≡ cond b v (some_or d (last_under eq j ps))) [ true ↦ refl | false ↦ refl ])
+      (tab_step eq e (λ j. unwrap_or (last_under eq j ps) d) (λ j. unwrap_or (last_under eq j (ps ++ (k, v) ∷ [])) d) k v
+      (λ j. ap (λ o. unwrap_or o d) (last_one j k v ps) ∙ elim (eq j k) as (λ b. unwrap_or (cond b (Some v) (last_under eq j ps)) d ≡ cond b v (unwrap_or (last_under eq j ps) d)) [ true ↦ refl | false ↦ refl ])
       (keys_of ps))
 
   count_cons : (p : K → Bool) (x : K) (xs : List K) → count_by p (x ∷ xs) ≡ cond (p x) 1 0 + count_by p xs
   count_cons p x xs = grind (arith, common_steps, sum_by-append (λ x. cond (p x) 1 0) (x ∷ []) xs)
 
-  any_count : (p : K → Bool) (xs : List K) → nat_lt 0 (count_by p xs) ≡ list_any p xs
-  any_count p [] = refl
-  any_count p (x ∷ xs) =
-      rw (count_cons p x xs)
-      (elim (p x) as (λ b. nat_lt 0 (cond b 1 0 + count_by p xs) ≡ (b || list_any p xs)) [
-        | true ↦ grind (arith, nat_tests)
-        | false ↦ (let e : 0 + count_by p xs ≡ count_by p xs = omega arith in rw e (any_count p xs))
+  -- One key more: it is there twice if it was there before.
+  again_one : (before ks : List K) (k : K) → again_from eq before (ks ++ k ∷ []) ≡ again_from eq before ks ++ cond (list_any (eq k) (before ++ ks)) (k ∷ []) []
+  again_one before [] k = rw (append-nil before) (append-nil (cond (list_any (eq k) before) (k ∷ []) []))
+  again_one before (j ∷ ks) k =
+      ap (λ xs. cond (list_any (eq j) before) (j ∷ []) [] ++ xs) (again_one (before ++ j ∷ []) ks k ∙ ap (λ xs. again_from eq (before ++ j ∷ []) ks ++ cond (list_any (eq k) xs) (k ∷ []) []) (append_assoc before (j ∷ []) ks))
+      ∙ sym (append_assoc (cond (list_any (eq j) before) (j ∷ []) []) (again_from eq (before ++ j ∷ []) ks) (cond (list_any (eq k) (before ++ (j ∷ ks))) (k ∷ []) []))
+
+  twice_one : IsExact eq → (ks : List K) (k : K) → twice_of eq (ks ++ k ∷ []) ≡ twice_more eq (twice_of eq ks) k (list_any (eq k) ks)
+  twice_one e ks k =
+      let all = again_from eq [] ks in
+      ap (firsts eq) (again_one [] ks k)
+      ∙ (elim (list_any (eq k) ks) as (λ b. firsts eq (all ++ cond b (k ∷ []) []) ≡ twice_more eq (firsts eq all) k b) [
+        | true ↦ firsts_one eq e all k ∙ rw (any_firsts eq e k all) refl
+        | false ↦ ap (firsts eq) (append-nil all)
       ])
 
-  count_one : (p : K → Bool) (xs : List K) (x : K) → count_by p (xs ++ x ∷ []) ≡ count_by p xs + cond (p x) 1 0
-  count_one p xs x = sum_by-append (λ x. cond (p x) 1 0) xs (x ∷ []) ∙ ap (λ n. count_by p xs + n) (count_cons p x [] ∙ (let e : cond (p x) 1 0 + 0 ≡ cond (p x) 1 0 = omega arith in e))
+  -- A key is there twice exactly where it appears twice or more.
+  more_than : (b : Bool) (n : ℕ) → (b || cond (b || (true || false)) (nat_lt 0 n) (nat_lt 1 n)) ≡ cond b (nat_lt 0 (1 + n)) (nat_lt 1 (1 + n))
+  more_than true n = sym (let one : nat_lt 0 (1 + n) ≡ true = grind (arith, nat_tests) in one)
+  more_than false n = grind (arith, nat_tests)
 
-  -- Flags with one key more: it is there twice if it was there before.
-  pub twice_one : IsExact eq → (ks : List K) (k : K) → twice_of eq (ks ++ k ∷ []) ≡ put_pair eq (twice_of eq ks) k (list_any (eq k) ks)
-  twice_one e ks k =
-      tab_step eq e (λ j. nat_lt 1 (count_by (eq j) ks)) (λ j. nat_lt 1 (count_by (eq j) (ks ++ k ∷ []))) k (list_any (eq k) ks)
-      (λ j. rw (count_one (eq j) ks k)
-      (elim (cases_Bool (eq j k)) [
-        | inl y ↦ (let s = e.exact j k y in
-            let more : nat_lt 1 (count_by (eq j) ks + 1) ≡ nat_lt 0 (count_by (eq j) ks) = grind (arith, nat_tests) in
-            rw y (more ∙ any_count (eq j) ks ∙ ap (λ i. list_any (eq i) ks) s))
-        | inr n ↦ (let same : count_by (eq j) ks + 0 ≡ count_by (eq j) ks = omega arith in rw n (ap (nat_lt 1) same))
+  not_itself : (b : Bool) (j k : K) → eq k j ≡ false → list_any (eq k) (cond b (j ∷ []) []) ≡ false
+  not_itself true j k h = rw h refl
+  not_itself false j k h = refl
+
+  itself : (b : Bool) (j k : K) → eq k j ≡ true → list_any (eq k) (cond b (j ∷ []) []) ≡ b
+  itself true j k h = rw h refl
+  itself false j k h = refl
+
+  any_again : IsExact eq → (before ks : List K) (k : K) → list_any (eq k) (again_from eq before ks) ≡ cond (list_any (eq k) before) (nat_lt 0 (count_by (eq k) ks)) (nat_lt 1 (count_by (eq k) ks))
+  any_again e before [] k = elim (list_any (eq k) before) as (λ b. false ≡ cond b (nat_lt 0 0) (nat_lt 1 0)) [ true ↦ refl | false ↦ refl ]
+  any_again e before (j ∷ ks) k =
+      let here = cond (list_any (eq j) before) (j ∷ []) [] in
+      list_any-append (eq k) here (again_from eq (before ++ j ∷ []) ks)
+      ∙ (rw (any_again e (before ++ j ∷ []) ks k, list_any-append (eq k) before (j ∷ []), count_cons (eq k) j ks)
+      (elim (cases_Bool (eq k j)) [
+        | inl y ↦ (let s = e.exact k j y in
+            let same : list_any (eq k) here ≡ list_any (eq k) before = itself (list_any (eq j) before) j k y ∙ ap (λ i. list_any (eq i) before) (sym s) in
+            rw (same, y) (more_than (list_any (eq k) before) (count_by (eq k) ks)))
+        | inr n ↦ (let none : list_any (eq k) here ≡ false = not_itself (list_any (eq j) before) j k n in
+            let kept : 0 + count_by (eq k) ks ≡ count_by (eq k) ks = omega arith in
+            rw (none, n, or-false (list_any (eq k) before), kept) refl)
       ]))
-      ks
+
+  pub any_twice : IsExact eq → (ks : List K) (k : K) → list_any (eq k) (twice_of eq ks) ≡ nat_lt 1 (count_by (eq k) ks)
+  any_twice e ks k = any_firsts eq e k (again_from eq [] ks) ∙ any_again e [] ks k
 
   -- A table has the keys that its pairs have.
   pub has_table : IsExact eq → {V : Type 0} (d : V) (ps : List (K × V)) (k : K) → has_key eq (table_of eq d ps) k ≡ list_any (eq k) (keys_of ps)
-  has_table e d ps k = keys_tab (λ j. some_or d (last_under eq j ps)) k (firsts eq (keys_of ps)) ∙ any_firsts eq e k (keys_of ps)
+  has_table e d ps k = keys_tab (λ j. unwrap_or (last_under eq j ps) d) k (firsts eq (keys_of ps)) ∙ any_firsts eq e k (keys_of ps)
 
-  -- The flags of a table with one pair more.
-  pub flags_one : IsExact eq → {V : Type 0} (d : V) (ps : List (K × V)) (k : K) (v : V) → twice_of eq (keys_of (ps ++ (k, v) ∷ [])) ≡ put_pair eq (twice_of eq (keys_of ps)) k (has_key eq (table_of eq d ps) k)
-  flags_one e d ps k v =
+  -- What is twice in a table with one pair more.
+  pub twice_step : IsExact eq → {V : Type 0} (d : V) (ps : List (K × V)) (k : K) (v : V) → twice_of eq (keys_of (ps ++ (k, v) ∷ [])) ≡ twice_more eq (twice_of eq (keys_of ps)) k (has_key eq (table_of eq d ps) k)
+  twice_step e d ps k v =
       ap (twice_of eq) (keys_one ps k v) ∙ twice_one e (keys_of ps) k
-      ∙ ap (put_pair eq (twice_of eq (keys_of ps)) k) (sym (has_table e d ps k))
+      ∙ ap (twice_more eq (twice_of eq (keys_of ps)) k) (sym (has_table e d ps k))
 
 fm_one : {A : Type 0} (f : Stated → List A) (es : List Stated) (e : Stated) → flat_map f (es ++ e ∷ []) ≡ flat_map f es ++ f e
 fm_one f es e = flat_map-append f es (e ∷ []) ∙ ap (λ xs. flat_map f es ++ xs) (let one : flat_map f (e ∷ []) ≡ f e = grind (arith, common_steps) in one)
@@ -110,7 +134,7 @@ fm_one f es e = flat_map-append f es (e ∷ []) ∙ ap (λ xs. flat_map f es ++ 
 abbrev pub value_from : Marks → List (ℕ × Lexeme) → List Encoding → List (ℕ × List ℕ) → Bool → List ℕ → List (ℕ × List ℕ) → List (List ℕ × List ℕ) → FontValue
 value_from marks plains forms codes bad sizes subrs glyphs = record {
   plain = map (λ k. value_of_entry (last_under nat_eq k plains)) key_places;
-  encoding = some_or Absent (last_of forms);
+  encoding = unwrap_or (last_of forms) Absent;
   codes = table_of nat_eq [] codes;
   bad_code = bad;
   size = last_of sizes;
@@ -176,9 +200,13 @@ module _ (marks : Marks) (es : List Stated) where
   value_step (size n) = more (size n) refl ∙ simp (append-nil, or-false, last_more)
   value_step (subr n bytes) =
       let pairs = table_one nat_eq nat_exact [] (flat_map subr_of es) n bytes in
-      let flags = flags_one nat_eq nat_exact [] (flat_map subr_of es) n bytes in
+      let flags = twice_step nat_eq nat_exact [] (flat_map subr_of es) n bytes in
       more (subr n bytes) refl ∙ simp (append-nil, or-false) (rw (pairs, flags) refl)
   value_step (glyph name bytes) =
       let pairs = table_one same_name name_exact [] (flat_map glyph_of es) name bytes in
-      let flags = flags_one same_name name_exact [] (flat_map glyph_of es) name bytes in
+      let flags = twice_step same_name name_exact [] (flat_map glyph_of es) name bytes in
       more (glyph name bytes) refl ∙ simp (append-nil, or-false) (rw (pairs, flags) refl)
+
+pub twice_is_again : TwiceIsAgain
+unfolding value_of
+twice_is_again marks es = (any_twice nat_eq nat_exact (keys_of (flat_map subr_of es)), any_twice same_name name_exact (keys_of (flat_map glyph_of es)))

@@ -1,6 +1,6 @@
--- What is stated once under each of different keys.
-use Rattle.std.specs.Prelude.{◌≡◌, List, flat_map, nat_eq}
-use Rattle.std.specs.List.{IsDistinct}
+-- What is stated once under each of different keys, and what is stated twice.
+use Rattle.std.specs.Prelude.{◌≡◌, ℕ, List, flat_map, nat_eq, nat_lt, count_by}
+use Rattle.std.specs.List.{IsDistinct, list_any}
 use Rattle.t1_font.specs.Keys.{same_name}
 use Rattle.t1_font.specs.Fonts.{Stated, Marks, code_of, subr_of, glyph_of, is_encoding, after_last, keys_of, value_of}
 
@@ -12,3 +12,10 @@ DifferentStay = (marks : Marks) (es : List Stated) →
     × (IsDistinct same_name (keys_of (flat_map glyph_of es)) → (value_of marks es).glyphs ≡ flat_map glyph_of es)
     × (IsDistinct nat_eq (keys_of (flat_map code_of (after_last is_encoding es))) →
     (value_of marks es).codes ≡ flat_map code_of (after_last is_encoding es))
+
+-- The Subrs and the glyphs that the font has as stated twice are those that were stated twice or more.
+abbrev pub TwiceIsAgain : Type 0
+TwiceIsAgain = (marks : Marks) (es : List Stated) →
+    ((n : ℕ) → list_any (nat_eq n) (value_of marks es).subrs_twice ≡ nat_lt 1 (count_by (nat_eq n) (keys_of (flat_map subr_of es))))
+    × ((name : List ℕ) →
+    list_any (same_name name) (value_of marks es).glyphs_twice ≡ nat_lt 1 (count_by (same_name name) (keys_of (flat_map glyph_of es))))

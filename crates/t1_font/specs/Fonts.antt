@@ -1,5 +1,6 @@
 -- The value of a font: what was stated last, looked up in the whole list of what its texts state.
-use Rattle.std.specs.Prelude.{ℕ, Bool, true, false, not, Option, Some, None, List, [], ◌∷◌, nat_eq, nat_lt, if◌then◌else◌, map, flat_map, filter, count_by}
+use Rattle.std.specs.Prelude.{ℕ, Bool, true, false, not, Option, Some, None, List, [], ◌∷◌, nat_eq, if◌then◌else◌, map, flat_map, filter, ◌++◌, slice_get}
+use Rattle.std.specs.Option.{option_or, unwrap_or}
 use Rattle.std.specs.List.{list_any}
 use Rattle.t1_scan.specs.Texts.{Lexeme}
 use Rattle.t1_font.specs.declared.encoding.Encoding.{Encoding}
@@ -25,8 +26,9 @@ pub record Marks : Type 0 where
   pub no_end : Bool
   pub extra : Bool
 
--- The keys have their places, each with its value; codes, Subrs and glyphs stand in the order of their first appearance,
--- each with what was stated last, and whether it was stated twice.
+-- The keys have their places, each with its value; codes, Subrs and glyphs stand in the order of their
+-- first appearance, each with what was stated last; the numbers and names that were stated again stand in
+-- the order in which they first were.
 pub record FontValue : Type 0 where
   pub plain : List Value
   pub encoding : Encoding
@@ -34,9 +36,9 @@ pub record FontValue : Type 0 where
   pub bad_code : Bool
   pub size : Option ℕ
   pub subrs : List (ℕ × List ℕ)
-  pub subrs_twice : List (ℕ × Bool)
+  pub subrs_twice : List ℕ
   pub glyphs : List (List ℕ × List ℕ)
-  pub glyphs_twice : List (List ℕ × Bool)
+  pub glyphs_twice : List (List ℕ)
   pub no_end : Bool
   pub extra : Bool
 
@@ -73,18 +75,10 @@ abbrev pub is_bad_code : Stated → Bool
 is_bad_code bad_code = true
 is_bad_code _ = false
 
-abbrev pub or_else : {A : Type 0} → Option A → Option A → Option A
-or_else None y = y
-or_else (Some x) y = Some x
-
-abbrev pub some_or : {A : Type 0} → A → Option A → A
-some_or d None = d
-some_or d (Some x) = x
-
 -- The last of a list.
 abbrev pub last_of : {A : Type 0} → List A → Option A
 last_of [] = None
-last_of (x ∷ xs) = or_else (last_of xs) (Some x)
+last_of (x ∷ xs) = option_or (last_of xs) (Some x)
 
 -- What stands behind the last such, or all where there is none.
 abbrev pub after_last : {A : Type 0} → (A → Bool) → List A → List A
@@ -99,18 +93,23 @@ firsts eq (k ∷ ks) = k ∷ filter (λ j. not (eq k j)) (firsts eq ks)
 -- What was set last under a key.
 abbrev pub last_under : {K V : Type 0} → (K → K → Bool) → K → List (K × V) → Option V
 last_under eq k [] = None
-last_under eq k (p ∷ ps) = or_else (last_under eq k ps) (if eq k p.0 then Some p.1 else None)
+last_under eq k (p ∷ ps) = option_or (last_under eq k ps) (if eq k p.0 then Some p.1 else None)
 
 abbrev pub keys_of : {K V : Type 0} → List (K × V) → List K
 keys_of ps = map (λ p. p.0) ps
 
 -- Each key in the order of its first appearance, with what was set last under it.
 abbrev pub table_of : {K V : Type 0} → (K → K → Bool) → V → List (K × V) → List (K × V)
-table_of eq v ps = map (λ k. (k, some_or v (last_under eq k ps))) (firsts eq (keys_of ps))
+table_of eq v ps = map (λ k. (k, unwrap_or (last_under eq k ps) v)) (firsts eq (keys_of ps))
 
--- Each key in the order of its first appearance, with whether it appears twice.
-abbrev pub twice_of : {K : Type 0} → (K → K → Bool) → List K → List (K × Bool)
-twice_of eq ks = map (λ k. (k, nat_lt 1 (count_by (eq k) ks))) (firsts eq ks)
+-- The keys, behind these, that were there already.
+abbrev pub again_from : {K : Type 0} → (K → K → Bool) → List K → List K → List K
+again_from eq before [] = []
+again_from eq before (k ∷ ks) = (if list_any (eq k) before then k ∷ [] else []) ++ again_from eq (before ++ k ∷ []) ks
+
+-- Each key that appears twice, in the order of its second appearance.
+abbrev pub twice_of : {K : Type 0} → (K → K → Bool) → List K → List K
+twice_of eq ks = firsts eq (again_from eq [] ks)
 
 -- The codes that were set since the last Encoding began.
 abbrev pub codes_of : List Stated → List (ℕ × List ℕ)
@@ -123,7 +122,7 @@ value_of marks es =
     let glyphs = flat_map glyph_of es in
     record {
       plain = map (λ k. value_of_entry (last_under nat_eq k (flat_map plain_of es))) key_places;
-      encoding = some_or Absent (last_of (flat_map encoding_of es));
+      encoding = unwrap_or (last_of (flat_map encoding_of es)) Absent;
       codes = codes_of es;
       bad_code = list_any is_bad_code (after_last is_encoding es);
       size = last_of (flat_map size_of es);
@@ -134,3 +133,13 @@ value_of marks es =
       no_end = marks.no_end;
       extra = marks.extra;
     }
+
+-- A Subr, by its number, is stated twice; a glyph, by its place, where nothing is past the end.
+abbrev pub is_subr_twice : FontValue → ℕ → Bool
+is_subr_twice v number = list_any (nat_eq number) v.subrs_twice
+
+abbrev pub is_glyph_twice : FontValue → ℕ → Bool
+is_glyph_twice v place = elim (slice_get v.glyphs place) [
+  | None ↦ false
+  | Some p ↦ list_any (same_name p.0) v.glyphs_twice
+]

@@ -1,8 +1,9 @@
 //! The font: what was stated last of each thing.
 
-ghost use Rattle.std.specs.Prelude.{◌≡◌, ◌≤◌, [], false, Some, nat_eq, length, map, is_some, OnOk, IfErr, slice_get, slice_index_or};
+ghost use Rattle.std.specs.Prelude.{◌≡◌, ◌≤◌, [], false, Some, nat_eq, length, map, is_some, OnOk, IfErr, slice_index_or};
+ghost use Rattle.std.specs.Option.{unwrap_or};
 ghost use Rattle.std.specs.Map.{lookup};
-ghost use Rattle.t1_font.specs.Fonts.{FontValue, Marks, value_of, plain, encoding, code, subr, glyph, some_or};
+ghost use Rattle.t1_font.specs.Fonts.{FontValue, Marks, value_of, plain, encoding, code, subr, glyph, is_glyph_twice, is_subr_twice};
 ghost use Rattle.t1_font.specs.Entries.{entry_view};
 ghost use Rattle.t1_font.specs.Keys.{index_of, same_name};
 ghost use Rattle.t1_font.specs.LenIv.{len_iv_of};
@@ -11,7 +12,7 @@ ghost use Rattle.t1_font.specs.PrivateText.{has_key};
 ghost use Rattle.t1_font.specs.Puts.{put, put_one};
 ghost use Rattle.t1_font.specs.Statements.{lexeme_of, statement_view, view_if_any};
 ghost use Rattle.t1_font.specs.Values.{absent};
-ghost use Rattle.t1_font.specs.Views.{bytes_of, flag_of, name_pair, number_pair};
+ghost use Rattle.t1_font.specs.Views.{bytes_of, name_pair, number_pair};
 ghost use Rattle.t1_font.specs.declared.key.Key.TheVariants.{LenIv};
 ghost use Rattle.t1_font.specs.declared.refusal.Refusal.TheVariants.{Memory};
 
@@ -21,7 +22,7 @@ use crate::key::Key;
 use crate::plain_values::PlainValues;
 use crate::refusal::Refusal;
 use crate::statement::Statement;
-use indexmap::IndexMap;
+use indexmap::{IndexMap, IndexSet};
 use std::alloc::Global;
 use std::marker::Model;
 use t1_scan::Token;
@@ -35,9 +36,9 @@ pub struct Font<'a> {
     bad_code: bool,
     size: Option<u32>,
     subrs: IndexMap<u32, &'a [u8]>,
-    subrs_twice: IndexMap<u32, bool>,
+    subrs_twice: IndexSet<u32>,
     glyphs: IndexMap<&'a [u8], &'a [u8]>,
-    glyphs_twice: IndexMap<&'a [u8], bool>,
+    glyphs_twice: IndexSet<&'a [u8]>,
     no_end: bool,
     extra: bool,
 }
@@ -45,7 +46,7 @@ pub struct Font<'a> {
 impl<'a> Model for Font<'a> {
     ghost use Rattle.std.specs.Prelude.{◌≤◌, length, map};
     ghost use Rattle.t1_font.specs.Fonts.{FontValue};
-    ghost use Rattle.t1_font.specs.Views.{number_pair, name_pair, name_flag};
+    ghost use Rattle.t1_font.specs.Views.{name_pair, names_now, number_pair};
 
     ghost Value = { FontValue };
 
@@ -56,9 +57,9 @@ impl<'a> Model for Font<'a> {
       bad_code = f.bad_code;
       size = f.size;
       subrs = map number_pair f.subrs.entries;
-      subrs_twice = f.subrs_twice.entries;
+      subrs_twice = f.subrs_twice.keys;
       glyphs = map name_pair f.glyphs.entries;
-      glyphs_twice = map name_flag f.glyphs_twice.entries;
+      glyphs_twice = names_now f.glyphs_twice.keys;
       no_end = f.no_end;
       extra = f.extra;
     } };
@@ -79,9 +80,9 @@ impl<'a> Font<'a> {
             bad_code: false,
             size: None,
             subrs: IndexMap::new(alloc),
-            subrs_twice: IndexMap::new(alloc),
+            subrs_twice: IndexSet::new(alloc),
             glyphs: IndexMap::new(alloc),
-            glyphs_twice: IndexMap::new(alloc),
+            glyphs_twice: IndexSet::new(alloc),
             no_end,
             extra,
         }
@@ -111,7 +112,7 @@ impl<'a> Font<'a> {
 
     /// How many Subrs the private text says that there are; 0 where it has none.
     pub fn subr_size(&self) -> u32
-        ensures { result ≡ some_or 0 self.now.size }
+        ensures { result ≡ unwrap_or self.now.size 0 }
     {
         self.size.unwrap_or(0)
     }
@@ -153,22 +154,19 @@ impl<'a> Font<'a> {
 
     /// Whether a glyph, by its place, is given twice.
     pub fn glyph_twice(&self, glyph: usize) -> bool
-        ensures { result ≡ flag_of (slice_get self.now.glyphs_twice glyph) }
+        ensures { result ≡ is_glyph_twice self.now glyph }
     {
-        match self.glyphs_twice.get_index(glyph) {
-            Some((_, twice)) => *twice,
+        match self.glyphs.get_index(glyph) {
+            Some((name, _)) => self.glyphs_twice.contains(name),
             None => false,
         }
     }
 
     /// Whether a Subr, by its number, is given twice.
     pub fn subr_twice(&self, number: u32) -> bool
-        ensures { result ≡ some_or false (lookup (nat_eq number) self.now.subrs_twice) }
+        ensures { result ≡ is_subr_twice self.now number }
     {
-        match self.subrs_twice.get(&number) {
-            Some(twice) => *twice,
-            None => false,
-        }
+        self.subrs_twice.contains(&number)
     }
 
     /// Whether the file is a row of segments that no end segment closes.
@@ -269,13 +267,14 @@ impl<'a> Font<'a> {
         Ok(())
     }
 
-    #[tactic(auto, using(crate::proofs::FontMaps::number_put, crate::proofs::FontMaps::number_flag_put, crate::proofs::FontMaps::number_has))]
     fn put_subr(&mut self, number: u32, bytes: &'a [u8]) -> Result<(), Refusal>
         ensures ok { OnOk result (self.new ≡ put self.old (subr number bytes.now)) }
         ensures memory { IfErr result (λ e. e ≡ Memory) }
     {
         let before = self.subrs.insert(number, bytes)?;
-        self.subrs_twice.insert(number, before.is_some())?;
+        if before.is_some() {
+            self.subrs_twice.insert(number)?;
+        }
         Ok(())
     }
 
@@ -285,7 +284,9 @@ impl<'a> Font<'a> {
         ensures memory { IfErr result (λ e. e ≡ Memory) }
     {
         let before = self.glyphs.insert(name, bytes)?;
-        self.glyphs_twice.insert(name, before.is_some())?;
+        if before.is_some() {
+            self.glyphs_twice.insert(name)?;
+        }
         Ok(())
     }
 }

@@ -1,6 +1,6 @@
 //! Laws of the definitions, each on a call that does nothing.
 
-ghost use Rattle.t1_font.specs.DifferentKeys.{DifferentStay};
+ghost use Rattle.t1_font.specs.DifferentKeys.{DifferentStay, TwiceIsAgain};
 ghost use Rattle.t1_font.specs.Laws.{OneMore, ReadAsStated};
 ghost use Rattle.t1_font.specs.declared.mode.ClearMode.{ClearMode};
 ghost use Rattle.t1_font.specs.declared.mode.PrivateMode.{PrivateMode};
@@ -25,6 +25,11 @@ pub fn texts_are_read_as_stated()
 #[tactic(auto, using(crate::proofs::DifferentKeys::different_stay))]
 pub fn different_keys_stay()
     ensures { DifferentStay }
+{}
+
+/// The Subrs and the glyphs that a font has as given twice are those that were stated twice or more.
+pub fn repeated_keys_are_twice()
+    ensures { TwiceIsAgain }
 {}
 
 /// A clear text in the usual form is read with just the values and codes that it states: plain keys

@@ -49,9 +49,9 @@ pub use font::Font;
 pub use key::Key;
 pub use laws::{
     a_small_font_is_usual, additions_change_nothing, blanks_between_entries_pass,
-    different_keys_stay, statements_change_the_value, texts_are_read_as_stated,
-    usual_clear_texts_are_read, usual_fonts_are_read, usual_private_texts_are_read,
-    words_between_entries_pass,
+    different_keys_stay, repeated_keys_are_twice, statements_change_the_value,
+    texts_are_read_as_stated, usual_clear_texts_are_read, usual_fonts_are_read,
+    usual_private_texts_are_read, words_between_entries_pass,
 };
 pub use limit_laws::limits_are_kept;
 pub use refusal::Refusal;
