@@ -1,11 +1,12 @@
 -- The lenIV of a font (Type 1 Font Format, chapter 7): a whole number from -1 to 64, and 4 where the
 -- font says nothing.
 use Rattle.std.specs.Prelude.{ℤ, pos, negsuc, ◌&&◌, if◌then◌else◌, int_div, int_le}
+use Rattle.t1_font.specs.Tokens.{billion}
 use Rattle.t1_font.specs.Values.{Value, number}
 
 -- The whole of a number of billionths.
 abbrev pub whole_part : ℤ → ℤ
-whole_part z = int_div z (pos 1000000000)
+whole_part z = int_div z (pos billion)
 
 unfoldable pub len_iv_of : Value → ℤ
 len_iv_of (number z) =

@@ -117,18 +117,25 @@ impl<'a> Font<'a> {
         self.size.unwrap_or(0)
     }
 
-    /// What a plain key has.
+    /// What a plain key has, once more.
     pub fn entry(&self, key: Key) -> Entry
         ensures { entry_view result ≡ slice_index_or self.now.plain (index_of key) absent }
     {
-        self.plain.entry(key).copied()
+        self.value(key).copied()
+    }
+
+    /// What a plain key has, lent: nothing is copied.
+    pub fn value(&self, key: Key) -> &Entry
+        ensures { entry_view result.now ≡ slice_index_or self.now.plain (index_of key) absent }
+    {
+        self.plain.entry(key)
     }
 
     /// How many random bytes stand in front of each charstring; -1 where charstrings aren't encrypted.
     pub fn len_iv(&self) -> i8
         ensures { result ≡ len_iv_of (slice_index_or self.now.plain (index_of LenIv) absent) }
     {
-        self.plain.entry(Key::LenIv).len_iv()
+        self.value(Key::LenIv).len_iv()
     }
 
     /// The form of the Encoding.
