@@ -18,12 +18,12 @@ use Rattle.t1_font.specs.declared.refusal.Refusal.TheVariants.{Unclosed, BadSubr
 use Rattle.t1_font.specs.Keys.{private_key, same_name}
 use Rattle.t1_font.specs.Fonts.{Stated, Marks, FontValue, value_of, glyph_of, size_of, firsts}
 use Rattle.t1_font.specs.Tokens.{token_at, wanted, token_ahead, whole, natural, is_word_kind, past_word, raw_of, charstring_at}
-use Rattle.t1_font.specs.Limits.{HasRoom}
+use Rattle.t1_font.specs.Inner.Room.{HasRoom}
 use Rattle.t1_font.specs.PrivateText.{private_value, private_outside, subrs_at, subr_at, dup_turn, glyphs_at, glyph_turn, private_turn, private_of}
-use Rattle.t1_font.specs.Written.{IsWritten, IsWhole}
-use Rattle.t1_font.specs.UsualPrivateText.{PrivateItem, private_pieces, private_states, IsPrivateItem, SubrItem, some_subrs, subrs_pieces, subrs_states, IsSubrsPart, GlyphItem, glyph_pieces, glyph_states, glyph_names, IsGlyphItem, IsCount, StatesNoCharstring}
-use Rattle.t1_font.specs.BrokenPrivateText.{IsUnclosed, Opening, opening_pieces, IsOpening, KeyStart, no_key, key_name, key_start_pieces, IsKeyStart, SubrsStart, subrs_name, subrs_count, subrs_start_pieces, IsSubrsStart, CharstringStart, no_length, its_length, charstring_start_pieces, IsCharstringStart, SubrStart, no_subr, lone_dup, subr_number, subr_start_pieces, IsSubrStart, GlyphsStart, glyphs_name, glyphs_count, glyphs_dict, glyphs_dup, glyphs_start_pieces, IsGlyphsStart, GlyphStart, no_glyph, glyph_name, glyph_start_pieces, glyph_start_names, IsGlyphStart, head_pieces, Begun, begun_pieces, in_keys, in_subrs, among_subrs, in_glyphs, among_glyphs, AreBegun, IsBegun, missing_value, missing_subr, missing}
-use Rattle.t1_font.specs.RefusalLaws.{EndsTooSoon, UnclosedToken, SubrCutOff, GlyphCutOff, SubrTooLong, GlyphTooLong, SubrNumberFirst}
+use Rattle.t1_font.specs.Laws.Written.{IsWritten, IsWhole}
+use Rattle.t1_font.specs.Laws.UsualPrivateText.{PrivateItem, private_pieces, private_states, IsPrivateItem, SubrItem, some_subrs, subrs_pieces, subrs_states, IsSubrsPart, GlyphItem, glyph_pieces, glyph_states, glyph_names, IsGlyphItem, IsCount, StatesNoCharstring}
+use Rattle.t1_font.specs.Laws.BrokenPrivateText.{IsUnclosed, Opening, opening_pieces, IsOpening, KeyStart, no_key, key_name, key_start_pieces, IsKeyStart, SubrsStart, subrs_name, subrs_count, subrs_start_pieces, IsSubrsStart, CharstringStart, no_length, its_length, charstring_start_pieces, IsCharstringStart, SubrStart, no_subr, lone_dup, subr_number, subr_start_pieces, IsSubrStart, GlyphsStart, glyphs_name, glyphs_count, glyphs_dict, glyphs_dup, glyphs_start_pieces, IsGlyphsStart, GlyphStart, no_glyph, glyph_name, glyph_start_pieces, glyph_start_names, IsGlyphStart, head_pieces, Begun, begun_pieces, in_keys, in_subrs, among_subrs, in_glyphs, among_glyphs, AreBegun, IsBegun, missing_value, missing_subr, missing}
+use Rattle.t1_font.specs.Laws.BrokenTexts.{EndsTooSoon, UnclosedToken, SubrCutOff, GlyphCutOff, SubrTooLong, GlyphTooLong, SubrNumberFirst}
 use Rattle.t1_font.proofs.GlyphNames.{names_of, names_more, has_room, fewer}
 use Rattle.t1_font.proofs.GlyphsRead as glyphs_read
 use Rattle.t1_font.proofs.PrivateItemsRead as keys_read

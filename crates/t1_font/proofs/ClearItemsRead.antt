@@ -14,9 +14,9 @@ use Rattle.t1_font.specs.Keys.{clear_key, same_name}
 use Rattle.t1_font.specs.Fonts.{Stated, Marks, FontValue, value_of, plain, encoding}
 use Rattle.t1_font.specs.Turns.{TurnValue, over, goes, stated_in}
 use Rattle.t1_font.specs.ClearText.{clear_turn, clear_value, is_code_count, begins, array_at, encoding_at, encoding_turn, clear_outside, clear_of}
-use Rattle.t1_font.specs.Written.{token, IsWritten, IsWhole}
-use Rattle.t1_font.specs.UsualClearText.{code_states, ClearItem, key, standard, custom, other_name, other_token, clear_pieces, clear_states, IsOtherClearName, PassesInClear, IsClearItem, all_clear_states}
-use Rattle.t1_font.specs.UsualForms.{ReadsUsualClear}
+use Rattle.t1_font.specs.Laws.Written.{token, IsWritten, IsWhole}
+use Rattle.t1_font.specs.Laws.UsualClearText.{code_states, ClearItem, key, standard, custom, other_name, other_token, clear_pieces, clear_states, IsOtherClearName, PassesInClear, IsClearItem, all_clear_states}
+use Rattle.t1_font.specs.Laws.UsualTexts.{ReadsUsualClear}
 use Rattle.t1_font.proofs.CodesRead.{codes_read}
 use Rattle.t1_font.proofs.Shorter.{clear_shortens}
 use Rattle.t1_font.proofs.Steps.{goes_on, is_over}

@@ -11,8 +11,8 @@ use Rattle.t1_font.specs.Tokens.{is_name_kind, is_number_kind}
 use Rattle.t1_font.specs.Fonts.{Stated, Marks, FontValue, value_of, code, bad_code}
 use Rattle.t1_font.specs.Turns.{TurnValue, TextRead, goes, with_one, stated_in}
 use Rattle.t1_font.specs.ClearText.{clear_turn, code_statement, code_at, code_turn, code_token}
-use Rattle.t1_font.specs.Written.{Piece, token, IsWritten, IsWhole, is_word_of}
-use Rattle.t1_font.specs.UsualClearText.{CodeItem, group, between_groups, lone_dup, code_pieces, code_states, PassesInCodes, ends_group, AreCodeItems}
+use Rattle.t1_font.specs.Laws.Written.{Piece, token, IsWritten, IsWhole, is_word_of}
+use Rattle.t1_font.specs.Laws.UsualClearText.{CodeItem, group, between_groups, lone_dup, code_pieces, code_states, PassesInCodes, ends_group, AreCodeItems}
 use Rattle.t1_font.proofs.Shorter.{clear_shortens}
 use Rattle.t1_font.proofs.Steps.{goes_on}
 use Rattle.t1_font.proofs.WrittenRead.{wanted_is, ahead_is, last_token, whole_up_to_is, whole_is_number}

@@ -1,7 +1,7 @@
 -- What holds of what is read next, by what holds of what was read first.
 use Rattle.std.proofs.Common.{Bool, true, false, cond, Option, Some, None, Result, Ok, Err, IfOk, IfSome}
 use Rattle.t1_font.specs.declared.refusal.Refusal.{Refusal}
-use Rattle.t1_font.specs.Refusals.{◌>>=◌}
+use Rattle.t1_font.specs.Readings.{◌>>=◌}
 use Rattle.t1_font.specs.Tokens.{◌>?◌}
 
 -- What follows something that was read.

@@ -4,7 +4,7 @@ use Rattle.std.specs.Option.{option_or, unwrap_or}
 use Rattle.std.specs.List.{AllByRecursion, IsDistinct}
 use Rattle.t1_font.specs.Keys.{same_name}
 use Rattle.t1_font.specs.Fonts.{code_of, subr_of, glyph_of, is_encoding, after_last, firsts, last_under, keys_of, table_of, value_of}
-use Rattle.t1_font.specs.DifferentKeys.{DifferentStay}
+use Rattle.t1_font.specs.Laws.Keys.{DifferentStay}
 use Rattle.t1_font.proofs.Tables.{IsExact, nat_exact, name_exact, flipped}
 
 or_none : {A : Type 0} (x : Option A) → option_or x None ≡ x

@@ -9,9 +9,9 @@ use Rattle.t1_font.specs.Turns.{TextRead}
 use Rattle.t1_font.specs.ClearText.{clear_of}
 use Rattle.t1_font.specs.PrivateText.{private_of}
 use Rattle.t1_font.specs.Texts.{font_value_of}
-use Rattle.t1_font.specs.UsualClearText as clear
-use Rattle.t1_font.specs.UsualPrivateText as private
-use Rattle.t1_font.specs.UsualForms.{ReadsUsualFonts, AdditionsInClear, AdditionsInPrivate}
+use Rattle.t1_font.specs.Laws.UsualClearText as clear
+use Rattle.t1_font.specs.Laws.UsualPrivateText as private
+use Rattle.t1_font.specs.Laws.UsualTexts.{ReadsUsualFonts, AdditionsInClear, AdditionsInPrivate}
 use Rattle.t1_font.proofs.ClearItemsRead.{reads_usual_clear}
 use Rattle.t1_font.proofs.PrivateRead.{reads_usual_private}
 

@@ -12,8 +12,8 @@ use Rattle.t1_font.specs.Tokens.{is_word_kind}
 use Rattle.t1_font.specs.Fonts.{Stated, Marks, FontValue, value_of, glyph, firsts}
 use Rattle.t1_font.specs.Turns.{over, goes}
 use Rattle.t1_font.specs.PrivateText.{has_key, glyphs_at, glyph_turn, glyphs_token, private_outside, private_turn}
-use Rattle.t1_font.specs.Written.{token, IsWritten, is_word_of, Charstring, charstring_pieces, IsCharstring}
-use Rattle.t1_font.specs.UsualPrivateText.{GlyphItem, glyph_entry, between_glyphs, glyph_pieces, glyph_states, glyph_names, IsGlyphItem, IsCount, glyphs_pieces}
+use Rattle.t1_font.specs.Laws.Written.{token, IsWritten, is_word_of, Charstring, charstring_pieces, IsCharstring}
+use Rattle.t1_font.specs.Laws.UsualPrivateText.{GlyphItem, glyph_entry, between_glyphs, glyph_pieces, glyph_states, glyph_names, IsGlyphItem, IsCount, glyphs_pieces}
 use Rattle.t1_font.proofs.GlyphNames.{names_of, names_more, has_room}
 use Rattle.t1_font.proofs.PrivateItemsRead.{read, on, nothing_more, outside, name_among, mode_of}
 use Rattle.t1_font.proofs.Shorter.{private_shortens}

@@ -8,14 +8,14 @@ use Rattle.t1_font.specs.declared.mode.ClearMode.TheVariants as clear_modes
 use Rattle.t1_font.specs.declared.mode.PrivateMode.TheVariants.{Outside}
 use Rattle.t1_font.specs.declared.refusal.Refusal.{Refusal}
 use Rattle.t1_font.specs.declared.refusal.Refusal.TheVariants.{BadCharStrings, NoEexec}
-use Rattle.t1_font.specs.Refusals.{◌>>=◌}
+use Rattle.t1_font.specs.Readings.{◌>>=◌}
 use Rattle.t1_font.specs.Fonts.{Stated, Marks, FontValue, plain, encoding, code, bad_code, size, subr, glyph, value_of}
-use Rattle.t1_font.specs.Puts.{put, put_pair}
+use Rattle.t1_font.specs.Inner.Puts.{put, put_pair}
 use Rattle.t1_font.specs.Turns.{over, goes, TextRead, Reader, follow, with_one, stated_within}
 use Rattle.t1_font.specs.ClearText.{clear_turn, begins_as_font, clear_of}
 use Rattle.t1_font.specs.PrivateText.{private_turn, private_of}
 use Rattle.t1_font.specs.Texts.{font_value_of}
-use Rattle.t1_font.specs.Limits.{IsWithinLimits, ReadWithinLimits, FontsWithinLimits, NothingPastTheEnd}
+use Rattle.t1_font.specs.Laws.Limits.{IsWithinLimits, ReadWithinLimits, FontsWithinLimits, NothingPastTheEnd}
 use Rattle.t1_font.proofs.Room.{room_put}
 use Rattle.t1_font.proofs.Stating.{value_step}
 use Rattle.t1_font.proofs.Compose.{either}

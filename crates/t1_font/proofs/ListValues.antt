@@ -11,10 +11,10 @@ use Rattle.t1_scan.specs.Tokens.{Found, token_of}
 use Rattle.t1_scan.proofs.Cover.{shortens}
 use Rattle.t1_scan.proofs.TextsRead.{reads_token}
 use Rattle.t1_scan.proofs.TokensFound.{ends_in_blanks}
-use Rattle.t1_font.specs.ListLaws.{kinds_of, IsReadAsNumbers, IsWrittenWith, has_other_kind, BothAre, CountsNumbers, NumbersAlone, OtherElse, OtherToken, InsideDecides, WrittenNumbers, WrittenOthers}
+use Rattle.t1_font.specs.Laws.Lists.{kinds_of, IsReadAsNumbers, IsWrittenWith, has_other_kind, BothAre, CountsNumbers, NumbersAlone, OtherElse, OtherToken, InsideDecides, WrittenNumbers, WrittenOthers}
 use Rattle.t1_font.specs.Tokens.{token_at, is_number_kind, inside_of}
 use Rattle.t1_font.specs.Values.{Value, numbers, other, ListItem, ends, is_other, item_of, item_at, number_first, numbers_from, numbers_within, numbers_of, list_after, list_value, value_of_token}
-use Rattle.t1_font.specs.Written.{token, IsWritten}
+use Rattle.t1_font.specs.Laws.Written.{token, IsWritten}
 
 -- What comes next, by the first token.
 abbrev item_in : Result (Option Found) ScanError → ListItem

@@ -13,8 +13,8 @@ use Rattle.t1_scan.specs.Spelling.{body_text, body_depth, is_body, is_idle, Sign
 use Rattle.t1_scan.specs.Texts.{lexeme_of, IsReadable, AreReadable, continued, written}
 use Rattle.t1_scan.proofs.NumbersRead.{decimal_parts, IsRadix, radix_parts}
 use Rattle.t1_scan.proofs.TextsRead.{round_trip}
-use Rattle.t1_font.specs.ListLaws.{kinds_of, NumbersAreLists, MatrixIsList}
-use Rattle.t1_font.specs.UsualExample.{digits, flat}
+use Rattle.t1_font.specs.Laws.Lists.{kinds_of, NumbersAreLists, MatrixIsList}
+use Rattle.t1_font.specs.Laws.Example.{digits, flat}
 use Rattle.t1_font.specs.Values.{numbers, list_value}
 use Rattle.t1_font.proofs.ListValues.{counts_numbers, both}
 

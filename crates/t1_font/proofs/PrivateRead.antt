@@ -5,9 +5,9 @@ use Rattle.t1_font.specs.Keys.{same_name}
 use Rattle.t1_font.specs.Fonts.{Stated, Marks, size_of, glyph_of, firsts}
 use Rattle.t1_font.specs.PrivateText.{private_of}
 use Rattle.t1_font.specs.declared.mode.PrivateMode.TheVariants.{Outside}
-use Rattle.t1_font.specs.Written.{IsWritten}
-use Rattle.t1_font.specs.UsualPrivateText.{PrivateItem, key, other_name, other_token, private_pieces, private_states, SubrItem, subr_entry, between_subrs, subr_states, SubrsPart, no_subrs, empty_subrs, some_subrs, subrs_pieces, subrs_states, glyph_names, glyph_states, glyphs_pieces, PrivateParts, all_private_pieces, all_private_states, IsUsualParts, StatesNoCharstring}
-use Rattle.t1_font.specs.UsualForms.{ReadsUsualPrivate}
+use Rattle.t1_font.specs.Laws.Written.{IsWritten}
+use Rattle.t1_font.specs.Laws.UsualPrivateText.{PrivateItem, key, other_name, other_token, private_pieces, private_states, SubrItem, subr_entry, between_subrs, subr_states, SubrsPart, no_subrs, empty_subrs, some_subrs, subrs_pieces, subrs_states, glyph_names, glyph_states, glyphs_pieces, PrivateParts, all_private_pieces, all_private_states, IsUsualParts, StatesNoCharstring}
+use Rattle.t1_font.specs.Laws.UsualTexts.{ReadsUsualPrivate}
 use Rattle.t1_font.proofs.GlyphNames.{names_of}
 use Rattle.t1_font.proofs.GlyphsRead.{glyphs_read}
 use Rattle.t1_font.proofs.PrivateItemsRead.{read, mode_of, front_read, back_read}

@@ -5,14 +5,14 @@ use Rattle.t1_font.specs.declared.mode.ClearMode.TheVariants as clear_modes
 use Rattle.t1_font.specs.declared.mode.PrivateMode.TheVariants.{Outside}
 use Rattle.t1_font.specs.declared.refusal.Refusal.{Refusal}
 use Rattle.t1_font.specs.declared.refusal.Refusal.TheVariants.{NoEexec, Unclosed, BadSubrs, BadCharStrings, BadLenIv, PastLimit, SecondSubrs, MultipleMaster, Memory}
-use Rattle.t1_font.specs.Refusals.{Refuses}
+use Rattle.t1_font.specs.Readings.{Refuses}
 use Rattle.t1_font.specs.Fonts.{Stated, Marks, FontValue, value_of}
 use Rattle.t1_font.specs.Turns.{TextRead, stated_in}
 use Rattle.t1_font.specs.Runs.{FontRead, run_of, value_read}
 use Rattle.t1_font.specs.ClearText.{begins_as_font, clear_turn, clear_of}
 use Rattle.t1_font.specs.PrivateText.{private_turn, private_of}
 use Rattle.t1_font.specs.Texts.{clear_value_of, clear_read, font_value_of, font_read, value_alone}
-use Rattle.t1_font.specs.Laws.{ReadAsStated}
+use Rattle.t1_font.specs.Laws.Statements.{ReadAsStated}
 use Rattle.t1_font.proofs.Running.{IsEndOf, run_ends, run_is_read}
 use Rattle.t1_font.proofs.Shorter.{clear_shortens}
 use Rattle.t1_font.proofs.Stating.{value_step}

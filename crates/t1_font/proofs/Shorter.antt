@@ -15,7 +15,7 @@ use Rattle.t1_font.specs.declared.mode.PrivateMode.{PrivateMode}
 use Rattle.t1_font.specs.declared.mode.PrivateMode.TheVariants.{Outside, Subrs, Glyphs}
 use Rattle.t1_font.specs.declared.refusal.Refusal.{Refusal}
 use Rattle.t1_font.specs.declared.refusal.Refusal.TheVariants.{BadCharStrings, BadSubrs, NoEexec, Unclosed}
-use Rattle.t1_font.specs.Refusals.{◌>>=◌}
+use Rattle.t1_font.specs.Readings.{◌>>=◌}
 use Rattle.t1_font.specs.Tokens.{token_at, wanted, token_ahead, natural, is_number_kind, is_name_kind, name_of, spells, past_word, charstring_at, raw_of, some_raw, ◌>?◌}
 use Rattle.t1_font.specs.Fonts.{FontValue, size, glyph}
 use Rattle.t1_font.specs.Turns.{goes}

@@ -12,13 +12,13 @@ use Rattle.t1_font.specs.declared.mode.PrivateMode.TheVariants.{Outside, Subrs, 
 use Rattle.t1_font.specs.declared.refusal.Refusal.{Refusal}
 use Rattle.t1_font.specs.declared.refusal.Refusal.TheVariants.{NoEexec, BadCharStrings, Unclosed}
 use Rattle.t1_font.specs.Keys.{same_name}
-use Rattle.t1_font.specs.Refusals.{◌>>=◌}
+use Rattle.t1_font.specs.Readings.{◌>>=◌}
 use Rattle.t1_font.specs.Tokens.{token_at, wanted}
 use Rattle.t1_font.specs.Fonts.{Stated, Marks, FontValue, value_of}
 use Rattle.t1_font.specs.Turns.{TurnValue, over, goes, Reader, follow, with_one, stated_within, stated_in}
 use Rattle.t1_font.specs.ClearText.{code_at, code_turn, clear_turn, clear_outside, code_token}
 use Rattle.t1_font.specs.PrivateText.{private_turn, private_outside, subrs_token, glyphs_token}
-use Rattle.t1_font.specs.UsualForms.{BlanksPass, BlanksPassInPrivate, DupPassesInCodes, WordsPass, WordsPassInCodes, WordsPassInPrivate, WordsPassInSubrs, WordsPassInGlyphs}
+use Rattle.t1_font.specs.Laws.UsualTexts.{BlanksPass, BlanksPassInPrivate, DupPassesInCodes, WordsPass, WordsPassInCodes, WordsPassInPrivate, WordsPassInSubrs, WordsPassInGlyphs}
 use Rattle.t1_font.proofs.Running.{Leaves, Shortens, is_shorter}
 use Rattle.t1_font.proofs.Shorter.{clear_shortens, private_shortens}
 

@@ -17,8 +17,8 @@ use Rattle.t1_font.specs.Tokens.{token_at, inside_of, is_array_kind, is_number_k
 use Rattle.t1_font.specs.Fonts.{Stated, Marks, FontValue, value_of, size, subr, size_of}
 use Rattle.t1_font.specs.Turns.{TurnValue, goes}
 use Rattle.t1_font.specs.PrivateText.{is_blank_text, subrs_at, subrs_turn, subr_at, dup_turn, subrs_token, private_outside, private_turn}
-use Rattle.t1_font.specs.Written.{IsWritten, IsWhole, is_word_of, Charstring, charstring_pieces, IsCharstring}
-use Rattle.t1_font.specs.UsualPrivateText.{SubrItem, subr_entry, between_subrs, subr_pieces, subr_states, IsSubrItem, SubrsPart, no_subrs, empty_subrs, some_subrs, subrs_pieces, subrs_states, IsSubrsPart}
+use Rattle.t1_font.specs.Laws.Written.{IsWritten, IsWhole, is_word_of, Charstring, charstring_pieces, IsCharstring}
+use Rattle.t1_font.specs.Laws.UsualPrivateText.{SubrItem, subr_entry, between_subrs, subr_pieces, subr_states, IsSubrItem, SubrsPart, no_subrs, empty_subrs, some_subrs, subrs_pieces, subrs_states, IsSubrsPart}
 use Rattle.t1_font.proofs.PrivateItemsRead.{read, on, nothing_more, outside, among, mode_of}
 use Rattle.t1_font.proofs.WrittenRead.{wanted_is, ahead_is, last_token, parts, natural_is, whole_is_number, past_word_is, charstring_is}
 

@@ -11,14 +11,14 @@ use Rattle.t1_font.specs.declared.mode.PrivateMode.{PrivateMode}
 use Rattle.t1_font.specs.declared.mode.PrivateMode.TheVariants.{Outside, Subrs, Glyphs}
 use Rattle.t1_font.specs.declared.refusal.Refusal.{Refusal}
 use Rattle.t1_font.specs.declared.refusal.Refusal.TheVariants.{BadCharStrings, BadSubrs, NoEexec, PastLimit}
-use Rattle.t1_font.specs.Refusals.{◌>>=◌}
+use Rattle.t1_font.specs.Readings.{◌>>=◌}
 use Rattle.t1_font.specs.Keys.{same_name, private_key, clear_key}
 use Rattle.t1_font.specs.Tokens.{wanted, token_ahead, natural, whole, whole_up_to, is_number_kind, is_name_kind, name_of, spells, past_word, charstring_at, ◌>?◌}
 use Rattle.t1_font.specs.Fonts.{Stated, FontValue, plain, encoding, code, bad_code, size, subr, glyph}
 use Rattle.t1_font.specs.Turns.{TurnValue, over, goes}
 use Rattle.t1_font.specs.ClearText.{clear_value, array_at, encoding_at, encoding_turn, clear_outside, code_statement, code_at, code_turn, code_token, clear_turn, begins}
 use Rattle.t1_font.specs.PrivateText.{has_key, private_value, subrs_at, subrs_turn, glyphs_at, private_outside, subr_at, dup_turn, subrs_token, glyph_turn, glyphs_token, private_turn}
-use Rattle.t1_font.specs.Limits.{HasRoom, HasRoomFor}
+use Rattle.t1_font.specs.Inner.Room.{HasRoom, HasRoomFor}
 use Rattle.t1_font.proofs.Compose.{bind, next, either, choose, glance, which, found_or}
 
 -- A statement that leaves a value within the limits.

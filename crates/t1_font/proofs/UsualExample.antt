@@ -7,10 +7,10 @@ use Rattle.t1_scan.specs.Numbers.{scaled, value_of, magnitude_of, decimal_of, ra
 use Rattle.t1_scan.specs.Spelling.{word, spelled, meant, depth_of, is_plain}
 use Rattle.t1_scan.specs.Texts.{BeginsWith, can_end, is_gap}
 use Rattle.t1_font.specs.Keys.{clear_key, private_key}
-use Rattle.t1_font.specs.Written.{Piece, token, raw, IsWritten}
-use Rattle.t1_font.specs.UsualClearText as clear
-use Rattle.t1_font.specs.UsualPrivateText as private
-use Rattle.t1_font.specs.UsualExample.{digits, clear_text, clear_items, private_text, subr_items, private_parts, SmallFontIsUsual}
+use Rattle.t1_font.specs.Laws.Written.{Piece, token, raw, IsWritten}
+use Rattle.t1_font.specs.Laws.UsualClearText as clear
+use Rattle.t1_font.specs.Laws.UsualPrivateText as private
+use Rattle.t1_font.specs.Laws.Example.{digits, clear_text, clear_items, private_text, subr_items, private_parts, SmallFontIsUsual}
 
 -- The text that pieces make, each token behind its gap.
 abbrev text_with : List (List ℕ) → List Piece → List ℕ → List ℕ

@@ -9,7 +9,7 @@ use Rattle.t1_font.specs.declared.mode.ClearMode.{ClearMode}
 use Rattle.t1_font.specs.declared.mode.ClearMode.TheVariants.{Outside, Codes}
 use Rattle.t1_font.specs.declared.refusal.Refusal.{Refusal}
 use Rattle.t1_font.specs.declared.refusal.Refusal.TheVariants.{NoEexec, MultipleMaster}
-use Rattle.t1_font.specs.Refusals.{◌>>=◌}
+use Rattle.t1_font.specs.Readings.{◌>>=◌}
 use Rattle.t1_font.specs.declared.key.Key.{Key}
 use Rattle.t1_font.specs.Keys.{clear_key, same_name}
 use Rattle.t1_font.specs.Tokens.{billion, wanted, token_ahead, whole_up_to, spells, is_name_kind, is_number_kind, name_of, ◌>?◌}

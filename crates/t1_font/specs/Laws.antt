@@ -1,16 +1,11 @@
--- Laws of what texts state.
-use Rattle.std.specs.Prelude.{◌≡◌, ℕ, List, [], ◌∷◌, ◌++◌}
-use Rattle.t1_font.specs.declared.refusal.Refusal.{Refusal}
-use Rattle.t1_font.specs.Fonts.{Stated, Marks, value_of}
-use Rattle.t1_font.specs.Puts.{put}
-use Rattle.t1_font.specs.Turns.{Reader, stated_in}
-use Rattle.t1_font.specs.Runs.{run_of, value_read}
-
--- One statement more.
-abbrev pub OneMore : Type 0
-OneMore = (marks : Marks) (es : List Stated) (e : Stated) → value_of marks (es ++ e ∷ []) ≡ put (value_of marks es) e
-
--- Reading while a value is kept is looking up afterwards.
-abbrev pub ReadAsStated : Type 0 → Type 0
-ReadAsStated M = (turn : Reader M) (ended : Refusal) (marks : Marks) (before : List Stated) (mode : M) (s : List ℕ) →
-    run_of turn ended (value_of marks before) mode s ≡ value_read marks (stated_in turn ended marks before mode s)
+pub mod BrokenPrivateText
+pub mod BrokenTexts
+pub mod Example
+pub mod Keys
+pub mod Limits
+pub mod Lists
+pub mod Statements
+pub mod UsualClearText
+pub mod UsualPrivateText
+pub mod UsualTexts
+pub mod Written

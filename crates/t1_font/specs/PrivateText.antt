@@ -10,7 +10,7 @@ use Rattle.t1_font.specs.declared.mode.PrivateMode.{PrivateMode}
 use Rattle.t1_font.specs.declared.mode.PrivateMode.TheVariants.{Outside, Subrs, Glyphs}
 use Rattle.t1_font.specs.declared.refusal.Refusal.{Refusal}
 use Rattle.t1_font.specs.declared.refusal.Refusal.TheVariants.{BadSubrs, BadCharStrings, BadLenIv, PastLimit, SecondSubrs}
-use Rattle.t1_font.specs.Refusals.{◌>>=◌}
+use Rattle.t1_font.specs.Readings.{◌>>=◌}
 use Rattle.t1_font.specs.Keys.{private_key, same_name}
 use Rattle.t1_font.specs.Tokens.{token_at, wanted, token_ahead, whole_up_to, natural, spells, is_word_kind, is_name_kind, is_number_kind, is_array_kind, name_of, inside_of, past_word, charstring_at}
 use Rattle.t1_font.specs.Fonts.{Stated, Marks, FontValue, plain, size, subr, glyph}

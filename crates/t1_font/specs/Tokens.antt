@@ -1,29 +1,17 @@
 -- Tokens as the texts of a font are read by them.
-use Rattle.std.specs.Prelude.{◌≡◌, ℕ, ℤ, pos, Bool, true, false, Option, Some, None, Result, Ok, Err, List, ◌+◌, ◌/◌, ◌%◌, ◌==◌, ◌&&◌, ◌-◌, if◌then◌else◌, nat_lt, length, take, drop}
-use Rattle.std.specs.Borrow.{Bor}
+use Rattle.std.specs.Prelude.{ℕ, ℤ, pos, Bool, true, false, Option, Some, None, Result, Ok, Err, List, ◌+◌, ◌/◌, ◌%◌, ◌==◌, ◌&&◌, ◌-◌, if◌then◌else◌, nat_lt, length, take, drop}
 use Rattle.t1_scan.specs.declared.error.ScanError.{ScanError}
 use Rattle.t1_scan.specs.declared.token.Kind.{Kind}
 use Rattle.t1_scan.specs.declared.token.Kind.TheVariants.{Number, Name, Word, Array}
-use Rattle.t1_scan.specs.declared.token.Token.{Token}
 use Rattle.t1_scan.specs.Tokens.{Found, token_of}
 use Rattle.t1_font.specs.declared.refusal.Refusal.{Refusal}
 use Rattle.t1_font.specs.declared.refusal.Refusal.TheVariants.{Unclosed, PastLimit}
-use Rattle.t1_font.specs.Refusals.{◌>>=◌}
+use Rattle.t1_font.specs.Readings.{◌>>=◌}
 use Rattle.t1_font.specs.Keys.{same_name}
 
 -- The first token of a text, and what follows it.
 unfoldable pub token_at : List ℕ → Result (Option Found) ScanError
 token_at s = token_of s
-
--- A token in front of a rest.
-abbrev pub found_of : Token → List ℕ → Found
-found_of t rest = record { kind = t.kind; text = t.text.now; rest = rest }
-
--- What was given is the first token of a text, and what follows it.
-abbrev pub IsFirst : List ℕ → Result (Option (Token × Bor (List ℕ))) ScanError → Type 0
-IsFirst s (Ok (Some p)) = token_at s ≡ Ok (Some (found_of p.0 p.1.now))
-IsFirst s (Ok None) = token_at s ≡ Ok None
-IsFirst s (Err e) = token_at s ≡ Err e
 
 -- A token that is wanted: one that isn't closed is refused as such, the end of the text as told.
 unfoldable pub wanted : Refusal → List ℕ → Result Found Refusal
@@ -90,11 +78,6 @@ raw_of len s = if nat_lt (length s) (1 + len) then None else Some (take len (dro
 abbrev pub some_raw : Refusal → Option (List ℕ × List ℕ) → Result (List ℕ × List ℕ) Refusal
 some_raw bad None = Err bad
 some_raw bad (Some p) = Ok p
-
--- What was looked at, seen by view, is what there was.
-abbrev pub Sees : {X Y : Type 0} → (X → Y) → Option X → Option Y → Type 0
-Sees view (Some x) there = there ≡ Some (view x)
-Sees view None there = there ≡ None
 
 -- A token of this kind and text is this word.
 abbrev pub spells : List ℕ → Kind → List ℕ → Bool

@@ -1,7 +1,7 @@
 -- How a text is read: by turns, each of which takes a token or more.
 use Rattle.std.specs.Prelude.{ℕ, zero, suc, Option, Some, None, Result, Ok, Err, List, [], ◌∷◌, ◌++◌, length}
 use Rattle.t1_font.specs.declared.refusal.Refusal.{Refusal}
-use Rattle.t1_font.specs.Refusals.{◌>>=◌}
+use Rattle.t1_font.specs.Readings.{◌>>=◌}
 use Rattle.t1_font.specs.Fonts.{Stated, Marks, FontValue, value_of}
 
 -- One turn, M the places where reading can be: the text is over, and this is left; or reading goes on at

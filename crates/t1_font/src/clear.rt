@@ -3,7 +3,7 @@
 ghost use Rattle.std.specs.Prelude.{◌≡◌, ◌≤◌, IfOk, List, Ok, drop, length};
 ghost use Rattle.t1_font.specs.ClearText.{begins_as_font, clear_of};
 ghost use Rattle.t1_font.specs.Fonts.{Marks, Stated, value_of};
-ghost use Rattle.t1_font.specs.Refusals.{Gives};
+ghost use Rattle.t1_font.specs.Readings.{Reads};
 ghost use Rattle.t1_font.specs.Texts.{clear_read, font_after, font_read, marks_of};
 ghost use Rattle.t1_font.specs.Turns.{TextRead};
 
@@ -53,7 +53,7 @@ fn begins_as_font(text: &[u8]) -> bool
 
 /// Reads the clear text of a font, up to its word `eexec`.
 pub fn read_clear<'a>(alloc: Global, joined: &'a Joined) -> Result<Clear<'a>, Refusal>
-    ensures gives { Gives (λ c. c) result (clear_read (marks_of joined.now) joined.now.bytes.items) }
+    ensures gives { Reads (λ c. c) result (clear_read (marks_of joined.now) joined.now.bytes.items) }
     ensures within { IfOk result (λ clear. clear.after ≤ length joined.now.bytes.items) }
     ensures behind { IfOk result (λ clear. (read : TextRead) → clear_of (marks_of joined.now) joined.now.bytes.items ≡ Ok read →
         read.rest ≡ drop clear.after joined.now.bytes.items) }
@@ -72,9 +72,9 @@ pub fn read_clear<'a>(alloc: Global, joined: &'a Joined) -> Result<Clear<'a>, Re
 /// Reads the private text of a font, up to the `end` of its CharStrings, over what its clear text
 /// states. The font's maps grow by the allocator that `read_clear` was given.
 pub fn read_font<'a>(_alloc: Global, clear: Clear<'a>, text: &'a [u8]) -> Result<Font<'a>, Refusal>
-    ensures run { Gives (λ f. f) result (font_after clear.entry.font text.now) }
+    ensures run { Reads (λ f. f) result (font_after clear.entry.font text.now) }
     ensures stated { (marks : Marks) (before : List Stated) → clear.entry.font ≡ value_of marks before →
-        Gives (λ f. f) result (font_read marks before text.now) }
+        Reads (λ f. f) result (font_read marks before text.now) }
 {
     let mut font = clear.into_font();
     take_private(&mut font, text)?;

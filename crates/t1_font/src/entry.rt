@@ -1,7 +1,8 @@
 //! Plain values: Type 1 Font Format 1.1, chapters 2 and 5.
 
 ghost use Rattle.std.specs.Prelude.{◌≡◌, ◌++◌, ◌∷◌, ◌≤◌, [], false, length, take};
-ghost use Rattle.t1_font.specs.Entries.{entry_view, item_view};
+ghost use Rattle.t1_font.specs.Entries.{entry_view};
+ghost use Rattle.t1_font.specs.Inner.Items.{item_view};
 ghost use Rattle.t1_font.specs.LenIv.{len_iv_of};
 ghost use Rattle.t1_font.specs.Values.{item_at, item_of, list_value, value_of_token};
 
@@ -40,7 +41,7 @@ impl Entry {
             Entry::Number(number) => Entry::Number(*number),
             Entry::Numbers { count, first } => Entry::Numbers {
                 count: *count,
-                first: copied(first),
+                first: copy_of(first),
             },
             Entry::Other => Entry::Other,
         }
@@ -64,7 +65,7 @@ impl Entry {
 }
 
 /// The same numbers once more.
-fn copied(first: &ArrayVec<i64, 16>) -> ArrayVec<i64, 16>
+fn copy_of(first: &ArrayVec<i64, 16>) -> ArrayVec<i64, 16>
     ensures { result.items ≡ first.now.items }
 {
     let mut copy = ArrayVec::new();
@@ -83,7 +84,7 @@ enum Item<'a> {
 }
 
 /// What a token is in a list.
-fn listed(kind: Kind, rest: &[u8]) -> Item<'_>
+fn item_of(kind: Kind, rest: &[u8]) -> Item<'_>
     ensures { item_view result ≡ item_of kind rest.now }
 {
     match kind {
@@ -98,7 +99,7 @@ fn first_item(text: &[u8]) -> Item<'_>
     ensures { item_view result ≡ item_at text.now }
 {
     match first(text) {
-        Ok(Some((token, rest))) => listed(token.kind, rest),
+        Ok(Some((token, rest))) => item_of(token.kind, rest),
         Ok(None) => Item::End,
         Err(_) => Item::Other,
     }

@@ -1,21 +1,21 @@
 //! Laws of the definitions, each on a call that does nothing.
 
-ghost use Rattle.t1_font.specs.DifferentKeys.{DifferentStay, TwiceIsAgain};
-ghost use Rattle.t1_font.specs.Laws.{OneMore, ReadAsStated};
+ghost use Rattle.t1_font.specs.Laws.Keys.{DifferentStay, TwiceIsAgain};
+ghost use Rattle.t1_font.specs.Laws.Statements.{OneMore, ReadAsStated};
 ghost use Rattle.t1_font.specs.declared.mode.ClearMode.{ClearMode};
 ghost use Rattle.t1_font.specs.declared.mode.PrivateMode.{PrivateMode};
-ghost use Rattle.t1_font.specs.UsualExample.{SmallFontIsUsual};
-ghost use Rattle.t1_font.specs.UsualForms.{AdditionsInClear, AdditionsInPrivate, BlanksPass, BlanksPassInPrivate, DupPassesInCodes, ReadsUsualClear, ReadsUsualFonts, ReadsUsualPrivate, WordsPass, WordsPassInCodes, WordsPassInGlyphs, WordsPassInPrivate, WordsPassInSubrs};
+ghost use Rattle.t1_font.specs.Laws.Example.{SmallFontIsUsual};
+ghost use Rattle.t1_font.specs.Laws.UsualTexts.{AdditionsInClear, AdditionsInPrivate, BlanksPass, BlanksPassInPrivate, DupPassesInCodes, ReadsUsualClear, ReadsUsualFonts, ReadsUsualPrivate, WordsPass, WordsPassInCodes, WordsPassInGlyphs, WordsPassInPrivate, WordsPassInSubrs};
 
 /// One statement more changes the value of all as the program does: a key that is there keeps its
 /// place and takes the later value, and a new one goes last.
 #[tactic(auto, using(crate::proofs::Stating::value_step))]
-pub fn statements_change_the_value()
+pub fn one_more_statement()
     ensures { OneMore }
 {}
 
 /// A text is read, while a value is kept, as what is looked up afterwards in all that it states.
-pub fn texts_are_read_as_stated()
+pub fn reading_by_statements()
     ensures clear { ReadAsStated ClearMode }
     ensures private { ReadAsStated PrivateMode }
 {}
@@ -23,12 +23,12 @@ pub fn texts_are_read_as_stated()
 /// Subrs, glyphs and codes whose numbers or names are all different are the font's just as they are
 /// stated, in their order.
 #[tactic(auto, using(crate::proofs::DifferentKeys::different_stay))]
-pub fn different_keys_stay()
+pub fn different_keys()
     ensures { DifferentStay }
 {}
 
 /// The Subrs and the glyphs that a font has as given twice are those that were stated twice or more.
-pub fn repeated_keys_are_twice()
+pub fn repeated_keys()
     ensures { TwiceIsAgain }
 {}
 
@@ -36,7 +36,7 @@ pub fn repeated_keys_are_twice()
 /// with values of one token; a standard Encoding, or a custom one of `dup` code name `put` groups and
 /// `def`; tokens between; and the word `eexec`.
 #[tactic(auto, using(crate::proofs::ClearItemsRead::reads_usual_clear))]
-pub fn usual_clear_texts_are_read()
+pub fn usual_clear_texts()
     ensures { ReadsUsualClear }
 {}
 
@@ -44,25 +44,25 @@ pub fn usual_clear_texts_are_read()
 /// keys with values of one token; Subrs and CharStrings whose RD, NP and ND are any words; tokens
 /// between; and the word `end`.
 #[tactic(auto, using(crate::proofs::PrivateRead::reads_usual_private))]
-pub fn usual_private_texts_are_read()
+pub fn usual_private_texts()
     ensures { ReadsUsualPrivate }
 {}
 
 /// A font whose clear text and private text are in the usual form has the value of what both state.
 #[tactic(auto, using(crate::proofs::EntriesAlone::reads_usual_fonts))]
-pub fn usual_fonts_are_read()
+pub fn usual_fonts()
     ensures { ReadsUsualFonts }
 {}
 
 /// A small font, written out, is in the usual form.
 #[tactic(auto, using(crate::proofs::UsualExample::small_font_is_usual))]
-pub fn a_small_font_is_usual()
+pub fn small_usual_font()
     ensures { SmallFontIsUsual }
 {}
 
 /// Texts in the usual form with the same entries leave the same value: blanks, comments with the end of
 /// their line, and tokens that state nothing, wherever they stand between, change nothing.
-pub fn additions_change_nothing()
+pub fn idle_additions()
     ensures clear { AdditionsInClear }
     ensures private { AdditionsInPrivate }
 {}
@@ -70,7 +70,7 @@ pub fn additions_change_nothing()
 /// In any text, wherever a token is due, blanks and comments with the end of their line change nothing
 /// of what is stated.
 #[tactic(auto, using(crate::proofs::Steps::blanks_pass, crate::proofs::Steps::blanks_pass_in_private))]
-pub fn blanks_between_entries_pass()
+pub fn blanks_between_entries()
     ensures clear { BlanksPass }
     ensures private { BlanksPassInPrivate }
 {}
@@ -79,7 +79,7 @@ pub fn blanks_between_entries_pass()
 /// what is stated: all but `eexec` in the clear text; but `eexec`, `def` and a `dup` that begins a group
 /// in a custom encoding; any in the private text, but `dup` among the Subrs and `end` among the glyphs.
 #[tactic(auto, using(crate::proofs::Steps::words_pass, crate::proofs::Steps::words_pass_in_codes, crate::proofs::Steps::dup_passes_in_codes, crate::proofs::Steps::words_pass_in_private, crate::proofs::Steps::words_pass_in_subrs, crate::proofs::Steps::words_pass_in_glyphs))]
-pub fn words_between_entries_pass()
+pub fn words_between_entries()
     ensures clear { WordsPass }
     ensures codes { WordsPassInCodes }
     ensures dup { DupPassesInCodes }

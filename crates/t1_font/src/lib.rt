@@ -48,14 +48,11 @@ pub use entry::Entry;
 pub use font::Font;
 pub use key::Key;
 pub use laws::{
-    a_small_font_is_usual, additions_change_nothing, blanks_between_entries_pass,
-    different_keys_stay, repeated_keys_are_twice, statements_change_the_value,
-    texts_are_read_as_stated, usual_clear_texts_are_read, usual_fonts_are_read,
-    usual_private_texts_are_read, words_between_entries_pass,
+    blanks_between_entries, different_keys, idle_additions, one_more_statement,
+    reading_by_statements, repeated_keys, small_usual_font, usual_clear_texts, usual_fonts,
+    usual_private_texts, words_between_entries,
 };
-pub use limit_laws::limits_are_kept;
+pub use limit_laws::limits_of_fonts;
 pub use refusal::Refusal;
-pub use refusal_laws::{
-    ends_are_refused, long_charstrings_are_refused, unclosed_tokens_are_refused,
-};
-pub use value_laws::tokens_decide_lists;
+pub use refusal_laws::{early_ends, long_charstrings, unclosed_tokens};
+pub use value_laws::lists_by_tokens;

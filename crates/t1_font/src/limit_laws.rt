@@ -1,10 +1,10 @@
 //! The limits that a font which was read keeps, as laws on calls that do nothing.
 
-ghost use Rattle.t1_font.specs.Limits.{FontsWithinLimits, NothingPastTheEnd, ReadWithinLimits};
+ghost use Rattle.t1_font.specs.Laws.Limits.{FontsWithinLimits, NothingPastTheEnd, ReadWithinLimits};
 
 /// A font that was read has names at codes from 0 to 255 alone, Subrs at numbers from 0 to 65,534 alone,
 /// at most 65,535 glyphs, and a stated size of at most 65,535; so its readers give nothing past these.
-pub fn limits_are_kept()
+pub fn limits_of_fonts()
     ensures kept { ReadWithinLimits }
     ensures fonts { FontsWithinLimits }
     ensures past { NothingPastTheEnd }

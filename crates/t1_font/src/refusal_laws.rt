@@ -1,24 +1,24 @@
 //! Laws of the refusals of private texts in the usual form that break off or hold one wrong thing, on
 //! calls that do nothing.
 
-ghost use Rattle.t1_font.specs.RefusalLaws.{EndsTooSoon, GlyphCutOff, GlyphTooLong, SubrCutOff, SubrNumberFirst, SubrTooLong, UnclosedToken};
+ghost use Rattle.t1_font.specs.Laws.BrokenTexts.{EndsTooSoon, GlyphCutOff, GlyphTooLong, SubrCutOff, SubrNumberFirst, SubrTooLong, UnclosedToken};
 
 /// Where the text ends: E10 behind `/lenIV`; E08 in the head of the Subrs and behind the number of one; and
 /// E09 elsewhere. A charstring that is cut off is E08 for a Subr and E09 for a glyph.
-pub fn ends_are_refused()
+pub fn early_ends()
     ensures tokens { EndsTooSoon }
     ensures subrs { SubrCutOff }
     ensures glyphs { GlyphCutOff }
 {}
 
 /// Wherever a token is due, one that isn't closed is E07.
-pub fn unclosed_tokens_are_refused()
+pub fn unclosed_tokens()
     ensures { UnclosedToken }
 {}
 
 /// A charstring's count past 65,535 is E11, of a glyph, and of a Subr whose number is good; a Subr's number
 /// that isn't whole from 0 is E08, whatever its count.
-pub fn long_charstrings_are_refused()
+pub fn long_charstrings()
     ensures subrs { SubrTooLong }
     ensures glyphs { GlyphTooLong }
     ensures number { SubrNumberFirst }

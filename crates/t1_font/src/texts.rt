@@ -6,7 +6,7 @@ ghost use Rattle.t1_font.specs.declared.mode.PrivateMode.TheVariants.{Outside};
 ghost use Rattle.t1_font.specs.declared.refusal.Refusal.TheVariants.{BadCharStrings, NoEexec};
 ghost use Rattle.t1_font.specs.ClearText.{clear_turn};
 ghost use Rattle.t1_font.specs.PrivateText.{private_turn};
-ghost use Rattle.t1_font.specs.Refusals.{Gives};
+ghost use Rattle.t1_font.specs.Readings.{Reads};
 ghost use Rattle.t1_font.specs.Runs.{run_of};
 ghost use Rattle.t1_font.specs.Texts.{font_after};
 
@@ -19,7 +19,7 @@ use crate::statement::Turn;
 
 /// Takes what the clear text states, and gives what follows its word `eexec`.
 pub(crate) fn take_clear<'a>(font: &mut Font<'a>, text: &'a [u8]) -> Result<&'a [u8], Refusal>
-    ensures { Gives (λ rest. record { value = font.new; rest = rest.now }) result (run_of clear_turn NoEexec font.old clear_modes.Outside text.now) }
+    ensures { Reads (λ rest. record { value = font.new; rest = rest.now }) result (run_of clear_turn NoEexec font.old clear_modes.Outside text.now) }
 {
     let mut left = text;
     let mut mode = ClearMode::Outside;
@@ -37,7 +37,7 @@ pub(crate) fn take_clear<'a>(font: &mut Font<'a>, text: &'a [u8]) -> Result<&'a 
 
 /// Takes what the private text states.
 pub(crate) fn take_private<'a>(font: &mut Font<'a>, text: &'a [u8]) -> Result<(), Refusal>
-    ensures { Gives (λ _. font.new) result (font_after font.old text.now) }
+    ensures { Reads (λ _. font.new) result (font_after font.old text.now) }
 {
     let mut left = text;
     let mut mode = PrivateMode::Outside;

@@ -2,9 +2,9 @@
 use Rattle.std.specs.Prelude.{ℕ, None, List, [], ◌∷◌, ◌++◌, codes}
 use Rattle.t1_scan.specs.Spelling.{Plain, word, decimal, no_sign, braced, bracketed, Body, nothing, part, byte}
 use Rattle.t1_font.specs.declared.key.Key.TheVariants.{FontType, LenIv, BlueValues}
-use Rattle.t1_font.specs.Written.{Charstring}
-use Rattle.t1_font.specs.UsualClearText as clear
-use Rattle.t1_font.specs.UsualPrivateText as private
+use Rattle.t1_font.specs.Laws.Written.{Charstring}
+use Rattle.t1_font.specs.Laws.UsualClearText as clear
+use Rattle.t1_font.specs.Laws.UsualPrivateText as private
 
 -- A number, and the inside of a procedure or an array that nothing nests in.
 abbrev pub digits : List ℕ → Plain

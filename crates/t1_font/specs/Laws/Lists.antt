@@ -8,9 +8,9 @@ use Rattle.t1_scan.specs.Bytes.{is_blank}
 use Rattle.t1_scan.specs.Spelling.{Plain, Body, braced, bracketed, body_text}
 use Rattle.t1_scan.specs.Texts.{Lexeme, lexeme_of, are_blanks, IsReadAs, IsReadable, AreReadable, written}
 use Rattle.t1_font.specs.Tokens.{is_number_kind}
-use Rattle.t1_font.specs.UsualExample.{flat}
+use Rattle.t1_font.specs.Laws.Example.{flat}
 use Rattle.t1_font.specs.Values.{Value, numbers, other, list_value, value_of_token}
-use Rattle.t1_font.specs.Written.{token, IsWritten}
+use Rattle.t1_font.specs.Laws.Written.{token, IsWritten}
 
 -- What these tokens are, each for itself.
 abbrev pub kinds_of : List Lexeme → List Kind

@@ -11,7 +11,7 @@ use Rattle.t1_font.specs.declared.key.Key.TheVariants.{LenIv}
 use Rattle.t1_font.specs.Keys.{private_key, same_name}
 use Rattle.t1_font.specs.Tokens.{billion, is_name_kind}
 use Rattle.t1_font.specs.Fonts.{Stated, plain, size, subr, glyph, size_of, glyph_of, firsts}
-use Rattle.t1_font.specs.Written.{Piece, token, IsWritten, IsWhole, is_word_of, Charstring, charstring_pieces, IsCharstring}
+use Rattle.t1_font.specs.Laws.Written.{Piece, token, IsWritten, IsWhole, is_word_of, Charstring, charstring_pieces, IsCharstring}
 
 -- What stands before and behind the Subrs: a plain key k, by its name without the slash, with its value
 -- of one token; another name; another token.

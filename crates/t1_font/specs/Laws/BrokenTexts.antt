@@ -7,9 +7,9 @@ use Rattle.t1_font.specs.declared.refusal.Refusal.TheVariants.{Unclosed, BadSubr
 use Rattle.t1_font.specs.Fonts.{Stated, Marks}
 use Rattle.t1_font.specs.PrivateText.{private_of}
 use Rattle.t1_font.specs.Tokens.{is_number_kind, whole}
-use Rattle.t1_font.specs.Written.{IsWhole}
-use Rattle.t1_font.specs.UsualPrivateText.{PrivateItem, SubrItem, GlyphItem, StatesNoCharstring}
-use Rattle.t1_font.specs.BrokenPrivateText.{Begun, IsBegun, IsUnclosed, missing, Opening, among_subrs, among_glyphs, lone_dup, subr_number, glyph_name, no_length, its_length}
+use Rattle.t1_font.specs.Laws.Written.{IsWhole}
+use Rattle.t1_font.specs.Laws.UsualPrivateText.{PrivateItem, SubrItem, GlyphItem, StatesNoCharstring}
+use Rattle.t1_font.specs.Laws.BrokenPrivateText.{Begun, IsBegun, IsUnclosed, missing, Opening, among_subrs, among_glyphs, lone_dup, subr_number, glyph_name, no_length, its_length}
 
 -- Where only blanks and comments are left, the refusal is that of what is missing.
 abbrev pub EndsTooSoon : Type 0

@@ -1,6 +1,6 @@
 use Rattle.t1_font.proofs.ListValues.{other_else, inside_decides, written_numbers, written_others}
 use Rattle.t1_font.proofs.NumberLists.{numbers_are_lists, matrix_is_list}
-use Rattle.t1_font.proofs.value_laws.tokens_decide_lists.Goals as goal
+use Rattle.t1_font.proofs.value_laws.lists_by_tokens.Goals as goal
 
 pub returns-clause-exactly : goal.returns-clause-exactly
 returns-clause-exactly c = other_else

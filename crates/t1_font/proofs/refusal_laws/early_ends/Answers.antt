@@ -1,5 +1,5 @@
 use Rattle.t1_font.proofs.BrokenRead.{ends_too_soon, subr_cut_off, glyph_cut_off}
-use Rattle.t1_font.proofs.refusal_laws.ends_are_refused.Goals as goal
+use Rattle.t1_font.proofs.refusal_laws.early_ends.Goals as goal
 
 pub returns-clause-tokens : goal.returns-clause-tokens
 returns-clause-tokens c = ends_too_soon

@@ -10,8 +10,8 @@ use Rattle.t1_font.specs.declared.refusal.Refusal.{Refusal}
 use Rattle.t1_font.specs.declared.refusal.Refusal.TheVariants.{BadSubrs, BadCharStrings, BadLenIv}
 use Rattle.t1_font.specs.Fonts.{firsts}
 use Rattle.t1_font.specs.Keys.{private_key, same_name}
-use Rattle.t1_font.specs.Written.{Piece, token, IsWritten, IsWhole}
-use Rattle.t1_font.specs.UsualPrivateText.{PrivateItem, private_pieces, IsPrivateItem, IsNoDup, SubrItem, SubrsPart, some_subrs, subrs_pieces, IsSubrsPart, GlyphItem, glyph_pieces, glyph_names, IsGlyphItem, IsCount}
+use Rattle.t1_font.specs.Laws.Written.{Piece, token, IsWritten, IsWhole}
+use Rattle.t1_font.specs.Laws.UsualPrivateText.{PrivateItem, private_pieces, IsPrivateItem, IsNoDup, SubrItem, SubrsPart, some_subrs, subrs_pieces, IsSubrsPart, GlyphItem, glyph_pieces, glyph_names, IsGlyphItem, IsCount}
 
 -- What is left has more than blanks and comments, but begins with no token: one isn't closed, or nests
 -- too deep.

@@ -1,5 +1,5 @@
 use Rattle.t1_font.proofs.Stating.{twice_is_again}
-use Rattle.t1_font.proofs.laws.repeated_keys_are_twice.Goals as goal
+use Rattle.t1_font.proofs.laws.repeated_keys.Goals as goal
 
 pub returns : goal.returns
 returns c = twice_is_again

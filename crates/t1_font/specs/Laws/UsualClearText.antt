@@ -10,7 +10,7 @@ use Rattle.t1_font.specs.Keys.{clear_key, same_name}
 use Rattle.t1_font.specs.Tokens.{is_name_kind, is_number_kind}
 use Rattle.t1_font.specs.Fonts.{Stated, plain, encoding, code}
 use Rattle.t1_font.specs.ClearText.{begins_as_font}
-use Rattle.t1_font.specs.Written.{Piece, token, IsWritten, IsWhole, is_word_of}
+use Rattle.t1_font.specs.Laws.Written.{Piece, token, IsWritten, IsWhole, is_word_of}
 
 -- What stands in a custom encoding: a group of dup, the code n as a number, a name and put; a token that
 -- states nothing; the word dup alone. Names are given without their slash.

@@ -1,5 +1,5 @@
 use Rattle.t1_font.proofs.BrokenRead.{subr_too_long, glyph_too_long, subr_number_first}
-use Rattle.t1_font.proofs.refusal_laws.long_charstrings_are_refused.Goals as goal
+use Rattle.t1_font.proofs.refusal_laws.long_charstrings.Goals as goal
 
 pub returns-clause-subrs : goal.returns-clause-subrs
 returns-clause-subrs c = subr_too_long

@@ -14,8 +14,8 @@ use Rattle.t1_font.specs.Turns.{stated_in}
 use Rattle.t1_font.specs.ClearText.{code_at, clear_turn, clear_of}
 use Rattle.t1_font.specs.PrivateText.{private_turn, private_of}
 use Rattle.t1_font.specs.Texts.{font_value_of, font_read}
-use Rattle.t1_font.specs.UsualClearText.{ClearItem, IsUsualClear, all_clear_states, clear_entries}
-use Rattle.t1_font.specs.UsualPrivateText.{PrivateParts, IsUsualPrivate, StatesNoCharstring, all_private_states, private_entries}
+use Rattle.t1_font.specs.Laws.UsualClearText.{ClearItem, IsUsualClear, all_clear_states, clear_entries}
+use Rattle.t1_font.specs.Laws.UsualPrivateText.{PrivateParts, IsUsualPrivate, StatesNoCharstring, all_private_states, private_entries}
 
 -- A clear text in the usual form is read with just the values and codes that its items state.
 abbrev pub ReadsUsualClear : Type 0

@@ -20,6 +20,6 @@ Refuses Memory read = Unit {0}
 Refuses e read = read ≡ Err e
 
 -- What a call returned, seen by view, is what was read, unless memory ran out.
-abbrev pub Gives : {X Y : Type 0} → (X → Y) → Result X Refusal → Result Y Refusal → Type 0
-Gives view (Ok x) read = read ≡ Ok (view x)
-Gives view (Err e) read = Refuses e read
+abbrev pub Reads : {X Y : Type 0} → (X → Y) → Result X Refusal → Result Y Refusal → Type 0
+Reads view (Ok x) read = read ≡ Ok (view x)
+Reads view (Err e) read = Refuses e read

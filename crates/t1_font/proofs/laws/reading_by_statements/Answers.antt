@@ -1,5 +1,5 @@
 use Rattle.t1_font.proofs.Reading.{read_as_stated}
-use Rattle.t1_font.proofs.laws.texts_are_read_as_stated.Goals as goal
+use Rattle.t1_font.proofs.laws.reading_by_statements.Goals as goal
 
 pub returns-clause-clear : goal.returns-clause-clear
 returns-clause-clear c = read_as_stated

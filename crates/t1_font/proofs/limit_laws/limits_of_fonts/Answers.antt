@@ -1,5 +1,5 @@
 use Rattle.t1_font.proofs.LimitsKept.{read_within_limits, fonts_within_limits, nothing_past_the_end}
-use Rattle.t1_font.proofs.limit_laws.limits_are_kept.Goals as goal
+use Rattle.t1_font.proofs.limit_laws.limits_of_fonts.Goals as goal
 
 pub returns-clause-kept : goal.returns-clause-kept
 returns-clause-kept c = read_within_limits

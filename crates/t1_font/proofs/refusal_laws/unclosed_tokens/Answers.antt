@@ -1,5 +1,5 @@
 use Rattle.t1_font.proofs.BrokenRead.{unclosed_token}
-use Rattle.t1_font.proofs.refusal_laws.unclosed_tokens_are_refused.Goals as goal
+use Rattle.t1_font.proofs.refusal_laws.unclosed_tokens.Goals as goal
 
 pub returns : goal.returns
 returns c = unclosed_token

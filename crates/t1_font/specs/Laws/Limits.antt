@@ -1,12 +1,11 @@
 -- The limits that a font which was read keeps.
-use Rattle.std.specs.Prelude.{◌≡◌, ◌<◌, ◌≤◌, ◌&&◌, ℕ, Ok, List, Option, Some, None, IfSome, false, not, length, nat_eq, nat_le}
+use Rattle.std.specs.Prelude.{◌≡◌, ◌<◌, ◌≤◌, ℕ, Ok, List, None, IfSome, length, nat_eq}
 use Rattle.std.specs.List.{All}
 use Rattle.std.specs.Map.{lookup}
-use Rattle.t1_font.specs.Keys.{same_name}
-use Rattle.t1_font.specs.Fonts.{Stated, glyph, Marks, FontValue, value_of}
+use Rattle.t1_font.specs.Fonts.{Marks, FontValue, value_of}
 use Rattle.t1_font.specs.Turns.{TextRead}
 use Rattle.t1_font.specs.ClearText.{clear_of}
-use Rattle.t1_font.specs.PrivateText.{has_key, private_of}
+use Rattle.t1_font.specs.PrivateText.{private_of}
 use Rattle.t1_font.specs.Texts.{font_read}
 
 -- Codes are numbers from 0 to 255 and Subrs have numbers from 0 to 65,534; there are at most 65,535
@@ -16,15 +15,6 @@ pub record IsWithinLimits (v : FontValue) : Type 0 where
   pub subrs : All (λ p. p.0 < 65535) v.subrs
   pub glyphs : length v.glyphs ≤ 65535
   pub size : IfSome v.size (λ n. n ≤ 65535)
-
--- There is room for a glyph of this name: fewer than 65,535 are there, or it is one of them.
-abbrev pub HasRoom : FontValue → List ℕ → Type 0
-HasRoom v name = (nat_le 65535 (length v.glyphs) && not (has_key same_name v.glyphs name)) ≡ false
-
--- There is room for what a statement, if there is one, adds.
-abbrev pub HasRoomFor : FontValue → Option Stated → Type 0
-HasRoomFor v (Some (glyph name bytes)) = HasRoom v name
-HasRoomFor v _ = Unit {0}
 
 -- Whatever the bytes of its two texts, a font that was read is within the limits.
 abbrev pub ReadWithinLimits : Type 0

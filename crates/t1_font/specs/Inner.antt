@@ -1,0 +1,5 @@
+pub mod Items
+pub mod Puts
+pub mod Room
+pub mod Statements
+pub mod Tokens
