@@ -105,7 +105,8 @@ table_of eq v ps = map (λ k. (k, unwrap_or (last_under eq k ps) v)) (firsts eq 
 -- The keys, behind these, that were there already.
 abbrev pub again_from : {K : Type 0} → (K → K → Bool) → List K → List K → List K
 again_from eq before [] = []
-again_from eq before (k ∷ ks) = (if list_any (eq k) before then k ∷ [] else []) ++ again_from eq (before ++ k ∷ []) ks
+again_from eq before (k ∷ ks) =
+    (if list_any (eq k) before then k ∷ [] else []) ++ again_from eq (before ++ k ∷ []) ks
 
 -- Each key that appears twice, in the order of its second appearance.
 abbrev pub twice_of : {K : Type 0} → (K → K → Bool) → List K → List K

@@ -1,6 +1,6 @@
 -- The private text, to the end of its CharStrings (Type 1 Font Format, chapters 2, 5 and 6): the plain
 -- keys of Private with their values, the Subrs, the glyphs.
-use Rattle.std.specs.Prelude.{ℕ, Bool, true, false, Option, Some, None, Result, Ok, Err, List, ◌==◌, ◌&&◌, ◌||◌, if◌then◌else◌, codes, not, length, is_some, nat_le, negsuc}
+use Rattle.std.specs.Prelude.{ℕ, suc, Bool, true, false, Option, Some, None, Result, Ok, Err, List, ◌==◌, ◌&&◌, ◌||◌, if◌then◌else◌, codes, not, length, is_some, nat_le, negsuc}
 use Rattle.std.specs.List.{list_any}
 use Rattle.t1_scan.specs.declared.token.Kind.{Kind}
 use Rattle.t1_scan.specs.declared.token.Kind.TheVariants.{Number}
@@ -12,12 +12,12 @@ use Rattle.t1_font.specs.declared.refusal.Refusal.{Refusal}
 use Rattle.t1_font.specs.declared.refusal.Refusal.TheVariants.{BadSubrs, BadCharStrings, BadLenIv, PastLimit, SecondSubrs}
 use Rattle.t1_font.specs.Readings.{◌>>=◌}
 use Rattle.t1_font.specs.Keys.{private_key, same_name}
-use Rattle.t1_font.specs.Tokens.{token_at, wanted, token_ahead, whole_up_to, natural, spells, is_word_kind, is_name_kind, is_number_kind, is_array_kind, name_of, inside_of, past_word, charstring_at}
+use Rattle.t1_font.specs.Tokens.{billion, token_at, wanted, token_ahead, whole_up_to, natural, spells, is_word_kind, is_name_kind, is_number_kind, is_array_kind, name_of, inside_of, past_word, charstring_at}
 use Rattle.t1_font.specs.Fonts.{Stated, Marks, FontValue, plain, size, subr, glyph}
 use Rattle.t1_font.specs.Turns.{TurnValue, over, goes, pass, TextRead, stated_in}
 
 abbrev pub is_minus_one : Kind → Bool
-is_minus_one (Number (negsuc n)) = n == 999999999
+is_minus_one (Number (negsuc n)) = suc n == billion
 is_minus_one _ = false
 
 -- A lenIV is a whole number from -1 to 64.

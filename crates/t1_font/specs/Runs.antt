@@ -12,12 +12,14 @@ pub record FontRead : Type 0 where
   pub rest : List ℕ
 
 -- What follows a turn.
-abbrev pub go_on : {M : Type 0} → (FontValue → M → List ℕ → Result FontRead Refusal) → FontValue → TurnValue M → Result FontRead Refusal
+abbrev pub go_on : {M : Type 0} → (FontValue → M → List ℕ → Result FontRead Refusal) → FontValue →
+    TurnValue M → Result FontRead Refusal
 go_on after v (over rest) = Ok (record { value = v; rest = rest })
 go_on after v (goes e mode left) = after (put_one v e) mode left
 
 -- Reading from this value on, by at most n turns.
-unfoldable pub run_within : {M : Type 0} → Reader M → Refusal → ℕ → FontValue → M → List ℕ → Result FontRead Refusal
+unfoldable pub run_within : {M : Type 0} → Reader M → Refusal → ℕ → FontValue → M → List ℕ →
+    Result FontRead Refusal
 run_within turn ended zero v mode s = Err ended
 run_within turn ended (suc n) v mode s = turn v mode s >>= go_on (run_within turn ended n) v
 

@@ -20,7 +20,8 @@ pub record ClearValue : Type 0 where
   pub after : ℕ
 
 abbrev pub clear_value_of : Marks → List ℕ → Result TextRead Refusal → Result ClearValue Refusal
-clear_value_of marks s (Ok read) = Ok (record { font = value_of marks read.stated; after = length s - length read.rest })
+clear_value_of marks s (Ok read) =
+    Ok (record { font = value_of marks read.stated; after = length s - length read.rest })
 clear_value_of marks s (Err e) = Err e
 
 abbrev pub clear_read : Marks → List ℕ → Result ClearValue Refusal

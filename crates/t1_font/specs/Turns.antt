@@ -25,7 +25,8 @@ with_one before None = before
 with_one before (Some e) = before ++ e ∷ []
 
 -- What follows a turn.
-abbrev pub follow : {M : Type 0} → (List Stated → M → List ℕ → Result TextRead Refusal) → List Stated → TurnValue M → Result TextRead Refusal
+abbrev pub follow : {M : Type 0} → (List Stated → M → List ℕ → Result TextRead Refusal) → List Stated →
+    TurnValue M → Result TextRead Refusal
 follow after before (over rest) = Ok (record { stated = before; rest = rest })
 follow after before (goes e mode left) = after (with_one before e) mode left
 
@@ -34,11 +35,13 @@ abbrev pub Reader : Type 0 → Type 0
 Reader M = FontValue → M → List ℕ → Result (TurnValue M) Refusal
 
 -- The statements of a text, those before it given, by at most n turns.
-unfoldable pub stated_within : {M : Type 0} → Reader M → Refusal → Marks → ℕ → List Stated → M → List ℕ → Result TextRead Refusal
+unfoldable pub stated_within : {M : Type 0} → Reader M → Refusal → Marks → ℕ → List Stated → M → List ℕ →
+    Result TextRead Refusal
 stated_within turn ended marks zero before mode s = Err ended
 stated_within turn ended marks (suc n) before mode s =
     turn (value_of marks before) mode s >>= follow (stated_within turn ended marks n) before
 
 -- A turn takes a byte or more, or it tells the end.
-abbrev pub stated_in : {M : Type 0} → Reader M → Refusal → Marks → List Stated → M → List ℕ → Result TextRead Refusal
+abbrev pub stated_in : {M : Type 0} → Reader M → Refusal → Marks → List Stated → M → List ℕ →
+    Result TextRead Refusal
 stated_in turn ended marks before mode s = stated_within turn ended marks (suc (length s)) before mode s

@@ -55,7 +55,8 @@ fn begins_as_font(text: &[u8]) -> bool
 pub fn read_clear<'a>(alloc: Global, joined: &'a Joined) -> Result<Clear<'a>, Refusal>
     ensures gives { Reads (λ c. c) result (clear_read (marks_of joined.now) joined.now.bytes.items) }
     ensures within { IfOk result (λ clear. clear.after ≤ length joined.now.bytes.items) }
-    ensures behind { IfOk result (λ clear. (read : TextRead) → clear_of (marks_of joined.now) joined.now.bytes.items ≡ Ok read →
+    ensures behind { IfOk result (λ clear. (read : TextRead) →
+        clear_of (marks_of joined.now) joined.now.bytes.items ≡ Ok read →
         read.rest ≡ drop clear.after joined.now.bytes.items) }
 {
     let text = joined.bytes.as_slice();

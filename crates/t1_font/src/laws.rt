@@ -78,7 +78,6 @@ pub fn blanks_between_entries()
 /// In any text, words between entries, with the blanks and comments in front of them, change nothing of
 /// what is stated: all but `eexec` in the clear text; but `eexec`, `def` and a `dup` that begins a group
 /// in a custom encoding; any in the private text, but `dup` among the Subrs and `end` among the glyphs.
-#[tactic(auto, using(crate::proofs::Steps::words_pass, crate::proofs::Steps::words_pass_in_codes, crate::proofs::Steps::dup_passes_in_codes, crate::proofs::Steps::words_pass_in_private, crate::proofs::Steps::words_pass_in_subrs, crate::proofs::Steps::words_pass_in_glyphs))]
 pub fn words_between_entries()
     ensures clear { WordsPass }
     ensures codes { WordsPassInCodes }

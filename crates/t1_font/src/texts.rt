@@ -19,7 +19,8 @@ use crate::statement::Turn;
 
 /// Takes what the clear text states, and gives what follows its word `eexec`.
 pub(crate) fn take_clear<'a>(font: &mut Font<'a>, text: &'a [u8]) -> Result<&'a [u8], Refusal>
-    ensures { Reads (λ rest. record { value = font.new; rest = rest.now }) result (run_of clear_turn NoEexec font.old clear_modes.Outside text.now) }
+    ensures { Reads (λ rest. record { value = font.new; rest = rest.now }) result
+        (run_of clear_turn NoEexec font.old clear_modes.Outside text.now) }
 {
     let mut left = text;
     let mut mode = ClearMode::Outside;

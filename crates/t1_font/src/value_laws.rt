@@ -6,7 +6,6 @@ ghost use Rattle.t1_font.specs.Laws.Lists.{CountsNumbers, InsideDecides, MatrixI
 /// The tokens between the brackets of an array or a procedure decide its value: numbers alone are
 /// counted, and the first 16 of their values are kept; anything else is another kind. Blanks and
 /// comments between change nothing, and numbers with a blank between are such an array.
-#[tactic(auto, using(crate::proofs::ListValues::counts_numbers, crate::proofs::ListValues::numbers_alone, crate::proofs::ListValues::other_token))]
 pub fn lists_by_tokens()
     ensures counts { CountsNumbers }
     ensures alone { NumbersAlone }

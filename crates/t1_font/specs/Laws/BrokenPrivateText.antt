@@ -104,7 +104,8 @@ glyphs_start_pieces (glyphs_count count) = token (name (codes "CharStrings")) �
 glyphs_start_pieces (glyphs_dict count) =
     token (name (codes "CharStrings")) ∷ token count ∷ token (word (codes "dict")) ∷ []
 glyphs_start_pieces (glyphs_dup count) =
-    token (name (codes "CharStrings")) ∷ token count ∷ token (word (codes "dict")) ∷ token (word (codes "dup")) ∷ []
+    token (name (codes "CharStrings")) ∷ token count ∷ token (word (codes "dict"))
+    ∷ token (word (codes "dup")) ∷ []
 
 abbrev pub IsGlyphsStart : GlyphsStart → Type 0
 IsGlyphsStart glyphs_name = Unit {0}
@@ -132,8 +133,8 @@ IsGlyphStart (glyph_name run c) = IsCharstringStart c
 -- The CharStrings' head.
 abbrev pub head_pieces : Plain → List Piece
 head_pieces count =
-    token (name (codes "CharStrings")) ∷ token count ∷ token (word (codes "dict")) ∷ token (word (codes "dup"))
-    ∷ token (word (codes "begin")) ∷ []
+    token (name (codes "CharStrings")) ∷ token count ∷ token (word (codes "dict"))
+    ∷ token (word (codes "dup")) ∷ token (word (codes "begin")) ∷ []
 
 -- What stands in front of the place: among the keys; in the head of the Subrs; among n Subrs or as many as
 -- there are; in the head of the CharStrings; among the glyphs.

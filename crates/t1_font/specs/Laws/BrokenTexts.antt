@@ -13,13 +13,14 @@ use Rattle.t1_font.specs.Laws.BrokenPrivateText.{Begun, IsBegun, IsUnclosed, mis
 
 -- Where only blanks and comments are left, the refusal is that of what is missing.
 abbrev pub EndsTooSoon : Type 0
-EndsTooSoon = (marks : Marks) (before : List Stated) (b : Begun) (s left : List ℕ) → StatesNoCharstring before →
-    IsBegun b s left → are_blanks false left ≡ true → private_of marks before s ≡ Err (missing b)
+EndsTooSoon = (marks : Marks) (before : List Stated) (b : Begun) (s left : List ℕ) →
+    StatesNoCharstring before → IsBegun b s left → are_blanks false left ≡ true →
+    private_of marks before s ≡ Err (missing b)
 
 -- Where what is left begins with no token, a token isn't closed.
 abbrev pub UnclosedToken : Type 0
-UnclosedToken = (marks : Marks) (before : List Stated) (b : Begun) (s left : List ℕ) → StatesNoCharstring before →
-    IsBegun b s left → IsUnclosed left → private_of marks before s ≡ Err Unclosed
+UnclosedToken = (marks : Marks) (before : List Stated) (b : Begun) (s left : List ℕ) →
+    StatesNoCharstring before → IsBegun b s left → IsUnclosed left → private_of marks before s ≡ Err Unclosed
 
 -- Where fewer bytes are left than a charstring's count and the byte in front of them, the entry is broken.
 abbrev pub SubrCutOff : Type 0
@@ -40,7 +41,8 @@ GlyphCutOff = (marks : Marks) (before : List Stated) (o : Opening) (count : Plai
 -- A charstring's count past 65,535, whatever follows: of a Subr, where its number is good, and of a glyph.
 abbrev pub SubrTooLong : Type 0
 SubrTooLong = (marks : Marks) (before : List Stated) (front : List PrivateItem) (n : ℕ) (count : Plain)
-    (items : List SubrItem) (i len : ℕ) (number bytes : Plain) (s mid left : List ℕ) → StatesNoCharstring before →
+    (items : List SubrItem) (i len : ℕ) (number bytes : Plain) (s mid left : List ℕ) →
+    StatesNoCharstring before →
     IsBegun (among_subrs front n count items (subr_number i number no_length)) s mid →
     BeginsWith mid bytes left → IsWhole bytes len → 65535 < len → private_of marks before s ≡ Err PastLimit
 

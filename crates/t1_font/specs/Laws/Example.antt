@@ -16,7 +16,8 @@ flat (b ∷ s) = part (byte b) (flat s)
 
 -- A charstring behind its count, the word RD and a space.
 abbrev pub charstring : List ℕ → List ℕ → Charstring
-charstring count bytes = record { count = digits count; read_word = word (codes "RD"); separator = 32; bytes = bytes }
+charstring count bytes =
+    record { count = digits count; read_word = word (codes "RD"); separator = 32; bytes = bytes }
 
 abbrev pub clear_text : List ℕ
 clear_text =
@@ -39,7 +40,8 @@ code_items =
 
 abbrev pub clear_items : List clear.ClearItem
 clear_items =
-    clear.other_name (codes "FontName") ∷ clear.other_name (codes "Small") ∷ clear.other_token (word (codes "def"))
+    clear.other_name (codes "FontName") ∷ clear.other_name (codes "Small")
+    ∷ clear.other_token (word (codes "def"))
     ∷ clear.key FontType (codes "FontType") (digits (codes "1")) ∷ clear.other_token (word (codes "def"))
     ∷ clear.custom (digits (codes "256")) code_items
     ∷ clear.other_token (word (codes "currentfile")) ∷ []
@@ -73,7 +75,8 @@ private_parts = record {
       ∷ private.other_token (word (codes "executeonly")) ∷ private.other_token (word (codes "def"))
       ∷ private.key BlueValues (codes "BlueValues") (bracketed (flat (codes "-15 0")))
       ∷ private.other_token (word (codes "ND"))
-      ∷ private.key LenIv (codes "lenIV") (digits (codes "4")) ∷ private.other_token (word (codes "def")) ∷ [];
+      ∷ private.key LenIv (codes "lenIV") (digits (codes "4"))
+      ∷ private.other_token (word (codes "def")) ∷ [];
   subrs = private.some_subrs 1 (digits (codes "1")) subr_items;
   back =
       private.other_token (word (codes "ND")) ∷ private.other_token (digits (codes "2"))

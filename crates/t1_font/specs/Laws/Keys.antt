@@ -9,13 +9,16 @@ use Rattle.t1_font.specs.Fonts.{Stated, Marks, code_of, subr_of, glyph_of, is_en
 abbrev pub DifferentStay : Type 0
 DifferentStay = (marks : Marks) (es : List Stated) →
     (IsDistinct nat_eq (keys_of (flat_map subr_of es)) → (value_of marks es).subrs ≡ flat_map subr_of es)
-    × (IsDistinct same_name (keys_of (flat_map glyph_of es)) → (value_of marks es).glyphs ≡ flat_map glyph_of es)
+    × (IsDistinct same_name (keys_of (flat_map glyph_of es)) →
+    (value_of marks es).glyphs ≡ flat_map glyph_of es)
     × (IsDistinct nat_eq (keys_of (flat_map code_of (after_last is_encoding es))) →
     (value_of marks es).codes ≡ flat_map code_of (after_last is_encoding es))
 
 -- The Subrs and the glyphs that the font has as stated twice are those that were stated twice or more.
 abbrev pub TwiceIsAgain : Type 0
 TwiceIsAgain = (marks : Marks) (es : List Stated) →
-    ((n : ℕ) → list_any (nat_eq n) (value_of marks es).subrs_twice ≡ nat_lt 1 (count_by (nat_eq n) (keys_of (flat_map subr_of es))))
+    ((n : ℕ) → list_any (nat_eq n) (value_of marks es).subrs_twice
+    ≡ nat_lt 1 (count_by (nat_eq n) (keys_of (flat_map subr_of es))))
     × ((name : List ℕ) →
-    list_any (same_name name) (value_of marks es).glyphs_twice ≡ nat_lt 1 (count_by (same_name name) (keys_of (flat_map glyph_of es))))
+    list_any (same_name name) (value_of marks es).glyphs_twice
+    ≡ nat_lt 1 (count_by (same_name name) (keys_of (flat_map glyph_of es))))

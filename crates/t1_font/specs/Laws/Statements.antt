@@ -8,9 +8,12 @@ use Rattle.t1_font.specs.Runs.{run_of, value_read}
 
 -- One statement more.
 abbrev pub OneMore : Type 0
-OneMore = (marks : Marks) (es : List Stated) (e : Stated) → value_of marks (es ++ e ∷ []) ≡ put (value_of marks es) e
+OneMore = (marks : Marks) (es : List Stated) (e : Stated) →
+    value_of marks (es ++ e ∷ []) ≡ put (value_of marks es) e
 
 -- Reading while a value is kept is looking up afterwards.
 abbrev pub ReadAsStated : Type 0 → Type 0
-ReadAsStated M = (turn : Reader M) (ended : Refusal) (marks : Marks) (before : List Stated) (mode : M) (s : List ℕ) →
-    run_of turn ended (value_of marks before) mode s ≡ value_read marks (stated_in turn ended marks before mode s)
+ReadAsStated M = (turn : Reader M) (ended : Refusal) (marks : Marks) (before : List Stated) (mode : M)
+    (s : List ℕ) →
+    run_of turn ended (value_of marks before) mode s
+    ≡ value_read marks (stated_in turn ended marks before mode s)

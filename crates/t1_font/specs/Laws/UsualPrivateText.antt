@@ -133,8 +133,9 @@ pub record PrivateParts : Type 0 where
 -- The CharStrings: their name, a count, dict dup begin, the glyphs, and end.
 abbrev pub glyphs_pieces : Plain → List GlyphItem → List Piece
 glyphs_pieces count items =
-    token (name (codes "CharStrings")) ∷ token count ∷ token (word (codes "dict")) ∷ token (word (codes "dup"))
-    ∷ token (word (codes "begin")) ∷ (flat_map glyph_pieces items ++ token (word (codes "end")) ∷ [])
+    token (name (codes "CharStrings")) ∷ token count ∷ token (word (codes "dict"))
+    ∷ token (word (codes "dup")) ∷ token (word (codes "begin"))
+    ∷ (flat_map glyph_pieces items ++ token (word (codes "end")) ∷ [])
 
 abbrev pub all_private_pieces : PrivateParts → List Piece
 all_private_pieces p =

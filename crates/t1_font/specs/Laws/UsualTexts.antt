@@ -51,11 +51,14 @@ AdditionsInPrivate = (marks : Marks) (before : List Stated) (p q : PrivateParts)
 -- Blanks, and comments with the end of their line, in front of the rest of any text, in the clear text
 -- and in the private text.
 abbrev pub BlanksPass : Type 0
-BlanksPass = (marks : Marks) (before : List Stated) (mode : ClearMode) (gap s : List ℕ) → is_gap false gap ≡ true →
-    stated_in clear_turn NoEexec marks before mode (gap ++ s) ≡ stated_in clear_turn NoEexec marks before mode s
+BlanksPass = (marks : Marks) (before : List Stated) (mode : ClearMode) (gap s : List ℕ) →
+    is_gap false gap ≡ true →
+    stated_in clear_turn NoEexec marks before mode (gap ++ s)
+    ≡ stated_in clear_turn NoEexec marks before mode s
 
 abbrev pub BlanksPassInPrivate : Type 0
-BlanksPassInPrivate = (marks : Marks) (before : List Stated) (mode : PrivateMode) (gap s : List ℕ) → is_gap false gap ≡ true →
+BlanksPassInPrivate = (marks : Marks) (before : List Stated) (mode : PrivateMode) (gap s : List ℕ) →
+    is_gap false gap ≡ true →
     stated_in private_turn BadCharStrings marks before mode (gap ++ s)
     ≡ stated_in private_turn BadCharStrings marks before mode s
 
@@ -63,20 +66,23 @@ BlanksPassInPrivate = (marks : Marks) (before : List Stated) (mode : PrivateMode
 abbrev pub WordsPass : Type 0
 WordsPass = (marks : Marks) (before : List Stated) (s : List ℕ) (t : Found) →
     token_of s ≡ Ok (Some t) → t.kind ≡ Word → same_name t.text (codes "eexec") ≡ false →
-    stated_in clear_turn NoEexec marks before clear_modes.Outside s ≡ stated_in clear_turn NoEexec marks before clear_modes.Outside t.rest
+    stated_in clear_turn NoEexec marks before clear_modes.Outside s
+    ≡ stated_in clear_turn NoEexec marks before clear_modes.Outside t.rest
 
 -- A word other than eexec, def and dup in a custom encoding.
 abbrev pub WordsPassInCodes : Type 0
 WordsPassInCodes = (marks : Marks) (before : List Stated) (s : List ℕ) (t : Found) →
     token_of s ≡ Ok (Some t) → t.kind ≡ Word → same_name t.text (codes "eexec") ≡ false →
     same_name t.text (codes "def") ≡ false → same_name t.text (codes "dup") ≡ false →
-    stated_in clear_turn NoEexec marks before clear_modes.Codes s ≡ stated_in clear_turn NoEexec marks before clear_modes.Codes t.rest
+    stated_in clear_turn NoEexec marks before clear_modes.Codes s
+    ≡ stated_in clear_turn NoEexec marks before clear_modes.Codes t.rest
 
 -- The word dup in a custom encoding, where it begins no group.
 abbrev pub DupPassesInCodes : Type 0
 DupPassesInCodes = (marks : Marks) (before : List Stated) (s : List ℕ) (t : Found) →
     token_of s ≡ Ok (Some t) → t.kind ≡ Word → t.text ≡ codes "dup" → code_at t.rest ≡ None →
-    stated_in clear_turn NoEexec marks before clear_modes.Codes s ≡ stated_in clear_turn NoEexec marks before clear_modes.Codes t.rest
+    stated_in clear_turn NoEexec marks before clear_modes.Codes s
+    ≡ stated_in clear_turn NoEexec marks before clear_modes.Codes t.rest
 
 -- Any word in the private text, outside the Subrs and the glyphs.
 abbrev pub WordsPassInPrivate : Type 0
