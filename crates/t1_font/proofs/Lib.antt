@@ -1,3 +1,4 @@
+pub mod BrokenExample
 pub mod BrokenRead
 pub mod ClearItemsRead
 pub mod CodesRead

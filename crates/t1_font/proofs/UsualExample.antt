@@ -13,14 +13,14 @@ use Rattle.t1_font.specs.Laws.UsualPrivateText as private
 use Rattle.t1_font.specs.Laws.Example.{digits, clear_text, clear_items, private_text, subr_items, private_parts, SmallFontIsUsual}
 
 -- The text that pieces make, each token behind its gap.
-abbrev text_with : List (List ℕ) → List Piece → List ℕ → List ℕ
+abbrev pub text_with : List (List ℕ) → List Piece → List ℕ → List ℕ
 text_with gaps [] rest = rest
 text_with gaps (raw b bytes ∷ pieces) rest = b ∷ (bytes ++ text_with gaps pieces rest)
 text_with (gap ∷ gaps) (token t ∷ pieces) rest = gap ++ (spelled t ++ text_with gaps pieces rest)
 text_with [] (token t ∷ pieces) rest = []
 
 -- Each gap is one, and each token can be read and ends.
-abbrev are_apart : List (List ℕ) → List Piece → List ℕ → Bool
+abbrev pub are_apart : List (List ℕ) → List Piece → List ℕ → Bool
 are_apart gaps [] rest = true
 are_apart gaps (raw b bytes ∷ pieces) rest = are_apart gaps pieces rest
 are_apart (gap ∷ gaps) (token t ∷ pieces) rest =
@@ -30,7 +30,7 @@ are_apart [] (token t ∷ pieces) rest = false
 is_small : (n : ℕ) → nat_le n 32 ≡ true → n ≤ 32
 is_small n h = grind (arith, nat_tests, h)
 
-is_written : (gaps : List (List ℕ)) (pieces : List Piece) (rest : List ℕ) → are_apart gaps pieces rest ≡ true → IsWritten (text_with gaps pieces rest) pieces rest
+pub is_written : (gaps : List (List ℕ)) (pieces : List Piece) (rest : List ℕ) → are_apart gaps pieces rest ≡ true → IsWritten (text_with gaps pieces rest) pieces rest
 is_written gaps [] rest h = refl
 is_written gaps (raw b bytes ∷ pieces) rest h = (text_with gaps pieces rest, refl, is_written gaps pieces rest h)
 is_written [] (token t ∷ pieces) rest h = absurd (false≢true h)

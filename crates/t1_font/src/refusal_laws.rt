@@ -1,7 +1,7 @@
 //! Laws of the refusals of private texts in the usual form that break off or hold one wrong thing, on
 //! calls that do nothing.
 
-ghost use Rattle.t1_font.specs.Laws.BrokenTexts.{EndsTooSoon, GlyphCutOff, GlyphTooLong, SubrCutOff, SubrNumberFirst, SubrTooLong, UnclosedToken};
+ghost use Rattle.t1_font.specs.Laws.BrokenTexts.{EndsTooSoon, GlyphCutOff, GlyphTooLong, SmallTextsBreak, SubrCutOff, SubrNumberFirst, SubrTooLong, UnclosedToken};
 
 /// Where the text ends: E10 behind `/lenIV`; E08 in the head of the Subrs and behind the number of one; and
 /// E09 elsewhere. A charstring that is cut off is E08 for a Subr and E09 for a glyph.
@@ -22,4 +22,9 @@ pub fn long_charstrings()
     ensures subrs { SubrTooLong }
     ensures glyphs { GlyphTooLong }
     ensures number { SubrNumberFirst }
+{}
+
+/// Small texts, written out, are refused so.
+pub fn small_broken_texts()
+    ensures { SmallTextsBreak }
 {}

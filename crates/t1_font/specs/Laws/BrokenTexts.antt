@@ -1,9 +1,9 @@
 -- Laws of the refusals of private texts in the usual form that break off, or hold one wrong thing.
-use Rattle.std.specs.Prelude.{◌≡◌, ◌<◌, ◌≤◌, ℕ, false, true, None, Err, List, length}
+use Rattle.std.specs.Prelude.{◌≡◌, ◌<◌, ◌≤◌, ℕ, false, true, None, Err, List, [], codes, length}
 use Rattle.t1_scan.specs.declared.token.Kind.TheVariants.{Word}
 use Rattle.t1_scan.specs.Spelling.{Plain, meant}
 use Rattle.t1_scan.specs.Texts.{are_blanks, BeginsWith}
-use Rattle.t1_font.specs.declared.refusal.Refusal.TheVariants.{Unclosed, BadSubrs, BadCharStrings, PastLimit}
+use Rattle.t1_font.specs.declared.refusal.Refusal.TheVariants.{Unclosed, BadSubrs, BadCharStrings, BadLenIv, PastLimit}
 use Rattle.t1_font.specs.Fonts.{Stated, Marks}
 use Rattle.t1_font.specs.PrivateText.{private_of}
 use Rattle.t1_font.specs.Tokens.{is_number_kind, whole}
@@ -59,3 +59,14 @@ SubrNumberFirst = (marks : Marks) (before : List Stated) (front : List PrivateIt
     IsBegun (among_subrs front n count items lone_dup) s mid →
     BeginsWith mid number left → is_number_kind (meant number) ≡ true → whole (meant number) ≡ None →
     private_of marks before s ≡ Err BadSubrs
+
+-- Small texts that break off or go wrong so.
+abbrev pub SmallTextsBreak : Type 0
+SmallTextsBreak = (marks : Marks) →
+    (private_of marks [] (codes "/lenIV ") ≡ Err BadLenIv)
+    × (private_of marks [] (codes "/BlueFuzz ") ≡ Err BadCharStrings)
+    × (private_of marks [] (codes "/Subrs 1 array dup ") ≡ Err BadCharStrings)
+    × (private_of marks [] (codes "/Subrs 1 array dup 0 ") ≡ Err BadSubrs)
+    × (private_of marks [] (codes "/Subrs 1 array dup 0 70000 ") ≡ Err PastLimit)
+    × (private_of marks [] (codes "/Subrs 1 array dup -1 70000 ") ≡ Err BadSubrs)
+    × (private_of marks [] (codes "/CharStrings 1 dict dup begin /a 70000 ") ≡ Err PastLimit)
