@@ -59,7 +59,8 @@ pub record Wrote (old new : SinkState) (text : List ℕ) : Type 0 where
 
 -- Known bytes grow by a front of these.
 abbrev pub AppendsFront : Option (List ℕ) → Option (List ℕ) → List ℕ → Type 0
-AppendsFront old new bytes = (front : List ℕ) × ((rest : List ℕ) × ((bytes ≡ front ++ rest) × Appends old new front))
+AppendsFront old new bytes =
+    (front : List ℕ) × ((rest : List ℕ) × ((bytes ≡ front ++ rest) × Appends old new front))
 
 -- A call of put failed where the text was to be written: a front of it went out, and nothing was flushed.
 pub record PutFailed (old new : SinkState) (text : List ℕ) : Type 0 where

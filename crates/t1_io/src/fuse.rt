@@ -69,12 +69,15 @@ impl<D: Source> Source for Fuse<D> {
     ghost state = { λ fuse. record (D.state fuse.device) { takes = fuse.takes; failed = fuse.failed } };
 
     fn take(&mut self, buffer: &mut [u8]) -> Result<usize, Broken>
-        ensures takes { Takes (⟦<Fuse<D> as Source>⟧.state self.old) (⟦<Fuse<D> as Source>⟧.state self.new) buffer.new result }
+        ensures takes { Takes (⟦<Fuse<D> as Source>⟧.state self.old)
+            (⟦<Fuse<D> as Source>⟧.state self.new) buffer.new result }
 
         ensures blown { has_blown self.old.limit ≡ true → IsErr result }
         ensures still { has_blown self.old.limit ≡ true → self.new.device ≡ self.old.device }
-        ensures fails { OnErr result ((has_blown self.old.limit ≡ true) ⊎ ((D.state self.new.device).failed ≡ true)) }
-        ensures passed_on { (D.state self.old.device).failed ≡ false → (D.state self.new.device).failed ≡ true → IsErr result }
+        ensures fails { OnErr result ((has_blown self.old.limit ≡ true)
+            ⊎ ((D.state self.new.device).failed ≡ true)) }
+        ensures passed_on { (D.state self.old.device).failed ≡ false
+            → (D.state self.new.device).failed ≡ true → IsErr result }
         ensures moved { IfOk result (λ n. n ≤ let_through self.old.limit (length buffer.new)) }
         ensures burnt { self.new.limit ≡ burnt self.old.limit (count_of result) }
     {
@@ -104,15 +107,21 @@ impl<D: Source> Source for Fuse<D> {
 }
 
 impl<D: Sink> Sink for Fuse<D> {
-    ghost state = { λ fuse. record (D.state fuse.device) { failed_puts = fuse.failed_puts; failed = fuse.failed } };
+    ghost state = { λ fuse. record (D.state fuse.device) {
+      failed_puts = fuse.failed_puts;
+      failed = fuse.failed;
+    } };
 
     fn put(&mut self, bytes: &[u8]) -> Result<usize, Broken>
-        ensures puts { Puts (⟦<Fuse<D> as Sink>⟧.state self.old) (⟦<Fuse<D> as Sink>⟧.state self.new) bytes.now result }
+        ensures puts { Puts (⟦<Fuse<D> as Sink>⟧.state self.old)
+            (⟦<Fuse<D> as Sink>⟧.state self.new) bytes.now result }
 
         ensures blown { has_blown self.old.limit ≡ true → IsErr result }
         ensures still { has_blown self.old.limit ≡ true → self.new.device ≡ self.old.device }
-        ensures fails { OnErr result ((has_blown self.old.limit ≡ true) ⊎ ((D.state self.new.device).failed ≡ true)) }
-        ensures passed_on { (D.state self.old.device).failed ≡ false → (D.state self.new.device).failed ≡ true → IsErr result }
+        ensures fails { OnErr result ((has_blown self.old.limit ≡ true)
+            ⊎ ((D.state self.new.device).failed ≡ true)) }
+        ensures passed_on { (D.state self.old.device).failed ≡ false
+            → (D.state self.new.device).failed ≡ true → IsErr result }
         ensures moved { IfOk result (λ n. n ≤ let_through self.old.limit (length bytes.now)) }
         ensures burnt { self.new.limit ≡ burnt self.old.limit (count_of result) }
     {
@@ -138,12 +147,15 @@ impl<D: Sink> Sink for Fuse<D> {
     }
 
     fn flush(&mut self) -> Result<(), Broken>
-        ensures flushes { Flushes (⟦<Fuse<D> as Sink>⟧.state self.old) (⟦<Fuse<D> as Sink>⟧.state self.new) result }
+        ensures flushes { Flushes (⟦<Fuse<D> as Sink>⟧.state self.old)
+            (⟦<Fuse<D> as Sink>⟧.state self.new) result }
 
         ensures blown { has_blown self.old.limit ≡ true → IsErr result }
         ensures still { has_blown self.old.limit ≡ true → self.new.device ≡ self.old.device }
-        ensures fails { OnErr result ((has_blown self.old.limit ≡ true) ⊎ ((D.state self.new.device).failed ≡ true)) }
-        ensures passed_on { (D.state self.old.device).failed ≡ false → (D.state self.new.device).failed ≡ true → IsErr result }
+        ensures fails { OnErr result ((has_blown self.old.limit ≡ true)
+            ⊎ ((D.state self.new.device).failed ≡ true)) }
+        ensures passed_on { (D.state self.old.device).failed ≡ false
+            → (D.state self.new.device).failed ≡ true → IsErr result }
         ensures burnt { self.new.limit ≡ burnt self.old.limit 0 }
     {
         let blown = self.limit.has_blown();

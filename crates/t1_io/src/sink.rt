@@ -36,7 +36,13 @@ impl<W: Write> Out<W> {
     /// A sink over a writer, with nothing put that waits to be flushed, and no call that has failed.
     pub fn new(writer: W) -> Out<W>
         ensures { ⟦<Out<W> as Sink>⟧.state result ≡
-            record { written = W.contents writer; flushed = true; flushes = 0; failed_puts = 0; failed = false } }
+            record {
+              written = W.contents writer;
+              flushed = true;
+              flushes = 0;
+              failed_puts = 0;
+              failed = false;
+            } }
     {
         Out {
             writer,

@@ -30,7 +30,11 @@ pub struct In<R: Read> {
 impl<R: Read> In<R> {
     /// A source over a reader, of which no byte was taken and no call has failed.
     pub fn new(reader: R) -> In<R>
-        ensures { ⟦<In<R> as Source>⟧.state result ≡ record { left = R.remaining reader; takes = 0; failed = false } }
+        ensures { ⟦<In<R> as Source>⟧.state result ≡ record {
+          left = R.remaining reader;
+          takes = 0;
+          failed = false;
+        } }
     {
         In {
             reader,
@@ -41,7 +45,11 @@ impl<R: Read> In<R> {
 }
 
 impl<R: Read> Source for In<R> {
-    ghost state = { λ source. record { left = R.remaining source.reader; takes = source.takes; failed = source.failed } };
+    ghost state = { λ source. record {
+      left = R.remaining source.reader;
+      takes = source.takes;
+      failed = source.failed;
+    } };
 
     fn take(&mut self, buffer: &mut [u8]) -> Result<usize, Broken> {
         self.takes = self.takes.saturating_add(1);

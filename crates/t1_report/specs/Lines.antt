@@ -43,7 +43,8 @@ rule_part fault = concat (codes " " ∷ code_of fault.rule ∷ codes " " ∷ tex
 
 -- `NUMBER: PLACE RULE TEXT`.
 abbrev pub line_of : FontValue → FaultValue → List ℕ
-line_of font fault = concat (decimal fault.number ∷ codes ": " ∷ []) ++ (place_text font fault ++ rule_part fault)
+line_of font fault =
+    concat (decimal fault.number ∷ codes ": " ∷ []) ++ (place_text font fault ++ rule_part fault)
 
 -- The fault stands in the font at one of its keys, or in one of its glyphs.
 pub record IsInFont (font : FontValue) (fault : FaultValue) : Type 0 where

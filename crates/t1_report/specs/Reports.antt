@@ -46,26 +46,32 @@ IsRising faults = (i j : ℕ) (d : FaultValue) → i < j → j < length faults �
 
 -- The faults are numbered from n.
 abbrev pub AreNumbered : ℕ → List FaultValue → Type 0
-AreNumbered n faults = (i : ℕ) (d : FaultValue) → i < length faults → (slice_index_or faults i d).number ≡ i + n
+AreNumbered n faults =
+    (i : ℕ) (d : FaultValue) → i < length faults → (slice_index_or faults i d).number ≡ i + n
 
--- Over any violations, and what the path of each place is: a fault is a violation, with the path of its place.
-pub record IsViolationOf (Violated : Place → Type 0) (path_of : Place → List ℕ) (fault : FaultValue) : Type 0 where
+-- Over any violations, and what the path of each place is: a fault is a violation, with the path of its
+-- place.
+pub record IsViolationOf (Violated : Place → Type 0) (path_of : Place
+    → List ℕ) (fault : FaultValue) : Type 0 where
   pub violated : Violated (place_of fault)
   pub path : fault.path ≡ path_of (place_of fault)
 
 -- A report of these violations: strictly rising, its members exactly the violations, numbered from 1.
-pub record IsReportOf (Violated : Place → Type 0) (path_of : Place → List ℕ) (faults : List FaultValue) : Type 0 where
+pub record IsReportOf (Violated : Place → Type 0) (path_of : Place
+    → List ℕ) (faults : List FaultValue) : Type 0 where
   pub rising : IsRising faults
   pub violations : All (IsViolationOf Violated path_of) faults
   pub complete : (p : Place) → Violated p → Any (StandsAt p) faults
   pub numbered : AreNumbered 1 faults
 
 -- The front of such a report: all violations that come before this unit, step and rule number, and no other.
-pub record IsFrontOf (Violated : Place → Type 0) (path_of : Place → List ℕ) (unit step rule : ℕ) (faults : List FaultValue) : Type 0 where
+pub record IsFrontOf (Violated : Place → Type 0) (path_of : Place
+    → List ℕ) (unit step rule : ℕ) (faults : List FaultValue) : Type 0 where
   pub rising : IsRising faults
   pub violations : All (IsViolationOf Violated path_of) faults
   pub before : All (λ fault. Comes fault.unit fault.step (number_of fault.rule) unit step rule) faults
-  pub complete : (p : Place) → Violated p → Comes p.unit p.step (number_of p.rule) unit step rule → Any (StandsAt p) faults
+  pub complete : (p : Place) → Violated p → Comes p.unit p.step (number_of p.rule) unit step rule
+      → Any (StandsAt p) faults
   pub numbered : AreNumbered 1 faults
 
 -- The report of a font.

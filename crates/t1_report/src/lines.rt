@@ -38,7 +38,8 @@ pub fn write_fault<W: Sink>(sink: &mut W, font: &Font<'_>, fault: &Fault) -> Res
 /// Writes where a fault stands.
 fn write_place<W: Sink>(sink: &mut W, font: &Font<'_>, fault: &Fault) -> Result<(), Broken>
     requires { IsInFont font.now (fault_value fault.now) }
-    ensures { Writes (W.state sink.old) (W.state sink.new) (place_text font.now (fault_value fault.now)) result }
+    ensures { Writes (W.state sink.old) (W.state sink.new)
+        (place_text font.now (fault_value fault.now)) result }
 {
     if fault.unit == 0 {
         write_key_place(sink, fault.step)
@@ -63,7 +64,8 @@ fn write_key_place<W: Sink>(sink: &mut W, step: u32) -> Result<(), Broken>
 /// Writes the glyph, the path and the step of a fault.
 fn write_glyph_place<W: Sink>(sink: &mut W, font: &Font<'_>, fault: &Fault) -> Result<(), Broken>
     requires { 1 ≤ fault.now.unit }
-    ensures { Writes (W.state sink.old) (W.state sink.new) (glyph_place font.now (fault_value fault.now)) result }
+    ensures { Writes (W.state sink.old) (W.state sink.new)
+        (glyph_place font.now (fault_value fault.now)) result }
 {
     put_parts(sink, &[b"glyph ", glyph_name(font, fault.unit - 1), b" "])?;
     write_path(sink, fault.path.as_slice())?;

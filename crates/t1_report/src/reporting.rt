@@ -22,7 +22,8 @@ pub(crate) const STEPS_OF_A_KEY: u32 = 65_536;
 /// All violations in a font, in the order of their places.
 pub fn report(alloc: Global, font: &Font<'_>) -> Result<Vec<Fault>, AllocError>
     ensures exact { IfOk result (λ faults. IsReport font.now (faults_of faults.items)) }
-    ensures in_font { IfOk result (λ faults. All (λ fault. IsInFont font.now (fault_value fault)) faults.items) }
+    ensures in_font { IfOk result
+        (λ faults. All (λ fault. IsInFont font.now (fault_value fault)) faults.items) }
 {
     let mut faults = Vec::new(alloc);
     for key in 0..KEYS {

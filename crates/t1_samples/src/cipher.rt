@@ -27,7 +27,8 @@ pub fn eexec(alloc: Global, discarded: [u8; 4], text: &[u8]) -> Result<Vec<u8>, 
 
 /// The cipher bytes of a charstring: of zero bytes, as many as `/lenIV` says, and its plain bytes.
 pub fn charstring(alloc: Global, zeros: u8, bytes: &[u8]) -> Result<Vec<u8>, AllocError>
-    ensures { IfOk result (λ cipher. cipher.items ≡ encrypted charstring_start (replicate zeros 0 ++ bytes.now)) }
+    ensures { IfOk result (λ cipher. cipher.items ≡ encrypted charstring_start (replicate zeros 0
+        ++ bytes.now)) }
 {
     let mut plain = vec![in alloc; 0u8; usize::from(zeros)]?;
     plain.extend_from_slice(bytes)?;

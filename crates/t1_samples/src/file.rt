@@ -75,7 +75,8 @@ impl<'a> FontFile<'a> {
     /// The PFA file whose section is binary.
     pub fn pfa(&self, alloc: Global) -> Result<Vec<u8>, AllocError>
         ensures { IfOk result (λ file. file.items ≡
-            (self.now.clear.now ++ encrypted eexec_start (self.now.discarded ++ self.now.private.now)) ++ self.now.trailer.now) }
+            (self.now.clear.now ++ encrypted eexec_start (self.now.discarded ++ self.now.private.now))
+            ++ self.now.trailer.now) }
     {
         let section = eexec(alloc, self.discarded, self.private)?;
         let mut file = Vec::from_slice(alloc, self.clear)?;

@@ -6,7 +6,7 @@ use Rattle.std.specs.Result.{MatchResult}
 use Rattle.std.specs.Vec.{vec_items}
 use Rattle.t1_seal.specs.declared.errors.SealError.{SealError}
 use Rattle.t1_seal.specs.declared.errors.SealError.TheVariants.{NotAFont, BadHeader, CutShort, TooShort, Memory}
-use Rattle.t1_seal.specs.SealError.{Gives}
+use Rattle.t1_seal.specs.SealError.{Reads}
 use Rattle.t1_seal.specs.declared.opening.Opening.{Opening}
 use Rattle.t1_seal.specs.Cipher.{eexec_start, plain_byte, decrypted}
 use Rattle.t1_seal.specs.Eexec.{opened}
@@ -56,7 +56,7 @@ finishes_long opening front taken h =
     let long : 4 ≤ length front = omega (arith, taken.discarded) in rw taken.text (opened-long front long)
 
 -- What an opening finishes with is what its cipher bytes open to.
-pub finished : (result : Result (Vec ℕ Global) SealError) (read wanted : Result (List ℕ) SealError) → MatchResult result (λ text. read ≡ Ok text.items) (λ e. read ≡ Err e) → read ≡ wanted → Gives vec_items result wanted
+pub finished : (result : Result (Vec ℕ Global) SealError) (read wanted : Result (List ℕ) SealError) → MatchResult result (λ text. read ≡ Ok text.items) (λ e. read ≡ Err e) → read ≡ wanted → Reads vec_items result wanted
 finished (Ok text) read wanted h same = sym same ∙ h
 finished (Err Memory) read wanted h same = tt
 finished (Err NotAFont) read wanted h same = sym same ∙ h

@@ -25,7 +25,10 @@ sum_below (suc n) f = sum_below n f + f n
 -- With a the multiplier and b the addend: a ^ i * start, and for each byte c at j below i, the front's
 -- length, c * a ^ (i - j) + b * a ^ (i - 1 - j).
 abbrev pub closed_sum : ℕ → ℕ → ℕ → List ℕ → ℕ
-closed_sum a b start front = a ^ length front * start + sum_below (length front) (λ j. slice_index front j * a ^ (length front - j) + b * a ^ (length front - 1 - j))
+closed_sum a b start front =
+    a ^ length front * start
+    + sum_below (length front)
+    (λ j. slice_index front j * a ^ (length front - j) + b * a ^ (length front - 1 - j))
 
 -- The state after a front of cipher bytes.
 unfoldable pub state_after : ℕ → List ℕ → ℕ
@@ -37,4 +40,5 @@ plain_byte start front byte = bit_xor byte (state_after start front / 256)
 
 -- The plain bytes: the one at i is that of the cipher byte at i after the first i.
 unfoldable pub decrypted : ℕ → List ℕ → List ℕ
-decrypted start cipher = map (λ i. plain_byte start (take i cipher) (slice_index cipher i)) (range_with_len 0 (length cipher))
+decrypted start cipher =
+    map (λ i. plain_byte start (take i cipher) (slice_index cipher i)) (range_with_len 0 (length cipher))

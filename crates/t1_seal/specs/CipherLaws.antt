@@ -17,8 +17,11 @@ StartsAtTheStart = (start : ℕ) → start < 65536 → state_after start [] ≡ 
 
 -- The sum over a front and one more byte is the state that runs along.
 abbrev pub StateRunsAlong : Type 0
-StateRunsAlong = (start : ℕ) (front : List ℕ) (c : ℕ) → state_after start (front ++ c ∷ []) ≡ next_state (state_after start front) c
+StateRunsAlong =
+    (start : ℕ) (front : List ℕ) (c : ℕ)
+    → state_after start (front ++ c ∷ []) ≡ next_state (state_after start front) c
 
 -- What was enciphered is deciphered to the same bytes.
 abbrev pub DeciphersTheEnciphered : Type 0
-DeciphersTheEnciphered = (start : ℕ) (plain : List ℕ) → start < 65536 → decrypted start (encrypted start plain) ≡ plain
+DeciphersTheEnciphered =
+    (start : ℕ) (plain : List ℕ) → start < 65536 → decrypted start (encrypted start plain) ≡ plain

@@ -12,13 +12,16 @@ use Rattle.t1_seal.specs.Eexec.{is_leading, is_blank, is_digit, is_hexadecimal, 
 pub data AreWritten : List ℕ → List ℕ → Type 0 where
   no_digits : AreWritten [] []
   odd_digit : (digit : ℕ) → is_digit digit ≡ true → AreWritten [] (digit ∷ [])
-  two_digits : (byte high low : ℕ) (bytes digits : List ℕ) → hex_digit_value high ≡ Some (byte / 16) → hex_digit_value low ≡ Some (byte % 16) → AreWritten bytes digits → AreWritten (byte ∷ bytes) (high ∷ low ∷ digits)
+  two_digits : (byte high low : ℕ) (bytes digits : List ℕ) → hex_digit_value high ≡ Some (byte / 16)
+      → hex_digit_value low ≡ Some (byte % 16) → AreWritten bytes digits
+      → AreWritten (byte ∷ bytes) (high ∷ low ∷ digits)
 
 -- The text is the digits, with blanks anywhere among them.
 pub data AreSpaced : List ℕ → List ℕ → Type 0 where
   nothing_left : AreSpaced [] []
   digit : (c : ℕ) (digits text : List ℕ) → AreSpaced digits text → AreSpaced (c ∷ digits) (c ∷ text)
-  blank : (c : ℕ) (digits text : List ℕ) → is_blank c ≡ true → AreSpaced digits text → AreSpaced digits (c ∷ text)
+  blank : (c : ℕ) (digits text : List ℕ) → is_blank c ≡ true → AreSpaced digits text
+      → AreSpaced digits (c ∷ text)
 
 -- The digits have ended here: nothing stands here, or a byte that is neither a digit nor a blank.
 abbrev pub EndsDigits : List ℕ → Type 0

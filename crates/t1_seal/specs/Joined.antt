@@ -5,7 +5,13 @@ use Rattle.t1_seal.specs.declared.segments.Segment.TheVariants.{Nothing, End, Pa
 use Rattle.t1_seal.specs.Segments.{JoinedText, Part, nothing, ending, payload}
 
 abbrev pub joined_text : Joined → JoinedText
-joined_text joined = record { bytes = joined.bytes.items; pfb = joined.pfb; end_segment = joined.end_segment; trailing = joined.trailing }
+joined_text joined =
+    record {
+      bytes = joined.bytes.items;
+      pfb = joined.pfb;
+      end_segment = joined.end_segment;
+      trailing = joined.trailing;
+    }
 
 abbrev pub part_of : Segment → Part
 part_of Nothing = nothing

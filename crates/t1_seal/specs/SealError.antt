@@ -10,9 +10,9 @@ Refuses Memory read = Unit {0}
 Refuses e read = read ≡ Err e
 
 -- What a call returned, seen by view, is what was read, unless memory ran out.
-abbrev pub Gives : {X Y : Type 0} → (X → Y) → Result X SealError → Result Y SealError → Type 0
-Gives view (Ok x) read = read ≡ Ok (view x)
-Gives view (Err e) read = Refuses e read
+abbrev pub Reads : {X Y : Type 0} → (X → Y) → Result X SealError → Result Y SealError → Type 0
+Reads view (Ok x) read = read ≡ Ok (view x)
+Reads view (Err e) read = Refuses e read
 
 -- The three refusals of a file that isn't a PFA or PFB file, or whose segments are broken.
 abbrev pub IsSegmentFault : SealError → Type 0

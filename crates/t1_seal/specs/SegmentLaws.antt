@@ -45,8 +45,14 @@ row_bytes pieces closing = flat_map piece_bytes pieces ++ closing_bytes closing
 
 -- What a row that is so written says.
 abbrev pub row_said : List Piece → Closing → Row
-row_said pieces by_file_end = record { bytes = flat_map (λ piece. piece.payload) pieces; end_segment = false; trailing = false }
-row_said pieces (by_end_segment rest) = record { bytes = flat_map (λ piece. piece.payload) pieces; end_segment = true; trailing = not (length rest == 0) }
+row_said pieces by_file_end =
+    record { bytes = flat_map (λ piece. piece.payload) pieces; end_segment = false; trailing = false }
+row_said pieces (by_end_segment rest) =
+    record {
+      bytes = flat_map (λ piece. piece.payload) pieces;
+      end_segment = true;
+      trailing = not (length rest == 0);
+    }
 
 -- The payload's length fits its four bytes.
 abbrev pub IsShort : Piece → Type 0
@@ -77,7 +83,8 @@ pub record IsRow (bytes : List ℕ) (row : Row) : Type 0 where
 
 -- The joined text of a PFB file whose row is this one.
 abbrev pub pfb_text : Row → JoinedText
-pfb_text row = record { bytes = row.bytes; pfb = true; end_segment = row.end_segment; trailing = row.trailing }
+pfb_text row =
+    record { bytes = row.bytes; pfb = true; end_segment = row.end_segment; trailing = row.trailing }
 
 -- The bytes are a PFB file, a row of at least one segment, and the text is what it says.
 pub record IsPfb (bytes : List ℕ) (joined : JoinedText) : Type 0 where
@@ -96,7 +103,9 @@ pub record IsPfa (bytes : List ℕ) (joined : JoinedText) : Type 0 where
 
 -- A row that is written as segments is read as just these.
 abbrev pub ReadsWrittenRows : Type 0
-ReadsWrittenRows = (pieces : List Piece) (closing : Closing) → AreShort pieces → row_of (row_bytes pieces closing) ≡ Ok (row_said pieces closing)
+ReadsWrittenRows =
+    (pieces : List Piece) (closing : Closing) → AreShort pieces
+    → row_of (row_bytes pieces closing) ≡ Ok (row_said pieces closing)
 
 -- Bytes that are read as a row are written as segments.
 abbrev pub ReadRowsAreWritten : Type 0
@@ -104,11 +113,15 @@ ReadRowsAreWritten = (bytes : List ℕ) (row : Row) → AreBytes bytes → row_o
 
 -- A PFB file that is written as segments is joined to what they say.
 abbrev pub JoinsWrittenPfb : Type 0
-JoinsWrittenPfb = (pieces : List Piece) (closing : Closing) → HasSegment pieces closing → AreShort pieces → joined_of (row_bytes pieces closing) ≡ Ok (pfb_text (row_said pieces closing))
+JoinsWrittenPfb =
+    (pieces : List Piece) (closing : Closing) → HasSegment pieces closing → AreShort pieces
+    → joined_of (row_bytes pieces closing) ≡ Ok (pfb_text (row_said pieces closing))
 
 -- A file that is joined as PFB is written as segments.
 abbrev pub JoinedPfbIsWritten : Type 0
-JoinedPfbIsWritten = (bytes : List ℕ) (joined : JoinedText) → AreBytes bytes → joined_of bytes ≡ Ok joined → joined.pfb ≡ true → IsPfb bytes joined
+JoinedPfbIsWritten =
+    (bytes : List ℕ) (joined : JoinedText) → AreBytes bytes → joined_of bytes ≡ Ok joined
+    → joined.pfb ≡ true → IsPfb bytes joined
 
 -- A file that begins with %! is joined to itself.
 abbrev pub JoinsPfa : Type 0
@@ -116,4 +129,6 @@ JoinsPfa = (rest : List ℕ) → joined_of (37 ∷ 33 ∷ rest) ≡ Ok (as_pfa (
 
 -- A file that is joined, and not as PFB, begins with %!.
 abbrev pub JoinedPfaIsWritten : Type 0
-JoinedPfaIsWritten = (bytes : List ℕ) (joined : JoinedText) → joined_of bytes ≡ Ok joined → joined.pfb ≡ false → IsPfa bytes joined
+JoinedPfaIsWritten =
+    (bytes : List ℕ) (joined : JoinedText) → joined_of bytes ≡ Ok joined → joined.pfb ≡ false
+    → IsPfa bytes joined

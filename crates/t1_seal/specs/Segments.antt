@@ -15,7 +15,8 @@ pub data Part : Type 0 where
 
 -- The first n bytes are the payload.
 abbrev pub payload_of : ℕ → List ℕ → Result Part SealError
-payload_of n bytes = if nat_lt (length bytes) n then Err CutShort else Ok (payload (take n bytes) (drop n bytes))
+payload_of n bytes =
+    if nat_lt (length bytes) n then Err CutShort else Ok (payload (take n bytes) (drop n bytes))
 
 -- What follows 128 and a type of 1 or 2: the length, then the payload.
 abbrev pub sized : List ℕ → Result Part SealError
@@ -25,7 +26,8 @@ sized _ = Err CutShort
 -- What follows 128: the type.
 abbrev pub typed : List ℕ → Result Part SealError
 typed [] = Err CutShort
-typed (t ∷ rest) = if t == 3 then Ok (ending rest) else if (t == 1 || t == 2) then sized rest else Err BadHeader
+typed (t ∷ rest) =
+    if t == 3 then Ok (ending rest) else if (t == 1 || t == 2) then sized rest else Err BadHeader
 
 -- The segment that a row begins with.
 unfoldable pub segment_of : List ℕ → Result Part SealError
@@ -41,14 +43,16 @@ pub record Row : Type 0 where
 
 -- The row that has front before its bytes.
 abbrev pub with_front : List ℕ → Result Row SealError → Result Row SealError
-with_front front (Ok row) = Ok (record { bytes = front ++ row.bytes; end_segment = row.end_segment; trailing = row.trailing })
+with_front front (Ok row) =
+    Ok (record { bytes = front ++ row.bytes; end_segment = row.end_segment; trailing = row.trailing })
 with_front front (Err e) = Err e
 
 -- The row that begins with a part, where after reads the row that follows a payload.
 abbrev pub follow : (List ℕ → Result Row SealError) → Result Part SealError → Result Row SealError
 follow after (Err e) = Err e
 follow after (Ok nothing) = Ok (record { bytes = []; end_segment = false; trailing = false })
-follow after (Ok (ending rest)) = Ok (record { bytes = []; end_segment = true; trailing = not (length rest == 0) })
+follow after (Ok (ending rest)) =
+    Ok (record { bytes = []; end_segment = true; trailing = not (length rest == 0) })
 follow after (Ok (payload front rest)) = with_front front (after rest)
 
 -- A row of at most n payloads.
@@ -68,7 +72,8 @@ pub record JoinedText : Type 0 where
   pub trailing : Bool
 
 abbrev pub as_pfb : Result Row SealError → Result JoinedText SealError
-as_pfb (Ok row) = Ok (record { bytes = row.bytes; pfb = true; end_segment = row.end_segment; trailing = row.trailing })
+as_pfb (Ok row) =
+    Ok (record { bytes = row.bytes; pfb = true; end_segment = row.end_segment; trailing = row.trailing })
 as_pfb (Err e) = Err e
 
 abbrev pub as_pfa : List ℕ → JoinedText
@@ -86,4 +91,6 @@ begins_pfa _ = false
 
 -- What a font file joins to: a PFB file its row, a PFA file itself.
 unfoldable pub joined_of : List ℕ → Result JoinedText SealError
-joined_of bytes = if begins_pfb bytes then as_pfb (row_of bytes) else if begins_pfa bytes then Ok (as_pfa bytes) else Err NotAFont
+joined_of bytes =
+    if begins_pfb bytes then as_pfb (row_of bytes) else if begins_pfa bytes then Ok (as_pfa bytes)
+    else Err NotAFont

@@ -1,7 +1,8 @@
 //! The cipher of eexec sections and charstrings: Type 1 Font Format 1.1, chapter 7.
 
-ghost use Rattle.std.specs.Prelude.{◌≡◌, ◌++◌, ◌∷◌, ℕ, List, []};
+ghost use Rattle.std.specs.Prelude.{◌≡◌, ◌++◌, ◌∷◌, ◌/◌, ℕ, List, [], bit_xor};
 ghost use Rattle.t1_seal.specs.Cipher.{charstring_start, eexec_start, plain_byte, state_after};
+ghost use Rattle.t1_seal.specs.CipherLaws.{next_state};
 
 const EEXEC_START: u16 = 55665;
 
@@ -37,10 +38,14 @@ impl Cipher {
         }
     }
 
-    /// The plain byte of the next cipher byte.
+    /// The plain byte of the next cipher byte c, c xor (r / 256), after which the state is
+    /// (c + r) * 52845 + 22719 modulo 65536.
     ///
-    /// The contract holds for whatever start and front of cipher bytes lead to the state before.
+    /// `plain` and `state` say the same for whatever start and front of cipher bytes lead to the state
+    /// before.
     pub fn next(&mut self, byte: u8) -> u8
+        ensures byte { result ≡ bit_xor byte (self.old.r / 256) }
+        ensures next { self.new.r ≡ next_state self.old.r byte }
         ensures plain { (start : ℕ) (front : List ℕ) → state_after start front ≡ self.old.r →
             result ≡ plain_byte start front byte }
         ensures state { (start : ℕ) (front : List ℕ) → state_after start front ≡ self.old.r →

@@ -3,7 +3,7 @@
 ghost use Rattle.std.specs.Prelude.{◌≡◌, ◌+◌, ◌*◌, true};
 ghost use Rattle.std.specs.Vec.{vec_items};
 ghost use Rattle.t1_seal.specs.Eexec.{bytes_of_digits, digit_value, digits_of, is_blank, is_digit, is_hexadecimal, is_leading, opened, private_text_of, section_of};
-ghost use Rattle.t1_seal.specs.SealError.{Gives};
+ghost use Rattle.t1_seal.specs.SealError.{Reads};
 
 use crate::errors::SealError;
 use crate::opening::Opening;
@@ -18,7 +18,7 @@ const FORM_FEED: u8 = 12;
 /// digits is read as digits with blanks among them, up to the first other byte, and any other is binary
 /// to its end. The first four plain bytes are discarded; where there are fewer the answer is `TooShort`.
 pub fn open_eexec(alloc: Global, bytes: &[u8]) -> Result<Vec<u8>, SealError>
-    ensures { Gives vec_items result (private_text_of bytes.now) }
+    ensures { Reads vec_items result (private_text_of bytes.now) }
 {
     let section = without_leading(bytes);
     if begins_with_digits(section) {
@@ -59,7 +59,7 @@ fn begins_with_digits(section: &[u8]) -> bool
 
 /// Opens a section whose bytes are the cipher bytes.
 fn open_binary(alloc: Global, section: &[u8]) -> Result<Vec<u8>, SealError>
-    ensures { Gives vec_items result (opened section.now) }
+    ensures { Reads vec_items result (opened section.now) }
 {
     let mut text = Opening::of(alloc, section.len())?;
     for byte in section {
@@ -70,7 +70,7 @@ fn open_binary(alloc: Global, section: &[u8]) -> Result<Vec<u8>, SealError>
 
 /// Opens a section of digits, each pair of which writes a cipher byte.
 fn open_hexadecimal(alloc: Global, section: &[u8]) -> Result<Vec<u8>, SealError>
-    ensures { Gives vec_items result (opened (bytes_of_digits (digits_of section.now))) }
+    ensures { Reads vec_items result (opened (bytes_of_digits (digits_of section.now))) }
 {
     let mut opening = Opening::of(alloc, section.len() / 2)?;
     let mut high = None;

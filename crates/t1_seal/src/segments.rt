@@ -1,6 +1,6 @@
 //! The segments of a PFB file: Adobe Technical Note 5040, the IBM PC format.
 
-ghost use Rattle.t1_seal.specs.SealError.{Gives};
+ghost use Rattle.t1_seal.specs.SealError.{Reads};
 ghost use Rattle.t1_seal.specs.Joined.{joined_text, part_of};
 ghost use Rattle.t1_seal.specs.Segments.{as_pfb, joined_of, row_of, segment_of};
 
@@ -33,7 +33,7 @@ enum Segment<'a> {
 /// the file. One that begins with `%!` is PFA: its bytes are copied.
 #[tactic(auto, unfolding(crate::specs::Segments::joined_of))]
 pub fn join(alloc: Global, input: &[u8]) -> Result<Joined, SealError>
-    ensures { Gives joined_text result (joined_of input.now) }
+    ensures { Reads joined_text result (joined_of input.now) }
 {
     match input {
         [SEGMENT_MARK, ..] => join_row(alloc, input),
@@ -49,7 +49,7 @@ pub fn join(alloc: Global, input: &[u8]) -> Result<Joined, SealError>
 
 /// Joins a row of segments.
 fn join_row(alloc: Global, row: &[u8]) -> Result<Joined, SealError>
-    ensures { Gives joined_text result (as_pfb (row_of row.now)) }
+    ensures { Reads joined_text result (as_pfb (row_of row.now)) }
 {
     let mut bytes = Vec::with_capacity(alloc, row.len())?;
     let mut rest = row;
@@ -86,7 +86,7 @@ fn join_row(alloc: Global, row: &[u8]) -> Result<Joined, SealError>
 /// The segment that a row begins with.
 #[tactic(auto, unfolding(crate::specs::Segments::segment_of))]
 fn first_segment(row: &[u8]) -> Result<Segment<'_>, SealError>
-    ensures { Gives part_of result (segment_of row.now) }
+    ensures { Reads part_of result (segment_of row.now) }
 {
     match row {
         [] => Ok(Segment::Nothing),

@@ -34,11 +34,15 @@ abbrev pub file_rule : Rule
 file_rule = record (new_rule (codes "file")) { value_names = 1 }
 
 unfoldable pub t1check : App
-t1check = with_rule (with_rule (with_rule (with_rule (new_app (codes "t1check")) after_rule) max_rule) trace_rule) file_rule
+t1check =
+    with_rule
+    (with_rule (with_rule (with_rule (new_app (codes "t1check")) after_rule) max_rule) trace_rule) file_rule
 
 -- The id of an argument whose value is a number of 64 bits.
 abbrev pub IsNumberArgument : Text → Type 0
-IsNumberArgument id = Any (λ rule. (rule.id ≡ id) × (rule.parser ≡ Some (parser.Unsigned 0 18446744073709551615))) t1check.top.rules
+IsNumberArgument id =
+    Any (λ rule. (rule.id ≡ id) ×
+    (rule.parser ≡ Some (parser.Unsigned 0 18446744073709551615))) t1check.top.rules
 
 -- What clap takes for a number of 64 bits.
 abbrev pub IsTextOfNumber : Option Text → Type 0

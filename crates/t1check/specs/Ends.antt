@@ -17,30 +17,40 @@ use Rattle.t1check.specs.Lines.{lines_of}
 use Rattle.t1check.specs.Refusals.{told_of}
 use Rattle.t1check.specs.Traces.{glyph_named, no_glyph_line, trace_of}
 
--- A text was to be told on standard error, and then a status to be answered; where that can't be told, Failed.
+-- A text was to be told on standard error, and then a status to be answered; where that can't be told,
+-- Failed.
 pub data Tells (text : List ℕ) (status : Status) (errors errors' : SinkState) (result : Status) : Type 0 where
   told : Wrote errors errors' text → result ≡ status → Tells text status errors errors' result
   untold : PutFailed errors errors' text → result ≡ Failed → Tells text status errors errors' result
 
--- A text was to be given on the output and flushed once, and then a status to be answered; where that fails, this is told.
-pub data Gives (text : List ℕ) (status : Status) (out out' errors errors' : SinkState) (result : Status) : Type 0 where
-  given : Delivered out out' text → errors' ≡ errors → result ≡ status → Gives text status out out' errors errors' result
+-- A text was to be given on the output and flushed once, and then a status to be answered; where that
+-- fails, this is told.
+pub data Gives (text : List ℕ) (status : Status) (out out' errors errors' : SinkState)
+    (result : Status) : Type 0 where
+  given : Delivered out out' text → errors' ≡ errors → result ≡ status
+      → Gives text status out out' errors errors' result
   write_failed :
       DeliveryFailed out out' text → Tells (codes "t1check: write failed\n") Failed errors errors' result
       → Gives text status out out' errors errors' result
 
--- What the options ask for of a font: lines of its report, or the trace of a glyph, where there is one of the name.
-pub data Shows (options : Options) (font : FontValue) (out out' errors errors' : SinkState) (result : Status) : Type 0 where
+-- What the options ask for of a font: lines of its report, or the trace of a glyph, where there is one of
+-- the name.
+pub data Shows (options : Options) (font : FontValue) (out out' errors errors' : SinkState)
+    (result : Status) : Type 0 where
   reported :
       options.trace ≡ None → (faults : List FaultValue) → IsReport font faults
-      → Gives (lines_of font (chosen options faults)) (status_of (chosen options faults)) out out' errors errors' result
+      → Gives (lines_of font (chosen options faults))
+      (status_of (chosen options faults)) out out' errors errors' result
       → Shows options font out out' errors errors' result
   traced :
-      (name : List ℕ) → option_map string_bytes options.trace ≡ Some name → (glyph : ℕ) → glyph_named font name ≡ Some glyph
-      → Gives (trace_of font glyph) Clean out out' errors errors' result → Shows options font out out' errors errors' result
+      (name : List ℕ) → option_map string_bytes options.trace ≡ Some name → (glyph : ℕ)
+      → glyph_named font name ≡ Some glyph
+      → Gives (trace_of font glyph) Clean out out' errors errors' result
+      → Shows options font out out' errors errors' result
   no_glyph :
       (name : List ℕ) → option_map string_bytes options.trace ≡ Some name → glyph_named font name ≡ None
-      → out' ≡ out → Tells (no_glyph_line name) Failed errors errors' result → Shows options font out out' errors errors' result
+      → out' ≡ out → Tells (no_glyph_line name) Failed errors errors' result
+      → Shows options font out out' errors errors' result
 
 -- The status where a file isn't read.
 abbrev pub stopped : Unread → Status
@@ -52,14 +62,17 @@ abbrev pub AreRead : Option (List ℕ) → Result FontValue Unread → Type 0
 AreRead left read = IfSome left (λ input. font_of input ≡ read)
 
 -- How a run ends: these bytes were left in the source, and a read of it failed or didn't.
-pub data Ends (options : Options) (left : Option (List ℕ)) (failed : Bool) (out out' errors errors' : SinkState) (result : Status) : Type 0 where
+pub data Ends (options : Options) (left : Option (List ℕ)) (failed : Bool)
+    (out out' errors errors' : SinkState) (result : Status) : Type 0 where
   -- status 0 or 1, or 3 where a write or the flush failed or there is no such glyph
   shown :
-      (font : FontValue) → AreRead left (Ok font) → failed ≡ false → Shows options font out out' errors errors' result
+      (font : FontValue) → AreRead left (Ok font) → failed ≡ false
+      → Shows options font out out' errors errors' result
       → Ends options left failed out out' errors errors' result
   -- status 2
   refused :
-      (reason : Unread) → AreRead left (Err reason) → failed ≡ false → out' ≡ out → Tells (told_of reason) (stopped reason) errors errors' result
+      (reason : Unread) → AreRead left (Err reason) → failed ≡ false → out' ≡ out
+      → Tells (told_of reason) (stopped reason) errors errors' result
       → Ends options left failed out out' errors errors' result
   -- status 3
   read_failed :
@@ -71,17 +84,27 @@ pub data Ends (options : Options) (left : Option (List ℕ)) (failed : Bool) (ou
       → Ends options left failed out out' errors errors' result
 
 -- How showing a font ends, where memory can be refused: then nothing was given or told.
-abbrev pub ShowsOrNot : {E : Type 0} → Options → FontValue → SinkState → SinkState → SinkState → SinkState → Result Status E → Type 0
-ShowsOrNot options font out out' errors errors' (Ok status) = Shows options font out out' errors errors' status
+abbrev pub ShowsOrNot : {E : Type 0} → Options → FontValue → SinkState → SinkState → SinkState
+    → SinkState → Result Status E → Type 0
+ShowsOrNot options font out out' errors errors' (Ok status) =
+    Shows options font out out' errors errors' status
 ShowsOrNot options font out out' errors errors' (Err e) = (out' ≡ out) × (errors' ≡ errors)
 
--- How reading these bytes ends: the font is shown, or there is a reason why they aren't read, and nothing given or told.
-abbrev pub Checks : Options → Result FontValue Unread → SinkState → SinkState → SinkState → SinkState → Result Status Unread → Type 0
-Checks options read out out' errors errors' (Ok status) = (font : FontValue) × (read ≡ Ok font) × Shows options font out out' errors errors' status
-Checks options read out out' errors errors' (Err reason) = IsUnread reason read × (out' ≡ out) × (errors' ≡ errors)
+-- How reading these bytes ends: the font is shown, or there is a reason why they aren't read, and nothing
+-- given or told.
+abbrev pub Checks : Options → Result FontValue Unread → SinkState → SinkState → SinkState → SinkState
+    → Result Status Unread → Type 0
+Checks options read out out' errors errors' (Ok status) =
+    (font : FontValue) × (read ≡ Ok font) × Shows options font out out' errors errors' status
+Checks options read out out' errors errors' (Err reason) =
+    IsUnread reason read × (out' ≡ out) × (errors' ≡ errors)
 
--- What is answered to words of the command line that give no options: help on the output, all else on standard error.
+-- What is answered to words of the command line that give no options: help on the output, all else on
+-- standard error.
 abbrev pub Explains : UsageError → SinkState → SinkState → SinkState → SinkState → Status → Type 0
-Explains (Help text) out out' errors errors' result = Gives (string_bytes text) Clean out out' errors errors' result
-Explains (Usage text) out out' errors errors' result = (out' ≡ out) × Tells (string_bytes text) Failed errors errors' result
-Explains Memory out out' errors errors' result = (out' ≡ out) × Tells (codes "t1check: out of memory\n") Failed errors errors' result
+Explains (Help text) out out' errors errors' result =
+    Gives (string_bytes text) Clean out out' errors errors' result
+Explains (Usage text) out out' errors errors' result =
+    (out' ≡ out) × Tells (string_bytes text) Failed errors errors' result
+Explains Memory out out' errors errors' result =
+    (out' ≡ out) × Tells (codes "t1check: out of memory\n") Failed errors errors' result

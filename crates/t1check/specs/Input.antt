@@ -7,8 +7,12 @@ use Rattle.t1check.specs.declared.reading.Input.TheVariants.{Bytes, TooLarge, Br
 
 -- All the bytes where they are few enough, or the bytes are too many; a read failed, or memory ran out.
 abbrev pub Gathers : SourceState → SourceState → Input → Type 0
-Gathers old new (Bytes bytes) = Consumes old.left new.left bytes.items × IsAtEnd new.left × (length bytes.items ≤ 16777216) × (new.failed ≡ old.failed)
-Gathers old new TooLarge = ((bytes : List ℕ) × Consumes old.left new.left bytes × (16777216 < length bytes)) × (new.failed ≡ old.failed)
+Gathers old new (Bytes bytes) =
+    Consumes old.left new.left bytes.items × IsAtEnd new.left × (length bytes.items ≤ 16777216)
+    × (new.failed ≡ old.failed)
+Gathers old new TooLarge =
+    ((bytes : List ℕ) × Consumes old.left new.left bytes × (16777216 < length bytes))
+    × (new.failed ≡ old.failed)
 Gathers old new Broken = new.failed ≡ true
 Gathers old new NoMemory = new.failed ≡ old.failed
 

@@ -22,23 +22,29 @@ pub record AreRefused (words : List Text) (error : UsageError) : Type 0 where
   pub help : AsksHelp words → IsHelpOrMemory error
   pub only_help : IsHelp error → AsksHelp words
 
--- The words are answered: explained, or by a run on the input or on the file that they name, where that can be opened.
+-- The words are answered: explained, or by a run on the input or on the file that they name, where that can
+-- be opened.
 -- The input and a file that is opened are told by their bytes, where these are known.
 pub data Answers
-    (words : List Text) (IsInput : Option (List ℕ) → Type 0) (IsFile : Text → Option (List ℕ) → Type 0) (CannotOpen : Text → Type 0)
+    (words : List Text) (IsInput : Option (List ℕ) → Type 0) (IsFile : Text → Option (List ℕ)
+    → Type 0) (CannotOpen : Text → Type 0)
     (out out' errors errors' : SinkState) (result : Status) : Type 0 where
   explained :
       (error : UsageError) → AreRefused words error → Explains error out out' errors errors' result
       → Answers words IsInput IsFile CannotOpen out out' errors errors' result
   read_input :
       (options : Options) → AreTaken words options → options.file ≡ None
-      → (left : Option (List ℕ)) (failed : Bool) → IsInput left → Ends options left failed out out' errors errors' result
+      → (left : Option (List ℕ)) (failed : Bool) → IsInput left
+      → Ends options left failed out out' errors errors' result
       → Answers words IsInput IsFile CannotOpen out out' errors errors' result
   read_file :
-      (options : Options) (name : Text) → AreTaken words options → option_map string_bytes options.file ≡ Some name
-      → (left : Option (List ℕ)) (failed : Bool) → IsFile name left → Ends options left failed out out' errors errors' result
+      (options : Options) (name : Text) → AreTaken words options
+      → option_map string_bytes options.file ≡ Some name
+      → (left : Option (List ℕ)) (failed : Bool) → IsFile name left
+      → Ends options left failed out out' errors errors' result
       → Answers words IsInput IsFile CannotOpen out out' errors errors' result
   not_opened :
-      (options : Options) (name : Text) → AreTaken words options → option_map string_bytes options.file ≡ Some name
+      (options : Options) (name : Text) → AreTaken words options
+      → option_map string_bytes options.file ≡ Some name
       → CannotOpen name → out' ≡ out → Tells (codes "t1check: read failed\n") Failed errors errors' result
       → Answers words IsInput IsFile CannotOpen out out' errors errors' result

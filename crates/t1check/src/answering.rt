@@ -35,7 +35,8 @@ where
     requires open_file { O.IsAlwaysCallable open_file }
     ensures { Answers (map S.text words.now)
         (λ left. (reader : I) × N.post input reader × (I.remaining reader ≡ left))
-        (λ name left. (file : F) × FnOnceReturnsAt O.FnOnce open_file name (Ok file) × (F.remaining file ≡ left))
+        (λ name left. (file : F) × FnOnceReturnsAt O.FnOnce open_file name (Ok file)
+        × (F.remaining file ≡ left))
         (λ name. (error : _) × FnOnceReturnsAt O.FnOnce open_file name (Err error))
         (W.state out.old) (W.state out.new) (E.state errors.old) (E.state errors.new) result }
 {

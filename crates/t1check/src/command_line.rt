@@ -130,8 +130,10 @@ fn usage_error(alloc: Global, error: &clap::Error) -> UsageError
 
 fn matches_in<'a, S: AsStr>(alloc: Global, words: &'a [S]) -> Result<ArgMatches<'a>, clap::Error>
     ensures rows { IfOk result (λ m. rows_of (found_of m) ≡ matches_of t1check (map S.text words.entry.now)) }
-    ensures number { IfOk result (λ m. (id : List ℕ) → IsNumberArgument id → IsTextOfNumber (first_value (found_of m) id)) }
-    ensures taken { IfErr result (λ e. takes t1check (map S.text words.entry.now) ≡ true → kind_of e ≡ OutOfMemory) }
+    ensures number { IfOk result (λ m. (id : List ℕ) → IsNumberArgument id
+        → IsTextOfNumber (first_value (found_of m) id)) }
+    ensures taken { IfErr result (λ e. takes t1check (map S.text words.entry.now) ≡ true
+        → kind_of e ≡ OutOfMemory) }
     ensures faults { FailsBy (fault_of t1check (map S.text words.entry.now)) result }
 {
     command(alloc)?.try_get_matches_from(words)

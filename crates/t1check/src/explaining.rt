@@ -8,7 +8,8 @@ use t1_io::{Sink, deliver};
 /// Answers words that gave no options: the text of help on standard output, which is flushed, and
 /// everything else on standard error.
 pub fn explain<W: Sink, E: Sink>(error: &UsageError, out: &mut W, errors: &mut E) -> Status
-    ensures { Explains error.now (W.state out.old) (W.state out.new) (E.state errors.old) (E.state errors.new) result }
+    ensures { Explains error.now (W.state out.old) (W.state out.new) (E.state errors.old)
+        (E.state errors.new) result }
 {
     match error {
         UsageError::Help(text) => give_help(text.as_str(), out, errors),
@@ -19,7 +20,8 @@ pub fn explain<W: Sink, E: Sink>(error: &UsageError, out: &mut W, errors: &mut E
 
 /// Gives the text of help on the output.
 fn give_help<W: Sink, E: Sink>(text: &str, out: &mut W, errors: &mut E) -> Status
-    ensures { Gives text.now Status.Clean (W.state out.old) (W.state out.new) (E.state errors.old) (E.state errors.new) result }
+    ensures { Gives text.now Status.Clean (W.state out.old) (W.state out.new) (E.state errors.old)
+        (E.state errors.new) result }
 {
     match deliver(out, text.as_bytes()) {
         Ok(()) => Status::Clean,

@@ -13,7 +13,8 @@ use t1_report::{Fault, write_fault};
 /// Writes the lines of faults, one after another. After a failure a front of them went out.
 pub fn write_faults<W: Sink>(sink: &mut W, font: &Font<'_>, faults: &[Fault]) -> Result<(), Broken>
     requires { All (λ fault. IsInFont font.now (fault_value fault)) faults.now }
-    ensures { Writes (W.state sink.old) (W.state sink.new) (flat_map (fault_line font.now) faults.now) result }
+    ensures { Writes (W.state sink.old) (W.state sink.new)
+        (flat_map (fault_line font.now) faults.now) result }
 {
     for fault in faults {
         write_fault(sink, font, fault)?;
@@ -24,7 +25,8 @@ pub fn write_faults<W: Sink>(sink: &mut W, font: &Font<'_>, faults: &[Fault]) ->
 /// Writes the lines of faults, and flushes them.
 pub fn write_report<W: Sink>(sink: &mut W, font: &Font<'_>, faults: &[Fault]) -> Result<(), Broken>
     requires { All (λ fault. IsInFont font.now (fault_value fault)) faults.now }
-    ensures { Delivers (W.state sink.old) (W.state sink.new) (flat_map (fault_line font.now) faults.now) result }
+    ensures { Delivers (W.state sink.old) (W.state sink.new)
+        (flat_map (fault_line font.now) faults.now) result }
 {
     write_faults(sink, font, faults)?;
     sink.flush()

@@ -21,7 +21,8 @@ pub fn glyph_named(font: &Font<'_>, name: &[u8]) -> Option<usize>
 
 /// Writes the lines of steps up to the limit and the line on more of them, and flushes them.
 pub fn write_trace<W: Sink>(sink: &mut W, steps: &[Step]) -> Result<(), Broken>
-    ensures { Delivers (W.state sink.old) (W.state sink.new) (trace_text STEP_LIMIT (map step_value steps.now)) result }
+    ensures { Delivers (W.state sink.old) (W.state sink.new)
+        (trace_text STEP_LIMIT (map step_value steps.now)) result }
 {
     write_lines(sink, steps)?;
     sink.flush()
@@ -29,7 +30,8 @@ pub fn write_trace<W: Sink>(sink: &mut W, steps: &[Step]) -> Result<(), Broken>
 
 /// Writes the lines of steps up to the limit and the line on more of them.
 fn write_lines<W: Sink>(sink: &mut W, steps: &[Step]) -> Result<(), Broken>
-    ensures { Writes (W.state sink.old) (W.state sink.new) (trace_text STEP_LIMIT (map step_value steps.now)) result }
+    ensures { Writes (W.state sink.old) (W.state sink.new)
+        (trace_text STEP_LIMIT (map step_value steps.now)) result }
 {
     write_steps(sink, at_most(steps, Some(u64::from(STEP_LIMIT))))?;
     write_limit(sink, steps)
@@ -37,7 +39,8 @@ fn write_lines<W: Sink>(sink: &mut W, steps: &[Step]) -> Result<(), Broken>
 
 /// Writes the line on more steps, where there are more.
 fn write_limit<W: Sink>(sink: &mut W, steps: &[Step]) -> Result<(), Broken>
-    ensures { Writes (W.state sink.old) (W.state sink.new) (if nat_lt STEP_LIMIT (length steps.now) then codes "limit\n" else []) result }
+    ensures { Writes (W.state sink.old) (W.state sink.new)
+        (if nat_lt STEP_LIMIT (length steps.now) then codes "limit\n" else []) result }
 {
     if steps.len() > STEP_LIMIT as usize {
         put_all(sink, b"limit\n")
@@ -48,7 +51,8 @@ fn write_limit<W: Sink>(sink: &mut W, steps: &[Step]) -> Result<(), Broken>
 
 /// Writes the lines of steps.
 fn write_steps<W: Sink>(sink: &mut W, steps: &[Step]) -> Result<(), Broken>
-    ensures { Writes (W.state sink.old) (W.state sink.new) (flat_map (λ step. step_line (step_value step)) steps.now) result }
+    ensures { Writes (W.state sink.old) (W.state sink.new)
+        (flat_map (λ step. step_line (step_value step)) steps.now) result }
 {
     for step in steps {
         write_step(sink, step)?;

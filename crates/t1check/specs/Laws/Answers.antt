@@ -5,4 +5,6 @@ use Rattle.t1check.specs.Answers.{Answer, IsAnswer}
 
 -- There is no other answer.
 abbrev pub HasNoOtherAnswer : Type 0
-HasNoOtherAnswer = (options : Options) (input : List ℕ) (a b : Answer) → IsAnswer options input a → IsAnswer options input b → a ≡ b
+HasNoOtherAnswer =
+    (options : Options) (input : List ℕ) (a b : Answer) → IsAnswer options input a
+    → IsAnswer options input b → a ≡ b

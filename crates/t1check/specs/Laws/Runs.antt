@@ -18,7 +18,8 @@ pub record Gave (answer : Answer) (result : Status) (out out' errors errors' : S
   pub told : Appends errors.written errors'.written answer.told
 
 -- The answer to a file that was read so was given.
-abbrev pub Answered : Options → Result FontValue Unread → Status → SinkState → SinkState → SinkState → SinkState → Type 0
+abbrev pub Answered : Options → Result FontValue Unread → Status → SinkState → SinkState → SinkState
+    → SinkState → Type 0
 Answered options read result out out' errors errors' =
     (answer : Answer) × (IsAnswerTo options read answer × Gave answer result out out' errors errors')
 
@@ -28,18 +29,23 @@ WentOut options read out out' =
     (answer : Answer) × (IsAnswerTo options read answer × AppendsFront out.written out'.written answer.output)
 
 -- The facts. A run that begins with sinks of which no call has failed keeps each of them.
-pub record Promises (options : Options) (left : Option (List ℕ)) (failed : Bool) (out out' errors errors' : SinkState) (result : Status) : Type 0 where
+pub record Promises (options : Options) (left : Option (List ℕ)) (failed : Bool)
+    (out out' errors errors' : SinkState) (result : Status) : Type 0 where
   -- Where the status isn't 3 the bytes and the options decide what went out and was told.
-  pub answer : result ≢ Failed → IfSome left (λ input. Answered options (font_of input) result out out' errors errors')
+  pub answer : result ≢ Failed → IfSome left
+      (λ input. Answered options (font_of input) result out out' errors errors')
   -- A report was flushed, once; on a refusal nothing was done to the output.
-  pub flushed : (result ≡ Clean) ⊎ (result ≡ Faults) → (out'.flushed ≡ true) × (out'.flushes ≡ one_more out.flushes)
+  pub flushed : (result ≡ Clean) ⊎ (result ≡ Faults) → (out'.flushed ≡ true)
+      × (out'.flushes ≡ one_more out.flushes)
   pub untouched : result ≡ Refused → out' ≡ out
   pub nothing_waits : result ≢ Failed → out.flushed ≡ true → out'.flushed ≡ true
   -- The status is 3 wherever a device failed.
   pub broken : (failed ≡ true) ⊎ ((out'.failed ≡ true) ⊎ (errors'.failed ≡ true)) → result ≡ Failed
   -- Why it is 3 is told, where it can be: that no glyph has the name is an answer.
-  pub read_failed : failed ≡ true → errors'.failed ≡ false → Appends errors.written errors'.written (codes "t1check: read failed\n")
-  pub write_failed : out'.failed ≡ true → errors'.failed ≡ false → Appends errors.written errors'.written (codes "t1check: write failed\n")
+  pub read_failed : failed ≡ true → errors'.failed ≡ false
+      → Appends errors.written errors'.written (codes "t1check: read failed\n")
+  pub write_failed : out'.failed ≡ true → errors'.failed ≡ false
+      → Appends errors.written errors'.written (codes "t1check: write failed\n")
   pub no_memory :
       result ≡ Failed → failed ≡ false → out'.failed ≡ false → errors'.failed ≡ false
       → Appends errors.written errors'.written (codes "t1check: out of memory\n")
@@ -53,6 +59,7 @@ pub record Promises (options : Options) (left : Option (List ℕ)) (failed : Boo
 -- Each way in which a run ends keeps them.
 abbrev pub RunsKeepPromises : Type 0
 RunsKeepPromises =
-    (options : Options) (left : Option (List ℕ)) (failed : Bool) (out out' errors errors' : SinkState) (result : Status)
+    (options : Options) (left : Option (List ℕ)) (failed : Bool) (out out' errors errors' : SinkState)
+    (result : Status)
     → out.failed ≡ false → errors.failed ≡ false → Ends options left failed out out' errors errors' result
     → Promises options left failed out out' errors errors' result
