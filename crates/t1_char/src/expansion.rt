@@ -1,6 +1,6 @@
 //! A glyph's steps as a list.
 
-ghost use Rattle.std.specs.Prelude.{◌≡◌, ◌≤◌, ◌<◌, ◌-◌, ◌++◌, ◌∷◌, [], false, IfOk, MatchBool, OnOk, length, map, negsuc};
+ghost use Rattle.std.specs.Prelude.{◌^◌, ◌≡◌, ◌≤◌, ◌<◌, ◌-◌, ◌++◌, ◌∷◌, [], false, IfOk, MatchBool, OnOk, length, map, negsuc};
 ghost use Rattle.t1_char.specs.Effects.{effect, most_calls};
 ghost use Rattle.t1_char.specs.Steps.{effect_at, expansion, first_steps, step_at};
 ghost use Rattle.t1_char.specs.Workings.Actions.{IsNested, action_of, state_of};
@@ -26,13 +26,26 @@ pub const STEP_LIMIT: u32 = 100_000;
 /// The steps of a glyph, by its place, from the first on: all, or the first 100,001.
 ///
 /// It is the plain form: each step keeps a path and a stack of its own.
-pub fn expand<'a>(alloc: Global, font: &'a Font<'a>, glyph: usize) -> Result<Vec<Step>, AllocError>
+pub fn expand(alloc: Global, font: &Font<'_>, glyph: usize) -> Result<Vec<Step>, AllocError>
     requires { glyph < length font.now.glyphs }
     ensures { IfOk result (λ steps. map step_value steps.items ≡ first_steps STEP_LIMIT font.now glyph) }
 {
+    expand_to(alloc, STEP_LIMIT, &*font, glyph)
+}
+
+/// The steps up to the first past a limit.
+fn expand_to<'a>(
+    alloc: Global,
+    limit: u32,
+    font: &'a Font<'a>,
+    glyph: usize,
+) -> Result<Vec<Step>, AllocError>
+    requires { limit < 2 ^ 32 - 1 }
+    ensures { IfOk result (λ steps. map step_value steps.items ≡ first_steps limit font.now glyph) }
+{
     let mut listing = Listing {
         font,
-        most: STEP_LIMIT + 1,
+        most: limit + 1,
         steps: Vec::new(alloc),
         path: ArrayVec::new(),
         stack: Stack::new(),

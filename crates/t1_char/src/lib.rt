@@ -11,6 +11,8 @@ mod numbers;
 mod stack;
 mod step;
 mod subr;
+#[cfg(test)]
+mod tests;
 mod token;
 mod token_list;
 
