@@ -1,8 +1,14 @@
 pub mod Additions
+pub mod Bounds
 pub mod Deciphering
+pub mod Enciphered
 pub mod Expanding
 pub mod FirstSteps
+pub mod LastSteps
 pub mod Lasts
 pub mod Listed
 pub mod Numbering
+pub mod Othersubrs
+pub mod PlainGlyphs
 pub mod Skipping
+pub mod Spelling

@@ -1,6 +1,7 @@
 pub mod Charstrings
 pub mod Commands
 pub mod Effects
+pub mod Laws
 pub mod Numbers
 pub mod Stacks
 pub mod StepValues

@@ -7,6 +7,7 @@ mod command;
 mod cursor;
 mod effect;
 mod expansion;
+mod laws;
 mod numbers;
 mod stack;
 mod step;
@@ -18,6 +19,9 @@ mod token_list;
 
 pub use command::{Command, command_name};
 pub use expansion::{STEP_LIMIT, expand};
+pub use laws::{
+    stacks_are_taken_from_the_top, steps_follow_the_tokens, written_charstrings_are_read,
+};
 pub use stack::Stack;
 pub use step::{Path, Step};
 pub use token::CharToken;

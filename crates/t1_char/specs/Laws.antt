@@ -1,0 +1,3 @@
+pub mod Effects
+pub mod Steps
+pub mod Written

@@ -1,0 +1,49 @@
+-- Laws of the expansion. Type 1 Font Format 1.1, chapters 6 and 8.
+use Rattle.std.specs.Prelude.{◌≡◌, ℕ, ◌≤◌, ◌||◌, not, if◌then◌else◌, Bool, true, false, List, [], ◌∷◌, ◌++◌, length, map}
+use Rattle.std.specs.List.{All, AllPass}
+use Rattle.t1_font.specs.Fonts.{FontValue}
+use Rattle.t1_char.specs.declared.command.Command.TheVariants.{Endchar, Seac}
+use Rattle.t1_char.specs.declared.token.CharToken.{CharToken}
+use Rattle.t1_char.specs.declared.token.CharToken.TheVariants.{Command}
+use Rattle.t1_char.specs.Charstrings.{code_at, tokens_in}
+use Rattle.t1_char.specs.Steps.{StepView, is_callsubr, is_end, steps_of}
+
+-- endchar and seac finish the glyph at any depth, and End outside Subrs.
+abbrev pub is_finishing : CharToken → Bool
+is_finishing (Command Endchar) = true
+is_finishing (Command Seac) = true
+is_finishing _ = false
+
+abbrev pub finishes_at : CharToken → List ℕ → Bool
+finishes_at token [] = is_finishing token || is_end token
+finishes_at token (_ ∷ _) = is_finishing token
+
+-- The elements up to the first such.
+abbrev pub up_to : {A : Type 0} → (A → Bool) → List A → List A
+up_to test [] = []
+up_to test (x ∷ xs) = if test x then x ∷ [] else x ∷ up_to test xs
+
+abbrev pub token_and_path : StepView → CharToken × List ℕ
+token_and_path step = (step.token, step.path)
+
+abbrev pub calls_nothing : CharToken → Bool
+calls_nothing token = not (is_callsubr token)
+
+-- A glyph without callsubr is executed token by token, up to the one that finishes it.
+abbrev pub PlainGlyphsGoOn : Type 0
+PlainGlyphsGoOn = (font : FontValue) (glyph : ℕ) → AllPass calls_nothing (tokens_in font (code_at font glyph)) →
+    map token_and_path (steps_of font glyph) ≡ map (λ t. (t, [])) (up_to (λ t. finishes_at t []) (tokens_in font (code_at font glyph)))
+
+-- Nothing follows a step that finishes the glyph.
+abbrev pub NothingFollows : Type 0
+NothingFollows = (font : FontValue) (glyph : ℕ) (front rest : List StepView) (step : StepView) → steps_of font glyph ≡ front ++ step ∷ rest →
+    finishes_at step.token step.path ≡ true → rest ≡ []
+
+-- The bounds of a step.
+pub record IsBounded (step : StepView) : Type 0 where
+  pub path : length step.path ≤ 10
+  pub stack : length step.stack ≤ 24
+  pub waiting : step.waiting ≤ 22
+
+abbrev pub StepsAreBounded : Type 0
+StepsAreBounded = (font : FontValue) (glyph : ℕ) → All IsBounded (steps_of font glyph)

@@ -1,0 +1,27 @@
+//! Laws of the definitions, as contracts of calls that do nothing.
+
+ghost use Rattle.t1_char.specs.Laws.Effects.{DivDivides, OthersubrsAreCalled};
+ghost use Rattle.t1_char.specs.Laws.Steps.{NothingFollows, PlainGlyphsGoOn, StepsAreBounded};
+ghost use Rattle.t1_char.specs.Laws.Written.{EachNumberIsWritten, EncipheredIsRead, WrittenIsRead};
+
+/// Numbers are written in three forms, and each number of 32 bits in one of them; what is written from
+/// numbers, commands and bytes that are no command is read as just these, plain or enciphered.
+pub fn written_charstrings_are_read()
+    ensures numbers { EachNumberIsWritten }
+    ensures plain { WrittenIsRead }
+    ensures enciphered { EncipheredIsRead }
+{}
+
+/// What div and callothersubr do to a stack that is written out.
+pub fn stacks_are_taken_from_the_top()
+    ensures div { DivDivides }
+    ensures othersubrs { OthersubrsAreCalled }
+{}
+
+/// A glyph without calls goes token by token; nothing follows the step that finishes a glyph; and no
+/// step has more than ten Subrs in its path, 24 numbers on the stack, or 22 results that wait.
+pub fn steps_follow_the_tokens()
+    ensures plain { PlainGlyphsGoOn }
+    ensures last { NothingFollows }
+    ensures bounds { StepsAreBounded }
+{}
