@@ -1,4 +1,33 @@
-//! Charstrings.
+//! Charstrings of Type 1 fonts: their tokens, and their steps, one for each token that is executed.
+//!
+//! - [`tokens`] turns a charstring, as it stands in the font, into its tokens: numbers, commands, bytes
+//!   that are no command, and how it ends. Adobe Type 1 Font Format 1.1, chapter 6, and chapter 7 for
+//!   the cipher and the random bytes in front.
+//! - [`expand`] executes a glyph and lists its steps, those of the Subrs that it calls among them, each
+//!   with its number, its path of Subrs, and the stack before it: the same, chapters 6 and 8.
+//! - [`command_name`] is what the standard calls a command; [`Command::arguments`] counts what it takes.
+//!
+//! Numbers on the stack are in units of 1/65536.
+//!
+//! What is promised, for all bytes and all fonts:
+//!
+//! - the tokens are those that the definitions in `specs/` read, and the steps those of the expansion,
+//!   up to the first past the limit of [`STEP_LIMIT`], numbered from 1; want of memory alone says
+//!   nothing of them;
+//! - a faulty charstring is executed too: a 25th number is dropped, an eleventh call isn't made, a
+//!   division by zero gives 0, a command that isn't known empties the stack;
+//! - no index, sum, cast or divisor goes wrong, calls nest ten deep at most, and each call returns.
+//!
+//! Charstrings are deciphered as they are read; no plain copy is made.
+//!
+//! ```
+//! for token in &t1_char::tokens(alloc, b"\x8b\xf8\x88\x0d\x0e", -1)? {
+//!     println!(rt; "{token:?}")?; // 0, 500, hsbw, endchar, and the end
+//! }
+//! for step in &t1_char::expand(alloc, &font, 0)? {
+//!     println!(rt; "{} {:?}", step.number, step.token)?;
+//! }
+//! ```
 #![tactic(auto)]
 
 mod action;
