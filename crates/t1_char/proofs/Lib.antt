@@ -7,8 +7,10 @@ pub mod FirstSteps
 pub mod LastSteps
 pub mod Lasts
 pub mod Listed
+pub mod LookingBack
 pub mod Numbering
 pub mod Othersubrs
 pub mod PlainGlyphs
+pub mod SincePlaces
 pub mod Skipping
 pub mod Spelling

@@ -1,3 +1,4 @@
 pub mod Effects
+pub mod Since
 pub mod Steps
 pub mod Written

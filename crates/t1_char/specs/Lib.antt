@@ -1,8 +1,10 @@
+pub mod Arguments
 pub mod Charstrings
 pub mod Commands
 pub mod Effects
 pub mod Laws
 pub mod Numbers
+pub mod Since
 pub mod Stacks
 pub mod StepValues
 pub mod Steps

@@ -1,6 +1,7 @@
 //! Laws of the definitions, as contracts of calls that do nothing.
 
 ghost use Rattle.t1_char.specs.Laws.Effects.{DivDivides, OthersubrsAreCalled};
+ghost use Rattle.t1_char.specs.Laws.Since.{AfterLastGoesOn, AnyGoesOn, LastGoesOn, SinceGoesOn, SinceIsByPlaces};
 ghost use Rattle.t1_char.specs.Laws.Steps.{NothingFollows, PlainGlyphsGoOn, StepsAreBounded};
 ghost use Rattle.t1_char.specs.Laws.Written.{EachNumberIsWritten, EncipheredIsRead, WrittenIsRead};
 
@@ -24,4 +25,14 @@ pub fn steps_follow_the_tokens()
     ensures plain { PlainGlyphsGoOn }
     ensures last { NothingFollows }
     ensures bounds { StepsAreBounded }
+{}
+
+/// What came before a step, told by the steps so far and one more; and an a came with no b after it
+/// exactly where an a stands at some place, and no b at a later one.
+pub fn steps_are_looked_back_on()
+    ensures any { AnyGoesOn }
+    ensures since { SinceGoesOn }
+    ensures after_last { AfterLastGoesOn }
+    ensures last { LastGoesOn }
+    ensures places { SinceIsByPlaces }
 {}

@@ -31,6 +31,7 @@
 #![tactic(auto)]
 
 mod action;
+mod argument;
 mod charstrings;
 mod command;
 mod cursor;
@@ -49,7 +50,8 @@ mod token_list;
 pub use command::{Command, command_name};
 pub use expansion::{STEP_LIMIT, expand};
 pub use laws::{
-    stacks_are_taken_from_the_top, steps_follow_the_tokens, written_charstrings_are_read,
+    stacks_are_taken_from_the_top, steps_are_looked_back_on, steps_follow_the_tokens,
+    written_charstrings_are_read,
 };
 pub use stack::Stack;
 pub use step::{Path, Step};

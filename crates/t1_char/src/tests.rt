@@ -1,3 +1,4 @@
+mod arguments;
 mod effects;
 mod steps;
 mod tokens;

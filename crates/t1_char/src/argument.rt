@@ -1,0 +1,90 @@
+//! What commands and OtherSubrs are given: Type 1 Font Format 1.1, chapters 6 and 8.
+
+ghost use Rattle.std.specs.Prelude.{◌≡◌, ◌<◌, length, slice_index_or, pos};
+ghost use Rattle.t1_char.specs.Arguments.{argument, calls_othersubr, is_callothersubr, is_flex_end, is_flex_point, is_flex_start, is_hint_replacement, is_whole};
+ghost use Rattle.t1_char.specs.Numbers.{clamped};
+ghost use Rattle.t1_char.specs.StepValues.{step_view};
+
+use crate::command::Command;
+use crate::step::Step;
+use crate::token::CharToken;
+
+/// 32000 in units of 1/65536.
+const GREATEST: i32 = 32000 * 65536;
+
+impl Step {
+    /// The argument at a place from the bottom of the stack, in units of 1/65536, kept within -32000 to
+    /// 32000; 0 where there is none.
+    pub fn argument(&self, place: usize) -> i32
+        ensures { result ≡ argument self.now.stack place }
+    {
+        match self.stack.as_slice().get(place) {
+            Some(number) => clamped(*number),
+            None => 0,
+        }
+    }
+
+    /// Whether the step calls the OtherSubr of this number with so many arguments, which are there.
+    pub fn calls_othersubr(&self, number: u16, count: u16) -> bool
+        ensures { result ≡ calls_othersubr number count (step_view self.now) }
+    {
+        if !is_callothersubr(self.token) || self.stack.len() < usize::from(count) + 2 {
+            return false;
+        }
+        is_whole(number, self.stack.from_top(0)) & is_whole(count, self.stack.from_top(1))
+    }
+
+    /// Whether the step starts a flex.
+    pub fn starts_flex(&self) -> bool
+        ensures { result ≡ is_flex_start (step_view self.now) }
+    {
+        self.calls_othersubr(1, 0)
+    }
+
+    /// Whether the step gives a flex its next point.
+    pub fn gives_flex_point(&self) -> bool
+        ensures { result ≡ is_flex_point (step_view self.now) }
+    {
+        self.calls_othersubr(2, 0)
+    }
+
+    /// Whether the step ends a flex.
+    pub fn ends_flex(&self) -> bool
+        ensures { result ≡ is_flex_end (step_view self.now) }
+    {
+        self.calls_othersubr(0, 3)
+    }
+
+    /// Whether the step replaces hints.
+    pub fn replaces_hints(&self) -> bool
+        ensures { result ≡ is_hint_replacement (step_view self.now) }
+    {
+        self.calls_othersubr(3, 1)
+    }
+}
+
+/// The number from -32000 to 32000 that is nearest.
+fn clamped(number: i64) -> i32
+    ensures { result ≡ clamped number }
+{
+    if number > i64::from(GREATEST) {
+        GREATEST
+    } else if number < -i64::from(GREATEST) {
+        -GREATEST
+    } else {
+        number as i32
+    }
+}
+
+fn is_callothersubr(token: CharToken) -> bool
+    ensures { result ≡ is_callothersubr token }
+{
+    matches!(token, CharToken::Command(Command::Callothersubr))
+}
+
+/// Whether a number on the stack is that whole number.
+fn is_whole(whole: u16, number: i64) -> bool
+    ensures { result ≡ is_whole whole number }
+{
+    number == i64::from(whole) * 65536
+}
