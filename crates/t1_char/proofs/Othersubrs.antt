@@ -1,11 +1,11 @@
 -- What callothersubr takes off a stack that is written out.
-use Rattle.std.proofs.Common.{◌≡◌, ℕ, ℤ, pos, ◌+◌, ◌-◌, ◌*◌, ◌/◌, ◌%◌, ◌^◌, ◌<◌, ◌++◌, true, false, ltb, leb, Some, List, [], ◌∷◌, length, length-append, take, drop, refl, ap, ◌∙◌, lt-ltb, arith}
+use Rattle.std.proofs.Common.{◌≡◌, ℕ, ℤ, pos, negsuc, ◌+◌, ◌-◌, ◌*◌, ◌/◌, ◌%◌, ◌^◌, ◌<◌, ◌++◌, true, false, ltb, leb, Some, List, [], ◌∷◌, length, length-append, take, drop, refl, ap, ◌∙◌, lt-ltb, arith}
 use Rattle.std.proofs.lemmas.Grind.{common_steps}
 use Rattle.std.proofs.Math.Seq.{take-append_seam, drop-append_seam}
 use Rattle.t1_char.specs.Numbers.{units, natural}
 use Rattle.t1_char.specs.Stacks.{from_top, without, topmost}
 use Rattle.t1_char.specs.Effects.{effect, goes, results, handed_over, after_othersubr}
-use Rattle.t1_char.specs.Laws.Effects.{state, OthersubrsAreCalled}
+use Rattle.t1_char.specs.Laws.Effects.{state, OthersubrsAreCalled, WholeNumbersAreRead}
 
 -- A whole number that isn't negative.
 natural_of : (n : ℕ) → n < 2 ^ 32 → natural (units (pos n)) ≡ Some n
@@ -39,3 +39,14 @@ othersubrs_are_called below arguments waiting other named depth few small =
     ∙ ap (λ o. handed_over o (natural (units (pos (length arguments)))) (state (below ++ arguments) waiting)) (natural_of other small)
     ∙ ap (λ c. handed_over (Some other) c (state (below ++ arguments) waiting)) (natural_of (length arguments) few)
     ∙ given below arguments waiting other)
+
+-- And back: what is read as a count is that whole number.
+whole_from : (m n : ℕ) → natural (pos m) ≡ Some n → m ≡ n * 65536
+whole_from m n h = grind arith
+
+pub whole_numbers_are_read : WholeNumbersAreRead
+whole_numbers_are_read (pos m) n = (λ h. ap (λ k. pos k) (whole_from m n h), λ small is. ap natural is ∙ natural_of n small)
+whole_numbers_are_read (negsuc m) n = (λ h. absurd (nothing h), λ small is. ap natural is ∙ natural_of n small)
+  where
+    nothing : natural (negsuc m) ≡ Some n → ⊥
+    nothing h = cc

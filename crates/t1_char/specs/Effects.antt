@@ -56,7 +56,9 @@ work_of _ = clears
 
 -- div: the two topmost become their quotient.
 abbrev pub divided : List ℤ → List ℤ
-divided stack = if nat_lt (length stack) 2 then stack else without 2 stack ++ quotient (from_top stack 1) (from_top stack 0) ∷ []
+divided stack =
+    if nat_lt (length stack) 2 then stack
+    else without 2 stack ++ quotient (from_top stack 1) (from_top stack 0) ∷ []
 
 -- callsubr: a Subr that is there is called, unless ten calls are open.
 abbrev pub call_of : Option CalledSubr → ℕ → Action
@@ -72,18 +74,22 @@ back_or otherwise depth = if nat_lt 0 depth then returns else otherwise
 abbrev pub results : Option ℕ → List ℤ → List ℤ
 results None arguments = arguments
 results (Some other) arguments =
-    if other == 12 || other == 13 then [] else (if other == 0 && length arguments == 3 then drop 1 arguments else arguments)
+    if other == 12 || other == 13 then []
+    else (if other == 0 && length arguments == 3 then drop 1 arguments else arguments)
 
 -- callothersubr, without its count and number: a good count of arguments is taken.
 abbrev pub handed_over : Option ℕ → Option ℕ → State → State
 handed_over other None s = s
 handed_over other (Some count) s =
-    if nat_le count (length s.stack) then record { stack = without count s.stack; waiting = results other (topmost count s.stack) } else s
+    if nat_le count (length s.stack)
+    then record { stack = without count s.stack; waiting = results other (topmost count s.stack) }
+    else s
 
 abbrev pub after_othersubr : State → State
 after_othersubr s =
     if nat_lt (length s.stack) 2 then s
-    else handed_over (natural (from_top s.stack 0)) (natural (from_top s.stack 1)) (record s { stack = without 2 s.stack })
+    else handed_over (natural (from_top s.stack 0)) (natural (from_top s.stack 1))
+    (record s { stack = without 2 s.stack })
 
 -- pop: the first result that waits.
 abbrev pub popped : List ℤ → List ℤ → State

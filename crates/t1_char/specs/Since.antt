@@ -18,7 +18,8 @@ any_so_far e steps = any_from e [] steps
 -- There is an a among the steps, which follow the front, and no b after it.
 abbrev pub since_from : Test → Test → List StepView → List StepView → Bool
 since_from a b front [] = false
-since_from a b front (s ∷ ss) = (a front s && not (any_from b (front ++ s ∷ []) ss)) || since_from a b (front ++ s ∷ []) ss
+since_from a b front (s ∷ ss) =
+    (a front s && not (any_from b (front ++ s ∷ []) ss)) || since_from a b (front ++ s ∷ []) ss
 
 -- There is an a among the steps, and no b after it.
 abbrev pub since : Test → Test → List StepView → Bool

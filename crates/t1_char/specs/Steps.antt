@@ -109,7 +109,8 @@ expansion font zero path (t ∷ ts) s =
 expansion font (suc n) path (t ∷ ts) s =
     run_by (step_at font path t ts s) (effect_at font path t s)
     (λ left. expansion font (suc n) path ts left)
-    (λ number code left. and_then (expansion font n (path ++ number ∷ []) (tokens_in font code) left) (λ x. expansion font (suc n) path ts x))
+    (λ number code left.
+    and_then (expansion font n (path ++ number ∷ []) (tokens_in font code) left) (λ x. expansion font (suc n) path ts x))
 
 -- A glyph starts with nothing on the stack, and no result.
 abbrev pub at_start : State

@@ -26,7 +26,8 @@ pub data Form : Type 0 where
 
 abbrev pub form_of : ℕ → Form
 form_of v =
-    if nat_lt v 32 then (if v == 12 then two (λ w. escaped_code w (escaped_of w)) else whole (plain_code v (command_of v)))
+    if nat_lt v 32
+    then (if v == 12 then two (λ w. escaped_code w (escaped_of w)) else whole (plain_code v (command_of v)))
     else (if nat_lt v 247 then whole (Number (pos v -ℤ pos 139))
     else (if nat_lt v 251 then two (λ w. Number (pos ((v - 247) * 256 + w + 108)))
     else (if nat_lt v 255 then two (λ w. Number (neg_ℤ (pos ((v - 251) * 256 + w + 108))))
@@ -79,7 +80,8 @@ random_of (negsuc _) = None
 abbrev pub tokens_by : Option ℕ → List ℕ → List CharToken
 tokens_by None code = tokens_of code
 tokens_by (Some random) code =
-    if nat_lt (length code) random then Short ∷ End ∷ [] else tokens_of (drop random (decrypted charstring_start code))
+    if nat_lt (length code) random then Short ∷ End ∷ []
+    else tokens_of (drop random (decrypted charstring_start code))
 
 -- The tokens of a charstring as it stands in the font, by lenIV.
 unfoldable pub charstring_tokens : ℤ → List ℕ → List CharToken

@@ -1,6 +1,6 @@
 //! What commands and OtherSubrs are given: Type 1 Font Format 1.1, chapters 6 and 8.
 
-ghost use Rattle.std.specs.Prelude.{◌≡◌, ◌<◌, length, slice_index_or, pos};
+ghost use Rattle.std.specs.Prelude.{◌≡◌};
 ghost use Rattle.t1_char.specs.Arguments.{argument, calls_othersubr, is_callothersubr, is_flex_end, is_flex_point, is_flex_start, is_hint_replacement, is_whole};
 ghost use Rattle.t1_char.specs.Numbers.{clamped};
 ghost use Rattle.t1_char.specs.StepValues.{step_view};

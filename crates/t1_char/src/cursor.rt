@@ -125,7 +125,8 @@ impl<'a> Cursor<'a> {
     /// The next plain byte.
     #[tactic(auto, unfolding(crate::specs::Workings::Cursors::deciphered))]
     fn next_byte(&mut self) -> Option<u8>
-        ensures byte { MatchOption result (bytes_left self.old ≡ []) (λ b. bytes_left self.old ≡ b ∷ bytes_left self.new) }
+        ensures byte { MatchOption result (bytes_left self.old ≡ [])
+            (λ b. bytes_left self.old ≡ b ∷ bytes_left self.new) }
         ensures left { bytes_left self.new ≡ drop 1 (bytes_left self.old) }
         ensures short { self.new.short ≡ self.old.short }
     {

@@ -2,7 +2,7 @@
 //! 1.1, chapters 6 and 8.
 
 ghost use Rattle.std.specs.Prelude.{◌≡◌, ◌≤◌, length};
-ghost use Rattle.t1_char.specs.Effects.{after_othersubr, back_or, call_of, divided, effect, effect_of, goes, finishes, handed_over, popped, results, working};
+ghost use Rattle.t1_char.specs.Effects.{after_othersubr, call_of, divided, effect, effect_of, popped, results, working};
 ghost use Rattle.t1_char.specs.Stacks.{topmost, without};
 ghost use Rattle.t1_char.specs.Workings.Actions.{IsNested, action_of, named_of, state_of, work_view};
 

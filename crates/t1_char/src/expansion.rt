@@ -1,9 +1,9 @@
 //! A glyph's steps as a list.
 
-ghost use Rattle.std.specs.Prelude.{◌^◌, ◌≡◌, ◌≤◌, ◌<◌, ◌-◌, ◌++◌, ◌∷◌, [], false, IfOk, MatchBool, OnOk, length, map, negsuc};
-ghost use Rattle.t1_char.specs.Effects.{effect, most_calls};
-ghost use Rattle.t1_char.specs.Steps.{effect_at, expansion, first_steps, step_at};
-ghost use Rattle.t1_char.specs.Workings.Actions.{IsNested, action_of, state_of};
+ghost use Rattle.std.specs.Prelude.{◌^◌, ◌≡◌, ◌≤◌, ◌<◌, ◌-◌, ◌++◌, ◌∷◌, [], false, IfOk, MatchBool, OnOk, length, map};
+ghost use Rattle.t1_char.specs.Effects.{effect};
+ghost use Rattle.t1_char.specs.Steps.{first_steps};
+ghost use Rattle.t1_char.specs.Workings.Actions.{IsNested, action_of};
 ghost use Rattle.t1_char.specs.Workings.Cursors.{behind_token, tokens_left};
 ghost use Rattle.t1_char.specs.Workings.Listings.{effect_taken, run_from, state_in, step_taken, steps_in};
 ghost use Rattle.t1_char.specs.StepValues.{step_value};
@@ -81,9 +81,11 @@ impl<'a> Listing<'a> {
         requires room { length self.old.steps.items ≤ self.old.most }
         requires numbered { AreNumbered self.old.steps.items }
         ensures listed { IfOk result (λ finished.
-            IsExpanded self.old.most (steps_in self.old) (run_from self.old cursor.entry) (steps_in self.new) finished (state_in self.new)) }
+            IsExpanded self.old.most (steps_in self.old) (run_from self.old cursor.entry)
+            (steps_in self.new) finished (state_in self.new)) }
         ensures numbered { OnOk result (AreNumbered self.new.steps.items) }
-        ensures path { IfOk result (λ finished. finished ≡ false → length self.new.steps.items < self.old.most →
+        ensures path { IfOk result (λ finished.
+            finished ≡ false → length self.new.steps.items < self.old.most →
             self.new.path.items ≡ self.old.path.items) }
         ensures font { self.new.font.now ≡ self.old.font.now }
         ensures most { self.new.most ≡ self.old.most }
@@ -115,7 +117,8 @@ impl<'a> Listing<'a> {
     }
 
     fn is_full(&self) -> bool
-        ensures { MatchBool result (self.now.most ≤ length self.now.steps.items) (length self.now.steps.items < self.now.most) }
+        ensures { MatchBool result (self.now.most ≤ length self.now.steps.items)
+            (length self.now.steps.items < self.now.most) }
     {
         self.steps.len() >= self.most as usize
     }
@@ -124,12 +127,16 @@ impl<'a> Listing<'a> {
     fn take_one(&mut self, mut cursor: Cursor<'a>) -> Result<Taken<'a>, AllocError>
         requires room { length self.old.steps.items < self.old.most }
         requires numbered { AreNumbered self.old.steps.items }
-        ensures tokens { IfOk result (λ taken. tokens_left cursor.entry ≡ taken.token ∷ behind_token taken.token (tokens_left taken.behind)) }
-        ensures step { IfOk result (λ taken. steps_in self.new ≡ steps_in self.old ++ step_taken self.old taken.token taken.behind ∷ []) }
+        ensures tokens { IfOk result (λ taken.
+            tokens_left cursor.entry ≡ taken.token ∷ behind_token taken.token (tokens_left taken.behind)) }
+        ensures step { IfOk result (λ taken.
+            steps_in self.new ≡ steps_in self.old ++ step_taken self.old taken.token taken.behind ∷ []) }
         ensures numbered { OnOk result (AreNumbered self.new.steps.items) }
         ensures room { OnOk result (length self.new.steps.items ≤ self.old.most) }
-        ensures effect { IfOk result (λ taken. effect (state_in self.new) (action_of taken.action) ≡ effect_taken self.old taken.token) }
-        ensures nested { IfOk result (λ taken. IsNested (length self.old.path.items) (action_of taken.action)) }
+        ensures effect { IfOk result (λ taken.
+            effect (state_in self.new) (action_of taken.action) ≡ effect_taken self.old taken.token) }
+        ensures nested { IfOk result (λ taken.
+            IsNested (length self.old.path.items) (action_of taken.action)) }
         ensures path { self.new.path.items ≡ self.old.path.items }
         ensures font { self.new.font.now ≡ self.old.font.now }
         ensures most { self.new.most ≡ self.old.most }

@@ -1,6 +1,6 @@
 //! Laws of the definitions, as contracts of calls that do nothing.
 
-ghost use Rattle.t1_char.specs.Laws.Effects.{DivDivides, OthersubrsAreCalled};
+ghost use Rattle.t1_char.specs.Laws.Effects.{DivDivides, OthersubrsAreCalled, WholeNumbersAreRead};
 ghost use Rattle.t1_char.specs.Laws.Since.{AfterLastGoesOn, AnyGoesOn, LastGoesOn, SinceGoesOn, SinceIsByPlaces};
 ghost use Rattle.t1_char.specs.Laws.Steps.{NothingFollows, PlainGlyphsGoOn, StepsAreBounded};
 ghost use Rattle.t1_char.specs.Laws.Written.{EachNumberIsWritten, EncipheredIsRead, WrittenIsRead};
@@ -13,10 +13,11 @@ pub fn written_charstrings_are_read()
     ensures enciphered { EncipheredIsRead }
 {}
 
-/// What div and callothersubr do to a stack that is written out.
+/// What div and callothersubr do to a stack that is written out, and which numbers on it are whole.
 pub fn stacks_are_taken_from_the_top()
     ensures div { DivDivides }
     ensures othersubrs { OthersubrsAreCalled }
+    ensures whole { WholeNumbersAreRead }
 {}
 
 /// A glyph without calls goes token by token; nothing follows the step that finishes a glyph; and no

@@ -1,6 +1,6 @@
 //! The steps of a glyph: Type 1 Font Format 1.1, chapters 6 and 8.
 
-ghost use Rattle.std.specs.Prelude.{◌≡◌, nat_eq};
+ghost use Rattle.std.specs.Prelude.{◌≡◌};
 ghost use Rattle.t1_char.specs.Steps.{is_callsubr, is_end, is_last, is_return, named_at};
 ghost use Rattle.t1_char.specs.Workings.Actions.{named_of};
 ghost use Rattle.t1_char.specs.Workings.Cursors.{behind_token, tokens_left};

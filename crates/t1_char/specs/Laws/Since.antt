@@ -6,16 +6,20 @@ use Rattle.t1_char.specs.Since.{Test, any_so_far, since, after_last, last_of}
 -- One step more: such a step came, or is this one; an a came with no b after it, or this is an a, or one
 -- came and this is no b; what stands after the last such, and the last such itself.
 abbrev pub AnyGoesOn : Type 0
-AnyGoesOn = (e : Test) (steps : List StepView) (t : StepView) → any_so_far e (steps ++ t ∷ []) ≡ (any_so_far e steps || e steps t)
+AnyGoesOn = (e : Test) (steps : List StepView) (t : StepView) →
+    any_so_far e (steps ++ t ∷ []) ≡ (any_so_far e steps || e steps t)
 
 abbrev pub SinceGoesOn : Type 0
-SinceGoesOn = (a b : Test) (steps : List StepView) (t : StepView) → since a b (steps ++ t ∷ []) ≡ (a steps t || (since a b steps && not (b steps t)))
+SinceGoesOn = (a b : Test) (steps : List StepView) (t : StepView) →
+    since a b (steps ++ t ∷ []) ≡ (a steps t || (since a b steps && not (b steps t)))
 
 abbrev pub AfterLastGoesOn : Type 0
-AfterLastGoesOn = (a : StepView → Bool) (steps : List StepView) (t : StepView) → after_last a (steps ++ t ∷ []) ≡ (if a t then [] else after_last a steps ++ t ∷ [])
+AfterLastGoesOn = (a : StepView → Bool) (steps : List StepView) (t : StepView) →
+    after_last a (steps ++ t ∷ []) ≡ (if a t then [] else after_last a steps ++ t ∷ [])
 
 abbrev pub LastGoesOn : Type 0
-LastGoesOn = (a : StepView → Bool) (steps : List StepView) (t : StepView) → last_of a (steps ++ t ∷ []) ≡ (if a t then Some t else last_of a steps)
+LastGoesOn = (a : StepView → Bool) (steps : List StepView) (t : StepView) →
+    last_of a (steps ++ t ∷ []) ≡ (if a t then Some t else last_of a steps)
 
 -- At this place stands such a step.
 pub record IsAt (e : Test) (steps : List StepView) (place : ℕ) : Type 0 where
@@ -30,4 +34,5 @@ pub record IsSince (a b : Test) (steps : List StepView) : Type 0 where
   pub lasts : (later : ℕ) → place < later → IsAt b steps later → ⊥
 
 abbrev pub SinceIsByPlaces : Type 0
-SinceIsByPlaces = (a b : Test) (steps : List StepView) → (since a b steps ≡ true → IsSince a b steps) × (IsSince a b steps → since a b steps ≡ true)
+SinceIsByPlaces = (a b : Test) (steps : List StepView) →
+    (since a b steps ≡ true → IsSince a b steps) × (IsSince a b steps → since a b steps ≡ true)

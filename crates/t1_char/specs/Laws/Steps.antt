@@ -31,12 +31,15 @@ calls_nothing token = not (is_callsubr token)
 
 -- A glyph without callsubr is executed token by token, up to the one that finishes it.
 abbrev pub PlainGlyphsGoOn : Type 0
-PlainGlyphsGoOn = (font : FontValue) (glyph : ℕ) → AllPass calls_nothing (tokens_in font (code_at font glyph)) →
-    map token_and_path (steps_of font glyph) ≡ map (λ t. (t, [])) (up_to (λ t. finishes_at t []) (tokens_in font (code_at font glyph)))
+PlainGlyphsGoOn = (font : FontValue) (glyph : ℕ) →
+    AllPass calls_nothing (tokens_in font (code_at font glyph)) →
+    map token_and_path (steps_of font glyph)
+    ≡ map (λ t. (t, [])) (up_to (λ t. finishes_at t []) (tokens_in font (code_at font glyph)))
 
 -- Nothing follows a step that finishes the glyph.
 abbrev pub NothingFollows : Type 0
-NothingFollows = (font : FontValue) (glyph : ℕ) (front rest : List StepView) (step : StepView) → steps_of font glyph ≡ front ++ step ∷ rest →
+NothingFollows = (font : FontValue) (glyph : ℕ) (front rest : List StepView) (step : StepView) →
+    steps_of font glyph ≡ front ++ step ∷ rest →
     finishes_at step.token step.path ≡ true → rest ≡ []
 
 -- The bounds of a step.

@@ -14,8 +14,10 @@ use Rattle.t1_char.specs.Tokens.{signed_of, charstring_tokens}
 pub data IsWritten : CharToken → List ℕ → Type 0 where
   small : (n : ℕ) → n ≤ 214 → IsWritten (Number (pos n -ℤ pos 107)) ((n + 32) ∷ [])
   positive : (n : ℕ) → n < 1024 → IsWritten (Number (pos (n + 108))) ((n / 256 + 247) ∷ (n % 256) ∷ [])
-  negative : (n : ℕ) → n < 1024 → IsWritten (Number (neg_ℤ (pos (n + 108)))) ((n / 256 + 251) ∷ (n % 256) ∷ [])
-  long : (n : ℕ) → n < 2 ^ 32 → IsWritten (Number (signed_of n)) (255 ∷ (n / 2 ^ 24) ∷ (n / 2 ^ 16 % 256) ∷ (n / 2 ^ 8 % 256) ∷ (n % 256) ∷ [])
+  negative : (n : ℕ) → n < 1024 →
+      IsWritten (Number (neg_ℤ (pos (n + 108)))) ((n / 256 + 251) ∷ (n % 256) ∷ [])
+  long : (n : ℕ) → n < 2 ^ 32 →
+      IsWritten (Number (signed_of n)) (255 ∷ (n / 2 ^ 24) ∷ (n / 2 ^ 16 % 256) ∷ (n / 2 ^ 8 % 256) ∷ (n % 256) ∷ [])
   command : (c : Commands) → IsWritten (Command c) (row_of c).bytes
   unknown : (v : ℕ) → v < 32 → v ≢ 12 → command_of v ≡ None → IsWritten (Unknown v) (v ∷ [])
   unknown_escape : (w : ℕ) → escaped_of w ≡ None → IsWritten (Unknown12 w) (12 ∷ w ∷ [])
@@ -23,16 +25,19 @@ pub data IsWritten : CharToken → List ℕ → Type 0 where
 -- The bytes write the tokens, one behind another.
 pub data AreWritten : List CharToken → List ℕ → Type 0 where
   nothing_left : AreWritten [] []
-  then : (t : CharToken) (front : List ℕ) (ts : List CharToken) (rest : List ℕ) → IsWritten t front → AreWritten ts rest → AreWritten (t ∷ ts) (front ++ rest)
+  then : (t : CharToken) (front : List ℕ) (ts : List CharToken) (rest : List ℕ) →
+      IsWritten t front → AreWritten ts rest → AreWritten (t ∷ ts) (front ++ rest)
 
 -- Each number of 32 bits can be written.
 abbrev pub EachNumberIsWritten : Type 0
-EachNumberIsWritten = (z : ℤ) → negsuc 2147483647 ≤ℤ z → z ≤ℤ pos 2147483647 → (bytes : List ℕ) × IsWritten (Number z) bytes
+EachNumberIsWritten = (z : ℤ) → negsuc 2147483647 ≤ℤ z → z ≤ℤ pos 2147483647 →
+    (bytes : List ℕ) × IsWritten (Number z) bytes
 
 -- A charstring that isn't encrypted is read as it is written; so is one that was enciphered behind
 -- random bytes, as many as lenIV says.
 abbrev pub WrittenIsRead : Type 0
-WrittenIsRead = (n : ℕ) (ts : List CharToken) (bytes : List ℕ) → AreWritten ts bytes → charstring_tokens (negsuc n) bytes ≡ ts ++ End ∷ []
+WrittenIsRead = (n : ℕ) (ts : List CharToken) (bytes : List ℕ) → AreWritten ts bytes →
+    charstring_tokens (negsuc n) bytes ≡ ts ++ End ∷ []
 
 abbrev pub EncipheredIsRead : Type 0
 EncipheredIsRead = (random : List ℕ) (ts : List CharToken) (bytes : List ℕ) → AreWritten ts bytes →

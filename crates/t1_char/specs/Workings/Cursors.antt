@@ -31,7 +31,8 @@ abbrev pub bytes_left : Cursor → List ℕ
 bytes_left cursor = deciphered (key_of cursor.cipher) cursor.left.now
 
 abbrev pub tokens_left : Cursor → List CharToken
-tokens_left cursor = if cursor.short then Short ∷ tokens_of (bytes_left cursor) else tokens_of (bytes_left cursor)
+tokens_left cursor =
+    if cursor.short then Short ∷ tokens_of (bytes_left cursor) else tokens_of (bytes_left cursor)
 
 -- What stands behind a token: nothing behind End.
 abbrev pub behind_token : CharToken → List CharToken → List CharToken

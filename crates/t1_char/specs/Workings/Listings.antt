@@ -19,7 +19,8 @@ state_in listing = state_of listing.stack listing.waiting.items
 
 abbrev pub run_from : Listing → Cursor → Run
 run_from listing cursor =
-    expansion listing.font.now (most_calls - length listing.path.items) listing.path.items (tokens_left cursor) (state_in listing)
+    expansion listing.font.now (most_calls - length listing.path.items) listing.path.items
+    (tokens_left cursor) (state_in listing)
 
 -- The step and the effect of a token, which the listing stands before.
 abbrev pub step_taken : Listing → CharToken → Cursor → StepView
