@@ -8,7 +8,7 @@ use Rattle.t1_seal.specs.declared.errors.SealError.{SealError}
 use Rattle.t1_seal.specs.declared.errors.SealError.TheVariants as seal
 use Rattle.t1_font.specs.ClearText.{clear_of}
 use Rattle.t1_font.specs.Fonts.{Stated, Marks, FontValue, value_of}
-use Rattle.t1_font.specs.Refusals as font_says
+use Rattle.t1_font.specs.Readings as font_says
 use Rattle.t1_font.specs.Texts.{ClearValue, clear_value_of, clear_read, font_read}
 use Rattle.t1_font.specs.Turns.{TextRead}
 use Rattle.t1_font.specs.declared.refusal.Refusal.{Refusal}

@@ -1,9 +1,8 @@
 -- What the CharStrings say (Type 1 Font Format, chapter 2).
-use Rattle.std.specs.Prelude.{ℕ, ◌&&◌, Bool, nat_lt, List, codes, length, slice_get}
+use Rattle.std.specs.Prelude.{ℕ, ◌&&◌, Bool, nat_lt, List, codes, length}
 use Rattle.std.specs.List.{list_any}
-use Rattle.t1_font.specs.Fonts.{FontValue}
+use Rattle.t1_font.specs.Fonts.{FontValue, is_glyph_twice as is_given_twice}
 use Rattle.t1_font.specs.Keys.{same_name}
-use Rattle.t1_font.specs.Views.{flag_of}
 
 -- The glyph that stands for all that are missing.
 abbrev pub not_defined : List ℕ
@@ -16,4 +15,4 @@ has_glyph font name = list_any (λ glyph. same_name name glyph.0) font.glyphs
 -- The glyph of a number is given twice; indexes are below 65,536.
 abbrev pub is_glyph_twice : FontValue → ℕ → Bool
 is_glyph_twice font glyph =
-    nat_lt glyph 65536 && nat_lt glyph (length font.glyphs) && flag_of (slice_get font.glyphs_twice glyph)
+    nat_lt glyph 65536 && nat_lt glyph (length font.glyphs) && is_given_twice font glyph

@@ -6,4 +6,4 @@ use Rattle.t1_report.proofs.lines.glyph_name.Goals as goal
 pub returns-in-Some : goal.returns-in-Some
 returns-in-Some c =
     name_at c.glyphs.result.now.entries c.args.glyph c.in-Some.name.now _ c.in-Some.ensures.entry
-    ∙ ap (λ gs. name_in (slice_get gs c.args.glyph)) c.glyphs.ensures
+    ∙ ap (λ gs. name_in (slice_get gs c.args.glyph)) c.glyphs.ensures.entries

@@ -6,7 +6,7 @@ use Rattle.t1_report.proofs.tests.is_written.Goals as goal
 pub write_fault-requires : goal.write_fault-requires
 write_fault-requires g c =
     let same = length-map c.glyphs.result.now.entries name_pair in
-    let glyphs = ap length c.glyphs.ensures in
+    let glyphs = ap length c.glyphs.ensures.entries in
     record {
       unit = omega (arith, same, glyphs, c.len.ensures.len, c.if-fault-len.false);
       key = λ unit. omega (arith, c.if-fault-gt21.false);

@@ -23,7 +23,7 @@ returns-in_err-font g c =
     (private_fails _ (joined_text c.in_ok-joined.joined) c.in_ok-clear.clear
     (record { joined_is = c.in_ok-joined.ensures; clear_is = c.in_ok-clear.ensures.gives; behind = c.in_ok-clear.ensures.behind })
     c.in_ok-private.private.items _ (rw (c.split_at.ensures.back, c.as_slice.ensures.value, c.after.ensures) at c.in_ok-private.ensures)
-    (rw c.as_slice-2.ensures.value at c.in_err-font.ensures))
+    (rw c.as_slice-2.ensures.value at c.in_err-font.ensures.stated))
 
 pub returns-in_err-show : goal.returns-in_err-show
 returns-in_err-show g c =
@@ -35,6 +35,6 @@ returns g c = (
   font_found _ (joined_text c.in_ok-joined.joined) c.in_ok-clear.clear
       (record { joined_is = c.in_ok-joined.ensures; clear_is = c.in_ok-clear.ensures.gives; behind = c.in_ok-clear.ensures.behind })
       c.in_ok-private.private.items c.in_ok-font.font (rw (c.split_at.ensures.back, c.as_slice.ensures.value, c.after.ensures) at c.in_ok-private.ensures)
-      (rw c.as_slice-2.ensures.value at c.in_ok-font.ensures),
+      (rw c.as_slice-2.ensures.value at c.in_ok-font.ensures.stated),
   c.in_ok-show.ensures,
 )

@@ -7,4 +7,4 @@ use Rattle.t1check.proofs.tracing.glyph_named.Goals as goal
 pub returns-clause-place : goal.returns-clause-place
 returns-clause-place c =
     c.get_index_of.ensures.index ∙ name_position c.glyphs.result.now.entries c.args.name
-    ∙ ap (λ (glyphs : List (List ℕ × List ℕ)). position (same_name c.args.name.now) (map (λ glyph. glyph.0) glyphs)) c.glyphs.ensures
+    ∙ ap (λ (glyphs : List (List ℕ × List ℕ)). position (same_name c.args.name.now) (map (λ glyph. glyph.0) glyphs)) c.glyphs.ensures.entries
