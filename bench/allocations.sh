@@ -2,8 +2,9 @@
 # Refuses allocations, the first in a first run, the second in a second, and so on, until a run has none
 # left to refuse: ./bench/allocations.sh
 # First in t1_seal's tests, each a process of its own, and then in a program that reads a font's file by
-# the calls of t1_seal and t1_font. What was refused an allocation has to end with that error; one that
-# ends otherwise, as with another answer in place of it, fails the script.
+# the calls of t1_seal and t1_font; last in the program, on a word that no option takes. What was refused
+# an allocation has to end with that error; one that ends otherwise, as with another answer in place of
+# it, fails the script.
 set -eu
 top=$(cd "$(dirname "$0")/.." && pwd)
 work=$(mktemp -d)
@@ -58,5 +59,24 @@ refuse_in_reading() {
     echo "t1_font, allocation $count: the reading asks for none more"
 }
 
+# The program on an unknown option: it tells the whole text of the usage fault, or want of memory.
+refuse_in_options() {
+    cd "$top/crates/t1check"
+    count=1
+    while :; do
+        rt try --fail-alloc "$count" -- --bogus >"$log" 2>&1 || true
+        grep -q '^run=ended status=3 ' "$log" || fail "$count" "the status isn't 3"
+        if grep -q "^error: unexpected argument '--bogus' found$" "$log"; then
+            grep -q "^For more information, try '--help'.$" "$log" || fail "$count" "the text is cut"
+            break
+        fi
+        grep -q '^t1check: out of memory$' "$log" || fail "$count" "nothing tells the refusal"
+        echo "t1check, allocation $count refused: told"
+        count=$((count + 1))
+    done
+    echo "t1check, allocation $count: the words ask for none more"
+}
+
 refuse_in_tests
 refuse_in_reading
+refuse_in_options
