@@ -11,6 +11,8 @@ pub mod LookingBack
 pub mod Numbering
 pub mod Othersubrs
 pub mod PlainGlyphs
+pub mod ReadBack
 pub mod SincePlaces
 pub mod Skipping
 pub mod Spelling
+pub mod TextsReadBack

@@ -14,15 +14,15 @@ reads_by : (v : ℕ) (s : List ℕ) (f : Form) → form_of v ≡ f → tokens_of
 unfolding tokens_behind
 reads_by v s f is = ap (λ g. completed g s ∷ tokens_behind (more_in g) s) is
 
-form_small : (v : ℕ) → 32 ≤ v → v < 247 → form_of v ≡ whole (Number (pos v -ℤ pos 139))
+pub form_small : (v : ℕ) → 32 ≤ v → v < 247 → form_of v ≡ whole (Number (pos v -ℤ pos 139))
 form_small v low high = rw (le-ltb v 32 low, lt-ltb v 247 high) refl
 
-form_positive : (v : ℕ) → 247 ≤ v → v < 251 → form_of v ≡ two (λ w. Number (pos ((v - 247) * 256 + w + 108)))
+pub form_positive : (v : ℕ) → 247 ≤ v → v < 251 → form_of v ≡ two (λ w. Number (pos ((v - 247) * 256 + w + 108)))
 form_positive v low high =
     let a : 32 ≤ v = omega arith in
     rw (le-ltb v 32 a, le-ltb v 247 low, lt-ltb v 251 high) refl
 
-form_negative : (v : ℕ) → 251 ≤ v → v < 255 → form_of v ≡ two (λ w. Number (neg_ℤ (pos ((v - 251) * 256 + w + 108))))
+pub form_negative : (v : ℕ) → 251 ≤ v → v < 255 → form_of v ≡ two (λ w. Number (neg_ℤ (pos ((v - 251) * 256 + w + 108))))
 form_negative v low high =
     let a : 32 ≤ v = omega arith in
     let b : 247 ≤ v = omega arith in
@@ -85,7 +85,7 @@ read_command Callothersubr rest = refl
 read_command Pop rest = refl
 read_command Setcurrentpoint rest = refl
 
-form_unknown : (v : ℕ) → v < 32 → v ≢ 12 → command_of v ≡ None → form_of v ≡ whole (Unknown v)
+pub form_unknown : (v : ℕ) → v < 32 → v ≢ 12 → command_of v ≡ None → form_of v ≡ whole (Unknown v)
 form_unknown v low not_escape is =
     let other : eqb v 12 ≡ false = grind arith in
     rw (lt-ltb v 32 low, other) (ap (λ c. whole (plain_code v c)) is)

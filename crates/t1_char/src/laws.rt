@@ -3,14 +3,16 @@
 ghost use Rattle.t1_char.specs.Laws.Effects.{DivDivides, OthersubrsAreCalled, WholeNumbersAreRead};
 ghost use Rattle.t1_char.specs.Laws.Since.{AfterLastGoesOn, AnyGoesOn, LastGoesOn, SinceGoesOn, SinceIsByPlaces};
 ghost use Rattle.t1_char.specs.Laws.Steps.{NothingFollows, PlainGlyphsGoOn, StepsAreBounded};
-ghost use Rattle.t1_char.specs.Laws.Written.{EachNumberIsWritten, EncipheredIsRead, WrittenIsRead};
+ghost use Rattle.t1_char.specs.Laws.Written.{EachNumberIsWritten, EncipheredIsRead, ReadIsWritten, WrittenIsRead};
 
 /// Numbers are written in three forms, and each number of 32 bits in one of them; what is written from
-/// numbers, commands and bytes that are no command is read as just these, plain or enciphered.
+/// numbers, commands and bytes that are no command is read as just these, plain or enciphered; and what
+/// is read without a break is so written.
 pub fn written_charstrings_are_read()
     ensures numbers { EachNumberIsWritten }
     ensures plain { WrittenIsRead }
     ensures enciphered { EncipheredIsRead }
+    ensures back { ReadIsWritten }
 {}
 
 /// What div and callothersubr do to a stack that is written out, and which numbers on it are whole.

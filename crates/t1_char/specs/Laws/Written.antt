@@ -1,11 +1,12 @@
 -- How charstrings are written, by Type 1 Font Format 1.1, chapter 6 (Charstring Number Encoding,
 -- Charstring Command Encoding) and chapter 7 (Charstring Encryption); and that they are read as written.
 use Rattle.std.specs.Prelude.{◌≡◌, ◌≢◌, ℕ, ℤ, pos, negsuc, neg_ℤ, ◌+◌, ◌/◌, ◌%◌, ◌^◌, ◌<◌, ◌≤◌, ◌-ℤ◌, ◌≤ℤ◌, ◌++◌, None, List, [], ◌∷◌, length}
+use Rattle.std.specs.List.{All}
 use Rattle.t1_seal.specs.Cipher.{charstring_start}
 use Rattle.t1_seal.specs.CipherLaws.{encrypted}
 use Rattle.t1_char.specs.declared.command.Command.{Command as Commands}
 use Rattle.t1_char.specs.declared.token.CharToken.{CharToken}
-use Rattle.t1_char.specs.declared.token.CharToken.TheVariants.{Number, Command, Unknown, Unknown12, End}
+use Rattle.t1_char.specs.declared.token.CharToken.TheVariants.{Number, Command, Unknown, Unknown12, Cut, End}
 use Rattle.t1_char.specs.Commands.{row_of, command_of, escaped_of}
 use Rattle.t1_char.specs.Tokens.{signed_of, charstring_tokens}
 
@@ -42,3 +43,16 @@ WrittenIsRead = (n : ℕ) (ts : List CharToken) (bytes : List ℕ) → AreWritte
 abbrev pub EncipheredIsRead : Type 0
 EncipheredIsRead = (random : List ℕ) (ts : List CharToken) (bytes : List ℕ) → AreWritten ts bytes →
     charstring_tokens (pos (length random)) (encrypted charstring_start (random ++ bytes)) ≡ ts ++ End ∷ []
+
+-- Bytes.
+abbrev pub AreBytes : List ℕ → Type 0
+AreBytes bytes = All (λ b. b < 256) bytes
+
+-- No token is cut.
+abbrev pub AreWhole : List CharToken → Type 0
+AreWhole ts = All (λ t. t ≢ Cut) ts
+
+-- What is read, and doesn't break off, is so written.
+abbrev pub ReadIsWritten : Type 0
+ReadIsWritten = (n : ℕ) (ts : List CharToken) (bytes : List ℕ) → AreBytes bytes → AreWhole ts →
+    charstring_tokens (negsuc n) bytes ≡ ts ++ End ∷ [] → AreWritten ts bytes
