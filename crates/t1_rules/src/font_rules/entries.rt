@@ -16,7 +16,7 @@ use t1_font::{Font, Key};
 pub(crate) fn font_type_faults(font: &Font<'_>, index: u32) -> Mask
     ensures { (n : ℕ) → has result n ≡ violated font_rules n font.now (key_number keys.FontType) index }
 {
-    let is_one = is_the_number(1, &font.entry(Key::FontType));
+    let is_one = is_the_number(1, font.value(Key::FontType));
     Mask::empty().with(Rule::F03, (index == 0) & !is_one)
 }
 
@@ -25,8 +25,8 @@ pub(crate) fn font_type_faults(font: &Font<'_>, index: u32) -> Mask
 pub(crate) fn paint_type_faults(font: &Font<'_>, index: u32) -> Mask
     ensures { (n : ℕ) → has result n ≡ violated font_rules n font.now (key_number keys.PaintType) index }
 {
-    let paint_type = font.entry(Key::PaintType);
-    let is_fill_or_stroke = is_the_number(0, &paint_type) | is_the_number(2, &paint_type);
+    let paint_type = font.value(Key::PaintType);
+    let is_fill_or_stroke = is_the_number(0, paint_type) | is_the_number(2, paint_type);
     Mask::empty().with(Rule::F04, (index == 0) & !is_fill_or_stroke)
 }
 
@@ -35,7 +35,7 @@ pub(crate) fn paint_type_faults(font: &Font<'_>, index: u32) -> Mask
 pub(crate) fn password_faults(font: &Font<'_>, index: u32) -> Mask
     ensures { (n : ℕ) → has result n ≡ violated font_rules n font.now (key_number keys.Password) index }
 {
-    let is_usual = is_the_number(5839, &font.entry(Key::Password));
+    let is_usual = is_the_number(5839, font.value(Key::Password));
     Mask::empty().with(Rule::F07, (index == 0) & !is_usual)
 }
 
@@ -44,6 +44,6 @@ pub(crate) fn password_faults(font: &Font<'_>, index: u32) -> Mask
 pub(crate) fn min_feature_faults(font: &Font<'_>, index: u32) -> Mask
     ensures { (n : ℕ) → has result n ≡ violated font_rules n font.now (key_number keys.MinFeature) index }
 {
-    let is_usual = is_sixteen_twice(&font.entry(Key::MinFeature));
+    let is_usual = is_sixteen_twice(font.value(Key::MinFeature));
     Mask::empty().with(Rule::F08, (index == 0) & !is_usual)
 }

@@ -59,6 +59,6 @@ pub(crate) fn falls_at(numbers: &[i64], index: usize) -> bool
 pub(crate) fn number_faults(font: &Font<'_>, key: Key, index: u32) -> Mask
     ensures { (n : ℕ) → has result n ≡ broken_among (number_tests font.now key index) n }
 {
-    let value = font.entry(key);
-    Mask::empty().with(Rule::Z01, is_of_another_kind(key, &value, index))
+    let value = font.value(key);
+    Mask::empty().with(Rule::Z01, is_of_another_kind(key, value, index))
 }

@@ -49,7 +49,7 @@ fn differ(one: &Entry, other: &Entry) -> bool
 pub(crate) fn unique_id_faults(font: &Font<'_>, index: u32) -> Mask
     ensures { (n : ℕ) → has result n ≡ violated font_rules n font.now (key_number keys.UniqueId) index }
 {
-    let is_past_range = is_past_range(&font.entry(Key::UniqueId));
+    let is_past_range = is_past_range(font.value(Key::UniqueId));
     Mask::empty().with(Rule::F05, (index == 0) & is_past_range)
 }
 
@@ -58,9 +58,9 @@ pub(crate) fn unique_id_faults(font: &Font<'_>, index: u32) -> Mask
 pub(crate) fn private_unique_id_faults(font: &Font<'_>, index: u32) -> Mask
     ensures { (n : ℕ) → has result n ≡ violated font_rules n font.now (key_number keys.PrivateUniqueId) index }
 {
-    let id = font.entry(Key::PrivateUniqueId);
-    let other = font.entry(Key::UniqueId);
+    let id = font.value(Key::PrivateUniqueId);
+    let other = font.value(Key::UniqueId);
     Mask::empty()
-        .with(Rule::F06, (index == 0) & differ(&other, &id))
-        .with(Rule::F05, (index == 0) & is_past_range(&id))
+        .with(Rule::F06, (index == 0) & differ(other, id))
+        .with(Rule::F05, (index == 0) & is_past_range(id))
 }

@@ -36,23 +36,23 @@ fn is_not_among(widths: &[i64], snaps: &[i64]) -> bool
 pub(crate) fn width_faults(font: &Font<'_>, key: Key, index: u32) -> Mask
     ensures { (n : ℕ) → has result n ≡ broken_among (width_tests font.now key index) n }
 {
-    let value = font.entry(key);
+    let value = font.value(key);
     Mask::empty()
-        .with(Rule::Z08, (index == 0) & is_not_one_width(&value))
-        .with(Rule::Z01, is_of_another_kind(key, &value, index))
+        .with(Rule::Z08, (index == 0) & is_not_one_width(value))
+        .with(Rule::Z01, is_of_another_kind(key, value, index))
 }
 
 /// What a list of stem snaps, beside a standard width, breaks at an index.
 pub(crate) fn snap_faults(font: &Font<'_>, key: Key, width: Key, index: u32) -> Mask
     ensures { (n : ℕ) → has result n ≡ broken_among (snap_tests font.now key width index) n }
 {
-    let value = font.entry(key);
-    let snaps = first_in(limit(key), &value);
-    let width = font.entry(width);
-    let widths = first_in(1, &width);
+    let value = font.value(key);
+    let snaps = first_in(limit(key), value);
+    let width = font.value(width);
+    let widths = first_in(1, width);
     Mask::empty()
         .with(Rule::Z11, (index == 0) & is_not_among(widths, snaps))
         .with(Rule::Z10, falls_at(snaps, index as usize))
-        .with(Rule::Z09, has_too_many(key, &value, index))
-        .with(Rule::Z01, is_of_another_kind(key, &value, index))
+        .with(Rule::Z09, has_too_many(key, value, index))
+        .with(Rule::Z01, is_of_another_kind(key, value, index))
 }

@@ -33,14 +33,14 @@ pub(crate) struct Edges {
 fn distance(font: &Font<'_>) -> i128
     ensures { result ≡ distance font.now }
 {
-    2 * i128::from(number_or(ONE, &font.entry(Key::BlueFuzz))) + i128::from(ONE)
+    2 * i128::from(number_or(ONE, font.value(Key::BlueFuzz))) + i128::from(ONE)
 }
 
 /// BlueScale.
 fn scale(font: &Font<'_>) -> i64
     ensures { result ≡ scale font.now }
 {
-    number_or(USUAL_SCALE, &font.entry(Key::BlueScale))
+    number_or(USUAL_SCALE, font.value(Key::BlueScale))
 }
 
 /// How far a number is above another.
@@ -132,17 +132,17 @@ fn has_odd_count(value: &Entry, index: u32) -> bool
 fn zone_faults(font: &Font<'_>, key: Key, meeting: bool, index: u32) -> Mask
     ensures { (n : ℕ) → has result n ≡ broken_among (zone_tests font.now key meeting index) n }
 {
-    let value = font.entry(key);
-    let numbers = first_in(limit(key), &value);
+    let value = font.value(key);
+    let numbers = first_in(limit(key), value);
     let place = index as usize;
     Mask::empty()
         .with(Rule::Z07, is_too_high(font, numbers, place))
         .with(Rule::Z06, meeting)
         .with(Rule::Z05, is_too_near(font, numbers, place))
         .with(Rule::Z04, falls_at(numbers, place))
-        .with(Rule::Z03, has_odd_count(&value, index))
-        .with(Rule::Z02, has_too_many(key, &value, index))
-        .with(Rule::Z01, is_of_another_kind(key, &value, index))
+        .with(Rule::Z03, has_odd_count(value, index))
+        .with(Rule::Z02, has_too_many(key, value, index))
+        .with(Rule::Z01, is_of_another_kind(key, value, index))
 }
 
 /// What a list of high zones breaks at an index.
@@ -156,12 +156,12 @@ pub(crate) fn high_zone_faults(font: &Font<'_>, key: Key, index: u32) -> Mask
 pub(crate) fn low_zone_faults(font: &Font<'_>, low: Key, high: Key, index: u32) -> Mask
     ensures { (n : ℕ) → has result n ≡ broken_among (low_zone_tests font.now low high index) n }
 {
-    let low_value = font.entry(low);
-    let high_value = font.entry(high);
+    let low_value = font.value(low);
+    let high_value = font.value(high);
     let meeting = meets(
         font,
-        first_in(limit(low), &low_value),
-        first_in(limit(high), &high_value),
+        first_in(limit(low), low_value),
+        first_in(limit(high), high_value),
         index as usize,
     );
     zone_faults(font, low, meeting, index)
