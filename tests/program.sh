@@ -1,0 +1,117 @@
+#!/bin/sh
+# Runs the built program on the cases of tests/program, and compares each run's status, standard output
+# and standard error with what the case wants. Names the cases that fail; the last line counts both.
+#
+# A case is a file of lines `KEY: VALUE`, and runs in tests/program/fonts:
+#   word: WORD      one more word of the command line; \0NNN in it is a byte, in octal
+#   input: NAME     standard input: a file, or `closed`; without this line nothing stands on it
+#   output: WHERE   standard output: `full` (a device that takes no byte) or `closed`; else it is compared
+#   errors: WHERE   the same of standard error
+#   memory: N       the run gets N kilobytes of address space
+#   status: N       the wanted status
+#   out: LINE       one more wanted line of standard output
+#   has: LINE       a line that standard output has to have; it may have others
+#   err: LINE       one more wanted line of standard error
+set -u
+LC_ALL=C
+export LC_ALL
+
+top=$(CDPATH='' cd -- "$(dirname "$0")/.." && pwd -P) || exit 1
+program=$top/crates/t1check/out/t1check
+cases=$top/tests/program
+exec </dev/null
+
+# The lines of a case with this key, without the key.
+lines() {
+    sed -n "s/^$1: \{0,1\}//p" "$2"
+}
+
+# Runs the program as the case says, and answers its status.
+run_program() {
+    input=$(lines input "$1") output=$(lines output "$1") errors=$(lines errors "$1") memory=$(lines memory "$1")
+    rm -f "$scratch/out" "$scratch/err"
+    : >"$scratch/out"
+    : >"$scratch/err"
+    lines word "$1" >"$scratch/words"
+    shift
+    while IFS= read -r word; do
+        set -- "$@" "$(printf '%b' "$word")"
+    done <"$scratch/words"
+    (
+        cd "$cases/fonts" || exit 99
+        case $input in
+            closed) exec <&- ;;
+            ?*) exec <"$input" ;;
+        esac
+        case $output in
+            closed) exec >&- ;;
+            full) [ -c /dev/full ] && exec >/dev/full || exit 99 ;;
+            *) exec >"$scratch/out" ;;
+        esac
+        # What the shell itself has to tell of a limit goes to where errors went before.
+        [ -z "$memory" ] || ulimit -v "$memory" || exit 99
+        case $errors in
+            closed) exec 2>&- ;;
+            full) [ -c /dev/full ] && exec 2>/dev/full || exit 99 ;;
+            *) exec 2>"$scratch/err" ;;
+        esac
+        exec "$program" "$@"
+    )
+}
+
+# Whether a text is the wanted one; where it isn't, how both differ.
+is_wanted() {
+    lines "$1" "$3" >"$scratch/wanted"
+    cmp -s "$scratch/wanted" "$2" && return 0
+    echo "failed: $(basename "$3" .case): '$1' differs (< wanted, > given)"
+    diff "$scratch/wanted" "$2"
+    return 1
+}
+
+# Whether each line that the output has to have stands in it.
+has_lines() {
+    lines has "$1" >"$scratch/lines"
+    while IFS= read -r line; do
+        grep -Fqx -e "$line" "$scratch/out" && continue
+        echo "failed: $(basename "$1" .case): the output has no line '$line'"
+        return 1
+    done <"$scratch/lines"
+}
+
+passes() {
+    run_program "$1"
+    status=$?
+    wanted=$(lines status "$1")
+    if [ "$status" != "$wanted" ]; then
+        echo "failed: $(basename "$1" .case): status $status, wanted $wanted"
+        cat "$scratch/err"
+        return 1
+    fi
+    if grep -q '^has:' "$1"; then
+        has_lines "$1" || return 1
+    else
+        is_wanted out "$scratch/out" "$1" || return 1
+    fi
+    is_wanted err "$scratch/err" "$1"
+}
+
+if ! "$top/bin/t1check" --help >/dev/null; then
+    echo "failed: bin/t1check --help, which builds the program"
+    echo "0 passed, 1 failed"
+    exit 1
+fi
+scratch=$(mktemp -d) || exit 1
+trap 'rm -rf "$scratch"' EXIT
+trap 'exit 1' HUP INT TERM
+
+passed=0
+failed=0
+for case in "$cases"/*.case; do
+    if passes "$case"; then
+        passed=$((passed + 1))
+    else
+        failed=$((failed + 1))
+    fi
+done
+echo "$passed passed, $failed failed"
+[ "$passed" -gt 0 ] && [ "$failed" -eq 0 ]
