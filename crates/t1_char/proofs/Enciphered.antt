@@ -2,7 +2,7 @@
 use Rattle.std.proofs.Common.{◌≡◌, ℕ, ◌≤◌, cond, ◌++◌, List, [], ◌∷◌, length, drop, length-append, ap, sym, ◌∙◌, lit<, le-ltb, arith}
 use Rattle.std.proofs.Math.Seq.{drop-append_seam}
 use Rattle.t1_seal.specs.Cipher.{charstring_start, decrypted}
-use Rattle.t1_seal.specs.CipherLaws.{encrypted}
+use Rattle.t1_seal.specs.Laws.Cipher.{encrypted}
 use Rattle.t1_seal.proofs.Deciphering.{deciphers_the_enciphered, length-decrypted}
 use Rattle.t1_char.specs.declared.token.CharToken.TheVariants.{Short, End}
 use Rattle.t1_char.specs.Tokens.{charstring_tokens, tokens_of}

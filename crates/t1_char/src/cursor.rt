@@ -1,7 +1,7 @@
 //! A place in a charstring, at which it is deciphered as it is read.
 
 ghost use Rattle.std.specs.Prelude.{◌≡◌, false, ◌/◌, bit_xor, MatchOption, [], ◌∷◌, drop};
-ghost use Rattle.t1_seal.specs.CipherLaws.{next_state};
+ghost use Rattle.t1_seal.specs.Laws.Cipher.{next_state};
 ghost use Rattle.t1_char.specs.Tokens.{charstring_tokens, long_number, more_of, random_of, token_at};
 ghost use Rattle.t1_seal.specs.Cipher.{charstring_start, decrypted};
 ghost use Rattle.t1_char.specs.Steps.{is_end};

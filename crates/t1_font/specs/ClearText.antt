@@ -3,6 +3,7 @@
 use Rattle.std.specs.Prelude.{ℕ, Bool, false, Option, Some, None, Result, Ok, Err, List, [], ◌∷◌, ◌*◌, ◌==◌, ◌&&◌, if◌then◌else◌, codes, not, pos}
 use Rattle.t1_scan.specs.declared.token.Kind.{Kind}
 use Rattle.t1_scan.specs.declared.token.Kind.TheVariants.{Number}
+use Rattle.t1_seal.specs.Segments.{begins_pfa}
 use Rattle.t1_font.specs.declared.encoding.Encoding.{Encoding}
 use Rattle.t1_font.specs.declared.encoding.Encoding.TheVariants.{Standard, Custom, Other}
 use Rattle.t1_font.specs.declared.mode.ClearMode.{ClearMode}
@@ -90,10 +91,9 @@ clear_turn v mode s = wanted NoEexec s >>= λ t. elim mode [
   | Codes ↦ Ok (code_token t.kind t.text t.rest)
 ]
 
--- The bytes begin with %!.
+-- The bytes begin with %!, as those of a PFA file do.
 abbrev pub begins_as_font : List ℕ → Bool
-begins_as_font (a ∷ b ∷ s) = a == 37 && b == 33
-begins_as_font _ = false
+begins_as_font = begins_pfa
 
 -- What is stated in the clear text, and what follows the word eexec.
 unfoldable pub clear_of : Marks → List ℕ → Result TextRead Refusal

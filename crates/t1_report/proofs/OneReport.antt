@@ -3,7 +3,8 @@ use Rattle.std.proofs.Common.{◌≡◌, ℕ, ◌+◌, ◌<◌, zero, suc, List,
 use Rattle.std.specs.List.{Any, slice_index_or}
 use Rattle.t1_rules.specs.Book.{number_of}
 use Rattle.t1_report.specs.Faults.{FaultValue}
-use Rattle.t1_report.specs.Reports.{Place, Comes, IsBefore, place_of, StandsAt, IsRising, AreNumbered, HasNoOtherReport, IsReportOf, IsViolated, path_at}
+use Rattle.t1_report.specs.Reports.{Place, Comes, IsBefore, place_of, StandsAt, IsRising, AreNumbered, IsReportOf, IsViolated, path_at}
+use Rattle.t1_report.specs.Laws.Reports.{HasNoOtherReport}
 
 never_itself : (u s r : ℕ) → Comes u s r u s r → ⊥
 never_itself u s r (inl unit) = omega arith

@@ -1,4 +1,5 @@
 pub mod Faults
+pub mod Laws
 pub mod Lines
 pub mod Reports
 pub mod Traces

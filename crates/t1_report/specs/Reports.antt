@@ -1,6 +1,6 @@
 -- The report of a font: its violations by place, each once, numbered from 1.
 use Rattle.std.specs.Prelude.{◌≡◌, ℕ, ◌+◌, ◌/◌, ◌%◌, ◌<◌, ◌⊎◌, true, List, [], length}
-use Rattle.std.specs.List.{All, Any, slice_index_or}
+use Rattle.std.specs.List.{All, AllPairs, Any, slice_index_or}
 use Rattle.t1_font.specs.Fonts.{FontValue}
 use Rattle.t1_rules.specs.declared.rule.Rule.{Rule}
 use Rattle.t1_rules.specs.FontRules.{font_rules, violated}
@@ -41,8 +41,7 @@ StandsAt p fault = place_of fault ≡ p
 
 -- The faults rise strictly by their places.
 abbrev pub IsRising : List FaultValue → Type 0
-IsRising faults = (i j : ℕ) (d : FaultValue) → i < j → j < length faults →
-    IsBefore (place_of (slice_index_or faults i d)) (place_of (slice_index_or faults j d))
+IsRising faults = AllPairs (λ earlier later. IsBefore (place_of earlier) (place_of later)) faults
 
 -- The faults are numbered from n.
 abbrev pub AreNumbered : ℕ → List FaultValue → Type 0
@@ -81,7 +80,3 @@ IsReport font faults = IsReportOf (IsViolated font) (path_at font) faults
 -- The front of a font's report.
 abbrev pub IsFront : FontValue → ℕ → ℕ → ℕ → List FaultValue → Type 0
 IsFront font unit step rule faults = IsFrontOf (IsViolated font) (path_at font) unit step rule faults
-
--- A font has no two reports.
-abbrev pub HasNoOtherReport : Type 0
-HasNoOtherReport = (font : FontValue) (a b : List FaultValue) → IsReport font a → IsReport font b → a ≡ b

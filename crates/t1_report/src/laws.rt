@@ -1,6 +1,6 @@
 //! Laws above the definitions: each is the contract of a function without a body.
 
-ghost use Rattle.t1_report.specs.Reports.{HasNoOtherReport};
+ghost use Rattle.t1_report.specs.Laws.Reports.{HasNoOtherReport};
 
 /// A font has no two reports: what rises strictly, has exactly the violations as its members and is
 /// numbered from 1 is one list.

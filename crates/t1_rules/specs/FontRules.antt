@@ -76,13 +76,13 @@ font_rules =
     ∷ row F08 (value MinFeature (λ v. not (is_sixteen_twice v)))
     -- No glyph is called .notdef. Type 1 Font Format, chapter 2.
     ∷ row F09 (once glyphs_key (λ font. not (has_glyph font not_defined)))
-    -- A glyph is given twice; the index is its number.
+    -- A glyph is given twice; the index is its number. Own.
     ∷ row F10 (each glyphs_key is_glyph_twice)
     -- The Encoding isn't there, or of another form. Type 1 Font Format, chapter 2.
     ∷ row F11 (once encoding_key (λ font. is_no_form font.encoding))
     -- A code of the Encoding isn't whole from 0 to 255. Type 1 Font Format, chapter 2.
     ∷ row F12 (once encoding_key (λ font. font.bad_code))
-    -- A custom Encoding names a glyph that isn't there; the index is the code. Type 1 Font Format, chapter 2.
+    -- A custom Encoding names a glyph that isn't there; the index is the code. Own.
     ∷ row F13 (each encoding_key encodes_missing)
     -- A Subr is given twice or past its array; the index is its number. Type 1 Font Format, chapter 8.
     ∷ row F14 (each subrs_key is_wrong_subr)

@@ -2,7 +2,7 @@
 
 ghost use Rattle.std.specs.Prelude.{◌≡◌, ◌++◌, IfOk, replicate};
 ghost use Rattle.t1_seal.specs.Cipher.{charstring_start, eexec_start};
-ghost use Rattle.t1_seal.specs.CipherLaws.{encrypted};
+ghost use Rattle.t1_seal.specs.Laws.Cipher.{encrypted};
 
 use std::alloc::{AllocError, Global};
 

@@ -2,7 +2,7 @@
 
 ghost use Rattle.std.specs.Prelude.{◌≡◌, ◌++◌, IfOk};
 ghost use Rattle.t1_seal.specs.Cipher.{eexec_start};
-ghost use Rattle.t1_seal.specs.CipherLaws.{encrypted};
+ghost use Rattle.t1_seal.specs.Laws.Cipher.{encrypted};
 
 use crate::cipher::eexec;
 use std::alloc::{AllocError, Global};

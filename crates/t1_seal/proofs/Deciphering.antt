@@ -6,7 +6,7 @@ use Rattle.std.proofs.Math.Seq.{get_or-append_seam, take-append_seam}
 use Rattle.std.proofs.lemmas.List.{get_or_append_left, take-append-le}
 use Rattle.std.proofs.lemmas.List.FromFn.{map-range_with_len_more, length-map-range_with_len, get_or-map-range_with_len, fill_by_all}
 use Rattle.t1_seal.specs.Cipher.{state_after, plain_byte, decrypted}
-use Rattle.t1_seal.specs.CipherLaws.{next_state, encrypted, DeciphersTheEnciphered}
+use Rattle.t1_seal.specs.Laws.Cipher.{next_state, encrypted, DeciphersTheEnciphered}
 use Rattle.t1_seal.proofs.States.{starts_at_the_start, state_runs_along}
 
 -- Lists made from one function of the index are equal where it is.

@@ -9,8 +9,8 @@ use Rattle.std.specs.Int.{from_le_bytes, to_le_bytes, w32}
 use Rattle.std.specs.List.{flat_map}
 use Rattle.t1_seal.specs.declared.errors.SealError.{SealError}
 use Rattle.t1_seal.specs.declared.errors.SealError.TheVariants.{BadHeader, CutShort, NotAFont}
-use Rattle.t1_seal.specs.Segments.{Part, nothing, ending, payload, Row, JoinedText, payload_of, sized, typed, segment_of, follow, with_front, row_within, row_of, as_pfb, as_pfa, begins_pfb, begins_pfa, joined_of}
-use Rattle.t1_seal.specs.SegmentLaws.{Kind, text, binary, type_byte, Piece, Closing, by_file_end, by_end_segment, piece_bytes, closing_bytes, row_bytes, row_said, pfb_text, IsShort, IsByte, AreBytes, HasSegment, IsRow, IsPfb, IsPfa, ReadRowsAreWritten, JoinedPfbIsWritten, JoinedPfaIsWritten}
+use Rattle.t1_seal.specs.Segments.{Part, nothing, ending, payload, Row, JoinedText, payload_of, segment_of_length, segment_of_type, segment_of, follow, with_front, row_within, row_of, as_pfb, as_pfa, begins_pfb, begins_pfa, joined_of}
+use Rattle.t1_seal.specs.Laws.Segments.{Kind, text, binary, type_byte, Piece, Closing, by_file_end, by_end_segment, piece_bytes, closing_bytes, row_bytes, row_said, pfb_text, IsShort, IsByte, AreBytes, HasSegment, IsRow, IsPfb, IsPfa, ReadRowsAreWritten, JoinedPfbIsWritten, JoinedPfaIsWritten}
 use Rattle.std.specs.Prelude.{◌+◌}
 use Rattle.t1_seal.proofs.Rows.{segment_of-shorter}
 use Rattle.t1_seal.proofs.WrittenRows.{said_after}
@@ -67,7 +67,7 @@ record IsSized (bytes : List ℕ) (part : Part) : Type 0 where
   short : length front < 2 ^ 32
   written : bytes ≡ (to_le_bytes w32 (length front) ++ front) ++ rest
 
-sized_read : (b : List ℕ) (part : Part) → AreBytes b → sized b ≡ Ok part → IsSized b part
+sized_read : (b : List ℕ) (part : Part) → AreBytes b → segment_of_length b ≡ Ok part → IsSized b part
 sized_read [] part fit e = absurd (cc)
 sized_read (x ∷ []) part fit e = absurd (cc)
 sized_read (x ∷ y ∷ []) part fit e = absurd (cc)
@@ -114,17 +114,17 @@ piece_read kind b part p =
     } in
     let P : Part → Type 0 = λ q. Means q (128 ∷ type_byte kind ∷ b) in subst P (sym p.is) piece
 
-typed_means : (b : List ℕ) (part : Part) → AreBytes b → typed b ≡ Ok part → Means part (128 ∷ b)
+typed_means : (b : List ℕ) (part : Part) → AreBytes b → segment_of_type b ≡ Ok part → Means part (128 ∷ b)
 typed_means [] part fit e = absurd (cc)
 typed_means (t ∷ b) part fit e =
     let Goal : Type 0 = Means part (128 ∷ t ∷ b) in
-    let other : Result Part SealError = cond (t == 1 || t == 2) (sized b) (Err BadHeader) in
+    let other : Result Part SealError = cond (t == 1 || t == 2) (segment_of_length b) (Err BadHeader) in
     chosen (t == 3) (Ok (ending b)) other (Ok part) Goal
     (λ test same.
     let P : Part → Type 0 = λ q. Means q (128 ∷ t ∷ b) in
     let is : ending b ≡ part = cc same in
     subst P is (ap (λ u. 128 ∷ u ∷ b) (eqb-true t 3 test)))
-    (λ _ rest. chosen (t == 1 || t == 2) (sized b) (Err BadHeader) (Ok part) Goal
+    (λ _ rest. chosen (t == 1 || t == 2) (segment_of_length b) (Err BadHeader) (Ok part) Goal
     (λ test same.
     let p : IsSized b part = sized_read b part (All-tail IsByte t b fit) same in
     let P : ℕ → Type 0 = λ u. Means part (128 ∷ u ∷ b) in
@@ -141,7 +141,7 @@ segment_means [] part fit e =
     let is : nothing ≡ part = cc e in
     subst P is refl
 segment_means (x ∷ b) part fit e =
-    chosen (x == 128) (typed b) (Err BadHeader) (Ok part) (Means part (x ∷ b))
+    chosen (x == 128) (segment_of_type b) (Err BadHeader) (Ok part) (Means part (x ∷ b))
     (λ test same.
     let P : ℕ → Type 0 = λ u. Means part (u ∷ b) in
     subst P (sym (eqb-true x 128 test)) (typed_means b part (All-tail IsByte x b fit) same))

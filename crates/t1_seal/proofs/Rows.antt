@@ -2,7 +2,7 @@
 use Rattle.std.proofs.Common.{◌≡◌, ℕ, zero, suc, ◌<◌, ◌≤◌, ◌++◌, Bool, true, false, cond, ◌==◌, ◌||◌, List, [], ◌∷◌, length, Result, Ok, Err, refl, ap, sym, ◌∙◌, append_assoc, append-nil, not, length-drop, length-take, ◌+◌, arith}
 use Rattle.std.specs.Int.{from_le_bytes, w32}
 use Rattle.t1_seal.specs.declared.errors.SealError.{SealError}
-use Rattle.t1_seal.specs.Segments.{Part, nothing, ending, payload, Row, payload_of, sized, typed, segment_of, follow, with_front, row_within, row_of, as_pfb}
+use Rattle.t1_seal.specs.Segments.{Part, nothing, ending, payload, Row, payload_of, segment_of_length, segment_of_type, segment_of, follow, with_front, row_within, row_of, as_pfb}
 use Rattle.t1_seal.specs.SealError.{Refuses}
 use Rattle.t1_seal.specs.declared.errors.SealError.TheVariants.{NotAFont, BadHeader, CutShort, TooShort, Memory}
 
@@ -15,28 +15,28 @@ chosen false x y z P first second e = second e
 payload_of-shorter : (n : ℕ) (b front rest : List ℕ) → payload_of n b ≡ Ok (payload front rest) → length front + length rest ≤ length b
 payload_of-shorter n b front rest e = grind (arith, length-drop {A = ℕ}, length-take {A = ℕ})
 
-sized-shorter : (b front rest : List ℕ) → sized b ≡ Ok (payload front rest) → length front + length rest ≤ length b
-sized-shorter [] front rest e = cc
-sized-shorter (x ∷ []) front rest e = cc
-sized-shorter (x ∷ y ∷ []) front rest e = cc
-sized-shorter (x ∷ y ∷ z ∷ []) front rest e = cc
-sized-shorter (x ∷ y ∷ z ∷ w ∷ b) front rest e =
+segment_of_length-shorter : (b front rest : List ℕ) → segment_of_length b ≡ Ok (payload front rest) → length front + length rest ≤ length b
+segment_of_length-shorter [] front rest e = cc
+segment_of_length-shorter (x ∷ []) front rest e = cc
+segment_of_length-shorter (x ∷ y ∷ []) front rest e = cc
+segment_of_length-shorter (x ∷ y ∷ z ∷ []) front rest e = cc
+segment_of_length-shorter (x ∷ y ∷ z ∷ w ∷ b) front rest e =
     let shorter : length front + length rest ≤ length b = payload_of-shorter (from_le_bytes w32 (x ∷ y ∷ z ∷ w ∷ [])) b front rest e in omega arith
 
-typed-shorter : (b front rest : List ℕ) → typed b ≡ Ok (payload front rest) → length front + length rest ≤ length b
-typed-shorter [] front rest e = cc
-typed-shorter (t ∷ b) front rest e =
+segment_of_type-shorter : (b front rest : List ℕ) → segment_of_type b ≡ Ok (payload front rest) → length front + length rest ≤ length b
+segment_of_type-shorter [] front rest e = cc
+segment_of_type-shorter (t ∷ b) front rest e =
     chosen (t == 3) (Ok (ending b)) _ _ (length front + length rest ≤ length (t ∷ b)) (λ same. absurd (cc same)) (λ other.
-    chosen (t == 1 || t == 2) (sized b) _ _ (length front + length rest ≤ length (t ∷ b))
-    (λ same. let shorter : length front + length rest ≤ length b = sized-shorter b front rest same in omega arith)
+    chosen (t == 1 || t == 2) (segment_of_length b) _ _ (length front + length rest ≤ length (t ∷ b))
+    (λ same. let shorter : length front + length rest ≤ length b = segment_of_length-shorter b front rest same in omega arith)
     (λ same. absurd (cc same)) other) e
 
 pub segment_of-shorter : (b front rest : List ℕ) → segment_of b ≡ Ok (payload front rest) → length front + length rest < length b
 unfolding segment_of
 segment_of-shorter [] front rest e = cc
 segment_of-shorter (x ∷ b) front rest e =
-    chosen (x == 128) (typed b) _ _ (length front + length rest < length (x ∷ b))
-    (λ same. let shorter : length front + length rest ≤ length b = typed-shorter b front rest same in omega arith)
+    chosen (x == 128) (segment_of_type b) _ _ (length front + length rest < length (x ∷ b))
+    (λ same. let shorter : length front + length rest ≤ length b = segment_of_type-shorter b front rest same in omega arith)
     (λ same. absurd (cc same)) e
 
 -- Two readers of what follows a payload give the same where they agree on it.

@@ -5,7 +5,7 @@ use Rattle.std.specs.Int.{from_le_bytes, w32}
 use Rattle.t1_seal.specs.declared.errors.SealError.{SealError}
 use Rattle.t1_seal.specs.declared.errors.SealError.TheVariants.{NotAFont, BadHeader, CutShort}
 use Rattle.t1_seal.specs.SealError.{IsSegmentFault}
-use Rattle.t1_seal.specs.Segments.{Part, nothing, ending, payload, Row, JoinedText, sized, typed, segment_of, follow, with_front, row_within, row_of, as_pfb, as_pfa, begins_pfb, begins_pfa, joined_of}
+use Rattle.t1_seal.specs.Segments.{Part, nothing, ending, payload, Row, JoinedText, segment_of_length, segment_of_type, segment_of, follow, with_front, row_within, row_of, as_pfb, as_pfa, begins_pfb, begins_pfa, joined_of}
 
 -- What is refused is refused for a fault of segments.
 abbrev IsFaulty : {A : Type 0} → Result A SealError → Type 0
@@ -16,25 +16,25 @@ chosen : {A : Type 0} (test : Bool) (x y : Result A SealError) → IsFaulty x �
 chosen true x y first second = first
 chosen false x y first second = second
 
-sized-faulty : (b : List ℕ) → IsFaulty (sized b)
-sized-faulty [] = tt
-sized-faulty (x ∷ []) = tt
-sized-faulty (x ∷ y ∷ []) = tt
-sized-faulty (x ∷ y ∷ z ∷ []) = tt
-sized-faulty (x ∷ y ∷ z ∷ w ∷ b) =
+segment_of_length-faulty : (b : List ℕ) → IsFaulty (segment_of_length b)
+segment_of_length-faulty [] = tt
+segment_of_length-faulty (x ∷ []) = tt
+segment_of_length-faulty (x ∷ y ∷ []) = tt
+segment_of_length-faulty (x ∷ y ∷ z ∷ []) = tt
+segment_of_length-faulty (x ∷ y ∷ z ∷ w ∷ b) =
     let n : ℕ = from_le_bytes w32 (x ∷ y ∷ z ∷ w ∷ []) in
     chosen (nat_lt (length b) n) (Err CutShort) (Ok (payload (take n b) (drop n b))) tt tt
 
-typed-faulty : (b : List ℕ) → IsFaulty (typed b)
-typed-faulty [] = tt
-typed-faulty (t ∷ b) =
-    let other : Result Part SealError = cond (t == 1 || t == 2) (sized b) (Err BadHeader) in
-    chosen (t == 3) (Ok (ending b)) other tt (chosen (t == 1 || t == 2) (sized b) (Err BadHeader) (sized-faulty b) tt)
+segment_of_type-faulty : (b : List ℕ) → IsFaulty (segment_of_type b)
+segment_of_type-faulty [] = tt
+segment_of_type-faulty (t ∷ b) =
+    let other : Result Part SealError = cond (t == 1 || t == 2) (segment_of_length b) (Err BadHeader) in
+    chosen (t == 3) (Ok (ending b)) other tt (chosen (t == 1 || t == 2) (segment_of_length b) (Err BadHeader) (segment_of_length-faulty b) tt)
 
 segment_of-faulty : (b : List ℕ) → IsFaulty (segment_of b)
 unfolding segment_of
 segment_of-faulty [] = tt
-segment_of-faulty (x ∷ b) = chosen (x == 128) (typed b) (Err BadHeader) (typed-faulty b) tt
+segment_of-faulty (x ∷ b) = chosen (x == 128) (segment_of_type b) (Err BadHeader) (segment_of_type-faulty b) tt
 
 with_front-faulty : (front : List ℕ) (row : Result Row SealError) → IsFaulty row → IsFaulty (with_front front row)
 with_front-faulty front (Ok row) h = tt

@@ -4,7 +4,7 @@ use Rattle.std.proofs.Math.Nat.{pow-suc, pow-zero}
 use Rattle.std.proofs.Math.Seq.{get_or-append_seam}
 use Rattle.std.proofs.lemmas.List.{get_or_append_left}
 use Rattle.t1_seal.specs.Cipher.{multiplier, addend, sum_below, closed_sum, state_after}
-use Rattle.t1_seal.specs.CipherLaws.{next_state, StartsAtTheStart, StateRunsAlong}
+use Rattle.t1_seal.specs.Laws.Cipher.{next_state, StartsAtTheStart, StateRunsAlong}
 
 -- Sums of equal terms are equal, and a factor goes through a sum.
 sum_below_same : (n : ℕ) (f g : ℕ → ℕ) → ((j : ℕ) → j < n → f j ≡ g j) → sum_below n f ≡ sum_below n g

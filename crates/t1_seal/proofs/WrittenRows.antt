@@ -6,8 +6,8 @@ use Rattle.std.proofs.lemmas.Nat.{from_le_bytes-to_le_bytes_4}
 use Rattle.std.proofs.lemmas.List.Elements.{All-head, All-tail}
 use Rattle.std.specs.Int.{to_le_bytes, w32}
 use Rattle.std.specs.List.{flat_map}
-use Rattle.t1_seal.specs.Segments.{payload, payload_of, sized, typed, segment_of, follow, with_front, row_within, row_of, as_pfb, joined_of}
-use Rattle.t1_seal.specs.SegmentLaws.{Kind, text, binary, type_byte, Piece, Closing, by_file_end, by_end_segment, piece_bytes, closing_bytes, row_bytes, row_said, IsShort, ReadsWrittenRows, JoinsWrittenPfb, JoinsPfa}
+use Rattle.t1_seal.specs.Segments.{payload, payload_of, segment_of_length, segment_of_type, segment_of, follow, with_front, row_within, row_of, as_pfb, joined_of}
+use Rattle.t1_seal.specs.Laws.Segments.{Kind, text, binary, type_byte, Piece, Closing, by_file_end, by_end_segment, piece_bytes, closing_bytes, row_bytes, row_said, IsShort, ReadsWrittenRows, JoinsWrittenPfb, JoinsPfa}
 use Rattle.t1_seal.proofs.Rows.{row_step}
 
 payload_written : (front rest : List ℕ) → payload_of (length front) (front ++ rest) ≡ Ok (payload front rest)
@@ -15,11 +15,11 @@ payload_written front rest =
     let fits : length front ≤ length (front ++ rest) = omega (arith, length-append front rest) in
     rw (le-ltb (length (front ++ rest)) (length front) fits, take-append_seam front rest, drop-append_seam front rest) refl
 
-sized_written : (front rest : List ℕ) → length front < 2 ^ 32 → sized ((to_le_bytes w32 (length front) ++ front) ++ rest) ≡ Ok (payload front rest)
+sized_written : (front rest : List ℕ) → length front < 2 ^ 32 → segment_of_length ((to_le_bytes w32 (length front) ++ front) ++ rest) ≡ Ok (payload front rest)
 sized_written front rest short =
     ap (λ n. payload_of n (front ++ rest)) (from_le_bytes-to_le_bytes_4 (length front) short) ∙ payload_written front rest
 
-typed_written : (kind : Kind) (b : List ℕ) → typed (type_byte kind ∷ b) ≡ sized b
+typed_written : (kind : Kind) (b : List ℕ) → segment_of_type (type_byte kind ∷ b) ≡ segment_of_length b
 typed_written text b = refl
 typed_written binary b = refl
 

@@ -6,7 +6,7 @@ use Rattle.std.specs.List.{AllPass, prefix_len}
 use Rattle.std.proofs.lemmas.List.Elements.{All-nil, All-cons, All-head, All-tail}
 use Rattle.hex.specs.Hex.{hex_digit_value}
 use Rattle.t1_seal.specs.Eexec.{is_leading, is_blank, is_digit, digit_value, section_of, is_hexadecimal, digits_of, bytes_of_digits, opened, private_text_of}
-use Rattle.t1_seal.specs.EexecLaws.{AreWritten, no_digits, odd_digit, two_digits, AreSpaced, nothing_left, digit, blank, EndsDigits, BeginsSection, Opens, OpensHexadecimal, OpensBinary}
+use Rattle.t1_seal.specs.Laws.Eexec.{AreWritten, no_digits, odd_digit, two_digits, AreSpaced, nothing_left, digit, blank, EndsDigits, BeginsSection, Opens, OpensHexadecimal, OpensBinary}
 use Rattle.t1_seal.proofs.Digits.{digits-cons, digits-blank, digits-other}
 use Rattle.t1_seal.proofs.Openings.{opened-short, opened-long}
 use Rattle.t1_seal.proofs.Sections.{hexadecimal_text, binary_text}

@@ -1,9 +1,7 @@
 pub mod Cipher
-pub mod CipherLaws
 pub mod Eexec
-pub mod EexecLaws
 pub mod Joined
+pub mod Laws
 pub mod Opening
 pub mod SealError
-pub mod SegmentLaws
 pub mod Segments

@@ -19,20 +19,20 @@ payload_of n bytes =
     if nat_lt (length bytes) n then Err CutShort else Ok (payload (take n bytes) (drop n bytes))
 
 -- What follows 128 and a type of 1 or 2: the length, then the payload.
-abbrev pub sized : List ℕ → Result Part SealError
-sized (a ∷ b ∷ c ∷ d ∷ rest) = payload_of (from_le_bytes w32 (a ∷ b ∷ c ∷ d ∷ [])) rest
-sized _ = Err CutShort
+abbrev pub segment_of_length : List ℕ → Result Part SealError
+segment_of_length (a ∷ b ∷ c ∷ d ∷ rest) = payload_of (from_le_bytes w32 (a ∷ b ∷ c ∷ d ∷ [])) rest
+segment_of_length _ = Err CutShort
 
 -- What follows 128: the type.
-abbrev pub typed : List ℕ → Result Part SealError
-typed [] = Err CutShort
-typed (t ∷ rest) =
-    if t == 3 then Ok (ending rest) else if (t == 1 || t == 2) then sized rest else Err BadHeader
+abbrev pub segment_of_type : List ℕ → Result Part SealError
+segment_of_type [] = Err CutShort
+segment_of_type (t ∷ rest) =
+    if t == 3 then Ok (ending rest) else if (t == 1 || t == 2) then segment_of_length rest else Err BadHeader
 
 -- The segment that a row begins with.
 unfoldable pub segment_of : List ℕ → Result Part SealError
 segment_of [] = Ok nothing
-segment_of (x ∷ rest) = if x == 128 then typed rest else Err BadHeader
+segment_of (x ∷ rest) = if x == 128 then segment_of_type rest else Err BadHeader
 
 -- What a whole row holds: its payloads in order, whether an end segment closes it, and whether bytes
 -- stand after that segment.

@@ -2,7 +2,7 @@
 
 ghost use Rattle.std.specs.Prelude.{◌≡◌, ◌++◌, ◌∷◌, ◌/◌, ℕ, List, [], bit_xor};
 ghost use Rattle.t1_seal.specs.Cipher.{charstring_start, eexec_start, plain_byte, state_after};
-ghost use Rattle.t1_seal.specs.CipherLaws.{next_state};
+ghost use Rattle.t1_seal.specs.Laws.Cipher.{next_state};
 
 const EEXEC_START: u16 = 55665;
 

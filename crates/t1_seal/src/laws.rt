@@ -1,9 +1,9 @@
 //! Laws of the definitions, each proved on a function that does nothing: a caller of the function, or a
 //! proof that cites it, has the law.
 
-ghost use Rattle.t1_seal.specs.CipherLaws.{DeciphersTheEnciphered, StartsAtTheStart, StateRunsAlong};
-ghost use Rattle.t1_seal.specs.EexecLaws.{OpensBinary, OpensHexadecimal};
-ghost use Rattle.t1_seal.specs.SegmentLaws.{JoinedPfaIsWritten, JoinedPfbIsWritten, JoinsPfa, JoinsWrittenPfb, ReadRowsAreWritten, ReadsWrittenRows, RefusesByFault};
+ghost use Rattle.t1_seal.specs.Laws.Cipher.{DeciphersTheEnciphered, StartsAtTheStart, StateRunsAlong};
+ghost use Rattle.t1_seal.specs.Laws.Eexec.{OpensBinary, OpensHexadecimal};
+ghost use Rattle.t1_seal.specs.Laws.Segments.{JoinedPfaIsWritten, JoinedPfbIsWritten, JoinsPfa, JoinsWrittenPfb, ReadRowsAreWritten, ReadsWrittenRows, RefusesByFault};
 
 /// A file that isn't joined is no PFA or PFB file, has a bad header, or is cut short.
 pub fn segment_refusals()

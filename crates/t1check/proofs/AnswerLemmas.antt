@@ -9,7 +9,7 @@ use Rattle.t1check.specs.declared.status.Status.{Status}
 use Rattle.t1check.specs.declared.status.Status.TheVariants.{Failed}
 use Rattle.t1check.specs.declared.unread.Unread.{Unread}
 use Rattle.t1check.specs.declared.unread.Unread.TheVariants.{TooLarge}
-use Rattle.t1check.specs.Ends.{AreRead, Checks, Ends, Tells, stopped}
+use Rattle.t1check.specs.Ends.{AreRead, Checks, Ends, Tells, unread_status}
 use Rattle.t1check.specs.Ends.Ends.{no_memory, refused}
 use Rattle.t1check.specs.FontFiles.{font_in, font_of}
 use Rattle.t1check.specs.Refusals.{told_of}
@@ -43,11 +43,11 @@ too_large (Some input) (Some rest) bytes consumed large = font_of-large input (o
 
 -- A file that isn't read for a reason of its bytes, or for want of memory.
 pub unread_ends : (options : Options) (left : Option (List ℕ)) (failed : Bool) (out out' told told' errors' : SinkState) (reason : Unread) (read : Result FontValue Unread) (result : Status)
-    → AreRead left read → failed ≡ false → Checks options read out out' told told' (Err reason) → Tells (told_of reason) (stopped reason) told' errors' result
+    → AreRead left read → failed ≡ false → Checks options read out out' told told' (Err reason) → Tells (told_of reason) (unread_status reason) told' errors' result
     → Ends options left failed out out' told errors' result
 unread_ends options left failed out out' told told' errors' reason read result are kept (inl memory, same, told_same) tells =
     let as_memory : Tells (codes "t1check: out of memory\n") Failed told' errors' result =
-    subst (λ (u : Unread). Tells (told_of u) (stopped u) told' errors' result) memory tells in
+    subst (λ (u : Unread). Tells (told_of u) (unread_status u) told' errors' result) memory tells in
     no_memory kept same (subst (λ (s : SinkState). Tells (codes "t1check: out of memory\n") Failed s errors' result) told_same as_memory)
 unread_ends options left failed out out' told told' errors' reason read result are kept (inr is, same, told_same) tells =
-    refused reason (subst (AreRead left) is are) kept same (subst (λ (s : SinkState). Tells (told_of reason) (stopped reason) s errors' result) told_same tells)
+    refused reason (subst (AreRead left) is are) kept same (subst (λ (s : SinkState). Tells (told_of reason) (unread_status reason) s errors' result) told_same tells)

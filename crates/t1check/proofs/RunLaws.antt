@@ -9,8 +9,8 @@ use Rattle.t1check.specs.declared.status.Status.{Status}
 use Rattle.t1check.specs.declared.status.Status.TheVariants.{Clean, Failed, Faults, Refused}
 use Rattle.t1check.specs.declared.unread.Unread.{Unread}
 use Rattle.t1check.specs.declared.unread.Unread.TheVariants as unread
-use Rattle.t1check.specs.Answers.{Answer, IsAnswerTo, IsShown, chosen, refused, reported, status_of, traced_at}
-use Rattle.t1check.specs.Ends.{AreRead, Gives, Shows, Tells, stopped}
+use Rattle.t1check.specs.Answers.{Answer, IsAnswerTo, IsShown, selection, refused, reported, status_of, traced_at}
+use Rattle.t1check.specs.Ends.{AreRead, Gives, Shows, Tells, unread_status}
 use Rattle.t1check.specs.Ends.Shows.{no_glyph, reported as was_reported, traced as was_traced}
 use Rattle.t1check.specs.Traces.{no_glyph_line, trace_of}
 use Rattle.t1check.specs.Ends.Ends.{no_memory as was_no_memory, read_failed as was_read_failed, refused as was_refused, shown as was_shown}
@@ -168,9 +168,9 @@ module _ (options : Options) (left : Option (List ℕ)) (failed : Bool) (out out
   after_shown : (font : FontValue) → AreRead left (Ok font) → failed ≡ false → Shows options font out out' errors errors' result
       → Promises options left failed out out' errors errors' result
   after_shown font are unfailed (was_reported none faults report gives) =
-      let answer = reported font (chosen options faults) in
+      let answer = reported font (selection options faults) in
       after_given (Ok font) answer are unfailed (shown_by font answer _ None (ap (option_map string_bytes) none) (faults, (report, refl))) refl
-      (list-not-refused (chosen options faults)) (list-not-failed (chosen options faults)) gives
+      (list-not-refused (selection options faults)) (list-not-failed (selection options faults)) gives
   after_shown font are unfailed (was_traced name is glyph there gives) =
       let answer : Answer = record { output = trace_of font glyph; told = []; status = Clean } in
       after_given (Ok font) answer are unfailed (shown_by font answer _ (Some name) is (sym (ap (traced_at font name) there))) refl
@@ -179,17 +179,17 @@ module _ (options : Options) (left : Option (List ℕ)) (failed : Bool) (out out
       let answer : Answer = record { output = []; told = no_glyph_line name; status = Failed } in
       after_no_glyph font name are unfailed (shown_by font answer _ (Some name) is (sym (ap (traced_at font name) none))) same tells
 
-  after_refusal : (reason : Unread) → AreRead left (Err reason) → failed ≡ false → out' ≡ out → Tells (told_of reason) (stopped reason) errors errors' result
-      → (stopped reason ≡ Refused) ⊎ (reason ≡ unread.Memory) → Promises options left failed out out' errors errors' result
+  after_refusal : (reason : Unread) → AreRead left (Err reason) → failed ≡ false → out' ≡ out → Tells (told_of reason) (unread_status reason) errors errors' result
+      → (unread_status reason ≡ Refused) ⊎ (reason ≡ unread.Memory) → Promises options left failed out out' errors errors' result
   after_refusal reason are unfailed same tells kind =
-      let two_or_three : (result ≡ Refused) ⊎ (result ≡ Failed) = elim (told-status (told_of reason) (stopped reason) errors errors' result tells) [
-        | inl is ↦ elim kind [ inl two ↦ inl (is ∙ two) | inr memory ↦ inr (is ∙ ap stopped memory) ]
+      let two_or_three : (result ≡ Refused) ⊎ (result ≡ Failed) = elim (told-status (told_of reason) (unread_status reason) errors errors' result tells) [
+        | inl is ↦ elim kind [ inl two ↦ inl (is ∙ two) | inr memory ↦ inr (is ∙ ap unread_status memory) ]
         | inr three ↦ inr three
       ] in
       record {
         answer = λ went.
-            let (text, status) = told-unfailed (told_of reason) (stopped reason) errors errors' result tells went in
-            let is_two : result ≡ Refused = elim kind [ inl two ↦ status ∙ two | inr memory ↦ absurd (went (status ∙ ap stopped memory)) ] in
+            let (text, status) = told-unfailed (told_of reason) (unread_status reason) errors errors' result tells went in
+            let is_two : result ≡ Refused = elim kind [ inl two ↦ status ∙ two | inr memory ↦ absurd (went (status ∙ ap unread_status memory)) ] in
             of-read (λ (r : Result FontValue Unread). Answered options r result out out' errors errors') left (Err reason) are
             (refused (told_of reason), (refl, record { status = is_two; output = nothing-same out out' same; told = text }));
         flushed = λ either. absurd (never-report result either two_or_three);
@@ -198,13 +198,13 @@ module _ (options : Options) (left : Option (List ℕ)) (failed : Bool) (out out
         broken = λ device. elim device [
           | inl source ↦ absurd (true≢false (sym source ∙ unfailed))
           | inr (inl output) ↦ absurd (true≢false (sym output ∙ out_same same))
-          | inr (inr line) ↦ told-broken (told_of reason) (stopped reason) errors errors' result errors_sound tells line
+          | inr (inr line) ↦ told-broken (told_of reason) (unread_status reason) errors errors' result errors_sound tells line
         ];
         read_failed = λ source. absurd (true≢false (sym source ∙ unfailed));
         write_failed = λ output. absurd (true≢false (sym output ∙ out_same same));
         no_memory = λ three source output whole. elim kind [
           | inl two ↦ absurd (refused-failed (sym two ∙ (status_where_whole whole tells) ∙ three))
-          | inr memory ↦ inl (subst (λ (u : Unread). Appends errors.written errors'.written (told_of u)) memory (told-text (told_of reason) (stopped reason) errors errors' result tells whole))
+          | inr memory ↦ inl (subst (λ (u : Unread). Appends errors.written errors'.written (told_of u)) memory (told-text (told_of reason) (unread_status reason) errors errors' result tells whole))
         ];
         unwritten = λ three output. keeps-same out out' same;
         unread = λ source. out_same same;
@@ -253,7 +253,7 @@ module _ (options : Options) (left : Option (List ℕ)) (failed : Bool) (out out
       }
 
 -- a reason is a refusal, or want of memory
-kind_of_reason : (reason : Unread) → (stopped reason ≡ Refused) ⊎ (reason ≡ unread.Memory)
+kind_of_reason : (reason : Unread) → (unread_status reason ≡ Refused) ⊎ (reason ≡ unread.Memory)
 kind_of_reason unread.Memory = inr refl
 kind_of_reason unread.NotAFont = inl refl
 kind_of_reason _ = inl refl

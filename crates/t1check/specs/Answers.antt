@@ -27,8 +27,8 @@ at_most None faults = faults
 at_most (Some max) faults = take max faults
 
 -- What the options choose of a report.
-abbrev pub chosen : {A : Type 0} → Options → List A → List A
-chosen options faults = at_most options.max (drop options.after faults)
+abbrev pub selection : {A : Type 0} → Options → List A → List A
+selection options faults = at_most options.max (drop options.after faults)
 
 -- Whether lines were written.
 abbrev pub status_of : {A : Type 0} → List A → Status
@@ -42,7 +42,7 @@ reported font faults = record { output = lines_of font faults; told = []; status
 -- What the options choose of a font's report.
 abbrev pub IsReported : Options → FontValue → Answer → Type 0
 IsReported options font answer =
-    (faults : List FaultValue) × (IsReport font faults × (answer ≡ reported font (chosen options faults)))
+    (faults : List FaultValue) × (IsReport font faults × (answer ≡ reported font (selection options faults)))
 
 -- The trace of a glyph, or that there is none of the name.
 abbrev pub traced_at : FontValue → List ℕ → Option ℕ → Answer

@@ -11,7 +11,7 @@ use Rattle.t1check.specs.declared.status.Status.{Status}
 use Rattle.t1check.specs.declared.status.Status.TheVariants.{Clean, Failed, Refused}
 use Rattle.t1check.specs.declared.unread.Unread.{Unread}
 use Rattle.t1check.specs.declared.unread.Unread.TheVariants as unread
-use Rattle.t1check.specs.Answers.{chosen, status_of}
+use Rattle.t1check.specs.Answers.{selection, status_of}
 use Rattle.t1check.specs.FontFiles.{IsUnread, font_of}
 use Rattle.t1check.specs.Lines.{lines_of}
 use Rattle.t1check.specs.Refusals.{told_of}
@@ -39,8 +39,8 @@ pub data Shows (options : Options) (font : FontValue) (out out' errors errors' :
     (result : Status) : Type 0 where
   reported :
       options.trace ≡ None → (faults : List FaultValue) → IsReport font faults
-      → Gives (lines_of font (chosen options faults))
-      (status_of (chosen options faults)) out out' errors errors' result
+      → Gives (lines_of font (selection options faults))
+      (status_of (selection options faults)) out out' errors errors' result
       → Shows options font out out' errors errors' result
   traced :
       (name : List ℕ) → option_map string_bytes options.trace ≡ Some name → (glyph : ℕ)
@@ -53,9 +53,9 @@ pub data Shows (options : Options) (font : FontValue) (out out' errors errors' :
       → Shows options font out out' errors errors' result
 
 -- The status where a file isn't read.
-abbrev pub stopped : Unread → Status
-stopped unread.Memory = Failed
-stopped _ = Refused
+abbrev pub unread_status : Unread → Status
+unread_status unread.Memory = Failed
+unread_status _ = Refused
 
 -- The bytes of a source, where they are known, are read so.
 abbrev pub AreRead : Option (List ℕ) → Result FontValue Unread → Type 0
@@ -72,7 +72,7 @@ pub data Ends (options : Options) (left : Option (List ℕ)) (failed : Bool)
   -- status 2
   refused :
       (reason : Unread) → AreRead left (Err reason) → failed ≡ false → out' ≡ out
-      → Tells (told_of reason) (stopped reason) errors errors' result
+      → Tells (told_of reason) (unread_status reason) errors errors' result
       → Ends options left failed out out' errors errors' result
   -- status 3
   read_failed :

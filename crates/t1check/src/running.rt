@@ -4,7 +4,7 @@ ghost use Rattle.t1_char.specs.StepValues.{step_value};
 ghost use Rattle.t1_report.specs.Faults.{fault_value};
 ghost use Rattle.t1_report.specs.Lines.{IsInFont};
 ghost use Rattle.t1check.specs.Answers.{status_of};
-ghost use Rattle.t1check.specs.Ends.{Checks, Ends, Gives, ShowsOrNot, Tells, stopped};
+ghost use Rattle.t1check.specs.Ends.{Checks, Ends, Gives, ShowsOrNot, Tells, unread_status};
 ghost use Rattle.t1check.specs.FontFiles.{font_in};
 ghost use Rattle.t1check.specs.Input.{TakesAtMost};
 ghost use Rattle.t1check.specs.Lines.{fault_line};
@@ -82,8 +82,8 @@ fn show<W: Sink, E: Sink>(
 {
     let Some(name) = &options.trace else {
         let faults = report(alloc, font)?;
-        let chosen = at_most(without_first(faults.as_slice(), options.after), options.max);
-        return Ok(give_report(font, chosen, out, errors));
+        let selection = at_most(without_first(faults.as_slice(), options.after), options.max);
+        return Ok(give_report(font, selection, out, errors));
     };
     let Some(glyph) = glyph_named(font, name.as_bytes()) else {
         return Ok(tell_no_glyph(name.as_str(), errors));
@@ -94,7 +94,7 @@ fn show<W: Sink, E: Sink>(
 
 /// Tells why a file isn't read.
 fn tell_unread<E: Sink>(unread: Unread, errors: &mut E) -> Status
-    ensures { Tells (told_of unread) (stopped unread) (E.state errors.old) (E.state errors.new) result }
+    ensures { Tells (told_of unread) (unread_status unread) (E.state errors.old) (E.state errors.new) result }
 {
     let status = match unread {
         Unread::Memory => Status::Failed,

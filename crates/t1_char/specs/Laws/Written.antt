@@ -3,7 +3,7 @@
 use Rattle.std.specs.Prelude.{◌≡◌, ◌≢◌, ℕ, ℤ, pos, negsuc, neg_ℤ, ◌+◌, ◌/◌, ◌%◌, ◌^◌, ◌<◌, ◌≤◌, ◌-ℤ◌, ◌≤ℤ◌, ◌++◌, None, List, [], ◌∷◌, length}
 use Rattle.std.specs.List.{All}
 use Rattle.t1_seal.specs.Cipher.{charstring_start}
-use Rattle.t1_seal.specs.CipherLaws.{encrypted}
+use Rattle.t1_seal.specs.Laws.Cipher.{encrypted}
 use Rattle.t1_char.specs.declared.command.Command.{Command as Commands}
 use Rattle.t1_char.specs.declared.token.CharToken.{CharToken}
 use Rattle.t1_char.specs.declared.token.CharToken.TheVariants.{Number, Command, Unknown, Unknown12, Cut, End}

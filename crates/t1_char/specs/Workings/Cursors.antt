@@ -1,7 +1,7 @@
 -- What a cursor has left: the bytes that are left of a slice, deciphered from the cipher's state on.
 use Rattle.std.specs.Prelude.{ℕ, ◌/◌, if◌then◌else◌, Option, Some, None, List, [], ◌∷◌, bit_xor}
 use Rattle.t1_seal.specs.declared.cipher.Cipher.{Cipher}
-use Rattle.t1_seal.specs.CipherLaws.{next_state}
+use Rattle.t1_seal.specs.Laws.Cipher.{next_state}
 use Rattle.t1_char.specs.declared.cursor.Cursor.{Cursor}
 use Rattle.t1_char.specs.declared.token.CharToken.{CharToken}
 use Rattle.t1_char.specs.declared.token.CharToken.TheVariants.{Short}

@@ -1,6 +1,6 @@
 use Rattle.std.proofs.Common.{◌≡◌, ◌/◌, bit_xor, [], ap, ◌∙◌, arith}
 use Rattle.t1_seal.specs.Cipher.{state_after}
-use Rattle.t1_seal.specs.CipherLaws.{next_state}
+use Rattle.t1_seal.specs.Laws.Cipher.{next_state}
 use Rattle.t1_seal.proofs.States.{starts_at_the_start, state_runs_along}
 use Rattle.t1_char.proofs.cursor.next_plain.Goals as goal
 

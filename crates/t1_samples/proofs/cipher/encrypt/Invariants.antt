@@ -1,5 +1,5 @@
 use Rattle.std.proofs.Common.{◌≡◌, ◌++◌, drop}
-use Rattle.t1_seal.specs.CipherLaws.{encrypted}
+use Rattle.t1_seal.specs.Laws.Cipher.{encrypted}
 use Rattle.t1_samples.proofs.cipher.encrypt.Given as goal
 
 abbrev pub invariant-loop-byte : goal.invariant-loop-byte

@@ -9,14 +9,14 @@ use Rattle.t1check.proofs.running.show.Goals as goal
 
 pub give_report-requires : goal.give_report-requires
 give_report-requires g c =
-    rw (c.at_most-chosen.ensures, c.without_first.ensures, c.as_slice.ensures.value)
+    rw (c.at_most-selection.ensures, c.without_first.ensures, c.as_slice.ensures.value)
     (all_chosen (λ (fault : Fault). IsInFont c.args.font.now (fault_value fault)) c.args.options.now c.in_ok-faults.faults.items c.in_ok-faults.ensures.in_font)
 
 pub returns-in_default : goal.returns-in_default
 returns-in_default g c =
     reported c.in_default.is (faults_of c.in_ok-faults.faults.items) c.in_ok-faults.ensures.exact
     (gives_chosen c.args.options.now c.args.font.now c.in_ok-faults.faults.items _ _ _ _ _
-    (rw (c.at_most-chosen.ensures, c.without_first.ensures, c.as_slice.ensures.value) at c.give_report.ensures))
+    (rw (c.at_most-selection.ensures, c.without_first.ensures, c.as_slice.ensures.value) at c.give_report.ensures))
 
 pub returns-in_default-glyph_named : goal.returns-in_default-glyph_named
 returns-in_default-glyph_named g c =

@@ -1,0 +1,2 @@
+-- The statements of laws.
+pub mod Reports

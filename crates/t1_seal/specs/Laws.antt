@@ -1,0 +1,4 @@
+-- The statements of laws.
+pub mod Cipher
+pub mod Eexec
+pub mod Segments
