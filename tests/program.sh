@@ -11,6 +11,7 @@
 #   status: N       the wanted status
 #   out: LINE       one more wanted line of standard output
 #   has: LINE       a line that standard output has to have; it may have others
+#   hasnot: LINE    a line that it must not have
 #   err: LINE       one more wanted line of standard error
 set -u
 LC_ALL=C
@@ -68,12 +69,18 @@ is_wanted() {
     return 1
 }
 
-# Whether each line that the output has to have stands in it.
+# Whether each line that the output has to have stands in it, and none that it must not have.
 has_lines() {
     lines has "$1" >"$scratch/lines"
     while IFS= read -r line; do
         grep -Fqx -e "$line" "$scratch/out" && continue
         echo "failed: $(basename "$1" .case): the output has no line '$line'"
+        return 1
+    done <"$scratch/lines"
+    lines hasnot "$1" >"$scratch/lines"
+    while IFS= read -r line; do
+        grep -Fqx -e "$line" "$scratch/out" || continue
+        echo "failed: $(basename "$1" .case): the output has the line '$line'"
         return 1
     done <"$scratch/lines"
 }
