@@ -8,7 +8,8 @@ use Rattle.t1_char.specs.Numbers.{clamped}
 use Rattle.t1_char.specs.Stacks.{from_top}
 use Rattle.t1_char.specs.Steps.{StepView}
 
--- The argument at a place from the bottom, kept within -32000 to 32000; 0 where there is none.
+-- The argument at a place from the bottom, kept within -32000 to 32000; 0 where there is none. That the
+-- place is below the command's count is the caller's to see to.
 abbrev pub argument : List ℤ → ℕ → ℤ
 argument stack place = clamped (slice_index_or stack place (pos 0))
 

@@ -1,5 +1,6 @@
 -- The numbers on the stack, in units of 1/65536. Type 1 Font Format 1.1, chapter 6 (Charstring Number
--- Encoding; div). The unit, the cut of a quotient and its range are this project's own.
+-- Encoding; div). The unit, the cut of a quotient, and that one past the range of 32000 is kept within it
+-- are this project's own.
 use Rattle.std.specs.Prelude.{ℕ, ℤ, pos, negsuc, ◌*ℤ◌, ◌/◌, ◌%◌, ◌^◌, ◌==◌, ◌&&◌, nat_lt, if◌then◌else◌, Option, Some, None, int_div}
 use Rattle.std.specs.Int.{int_max, int_min}
 use Rattle.std.specs.Ordering.{int_eq}
