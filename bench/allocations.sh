@@ -59,19 +59,31 @@ refuse_in_reading() {
     echo "t1_font, allocation $count: the reading asks for none more"
 }
 
-# The program on an unknown option: it tells the whole text of the usage fault, or want of memory.
+# What the program told in the last run, without what rt says of it.
+told() {
+    grep -vE '^(rt:|interpreter:|checked:|run=|allocations:)' "$log" || true
+}
+
+# The program on an unknown option: it tells the whole text of the usage fault, or want of memory. Some
+# allocations it can do without, so the sweep ends where sixteen in turn change nothing.
 refuse_in_options() {
     cd "$top/crates/t1check"
+    rt try -- --bogus >"$log" 2>&1 || true
+    told >"$work/whole"
+    grep -q "^error: unexpected argument '--bogus' found$" "$work/whole" || fail 0 "no usage fault is told"
     count=1
-    while :; do
+    unchanged=0
+    while [ "$unchanged" -lt 16 ]; do
         rt try --fail-alloc "$count" -- --bogus >"$log" 2>&1 || true
         grep -q '^run=ended status=3 ' "$log" || fail "$count" "the status isn't 3"
-        if grep -q "^error: unexpected argument '--bogus' found$" "$log"; then
-            grep -q "^For more information, try '--help'.$" "$log" || fail "$count" "the text is cut"
-            break
+        if told | cmp -s - "$work/whole"; then
+            unchanged=$((unchanged + 1))
+        elif [ "$(told)" = 't1check: out of memory' ]; then
+            unchanged=0
+            echo "t1check, allocation $count refused: told"
+        else
+            fail "$count" "neither the whole text nor the refusal is told"
         fi
-        grep -q '^t1check: out of memory$' "$log" || fail "$count" "nothing tells the refusal"
-        echo "t1check, allocation $count refused: told"
         count=$((count + 1))
     done
     echo "t1check, allocation $count: the words ask for none more"
