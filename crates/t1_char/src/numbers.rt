@@ -27,8 +27,9 @@ pub(crate) fn quotient(dividend: i64, divisor: i64) -> i64
     clamped(cut_quotient(dividend, divisor))
 }
 
-/// The quotient of two numbers, cut towards zero.
-fn cut_quotient(dividend: i64, divisor: i64) -> i128
+/// The quotient of two numbers in units of 1/65536, cut towards zero, before div keeps it within -32000
+/// to 32000; the divisor isn't 0. Type 1 Font Format 1.1, chapter 6 (div).
+pub fn cut_quotient(dividend: i64, divisor: i64) -> i128
     requires { divisor ≢ pos 0 }
     ensures { result ≡ cut_quotient dividend divisor }
 {

@@ -88,8 +88,8 @@ impl Stack {
         }
     }
 
-    /// The number so many below the top.
-    pub(crate) fn from_top(&self, below: usize) -> i64
+    /// The number so many below the top, which is there.
+    pub fn from_top(&self, below: usize) -> i64
         requires { below < length self.now }
         ensures { result ≡ from_top self.now below }
     {

@@ -4,5 +4,7 @@ pub mod Book
 pub mod FontRules
 pub mod Keys
 pub mod Mask
+pub mod Paths
 pub mod Products
+pub mod Watches
 pub mod Zones

@@ -29,6 +29,9 @@ mod keys;
 mod laws;
 mod mask;
 mod rule;
+mod step_rules;
+mod watch;
+mod watches;
 
 pub use book::{rule_code, rule_text};
 pub use font_rules::font_faults;
@@ -39,6 +42,11 @@ pub use laws::{
 };
 pub use mask::Mask;
 pub use rule::Rule;
+pub use step_rules::arguments::ArgumentWatcher;
+pub use step_rules::calls::CallWatcher;
+pub use step_rules::paths::PathWatcher;
+pub use watch::Watch;
+pub use watches::Watches;
 
 #[cfg(test)]
 mod tests;

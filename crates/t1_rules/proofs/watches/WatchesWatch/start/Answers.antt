@@ -1,0 +1,6 @@
+use Rattle.t1_rules.specs.Watches.{WatchesStandFor}
+use Rattle.t1_rules.proofs.watches.WatchesWatch.start.Goals as goal
+
+pub returns : goal.returns
+unfolding WatchesStandFor
+returns c = c.start-3.ensures

@@ -1,0 +1,110 @@
+//! The rules on widths and paths, W01, W02 and P01 to P03: Type 1 Font Format 1.1, chapters 6 and 8.
+
+ghost use Rattle.std.specs.Prelude.{◌≡◌, ◌&&◌, ◌||◌, not, ℕ, List, [], ◌∷◌, ◌++◌, true};
+ghost use Rattle.t1_char.specs.Arguments.{is_flex_end};
+ghost use Rattle.t1_char.specs.Steps.{StepView};
+ghost use Rattle.t1_char.specs.StepValues.{step_view};
+ghost use Rattle.t1_rules.specs.Mask.{has};
+ghost use Rattle.t1_rules.specs.StepRules.{breaks, path_rules};
+ghost use Rattle.t1_rules.specs.StepRules.Tokens.{is_line, is_move};
+ghost use Rattle.t1_rules.specs.Watches.{PathsStandFor, IsQuietForPaths};
+
+use crate::mask::Mask;
+use crate::rule::Rule;
+use crate::step_rules::calls::ends_in_glyph;
+use crate::step_rules::tokens::{
+    clears, closes, is_callothersubr, is_end, is_finishing, is_line, is_move, sets_width,
+};
+use crate::watch::Watch;
+use t1_char::{CharToken, Step};
+
+/// Watches for W01, W02 and P01 to P03.
+#[derive(Clone, Copy, Debug, PartialEq, Eq)]
+pub struct PathWatcher {
+    /// Whether a command came that takes arguments from the bottom of the stack.
+    begun: bool,
+    /// Whether a flex was started, and not ended since.
+    in_flex: bool,
+    /// Whether there was a move outside flex, and no closepath since.
+    moved: bool,
+    /// Whether something was drawn, and no closepath came since.
+    drawn: bool,
+}
+
+impl Watch for PathWatcher {
+    ghost use Rattle.t1_rules.specs.StepRules.{path_rules};
+    ghost use Rattle.t1_rules.specs.Watches.{PathsStandFor};
+
+    ghost stands_for = { PathsStandFor };
+
+    ghost rules = { path_rules };
+
+    fn start() -> PathWatcher {
+        PathWatcher {
+            begun: false,
+            in_flex: false,
+            moved: false,
+            drawn: false,
+        }
+    }
+
+    fn see(&mut self, step: &Step) -> Mask {
+        if is_quiet(step) {
+            return Mask::empty();
+        }
+        let broken = self.faults(step);
+        self.go_on(step);
+        broken
+    }
+}
+
+impl PathWatcher {
+    /// What a step breaks.
+    #[tactic(auto, unfolding(crate::specs::StepRules::path_rules))]
+    fn faults(&self, step: &Step) -> Mask
+        ensures { (before : List StepView) → PathsStandFor self.now before →
+            (n : ℕ) → has result n ≡ breaks path_rules n before (step_view step.now) }
+    {
+        let token = step.token;
+        let finishes = is_finishing(token) | ends_in_glyph(step);
+        Mask::empty()
+            .with(Rule::P03, closes(token) & !self.drawn)
+            .with(Rule::P02, (self.moves(token) | finishes) & self.drawn)
+            .with(Rule::P01, self.draws(step) & !self.moved)
+            .with(Rule::W02, sets_width(token) & self.begun)
+            .with(Rule::W01, clears(token) & !sets_width(token) & !self.begun)
+    }
+
+    /// Keeps what the step changes.
+    fn go_on(&mut self, step: &Step)
+        ensures { (before : List StepView) → PathsStandFor self.old before →
+            PathsStandFor self.new (before ++ step_view step.now ∷ []) }
+    {
+        let stays = !closes(step.token);
+        self.drawn = self.draws(step) | (self.drawn & stays);
+        self.moved = self.moves(step.token) | (self.moved & stays);
+        self.begun = self.begun | clears(step.token);
+        self.in_flex = step.starts_flex() | (self.in_flex & !step.ends_flex());
+    }
+
+    /// Whether it is a move outside flex.
+    fn moves(&self, token: CharToken) -> bool
+        ensures { result ≡ (is_move token && not self.now.in_flex) }
+    {
+        is_move(token) & !self.in_flex
+    }
+
+    /// Whether the step draws a line, a curve, or the curves of a flex.
+    fn draws(&self, step: &Step) -> bool
+        ensures { result ≡ (is_line step.now.token || (is_flex_end (step_view step.now) && self.now.in_flex)) }
+    {
+        is_line(step.token) | (step.ends_flex() & self.in_flex)
+    }
+}
+
+/// Whether none of these rules speaks of a token, and it changes nothing that is kept.
+fn is_quiet(step: &Step) -> bool
+    ensures { result ≡ true → IsQuietForPaths (step_view step.now) }
+{
+    !(clears(step.token) | is_callothersubr(step.token) | is_end(step.token))
+}
