@@ -1,23 +1,34 @@
 -- The faults of a report stand in the font.
-use Rattle.std.proofs.Common.{◌≡◌, ℕ, ◌/◌, ◌%◌, ◌∙◌, zero, suc, inl, inr, true≢false, List, [], ◌∷◌, map, slice_index_or, refl, sym, subst, arith}
+use Rattle.std.proofs.Common.{◌≡◌, ◌≤◌, ℕ, ◌*◌, ◌/◌, ◌∙◌, zero, suc, inl, inr, true, true≢false, List, [], ◌∷◌, map, length, slice_index_or, refl, sym, ap, subst, arith}
 use Rattle.std.proofs.lemmas.Bool.{cases_lt}
 use Rattle.std.proofs.lemmas.List.{length-map}
 use Rattle.std.specs.List.{All}
 use Rattle.t1_font.specs.Fonts.{FontValue}
 use Rattle.t1_rules.specs.Book.{number_of}
-use Rattle.t1_rules.proofs.Lemmas.FontRules.{past_last}
 use Rattle.t1_report.specs.declared.faults.Fault.{Fault}
 use Rattle.t1_report.specs.Faults.{FaultValue, fault_value, faults_of}
 use Rattle.t1_report.specs.Lines.{IsInFont}
-use Rattle.t1_report.specs.Reports.{IsReport, IsViolated, IsViolationOf, path_at}
+use Rattle.t1_report.specs.Reports.{IsReport, IsViolated, IsViolationOf, is_broken, path_at, step_limit}
+use Rattle.t1_report.proofs.Broken.{past_glyphs, past_keys}
+
+unit_within : (limit : ℕ) (font : FontValue) (unit step n : ℕ) → is_broken limit font unit step n ≡ true → unit ≤ length font.glyphs
+unit_within limit font unit step n is =
+    elim (cases_lt (length font.glyphs) unit) [
+      | inr within ↦ within
+      | inl past ↦ absurd (true≢false (sym is ∙ past_glyphs limit font unit step n past))
+    ]
+
+key_within : (limit : ℕ) (font : FontValue) (unit step n : ℕ) → unit ≡ 0 → is_broken limit font unit step n ≡ true → step / 65536 ≤ 21
+key_within limit font unit step n first is =
+    elim (cases_lt step (65536 * 22)) [
+      | inl less ↦ omega arith
+      | inr past ↦ absurd (true≢false (sym is ∙ ap (λ (u : ℕ). is_broken limit font u step n) first ∙ past_keys limit font step n past))
+    ]
 
 in_font : (font : FontValue) (fault : FaultValue) → IsViolationOf (IsViolated font) (path_at font) fault → IsInFont font fault
 in_font font fault is = record {
-  unit = (let zero_unit = is.violated.in_font in omega arith);
-  key = λ unit. elim (cases_lt (fault.step / 65536) 22) [
-    | inl less ↦ omega arith
-    | inr past ↦ (let none = past_last (fault.step / 65536) past font (fault.step % 65536) (number_of fault.rule) in absurd (true≢false (sym is.violated.broken ∙ none)))
-  ];
+  unit = unit_within step_limit font fault.unit fault.step (number_of fault.rule) is.violated;
+  key = λ first. key_within step_limit font fault.unit fault.step (number_of fault.rule) first is.violated;
 }
 
 value_at : (xs : List Fault) (k : ℕ) (d : Fault) → slice_index_or (map fault_value xs) k (fault_value d) ≡ fault_value (slice_index_or xs k d)

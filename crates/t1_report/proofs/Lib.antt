@@ -1,6 +1,9 @@
 pub mod DecimalLemmas
 pub mod OneReport
-pub mod FontFronts
+pub mod Pushed
+pub mod Broken
+pub mod UnitFronts
 pub mod Fronts
 pub mod InFont
 pub mod GlyphNames
+pub mod GlyphSteps

@@ -3,3 +3,4 @@ pub mod Laws
 pub mod Lines
 pub mod Reports
 pub mod Traces
+pub mod Workings

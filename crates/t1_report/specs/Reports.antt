@@ -1,9 +1,12 @@
 -- The report of a font: its violations by place, each once, numbered from 1.
-use Rattle.std.specs.Prelude.{◌≡◌, ℕ, ◌+◌, ◌/◌, ◌%◌, ◌<◌, ◌⊎◌, true, List, [], length}
+use Rattle.std.specs.Prelude.{◌≡◌, ℕ, zero, suc, ◌+◌, ◌/◌, ◌%◌, ◌<◌, ◌⊎◌, ◌==◌, ◌&&◌, nat_lt, if◌then◌else◌, Bool, true, false, Option, Some, None, List, [], length, slice_get, take}
 use Rattle.std.specs.List.{All, AllPairs, Any, slice_index_or}
+use Rattle.t1_char.specs.Steps.{StepView, steps_of}
 use Rattle.t1_font.specs.Fonts.{FontValue}
 use Rattle.t1_rules.specs.declared.rule.Rule.{Rule}
 use Rattle.t1_rules.specs.FontRules.{font_rules, violated}
+use Rattle.t1_rules.specs.declared.rule.Rule.TheVariants.{L01}
+use Rattle.t1_rules.specs.StepRules.{breaks, step_rules}
 use Rattle.t1_rules.specs.Book.{number_of}
 use Rattle.t1_report.specs.Faults.{FaultValue}
 
@@ -22,18 +25,47 @@ Comes unit step rule unit' step' rule' =
 abbrev pub IsBefore : Place → Place → Type 0
 IsBefore p q = Comes p.unit p.step (number_of p.rule) q.unit q.step (number_of q.rule)
 
--- The rule is violated at the place: in the font, at the key and the index of the step.
-pub record IsViolated (font : FontValue) (p : Place) : Type 0 where
-  pub in_font : p.unit ≡ 0
-  pub broken : violated font_rules (number_of p.rule) font (p.step / 65536) (p.step % 65536) ≡ true
+-- How many steps of a glyph are checked.
+abbrev pub step_limit : ℕ
+step_limit = 100000
+
+-- What a step breaks, given the steps before it: up to the limit the charstring rules, and the first step past
+-- the limit the rule on the limit alone.
+abbrev pub step_breaks : ℕ → ℕ → List StepView → Option StepView → Bool
+step_breaks limit n before None = false
+step_breaks limit n before (Some step) =
+    if nat_lt (length before) limit then breaks step_rules n before step
+    else length before == limit && number_of L01 == n
+
+-- The rule of a number is broken at a unit and a step: in the font at the key and the index of the step, in a
+-- glyph at one of its steps, which count from 1.
+unfoldable pub is_broken : ℕ → FontValue → ℕ → ℕ → ℕ → Bool
+is_broken limit font zero step n = violated font_rules n font (step / 65536) (step % 65536)
+is_broken limit font (suc glyph) zero n = false
+is_broken limit font (suc glyph) (suc i) n =
+    nat_lt glyph (length font.glyphs)
+    && step_breaks limit n (take i (steps_of font glyph)) (slice_get (steps_of font glyph) i)
+
+-- The rule is violated at the place.
+abbrev pub IsViolated : FontValue → Place → Type 0
+IsViolated font p = is_broken step_limit font p.unit p.step (number_of p.rule) ≡ true
 
 -- Where a fault stands.
 abbrev pub place_of : FaultValue → Place
 place_of fault = record { unit = fault.unit; step = fault.step; rule = fault.rule }
 
--- The Subrs that are being executed at a place, the outermost first: none in the font.
+-- The Subrs that are being executed at a unit and a step, the outermost first: none in the font.
+abbrev pub path_of_step : Option StepView → List ℕ
+path_of_step None = []
+path_of_step (Some step) = step.path
+
+unfoldable pub path_in : FontValue → ℕ → ℕ → List ℕ
+path_in font zero step = []
+path_in font (suc glyph) zero = []
+path_in font (suc glyph) (suc i) = path_of_step (slice_get (steps_of font glyph) i)
+
 abbrev pub path_at : FontValue → Place → List ℕ
-path_at font p = []
+path_at font p = path_in font p.unit p.step
 
 -- The fault stands at this place.
 abbrev pub StandsAt : Place → FaultValue → Type 0

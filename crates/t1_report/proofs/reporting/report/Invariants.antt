@@ -1,4 +1,4 @@
-use Rattle.std.proofs.Common.{◌*◌}
+use Rattle.std.proofs.Common.{◌+◌, ◌*◌}
 use Rattle.t1_report.specs.Faults.{faults_of}
 use Rattle.t1_report.specs.Reports.{IsFront}
 use Rattle.t1_report.proofs.reporting.report.Given as goal
@@ -6,4 +6,9 @@ use Rattle.t1_report.proofs.reporting.report.Given as goal
 abbrev pub invariant-loop-key : goal.invariant-loop-key
 invariant-loop-key l = record {
   front : IsFront l.font 0 (65536 * l.key) 0 (faults_of l.faults.items);
+}
+
+abbrev pub invariant-loop-glyph : goal.invariant-loop-glyph
+invariant-loop-glyph l = record {
+  front : IsFront l.font (l.glyph + 1) 0 0 (faults_of l.faults.items);
 }

@@ -1,0 +1,118 @@
+-- What is broken at a unit and a step: in the font, at the steps of a glyph, and where nothing is.
+use Rattle.std.proofs.Common.{◌≡◌, ℕ, zero, suc, ◌+◌, ◌*◌, ◌/◌, ◌%◌, ◌<◌, ◌≤◌, ◌&&◌, nat_lt, Bool, true, false, List, [], length, take, slice_get, Option, Some, None, inl, inr, refl, ap, ◌∙◌, arith, rules}
+use Rattle.std.proofs.lemmas.Bool.{cases_lt, ne_eqb}
+use Rattle.std.proofs.lemmas.List.{length-take}
+use Rattle.std.proofs.lemmas.Option.{slice_get_past}
+use Rattle.t1_char.specs.Steps.{StepView, steps_of}
+use Rattle.t1_font.specs.Fonts.{FontValue}
+use Rattle.t1_rules.specs.FontRules.{font_rules, violated}
+use Rattle.t1_rules.specs.Keys.{places_of}
+use Rattle.t1_rules.proofs.Lemmas.Keys.{past_places}
+use Rattle.t1_rules.proofs.Lemmas.FontRules.{past_last}
+use Rattle.t1_report.specs.Reports.{is_broken, path_in, step_breaks, path_of_step}
+
+-- ---- the font
+
+pub in_font : (limit : ℕ) (font : FontValue) (key index n : ℕ) → index < 65536 → is_broken limit font 0 (65536 * key + index) n ≡ violated font_rules n font key index
+unfolding is_broken
+in_font limit font key index n few =
+    let at : (65536 * key + index) / 65536 ≡ key = omega arith in
+    let place : (65536 * key + index) % 65536 ≡ index = omega arith in
+    ap (λ (k : ℕ). violated font_rules n font k ((65536 * key + index) % 65536)) at ∙ ap (λ (i : ℕ). violated font_rules n font key i) place
+
+pub no_path : (font : FontValue) (step : ℕ) → path_in font 0 step ≡ []
+unfolding path_in
+no_path font step = refl
+
+-- past the places of a key, up to the next key
+pub past_key : (limit : ℕ) (font : FontValue) (key step n : ℕ) → 65536 * key + places_of font key ≤ step → step < 65536 * (key + 1) → is_broken limit font 0 step n ≡ false
+unfolding is_broken
+past_key limit font key step n past less =
+    let at : step / 65536 ≡ key = omega arith in
+    let beyond : places_of font key ≤ step % 65536 = omega arith in
+    ap (λ (k : ℕ). violated font_rules n font k (step % 65536)) at ∙ past_places font key (step % 65536) beyond n
+
+-- past the last key
+pub past_keys : (limit : ℕ) (font : FontValue) (step n : ℕ) → 65536 * 22 ≤ step → is_broken limit font 0 step n ≡ false
+unfolding is_broken
+past_keys limit font step n past = past_last (step / 65536) (omega arith) font (step % 65536) n
+
+-- ---- glyphs
+
+less_is : (a b : ℕ) → a < b → nat_lt a b ≡ true
+less_is a b less = search rules
+
+not_less : (a b : ℕ) → b ≤ a → nat_lt a b ≡ false
+not_less a b more = search rules
+
+and_false : (b : Bool) → (b && false) ≡ false
+and_false true = refl
+and_false false = refl
+
+by_place : (limit : ℕ) (font : FontValue) (glyph i n : ℕ) → glyph < length font.glyphs
+    → is_broken limit font (suc glyph) (suc i) n ≡ step_breaks limit n (take i (steps_of font glyph)) (slice_get (steps_of font glyph) i)
+unfolding is_broken
+by_place limit font glyph i n there = rw (less_is glyph (length font.glyphs) there) refl
+
+-- at a step of a glyph
+pub at_step : (limit : ℕ) (font : FontValue) (unit step glyph i n : ℕ) → unit ≡ glyph + 1 → step ≡ i + 1 → glyph < length font.glyphs
+    → is_broken limit font unit step n ≡ step_breaks limit n (take i (steps_of font glyph)) (slice_get (steps_of font glyph) i)
+at_step limit font unit step glyph i n at place there =
+    let unit_is : unit ≡ suc glyph = omega arith in
+    let step_is : step ≡ suc i = omega arith in
+    ap (λ (u : ℕ). is_broken limit font u step n) unit_is ∙ ap (λ (s : ℕ). is_broken limit font (suc glyph) s n) step_is ∙ by_place limit font glyph i n there
+
+path_by_place : (font : FontValue) (glyph i : ℕ) → path_in font (suc glyph) (suc i) ≡ path_of_step (slice_get (steps_of font glyph) i)
+unfolding path_in
+path_by_place font glyph i = refl
+
+pub path_at_step : (font : FontValue) (unit step glyph i : ℕ) → unit ≡ glyph + 1 → step ≡ i + 1 → path_in font unit step ≡ path_of_step (slice_get (steps_of font glyph) i)
+path_at_step font unit step glyph i at place =
+    let unit_is : unit ≡ suc glyph = omega arith in
+    let step_is : step ≡ suc i = omega arith in
+    ap (λ (u : ℕ). path_in font u step) unit_is ∙ ap (λ (s : ℕ). path_in font (suc glyph) s) step_is ∙ path_by_place font glyph i
+
+no_step : (limit : ℕ) (font : FontValue) (glyph n : ℕ) → is_broken limit font (suc glyph) 0 n ≡ false
+unfolding is_broken
+no_step limit font glyph n = refl
+
+-- a glyph's steps begin at 1
+pub at_no_step : (limit : ℕ) (font : FontValue) (unit step n : ℕ) → 0 < unit → step < 1 → is_broken limit font unit step n ≡ false
+at_no_step limit font zero step n first none = absurd (omega arith)
+at_no_step limit font (suc glyph) step n first none =
+    let step_is : step ≡ 0 = omega arith in
+    ap (λ (s : ℕ). is_broken limit font (suc glyph) s n) step_is ∙ no_step limit font glyph n
+
+-- past the first step past the limit nothing is broken
+past_limit : (limit n : ℕ) (before : List StepView) (s : Option StepView) → limit < length before → step_breaks limit n before s ≡ false
+past_limit limit n before None past = refl
+past_limit limit n before (Some s) past = rw (not_less (length before) limit (omega arith), ne_eqb (length before) limit (λ e. omega arith)) refl
+
+by_limit : (limit : ℕ) (font : FontValue) (glyph i n : ℕ) → length (take (limit + 1) (steps_of font glyph)) ≤ i
+    → (nat_lt glyph (length font.glyphs) && step_breaks limit n (take i (steps_of font glyph)) (slice_get (steps_of font glyph) i)) ≡ false
+by_limit limit font glyph i n past =
+    let steps : List StepView = steps_of font glyph in
+    let count = length-take (limit + 1) steps in
+    let before = length-take i steps in
+    elim (cases_lt i (length steps)) [
+      | inr beyond ↦ ap (λ (s : Option StepView). nat_lt glyph (length font.glyphs) && step_breaks limit n (take i steps) s) (slice_get_past steps i beyond) ∙ and_false _
+      | inl within ↦ ap (λ (b : Bool). nat_lt glyph (length font.glyphs) && b) (past_limit limit n (take i steps) (slice_get steps i) (omega (arith, count, before))) ∙ and_false _
+    ]
+
+behind : (limit : ℕ) (font : FontValue) (glyph step n : ℕ) → length (take (limit + 1) (steps_of font glyph)) < step → is_broken limit font (suc glyph) step n ≡ false
+unfolding is_broken
+behind limit font glyph zero n past = absurd (omega arith)
+behind limit font glyph (suc i) n past = by_limit limit font glyph i n (omega arith)
+
+-- nor past the last step
+pub past_steps : (limit : ℕ) (font : FontValue) (unit glyph step n : ℕ) → unit ≡ glyph + 1 → length (take (limit + 1) (steps_of font glyph)) < step → is_broken limit font unit step n ≡ false
+past_steps limit font unit glyph step n at past =
+    let unit_is : unit ≡ suc glyph = omega arith in
+    ap (λ (u : ℕ). is_broken limit font u step n) unit_is ∙ behind limit font glyph step n past
+
+-- past the last glyph
+pub past_glyphs : (limit : ℕ) (font : FontValue) (unit step n : ℕ) → length font.glyphs < unit → is_broken limit font unit step n ≡ false
+unfolding is_broken
+past_glyphs limit font zero step n past = absurd (omega arith)
+past_glyphs limit font (suc glyph) zero n past = refl
+past_glyphs limit font (suc glyph) (suc i) n past = rw (not_less glyph (length font.glyphs) (omega arith)) refl

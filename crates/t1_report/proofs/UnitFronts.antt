@@ -1,0 +1,149 @@
+-- The front of a report within a unit: from rule to rule of a step, from step to step, and on to the next unit.
+use Rattle.std.proofs.Common.{◌≡◌, ℕ, ◌+◌, ◌<◌, ◌≤◌, inl, inr, Bool, true, false, true≢false, List, [], ◌∷◌, ◌++◌, length, refl, sym, ap, ◌∙◌, arith}
+use Rattle.std.proofs.lemmas.Bool.{cases_lt}
+use Rattle.t1_rules.specs.declared.rule.Rule.{Rule}
+use Rattle.t1_rules.specs.Mask.{HasNoneAbove, IsLeastAbove, has}
+use Rattle.t1_rules.specs.declared.mask.Mask.{Mask}
+use Rattle.t1_rules.specs.Book.{number_of}
+use Rattle.t1_report.specs.Faults.{FaultValue}
+use Rattle.t1_report.specs.Reports.{Comes, IsFrontOf, IsReportOf, Place}
+use Rattle.t1_report.proofs.Fronts.{comes_on, fault_at, front_ends, front_on, front_with}
+use Rattle.t1_rules.proofs.Lemmas.Book.{in_book}
+
+-- ---- the order of places
+
+-- before a greater number of a rule
+comes_up : (u s r unit step a b : ℕ) → a ≤ b → Comes u s r unit step a → Comes u s r unit step b
+comes_up u s r unit step a b more (inl c) = inl c
+comes_up u s r unit step a b more (inr (c, inl d)) = inr (c, inl d)
+comes_up u s r unit step a b more (inr (c, inr (d, e))) = inr (c, inr (d, omega arith))
+
+-- before a greater step
+comes_far : (u s r unit step step' : ℕ) → step ≤ step' → Comes u s r unit step 0 → Comes u s r unit step' 0
+comes_far u s r unit step step' more (inl c) = inl c
+comes_far u s r unit step step' more (inr (c, inl d)) = inr (c, inl (omega arith))
+comes_far u s r unit step step' more (inr (c, inr (d, e))) = absurd (omega arith)
+
+-- before a number of a rule that is less, unless it stands between both
+comes_back : (u s r unit step a b : ℕ) → (u ≡ unit → s ≡ step → a ≤ r → r < b → ⊥) → Comes u s r unit step b → Comes u s r unit step a
+comes_back u s r unit step a b none (inl c) = inl c
+comes_back u s r unit step a b none (inr (c, inl d)) = inr (c, inl d)
+comes_back u s r unit step a b none (inr (c, inr (d, e))) =
+    elim (cases_lt r a) [
+      | inl less ↦ inr (c, inr (d, less))
+      | inr past ↦ absurd (none c d past e)
+    ]
+
+-- before a step that is less, unless it stands between both
+comes_near : (u s r unit step step' : ℕ) → (u ≡ unit → step ≤ s → s < step' → ⊥) → Comes u s r unit step' 0 → Comes u s r unit step 0
+comes_near u s r unit step step' none (inl c) = inl c
+comes_near u s r unit step step' none (inr (c, inl d)) =
+    elim (cases_lt s step) [
+      | inl less ↦ inr (c, inl less)
+      | inr past ↦ absurd (none c past d)
+    ]
+comes_near u s r unit step step' none (inr (c, inr (d, e))) = absurd (omega arith)
+
+-- before the next step there are no more rules than the book has
+comes_last : (u s r unit step : ℕ) → r < 70 → Comes u s r unit (step + 1) 0 → Comes u s r unit step 70
+comes_last u s r unit step few (inl c) = inl c
+comes_last u s r unit step few (inr (c, inl d)) =
+    elim (cases_lt s step) [
+      | inl less ↦ inr (c, inl less)
+      | inr here ↦ inr (c, inr (omega arith, few))
+    ]
+comes_last u s r unit step few (inr (c, inr (d, e))) = absurd (omega arith)
+
+-- before the next unit, unless it stands behind the step
+comes_within : (u s r unit step : ℕ) → (u ≡ unit → step ≤ s → ⊥) → Comes u s r (unit + 1) 0 0 → Comes u s r unit step 0
+comes_within u s r unit step none (inl c) =
+    elim (cases_lt u unit) [
+      | inl less ↦ inl less
+      | inr here ↦ elim (cases_lt s step) [
+        | inl less ↦ inr (omega arith, inl less)
+        | inr past ↦ absurd (none (omega arith) past)
+      ]
+    ]
+comes_within u s r unit step none (inr (c, inl d)) = absurd (omega arith)
+comes_within u s r unit step none (inr (c, inr (d, e))) = absurd (omega arith)
+
+-- ---- fronts
+
+-- Over any violations that a Bool tells by unit, step and the number of the rule.
+module _ (broken : ℕ → ℕ → ℕ → Bool) (path_of : Place → List ℕ) where
+  abbrev IsBroken : Place → Type 0
+  IsBroken p = broken p.unit p.step (number_of p.rule) ≡ true
+
+  abbrev Front : ℕ → ℕ → ℕ → List FaultValue → Type 0
+  Front unit step rule faults = IsFrontOf IsBroken path_of unit step rule faults
+
+  -- the rules of a set are those that are broken at a step
+  abbrev pub Agrees : Mask → ℕ → ℕ → Type 0
+  Agrees mask unit step = (n : ℕ) → has mask n ≡ broken unit step n
+
+  -- what is broken at a place isn't unbroken by another name of the place
+  never : (u s unit step n : ℕ) → u ≡ unit → s ≡ step → broken u s n ≡ true → broken unit step n ≡ false → ⊥
+  never u s unit step n at place is none =
+      let no : true ≡ false = sym is ∙ ap (λ (v : ℕ). broken v s n) at ∙ ap (λ (t : ℕ). broken unit t n) place ∙ none in
+      absurd (true≢false no)
+
+  -- rule numbers begin at 1
+  pub first_rule : (unit step : ℕ) (faults : List FaultValue) → Front unit step 0 faults → Front unit step 1 faults
+  first_rule unit step faults front =
+      front_on IsBroken path_of unit step 0 unit step 1 faults front (λ u s r. comes_up u s r unit step 0 1 (omega arith))
+      (λ p is before. comes_back p.unit p.step (number_of p.rule) unit step 0 1 (λ at place more less. let some = (in_book p.rule).0 in absurd (omega arith)) before)
+
+  -- from a rule number of a step on to another, where no rule of the step's set is between
+  up_to : (unit step floor next : ℕ) (mask : Mask) (faults : List FaultValue) → Front unit step (floor + 1) faults → Agrees mask unit step
+      → floor + 1 ≤ next → ((rule : Rule) → floor < number_of rule → number_of rule < next → has mask (number_of rule) ≡ false)
+      → Front unit step next faults
+  up_to unit step floor next mask faults front agrees more none =
+      front_on IsBroken path_of unit step (floor + 1) unit step next faults front (λ u s r. comes_up u s r unit step (floor + 1) next more)
+      (λ p is before. comes_back p.unit p.step (number_of p.rule) unit step (floor + 1) next
+      (λ at place past less. never p.unit p.step unit step (number_of p.rule) at place is (sym (agrees (number_of p.rule)) ∙ none p.rule (omega arith) less)) before)
+
+  -- the end of a step
+  pub place_ends : (unit step floor : ℕ) (mask : Mask) (faults : List FaultValue) → Front unit step (floor + 1) faults
+      → HasNoneAbove mask floor → Agrees mask unit step → floor ≤ 69 → Front unit (step + 1) 0 faults
+  place_ends unit step floor mask faults front none agrees low =
+      front_on IsBroken path_of unit step 70 unit (step + 1) 0 faults
+      (up_to unit step floor 70 mask faults front agrees (omega arith) (λ rule above below. none (number_of rule) above (in_book rule).1))
+      (λ u s r before. comes_on u s r unit step 70 unit (step + 1) 0 before (inr (refl, inl (omega arith))))
+      (λ p is before. comes_last p.unit p.step (number_of p.rule) unit step (let last = (in_book p.rule).1 in omega arith) before)
+
+  -- the next rule of a step
+  pub fault_more : (unit step floor : ℕ) (mask : Mask) (rule : Rule) (faults : List FaultValue) → Front unit step (floor + 1) faults
+      → IsLeastAbove mask floor rule → Agrees mask unit step
+      → Front unit step (number_of rule + 1)
+      (faults ++ fault_at (length faults + 1) (record { unit = unit; step = step; rule = rule }) (path_of (record { unit = unit; step = step; rule = rule })) ∷ [])
+  fault_more unit step floor mask rule faults front least agrees =
+      let above = least.greater in
+      front_with IsBroken path_of (record { unit = unit; step = step; rule = rule }) faults
+      (up_to unit step floor (number_of rule) mask faults front agrees (omega arith) (λ other more less. least.least (number_of other) more less))
+      (sym (agrees (number_of rule)) ∙ least.is_in)
+
+  -- over steps of a unit at which nothing is broken
+  pub quiet_on : (unit step step' : ℕ) (faults : List FaultValue) → Front unit step 0 faults → step ≤ step'
+      → ((s : ℕ) (rule : Rule) → step ≤ s → s < step' → broken unit s (number_of rule) ≡ false) → Front unit step' 0 faults
+  quiet_on unit step step' faults front more none =
+      front_on IsBroken path_of unit step 0 unit step' 0 faults front (λ u s r. comes_far u s r unit step step' more)
+      (λ p is before. comes_near p.unit p.step (number_of p.rule) unit step step'
+      (λ at past less. never p.unit p.step unit p.step (number_of p.rule) at refl is (none p.step p.rule past less)) before)
+
+  -- to the next unit, where nothing is broken behind the step
+  pub unit_ends : (unit step : ℕ) (faults : List FaultValue) → Front unit step 0 faults
+      → ((s : ℕ) (rule : Rule) → step ≤ s → broken unit s (number_of rule) ≡ false) → Front (unit + 1) 0 0 faults
+  unit_ends unit step faults front none =
+      front_on IsBroken path_of unit step 0 (unit + 1) 0 0 faults front (λ u s r before. comes_on u s r unit step 0 (unit + 1) 0 0 before (inl (omega arith)))
+      (λ p is before. comes_within p.unit p.step (number_of p.rule) unit step
+      (λ at past. never p.unit p.step unit p.step (number_of p.rule) at refl is (none p.step p.rule past)) before)
+
+  -- the whole report, where nothing is broken from this unit on
+  pub all_units : (unit : ℕ) (faults : List FaultValue) → Front unit 0 0 faults
+      → ((u s : ℕ) (rule : Rule) → unit ≤ u → broken u s (number_of rule) ≡ false) → IsReportOf IsBroken path_of faults
+  all_units unit faults front none =
+      front_ends IsBroken path_of unit 0 0 faults front
+      (λ p is. elim (cases_lt p.unit unit) [
+        | inl less ↦ inl less
+        | inr past ↦ absurd (never p.unit p.step p.unit p.step (number_of p.rule) refl refl is (none p.unit p.step p.rule past))
+      ])
