@@ -6,5 +6,6 @@ pub mod Keys
 pub mod Mask
 pub mod Paths
 pub mod Products
+pub mod StepRules
 pub mod Watches
 pub mod Zones

@@ -1,6 +1,7 @@
 //! Laws of the definitions, each on a call that does nothing.
 
 ghost use Rattle.t1_rules.specs.Laws.FontRules.{AbsentEntriesBreakNothing, BrokenIsInTheBook, NothingIsBrokenPastLast, NothingIsBrokenPastPlaces, RuleNumbersAreInOrder};
+ghost use Rattle.t1_rules.specs.Laws.StepRules.{ArgumentsCountFromTheBottom, BrokenStepsHaveTheseNumbers, EndsBreakOneRule, FlexIsByPlaces, LaterStepsHaveNoSay, MovedIsByPlaces, OneStepStartsWithoutWidth, OpenIsByPlaces, StepRuleNumbersAreInOrder, SurplusNumbersAreNotPast};
 ghost use Rattle.t1_rules.specs.Laws.Zones.{ZonesAreApartWhereOneIsAbove, ZonesMeetOneOfTheOthers, ZonesAreNearBothWays, ZonesAreNearTheOneBefore, NoZoneIsPastPairs, ZonesReachOne, ListsRiseWhereNoneFalls, ZonesArePairs};
 
 /// The font rules have the numbers from 1 to 25, and what is broken is a rule of the book.
@@ -49,4 +50,46 @@ pub fn zones_come_near_both_ways()
 #[tactic(auto, using(crate::proofs::Lemmas::Zones::rising_where_none_falls, crate::proofs::Lemmas::Zones::falls_nowhere))]
 pub fn numbers_rise_where_none_falls()
     ensures { ListsRiseWhereNoneFalls }
+{}
+
+/// The rules on steps of a glyph have the numbers from 26 to 45, and what a step breaks is one of them.
+#[tactic(auto, using(crate::proofs::Lemmas::StepRules::numbers_in_order, crate::proofs::Lemmas::StepRules::broken_have_these_numbers))]
+pub fn step_rules_have_their_numbers()
+    ensures order { StepRuleNumbersAreInOrder }
+    ensures these { BrokenStepsHaveTheseNumbers }
+{}
+
+/// What a step breaks depends on the steps up to it alone.
+#[tactic(auto, using(crate::proofs::Lemmas::StepRules::later_steps_have_no_say))]
+pub fn later_steps_have_no_say()
+    ensures { LaterStepsHaveNoSay }
+{}
+
+/// Arguments are counted from the bottom of the stack: what lies above them has no say in what they are,
+/// nor in whether one is past 32000.
+#[tactic(auto, using(crate::proofs::Lemmas::StepRules::arguments_count_from_the_bottom, crate::proofs::Lemmas::StepRules::surplus_numbers_are_not_past))]
+pub fn arguments_count_from_the_bottom()
+    ensures argument { ArgumentsCountFromTheBottom }
+    ensures past { SurplusNumbersAreNotPast }
+{}
+
+/// The end of a charstring breaks one rule: a Subr lacks its return, or the glyph its endchar.
+#[tactic(auto, using(crate::proofs::Lemmas::StepRules::ends_break_one_rule))]
+pub fn ends_break_one_rule()
+    ensures { EndsBreakOneRule }
+{}
+
+/// At most one step of a glyph breaks W01, that the first command isn't hsbw or sbw.
+#[tactic(auto, using(crate::proofs::Lemmas::StepRules::one_step_starts_without_width))]
+pub fn one_step_starts_without_width()
+    ensures { OneStepStartsWithoutWidth }
+{}
+
+/// In flex, moved, and with the path open is told by the places of the steps before: one that begins it,
+/// and none after it that ends it.
+#[tactic(auto, using(crate::proofs::Lemmas::StepRules::flex_is_by_places, crate::proofs::Lemmas::StepRules::moved_is_by_places, crate::proofs::Lemmas::StepRules::open_is_by_places))]
+pub fn paths_are_by_places()
+    ensures flex { FlexIsByPlaces }
+    ensures moved { MovedIsByPlaces }
+    ensures open { OpenIsByPlaces }
 {}

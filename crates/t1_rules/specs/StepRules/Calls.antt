@@ -9,7 +9,7 @@ use Rattle.t1_char.specs.Steps.{StepView, is_callsubr, is_end, is_return}
 abbrev pub calls_by_number : StepView → Bool
 calls_by_number step = is_callsubr step.token && nat_lt 0 (length step.stack)
 
--- The step stands in the glyph's own charstring, or in a Subr.
+-- The step stands in the glyph's own charstring, and not in a Subr.
 abbrev pub is_in_glyph : StepView → Bool
 is_in_glyph step = length step.path == 0
 

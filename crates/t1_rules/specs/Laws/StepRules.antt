@@ -1,0 +1,63 @@
+-- Laws of the table of charstring rules.
+use Rattle.std.specs.Prelude.{◌≡◌, ℕ, ℤ, ◌<◌, ◌≤◌, ◌↔◌, not, true, Some, List, ◌++◌, length, map}
+use Rattle.std.specs.List.{range_with_len}
+use Rattle.t1_char.specs.Arguments.{argument}
+use Rattle.t1_char.specs.Laws.Since.{IsSince}
+use Rattle.t1_char.specs.Steps.{StepView, is_end}
+use Rattle.t1_rules.specs.declared.rule.Rule.TheVariants.{S04, GE01, W01}
+use Rattle.t1_rules.specs.Book.{number_of}
+use Rattle.t1_rules.specs.StepRules.{StepRule, step_rules, breaks, breaks_at}
+use Rattle.t1_rules.specs.StepRules.Arguments.{one_is_past}
+use Rattle.t1_rules.specs.StepRules.Paths.{flex_start, flex_end, in_flex, outer_move, drawing, closing_step, is_moved, is_open}
+
+-- The rows have the numbers from 26 to 45, in order and each once.
+abbrev pub StepRuleNumbersAreInOrder : Type 0
+StepRuleNumbersAreInOrder = map (λ r. number_of r.rule) step_rules ≡ range_with_len 26 20
+
+-- What a step breaks has one of these numbers.
+abbrev pub BrokenStepsHaveTheseNumbers : Type 0
+BrokenStepsHaveTheseNumbers =
+    (n : ℕ) (before : List StepView) (step : StepView) → breaks step_rules n before step ≡ true →
+    (26 ≤ n) × (n ≤ 45)
+
+-- What is broken at a place of a list depends on the steps up to there alone, whatever the rules.
+abbrev pub LaterStepsHaveNoSay : Type 0
+LaterStepsHaveNoSay =
+    (rules : List StepRule) (n : ℕ) (steps more : List StepView) (place : ℕ) → place < length steps →
+    breaks_at rules n (steps ++ more) place ≡ breaks_at rules n steps place
+
+-- An argument is the same whatever lies above it on the stack.
+abbrev pub ArgumentsCountFromTheBottom : Type 0
+ArgumentsCountFromTheBottom =
+    (stack more : List ℤ) (place : ℕ) → place < length stack →
+    argument (stack ++ more) place ≡ argument stack place
+
+-- Numbers above the arguments of a command are never past the range.
+abbrev pub SurplusNumbersAreNotPast : Type 0
+SurplusNumbersAreNotPast =
+    (count : ℕ) (stack more : List ℤ) → count ≤ length stack →
+    one_is_past (Some count) (stack ++ more) ≡ one_is_past (Some count) stack
+
+-- At the end of a charstring exactly one of the two is broken: it is a Subr's, or the glyph's.
+abbrev pub EndsBreakOneRule : Type 0
+EndsBreakOneRule =
+    (before : List StepView) (step : StepView) → is_end step.token ≡ true →
+    breaks step_rules (number_of S04) before step ≡ not (breaks step_rules (number_of GE01) before step)
+
+-- At most one step of a glyph is its first command.
+abbrev pub OneStepStartsWithoutWidth : Type 0
+OneStepStartsWithoutWidth =
+    (steps : List StepView) (one other : ℕ) →
+    breaks_at step_rules (number_of W01) steps one ≡ true → breaks_at step_rules (number_of W01) steps other ≡ true →
+    one ≡ other
+
+-- In flex: a start stands at some place, and no end at a later one; moved, and the path open, the same
+-- with a closepath.
+abbrev pub FlexIsByPlaces : Type 0
+FlexIsByPlaces = (steps : List StepView) → (in_flex steps ≡ true) ↔ IsSince flex_start flex_end steps
+
+abbrev pub MovedIsByPlaces : Type 0
+MovedIsByPlaces = (steps : List StepView) → (is_moved steps ≡ true) ↔ IsSince outer_move closing_step steps
+
+abbrev pub OpenIsByPlaces : Type 0
+OpenIsByPlaces = (steps : List StepView) → (is_open steps ≡ true) ↔ IsSince drawing closing_step steps
