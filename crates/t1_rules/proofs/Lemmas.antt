@@ -1,6 +1,7 @@
 -- Lemmas by what they are about.
 pub mod AbsentEntries
 pub mod Book
+pub mod Divisions
 pub mod FontRules
 pub mod Keys
 pub mod Mask

@@ -2,3 +2,4 @@
 pub mod BookRows
 pub mod Edges
 pub mod KeyTests
+pub mod StepTests

@@ -1,17 +1,18 @@
 //! The rules on tokens, arguments and numbers, C01 to C09: Type 1 Font Format 1.1, chapters 6 and 7.
 
-ghost use Rattle.std.specs.Prelude.{◌≡◌, ℕ, ◌≤◌, ◌≢◌, pos, List, length, true};
+ghost use Rattle.std.specs.Prelude.{◌≡◌, ℕ, List};
 ghost use Rattle.std.specs.List.{list_any};
+ghost use Rattle.t1_char.specs.declared.command.Command.TheVariants.{Div};
 ghost use Rattle.t1_char.specs.Commands.{arguments_of};
 ghost use Rattle.t1_char.specs.Steps.{StepView};
 ghost use Rattle.t1_char.specs.StepValues.{step_view};
 ghost use Rattle.t1_rules.specs.Mask.{has};
 ghost use Rattle.t1_rules.specs.StepRules.{argument_rules, breaks};
-ghost use Rattle.t1_rules.specs.StepRules.Arguments.{divides, divides_by_zero, divides_past, has_argument_past, has_too_few, has_too_many, is_past, is_zero, one_is_past, overflows, quotient_is_past, wanted_by};
+ghost use Rattle.t1_rules.specs.StepRules.Arguments.{is_past, one_is_past, quotient_is_past};
+ghost use Rattle.t1_rules.specs.Words.StepTests.{IsCommand, breaks_by_count, breaks_by_quotient};
 
 use crate::mask::Mask;
 use crate::rule::Rule;
-use crate::step_rules::tokens::{is_cut, is_div, is_number, is_pop, is_short, is_unknown};
 use crate::watch::Watch;
 use t1_char::{CharToken, Command, Step, cut_quotient};
 
@@ -42,68 +43,77 @@ impl Watch for ArgumentWatcher {
     }
 }
 
-/// What a step breaks.
+/// What a step breaks. Numbers, which most steps are, are asked one test.
 #[tactic(auto, unfolding(crate::specs::StepRules::argument_rules))]
 fn faults(step: &Step) -> Mask
     ensures { (before : List StepView) → (n : ℕ) →
         has result n ≡ breaks argument_rules n before (step_view step.now) }
 {
-    let token = step.token;
-    let numbers = step.stack.as_slice();
-    Mask::empty()
-        .with(Rule::C09, divides_by_zero(step))
-        .with(Rule::C08, divides_past(step))
-        .with(Rule::C07, has_argument_past(token, numbers))
-        .with(Rule::C06, overflows(step))
-        .with(Rule::C05, has_too_many(token, numbers))
-        .with(Rule::C04, has_too_few(token, numbers))
-        .with(Rule::C03, is_unknown(token))
-        .with(Rule::C02, is_cut(token))
-        .with(Rule::C01, is_short(token))
+    match step.token {
+        CharToken::Number(_) => Mask::empty().with(Rule::C06, step.stack.len() == FULL),
+        CharToken::Command(command) => command_faults(command, step),
+        CharToken::Unknown(_) | CharToken::Unknown12(_) => Mask::empty().with(Rule::C03, true),
+        CharToken::Cut => Mask::empty().with(Rule::C02, true),
+        CharToken::Short => Mask::empty().with(Rule::C01, true),
+        CharToken::End => Mask::empty(),
+    }
 }
 
-/// How many numbers a command wants on the stack: its arguments, or those that it takes from the top.
-fn wanted_by(command: Command) -> usize
-    ensures { result ≡ wanted_by command (arguments_of command) }
+/// What a step of this command breaks.
+#[tactic(auto, unfolding(crate::specs::StepRules::argument_rules))]
+fn command_faults(command: Command, step: &Step) -> Mask
+    requires { IsCommand (step_view step.now) command }
+    ensures { (before : List StepView) → (n : ℕ) →
+        has result n ≡ breaks argument_rules n before (step_view step.now) }
+{
+    match command {
+        Command::Div => division_faults(step),
+        Command::Pop => Mask::empty().with(
+            Rule::C06,
+            (0 < step.waiting) & (step.stack.len() == FULL),
+        ),
+        Command::Callothersubr => Mask::empty().with(Rule::C04, step.stack.len() < 2),
+        Command::Callsubr => Mask::empty().with(Rule::C04, step.stack.len() < 1),
+        _ => count_faults(command, step.stack.as_slice()),
+    }
+}
+
+/// What a division breaks.
+#[tactic(auto, using(crate::proofs::Lemmas::Divisions::of_two), unfolding(crate::specs::StepRules::argument_rules))]
+fn division_faults(step: &Step) -> Mask
+    requires { IsCommand (step_view step.now) Div }
+    ensures { (before : List StepView) → (n : ℕ) →
+        has result n ≡ breaks argument_rules n before (step_view step.now) }
+{
+    if step.stack.len() < 2 {
+        return Mask::empty().with(Rule::C04, true);
+    }
+    quotient_faults(step.stack.from_top(1), step.stack.from_top(0))
+}
+
+/// What a division of two numbers breaks.
+fn quotient_faults(dividend: i64, divisor: i64) -> Mask
+    ensures { (n : ℕ) → has result n ≡ breaks_by_quotient dividend divisor n }
+{
+    Mask::empty()
+        .with(Rule::C09, divisor == 0)
+        .with(Rule::C08, quotient_is_past(dividend, divisor))
+}
+
+/// What a command breaks by how many numbers there are for its arguments, and by how great they are.
+fn count_faults(command: Command, numbers: &[i64]) -> Mask
+    ensures { (n : ℕ) → has result n ≡ breaks_by_count (arguments_of command) numbers.now n }
 {
     match command.arguments() {
-        Some(count) => usize::from(count),
-        None => match command {
-            Command::Div | Command::Callothersubr => 2,
-            Command::Callsubr => 1,
-            _ => 0,
+        Some(count) => {
+            let count = usize::from(count);
+            Mask::empty()
+                .with(Rule::C07, one_is_past(count, numbers))
+                .with(Rule::C05, count < numbers.len())
+                .with(Rule::C04, numbers.len() < count)
         },
+        None => Mask::empty(),
     }
-}
-
-/// Whether there are fewer numbers than a command wants.
-fn has_too_few(token: CharToken, numbers: &[i64]) -> bool
-    ensures { result ≡ has_too_few token numbers.now }
-{
-    match token {
-        CharToken::Command(command) => numbers.len() < wanted_by(command),
-        _ => false,
-    }
-}
-
-/// Whether there are more numbers than a command's arguments.
-fn has_too_many(token: CharToken, numbers: &[i64]) -> bool
-    ensures { result ≡ has_too_many token numbers.now }
-{
-    match token {
-        CharToken::Command(command) => match command.arguments() {
-            Some(count) => usize::from(count) < numbers.len(),
-            None => false,
-        },
-        _ => false,
-    }
-}
-
-/// Whether one number more comes to a full stack.
-fn overflows(step: &Step) -> bool
-    ensures { result ≡ overflows (step_view step.now) }
-{
-    (is_number(step.token) | (is_pop(step.token) & (0 < step.waiting))) & (step.stack.len() == FULL)
 }
 
 /// Whether a number is past 32000 in absolute value.
@@ -131,40 +141,7 @@ fn one_is_past(count: usize, numbers: &[i64]) -> bool
     }
 }
 
-/// Whether an argument is past 32000 in absolute value.
-fn has_argument_past(token: CharToken, numbers: &[i64]) -> bool
-    ensures { result ≡ has_argument_past token numbers.now }
-{
-    match token {
-        CharToken::Command(command) => match command.arguments() {
-            Some(count) => one_is_past(usize::from(count), numbers),
-            None => false,
-        },
-        _ => false,
-    }
-}
-
-/// Whether the step divides one number by another.
-fn divides(step: &Step) -> bool
-    ensures divides { result ≡ divides (step_view step.now) }
-    ensures two { result ≡ true → 2 ≤ length step.now.stack }
-{
-    is_div(step.token) && 2 <= step.stack.len()
-}
-
-fn divides_by_zero(step: &Step) -> bool
-    ensures { result ≡ divides_by_zero (step_view step.now) }
-{
-    divides(step) && step.stack.from_top(0) == 0
-}
-
-/// Whether the step divides by a number other than 0, and the quotient is past 32000.
-fn divides_past(step: &Step) -> bool
-    ensures { result ≡ divides_past (step_view step.now) }
-{
-    divides(step) && quotient_is_past(step.stack.from_top(1), step.stack.from_top(0))
-}
-
+/// Whether the divisor isn't 0, and the quotient is past 32000.
 fn quotient_is_past(dividend: i64, divisor: i64) -> bool
     ensures { result ≡ quotient_is_past dividend divisor }
 {

@@ -4,36 +4,9 @@ ghost use Rattle.std.specs.Prelude.{◌≡◌};
 ghost use Rattle.t1_char.specs.Arguments.{is_callothersubr};
 ghost use Rattle.t1_char.specs.Laws.Steps.{is_finishing};
 ghost use Rattle.t1_char.specs.Steps.{is_callsubr, is_end, is_return};
-ghost use Rattle.t1_rules.specs.StepRules.Tokens.{clears, closes, is_cut, is_div, is_line, is_move, is_number, is_pop, is_short, is_unknown, sets_width};
+ghost use Rattle.t1_rules.specs.StepRules.Tokens.{clears, closes, is_line, is_move, sets_width};
 
 use t1_char::{CharToken, Command};
-
-pub(crate) fn is_number(token: CharToken) -> bool
-    ensures { result ≡ is_number token }
-{
-    matches!(token, CharToken::Number(_))
-}
-
-/// Whether it is a byte, or 12 and a byte, that is no command.
-pub(crate) fn is_unknown(token: CharToken) -> bool
-    ensures { result ≡ is_unknown token }
-{
-    matches!(token, CharToken::Unknown(_) | CharToken::Unknown12(_))
-}
-
-/// Whether the bytes break off there inside a number or behind 12.
-pub(crate) fn is_cut(token: CharToken) -> bool
-    ensures { result ≡ is_cut token }
-{
-    matches!(token, CharToken::Cut)
-}
-
-/// Whether the charstring has fewer bytes than lenIV says.
-pub(crate) fn is_short(token: CharToken) -> bool
-    ensures { result ≡ is_short token }
-{
-    matches!(token, CharToken::Short)
-}
 
 pub(crate) fn is_end(token: CharToken) -> bool
     ensures { result ≡ is_end token }
@@ -57,18 +30,6 @@ pub(crate) fn is_return(token: CharToken) -> bool
     ensures { result ≡ is_return token }
 {
     matches!(token, CharToken::Command(Command::Return))
-}
-
-pub(crate) fn is_div(token: CharToken) -> bool
-    ensures { result ≡ is_div token }
-{
-    matches!(token, CharToken::Command(Command::Div))
-}
-
-pub(crate) fn is_pop(token: CharToken) -> bool
-    ensures { result ≡ is_pop token }
-{
-    matches!(token, CharToken::Command(Command::Pop))
 }
 
 /// Whether it finishes the glyph, in its own charstring or in a Subr.

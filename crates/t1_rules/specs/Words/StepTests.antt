@@ -1,0 +1,24 @@
+-- What the rules say of a step of a kind: each rule with its test, and which of them are broken.
+use Rattle.std.specs.Prelude.{◌≡◌, ℕ, ℤ, nat_lt, Bool, false, Option, Some, None, List, [], ◌∷◌, length}
+use Rattle.t1_char.specs.declared.command.Command.{Command as Commands}
+use Rattle.t1_char.specs.declared.token.CharToken.TheVariants.{Command}
+use Rattle.t1_char.specs.Steps.{StepView}
+use Rattle.t1_rules.specs.declared.rule.Rule.TheVariants.{C04, C05, C07, C08, C09}
+use Rattle.t1_rules.specs.StepRules.Arguments.{is_zero, one_is_past, quotient_is_past}
+use Rattle.t1_rules.specs.Words.KeyTests.{broken_among}
+
+abbrev pub IsCommand : StepView → Commands → Type 0
+IsCommand step command = step.token ≡ Command command
+
+-- Of a command with so many arguments.
+abbrev pub breaks_by_count : Option ℕ → List ℤ → ℕ → Bool
+breaks_by_count None stack n = false
+breaks_by_count (Some count) stack n =
+    broken_among
+    ((C04, nat_lt (length stack) count) ∷ (C05, nat_lt count (length stack)) ∷ (C07, one_is_past (Some count) stack) ∷ [])
+    n
+
+-- Of a division of two numbers.
+abbrev pub breaks_by_quotient : ℤ → ℤ → ℕ → Bool
+breaks_by_quotient dividend divisor n =
+    broken_among ((C08, quotient_is_past dividend divisor) ∷ (C09, is_zero divisor) ∷ []) n
