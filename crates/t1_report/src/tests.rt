@@ -1,6 +1,16 @@
+mod arguments;
+mod assembly;
+mod calls;
+mod limit;
+mod lines;
+mod order;
+mod paths;
+mod places;
+
 use crate::{Fault, report, write_fault};
-use arrayvec::ArrayVec;
+use assembly::charstring;
 use std::alloc::Global;
+use std::process::Abort;
 use std::test::Fail;
 use t1_font::{Font, Refusal, read_clear, read_font};
 use t1_io::{Fuse, Limit, Out, Sink};
@@ -84,113 +94,56 @@ fn faults_of(alloc: Global, file: &[u8]) -> Result<Vec<Told>, Fail> {
     Ok(Texts::of(alloc, file)?.faults(alloc)?)
 }
 
-#[test]
-fn a_sound_font_has_no_fault(rt: HostRuntime) -> Result<(), Fail> {
-    let file = Sample::new(rt.alloc())?.pfb()?;
-    assert_eq!(rt; faults_of(rt.alloc(), file.as_slice())?.len(), 0);
-    Ok(())
+/// Adds the line of a fault.
+fn add_line(text: &mut Vec<u8>, font: &Font<'_>, fault: &Fault) -> Result<(), Fail> {
+    match is_written(&mut Out::new(text), font, fault) {
+        Some(true) => Ok(()),
+        _ => Err(Fail::from("a line")),
+    }
 }
 
-/// Steps are 65,536 times the key's number, 9, and the index.
-#[test]
-fn faults_rise_by_place(rt: HostRuntime) -> Result<(), Fail> {
-    let file = Sample::new(rt.alloc())?
-        .key(b"/BlueValues [0 26 40 50 60 55 70 80 90 100 110 120 130 140 150] def")?
-        .pfb()?;
-    let faults = faults_of(rt.alloc(), file.as_slice())?;
-    let wanted = [
-        (1, 589_824, Rule::Z03),
-        (2, 589_825, Rule::Z07),
-        (3, 589_829, Rule::Z04),
-        (4, 589_838, Rule::Z02),
-    ]
-    .map(|(number, step, rule)| Told {
-        number,
-        unit: 0,
-        step,
-        rule,
-    });
-    assert_eq!(rt; faults.as_slice(), wanted.as_slice());
-    Ok(())
-}
-
-/// The line of a fault of a font with the glyphs `.notdef`, `A` and one without a name; a mark stands
-/// behind it where the device failed.
-fn line(alloc: Global, fault: &Fault, room: usize) -> Result<Vec<u8>, Fail> {
-    let file = Sample::new(alloc)?
-        .glyph(b"A", b"")?
-        .glyph(b"", b"")?
-        .pfb()?;
+/// The lines of a font's report.
+fn lines_of(alloc: Global, texts: &Texts) -> Result<String, Fail> {
+    let font = texts.font(alloc)?;
     let mut text = Vec::new(alloc);
-    let written = Texts::of(alloc, file.as_slice())?.write(alloc, fault, room, &mut text)?;
-    if !written.ok_or("a place in the font")? {
-        text.push(b'!')?;
+    for fault in report(alloc, &font)?.iter() {
+        add_line(&mut text, &font, fault)?;
     }
-    Ok(text)
+    Ok(String::from_utf8(text)?)
 }
 
-/// A fault in a glyph, at a step, while these Subrs are executed.
-fn in_glyph(unit: u32, step: u32, rule: Rule, path: &[u32]) -> Fault {
-    let mut numbers = ArrayVec::new();
-    let _ = numbers.try_extend_from_slice(path);
-    Fault {
-        number: u64::MAX,
-        unit,
-        step,
-        rule,
-        path: numbers,
+/// A sound font with these Subrs: each a number, a colon and words, with a bar in front of the next.
+fn with_subrs(alloc: Global, subrs: &str) -> Result<Sample, Fail> {
+    let mut sample = Sample::new(alloc)?;
+    for subr in subrs.split('|') {
+        if let Some((number, words)) = subr.split_once(':') {
+            let number = number.trim().parse::<u32>()?;
+            sample = sample.subr(number, charstring(alloc, words)?.as_slice())?;
+        }
     }
+    Ok(sample)
 }
 
-#[test]
-fn lines_of_glyphs_have_paths(rt: HostRuntime) -> Result<(), Fail> {
-    let table: [(u32, u32, Rule, &[u32], &str); 4] = [
-        (
-            2,
-            8,
-            Rule::P01,
-            &[5],
-            "18446744073709551615: glyph A 5 8 P01 drawing without a move\n",
-        ),
-        (
-            2,
-            25,
-            Rule::S02,
-            &[5, 5, 5, 5, 5, 5, 5, 5, 5, 65_534],
-            "18446744073709551615: glyph A 5>5>5>5>5>5>5>5>5>65534 25 S02 calls nested too deep\n",
-        ),
-        (
-            3,
-            1,
-            Rule::GE01,
-            &[],
-            "18446744073709551615: glyph  - 1 GE01 no endchar\n",
-        ),
-        (
-            1,
-            100_001,
-            Rule::L01,
-            &[0],
-            "18446744073709551615: glyph .notdef 0 100001 L01 step limit\n",
-        ),
-    ];
-    for (unit, step, rule, path, text) in table {
-        let written = line(rt.alloc(), &in_glyph(unit, step, rule, path), 200)?;
-        assert_eq!(rt; written.as_slice(), text.as_bytes());
+/// The report of a font that breaks no rule but by these Subrs and this glyph A.
+fn lines_with(alloc: Global, subrs: &str, glyph: &str) -> Result<String, Fail> {
+    let sample = with_subrs(alloc, subrs)?.glyph(b"A", charstring(alloc, glyph)?.as_slice())?;
+    lines_of(alloc, &Texts::of(alloc, sample.pfb()?.as_slice())?)
+}
+
+/// A font with Subrs and a glyph A gives the lines beside them.
+fn assert_lines(rt: &impl Abort, alloc: Global, cases: &[(&str, &str, &str)]) -> Result<(), Fail> {
+    for (subrs, glyph, lines) in cases {
+        let found = lines_with(alloc, subrs, glyph)?;
+        assert_eq!(rt; found.as_str(), *lines, "{subrs} A: {glyph}");
     }
     Ok(())
 }
 
-/// Of a line in the font, each front goes out and the failure is told.
-#[test]
-fn a_front_of_a_line_goes_out(rt: HostRuntime) -> Result<(), Fail> {
-    let text = b"18446744073709551615: font CharStrings 65535 F10 glyph given twice\n";
-    for room in 0..text.len() {
-        let written = line(rt.alloc(), &in_glyph(0, 1_441_791, Rule::F10, &[]), room)?;
-        assert!(rt;
-            written.starts_with(&text[..room]) && written.len() == room + 1,
-            "{room}"
-        );
+/// A font with a glyph A and no Subrs gives the lines beside it.
+fn assert_glyph_lines(rt: &impl Abort, alloc: Global, cases: &[(&str, &str)]) -> Result<(), Fail> {
+    for (glyph, lines) in cases {
+        let found = lines_with(alloc, "", glyph)?;
+        assert_eq!(rt; found.as_str(), *lines, "A: {glyph}");
     }
     Ok(())
 }

@@ -1,0 +1,283 @@
+//! Tokens and the numbers that they take: each rule is broken, and then just isn't.
+
+use super::{Texts, assert_glyph_lines, lines_of};
+use std::alloc::Global;
+use std::test::Fail;
+use t1_samples::CLEAR;
+use t1_seal::Joined;
+
+/// The report of a font whose charstrings are encrypted, with this lenIV and this glyph A.
+fn encrypted_lines(alloc: Global, len_iv: &str, glyph: &[u8]) -> Result<String, Fail> {
+    let length = glyph.len();
+    let mut private = format!(in alloc;
+        "/password 5839 def /MinFeature {{16 16}} def /lenIV {len_iv} def \
+/CharStrings 1 dict dup begin /.notdef {length} RD "
+    )?
+    .into_bytes();
+    private.extend_from_slice(glyph)?;
+    private.extend_from_slice(b" ND end")?;
+    let clear = Joined {
+        bytes: Vec::from_slice(alloc, CLEAR)?,
+        pfb: false,
+        end_segment: false,
+        trailing: false,
+    };
+    lines_of(alloc, &Texts { clear, private })
+}
+
+/// Four encrypted zero bytes, and then nothing or `0 500 hsbw endchar`; under lenIV 0 all bytes count.
+#[test]
+fn bytes_in_front_of_charstrings(rt: HostRuntime) -> Result<(), Fail> {
+    let cases: [(&str, &[u8], &str); 6] = [
+        (
+            "4",
+            b"\x10\xbf\x31",
+            "1: glyph .notdef - 1 C01 shorter than lenIV\n\
+2: glyph .notdef - 2 GE01 no endchar\n",
+        ),
+        (
+            "4",
+            b"\x10\xbf\x31\x70",
+            "1: glyph .notdef - 1 GE01 no endchar\n",
+        ),
+        ("4", b"\x10\xbf\x31\x70\x79\xc8\x2f\x06\x80", ""),
+        (
+            "1",
+            b"",
+            "1: glyph .notdef - 1 C01 shorter than lenIV\n\
+2: glyph .notdef - 2 GE01 no endchar\n",
+        ),
+        ("0", b"", "1: glyph .notdef - 1 GE01 no endchar\n"),
+        ("0", b"\x9b\x2c\x08\xa1\xd3", ""),
+    ];
+    for (len_iv, glyph, lines) in cases {
+        let found = encrypted_lines(rt.alloc(), len_iv, glyph)?;
+        assert_eq!(rt; found.as_str(), lines, "{len_iv} {glyph:?}");
+    }
+    Ok(())
+}
+
+/// What breaks off behind endchar isn't executed: it is a token after the end. A command that isn't known
+/// clears the stack, but it isn't asked for its arguments, and hsbw may stand behind it.
+const TOKENS_THAT_MEAN_NOTHING: &[(&str, &str)] = &[
+    (
+        "0 500 hsbw #255 #0 #0 #0",
+        "1: glyph A - 4 C02 breaks off in a token\n\
+2: glyph A - 5 GE01 no endchar\n",
+    ),
+    ("0 500 hsbw #255 #0 #0 #0 #5 hmoveto endchar", ""),
+    (
+        "0 500 hsbw #247",
+        "1: glyph A - 4 C02 breaks off in a token\n\
+2: glyph A - 5 GE01 no endchar\n",
+    ),
+    (
+        "0 500 hsbw #12",
+        "1: glyph A - 4 C02 breaks off in a token\n\
+2: glyph A - 5 GE01 no endchar\n",
+    ),
+    ("0 500 hsbw #12 #0 endchar", ""),
+    (
+        "0 500 hsbw endchar #12",
+        "1: glyph A - 4 GE02 tokens after the end\n",
+    ),
+    (
+        "0 500 hsbw #2 closepath endchar",
+        "1: glyph A - 4 C03 unknown command\n\
+2: glyph A - 5 P03 closepath without a path\n",
+    ),
+    (
+        "0 500 hsbw #12 #3 endchar",
+        "1: glyph A - 4 C03 unknown command\n",
+    ),
+    (
+        "1 2 #15 0 500 hsbw endchar",
+        "1: glyph A - 3 C03 unknown command\n",
+    ),
+    (
+        "0 500 hsbw 1 #12 #99 endchar",
+        "1: glyph A - 5 C03 unknown command\n",
+    ),
+];
+
+/// One number less than a command takes, and as many. What div and callothersubr find too few stays.
+const TOO_FEW_ARGUMENTS: &[(&str, &str)] = &[
+    ("500 hsbw endchar", "1: glyph A - 2 C04 too few arguments\n"),
+    ("hsbw endchar", "1: glyph A - 1 C04 too few arguments\n"),
+    (
+        "0 0 500 sbw endchar",
+        "1: glyph A - 4 C04 too few arguments\n",
+    ),
+    ("0 0 500 0 sbw endchar", ""),
+    (
+        "0 500 hsbw 7 rmoveto vmoveto hmoveto endchar",
+        "1: glyph A - 5 C04 too few arguments\n\
+2: glyph A - 6 C04 too few arguments\n\
+3: glyph A - 7 C04 too few arguments\n",
+    ),
+    ("0 500 hsbw 7 7 rmoveto 7 vmoveto 7 hmoveto endchar", ""),
+    (
+        "0 500 hsbw 0 hmoveto 1 rlineto hlineto vlineto 1 2 3 4 5 rrcurveto 1 2 3 vhcurveto \
+         1 2 3 hvcurveto closepath endchar",
+        "1: glyph A - 7 C04 too few arguments\n\
+2: glyph A - 8 C04 too few arguments\n\
+3: glyph A - 9 C04 too few arguments\n\
+4: glyph A - 15 C04 too few arguments\n\
+5: glyph A - 19 C04 too few arguments\n\
+6: glyph A - 23 C04 too few arguments\n",
+    ),
+    (
+        "0 500 hsbw 0 hmoveto 1 2 rlineto 1 hlineto 1 vlineto 1 2 3 4 5 6 rrcurveto \
+         1 2 3 4 vhcurveto 1 2 3 4 hvcurveto closepath endchar",
+        "",
+    ),
+    (
+        "0 500 hsbw 7 div hmoveto endchar",
+        "1: glyph A - 5 C04 too few arguments\n",
+    ),
+    ("0 500 hsbw 7 2 div hmoveto endchar", ""),
+    (
+        "0 500 hsbw 7 callothersubr hmoveto endchar",
+        "1: glyph A - 5 C04 too few arguments\n",
+    ),
+    ("0 500 hsbw 0 12 callothersubr endchar", ""),
+    (
+        "0 500 hsbw callsubr endchar",
+        "1: glyph A - 4 C04 too few arguments\n",
+    ),
+];
+
+/// What is too many is dropped, and isn't asked for its size. The end of a charstring takes no numbers.
+const TOO_MANY_ARGUMENTS: &[(&str, &str)] = &[
+    (
+        "0 500 hsbw 7 endchar",
+        "1: glyph A - 5 C05 too many arguments\n",
+    ),
+    ("0 500 hsbw endchar", ""),
+    (
+        "0 0 500 hsbw endchar",
+        "1: glyph A - 4 C05 too many arguments\n",
+    ),
+    (
+        "0 500 hsbw 7 dotsection endchar",
+        "1: glyph A - 5 C05 too many arguments\n",
+    ),
+    (
+        "0 500 hsbw 40000 endchar",
+        "1: glyph A - 5 C05 too many arguments\n",
+    ),
+    ("0 500 hsbw 7", "1: glyph A - 5 GE01 no endchar\n"),
+    (
+        "32001 0 hmoveto closepath endchar",
+        "1: glyph A - 3 C05 too many arguments\n\
+2: glyph A - 3 C07 number out of range\n\
+3: glyph A - 3 W01 hsbw or sbw not first\n\
+4: glyph A - 4 P03 closepath without a path\n",
+    ),
+    (
+        "0 500 hsbw 0 32001 hmoveto endchar",
+        "1: glyph A - 6 C05 too many arguments\n",
+    ),
+];
+
+/// The stack has room for 24 numbers, also for a result of a flex.
+const MORE_THAN_24_NUMBERS: &[(&str, &str)] = &[
+    (
+        "0 0 0 0 0 0 0 0 0 0 0 0 0 0 0 0 0 0 0 0 0 0 0 0 0 hsbw endchar",
+        "1: glyph A - 25 C06 more than 24 numbers\n\
+2: glyph A - 26 C05 too many arguments\n",
+    ),
+    (
+        "0 0 0 0 0 0 0 0 0 0 0 0 0 0 0 0 0 0 0 0 0 0 0 0 hsbw endchar",
+        "1: glyph A - 25 C05 too many arguments\n",
+    ),
+    (
+        "0 500 hsbw 0 0 0 0 0 0 0 0 0 0 0 0 0 0 0 0 0 0 0 0 0 0 22 12 callothersubr endchar",
+        "",
+    ),
+    (
+        "0 500 hsbw 0 hmoveto 0 1 callothersubr \
+         1 hmoveto 0 2 callothersubr 1 hmoveto 0 2 callothersubr 1 hmoveto 0 2 callothersubr \
+         1 hmoveto 0 2 callothersubr 1 hmoveto 0 2 callothersubr 1 hmoveto 0 2 callothersubr \
+         1 hmoveto 0 2 callothersubr 50 7 0 3 0 callothersubr \
+         0 0 0 0 0 0 0 0 0 0 0 0 0 0 0 0 0 0 0 0 0 0 0 0 pop closepath endchar",
+        "1: glyph A - 74 C06 more than 24 numbers\n\
+2: glyph A - 75 C05 too many arguments\n",
+    ),
+    (
+        "0 500 hsbw 0 hmoveto 0 1 callothersubr \
+         1 hmoveto 0 2 callothersubr 1 hmoveto 0 2 callothersubr 1 hmoveto 0 2 callothersubr \
+         1 hmoveto 0 2 callothersubr 1 hmoveto 0 2 callothersubr 1 hmoveto 0 2 callothersubr \
+         1 hmoveto 0 2 callothersubr 50 7 0 3 0 callothersubr \
+         0 0 0 0 0 0 0 0 0 0 0 0 0 0 0 0 0 0 0 0 0 0 0 pop closepath endchar",
+        "1: glyph A - 74 C05 too many arguments\n",
+    ),
+];
+
+/// A number may be 32000 at most, where a command takes it; what div or callothersubr takes may be greater.
+const NUMBERS_OUT_OF_RANGE: &[(&str, &str)] = &[
+    (
+        "0 500 hsbw 32001 hmoveto endchar",
+        "1: glyph A - 5 C07 number out of range\n",
+    ),
+    ("0 500 hsbw 32000 hmoveto endchar", ""),
+    (
+        "0 500 hsbw -32001 hmoveto endchar",
+        "1: glyph A - 5 C07 number out of range\n",
+    ),
+    ("0 500 hsbw -32000 hmoveto endchar", ""),
+    ("0 500 hsbw 32001 2 div hmoveto endchar", ""),
+    ("0 500 hsbw 40000 1 12 callothersubr endchar", ""),
+    (
+        "0 500 hsbw 32001 -2147483648 rmoveto endchar",
+        "1: glyph A - 6 C07 number out of range\n",
+    ),
+    (
+        "32001 hsbw endchar",
+        "1: glyph A - 2 C04 too few arguments\n\
+2: glyph A - 2 C07 number out of range\n",
+    ),
+];
+
+/// A quotient is cut toward zero in 1/65536, and then asked for its size: 2097184001 / 65537 is less than
+/// 1/65536 above 32000, and 2097152001 / 65536 is 1/65536 above it. A quotient out of range is then 32000.
+const QUOTIENTS: &[(&str, &str)] = &[
+    (
+        "0 500 hsbw 32001 1 div hmoveto endchar",
+        "1: glyph A - 6 C08 quotient out of range\n",
+    ),
+    ("0 500 hsbw 32000 1 div hmoveto endchar", ""),
+    (
+        "0 500 hsbw 2097152001 65536 div hmoveto endchar",
+        "1: glyph A - 6 C08 quotient out of range\n",
+    ),
+    ("0 500 hsbw 2097184001 65537 div hmoveto endchar", ""),
+    (
+        "0 500 hsbw -2097152001 65536 div hmoveto endchar",
+        "1: glyph A - 6 C08 quotient out of range\n",
+    ),
+    ("0 500 hsbw 2097184001 -65537 div hmoveto endchar", ""),
+    (
+        "0 500 hsbw 5 0 div hmoveto endchar",
+        "1: glyph A - 6 C09 division by zero\n",
+    ),
+    ("0 500 hsbw 0 5 div hmoveto endchar", ""),
+    (
+        "0 500 hsbw 5 1 100000 div div hmoveto endchar",
+        "1: glyph A - 8 C09 division by zero\n",
+    ),
+    (
+        "0 500 hsbw 0 div hmoveto endchar",
+        "1: glyph A - 5 C04 too few arguments\n",
+    ),
+];
+
+#[test]
+fn tokens_and_arguments(rt: HostRuntime) -> Result<(), Fail> {
+    assert_glyph_lines(&rt, rt.alloc(), TOKENS_THAT_MEAN_NOTHING)?;
+    assert_glyph_lines(&rt, rt.alloc(), TOO_FEW_ARGUMENTS)?;
+    assert_glyph_lines(&rt, rt.alloc(), TOO_MANY_ARGUMENTS)?;
+    assert_glyph_lines(&rt, rt.alloc(), MORE_THAN_24_NUMBERS)?;
+    assert_glyph_lines(&rt, rt.alloc(), NUMBERS_OUT_OF_RANGE)?;
+    assert_glyph_lines(&rt, rt.alloc(), QUOTIENTS)
+}

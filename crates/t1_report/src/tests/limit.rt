@@ -1,0 +1,47 @@
+//! Glyphs of more than 100,000 steps.
+
+use super::{Texts, charstring, lines_of};
+use std::alloc::Global;
+use std::test::Fail;
+use t1_samples::Sample;
+
+/// The report of a font whose glyph A calls Subr 5 twelve times and ends with these words. The Subr is so
+/// many times dotsection, and return.
+fn lines_of_a_long_glyph(alloc: Global, times: usize, end: &str) -> Result<String, Fail> {
+    let mut subr = Vec::new(alloc);
+    for _ in 0..times {
+        subr.extend_from_slice(b"\x0c\x00")?;
+    }
+    subr.extend_from_slice(b"\x0b")?;
+    let calls = "5 callsubr 5 callsubr 5 callsubr 5 callsubr 5 callsubr 5 callsubr";
+    let words = format!(in alloc; "0 500 hsbw {calls} {calls} {end}")?;
+    let sample = Sample::new(alloc)?
+        .subr(5, subr.as_slice())?
+        .glyph(b"A", charstring(alloc, words.as_str())?.as_slice())?;
+    lines_of(alloc, &Texts::of(alloc, sample.pfb()?.as_slice())?)
+}
+
+/// Step 100,000 is checked, and the next one isn't, however the glyph goes on: 3 + 12 * 8333 = 99,999 steps
+/// stand in front of the end.
+#[test]
+fn glyphs_past_the_limit(rt: HostRuntime) -> Result<(), Fail> {
+    for (times, end, lines) in [
+        (8_330, "endchar", ""),
+        (
+            8_330,
+            "dotsection endchar",
+            "1: glyph A - 100001 L01 step limit\n",
+        ),
+        (
+            8_330,
+            "closepath closepath",
+            "1: glyph A - 100000 P03 closepath without a path\n\
+2: glyph A - 100001 L01 step limit\n",
+        ),
+        (8_331, "endchar", "1: glyph A 5 100001 L01 step limit\n"),
+    ] {
+        let found = lines_of_a_long_glyph(rt.alloc(), times, end)?;
+        assert_eq!(rt; found.as_str(), lines, "{times} {end}");
+    }
+    Ok(())
+}
