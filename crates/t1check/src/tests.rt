@@ -1,3 +1,4 @@
+mod charstrings;
 mod command_line;
 mod devices;
 mod dictionaries;

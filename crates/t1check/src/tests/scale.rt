@@ -6,7 +6,7 @@ use std::alloc::{AllocError, Global};
 use std::test::Fail;
 use t1_font::{read_clear, read_font};
 use t1_report::report;
-use t1_samples::{CLEAR, FontFile, Sample};
+use t1_samples::{CLEAR, FontFile, NOTDEF, Sample};
 use t1_seal::{join, open_eexec};
 
 /// The greatest size of a file.
@@ -87,8 +87,8 @@ fn reports_seventy_thousand_lines(rt: HostRuntime) -> Result<(), Fail> {
     for number in 0..DOUBLED {
         let name = format!(in rt.alloc(); "g{number}")?;
         sample = sample
-            .glyph(name.as_bytes(), b"")?
-            .glyph(name.as_bytes(), b"")?;
+            .glyph(name.as_bytes(), NOTDEF)?
+            .glyph(name.as_bytes(), NOTDEF)?;
     }
     let file = sample.pfb()?;
     let answer = answer_to(rt.alloc(), file.as_slice(), 0);
