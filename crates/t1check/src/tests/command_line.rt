@@ -4,7 +4,9 @@ use std::test::Fail;
 
 const HELP: &str = "\
 Lists every rule of the book that an Adobe Type 1 font (PFA or PFB) breaks. So far
-the first 25 rules are checked: those on the file and on the font's dictionaries.
+46 of 69 rules are checked: those on the file, on the font's dictionaries, and on
+the arguments, calls and paths of charstrings. Those on stems, hint replacement,
+flex, OtherSubrs and seac aren't checked yet.
 
 Usage: t1check [OPTIONS] [FILE]
 
@@ -18,7 +20,8 @@ Options:
   -h, --help          Print help
 
 A line of the report:
-  NUMBER: font KEY INDEX RULE text    as in 1: font BlueValues 6 Z04 zone numbers fall
+  NUMBER: font KEY INDEX RULE text          as in 1: font BlueValues 6 Z04 zone numbers fall
+  NUMBER: glyph NAME PATH STEP RULE text    as in 2: glyph A 5>6 8 P01 drawing without a move
   docs/RULES.md explains each RULE and each refusal (Enn), with an example and the cure
 
 Exit status:
