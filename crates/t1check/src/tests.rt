@@ -1,13 +1,11 @@
 mod charstrings;
 mod command_line;
 mod devices;
-mod dictionaries;
 mod fonts;
 mod passing_failures;
 mod refusals;
 mod scale;
 mod segments;
-mod traces;
 
 use crate::asked::Options;
 use crate::running::run;
@@ -22,6 +20,13 @@ struct Answer {
     status: Status,
     output: Vec<u8>,
     told: Vec<u8>,
+}
+
+impl Answer {
+    /// Whether this is the answer: the status, and all that was written and told.
+    fn is(&self, status: Status, output: &[u8], told: &[u8]) -> bool {
+        self.status == status && self.output.as_slice() == output && self.told.as_slice() == told
+    }
 }
 
 /// The report of a PFB file without an end segment.
@@ -48,28 +53,14 @@ fn ended_by(alloc: Global, end: &[u8]) -> Result<Vec<u8>, AllocError> {
     .pfb(alloc)
 }
 
-/// Runs the program on bytes, over devices that don't fail, without the first lines of the report.
-fn answer_to(alloc: Global, bytes: &[u8], after: u64) -> Answer {
-    answer_with(
-        alloc,
-        bytes,
-        &Options {
-            after,
-            max: None,
-            trace: None,
-            file: None,
-        },
-    )
-}
-
-/// Runs the program on bytes, over devices that don't fail.
-fn answer_with(alloc: Global, bytes: &[u8], options: &Options) -> Answer {
+/// Runs the program on bytes, over devices that don't fail, for the whole report.
+fn answer_to(alloc: Global, bytes: &[u8]) -> Answer {
     let mut output = Vec::new(alloc);
     let mut told = Vec::new(alloc);
     let status = run(
         alloc,
         &mut In::new(bytes),
-        options,
+        &ALL,
         &mut Out::new(&mut output),
         &mut Out::new(&mut told),
     );
@@ -82,6 +73,10 @@ fn answer_with(alloc: Global, bytes: &[u8], options: &Options) -> Answer {
 
 /// Whether the program finds nothing to tell of a file.
 fn is_clean(alloc: Global, file: &[u8]) -> bool {
-    let answer = answer_to(alloc, file, 0);
-    answer.status == Status::Clean && answer.output.is_empty() && answer.told.is_empty()
+    answer_to(alloc, file).is(Status::Clean, b"", b"")
+}
+
+/// Whether the program refuses a file with this line alone.
+fn is_refused(alloc: Global, file: &[u8], line: &str) -> bool {
+    answer_to(alloc, file).is(Status::Refused, b"", line.as_bytes())
 }

@@ -1,6 +1,6 @@
 use crate::asked::UsageError;
 use crate::command_line::options;
-use std::test::Fail;
+use std::alloc::Global;
 
 const HELP: &str = "\
 Lists every rule of the book that an Adobe Type 1 font (PFA or PFB) breaks. So far
@@ -36,9 +36,31 @@ Examples:
   t1check --trace A font.pfb              writes the steps of glyph A
 ";
 
-/// What words give: the count, and the file's name, empty where there is none.
+/// What words give, as texts that are lent: after, max, trace, file.
+type Given<'a> = (u64, Option<u64>, Option<&'a str>, Option<&'a str>);
+
+/// The text of a name.
+fn text(name: &Option<String>) -> Option<&str> {
+    match name {
+        Some(name) => Some(name.as_str()),
+        None => None,
+    }
+}
+
+/// Whether words give these options.
+fn gives(alloc: Global, words: &[&str], (after, max, trace, file): Given<'_>) -> bool {
+    let Ok(taken) = options(alloc, words) else {
+        return false;
+    };
+    taken.after == after
+        && taken.max == max
+        && text(&taken.trace) == trace
+        && text(&taken.file) == file
+}
+
+/// The number of lines that are left out, and the file's name, which may be empty.
 #[test]
-fn takes_words(rt: HostRuntime) -> Result<(), Fail> {
+fn takes_words(rt: HostRuntime) {
     let table: [(&[&str], u64, Option<&str>); 9] = [
         (&["t1check"], 0, None),
         (&[], 0, None),
@@ -59,55 +81,51 @@ fn takes_words(rt: HostRuntime) -> Result<(), Fail> {
         (&["t1check", "--after", "16", ""], 16, Some("")),
     ];
     for (words, after, file) in table {
-        let taken = options(rt.alloc(), words)?;
-        assert_eq!(rt; taken.after, after, "of {words:?}");
-        assert_eq!(rt; taken.max, None, "of {words:?}");
-        let name = taken.file.as_ref().map(|name| name.as_str());
-        assert_eq!(rt; name, file, "of {words:?}");
-    }
-    Ok(())
-}
-
-/// What words give for the name of a glyph, which may be empty.
-#[test]
-fn takes_the_name_of_a_glyph(rt: HostRuntime) -> Result<(), Fail> {
-    let table: [(&[&str], Option<&str>); 4] = [
-        (&["t1check", "font.pfb"], None),
-        (&["t1check", "--trace", "A", "font.pfb"], Some("A")),
-        (&["t1check", "--trace=", "font.pfb"], Some("")),
-        (&["t1check", "--max", "1", "--trace", "a.b"], Some("a.b")),
-    ];
-    for (words, name) in table {
-        let taken = options(rt.alloc(), words)?;
-        assert_eq!(rt;
-            taken.trace.as_ref().map(|name| name.as_str()),
-            name,
+        assert!(rt;
+            gives(rt.alloc(), words, (after, None, None, file)),
             "of {words:?}"
         );
     }
-    Ok(())
 }
 
-/// What words give for the greatest count of lines, beside what they give for the first.
+/// The name of a glyph, which may be empty, and the greatest number of lines.
 #[test]
-fn takes_the_greatest_count(rt: HostRuntime) -> Result<(), Fail> {
-    let table: [(&[&str], u64, Option<u64>); 5] = [
-        (&["t1check", "--max", "0"], 0, Some(0)),
-        (&["t1check", "--max=+07", "font.pfb"], 0, Some(7)),
-        (&["t1check", "--after", "1", "--max", "2"], 1, Some(2)),
-        (&["t1check", "--max", "2", "--after", "1"], 1, Some(2)),
+fn takes_names_of_glyphs_and_greatest_numbers(rt: HostRuntime) {
+    let file = Some("font.pfb");
+    let table: [(&[&str], Given); 8] = [
+        (
+            &["t1check", "--trace", "A", "font.pfb"],
+            (0, None, Some("A"), file),
+        ),
+        (
+            &["t1check", "--trace=", "font.pfb"],
+            (0, None, Some(""), file),
+        ),
+        (
+            &["t1check", "--max", "1", "--trace", "a.b"],
+            (0, Some(1), Some("a.b"), None),
+        ),
+        (&["t1check", "--max", "0"], (0, Some(0), None, None)),
+        (
+            &["t1check", "--max=+07", "font.pfb"],
+            (0, Some(7), None, file),
+        ),
+        (
+            &["t1check", "--after", "1", "--max", "2"],
+            (1, Some(2), None, None),
+        ),
+        (
+            &["t1check", "--max", "2", "--after", "1"],
+            (1, Some(2), None, None),
+        ),
         (
             &["t1check", "--max", "18446744073709551615"],
-            0,
-            Some(u64::MAX),
+            (0, Some(u64::MAX), None, None),
         ),
     ];
-    for (words, after, max) in table {
-        let taken = options(rt.alloc(), words)?;
-        assert_eq!(rt; taken.after, after, "of {words:?}");
-        assert_eq!(rt; taken.max, max, "of {words:?}");
+    for (words, given) in table {
+        assert!(rt; gives(rt.alloc(), words, given), "of {words:?}");
     }
-    Ok(())
 }
 
 #[test]
@@ -121,58 +139,6 @@ fn gives_help(rt: HostRuntime) {
         match options(rt.alloc(), words) {
             Err(UsageError::Help(text)) => assert_eq!(rt; text.as_str(), HELP, "of {words:?}"),
             _ => panic!(rt; "no help of {words:?}"),
-        }
-    }
-}
-
-#[test]
-fn refuses_words(rt: HostRuntime) {
-    let table: [(&[&str], &str); 10] = [
-        (
-            &["t1check", "--max", "x"],
-            "error: invalid value 'x' for '--max <M>': invalid digit found in string\n\nFor more information, try '--help'.\n",
-        ),
-        (
-            &["t1check", "--max="],
-            "error: invalid value '' for '--max <M>': cannot parse integer from empty string\n\nFor more information, try '--help'.\n",
-        ),
-        (
-            &["t1check", "--after", "x"],
-            "error: invalid value 'x' for '--after <K>': invalid digit found in string\n\nFor more information, try '--help'.\n",
-        ),
-        (
-            &["t1check", "--after", "x", "--help"],
-            "error: invalid value 'x' for '--after <K>': invalid digit found in string\n\nFor more information, try '--help'.\n",
-        ),
-        (
-            &["t1check", "--after="],
-            "error: invalid value '' for '--after <K>': cannot parse integer from empty string\n\nFor more information, try '--help'.\n",
-        ),
-        (
-            &["t1check", "--after"],
-            "error: a value is required for '--after <K>' but none was supplied\n\nFor more information, try '--help'.\n",
-        ),
-        (
-            &["t1check", "--after", "18446744073709551616"],
-            "error: invalid value '18446744073709551616' for '--after <K>': number too large to fit in target type\n\nFor more information, try '--help'.\n",
-        ),
-        (
-            &["t1check", "--after", "1", "--after", "2"],
-            "error: the argument '--after <K>' cannot be used multiple times\n\nUsage: t1check [OPTIONS] [FILE]\n\nFor more information, try '--help'.\n",
-        ),
-        (
-            &["t1check", "a.pfb", "b.pfb"],
-            "error: unexpected argument 'b.pfb' found\n\nUsage: t1check [OPTIONS] [FILE]\n\nFor more information, try '--help'.\n",
-        ),
-        (
-            &["t1check", "--befor"],
-            "error: unexpected argument '--befor' found\n\n  tip: to pass '--befor' as a value, use '-- --befor'\n\nUsage: t1check [OPTIONS] [FILE]\n\nFor more information, try '--help'.\n",
-        ),
-    ];
-    for (words, want) in table {
-        match options(rt.alloc(), words) {
-            Err(UsageError::Usage(text)) => assert_eq!(rt; text.as_str(), want, "of {words:?}"),
-            _ => panic!(rt; "no usage fault of {words:?}"),
         }
     }
 }

@@ -1,8 +1,12 @@
-use super::{ALL, NO_END_REPORT, ended_by};
+ghost use Rattle.std.specs.Prelude.{◌≡◌, true};
+ghost use Rattle.t1_io.specs.Limits.{lets_some_through};
+
+use super::{ALL, Answer, NO_END_REPORT, ended_by};
 use crate::asked::UsageError;
 use crate::explaining::explain;
 use crate::running::run;
 use crate::status::Status;
+use std::alloc::Global;
 use std::io;
 use std::io::Read;
 use std::test::Fail;
@@ -25,6 +29,31 @@ impl Read for Endless {
     }
 }
 
+/// Runs the program on a file, over devices with these limits.
+fn answer_within(alloc: Global, file: &[u8], input: Limit, output: Limit, errors: Limit) -> Answer
+    requires input { lets_some_through input ≡ true }
+    requires output { lets_some_through output ≡ true }
+    requires errors { lets_some_through errors ≡ true }
+{
+    let mut text = Vec::new(alloc);
+    let mut told = Vec::new(alloc);
+    let status = run(
+        alloc,
+        &mut Fuse::source(In::new(file), input),
+        &ALL,
+        &mut Fuse::sink(Out::new(&mut text), output),
+        &mut Fuse::sink(Out::new(&mut told), errors),
+    );
+    Answer {
+        status,
+        output: text,
+        told,
+    }
+}
+
+/// A limit that no run of a test reaches.
+const FAR: Limit = Limit::Bytes(1_000_000);
+
 #[test]
 fn stops_at_the_limit_of_reads(rt: HostRuntime) {
     let mut reader = Endless { reads: 0 };
@@ -37,12 +66,12 @@ fn stops_at_the_limit_of_reads(rt: HostRuntime) {
         &mut Out::new(&mut output),
         &mut Out::new(&mut told),
     );
-    assert_eq!(rt; status, Status::Refused);
-    assert_eq!(rt;
-        told.as_slice(),
-        b"refused: E05 file too large\n".as_slice()
-    );
-    assert_eq!(rt; output.len(), 0);
+    let answer = Answer {
+        status,
+        output,
+        told,
+    };
+    assert!(rt; answer.is(Status::Refused, b"", b"refused: E05 file too large\n"));
     assert_eq!(rt; reader.reads, 16_777_217);
 }
 
@@ -50,18 +79,9 @@ fn stops_at_the_limit_of_reads(rt: HostRuntime) {
 #[test]
 fn moves_a_byte_a_call(rt: HostRuntime) -> Result<(), Fail> {
     let file = ended_by(rt.alloc(), b"")?;
-    let mut output = Vec::new(rt.alloc());
-    let mut told = Vec::new(rt.alloc());
-    let status = run(
-        rt.alloc(),
-        &mut Fuse::source(In::new(file.as_slice()), Limit::BytesPerCall(1)),
-        &ALL,
-        &mut Fuse::sink(Out::new(&mut output), Limit::BytesPerCall(1)),
-        &mut Out::new(&mut told),
-    );
-    assert_eq!(rt; status, Status::Faults);
-    assert_eq!(rt; output.as_slice(), NO_END_REPORT.as_bytes());
-    assert_eq!(rt; told.len(), 0);
+    let one = Limit::BytesPerCall(1);
+    let answer = answer_within(rt.alloc(), file.as_slice(), one, one, FAR);
+    assert!(rt; answer.is(Status::Faults, NO_END_REPORT.as_bytes(), b""));
     Ok(())
 }
 
@@ -70,25 +90,11 @@ fn moves_a_byte_a_call(rt: HostRuntime) -> Result<(), Fail> {
 fn tells_a_failed_write(rt: HostRuntime) -> Result<(), Fail> {
     let file = ended_by(rt.alloc(), b"")?;
     for room in 0..NO_END_REPORT.len() + 1 {
-        let mut output = Vec::new(rt.alloc());
-        let mut told = Vec::new(rt.alloc());
-        let status = run(
-            rt.alloc(),
-            &mut In::new(file.as_slice()),
-            &ALL,
-            &mut Fuse::sink(Out::new(&mut output), Limit::Bytes(room)),
-            &mut Out::new(&mut told),
-        );
-        assert_eq!(rt; status, Status::Failed, "after {room}");
-        assert_eq!(rt;
-            output.as_slice(),
-            &NO_END_REPORT.as_bytes()[..room],
-            "after {room}"
-        );
-        assert_eq!(rt;
-            told.as_slice(),
-            b"t1check: write failed\n".as_slice(),
-            "after {room}"
+        let answer = answer_within(rt.alloc(), file.as_slice(), FAR, Limit::Bytes(room), FAR);
+        let text = &NO_END_REPORT.as_bytes()[..room];
+        assert!(rt;
+            answer.is(Status::Failed, text, b"t1check: write failed\n"),
+            "{room}"
         );
     }
     Ok(())
@@ -99,21 +105,10 @@ fn tells_a_failed_write(rt: HostRuntime) -> Result<(), Fail> {
 fn tells_a_failed_read(rt: HostRuntime) -> Result<(), Fail> {
     let file = ended_by(rt.alloc(), b"")?;
     for calls in 0..2usize {
-        let mut output = Vec::new(rt.alloc());
-        let mut told = Vec::new(rt.alloc());
-        let status = run(
-            rt.alloc(),
-            &mut Fuse::source(In::new(file.as_slice()), Limit::Calls(calls)),
-            &ALL,
-            &mut Out::new(&mut output),
-            &mut Out::new(&mut told),
-        );
-        assert_eq!(rt; status, Status::Failed, "after {calls}");
-        assert_eq!(rt; output.len(), 0, "after {calls}");
-        assert_eq!(rt;
-            told.as_slice(),
-            b"t1check: read failed\n".as_slice(),
-            "after {calls}"
+        let answer = answer_within(rt.alloc(), file.as_slice(), Limit::Calls(calls), FAR, FAR);
+        assert!(rt;
+            answer.is(Status::Failed, b"", b"t1check: read failed\n"),
+            "{calls}"
         );
     }
     Ok(())
@@ -122,22 +117,27 @@ fn tells_a_failed_read(rt: HostRuntime) -> Result<(), Fail> {
 #[test]
 fn fails_where_nothing_can_be_told(rt: HostRuntime) {
     for room in 0..31usize {
-        let mut output = Vec::new(rt.alloc());
-        let mut told = Vec::new(rt.alloc());
-        let status = run(
-            rt.alloc(),
-            &mut In::new(&[0x80u8][..]),
-            &ALL,
-            &mut Out::new(&mut output),
-            &mut Fuse::sink(Out::new(&mut told), Limit::Bytes(room)),
-        );
-        assert_eq!(rt; status, Status::Failed, "after {room}");
-        assert_eq!(rt; output.len(), 0, "after {room}");
-        assert_eq!(rt;
-            told.as_slice(),
-            &b"refused: E03 segment cut short\n"[..room],
-            "after {room}"
-        );
+        let answer = answer_within(rt.alloc(), b"\x80", FAR, FAR, Limit::Bytes(room));
+        let told = &b"refused: E03 segment cut short\n"[..room];
+        assert!(rt; answer.is(Status::Failed, b"", told), "{room}");
+    }
+}
+
+/// What is answered to words that gave no options, over an output with this limit.
+fn explained(alloc: Global, error: &UsageError, output: Limit) -> Answer
+    requires { lets_some_through output ≡ true }
+{
+    let mut text = Vec::new(alloc);
+    let mut told = Vec::new(alloc);
+    let status = explain(
+        error,
+        &mut Fuse::sink(Out::new(&mut text), output),
+        &mut Out::new(&mut told),
+    );
+    Answer {
+        status,
+        output: text,
+        told,
     }
 }
 
@@ -145,30 +145,13 @@ fn fails_where_nothing_can_be_told(rt: HostRuntime) {
 fn explains_on_the_right_device(rt: HostRuntime) -> Result<(), Fail> {
     let help = UsageError::Help(String::from_str(rt.alloc(), "help\n")?);
     let usage = UsageError::Usage(String::from_str(rt.alloc(), "usage\n")?);
-    let table: [(&UsageError, &str, &str, Status); 3] = [
-        (&help, "help\n", "", Status::Clean),
-        (&usage, "", "usage\n", Status::Failed),
-        (
-            &UsageError::Memory,
-            "",
-            "t1check: out of memory\n",
-            Status::Failed,
-        ),
-    ];
-    for (error, text, line, status) in table {
-        let mut output = Vec::new(rt.alloc());
-        let mut told = Vec::new(rt.alloc());
-        let answer = explain(error, &mut Out::new(&mut output), &mut Out::new(&mut told));
-        assert_eq!(rt; answer, status);
-        assert_eq!(rt; output.as_slice(), text.as_bytes());
-        assert_eq!(rt; told.as_slice(), line.as_bytes());
-    }
-    let mut output = Vec::new(rt.alloc());
-    let mut told = Vec::new(rt.alloc());
-    let mut full = Fuse::sink(Out::new(&mut output), Limit::Bytes(2));
-    let answer = explain(&help, &mut full, &mut Out::new(&mut told));
-    assert_eq!(rt; answer, Status::Failed);
-    assert_eq!(rt; output.as_slice(), b"he".as_slice());
-    assert_eq!(rt; told.as_slice(), b"t1check: write failed\n".as_slice());
+    let answer = explained(rt.alloc(), &help, FAR);
+    assert!(rt; answer.is(Status::Clean, b"help\n", b""));
+    let answer = explained(rt.alloc(), &usage, FAR);
+    assert!(rt; answer.is(Status::Failed, b"", b"usage\n"));
+    let answer = explained(rt.alloc(), &UsageError::Memory, FAR);
+    assert!(rt; answer.is(Status::Failed, b"", b"t1check: out of memory\n"));
+    let answer = explained(rt.alloc(), &help, Limit::Bytes(2));
+    assert!(rt; answer.is(Status::Failed, b"he", b"t1check: write failed\n"));
     Ok(())
 }

@@ -3,6 +3,7 @@
 use super::{ALL, NO_END_REPORT, ended_by};
 use crate::running::run;
 use crate::status::Status;
+use std::alloc::Global;
 use std::io;
 use std::io::{Read, Write};
 use std::test::Fail;
@@ -58,6 +59,47 @@ impl Write for Writes {
     }
 }
 
+/// Runs the program on this reader, and gives the status, whether the report of a file without an end
+/// was written and nothing told, and whether a failed read was told and nothing written.
+fn run_on(alloc: Global, reader: &mut Reads<'_>) -> (Status, bool, bool) {
+    let mut output = Vec::new(alloc);
+    let mut told = Vec::new(alloc);
+    let status = run(
+        alloc,
+        &mut In::new(reader),
+        &ALL,
+        &mut Out::new(&mut output),
+        &mut Out::new(&mut told),
+    );
+    let is_written = output.as_slice() == NO_END_REPORT.as_bytes() && told.is_empty();
+    let is_told = told.as_slice() == b"t1check: read failed\n".as_slice() && output.is_empty();
+    (status, is_written, is_told)
+}
+
+/// Runs the program on a file and this writer, and gives the status and what was told.
+fn run_into(alloc: Global, file: &[u8], writer: &mut Writes) -> (Status, Vec<u8>) {
+    let mut told = Vec::new(alloc);
+    let status = run(
+        alloc,
+        &mut In::new(file),
+        &ALL,
+        &mut Out::new(writer),
+        &mut Out::new(&mut told),
+    );
+    (status, told)
+}
+
+/// A writer that fails at these calls, the first being 1.
+fn writer(alloc: Global, fails_at_write: u64, fails_at_flush: u64) -> Writes {
+    Writes {
+        text: Vec::new(alloc),
+        writes: 0,
+        flushes: 0,
+        fails_at_write,
+        fails_at_flush,
+    }
+}
+
 /// The file is read part by part, and the last read finds its end; where read k fails, k are made.
 #[test]
 fn a_read_that_fails_once_ends_the_run(rt: HostRuntime) -> Result<(), Fail> {
@@ -69,22 +111,14 @@ fn a_read_that_fails_once_ends_the_run(rt: HostRuntime) -> Result<(), Fail> {
             count: 0,
             fails_at,
         };
-        let mut output = Vec::new(rt.alloc());
-        let mut told = Vec::new(rt.alloc());
-        let status = run(
-            rt.alloc(),
-            &mut In::new(&mut reader),
-            &ALL,
-            &mut Out::new(&mut output),
-            &mut Out::new(&mut told),
-        );
-        let is_read = fails_at > whole;
-        assert_eq!(rt; reader.count, fails_at.min(whole), "at {fails_at}");
-        assert_eq!(rt; status == Status::Faults, is_read, "at {fails_at}");
-        assert_eq!(rt; output.is_empty(), !is_read, "at {fails_at}");
-        assert_eq!(rt;
-            told.as_slice() == b"t1check: read failed\n".as_slice(),
-            !is_read,
+        let ends = run_on(rt.alloc(), &mut reader);
+        let wanted = if fails_at > whole {
+            (Status::Faults, true, false)
+        } else {
+            (Status::Failed, false, true)
+        };
+        assert!(rt;
+            ends == wanted && reader.count == fails_at.min(whole),
             "at {fails_at}"
         );
     }
@@ -95,30 +129,19 @@ fn a_read_that_fails_once_ends_the_run(rt: HostRuntime) -> Result<(), Fail> {
 #[test]
 fn a_write_that_fails_once_ends_the_run(rt: HostRuntime) -> Result<(), Fail> {
     let file = ended_by(rt.alloc(), b"")?;
-    for fails_at_write in 1..12u64 {
-        let mut output = Writes {
-            text: Vec::new(rt.alloc()),
-            writes: 0,
-            flushes: 0,
-            fails_at_write,
-            fails_at_flush: 0,
-        };
-        let mut told = Vec::new(rt.alloc());
-        let status = run(
-            rt.alloc(),
-            &mut In::new(file.as_slice()),
-            &ALL,
-            &mut Out::new(&mut output),
-            &mut Out::new(&mut told),
-        );
-        assert_eq!(rt; status, Status::Failed, "at {fails_at_write}");
-        assert_eq!(rt; output.writes, fails_at_write);
-        assert_eq!(rt; output.flushes, 0, "at {fails_at_write}");
+    let report = NO_END_REPORT.as_bytes();
+    for place in 1..12u64 {
+        let mut output = writer(rt.alloc(), place, 0);
+        let (status, told) = run_into(rt.alloc(), file.as_slice(), &mut output);
         assert!(rt;
-            NO_END_REPORT.as_bytes().starts_with(output.text.as_slice())
-                && output.text.len() < NO_END_REPORT.len()
+            status == Status::Failed && told.as_slice() == b"t1check: write failed\n".as_slice(),
+            "at {place}"
         );
-        assert_eq!(rt; told.as_slice(), b"t1check: write failed\n".as_slice());
+        assert!(rt; output.writes == place && output.flushes == 0, "at {place}");
+        assert!(rt;
+            report.starts_with(output.text.as_slice()) && output.text.len() < report.len(),
+            "at {place}"
+        );
     }
     Ok(())
 }
@@ -127,27 +150,18 @@ fn a_write_that_fails_once_ends_the_run(rt: HostRuntime) -> Result<(), Fail> {
 #[test]
 fn a_report_is_flushed_once(rt: HostRuntime) -> Result<(), Fail> {
     let file = ended_by(rt.alloc(), b"")?;
-    for fails_at_flush in 0..3u64 {
-        let mut output = Writes {
-            text: Vec::new(rt.alloc()),
-            writes: 0,
-            flushes: 0,
-            fails_at_write: 0,
-            fails_at_flush,
-        };
-        let mut told = Vec::new(rt.alloc());
-        let status = run(
-            rt.alloc(),
-            &mut In::new(file.as_slice()),
-            &ALL,
-            &mut Out::new(&mut output),
-            &mut Out::new(&mut told),
+    for place in 0..3u64 {
+        let mut output = writer(rt.alloc(), 0, place);
+        let (status, told) = run_into(rt.alloc(), file.as_slice(), &mut output);
+        let fails = place == 1;
+        assert!(rt;
+            (status == Status::Failed) == fails && told.is_empty() != fails,
+            "at {place}"
         );
-        let fails = fails_at_flush == 1;
-        assert_eq!(rt; status == Status::Failed, fails, "at {fails_at_flush}");
-        assert_eq!(rt; output.text.as_slice(), NO_END_REPORT.as_bytes());
-        assert_eq!(rt; output.flushes, 1, "at {fails_at_flush}");
-        assert_eq!(rt; told.is_empty(), !fails, "at {fails_at_flush}");
+        assert!(rt;
+            output.text.as_slice() == NO_END_REPORT.as_bytes() && output.flushes == 1,
+            "at {place}"
+        );
     }
     Ok(())
 }
@@ -155,21 +169,8 @@ fn a_report_is_flushed_once(rt: HostRuntime) -> Result<(), Fail> {
 /// A refusal leaves the output alone; standard error isn't flushed, as nothing of it waits.
 #[test]
 fn a_refusal_flushes_nothing(rt: HostRuntime) {
-    let mut output = Writes {
-        text: Vec::new(rt.alloc()),
-        writes: 0,
-        flushes: 0,
-        fails_at_write: 0,
-        fails_at_flush: 0,
-    };
-    let mut told = Vec::new(rt.alloc());
-    let status = run(
-        rt.alloc(),
-        &mut In::new(b"".as_slice()),
-        &ALL,
-        &mut Out::new(&mut output),
-        &mut Out::new(&mut told),
-    );
+    let mut output = writer(rt.alloc(), 0, 0);
+    let (status, _told) = run_into(rt.alloc(), b"", &mut output);
     assert_eq!(rt; status, Status::Refused);
     assert_eq!(rt; (output.writes, output.flushes), (0, 0));
 }

@@ -1,16 +1,6 @@
-use super::answer_to;
-use crate::status::Status;
-use std::alloc::Global;
+use super::is_refused;
 use std::test::Fail;
 use t1_samples::{CLEAR, FontFile, Sample};
-
-/// Whether the program refuses a file with this line alone.
-fn is_refused(alloc: Global, file: &[u8], line: &str) -> bool {
-    let answer = answer_to(alloc, file, 0);
-    answer.status == Status::Refused
-        && answer.output.is_empty()
-        && answer.told.as_slice() == line.as_bytes()
-}
 
 #[test]
 fn refuses_clear_texts(rt: HostRuntime) {

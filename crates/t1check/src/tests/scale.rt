@@ -36,21 +36,28 @@ fn subrs(alloc: Global, size: u32) -> Result<Vec<u8>, AllocError> {
     Ok(lines)
 }
 
+/// A sound private text that makes a file of the greatest size, where it would have `short` bytes
+/// without blanks.
+fn filling(alloc: Global, short: usize) -> Result<Vec<u8>, AllocError> {
+    padded(alloc, GREATEST.saturating_sub(short))
+}
+
 #[test]
-fn reads_sixteen_megabytes_of_a_font(rt: HostRuntime) -> Result<(), Fail> {
+fn reads_sixteen_megabytes_of_a_pfa_file(rt: HostRuntime) -> Result<(), Fail> {
     let short = padded(rt.alloc(), 0)?;
-    let short = FontFile::of(CLEAR, short.as_slice());
-    let text = padded(
-        rt.alloc(),
-        GREATEST.saturating_sub(short.pfa(rt.alloc())?.len()),
-    )?;
+    let short = FontFile::of(CLEAR, short.as_slice()).pfa(rt.alloc())?;
+    let text = filling(rt.alloc(), short.len())?;
     let file = FontFile::of(CLEAR, text.as_slice()).pfa(rt.alloc())?;
     assert_eq!(rt; file.len(), GREATEST);
     assert!(rt; is_clean(rt.alloc(), file.as_slice()));
-    let text = padded(
-        rt.alloc(),
-        GREATEST.saturating_sub(short.pfb(rt.alloc())?.len()),
-    )?;
+    Ok(())
+}
+
+#[test]
+fn reads_sixteen_megabytes_of_a_pfb_file(rt: HostRuntime) -> Result<(), Fail> {
+    let short = padded(rt.alloc(), 0)?;
+    let short = FontFile::of(CLEAR, short.as_slice()).pfb(rt.alloc())?;
+    let text = filling(rt.alloc(), short.len())?;
     let file = FontFile::of(CLEAR, text.as_slice()).pfb(rt.alloc())?;
     assert_eq!(rt; file.len(), GREATEST);
     assert!(rt; is_clean(rt.alloc(), file.as_slice()));
@@ -79,32 +86,37 @@ fn reads_all_subrs(rt: HostRuntime) -> Result<(), Fail> {
     Ok(())
 }
 
-/// Each Subr stands past the array, and each glyph but `.notdef` is given twice: 70,000 lines.
-#[test]
-fn reports_seventy_thousand_lines(rt: HostRuntime) -> Result<(), Fail> {
-    let lines = subrs(rt.alloc(), 0)?;
-    let mut sample = Sample::new(rt.alloc())?.subrs(lines.as_slice())?;
+/// A font whose Subrs all stand past the array, and whose glyphs but `.notdef` are each given twice:
+/// 70,000 lines.
+fn faulty(alloc: Global) -> Result<Vec<u8>, AllocError> {
+    let lines = subrs(alloc, 0)?;
+    let mut sample = Sample::new(alloc)?.subrs(lines.as_slice())?;
     for number in 0..DOUBLED {
-        let name = format!(in rt.alloc(); "g{number}")?;
+        let name = format!(in alloc; "g{number}")?;
         sample = sample
             .glyph(name.as_bytes(), NOTDEF)?
             .glyph(name.as_bytes(), NOTDEF)?;
     }
-    let file = sample.pfb()?;
-    let answer = answer_to(rt.alloc(), file.as_slice(), 0);
-    assert_eq!(rt; answer.status, Status::Faults);
-    assert_eq!(rt;
-        answer.output.iter().filter(|byte| **byte == b'\n').count(),
-        70_000
-    );
+    sample.pfb()
+}
+
+#[test]
+fn writes_seventy_thousand_lines(rt: HostRuntime) -> Result<(), Fail> {
+    let file = faulty(rt.alloc())?;
+    let answer = answer_to(rt.alloc(), file.as_slice());
+    assert!(rt; answer.status == Status::Faults && answer.told.is_empty());
+    let text = answer.output.as_slice();
+    assert_eq!(rt; text.iter().filter(|byte| **byte == b'\n').count(), 70_000);
     assert!(rt;
-        answer.output.starts_with(b"1: font Subrs 0 F14 Subr given twice or past the array\n")
+        text.starts_with(b"1: font Subrs 0 F14 Subr given twice or past the array\n")
+            && text.ends_with(b"\n70000: font CharStrings 4465 F10 glyph given twice\n")
     );
-    assert!(rt;
-        answer
-            .output
-            .ends_with(b"\n70000: font CharStrings 4465 F10 glyph given twice\n")
-    );
+    Ok(())
+}
+
+#[test]
+fn reports_seventy_thousand_faults(rt: HostRuntime) -> Result<(), Fail> {
+    let file = faulty(rt.alloc())?;
     let joined = join(rt.alloc(), file.as_slice())?;
     let clear = read_clear(rt.alloc(), &joined)?;
     let (_, section) = joined.bytes.as_slice().split_at(clear.after());
