@@ -3,6 +3,8 @@ mod effects;
 mod steps;
 mod tokens;
 
+ghost use Rattle.std.specs.Prelude.{◌≡◌, length};
+
 use crate::{CharToken, Path, Stack, Step, command_name, expand};
 use std::alloc::{AllocError, Global};
 use std::test::Fail;
@@ -104,8 +106,15 @@ fn steps_of_texts(alloc: Global, text: &Joined, private: &[u8]) -> Result<Vec<St
     Ok(steps_in(alloc, &font)?)
 }
 
+/// How many glyphs a font has.
+fn glyph_count(font: &Font<'_>) -> usize
+    ensures { result ≡ length font.now.glyphs }
+{
+    font.glyphs().len()
+}
+
 fn steps_in(alloc: Global, font: &Font<'_>) -> Result<Vec<Step>, AllocError> {
-    if font.glyphs().len() < 2 {
+    if glyph_count(font) < 2 {
         return Ok(Vec::new(alloc));
     }
     expand(alloc, font, 1)
