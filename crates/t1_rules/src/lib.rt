@@ -7,10 +7,16 @@
 //! of a number in a list, a code, a Subr's number or a glyph's. [`places`] says how many indexes of a
 //! key have to be asked.
 //!
+//! [`Watches`] sees the steps of a glyph one after another, and answers of each which rules on
+//! charstrings it breaks. It is three watchers as one: [`ArgumentWatcher`], [`CallWatcher`] and
+//! [`PathWatcher`]. [`Watch`] is what watchers have in common.
+//!
 //! What is promised, for all fonts:
 //!
 //! - `font_faults` answers exactly the rules that the table in `specs/FontRules.antt` says are broken at
 //!   that key and index. Numbers are compared exactly, in units of 10^-9 and their products.
+//! - Of each step, given those before it, a watcher answers exactly those of its rules that the table in
+//!   `specs/StepRules.antt` says are broken there. It keeps a few flags, and no list of steps.
 //! - Nothing is broken past the places of a key, past the last key or past index 65,535.
 //! - No call takes memory; no index, sum, product or cast goes wrong.
 //!
@@ -18,6 +24,13 @@
 //! for index in 0..places(&font, 9) {
 //!     if let Some(rule) = font_faults(&font, 9, index).above(0) {
 //!         println!(rt; "{} {index} {}", key_text(9), rule_code(rule))?;
+//!     }
+//! }
+//!
+//! let mut watches = Watches::start();
+//! for step in &t1_char::expand(alloc, &font, 0)? {
+//!     if let Some(rule) = watches.see(step).above(0) {
+//!         println!(rt; "{} {}", step.number, rule_code(rule))?;
 //!     }
 //! }
 //! ```

@@ -1,5 +1,5 @@
 -- Laws of the table of charstring rules.
-use Rattle.std.specs.Prelude.{◌≡◌, ℕ, ℤ, ◌<◌, ◌≤◌, ◌↔◌, not, true, Some, List, ◌++◌, length, map}
+use Rattle.std.specs.Prelude.{◌≡◌, ℕ, ℤ, ◌<◌, ◌≤◌, ◌↔◌, not, Bool, true, Some, List, ◌++◌, length, map}
 use Rattle.std.specs.List.{range_with_len}
 use Rattle.t1_char.specs.Arguments.{argument}
 use Rattle.t1_char.specs.Laws.Since.{IsSince}
@@ -44,12 +44,14 @@ EndsBreakOneRule =
     (before : List StepView) (step : StepView) → is_end step.token ≡ true →
     breaks step_rules (number_of S04) before step ≡ not (breaks step_rules (number_of GE01) before step)
 
--- At most one step of a glyph is its first command.
+-- The step at a place is the first command, and doesn't set the width; this is so of one step at most.
+abbrev pub starts_at : List StepView → ℕ → Bool
+starts_at steps place = breaks_at step_rules (number_of W01) steps place
+
 abbrev pub OneStepStartsWithoutWidth : Type 0
 OneStepStartsWithoutWidth =
     (steps : List StepView) (one other : ℕ) →
-    breaks_at step_rules (number_of W01) steps one ≡ true → breaks_at step_rules (number_of W01) steps other ≡ true →
-    one ≡ other
+    starts_at steps one ≡ true → starts_at steps other ≡ true → one ≡ other
 
 -- In flex: a start stands at some place, and no end at a later one; moved, and the path open, the same
 -- with a closepath.

@@ -3,20 +3,26 @@ use Rattle.std.specs.Prelude.{◌≡◌, ℕ, ℤ, nat_lt, Bool, false, Option, 
 use Rattle.t1_char.specs.declared.command.Command.{Command as Commands}
 use Rattle.t1_char.specs.declared.token.CharToken.TheVariants.{Command}
 use Rattle.t1_char.specs.Steps.{StepView}
+use Rattle.t1_rules.specs.declared.rule.Rule.{Rule}
 use Rattle.t1_rules.specs.declared.rule.Rule.TheVariants.{C04, C05, C07, C08, C09}
 use Rattle.t1_rules.specs.StepRules.Arguments.{is_zero, one_is_past, quotient_is_past}
 use Rattle.t1_rules.specs.Words.KeyTests.{broken_among}
 
+-- The step's token is this command.
 abbrev pub IsCommand : StepView → Commands → Type 0
 IsCommand step command = step.token ≡ Command command
 
 -- Of a command with so many arguments.
+abbrev pub count_tests : ℕ → List ℤ → List (Rule × Bool)
+count_tests count stack =
+    (C04, nat_lt (length stack) count)
+    ∷ (C05, nat_lt count (length stack))
+    ∷ (C07, one_is_past (Some count) stack)
+    ∷ []
+
 abbrev pub breaks_by_count : Option ℕ → List ℤ → ℕ → Bool
 breaks_by_count None stack n = false
-breaks_by_count (Some count) stack n =
-    broken_among
-    ((C04, nat_lt (length stack) count) ∷ (C05, nat_lt count (length stack)) ∷ (C07, one_is_past (Some count) stack) ∷ [])
-    n
+breaks_by_count (Some count) stack n = broken_among (count_tests count stack) n
 
 -- Of a division of two numbers.
 abbrev pub breaks_by_quotient : ℤ → ℤ → ℕ → Bool
