@@ -4,10 +4,7 @@ use super::{answer_to, is_clean};
 use crate::status::Status;
 use std::alloc::{AllocError, Global};
 use std::test::Fail;
-use t1_font::{read_clear, read_font};
-use t1_report::report;
 use t1_samples::{CLEAR, FontFile, NOTDEF, Sample};
-use t1_seal::{join, open_eexec};
 
 /// The greatest size of a file.
 const GREATEST: usize = 16_777_216;
@@ -111,17 +108,5 @@ fn writes_seventy_thousand_lines(rt: HostRuntime) -> Result<(), Fail> {
         text.starts_with(b"1: font Subrs 0 F14 Subr given twice or past the array\n")
             && text.ends_with(b"\n70000: font CharStrings 4465 F10 glyph given twice\n")
     );
-    Ok(())
-}
-
-#[test]
-fn reports_seventy_thousand_faults(rt: HostRuntime) -> Result<(), Fail> {
-    let file = faulty(rt.alloc())?;
-    let joined = join(rt.alloc(), file.as_slice())?;
-    let clear = read_clear(rt.alloc(), &joined)?;
-    let (_, section) = joined.bytes.as_slice().split_at(clear.after());
-    let private = open_eexec(rt.alloc(), section)?;
-    let font = read_font(rt.alloc(), clear, private.as_slice())?;
-    assert_eq!(rt; report(rt.alloc(), &font)?.len(), 70_000);
     Ok(())
 }
