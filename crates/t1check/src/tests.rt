@@ -1,4 +1,3 @@
-mod charstrings;
 mod command_line;
 mod devices;
 mod fonts;
