@@ -32,7 +32,7 @@ ArgumentsCountFromTheBottom =
     (stack more : List ℤ) (place : ℕ) → place < length stack →
     argument (stack ++ more) place ≡ argument stack place
 
--- Numbers above the arguments of a command are never past the range.
+-- What lies above a command's arguments has no say in whether one of them is past the range.
 abbrev pub SurplusNumbersAreNotPast : Type 0
 SurplusNumbersAreNotPast =
     (count : ℕ) (stack more : List ℤ) → count ≤ length stack →
