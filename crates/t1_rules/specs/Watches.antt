@@ -34,6 +34,6 @@ pub record IsQuietForPaths (step : StepView) : Type 0 where
   pub ends : is_end step.token ≡ false
   pub othersubr : is_callothersubr step.token ≡ false
 
--- All watchers stand for the same steps.
+-- All watchers stand for the same steps; those of arguments and calls keep nothing.
 unfoldable pub WatchesStandFor : Watches → List StepView → Type 0
 WatchesStandFor watches before = PathsStandFor watches.paths before

@@ -9,7 +9,7 @@ use crate::step_rules::paths::PathWatcher;
 use crate::watch::Watch;
 use t1_char::Step;
 
-/// Watches for all rules on charstrings that a glyph's own steps decide.
+/// Watches for the rules from C01 to P03, which a glyph's own steps decide.
 #[derive(Debug, PartialEq, Eq, Drop)]
 pub struct Watches {
     arguments: ArgumentWatcher,

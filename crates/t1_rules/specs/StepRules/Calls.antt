@@ -5,7 +5,7 @@ use Rattle.t1_char.specs.Effects.{most_calls}
 use Rattle.t1_char.specs.Laws.Steps.{is_finishing}
 use Rattle.t1_char.specs.Steps.{StepView, is_callsubr, is_end, is_return}
 
--- The step calls by a number.
+-- callsubr, with a number on the stack.
 abbrev pub calls_by_number : StepView → Bool
 calls_by_number step = is_callsubr step.token && nat_lt 0 (length step.stack)
 
