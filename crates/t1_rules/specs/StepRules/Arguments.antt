@@ -43,7 +43,7 @@ abbrev pub overflows : StepView → Bool
 overflows step =
     (is_number step.token || (is_pop step.token && nat_lt 0 step.waiting)) && length step.stack == 24
 
--- A number is past 32000, which is 32000 * 65536, in absolute value.
+-- A number is past 32000 in absolute value: 2097152000 is 32000 in units of 1/65536.
 abbrev pub is_past : ℤ → Bool
 is_past z = int_lt (pos 2097152000) z || int_lt z (negsuc 2097151999)
 
