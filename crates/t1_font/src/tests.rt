@@ -15,6 +15,7 @@ mod values;
 
 use crate::{Encoding, Entry, Font, Key, Refusal, read_clear, read_font};
 use std::alloc::{AllocError, Global};
+use std::process::Abort;
 use std::test::Fail;
 use t1_seal::{Joined, join, open_eexec};
 
@@ -34,6 +35,23 @@ fn joined(alloc: Global, text: &[u8]) -> Result<Joined, AllocError> {
     })
 }
 
+/// What was read, in a box: a function that drops a font of its own takes long to prove.
+fn boxed<T: Drop>(alloc: Global, read: Result<T, Refusal>) -> Result<Box<T>, Refusal> {
+    Ok(Box::new(alloc, read?)?)
+}
+
+/// The place where the encrypted section of a file begins.
+fn section_start(alloc: Global, joined: &Joined) -> Result<usize, Refusal> {
+    let clear = boxed(alloc, read_clear(alloc, joined))?;
+    Ok(clear.after())
+}
+
+/// The encrypted section of a file, and what follows it.
+fn section(alloc: Global, joined: &Joined) -> Result<&[u8], Fail> {
+    let after = section_start(alloc, joined)?;
+    Ok(joined.bytes.get(after..).ok_or("the section")?)
+}
+
 /// The two texts of a font.
 #[derive(Drop)]
 struct Texts {
@@ -49,18 +67,28 @@ impl Texts {
         })
     }
 
+    /// The texts of a font whose clear text has these lines.
+    fn with_clear_lines(alloc: Global, lines: &str) -> Result<Texts, AllocError> {
+        let clear = format!(in alloc; "%!\n{lines} eexec")?;
+        Texts::of(alloc, clear.as_bytes(), NO_PRIVATE.as_bytes())
+    }
+
+    /// The texts of a font whose private text has these lines in front of its CharStrings.
+    fn with_private_lines(alloc: Global, lines: &str) -> Result<Texts, AllocError> {
+        let private = format!(in alloc; "{lines} /CharStrings 0 dict dup begin end")?;
+        Texts::of(alloc, NO_CLEAR.as_bytes(), private.as_bytes())
+    }
+
     /// The texts of a font's file.
     fn of_file(alloc: Global, file: &[u8]) -> Result<Texts, Fail> {
         let clear = join(alloc, file)?;
-        let after = read_clear(alloc, &clear)?.after();
-        let section = clear.bytes.get(after..).ok_or("the section")?;
-        let private = open_eexec(alloc, section)?;
+        let private = open_eexec(alloc, section(alloc, &clear)?)?;
         Ok(Texts { clear, private })
     }
 
-    fn font(&self, alloc: Global) -> Result<Font<'_>, Refusal> {
+    fn font(&self, alloc: Global) -> Result<Box<Font<'_>>, Refusal> {
         let clear = read_clear(alloc, &self.clear)?;
-        read_font(alloc, clear, self.private.as_slice())
+        boxed(alloc, read_font(alloc, clear, self.private.as_slice()))
     }
 
     /// Whether a glyph has that charstring, or isn't there.
@@ -169,6 +197,32 @@ fn clear_refusal(alloc: Global, text: &[u8]) -> Result<Option<Refusal>, Refusal>
 fn private_refusal(alloc: Global, text: &[u8]) -> Result<Option<Refusal>, Refusal> {
     let texts = Texts::of(alloc, NO_CLEAR.as_bytes(), text)?;
     refusal_of(texts.font(alloc))
+}
+
+/// Each clear text is refused for the reason beside it, or isn't.
+fn assert_clear_refusals(
+    rt: &impl Abort,
+    alloc: Global,
+    cases: &[(&str, Option<Refusal>)],
+) -> Result<(), Fail> {
+    for (text, refusal) in cases {
+        let answer = clear_refusal(alloc, text.as_bytes())?;
+        assert_eq!(rt; answer, *refusal, "{text}");
+    }
+    Ok(())
+}
+
+/// Each private text is refused for the reason beside it.
+fn assert_private_refusals(
+    rt: &impl Abort,
+    alloc: Global,
+    cases: &[(&str, Refusal)],
+) -> Result<(), Fail> {
+    for (text, refusal) in cases {
+        let answer = private_refusal(alloc, text.as_bytes())?;
+        assert_eq!(rt; answer, Some(*refusal), "{text}");
+    }
+    Ok(())
 }
 
 /// What an entry is to be. Numbers are in units of 10^-9.

@@ -32,6 +32,12 @@ fn worked_file(alloc: Global, kind: Kind) -> Result<Vec<u8>, AllocError> {
     }
 }
 
+/// The texts of the worked font's file.
+fn worked_texts(alloc: Global, kind: Kind) -> Result<Texts, Fail> {
+    let file = worked_file(alloc, kind)?;
+    Texts::of_file(alloc, file.as_slice())
+}
+
 #[derive(Clone, Copy, Debug)]
 enum Kind {
     Pfb,
@@ -56,8 +62,7 @@ const KINDS: [Kind; 6] = [
 #[test]
 fn files_are_read(rt: HostRuntime) -> Result<(), Fail> {
     for kind in KINDS {
-        let file = worked_file(rt.alloc(), kind)?;
-        let texts = Texts::of_file(rt.alloc(), file.as_slice())?;
+        let texts = worked_texts(rt.alloc(), kind)?;
         let bytes = b"\x10\xbf\x31\x70\x79\xc8\x2f\x06\x80";
         assert!(rt;
             texts.has_glyph(rt.alloc(), b".notdef", Some(bytes))?,
@@ -67,20 +72,21 @@ fn files_are_read(rt: HostRuntime) -> Result<(), Fail> {
     Ok(())
 }
 
+/// The kind of a file, whether it lacks its end, and whether more stands behind that.
+const MARKS: &[(Kind, bool, bool)] = &[
+    (Kind::Pfb, false, false),
+    (Kind::PfbWithoutEnd, true, false),
+    (Kind::PfbAndMore, false, true),
+    (Kind::PfaBinary, false, false),
+];
+
 #[test]
 fn marks_of_files_are_kept(rt: HostRuntime) -> Result<(), Fail> {
-    let table = [
-        (Kind::Pfb, false, false),
-        (Kind::PfbWithoutEnd, true, false),
-        (Kind::PfbAndMore, false, true),
-        (Kind::PfaBinary, false, false),
-    ];
-    for (kind, no_end, extra) in table {
-        let file = worked_file(rt.alloc(), kind)?;
-        let texts = Texts::of_file(rt.alloc(), file.as_slice())?;
+    for (kind, no_end, extra) in MARKS {
+        let texts = worked_texts(rt.alloc(), *kind)?;
         let marks = Marks {
-            no_end,
-            extra,
+            no_end: *no_end,
+            extra: *extra,
             bad_code: false,
         };
         assert_eq!(rt; texts.marks(rt.alloc())?, marks, "as {kind:?}");
@@ -96,8 +102,7 @@ fn numbers_of_files_are_read(rt: HostRuntime) -> Result<(), Fail> {
         len_iv: 4,
     };
     for kind in KINDS {
-        let file = worked_file(rt.alloc(), kind)?;
-        let texts = Texts::of_file(rt.alloc(), file.as_slice())?;
+        let texts = worked_texts(rt.alloc(), kind)?;
         assert_eq!(rt; texts.counts(rt.alloc())?, counts, "as {kind:?}");
     }
     Ok(())

@@ -18,18 +18,21 @@ fn with_most_glyphs(alloc: Global, lines: &str) -> Result<Texts, AllocError> {
     Texts::of(alloc, NO_CLEAR.as_bytes(), text.as_slice())
 }
 
+/// The lines behind the most glyphs, and why the font is refused, if it is.
+const ENDS: &[(&str, Option<Refusal>)] = &[
+    ("end", None),
+    ("/0 1 RD x ND end", None),
+    ("/x -1", Some(Refusal::PastLimit)),
+    ("/0 -1", Some(Refusal::BadCharStrings)),
+];
+
 /// A name that was given before is none more; the length behind one too many isn't read.
 #[test]
 fn the_most_glyphs_are_read(rt: HostRuntime) -> Result<(), Fail> {
-    for (lines, refusal) in [
-        ("end", None),
-        ("/0 1 RD x ND end", None),
-        ("/x -1", Some(Refusal::PastLimit)),
-        ("/0 -1", Some(Refusal::BadCharStrings)),
-    ] {
+    for (lines, refusal) in ENDS {
         let texts = with_most_glyphs(rt.alloc(), lines)?;
         let answer = refusal_of(texts.font(rt.alloc()))?;
-        assert_eq!(rt; answer, refusal, "{lines}");
+        assert_eq!(rt; answer, *refusal, "{lines}");
     }
     Ok(())
 }

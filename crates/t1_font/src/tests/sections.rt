@@ -1,6 +1,6 @@
 //! Where the encrypted section begins and which form it has: Type 1 Font Format 1.1, chapter 7.
 
-use super::joined;
+use super::{joined, section};
 use crate::{Refusal, read_clear};
 use std::alloc::Global;
 use std::test::Fail;
@@ -16,31 +16,31 @@ enum Section {
 
 fn section_of(alloc: Global, file: &[u8]) -> Result<Section, Fail> {
     let joined = joined(alloc, file)?;
-    let after = read_clear(alloc, &joined)?.after();
-    let section = joined.bytes.get(after..).ok_or("the section")?;
-    match open_eexec(alloc, section) {
+    match open_eexec(alloc, section(alloc, &joined)?) {
         Ok(text) => Ok(Section::Opens(text.len())),
         Err(SealError::TooShort) => Ok(Section::TooShort),
         Err(error) => Err(error.into()),
     }
 }
 
+/// PFA files, and what is told of the section of each.
+const SECTIONS: &[(&[u8], Section)] = &[
+    (b"%!\n/FontType /WeightVector eexec", Section::TooShort),
+    (b"%!\neexec\r\n\xd9\xd6\x6f", Section::TooShort),
+    (b"%!\neexec \t\r\n\xd9\xd6\x6f\x63", Section::Opens(0)),
+    (b"%!\neexec(\xd9\xd6\x6f\x63", Section::Opens(1)),
+    (b"%!\neexec\x0c\xd9\xd6\x6f\x63", Section::Opens(1)),
+    (b"%!\neexec\0\xd9\xd6\x6f\x63", Section::Opens(1)),
+    (b"%!\neexec d9d66f63", Section::Opens(0)),
+    (b"%!\neexec d9d6\0\x0c6f63cleartomark", Section::Opens(0)),
+    (b"%!\neexec \x41\xba\x2d\x3c", Section::Opens(0)),
+];
+
 /// Blanks, tabs and line ends alone are skipped in front; four bytes are enough, and give no text.
 #[test]
 fn sections_are_opened(rt: HostRuntime) -> Result<(), Fail> {
-    let table: [(&[u8], Section); 9] = [
-        (b"%!\n/FontType /WeightVector eexec", Section::TooShort),
-        (b"%!\neexec\r\n\xd9\xd6\x6f", Section::TooShort),
-        (b"%!\neexec \t\r\n\xd9\xd6\x6f\x63", Section::Opens(0)),
-        (b"%!\neexec(\xd9\xd6\x6f\x63", Section::Opens(1)),
-        (b"%!\neexec\x0c\xd9\xd6\x6f\x63", Section::Opens(1)),
-        (b"%!\neexec\0\xd9\xd6\x6f\x63", Section::Opens(1)),
-        (b"%!\neexec d9d66f63", Section::Opens(0)),
-        (b"%!\neexec d9d6\0\x0c6f63cleartomark", Section::Opens(0)),
-        (b"%!\neexec \x41\xba\x2d\x3c", Section::Opens(0)),
-    ];
-    for (file, section) in table {
-        assert_eq!(rt; section_of(rt.alloc(), file)?, section, "{file:?}");
+    for (file, section) in SECTIONS {
+        assert_eq!(rt; section_of(rt.alloc(), file)?, *section, "{file:?}");
     }
     Ok(())
 }
