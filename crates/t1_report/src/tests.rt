@@ -34,18 +34,29 @@ struct Texts {
     private: Vec<u8>,
 }
 
+/// What was read, in a box: a function that drops a font of its own takes long to prove.
+fn boxed<T: Drop>(alloc: Global, read: Result<T, Refusal>) -> Result<Box<T>, Refusal> {
+    Ok(Box::new(alloc, read?)?)
+}
+
+/// The place where the encrypted section of a file begins.
+fn section_start(alloc: Global, joined: &Joined) -> Result<usize, Refusal> {
+    let clear = boxed(alloc, read_clear(alloc, joined))?;
+    Ok(clear.after())
+}
+
 impl Texts {
     fn of(alloc: Global, file: &[u8]) -> Result<Texts, Fail> {
         let clear = join(alloc, file)?;
-        let after = read_clear(alloc, &clear)?.after();
+        let after = section_start(alloc, &clear)?;
         let section = clear.bytes.get(after..).ok_or("the section")?;
         let private = open_eexec(alloc, section)?;
         Ok(Texts { clear, private })
     }
 
-    fn font(&self, alloc: Global) -> Result<Font<'_>, Refusal> {
+    fn font(&self, alloc: Global) -> Result<Box<Font<'_>>, Refusal> {
         let clear = read_clear(alloc, &self.clear)?;
-        read_font(alloc, clear, self.private.as_slice())
+        boxed(alloc, read_font(alloc, clear, self.private.as_slice()))
     }
 
     fn faults(&self, alloc: Global) -> Result<Vec<Told>, Refusal> {
