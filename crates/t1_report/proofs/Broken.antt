@@ -1,5 +1,6 @@
 -- What is broken at a unit and a step: in the font, at the steps of a glyph, and where nothing is.
 use Rattle.std.proofs.Common.{◌≡◌, ℕ, zero, suc, ◌+◌, ◌*◌, ◌/◌, ◌%◌, ◌<◌, ◌≤◌, ◌&&◌, nat_lt, Bool, true, false, List, [], length, take, slice_get, Option, Some, None, inl, inr, refl, ap, ◌∙◌, arith, rules}
+use Rattle.std.proofs.Math.Bool.{and-false}
 use Rattle.std.proofs.lemmas.Bool.{cases_lt, ne_eqb}
 use Rattle.std.proofs.lemmas.List.{length-take}
 use Rattle.std.proofs.lemmas.Option.{slice_get_past}
@@ -44,10 +45,6 @@ less_is a b less = search rules
 
 not_less : (a b : ℕ) → b ≤ a → nat_lt a b ≡ false
 not_less a b more = search rules
-
-and_false : (b : Bool) → (b && false) ≡ false
-and_false true = refl
-and_false false = refl
 
 by_place : (limit : ℕ) (font : FontValue) (glyph i n : ℕ) → glyph < length font.glyphs
     → is_broken limit font (suc glyph) (suc i) n ≡ step_breaks limit n (take i (steps_of font glyph)) (slice_get (steps_of font glyph) i)
@@ -95,8 +92,8 @@ by_limit limit font glyph i n past =
     let count = length-take (limit + 1) steps in
     let before = length-take i steps in
     elim (cases_lt i (length steps)) [
-      | inr beyond ↦ ap (λ (s : Option StepView). nat_lt glyph (length font.glyphs) && step_breaks limit n (take i steps) s) (slice_get_past steps i beyond) ∙ and_false _
-      | inl within ↦ ap (λ (b : Bool). nat_lt glyph (length font.glyphs) && b) (past_limit limit n (take i steps) (slice_get steps i) (omega (arith, count, before))) ∙ and_false _
+      | inr beyond ↦ ap (λ (s : Option StepView). nat_lt glyph (length font.glyphs) && step_breaks limit n (take i steps) s) (slice_get_past steps i beyond) ∙ and-false _
+      | inl within ↦ ap (λ (b : Bool). nat_lt glyph (length font.glyphs) && b) (past_limit limit n (take i steps) (slice_get steps i) (omega (arith, count, before))) ∙ and-false _
     ]
 
 behind : (limit : ℕ) (font : FontValue) (glyph step n : ℕ) → length (take (limit + 1) (steps_of font glyph)) < step → is_broken limit font (suc glyph) step n ≡ false

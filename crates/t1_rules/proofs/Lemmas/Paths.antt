@@ -1,5 +1,6 @@
 -- What the watcher of widths and paths keeps, one step further.
-use Rattle.std.proofs.Common.{◌≡◌, ℕ, ◌&&◌, ◌||◌, not, Bool, true, false, List, [], ◌∷◌, ◌++◌, refl, ◌∙◌}
+use Rattle.std.proofs.Common.{◌≡◌, ℕ, ◌&&◌, ◌||◌, not, false, List, [], ◌∷◌, ◌++◌, refl, sym, ◌∙◌}
+use Rattle.std.proofs.Math.Bool.{and-true, or-false}
 use Rattle.t1_char.specs.Arguments.{is_flex_start, is_flex_end}
 use Rattle.t1_char.specs.Steps.{StepView}
 use Rattle.t1_char.proofs.LookingBack.{any_goes_on, since_goes_on}
@@ -23,21 +24,13 @@ one_more old new before t st begun in_flex moved drawn = record {
   drawn = drawn ∙ rw (st.drawn, st.in_flex, since_goes_on drawing closing_step before t);
 }
 
-or_nothing : (b : Bool) → b ≡ (b || false)
-or_nothing true = refl
-or_nothing false = refl
-
-and_so : (b : Bool) → b ≡ (b && true)
-and_so true = refl
-and_so false = refl
-
 pub stays : (w : PathWatcher) (before : List StepView) (t : StepView) → IsQuietForPaths t → PathsStandFor w before → PathsStandFor w (before ++ t ∷ [])
 stays w before t quiet st =
     one_more w w before t st
-    (rw quiet.clears (or_nothing w.begun))
-    (rw quiet.othersubr (and_so w.in_flex))
-    (rw (quiet.moves, quiet.closes) (and_so w.moved))
-    (rw (quiet.draws, quiet.othersubr, quiet.closes) (and_so w.drawn))
+    (rw quiet.clears (sym (or-false w.begun)))
+    (rw quiet.othersubr (sym (and-true w.in_flex)))
+    (rw (quiet.moves, quiet.closes) (sym (and-true w.moved)))
+    (rw (quiet.draws, quiet.othersubr, quiet.closes) (sym (and-true w.drawn)))
 
 pub no_fault : (n : ℕ) (before : List StepView) (t : StepView) → IsQuietForPaths t → breaks path_rules n before t ≡ false
 unfolding path_rules
