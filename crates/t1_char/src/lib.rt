@@ -53,7 +53,7 @@ pub use laws::{
     stacks_are_taken_from_the_top, steps_are_looked_back_on, steps_follow_the_tokens,
     written_charstrings_are_read,
 };
-pub use numbers::cut_quotient;
+pub use numbers::{cut_quotient, natural};
 pub use stack::Stack;
 pub use step::{Path, Step};
 pub use token::CharToken;

@@ -50,7 +50,7 @@ fn clamped(number: i128) -> i64
 }
 
 /// The number as a count or the number of a Subr, where it is whole and not negative.
-pub(crate) fn natural(number: i64) -> Option<u32>
+pub fn natural(number: i64) -> Option<u32>
     ensures { result ≡ natural number }
 {
     if number < 0 {

@@ -2,18 +2,24 @@
 -- itself.
 pub mod Arguments
 pub mod Calls
+pub mod Flex
+pub mod Othersubrs
 pub mod Paths
+pub mod Stems
 pub mod Tokens
 use Rattle.std.specs.Prelude.{ℕ, ◌==◌, ◌&&◌, Bool, false, Option, Some, None, List, [], ◌∷◌, ◌++◌, slice_get, take}
 use Rattle.std.specs.List.{list_any}
 use Rattle.t1_char.specs.Since.{Test}
 use Rattle.t1_char.specs.Steps.{StepView}
 use Rattle.t1_rules.specs.declared.rule.Rule.{Rule}
-use Rattle.t1_rules.specs.declared.rule.Rule.TheVariants.{C01, C02, C03, C04, C05, C06, C07, C08, C09, S01, S02, S03, S04, GE01, GE02, W01, W02, P01, P02, P03}
+use Rattle.t1_rules.specs.declared.rule.Rule.TheVariants.{C01, C02, C03, C04, C05, C06, C07, C08, C09, S01, S02, S03, S04, GE01, GE02, W01, W02, P01, P02, P03, H01, H02, H03, H04, R01, R02, X01, X02, X03, X04, X05, X06, O01, O02, O03, O04}
 use Rattle.t1_rules.specs.Book.{number_of}
 use Rattle.t1_rules.specs.StepRules.Arguments.{has_too_few, has_too_many, overflows, has_argument_past, divides_past, divides_by_zero}
 use Rattle.t1_rules.specs.StepRules.Calls.{calls_missing, calls_too_deep, returns_from_glyph, ends_in_subr, ends_in_glyph, goes_on_past_end}
+use Rattle.t1_rules.specs.StepRules.Flex.{starts_in_flex, goes_on_outside, commands_in_flex, counts_no_pairs, ends_elsewhere, sets_point_alone}
+use Rattle.t1_rules.specs.StepRules.Othersubrs.{calls_unknown, has_bad_count, has_wrong_count, pops_nothing}
 use Rattle.t1_rules.specs.StepRules.Paths.{starts_without_width, sets_width_later, draws_unmoved, leaves_open, closes_nothing}
+use Rattle.t1_rules.specs.StepRules.Stems.{overlap, sets_stem_late, sets_overlapping, sets_without_width, sets_unequal, leaves_out_pop, leaves_out_call}
 use Rattle.t1_rules.specs.StepRules.Tokens.{is_short, is_cut, is_unknown}
 
 -- A row of the table: a rule, and where it is broken, given the steps before a step and the step.
@@ -83,9 +89,56 @@ path_rules =
     ∷ row P03 closes_nothing
     ∷ []
 
+-- Stem hints and their replacement.
+unfoldable pub stem_rules : List StepRule
+stem_rules =
+    -- A stem behind what it is a hint for. Type 1 Font Format, chapter 6.
+    row H01 sets_stem_late
+    -- Two stems of a hint set overlap. Type 1 Font Format, chapter 6.
+    ∷ row H02 (sets_overlapping overlap)
+    -- A stem has no width. Type 1 Font Format, chapter 6.
+    ∷ of_step H03 sets_without_width
+    -- The three stems of hstem3 or vstem3 aren't equal. Type 1 Font Format, chapter 6.
+    ∷ of_step H04 sets_unequal
+    -- A hint replacement isn't followed by pop. Type 1 Font Format, chapter 8.
+    ∷ row R01 leaves_out_pop
+    -- Nor that pop by callsubr. Type 1 Font Format, chapter 8.
+    ∷ row R02 leaves_out_call
+    ∷ []
+
+-- Flex.
+unfoldable pub flex_rules : List StepRule
+flex_rules =
+    -- A flex starts inside one. Type 1 Font Format, chapter 8.
+    row X01 starts_in_flex
+    -- A point or an end without a start. Type 1 Font Format, chapter 8.
+    ∷ row X02 goes_on_outside
+    -- A command other than a move stands inside. Type 1 Font Format, chapter 8.
+    ∷ row X03 commands_in_flex
+    -- The points aren't seven, each behind its move. Type 1 Font Format, chapter 8.
+    ∷ row X04 counts_no_pairs
+    -- The end isn't at the current point. Type 1 Font Format, chapter 8.
+    ∷ row X05 ends_elsewhere
+    -- setcurrentpoint doesn't follow the two pops of an end. Type 1 Font Format, chapter 6.
+    ∷ row X06 sets_point_alone
+    ∷ []
+
+-- Calls of OtherSubrs, and their results.
+unfoldable pub othersubr_rules : List StepRule
+othersubr_rules =
+    -- The OtherSubr isn't one of the standard's. Type 1 Font Format, chapter 8.
+    of_step O01 calls_unknown
+    -- The count isn't that of arguments on the stack. Type 1 Font Format, chapter 6.
+    ∷ of_step O02 has_bad_count
+    -- The OtherSubr wants another count. Type 1 Font Format, chapter 8.
+    ∷ of_step O03 has_wrong_count
+    -- pop, and no result waits. Type 1 Font Format, chapter 6.
+    ∷ of_step O04 pops_nothing
+    ∷ []
+
 -- The table of the charstring rules, in the order of the book.
 unfoldable pub step_rules : List StepRule
-step_rules = argument_rules ++ (call_rules ++ path_rules)
+step_rules = argument_rules ++ (call_rules ++ (path_rules ++ (stem_rules ++ (flex_rules ++ othersubr_rules))))
 
 -- The rule of this number is one of these, and the step breaks it, given the steps before.
 abbrev pub breaks : List StepRule → ℕ → List StepView → StepView → Bool

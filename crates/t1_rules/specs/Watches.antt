@@ -1,12 +1,17 @@
 -- What watchers keep of the steps that they have seen.
-use Rattle.std.specs.Prelude.{◌≡◌, ⊤, false, ℕ, List}
-use Rattle.t1_char.specs.Arguments.{is_callothersubr}
+use Rattle.std.specs.Prelude.{◌≡◌, ⊤, false, ℕ, ℤ, pos, ◌+ℤ◌, ◌*◌, ◌&&◌, ◌≤◌, ◌≤ℤ◌, List, length}
+use Rattle.t1_char.specs.Arguments.{is_callothersubr, is_flex_end}
 use Rattle.t1_char.specs.Laws.Steps.{is_finishing}
-use Rattle.t1_char.specs.Since.{any_so_far}
+use Rattle.t1_char.specs.Since.{any_so_far, was}
 use Rattle.t1_char.specs.Steps.{StepView, is_end}
+use Rattle.t1_rules.specs.declared.step_rules.flex.FlexWatcher.{FlexWatcher}
+use Rattle.t1_rules.specs.declared.step_rules.flex.Point.{Point}
 use Rattle.t1_rules.specs.declared.step_rules.paths.PathWatcher.{PathWatcher}
+use Rattle.t1_rules.specs.declared.step_rules.stems.StemWatcher.{StemWatcher}
 use Rattle.t1_rules.specs.declared.watches.Watches.{Watches}
+use Rattle.t1_rules.specs.StepRules.Flex.{current_point, flex_moves, flex_points, is_ended_and_popped}
 use Rattle.t1_rules.specs.StepRules.Paths.{clearing_step, in_flex, is_moved, is_open}
+use Rattle.t1_rules.specs.StepRules.Stems.{lies_across, stands_upright, hint_set, is_drawn, is_replaced, is_replaced_and_popped, popping}
 use Rattle.t1_rules.specs.StepRules.Tokens.{clears, sets_width, is_move, is_line, closes}
 
 -- How many steps a watcher can see: more than the limit of steps of any glyph.
@@ -34,6 +39,34 @@ pub record IsQuietForPaths (step : StepView) : Type 0 where
   pub ends : is_end step.token ≡ false
   pub othersubr : is_callothersubr step.token ≡ false
 
--- All watchers stand for the same steps; those of arguments and calls keep nothing.
+pub record StemsStandFor (watcher : StemWatcher) (before : List StepView) : Type 0 where
+  pub across : watcher.across.items ≡ hint_set lies_across before
+  pub upright : watcher.upright.items ≡ hint_set stands_upright before
+  pub in_flex : watcher.in_flex ≡ in_flex before
+  pub drawn : watcher.drawn ≡ is_drawn before
+  pub replaced : watcher.replaced ≡ is_replaced before
+  pub popped : watcher.popped ≡ is_replaced_and_popped before
+
+-- So many steps can bring a point there: each moves it by three numbers of 32 bits at most.
+pub record IsNear (n : ℕ) (point : Point) : Type 0 where
+  pub left : pos 0 ≤ℤ (point.x +ℤ pos (n * 6442450944))
+  pub right : point.x ≤ℤ pos (n * 6442450944)
+  pub low : pos 0 ≤ℤ (point.y +ℤ pos (n * 6442450944))
+  pub high : point.y ≤ℤ pos (n * 6442450944)
+
+pub record FlexStandsFor (watcher : FlexWatcher) (before : List StepView) : Type 0 where
+  pub in_flex : watcher.in_flex ≡ in_flex before
+  pub moves : watcher.moves ≡ flex_moves before
+  pub points : watcher.points ≡ flex_points before
+  pub point : watcher.point ≡ current_point before
+  pub ended : watcher.ended ≡ was 0 is_flex_end before
+  pub popped : watcher.popped ≡ (was 1 is_flex_end before && was 0 popping before)
+  pub popped_twice : watcher.popped_twice ≡ is_ended_and_popped before
+  pub few_moves : watcher.moves ≤ length before
+  pub few_points : watcher.points ≤ length before
+  pub near : IsNear (length before) watcher.point
+
+-- All watchers stand for the same steps; those of arguments, calls and OtherSubrs keep nothing.
 unfoldable pub WatchesStandFor : Watches → List StepView → Type 0
-WatchesStandFor watches before = PathsStandFor watches.paths before
+WatchesStandFor watches before =
+    PathsStandFor watches.paths before × (StemsStandFor watches.stems before × FlexStandsFor watches.flex before)

@@ -2,4 +2,6 @@
 pub mod BookRows
 pub mod Edges
 pub mod KeyTests
+pub mod Stems
 pub mod StepTests
+pub mod Sums

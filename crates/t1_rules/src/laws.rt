@@ -52,7 +52,7 @@ pub fn numbers_rise_where_none_falls()
     ensures { ListsRiseWhereNoneFalls }
 {}
 
-/// The rules on steps of a glyph have the numbers from 26 to 45, and what a step breaks is one of them.
+/// The rules on steps of a glyph have the numbers from 26 to 61, and what a step breaks is one of them.
 #[tactic(auto, using(crate::proofs::Lemmas::StepRules::numbers_in_order, crate::proofs::Lemmas::StepRules::broken_have_these_numbers))]
 pub fn step_rules_have_their_numbers()
     ensures order { StepRuleNumbersAreInOrder }

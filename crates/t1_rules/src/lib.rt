@@ -59,7 +59,10 @@ pub use mask::Mask;
 pub use rule::Rule;
 pub use step_rules::arguments::ArgumentWatcher;
 pub use step_rules::calls::CallWatcher;
+pub use step_rules::flex::FlexWatcher;
+pub use step_rules::othersubrs::OthersubrWatcher;
 pub use step_rules::paths::PathWatcher;
+pub use step_rules::stems::StemWatcher;
 pub use watch::Watch;
 pub use watches::Watches;
 

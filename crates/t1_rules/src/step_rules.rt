@@ -2,5 +2,9 @@
 
 pub(crate) mod arguments;
 pub(crate) mod calls;
+pub(crate) mod flex;
+mod numbers;
+pub(crate) mod othersubrs;
 pub(crate) mod paths;
+pub(crate) mod stems;
 mod tokens;

@@ -5,16 +5,22 @@ ghost use Rattle.std.specs.Prelude.{◌≡◌};
 use crate::mask::Mask;
 use crate::step_rules::arguments::ArgumentWatcher;
 use crate::step_rules::calls::CallWatcher;
+use crate::step_rules::flex::FlexWatcher;
+use crate::step_rules::othersubrs::OthersubrWatcher;
 use crate::step_rules::paths::PathWatcher;
+use crate::step_rules::stems::StemWatcher;
 use crate::watch::Watch;
 use t1_char::Step;
 
-/// Watches for the rules from C01 to P03, which a glyph's own steps decide.
-#[derive(Debug, PartialEq, Eq, Drop)]
+/// Watches for the rules from C01 to O04, which a glyph's own steps decide.
+#[derive(Drop)]
 pub struct Watches {
     arguments: ArgumentWatcher,
     calls: CallWatcher,
     paths: PathWatcher,
+    stems: StemWatcher,
+    flex: FlexWatcher,
+    othersubrs: OthersubrWatcher,
 }
 
 impl Watch for Watches {
@@ -30,12 +36,19 @@ impl Watch for Watches {
             arguments: ArgumentWatcher::start(),
             calls: CallWatcher::start(),
             paths: PathWatcher::start(),
+            stems: StemWatcher::start(),
+            flex: FlexWatcher::start(),
+            othersubrs: OthersubrWatcher::start(),
         }
     }
 
     fn see(&mut self, step: &Step) -> Mask {
-        self.arguments
-            .see(step)
-            .join(self.calls.see(step).join(self.paths.see(step)))
+        let arguments = self.arguments.see(step);
+        let calls = self.calls.see(step);
+        let paths = self.paths.see(step);
+        let stems = self.stems.see(step);
+        let flex = self.flex.see(step);
+        let othersubrs = self.othersubrs.see(step);
+        arguments.join(calls.join(paths.join(stems.join(flex.join(othersubrs)))))
     }
 }

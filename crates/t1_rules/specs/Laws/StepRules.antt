@@ -10,15 +10,15 @@ use Rattle.t1_rules.specs.StepRules.{StepRule, step_rules, breaks, breaks_at}
 use Rattle.t1_rules.specs.StepRules.Arguments.{one_is_past}
 use Rattle.t1_rules.specs.StepRules.Paths.{flex_start, flex_end, in_flex, outer_move, drawing, closing_step, is_moved, is_open}
 
--- The rows have the numbers from 26 to 45, in order and each once.
+-- The rows have the numbers from 26 to 61, in order and each once.
 abbrev pub StepRuleNumbersAreInOrder : Type 0
-StepRuleNumbersAreInOrder = map (λ r. number_of r.rule) step_rules ≡ range_with_len 26 20
+StepRuleNumbersAreInOrder = map (λ r. number_of r.rule) step_rules ≡ range_with_len 26 36
 
 -- What a step breaks has one of these numbers.
 abbrev pub BrokenStepsHaveTheseNumbers : Type 0
 BrokenStepsHaveTheseNumbers =
     (n : ℕ) (before : List StepView) (step : StepView) → breaks step_rules n before step ≡ true →
-    (26 ≤ n) × (n ≤ 45)
+    (26 ≤ n) × (n ≤ 61)
 
 -- What is broken at a place of a list depends on the steps up to there alone, whatever the rules.
 abbrev pub LaterStepsHaveNoSay : Type 0

@@ -1,7 +1,7 @@
 -- The kinds of tokens that charstring rules speak of. Type 1 Font Format 1.1, chapter 6.
-use Rattle.std.specs.Prelude.{Bool, true, false}
+use Rattle.std.specs.Prelude.{◌||◌, Bool, true, false}
 use Rattle.t1_char.specs.declared.command.Command.{Command as Commands}
-use Rattle.t1_char.specs.declared.command.Command.TheVariants.{Vmoveto, Rlineto, Hlineto, Vlineto, Rrcurveto, Closepath, Hsbw, Rmoveto, Hmoveto, Vhcurveto, Hvcurveto, Sbw, Div, Pop}
+use Rattle.t1_char.specs.declared.command.Command.TheVariants.{Vmoveto, Rlineto, Hlineto, Vlineto, Rrcurveto, Closepath, Hsbw, Rmoveto, Hmoveto, Vhcurveto, Hvcurveto, Sbw, Div, Pop, Setcurrentpoint}
 use Rattle.t1_char.specs.declared.token.CharToken.{CharToken}
 use Rattle.t1_char.specs.declared.token.CharToken.TheVariants.{Number, Command, Unknown, Unknown12, Cut, Short}
 use Rattle.t1_char.specs.Commands.{is_clearing}
@@ -68,3 +68,15 @@ is_line _ = false
 abbrev pub closes : CharToken → Bool
 closes (Command Closepath) = true
 closes _ = false
+
+abbrev pub is_hsbw : CharToken → Bool
+is_hsbw (Command Hsbw) = true
+is_hsbw _ = false
+
+abbrev pub is_setcurrentpoint : CharToken → Bool
+is_setcurrentpoint (Command Setcurrentpoint) = true
+is_setcurrentpoint _ = false
+
+-- A command that says where the current point is.
+abbrev pub sets_point : CharToken → Bool
+sets_point token = sets_width token || is_setcurrentpoint token

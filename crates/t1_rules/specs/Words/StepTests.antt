@@ -1,11 +1,12 @@
 -- What the rules say of a step of a kind: each rule with its test, and which of them are broken.
-use Rattle.std.specs.Prelude.{◌≡◌, ℕ, ℤ, nat_lt, Bool, false, Option, Some, None, List, [], ◌∷◌, length}
+use Rattle.std.specs.Prelude.{◌≡◌, ◌&&◌, not, ℕ, ℤ, nat_lt, Bool, false, Option, Some, None, List, [], ◌∷◌, length}
 use Rattle.t1_char.specs.declared.command.Command.{Command as Commands}
 use Rattle.t1_char.specs.declared.token.CharToken.TheVariants.{Command}
 use Rattle.t1_char.specs.Steps.{StepView}
 use Rattle.t1_rules.specs.declared.rule.Rule.{Rule}
-use Rattle.t1_rules.specs.declared.rule.Rule.TheVariants.{C04, C05, C07, C08, C09}
+use Rattle.t1_rules.specs.declared.rule.Rule.TheVariants.{C04, C05, C07, C08, C09, O01, O02, O03}
 use Rattle.t1_rules.specs.StepRules.Arguments.{is_zero, one_is_past, quotient_is_past}
+use Rattle.t1_rules.specs.StepRules.Othersubrs.{is_flex_or_hints, is_known}
 use Rattle.t1_rules.specs.Words.KeyTests.{broken_among}
 
 -- The step's token is this command.
@@ -28,3 +29,14 @@ breaks_by_count (Some count) stack n = broken_among (count_tests count stack) n
 abbrev pub breaks_by_quotient : ℤ → ℤ → ℕ → Bool
 breaks_by_quotient dividend divisor n =
     broken_among ((C08, quotient_is_past dividend divisor) ∷ (C09, is_zero divisor) ∷ []) n
+
+-- Of a call of the OtherSubr of this number: its count is a good one; one of 0 to 3 is called with its
+-- own count.
+abbrev pub breaks_by_call : Bool → Bool → ℤ → ℕ → Bool
+breaks_by_call is_good is_own number n =
+    broken_among
+    ((O01, is_good && not (is_known number))
+    ∷ (O02, not is_good)
+    ∷ (O03, is_good && is_flex_or_hints number && not is_own)
+    ∷ [])
+    n

@@ -70,7 +70,7 @@ impl PathWatcher {
         Mask::empty()
             .with(Rule::P03, closes(token) & !self.drawn)
             .with(Rule::P02, (self.moves(token) | finishes) & self.drawn)
-            .with(Rule::P01, self.draws(step) & !self.moved)
+            .with(Rule::P01, draws(step, self.in_flex) & !self.moved)
             .with(Rule::W02, sets_width(token) & self.begun)
             .with(Rule::W01, clears(token) & !sets_width(token) & !self.begun)
     }
@@ -81,7 +81,7 @@ impl PathWatcher {
             PathsStandFor self.new (before ++ step_view step.now ∷ []) }
     {
         let stays = !closes(step.token);
-        self.drawn = self.draws(step) | (self.drawn & stays);
+        self.drawn = draws(step, self.in_flex) | (self.drawn & stays);
         self.moved = self.moves(step.token) | (self.moved & stays);
         self.begun = self.begun | clears(step.token);
         self.in_flex = step.starts_flex() | (self.in_flex & !step.ends_flex());
@@ -93,13 +93,13 @@ impl PathWatcher {
     {
         is_move(token) & !self.in_flex
     }
+}
 
-    /// Whether the step draws a line, a curve, or the curves of a flex.
-    fn draws(&self, step: &Step) -> bool
-        ensures { result ≡ (is_line step.now.token || (is_flex_end (step_view step.now) && self.now.in_flex)) }
-    {
-        is_line(step.token) | (step.ends_flex() & self.in_flex)
-    }
+/// Whether the step draws a line, a curve, or the curves of a flex, being in it.
+pub(crate) fn draws(step: &Step, in_flex: bool) -> bool
+    ensures { result ≡ (is_line step.now.token || (is_flex_end (step_view step.now) && in_flex)) }
+{
+    is_line(step.token) | (step.ends_flex() & in_flex)
 }
 
 /// Whether none of these rules speaks of a token, and it changes nothing that is kept.

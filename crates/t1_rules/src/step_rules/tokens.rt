@@ -4,7 +4,7 @@ ghost use Rattle.std.specs.Prelude.{◌≡◌};
 ghost use Rattle.t1_char.specs.Arguments.{is_callothersubr};
 ghost use Rattle.t1_char.specs.Laws.Steps.{is_finishing};
 ghost use Rattle.t1_char.specs.Steps.{is_callsubr, is_end, is_return};
-ghost use Rattle.t1_rules.specs.StepRules.Tokens.{clears, closes, is_line, is_move, sets_width};
+ghost use Rattle.t1_rules.specs.StepRules.Tokens.{clears, closes, is_hsbw, is_line, is_move, is_pop, is_setcurrentpoint, sets_point, sets_width};
 
 use t1_char::{CharToken, Command};
 
@@ -87,4 +87,29 @@ pub(crate) fn closes(token: CharToken) -> bool
     ensures { result ≡ closes token }
 {
     matches!(token, CharToken::Command(Command::Closepath))
+}
+
+pub(crate) fn is_pop(token: CharToken) -> bool
+    ensures { result ≡ is_pop token }
+{
+    matches!(token, CharToken::Command(Command::Pop))
+}
+
+pub(crate) fn is_hsbw(token: CharToken) -> bool
+    ensures { result ≡ is_hsbw token }
+{
+    matches!(token, CharToken::Command(Command::Hsbw))
+}
+
+pub(crate) fn is_setcurrentpoint(token: CharToken) -> bool
+    ensures { result ≡ is_setcurrentpoint token }
+{
+    matches!(token, CharToken::Command(Command::Setcurrentpoint))
+}
+
+/// Whether it says where the current point is.
+pub(crate) fn sets_point(token: CharToken) -> bool
+    ensures { result ≡ sets_point token }
+{
+    sets_width(token) | is_setcurrentpoint(token)
 }

@@ -1,24 +1,37 @@
 use Rattle.std.proofs.Common.{◌++◌}
 use Rattle.t1_char.specs.StepValues.{step_view}
 use Rattle.t1_rules.specs.Mask.{has}
-use Rattle.t1_rules.specs.StepRules.{argument_rules, call_rules, path_rules, step_rules}
+use Rattle.t1_rules.specs.StepRules.{argument_rules, call_rules, flex_rules, othersubr_rules, path_rules, stem_rules, step_rules}
 use Rattle.t1_rules.specs.Watches.{WatchesStandFor}
 use Rattle.t1_rules.proofs.Lemmas.Watches.{joined}
 use Rattle.t1_rules.proofs.watches.WatchesWatch.see.Goals as goal
 
-pub see-requires-3 : goal.see-requires-3
+pub see-paths-requires : goal.see-paths-requires
 unfolding WatchesStandFor
-see-requires-3 c = c.requires
+see-paths-requires c = (c.requires.0, (c.requires.1.0.0, c.requires.1.1))
+
+pub see-stems-requires : goal.see-stems-requires
+unfolding WatchesStandFor
+see-stems-requires c = (c.requires.0, (c.requires.1.0.1.0, c.requires.1.1))
+
+pub see-flex-requires : goal.see-flex-requires
+unfolding WatchesStandFor
+see-flex-requires c = (c.requires.0, (c.requires.1.0.1.1, c.requires.1.1))
 
 pub returns-clause-stands : goal.returns-clause-stands
 unfolding WatchesStandFor
-returns-clause-stands c = λ before st short. c.see-3.ensures.stands before st short
+returns-clause-stands c = λ before st short. (
+  c.see-paths.ensures.stands before st.0 short,
+  (c.see-stems.ensures.stands before st.1.0 short, c.see-flex.ensures.stands before st.1.1 short),
+)
 
 pub returns-clause-answer : goal.returns-clause-answer
 unfolding WatchesStandFor step_rules
 returns-clause-answer c = λ before st short n.
     let t = step_view c.args.step.now in
-    joined argument_rules (call_rules ++ path_rules) n before t (has c.join-2.result n) (has c.see.result n) (has c.join.result n)
-    (c.join-2.ensures n) (c.see.ensures.answer before _ short n)
-    (joined call_rules path_rules n before t (has c.join.result n) (has c.see-2.result n) (has c.see-3.result n)
-    (c.join.ensures n) (c.see-2.ensures.answer before _ short n) (c.see-3.ensures.answer before st short n))
+    joined argument_rules _ n before t _ _ _ (c.join-5.ensures n) (c.see-arguments.ensures.answer before _ short n)
+    (joined call_rules _ n before t _ _ _ (c.join-4.ensures n) (c.see-calls.ensures.answer before _ short n)
+    (joined path_rules _ n before t _ _ _ (c.join-3.ensures n) (c.see-paths.ensures.answer before st.0 short n)
+    (joined stem_rules _ n before t _ _ _ (c.join-2.ensures n) (c.see-stems.ensures.answer before st.1.0 short n)
+    (joined flex_rules othersubr_rules n before t _ _ _ (c.join.ensures n) (c.see-flex.ensures.answer before st.1.1 short n)
+    (c.see-othersubrs.ensures.answer before _ short n)))))

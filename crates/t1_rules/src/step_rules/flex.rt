@@ -1,0 +1,252 @@
+//! The rules on flex, X01 to X06: Type 1 Font Format 1.1, chapter 8.
+
+ghost use Rattle.std.specs.Prelude.{◌≡◌, ◌≤ℤ◌, ◌+ℤ◌, ◌<◌, ◌+◌, ◌&&◌, ◌||◌, not, ℕ, pos, negsuc, List, [], ◌∷◌, ◌++◌, length, true, false, if◌then◌else◌, suc};
+ghost use Rattle.t1_char.specs.declared.command.Command.{Command as Commands};
+ghost use Rattle.t1_char.specs.Arguments.{argument, is_callothersubr, is_flex_end, is_flex_point, is_flex_start};
+ghost use Rattle.t1_char.specs.Steps.{StepView};
+ghost use Rattle.t1_char.specs.StepValues.{step_view};
+ghost use Rattle.t1_rules.specs.Mask.{has};
+ghost use Rattle.t1_rules.specs.StepRules.{breaks, flex_rules};
+ghost use Rattle.t1_rules.specs.StepRules.Flex.{at, displacement, ends_away_from, is_elsewhere, miscounts, moved_by, origin, plus, point_set};
+ghost use Rattle.t1_rules.specs.StepRules.Tokens.{clears, is_move, is_pop, sets_point};
+ghost use Rattle.t1_rules.specs.Watches.{FlexStandsFor, IsNear, most_steps};
+ghost use Rattle.t1_rules.specs.Words.Sums.{IsWithin};
+
+use crate::mask::Mask;
+use crate::rule::Rule;
+use crate::step_rules::numbers::sum;
+use crate::step_rules::tokens::{clears, is_hsbw, is_move, is_pop, is_setcurrentpoint, sets_point};
+use crate::watch::Watch;
+use t1_char::{CharToken, Command, Step};
+
+/// A point, in units of 1/65536.
+#[derive(Clone, Copy, Debug, PartialEq, Eq)]
+pub(crate) struct Point {
+    x: i64,
+    y: i64,
+}
+
+/// Watches for X01 to X06.
+#[derive(Clone, Copy, Debug, PartialEq, Eq)]
+pub struct FlexWatcher {
+    /// Whether a flex was started, and not ended since.
+    in_flex: bool,
+    /// How many moves came since the last start of a flex.
+    moves: u32,
+    /// How many points of a flex came since.
+    points: u32,
+    /// The current point.
+    point: Point,
+    /// Whether the last step ended a flex.
+    ended: bool,
+    /// Whether the last step was pop, and the one before it ended a flex.
+    popped: bool,
+    /// Whether the last two steps were pop, and the one before them ended a flex.
+    popped_twice: bool,
+}
+
+impl Watch for FlexWatcher {
+    ghost use Rattle.t1_rules.specs.StepRules.{flex_rules};
+    ghost use Rattle.t1_rules.specs.Watches.{FlexStandsFor};
+
+    ghost stands_for = { FlexStandsFor };
+
+    ghost rules = { flex_rules };
+
+    fn start() -> FlexWatcher {
+        FlexWatcher {
+            in_flex: false,
+            moves: 0,
+            points: 0,
+            point: Point { x: 0, y: 0 },
+            ended: false,
+            popped: false,
+            popped_twice: false,
+        }
+    }
+
+    fn see(&mut self, step: &Step) -> Mask {
+        let broken = self.faults(step);
+        self.go_on(step);
+        broken
+    }
+}
+
+impl FlexWatcher {
+    /// What a step breaks.
+    #[tactic(auto, unfolding(crate::specs::StepRules::flex_rules))]
+    fn faults(&self, step: &Step) -> Mask
+        requires { (before : List StepView) × (FlexStandsFor self.now before × (length before < most_steps)) }
+        ensures { (before : List StepView) → FlexStandsFor self.now before →
+            (n : ℕ) → has result n ≡ breaks flex_rules n before (step_view step.now) }
+    {
+        let token = step.token;
+        Mask::empty()
+            .with(Rule::X06, is_setcurrentpoint(token) & !self.popped_twice)
+            .with(Rule::X05, ends_away_from(self.point, step) & self.in_flex)
+            .with(
+                Rule::X04,
+                miscounts(self.moves, self.points, step) & self.in_flex,
+            )
+            .with(Rule::X03, clears(token) & !is_move(token) & self.in_flex)
+            .with(
+                Rule::X02,
+                (step.gives_flex_point() | step.ends_flex()) & !self.in_flex,
+            )
+            .with(Rule::X01, step.starts_flex() & self.in_flex)
+    }
+
+    /// Keeps what the step changes.
+    fn go_on(&mut self, step: &Step)
+        requires { (before : List StepView) × (FlexStandsFor self.old before × (length before < most_steps)) }
+        ensures { (before : List StepView) → FlexStandsFor self.old before → length before < most_steps →
+            FlexStandsFor self.new (before ++ step_view step.now ∷ []) }
+    {
+        let pops = is_pop(step.token);
+        self.popped_twice = pops & self.popped;
+        self.popped = pops & self.ended;
+        self.ended = step.ends_flex();
+        self.moves = counted(step, self.moves, is_move(step.token));
+        self.points = counted(step, self.points, step.gives_flex_point());
+        self.in_flex = step.starts_flex() | (self.in_flex & !self.ended);
+        self.point = next_point(self.point, step);
+    }
+}
+
+/// A count since the last start of a flex, with one more where the step is counted.
+fn counted(step: &Step, count: u32, is_one: bool) -> u32
+    requires { count < most_steps }
+    ensures { result ≡ (if is_flex_start (step_view step.now) then 0 else (if is_one then suc count else count)) }
+{
+    if step.starts_flex() {
+        0
+    } else if is_one {
+        count + 1
+    } else {
+        count
+    }
+}
+
+/// Whether a point doesn't come behind its move, or the end behind seven of each.
+fn miscounts(moves: u32, points: u32, step: &Step) -> bool
+    requires { points < most_steps }
+    ensures { result ≡ miscounts moves points (step_view step.now) }
+{
+    (step.gives_flex_point() & (moves != points + 1))
+        | (step.ends_flex() & !((moves == 7) & (points == 7)))
+}
+
+/// Whether the step ends a flex, and not at this point.
+fn ends_away_from(point: Point, step: &Step) -> bool
+    ensures { result ≡ ends_away_from point (step_view step.now) }
+{
+    if step.stack.len() < 5 {
+        return false;
+    }
+    let end = Point {
+        x: step.stack.from_top(3),
+        y: step.stack.from_top(2),
+    };
+    step.ends_flex() & is_elsewhere(end, point)
+}
+
+fn is_elsewhere(one: Point, other: Point) -> bool
+    ensures { result ≡ is_elsewhere one other }
+{
+    (one.x != other.x) | (one.y != other.y)
+}
+
+/// The current point behind a step.
+fn next_point(point: Point, step: &Step) -> Point
+    requires { (n : ℕ) × (IsNear n point × (n < most_steps)) }
+    ensures value { result ≡ (if sets_point step.now.token then point_set (step_view step.now)
+        else plus point (displacement (step_view step.now))) }
+    ensures near { (n : ℕ) → IsNear n point → IsNear (n + 1) result }
+{
+    if sets_point(step.token) {
+        return point_set(step);
+    }
+    plus(point, displacement(step))
+}
+
+/// Where a command sets the current point.
+fn point_set(step: &Step) -> Point
+    ensures value { result ≡ point_set (step_view step.now) }
+    ensures near { IsNear 1 result }
+{
+    if is_hsbw(step.token) {
+        return at(step.argument(0), 0);
+    }
+    at(step.argument(0), step.argument(1))
+}
+
+/// How far a step moves the current point.
+fn displacement(step: &Step) -> Point
+    ensures value { result ≡ displacement (step_view step.now) }
+    ensures near { IsNear 1 result }
+{
+    match step.token {
+        CharToken::Command(command) => moved_by(command, step),
+        _ => at(0, 0),
+    }
+}
+
+/// How far a command moves the current point.
+fn moved_by(command: Command, step: &Step) -> Point
+    ensures value { result ≡ moved_by command step.now.stack }
+    ensures near { IsNear 1 result }
+{
+    match command {
+        Command::Rmoveto | Command::Rlineto => at(step.argument(0), step.argument(1)),
+        Command::Hmoveto | Command::Hlineto => at(step.argument(0), 0),
+        Command::Vmoveto | Command::Vlineto => at(0, step.argument(0)),
+        Command::Vhcurveto => Point {
+            x: sum_of_two(step.argument(1), step.argument(3)),
+            y: sum_of_two(step.argument(0), step.argument(2)),
+        },
+        Command::Hvcurveto => Point {
+            x: sum_of_two(step.argument(0), step.argument(1)),
+            y: sum_of_two(step.argument(2), step.argument(3)),
+        },
+        Command::Rrcurveto => Point {
+            x: sum_of_three(step.argument(0), step.argument(2), step.argument(4)),
+            y: sum_of_three(step.argument(1), step.argument(3), step.argument(5)),
+        },
+        _ => at(0, 0),
+    }
+}
+
+fn at(x: i32, y: i32) -> Point
+    ensures { result ≡ at x y }
+{
+    Point {
+        x: i64::from(x),
+        y: i64::from(y),
+    }
+}
+
+fn plus(point: Point, way: Point) -> Point
+    requires point { (n : ℕ) × (IsNear n point × (n < most_steps)) }
+    requires way { IsNear 1 way }
+    ensures value { result ≡ plus point way }
+    ensures near { (n : ℕ) → IsNear n point → IsNear (n + 1) result }
+{
+    Point {
+        x: sum(point.x, way.x),
+        y: sum(point.y, way.y),
+    }
+}
+
+fn sum_of_two(one: i32, other: i32) -> i64
+    ensures value { result ≡ one +ℤ other }
+    ensures within { IsWithin 6442450944 result }
+{
+    sum(i64::from(one), i64::from(other))
+}
+
+fn sum_of_three(one: i32, two: i32, three: i32) -> i64
+    ensures value { result ≡ one +ℤ two +ℤ three }
+    ensures within { IsWithin 6442450944 result }
+{
+    sum(sum_of_two(one, two), i64::from(three))
+}

@@ -1,0 +1,119 @@
+//! The rules on calls of OtherSubrs, O01 to O04: Type 1 Font Format 1.1, chapters 6 and 8.
+
+ghost use Rattle.std.specs.Prelude.{◌≡◌, ◌≤◌, ℕ, List, length};
+ghost use Rattle.t1_char.specs.declared.command.Command.TheVariants.{Callothersubr};
+ghost use Rattle.t1_char.specs.Steps.{StepView};
+ghost use Rattle.t1_char.specs.StepValues.{step_view};
+ghost use Rattle.t1_rules.specs.Mask.{has};
+ghost use Rattle.t1_rules.specs.StepRules.{breaks, othersubr_rules};
+ghost use Rattle.t1_rules.specs.StepRules.Othersubrs.{has_good_count, is_counter_control, is_effective, is_flex_or_hints, is_good_count};
+ghost use Rattle.t1_rules.specs.Words.StepTests.{IsCommand, breaks_by_call};
+
+use crate::mask::Mask;
+use crate::rule::Rule;
+use crate::watch::Watch;
+use t1_char::{CharToken, Command, Step, natural};
+
+/// Watches for O01 to O04, which a step alone decides.
+#[derive(Clone, Copy, Debug, PartialEq, Eq)]
+pub struct OthersubrWatcher;
+
+impl Watch for OthersubrWatcher {
+    ghost use Rattle.t1_rules.specs.StepRules.{othersubr_rules};
+    ghost use Rattle.t1_rules.specs.Watches.{StandsForAny};
+
+    ghost stands_for = { StandsForAny };
+
+    ghost rules = { othersubr_rules };
+
+    fn start() -> OthersubrWatcher {
+        OthersubrWatcher
+    }
+
+    fn see(&mut self, step: &Step) -> Mask {
+        faults(step)
+    }
+}
+
+/// What a step breaks.
+#[tactic(auto, unfolding(crate::specs::StepRules::othersubr_rules))]
+fn faults(step: &Step) -> Mask
+    ensures { (before : List StepView) → (n : ℕ) →
+        has result n ≡ breaks othersubr_rules n before (step_view step.now) }
+{
+    match step.token {
+        CharToken::Command(Command::Callothersubr) => call_faults(step),
+        CharToken::Command(Command::Pop) => Mask::empty().with(Rule::O04, step.waiting == 0),
+        _ => Mask::empty(),
+    }
+}
+
+/// What a call of an OtherSubr breaks.
+#[tactic(auto, using(crate::proofs::Lemmas::Othersubrs::of_call, crate::proofs::Lemmas::Othersubrs::of_few))]
+fn call_faults(step: &Step) -> Mask
+    requires { IsCommand (step_view step.now) Callothersubr }
+    ensures { (before : List StepView) → (n : ℕ) →
+        has result n ≡ breaks othersubr_rules n before (step_view step.now) }
+{
+    if step.stack.len() < 2 {
+        return Mask::empty();
+    }
+    number_faults(
+        has_good_count(step),
+        is_effective(step),
+        step.stack.from_top(0),
+    )
+}
+
+/// Whether the count of a call is that of arguments on the stack.
+fn has_good_count(step: &Step) -> bool
+    requires { 2 ≤ length step.now.stack }
+    ensures { result ≡ has_good_count (step_view step.now) }
+{
+    is_good_count(step.stack.len() - 2, step.stack.from_top(1))
+}
+
+/// What a call of this OtherSubr breaks, by its count.
+fn number_faults(is_good: bool, is_effective: bool, number: i64) -> Mask
+    ensures { (n : ℕ) → has result n ≡ breaks_by_call is_good is_effective number n }
+{
+    let is_own = is_flex_or_hints(number);
+    Mask::empty()
+        .with(Rule::O03, is_good & is_own & !is_effective)
+        .with(Rule::O02, !is_good)
+        .with(Rule::O01, is_good & !(is_own | is_counter_control(number)))
+}
+
+/// Whether the number is a count of so many at most.
+fn is_good_count(most: usize, count: i64) -> bool
+    ensures { result ≡ is_good_count most count }
+{
+    match natural(count) {
+        Some(count) => count as usize <= most,
+        None => false,
+    }
+}
+
+/// Whether the step calls an OtherSubr of flex or hint replacement with the count that it wants.
+fn is_effective(step: &Step) -> bool
+    ensures { result ≡ is_effective (step_view step.now) }
+{
+    step.ends_flex() | (step.starts_flex() | (step.gives_flex_point() | step.replaces_hints()))
+}
+
+/// Whether it is the number of an OtherSubr of flex or hint replacement.
+fn is_flex_or_hints(number: i64) -> bool
+    ensures { result ≡ is_flex_or_hints number }
+{
+    (number == 0) | ((number == UNIT) | ((number == 2 * UNIT) | (number == 3 * UNIT)))
+}
+
+/// Whether it is the number of an OtherSubr of counter control.
+fn is_counter_control(number: i64) -> bool
+    ensures { result ≡ is_counter_control number }
+{
+    (number == 12 * UNIT) | (number == 13 * UNIT)
+}
+
+/// 1 in units of 1/65536.
+const UNIT: i64 = 65536;

@@ -1,0 +1,352 @@
+//! The rules on stem hints and their replacement, H01 to H04, R01 and R02: Type 1 Font Format 1.1,
+//! chapters 6 and 8.
+
+ghost use Rattle.std.specs.Prelude.{◌≡◌, ◌<◌, ◌+ℤ◌, ◌*ℤ◌, int_lt, pos, ◌&&◌, ◌||◌, not, ℕ, List, [], ◌∷◌, ◌++◌, true, false, if◌then◌else◌, take};
+ghost use Rattle.std.specs.Int.{int_max, int_min};
+ghost use Rattle.std.specs.List.{list_any};
+ghost use Rattle.std.specs.Ordering.{int_eq};
+ghost use Rattle.t1_char.specs.Arguments.{is_callothersubr, is_hint_replacement};
+ghost use Rattle.t1_char.specs.Steps.{StepView};
+ghost use Rattle.t1_char.specs.StepValues.{step_view};
+ghost use Rattle.t1_rules.specs.Mask.{has};
+ghost use Rattle.t1_rules.specs.StepRules.{breaks, stem_rules};
+ghost use Rattle.t1_rules.specs.StepRules.Stems.{are_unequal, has_no_width, is_off_middle, is_stem, is_triple, lies_across, lower, one_overlaps, overlap, sets_unequal, stands_upright, stem_at, stems_meet, stems_of, two_overlap, twice_middle, upper};
+ghost use Rattle.t1_rules.specs.StepRules.Tokens.{is_command, is_line};
+ghost use Rattle.t1_rules.specs.Watches.{StemsStandFor};
+ghost use Rattle.t1_rules.specs.Words.Sums.{IsWithin};
+ghost use Rattle.t1_rules.specs.Words.Stems.{IsQuietForStems, kept_after};
+
+use crate::mask::Mask;
+use crate::rule::Rule;
+use crate::step_rules::numbers::{differ, greater, is_below, lesser, sum, twice};
+use crate::step_rules::paths::draws;
+use crate::step_rules::tokens::{is_callothersubr, is_callsubr, is_line, is_pop};
+use crate::watch::Watch;
+use arrayvec::ArrayVec;
+use t1_char::{CharToken, Command, Step};
+
+/// How many stems a hint set has at most, in each direction.
+const MOST_STEMS: usize = 96;
+
+/// A stem hint: where it begins, and how far it reaches from there, up or down, in units of 1/65536.
+#[derive(Clone, Copy, Debug, Default, PartialEq, Eq)]
+pub(crate) struct Stem {
+    position: i32,
+    width: i32,
+}
+
+/// Stems of one direction.
+type Stems = ArrayVec<Stem, MOST_STEMS>;
+
+/// Watches for H01 to H04, R01 and R02.
+#[derive(Drop)]
+pub struct StemWatcher {
+    /// The hint set of hstem and hstem3.
+    across: Stems,
+    /// The hint set of vstem and vstem3.
+    upright: Stems,
+    /// Whether a flex was started, and not ended since.
+    in_flex: bool,
+    /// Whether something was drawn, and the hints weren't replaced since.
+    drawn: bool,
+    /// Whether the last step replaced the hints.
+    replaced: bool,
+    /// Whether the last step was pop, and the one before it replaced the hints.
+    popped: bool,
+}
+
+impl Watch for StemWatcher {
+    ghost use Rattle.t1_rules.specs.StepRules.{stem_rules};
+    ghost use Rattle.t1_rules.specs.Watches.{StemsStandFor};
+
+    ghost stands_for = { StemsStandFor };
+
+    ghost rules = { stem_rules };
+
+    fn start() -> StemWatcher {
+        StemWatcher {
+            across: ArrayVec::new(),
+            upright: ArrayVec::new(),
+            in_flex: false,
+            drawn: false,
+            replaced: false,
+            popped: false,
+        }
+    }
+
+    fn see(&mut self, step: &Step) -> Mask {
+        let broken = self.faults(step);
+        self.go_on(step);
+        broken
+    }
+}
+
+impl StemWatcher {
+    /// What a step breaks.
+    #[tactic(auto, unfolding(crate::specs::StepRules::stem_rules))]
+    fn faults(&self, step: &Step) -> Mask
+        ensures { (before : List StepView) → StemsStandFor self.now before →
+            (n : ℕ) → has result n ≡ breaks stem_rules n before (step_view step.now) }
+    {
+        let token = step.token;
+        let late = Mask::empty()
+            .with(Rule::R02, !is_callsubr(token) & self.popped)
+            .with(Rule::R01, !is_pop(token) & self.replaced);
+        if is_stem(token) {
+            late.with(Rule::H04, is_unequal(step))
+                .with(Rule::H03, is_without_width(step))
+                .with(Rule::H02, self.meets(step))
+                .with(Rule::H01, self.drawn)
+        } else {
+            late
+        }
+    }
+
+    /// Whether a stem of the step overlaps one of the hint set, or two of its own overlap.
+    fn meets(&self, step: &Step) -> bool
+        ensures { result ≡ (
+            (is_command lies_across step.now.token && stems_meet overlap (stems_of (step_view step.now)) self.now.across.items)
+            || (is_command stands_upright step.now.token && stems_meet overlap (stems_of (step_view step.now)) self.now.upright.items)) }
+    {
+        if lies_across(step.token) {
+            stems_meet(stems_of(step).as_slice(), self.across.as_slice())
+        } else if stands_upright(step.token) {
+            stems_meet(stems_of(step).as_slice(), self.upright.as_slice())
+        } else {
+            false
+        }
+    }
+
+    /// Keeps what the step changes.
+    fn go_on(&mut self, step: &Step)
+        ensures { (before : List StepView) → StemsStandFor self.old before →
+            StemsStandFor self.new (before ++ step_view step.now ∷ []) }
+    {
+        self.popped = is_pop(step.token) & self.replaced;
+        self.replaced = step.replaces_hints();
+        if is_quiet(step.token) {
+            return;
+        }
+        self.drawn = draws(step, self.in_flex) | (self.drawn & !self.replaced);
+        self.in_flex = step.starts_flex() | (self.in_flex & !step.ends_flex());
+        self.keep_stems(step);
+    }
+
+    /// Keeps the stems of the step, or none after a hint replacement.
+    fn keep_stems(&mut self, step: &Step)
+        ensures across { self.new.across.items ≡ kept_after lies_across self.old.across.items (step_view step.now) }
+        ensures upright { self.new.upright.items ≡ kept_after stands_upright self.old.upright.items (step_view step.now) }
+        ensures in_flex { self.new.in_flex ≡ self.old.in_flex }
+        ensures drawn { self.new.drawn ≡ self.old.drawn }
+        ensures replaced { self.new.replaced ≡ self.old.replaced }
+        ensures popped { self.new.popped ≡ self.old.popped }
+    {
+        if step.replaces_hints() {
+            self.across.clear();
+            self.upright.clear();
+        } else if lies_across(step.token) {
+            keep(&mut self.across, stems_of(step).as_slice());
+        } else if stands_upright(step.token) {
+            keep(&mut self.upright, stems_of(step).as_slice());
+        }
+    }
+}
+
+impl Stem {
+    fn lower(self) -> i64
+        ensures { result ≡ lower self }
+    {
+        let position = i64::from(self.position);
+        lesser(position, position + i64::from(self.width))
+    }
+
+    fn upper(self) -> i64
+        ensures { result ≡ upper self }
+    {
+        let position = i64::from(self.position);
+        greater(position, position + i64::from(self.width))
+    }
+
+    /// Whether two stems share more than an edge.
+    fn overlaps(self, other: Stem) -> bool
+        ensures { result ≡ overlap self other }
+    {
+        spans_meet(self.lower(), self.upper(), other.lower(), other.upper())
+    }
+
+    /// Twice the place of its middle.
+    fn twice_middle(self) -> i64
+        ensures value { result ≡ twice_middle self }
+        ensures within { IsWithin 6442450944 result }
+    {
+        2 * i64::from(self.position) + i64::from(self.width)
+    }
+
+    fn has_no_width(self) -> bool
+        ensures { result ≡ has_no_width self }
+    {
+        self.width == 0
+    }
+}
+
+/// Whether two spans share more than an edge.
+fn spans_meet(one_lower: i64, one_upper: i64, other_lower: i64, other_upper: i64) -> bool
+    ensures { result ≡ int_lt (int_max one_lower other_lower) (int_min one_upper other_upper) }
+{
+    is_below(
+        greater(one_lower, other_lower),
+        lesser(one_upper, other_upper),
+    )
+}
+
+/// Whether none of these rules speaks of a token, and it changes neither a hint set nor what was drawn.
+fn is_quiet(token: CharToken) -> bool
+    ensures { result ≡ true → IsQuietForStems token }
+{
+    !(is_stem(token) | is_line(token) | is_callothersubr(token))
+}
+
+/// Whether a command sets stems.
+fn is_stem(token: CharToken) -> bool
+    ensures { result ≡ is_stem token }
+{
+    lies_across(token) | stands_upright(token)
+}
+
+fn lies_across(token: CharToken) -> bool
+    ensures { result ≡ is_command lies_across token }
+{
+    matches!(token, CharToken::Command(Command::Hstem | Command::Hstem3))
+}
+
+fn stands_upright(token: CharToken) -> bool
+    ensures { result ≡ is_command stands_upright token }
+{
+    matches!(token, CharToken::Command(Command::Vstem | Command::Vstem3))
+}
+
+fn is_triple(token: CharToken) -> bool
+    ensures { result ≡ is_command is_triple token }
+{
+    matches!(token, CharToken::Command(Command::Hstem3 | Command::Vstem3))
+}
+
+/// The stem of two arguments.
+fn stem_at(step: &Step, place: usize) -> Stem
+    requires { place < 24 }
+    ensures { result ≡ stem_at step.now.stack place }
+{
+    Stem {
+        position: step.argument(place),
+        width: step.argument(place + 1),
+    }
+}
+
+/// The stems of a command.
+fn stems_of(step: &Step) -> ArrayVec<Stem, 3>
+    ensures { result.items ≡ stems_of (step_view step.now) }
+{
+    let mut stems = ArrayVec::new();
+    stems.push(stem_at(step, 0));
+    if is_triple(step.token) {
+        stems.push(stem_at(step, 2));
+        stems.push(stem_at(step, 4));
+    }
+    stems
+}
+
+/// Keeps stems, as long as there are fewer than 96.
+fn keep(kept: &mut Stems, stems: &[Stem])
+    ensures { kept.new.items ≡ take 96 (kept.old.items ++ stems.now) }
+{
+    let _room = kept.try_extend_from_slice(first(kept.remaining_capacity(), stems));
+}
+
+/// The first stems, so many or all.
+fn first(count: usize, stems: &[Stem]) -> &[Stem]
+    ensures { result.now ≡ take count stems.now }
+{
+    if count < stems.len() {
+        &stems[..count]
+    } else {
+        stems
+    }
+}
+
+/// Whether one of the stems overlaps one that is kept, or two of them overlap.
+fn stems_meet(stems: &[Stem], kept: &[Stem]) -> bool
+    ensures { result ≡ stems_meet overlap stems.now kept.now }
+{
+    one_overlaps(stems, kept) || two_overlap(stems)
+}
+
+/// Whether one of the stems overlaps one that is kept.
+fn one_overlaps(stems: &[Stem], kept: &[Stem]) -> bool
+    ensures { result ≡ one_overlaps overlap stems.now kept.now }
+{
+    stems.iter().any(|stem| overlaps_any(*stem, kept))
+}
+
+/// Whether the stem overlaps one of these.
+fn overlaps_any(stem: Stem, others: &[Stem]) -> bool
+    ensures { result ≡ list_any (overlap stem) others.now }
+{
+    others.iter().any(|other| stem.overlaps(*other))
+}
+
+/// Whether two of the stems overlap.
+fn two_overlap(stems: &[Stem]) -> bool
+    ensures { result ≡ two_overlap overlap stems.now }
+{
+    let mut rest = stems;
+    while let [stem, others @ ..] = rest {
+        if overlaps_any(*stem, others) {
+            return true;
+        }
+        rest = others;
+    }
+    false
+}
+
+/// Whether one of the command's stems has no width.
+fn is_without_width(step: &Step) -> bool
+    ensures { result ≡ list_any has_no_width (stems_of (step_view step.now)) }
+{
+    any_has_no_width(stems_of(step).as_slice())
+}
+
+fn any_has_no_width(stems: &[Stem]) -> bool
+    ensures { result ≡ list_any has_no_width stems.now }
+{
+    stems.iter().any(|stem| stem.has_no_width())
+}
+
+/// Whether the three stems of a command aren't equal, where it has three.
+fn is_unequal(step: &Step) -> bool
+    ensures { result ≡ sets_unequal (step_view step.now) }
+{
+    is_triple(step.token) && are_unequal(stem_at(step, 0), stem_at(step, 2), stem_at(step, 4))
+}
+
+/// Whether the outer two stems aren't equally wide, or the middles not equally far apart.
+fn are_unequal(one: Stem, two: Stem, three: Stem) -> bool
+    ensures { result ≡ are_unequal one two three }
+{
+    (one.width != three.width) | is_off_middle(one, two, three)
+}
+
+fn is_off_middle(one: Stem, two: Stem, three: Stem) -> bool
+    ensures { result ≡ is_off_middle one two three }
+{
+    are_apart(one.twice_middle(), two.twice_middle(), three.twice_middle())
+}
+
+/// Whether the second number isn't in the middle of the others.
+fn are_apart(one: i64, two: i64, three: i64) -> bool
+    requires one { IsWithin 6442450944 one }
+    requires two { IsWithin 6442450944 two }
+    requires three { IsWithin 6442450944 three }
+    ensures { result ≡ not (int_eq (pos 2 *ℤ two) (one +ℤ three)) }
+{
+    differ(twice(two), sum(one, three))
+}
