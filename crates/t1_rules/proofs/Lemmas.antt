@@ -4,10 +4,13 @@ pub mod Before
 pub mod Book
 pub mod Divisions
 pub mod Flex
+pub mod FlexPairs
 pub mod FontRules
 pub mod Keys
 pub mod Mask
+pub mod OthersubrCalls
 pub mod Othersubrs
+pub mod Overlaps
 pub mod Paths
 pub mod Products
 pub mod Stems

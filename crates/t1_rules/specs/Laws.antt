@@ -1,4 +1,7 @@
 -- Statements of laws, which the functions of src/laws.rt prove.
+pub mod Flex
 pub mod FontRules
+pub mod Othersubrs
+pub mod Stems
 pub mod StepRules
 pub mod Zones

@@ -1,7 +1,10 @@
 //! Laws of the definitions, each on a call that does nothing.
 
 ghost use Rattle.t1_rules.specs.Laws.FontRules.{AbsentEntriesBreakNothing, BrokenIsInTheBook, NothingIsBrokenPastLast, NothingIsBrokenPastPlaces, RuleNumbersAreInOrder};
+ghost use Rattle.t1_rules.specs.Laws.Flex.{ClosepathLeavesThePoint, EndsLeadOutOfFlex, SevenPairsAreAFlex, StartsLeadIntoFlex, StepsMoveThePoint, WidthsSetThePoint};
+ghost use Rattle.t1_rules.specs.Laws.Othersubrs.{CallsAreOneOfFive};
 ghost use Rattle.t1_rules.specs.Laws.StepRules.{ArgumentsCountFromTheBottom, BrokenStepsHaveTheseNumbers, EndsBreakOneRule, FlexIsByPlaces, LaterStepsHaveNoSay, MovedIsByPlaces, OneStepStartsWithoutWidth, OpenIsByPlaces, StepRuleNumbersAreInOrder, SurplusNumbersAreNotPast};
+ghost use Rattle.t1_rules.specs.Laws.Stems.{HintSetsAreBounded, OverlapIsMutual, ReplacementsEmptyHintSets, SignsHaveNoSay, StemsOverlapWhereTheyShareAPlace};
 ghost use Rattle.t1_rules.specs.Laws.Zones.{ZonesAreApartWhereOneIsAbove, ZonesMeetOneOfTheOthers, ZonesAreNearBothWays, ZonesAreNearTheOneBefore, NoZoneIsPastPairs, ZonesReachOne, ListsRiseWhereNoneFalls, ZonesArePairs};
 
 /// The font rules have the numbers from 1 to 25, and what is broken is a rule of the book.
@@ -92,4 +95,44 @@ pub fn paths_are_by_places()
     ensures flex { FlexIsByPlaces }
     ensures moved { MovedIsByPlaces }
     ensures open { OpenIsByPlaces }
+{}
+
+/// Two stems overlap exactly where they share a place, whichever is named first and whichever edge they
+/// are given from; stems that touch share none.
+#[tactic(auto, using(crate::proofs::Lemmas::Overlaps::overlap_is_mutual, crate::proofs::Lemmas::Overlaps::signs_have_no_say))]
+pub fn stems_overlap_where_they_share_a_place()
+    ensures place { StemsOverlapWhereTheyShareAPlace }
+    ensures mutual { OverlapIsMutual }
+    ensures signs { SignsHaveNoSay }
+{}
+
+/// A hint replacement empties the hint sets, which have 96 stems at most.
+#[tactic(auto, using(crate::proofs::Lemmas::Overlaps::replacements_empty_hint_sets, crate::proofs::Lemmas::Overlaps::hint_sets_are_bounded))]
+pub fn hint_sets_begin_anew()
+    ensures empty { ReplacementsEmptyHintSets }
+    ensures most { HintSetsAreBounded }
+{}
+
+/// A call of an OtherSubr with two numbers does what the standard says of 0 to 3, controls counters, or
+/// breaks one of O01, O02 and O03; and never two of these.
+#[tactic(auto, using(crate::proofs::Lemmas::OthersubrCalls::calls_are_one_of_five))]
+pub fn othersubr_calls_are_one_of_five()
+    ensures { CallsAreOneOfFive }
+{}
+
+/// The current point goes from where hsbw sets it by the displacement of each step; closepath leaves it.
+#[tactic(auto, using(crate::proofs::Lemmas::FlexPairs::widths_set_the_point, crate::proofs::Lemmas::FlexPairs::steps_move_the_point, crate::proofs::Lemmas::FlexPairs::closepath_leaves_the_point))]
+pub fn current_points_move_on()
+    ensures width { WidthsSetThePoint }
+    ensures moves { StepsMoveThePoint }
+    ensures closepath { ClosepathLeavesThePoint }
+{}
+
+/// A start leads into flex, and an end out of it; seven pairs of a move and a point between them break no
+/// X04.
+#[tactic(auto, using(crate::proofs::Lemmas::FlexPairs::starts_lead_into_flex, crate::proofs::Lemmas::FlexPairs::ends_lead_out_of_flex, crate::proofs::Lemmas::FlexPairs::seven_pairs_are_a_flex))]
+pub fn flex_goes_from_its_start_to_its_end()
+    ensures start { StartsLeadIntoFlex }
+    ensures end { EndsLeadOutOfFlex }
+    ensures pairs { SevenPairsAreAFlex }
 {}

@@ -18,7 +18,7 @@ use Rattle.t1_rules.proofs.Lemmas.Before.{counted_on, was_last, was_before}
 same_point : (a b c d : ℤ) → a ≡ c → b ≡ d → at a b ≡ at c d
 same_point a b c d x y = rw (x, y) refl
 
-plus_origin : (p : Point) → plus p origin ≡ p
+pub plus_origin : (p : Point) → plus p origin ≡ p
 plus_origin p = same_point (p.x +ℤ pos 0) (p.y +ℤ pos 0) p.x p.y (omega (arith, ints)) (omega (arith, ints))
 
 origin_plus : (p : Point) → plus origin p ≡ p

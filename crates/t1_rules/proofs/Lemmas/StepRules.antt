@@ -64,7 +64,7 @@ none_broken n (r ∷ rs) other before step =
     go false e rest = rw (and-false (r.is_broken before step)) rest
 
 -- The row that alone has its number decides.
-row_decides : (n : ℕ) (rules : List StepRule) (place : ℕ) (r : StepRule) → slice_get rules place ≡ Some r → (number_of r.rule == n) ≡ true
+pub row_decides : (n : ℕ) (rules : List StepRule) (place : ℕ) (r : StepRule) → slice_get rules place ≡ Some r → (number_of r.rule == n) ≡ true
     → without_number n (take place rules) ≡ true → without_number n (drop (suc place) rules) ≡ true
     → (before : List StepView) (step : StepView) → breaks rules n before step ≡ r.is_broken before step
 row_decides n [] place r there own front rest before step = let no : None ≡ Some r = there in cc

@@ -1,0 +1,28 @@
+-- Laws of calls of OtherSubrs.
+use Rattle.std.specs.Prelude.{◌≡◌, ℕ, ◌&&◌, Bool, true, List, [], ◌∷◌}
+use Rattle.std.specs.List.{count_by}
+use Rattle.t1_char.specs.Stacks.{from_top}
+use Rattle.t1_char.specs.Steps.{StepView}
+use Rattle.t1_rules.specs.StepRules.Othersubrs.{calls_by_numbers, calls_unknown, has_bad_count, has_good_count, has_wrong_count, is_counter_control, is_effective}
+
+-- How many of these are so.
+abbrev pub how_many : List Bool → ℕ
+how_many bools = count_by (λ b. b) bools
+
+-- Counter control, with a good count.
+abbrev pub controls_counters : StepView → Bool
+controls_counters step =
+    calls_by_numbers step && has_good_count step && is_counter_control (from_top step.stack 0)
+
+-- Of callothersubr with two numbers exactly one is so: it calls 0 to 3 with the count that is wanted; it
+-- controls counters; or it breaks O01, O02 or O03.
+abbrev pub CallsAreOneOfFive : Type 0
+CallsAreOneOfFive =
+    (step : StepView) → calls_by_numbers step ≡ true →
+    how_many (
+    is_effective step
+    ∷ controls_counters step
+    ∷ calls_unknown step
+    ∷ has_bad_count step
+    ∷ has_wrong_count step
+    ∷ []) ≡ 1
