@@ -15,7 +15,7 @@ use crate::{Mask, font_faults, key_text, places, rule_code};
 use std::alloc::{AllocError, Global};
 use std::process::Abort;
 use std::test::Fail;
-use t1_font::{Font, read_clear, read_font};
+use t1_font::{Font, Refusal, read_clear, read_font};
 use t1_samples::Sample;
 use t1_seal::Joined;
 
@@ -92,47 +92,74 @@ fn lines_of(alloc: Global, font: &Font<'_>) -> Result<String, AllocError> {
     Ok(lines)
 }
 
-/// The lines of a font of these texts.
-fn lines_of_texts(alloc: Global, clear: &str, private: &str) -> Result<String, Fail> {
-    let joined = pfa(alloc, clear.as_bytes())?;
-    let font = read_font(alloc, read_clear(alloc, &joined)?, private.as_bytes())?;
+/// What was read, in a box: a function that drops a font of its own takes long to prove.
+fn boxed<T: Drop>(alloc: Global, read: Result<T, Refusal>) -> Result<Box<T>, Refusal> {
+    Ok(Box::new(alloc, read?)?)
+}
+
+/// The font of these texts.
+fn font<'a>(alloc: Global, text: &'a Joined, private: &'a [u8]) -> Result<Box<Font<'a>>, Refusal> {
+    let clear = read_clear(alloc, text)?;
+    boxed(alloc, read_font(alloc, clear, private))
+}
+
+/// The lines of the font of these texts.
+fn lines_of_font(alloc: Global, text: &Joined, private: &[u8]) -> Result<String, Refusal> {
+    let font = font(alloc, text, private)?;
     Ok(lines_of(alloc, &font)?)
+}
+
+/// The lines of a font whose clear text is a PFA file's.
+fn lines_of_texts(alloc: Global, clear: &str, private: &str) -> Result<String, Refusal> {
+    let text = pfa(alloc, clear.as_bytes())?;
+    lines_of_font(alloc, &text, private.as_bytes())
 }
 
 /// The lines of the sample with more entries in its Private dictionary.
-fn lines_with(alloc: Global, entries: &str) -> Result<String, Fail> {
+fn lines_with(alloc: Global, entries: &str) -> Result<String, Refusal> {
     let sample = Sample::new(alloc)?.key(entries.as_bytes())?;
-    let joined = pfa(alloc, sample.clear()?.as_slice())?;
+    let text = pfa(alloc, sample.clear()?.as_slice())?;
     let private = sample.private()?;
-    let font = read_font(alloc, read_clear(alloc, &joined)?, private.as_slice())?;
-    Ok(lines_of(alloc, &font)?)
+    lines_of_font(alloc, &text, private.as_slice())
+}
+
+/// The lines of a font with a glyph and this clear text.
+fn lines_of_clear(alloc: Global, clear: &str) -> Result<String, Refusal> {
+    let private = format!(in alloc;
+        "{ENTRIES}\n/CharStrings 1 dict dup begin\n/.notdef 0 RD  ND\nend"
+    )?;
+    lines_of_texts(alloc, clear, private.as_str())
+}
+
+/// The lines of a font with these codes of a custom Encoding.
+fn lines_of_codes(alloc: Global, codes: &str) -> Result<String, Refusal> {
+    let clear = format!(in alloc;
+        "%!\n/FontType 1 def /PaintType 0 def /Encoding 256 array {codes} def eexec"
+    )?;
+    let private = format!(in alloc; "{ENTRIES} {GLYPHS}")?;
+    lines_of_texts(alloc, clear.as_str(), private.as_str())
+}
+
+/// The lines of a font with these Subrs.
+fn lines_of_subrs(alloc: Global, subrs: &str) -> Result<String, Refusal> {
+    let private = format!(in alloc; "{ENTRIES} /Subrs {subrs} ND {GLYPHS}")?;
+    lines_of_texts(alloc, CLEAR, private.as_str())
+}
+
+/// The lines of a font with these glyphs.
+fn lines_of_glyphs(alloc: Global, glyphs: &str) -> Result<String, Refusal> {
+    let private = format!(in alloc; "{ENTRIES} /CharStrings 3 dict dup begin {glyphs} end")?;
+    lines_of_texts(alloc, CLEAR, private.as_str())
 }
 
 /// The lines of a font with this text as a part.
-fn lines_with_part(alloc: Global, part: Part, text: &str) -> Result<String, Fail> {
+fn lines_with_part(alloc: Global, part: Part, text: &str) -> Result<String, Refusal> {
     match part {
-        Part::ClearText => {
-            let private = format!(in alloc;
-                "{ENTRIES}\n/CharStrings 1 dict dup begin\n/.notdef 0 RD  ND\nend"
-            )?;
-            lines_of_texts(alloc, text, private.as_str())
-        }
-        Part::Codes => {
-            let clear = format!(in alloc;
-                "%!\n/FontType 1 def /PaintType 0 def /Encoding 256 array {text} def eexec"
-            )?;
-            let private = format!(in alloc; "{ENTRIES} {GLYPHS}")?;
-            lines_of_texts(alloc, clear.as_str(), private.as_str())
-        }
+        Part::ClearText => lines_of_clear(alloc, text),
+        Part::Codes => lines_of_codes(alloc, text),
         Part::Entries => lines_with(alloc, text),
-        Part::Subrs => {
-            let private = format!(in alloc; "{ENTRIES} /Subrs {text} ND {GLYPHS}")?;
-            lines_of_texts(alloc, CLEAR, private.as_str())
-        }
-        Part::Glyphs => {
-            let private = format!(in alloc; "{ENTRIES} /CharStrings 3 dict dup begin {text} end")?;
-            lines_of_texts(alloc, CLEAR, private.as_str())
-        }
+        Part::Subrs => lines_of_subrs(alloc, text),
+        Part::Glyphs => lines_of_glyphs(alloc, text),
     }
 }
 

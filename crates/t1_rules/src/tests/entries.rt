@@ -1,38 +1,42 @@
 use super::{CLEAR, Part, assert_lines, lines_of_texts};
 use std::test::Fail;
 
+/// Clear texts, and the lines of a font with each.
+const CLEAR_TEXTS: &[(&str, &str)] = &[
+    (
+        "%!\n/FontType 1. def /PaintType 2 def /Encoding StandardEncoding def eexec",
+        "",
+    ),
+    (
+        "%!\neexec",
+        "FontType 0 F03\nPaintType 0 F04\nEncoding 0 F11\n",
+    ),
+    (
+        "%!\n/FontType 2 def /PaintType 1 def /Encoding 5 def eexec",
+        "FontType 0 F03\nPaintType 0 F04\nEncoding 0 F11\n",
+    ),
+];
+
 #[test]
 fn entries_of_the_clear_text(rt: HostRuntime) -> Result<(), Fail> {
-    let cases = [
-        (
-            "%!\n/FontType 1. def /PaintType 2 def /Encoding StandardEncoding def eexec",
-            "",
-        ),
-        (
-            "%!\neexec",
-            "FontType 0 F03\nPaintType 0 F04\nEncoding 0 F11\n",
-        ),
-        (
-            "%!\n/FontType 2 def /PaintType 1 def /Encoding 5 def eexec",
-            "FontType 0 F03\nPaintType 0 F04\nEncoding 0 F11\n",
-        ),
-    ];
-    assert_lines(&rt, rt.alloc(), Part::ClearText, &cases)
+    assert_lines(&rt, rt.alloc(), Part::ClearText, CLEAR_TEXTS)
 }
+
+/// Entries of the Private dictionary, and the lines of a font with them.
+const PRIVATE_ENTRIES: &[(&str, &str)] = &[
+    (
+        "/password 5838 def /MinFeature {16} def",
+        "password 0 F07\nMinFeature 0 F08\n",
+    ),
+    ("/password 5839. def /MinFeature [16. 16#10] def", ""),
+    ("/MinFeature {} def", "MinFeature 0 F08\n"),
+    ("/MinFeature {16 16 16} def", "MinFeature 0 F08\n"),
+    ("/MinFeature {16 15} def", "MinFeature 0 F08\n"),
+];
 
 #[test]
 fn entries_of_the_private_dictionary(rt: HostRuntime) -> Result<(), Fail> {
-    let cases = [
-        (
-            "/password 5838 def /MinFeature {16} def",
-            "password 0 F07\nMinFeature 0 F08\n",
-        ),
-        ("/password 5839. def /MinFeature [16. 16#10] def", ""),
-        ("/MinFeature {} def", "MinFeature 0 F08\n"),
-        ("/MinFeature {16 16 16} def", "MinFeature 0 F08\n"),
-        ("/MinFeature {16 15} def", "MinFeature 0 F08\n"),
-    ];
-    assert_lines(&rt, rt.alloc(), Part::Entries, &cases)
+    assert_lines(&rt, rt.alloc(), Part::Entries, PRIVATE_ENTRIES)
 }
 
 #[test]

@@ -1,29 +1,33 @@
-use super::lines_of;
+use super::lines_of_font;
+use std::alloc::Global;
 use std::test::Fail;
-use t1_font::{read_clear, read_font};
+use t1_font::Refusal;
 use t1_samples::Sample;
 use t1_seal::Joined;
+
+/// The lines of the sample in a file with the first `parts` of these: segments, an end segment, bytes
+/// behind it.
+fn lines_of_file(alloc: Global, parts: u8) -> Result<String, Refusal> {
+    let sample = Sample::new(alloc)?;
+    let text = Joined {
+        bytes: sample.clear()?,
+        pfb: 0 < parts,
+        end_segment: 1 < parts,
+        trailing: 2 < parts,
+    };
+    let private = sample.private()?;
+    lines_of_font(alloc, &text, private.as_slice())
+}
+
+/// How many of the parts a file has, and the lines of its font.
+const FILES: &[(u8, &str)] = &[(0, ""), (1, "file 0 F01\n"), (2, ""), (3, "file 0 F02\n")];
 
 /// A PFA file has no segments, so it lacks none.
 #[test]
 fn marks_of_the_file(rt: HostRuntime) -> Result<(), Fail> {
-    for (pfb, end_segment, trailing, lines) in [
-        (false, false, false, ""),
-        (true, true, false, ""),
-        (true, false, false, "file 0 F01\n"),
-        (true, true, true, "file 0 F02\n"),
-    ] {
-        let sample = Sample::new(rt.alloc())?;
-        let joined = Joined {
-            bytes: sample.clear()?,
-            pfb,
-            end_segment,
-            trailing,
-        };
-        let private = sample.private()?;
-        let clear = read_clear(rt.alloc(), &joined)?;
-        let font = read_font(rt.alloc(), clear, private.as_slice())?;
-        assert_eq!(rt; lines_of(rt.alloc(), &font)?.as_str(), lines);
+    for (parts, lines) in FILES {
+        let found = lines_of_file(rt.alloc(), *parts)?;
+        assert_eq!(rt; found.as_str(), *lines, "{parts}");
     }
     Ok(())
 }

@@ -1,20 +1,22 @@
 use super::{Part, assert_lines};
 use std::test::Fail;
 
+/// The glyphs in the CharStrings, and the lines of a font with them.
+const GIVEN: &[(&str, &str)] = &[
+    ("/.notdef 0 RD  ND /A 0 RD  ND /B 0 RD  ND", ""),
+    ("/A 0 RD  ND", "CharStrings 0 F09\n"),
+    (
+        "/.notdef 0 RD  ND /A 0 RD  ND /A 0 RD  ND",
+        "CharStrings 1 F10\n",
+    ),
+    (
+        "/A 0 RD  ND /B 0 RD  ND /A 0 RD  ND",
+        "CharStrings 0 F09\nCharStrings 0 F10\n",
+    ),
+];
+
 /// Glyphs count from 0, in the order of their first appearance.
 #[test]
 fn glyphs_given_twice(rt: HostRuntime) -> Result<(), Fail> {
-    let cases = [
-        ("/.notdef 0 RD  ND /A 0 RD  ND /B 0 RD  ND", ""),
-        ("/A 0 RD  ND", "CharStrings 0 F09\n"),
-        (
-            "/.notdef 0 RD  ND /A 0 RD  ND /A 0 RD  ND",
-            "CharStrings 1 F10\n",
-        ),
-        (
-            "/A 0 RD  ND /B 0 RD  ND /A 0 RD  ND",
-            "CharStrings 0 F09\nCharStrings 0 F10\n",
-        ),
-    ];
-    assert_lines(&rt, rt.alloc(), Part::Glyphs, &cases)
+    assert_lines(&rt, rt.alloc(), Part::Glyphs, GIVEN)
 }

@@ -1,43 +1,47 @@
 use super::{Part, assert_lines};
 use std::test::Fail;
 
+/// Standard widths and snaps, and the lines of a font with them.
+const WIDTHS: &[(&str, &str)] = &[
+    ("/StdHW [30] def", ""),
+    ("/StdHW [] def", "StdHW 0 Z08\n"),
+    ("/StdVW [30 31] def", "StdVW 0 Z08\n"),
+    ("/StemSnapH [1 2 3 4 5 6 7 8 9 10 11 12] def", ""),
+    (
+        "/StemSnapH [1 2 3 4 5 6 7 8 9 10 11 12 0] def",
+        "StemSnapH 12 Z09\n",
+    ),
+    ("/StemSnapV [30 30] def", ""),
+    ("/StemSnapV [30 29] def", "StemSnapV 1 Z10\n"),
+];
+
 #[test]
 fn widths_and_snaps(rt: HostRuntime) -> Result<(), Fail> {
-    let cases = [
-        ("/StdHW [30] def", ""),
-        ("/StdHW [] def", "StdHW 0 Z08\n"),
-        ("/StdVW [30 31] def", "StdVW 0 Z08\n"),
-        ("/StemSnapH [1 2 3 4 5 6 7 8 9 10 11 12] def", ""),
-        (
-            "/StemSnapH [1 2 3 4 5 6 7 8 9 10 11 12 0] def",
-            "StemSnapH 12 Z09\n",
-        ),
-        ("/StemSnapV [30 30] def", ""),
-        ("/StemSnapV [30 29] def", "StemSnapV 1 Z10\n"),
-    ];
-    assert_lines(&rt, rt.alloc(), Part::Entries, &cases)
+    assert_lines(&rt, rt.alloc(), Part::Entries, WIDTHS)
 }
+
+/// Both standard widths and snaps, and the lines of a font with them.
+const WIDTHS_AND_SNAPS: &[(&str, &str)] = &[
+    (
+        "/StdHW [30] def /StemSnapH [20 40] def",
+        "StemSnapH 0 Z11\n",
+    ),
+    ("/StdHW [30] def /StemSnapH [20 30] def", ""),
+    ("/StdHW [30] def /StemSnapH [] def", ""),
+    ("/StdHW [] def /StemSnapH [20] def", "StdHW 0 Z08\n"),
+    ("/StdHW [30] def /StemSnapV [20] def", ""),
+    (
+        "/StdVW [30 40] def /StemSnapV [40] def",
+        "StdVW 0 Z08\nStemSnapV 0 Z11\n",
+    ),
+    (
+        "/StdHW [13] def /StemSnapH [1 2 3 4 5 6 7 8 9 10 11 12 13] def",
+        "StemSnapH 0 Z11\nStemSnapH 12 Z09\n",
+    ),
+];
 
 /// The first width counts, and the first 12 snaps.
 #[test]
 fn widths_among_snaps(rt: HostRuntime) -> Result<(), Fail> {
-    let cases = [
-        (
-            "/StdHW [30] def /StemSnapH [20 40] def",
-            "StemSnapH 0 Z11\n",
-        ),
-        ("/StdHW [30] def /StemSnapH [20 30] def", ""),
-        ("/StdHW [30] def /StemSnapH [] def", ""),
-        ("/StdHW [] def /StemSnapH [20] def", "StdHW 0 Z08\n"),
-        ("/StdHW [30] def /StemSnapV [20] def", ""),
-        (
-            "/StdVW [30 40] def /StemSnapV [40] def",
-            "StdVW 0 Z08\nStemSnapV 0 Z11\n",
-        ),
-        (
-            "/StdHW [13] def /StemSnapH [1 2 3 4 5 6 7 8 9 10 11 12 13] def",
-            "StemSnapH 0 Z11\nStemSnapH 12 Z09\n",
-        ),
-    ];
-    assert_lines(&rt, rt.alloc(), Part::Entries, &cases)
+    assert_lines(&rt, rt.alloc(), Part::Entries, WIDTHS_AND_SNAPS)
 }
