@@ -7,8 +7,9 @@ ghost use Rattle.std.specs.Prelude.{◌≡◌, length};
 
 use crate::{CharToken, Path, Stack, Step, command_name, expand};
 use std::alloc::{AllocError, Global};
+use std::process::Abort;
 use std::test::Fail;
-use t1_font::{Font, read_clear, read_font};
+use t1_font::{Font, Refusal, read_clear, read_font};
 use t1_samples::Sample;
 use t1_seal::Joined;
 
@@ -88,8 +89,19 @@ fn states_of(alloc: Global, steps: &[Step]) -> Result<String, AllocError> {
     Ok(text)
 }
 
+/// What was read, in a box: a function that drops a font of its own takes long to prove.
+fn boxed<T: Drop>(alloc: Global, read: Result<T, Refusal>) -> Result<Box<T>, Refusal> {
+    Ok(Box::new(alloc, read?)?)
+}
+
+/// The font of these texts.
+fn font<'a>(alloc: Global, text: &'a Joined, private: &'a [u8]) -> Result<Box<Font<'a>>, Refusal> {
+    let clear = read_clear(alloc, text)?;
+    boxed(alloc, read_font(alloc, clear, private))
+}
+
 /// The steps of a sample's second glyph.
-fn steps_of(alloc: Global, sample: &Sample) -> Result<Vec<Step>, Fail> {
+fn steps_of(alloc: Global, sample: &Sample) -> Result<Vec<Step>, Refusal> {
     let text = Joined {
         bytes: sample.clear()?,
         pfb: false,
@@ -100,9 +112,8 @@ fn steps_of(alloc: Global, sample: &Sample) -> Result<Vec<Step>, Fail> {
     steps_of_texts(alloc, &text, private.as_slice())
 }
 
-fn steps_of_texts(alloc: Global, text: &Joined, private: &[u8]) -> Result<Vec<Step>, Fail> {
-    let clear = read_clear(alloc, text)?;
-    let font = read_font(alloc, clear, private)?;
+fn steps_of_texts(alloc: Global, text: &Joined, private: &[u8]) -> Result<Vec<Step>, Refusal> {
+    let font = font(alloc, text, private)?;
     Ok(steps_in(alloc, &font)?)
 }
 
@@ -120,11 +131,50 @@ fn steps_in(alloc: Global, font: &Font<'_>) -> Result<Vec<Step>, AllocError> {
     expand(alloc, font, 1)
 }
 
-/// The steps of a glyph with this charstring, in a font with these Subrs.
-fn steps_with(alloc: Global, subrs: &[(u32, &[u8])], glyph: &[u8]) -> Result<Vec<Step>, Fail> {
+/// A sound font with these Subrs.
+fn with_subrs(alloc: Global, subrs: &[(u32, &[u8])]) -> Result<Sample, AllocError> {
     let mut sample = Sample::new(alloc)?;
     for (number, code) in subrs {
         sample = sample.subr(*number, *code)?;
     }
-    steps_of(alloc, &sample.glyph(b"A", glyph)?)
+    Ok(sample)
+}
+
+/// The steps of a glyph with this charstring, in a font with these Subrs.
+fn steps_with(alloc: Global, subrs: &[(u32, &[u8])], glyph: &[u8]) -> Result<Vec<Step>, Refusal> {
+    let sample = with_subrs(alloc, subrs)?.glyph(b"A", glyph)?;
+    steps_of(alloc, &sample)
+}
+
+/// The states of the steps of a glyph with this charstring, in a font with these Subrs.
+fn states_with(alloc: Global, subrs: &[(u32, &[u8])], glyph: &[u8]) -> Result<String, Refusal> {
+    let steps = steps_with(alloc, subrs, glyph)?;
+    Ok(states_of(alloc, &steps)?)
+}
+
+/// The trace of a glyph with this charstring, in a font with these Subrs.
+fn trace_with(alloc: Global, subrs: &[(u32, &[u8])], glyph: &[u8]) -> Result<String, Refusal> {
+    let steps = steps_with(alloc, subrs, glyph)?;
+    Ok(trace_of(alloc, &steps)?)
+}
+
+/// Subrs, a glyph, and what is written of its steps.
+type Case<'a> = (&'a [(u32, &'a [u8])], &'a [u8], &'a str);
+
+/// The glyphs have the states of steps beside them.
+fn assert_states(rt: &impl Abort, alloc: Global, cases: &[Case<'_>]) -> Result<(), Fail> {
+    for (subrs, glyph, want) in cases {
+        let states = states_with(alloc, subrs, glyph)?;
+        assert_eq!(rt; states.as_str(), *want, "of {glyph:?}");
+    }
+    Ok(())
+}
+
+/// The glyphs have the traces beside them.
+fn assert_traces(rt: &impl Abort, alloc: Global, cases: &[Case<'_>]) -> Result<(), Fail> {
+    for (subrs, glyph, want) in cases {
+        let trace = trace_with(alloc, subrs, glyph)?;
+        assert_eq!(rt; trace.as_str(), *want, "of {glyph:?}");
+    }
+    Ok(())
 }

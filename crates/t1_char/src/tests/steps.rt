@@ -1,93 +1,33 @@
 //! Steps of glyphs: calls, returns, ends, and the two facts of each step.
 
-use super::{HSBW, states_of, steps_of, steps_with, trace_of};
+use super::{Case, HSBW, assert_states, assert_traces, states_of, steps_of, steps_with, trace_of};
 use std::alloc::{AllocError, Global};
 use std::test::Fail;
+use t1_font::Refusal;
 use t1_samples::{Charstrings, Sample};
 
-const PLAIN_TRACE: &str = "1 - 0\n2 - 500\n3 - hsbw\n4 - endchar\n";
+/// A Subr that calls itself.
+const CALLS_ITSELF: &[(u32, &[u8])] = &[(5, b"\x90\x0a")];
 
-#[test]
-fn a_glyph_without_calls(rt: HostRuntime) -> Result<(), Fail> {
-    let steps = steps_with(rt.alloc(), &[], b"\x8b\xf8\x88\x0d\x0e")?;
-    assert_eq!(rt; trace_of(rt.alloc(), &steps)?.as_str(), PLAIN_TRACE);
-    Ok(())
-}
+/// A glyph that calls Subr 5.
+const CALLS: &[u8] = b"\x8b\xf8\x88\x0d\x90\x0a\x0e";
 
-#[test]
-fn enciphered_fonts(rt: HostRuntime) -> Result<(), Fail> {
-    for charstrings in [
-        Charstrings::Plain,
-        Charstrings::Encrypted(0),
-        Charstrings::Encrypted(4),
-        Charstrings::WithoutLenIv,
-    ] {
-        let sample = Sample::with_charstrings(rt.alloc(), charstrings)?
-            .subr(5, b"\x0b")?
-            .glyph(b"A", b"\x8b\xf8\x88\x0d\x90\x0a\x0e")?;
-        let steps = steps_of(rt.alloc(), &sample)?;
-        assert_eq!(rt;
-            trace_of(rt.alloc(), &steps)?.as_str(),
-            "1 - 0\n2 - 500\n3 - hsbw\n4 - 5\n5 - callsubr\n6 5 return\n7 - endchar\n"
-        );
-    }
-    Ok(())
-}
-
-/// The last lenIV counts for all charstrings.
-#[test]
-fn a_glyph_shorter_than_len_iv(rt: HostRuntime) -> Result<(), Fail> {
-    let sample = Sample::new(rt.alloc())?
-        .key(b"/lenIV 4 def")?
-        .glyph(b"A", b"\x8b\x0d\x0e")?;
-    let steps = steps_of(rt.alloc(), &sample)?;
-    assert_eq!(rt;
-        states_of(rt.alloc(), &steps)?.as_str(),
-        "- short [ ] 0 last\n- end [ ] 0\n"
-    );
-    Ok(())
-}
-
-#[test]
-fn a_glyph_that_breaks_off(rt: HostRuntime) -> Result<(), Fail> {
-    let steps = steps_with(rt.alloc(), &[], b"\x0e\xff\x00")?;
-    assert_eq!(rt;
-        states_of(rt.alloc(), &steps)?.as_str(),
-        "- endchar [ ] 0\n"
-    );
-    let steps = steps_with(rt.alloc(), &[], b"\x8c\x0c")?;
-    assert_eq!(rt;
-        states_of(rt.alloc(), &steps)?.as_str(),
-        "- 1 [ ] 0\n- cut [ 1 ] 0 last\n- end [ 1 ] 0\n"
-    );
-    Ok(())
-}
-
-/// A Subr without a return is left at its end.
-#[test]
-fn a_subr_called_twice(rt: HostRuntime) -> Result<(), Fail> {
-    let steps = steps_with(
-        rt.alloc(),
+/// A glyph without calls; one that calls a Subr twice, which is left at its end, without a return; and
+/// a Subr that calls itself: ten calls are made, and an eleventh isn't.
+const CALLS_OF_SUBRS: &[Case<'static>] = &[
+    (
+        &[],
+        b"\x8b\xf8\x88\x0d\x0e",
+        "1 - 0\n2 - 500\n3 - hsbw\n4 - endchar\n",
+    ),
+    (
         &[(5, b"\x90\x8b\x05\x09")],
         b"\x8b\xf8\x88\x0d\x90\x0a\x90\x0a\x0e",
-    )?;
-    assert_eq!(rt;
-        trace_of(rt.alloc(), &steps)?.as_str(),
-        "1 - 0\n2 - 500\n3 - hsbw\n4 - 5\n5 - callsubr\n6 5 5\n7 5 0\n8 5 rlineto\n9 5 closepath\n10 5 end\n11 - 5\n12 - callsubr\n13 5 5\n14 5 0\n15 5 rlineto\n16 5 closepath\n17 5 end\n18 - endchar\n"
-    );
-    Ok(())
-}
-
-/// Ten calls are made, and an eleventh isn't.
-#[test]
-fn a_subr_that_calls_itself(rt: HostRuntime) -> Result<(), Fail> {
-    let steps = steps_with(
-        rt.alloc(),
-        &[(5, b"\x90\x0a")],
-        b"\x8b\xf8\x88\x0d\x90\x0a\x0e",
-    )?;
-    assert_eq!(rt;
-        trace_of(rt.alloc(), &steps)?.as_str(),
+        "1 - 0\n2 - 500\n3 - hsbw\n4 - 5\n5 - callsubr\n6 5 5\n7 5 0\n8 5 rlineto\n9 5 closepath\n10 5 end\n11 - 5\n12 - callsubr\n13 5 5\n14 5 0\n15 5 rlineto\n16 5 closepath\n17 5 end\n18 - endchar\n",
+    ),
+    (
+        CALLS_ITSELF,
+        CALLS,
         "1 - 0\n\
 2 - 500\n\
 3 - hsbw\n\
@@ -123,11 +63,80 @@ fn a_subr_that_calls_itself(rt: HostRuntime) -> Result<(), Fail> {
 33 5>5>5 end\n\
 34 5>5 end\n\
 35 5 end\n\
-36 - endchar\n"
-    );
+36 - endchar\n",
+    ),
+];
+
+#[test]
+fn calls_of_subrs(rt: HostRuntime) -> Result<(), Fail> {
+    assert_traces(&rt, rt.alloc(), CALLS_OF_SUBRS)
+}
+
+/// The tenth call, and the step behind it.
+#[test]
+fn the_tenth_call(rt: HostRuntime) -> Result<(), Fail> {
+    let steps = steps_with(rt.alloc(), CALLS_ITSELF, CALLS)?;
     assert!(rt; steps.get(24).is_some_and(|step| step.found));
     assert!(rt; steps.get(25).is_some_and(|step| step.path.len() == 10));
     Ok(())
+}
+
+/// The trace of a glyph that calls a Subr, in a font with such charstrings.
+fn trace_in(alloc: Global, charstrings: Charstrings) -> Result<String, Refusal> {
+    let sample = Sample::with_charstrings(alloc, charstrings)?
+        .subr(5, b"\x0b")?
+        .glyph(b"A", CALLS)?;
+    let steps = steps_of(alloc, &sample)?;
+    Ok(trace_of(alloc, &steps)?)
+}
+
+/// The ways in which charstrings are enciphered.
+const CIPHERS: &[Charstrings] = &[
+    Charstrings::Plain,
+    Charstrings::Encrypted(0),
+    Charstrings::Encrypted(4),
+    Charstrings::WithoutLenIv,
+];
+
+#[test]
+fn enciphered_fonts(rt: HostRuntime) -> Result<(), Fail> {
+    for charstrings in CIPHERS {
+        let trace = trace_in(rt.alloc(), *charstrings)?;
+        assert_eq!(rt;
+            trace.as_str(),
+            "1 - 0\n2 - 500\n3 - hsbw\n4 - 5\n5 - callsubr\n6 5 return\n7 - endchar\n"
+        );
+    }
+    Ok(())
+}
+
+/// The last lenIV counts for all charstrings.
+#[test]
+fn a_glyph_shorter_than_len_iv(rt: HostRuntime) -> Result<(), Fail> {
+    let sample = Sample::new(rt.alloc())?
+        .key(b"/lenIV 4 def")?
+        .glyph(b"A", b"\x8b\x0d\x0e")?;
+    let steps = steps_of(rt.alloc(), &sample)?;
+    assert_eq!(rt;
+        states_of(rt.alloc(), &steps)?.as_str(),
+        "- short [ ] 0 last\n- end [ ] 0\n"
+    );
+    Ok(())
+}
+
+/// Glyphs that break off inside a token.
+const CUT: &[Case<'static>] = &[
+    (&[], b"\x0e\xff\x00", "- endchar [ ] 0\n"),
+    (
+        &[],
+        b"\x8c\x0c",
+        "- 1 [ ] 0\n- cut [ 1 ] 0 last\n- end [ 1 ] 0\n",
+    ),
+];
+
+#[test]
+fn a_glyph_that_breaks_off(rt: HostRuntime) -> Result<(), Fail> {
+    assert_states(&rt, rt.alloc(), CUT)
 }
 
 /// Subr 5 of 8,330 times dotsection and return; the glyph `0 500 hsbw`, twelve calls, so many times
@@ -149,94 +158,118 @@ fn long_glyph(alloc: Global, more: usize) -> Result<(Vec<u8>, Vec<u8>), AllocErr
     Ok((subr, glyph))
 }
 
+/// How many steps a long glyph has, and the line of the last.
+fn end_of(alloc: Global, more: usize) -> Result<(usize, String), Refusal> {
+    let (subr, glyph) = long_glyph(alloc, more)?;
+    let steps = steps_with(alloc, &[(5, subr.as_slice())], glyph.as_slice())?;
+    let count = steps.len();
+    let (_, last) = steps.as_slice().split_at(count.saturating_sub(1));
+    Ok((count, trace_of(alloc, last)?))
+}
+
+/// How many times more dotsection, and how many steps are listed, and the last.
+const AT_THE_LIMIT: &[(usize, usize, &str)] = &[
+    (0, 100_000, "100000 - endchar\n"),
+    (1, 100_001, "100001 - endchar\n"),
+    (2, 100_001, "100001 - dotsection\n"),
+];
+
 /// The first 100,001 steps are listed.
 #[test]
 fn glyphs_at_the_limit(rt: HostRuntime) -> Result<(), Fail> {
-    for (more, count, last) in [
-        (0, 100_000, "100000 - endchar\n"),
-        (1, 100_001, "100001 - endchar\n"),
-        (2, 100_001, "100001 - dotsection\n"),
-    ] {
-        let (subr, glyph) = long_glyph(rt.alloc(), more)?;
-        let steps = steps_with(rt.alloc(), &[(5, subr.as_slice())], glyph.as_slice())?;
-        assert_eq!(rt; steps.len(), count);
-        let (_, end) = steps.as_slice().split_at(count - 1);
-        assert_eq!(rt; trace_of(rt.alloc(), end)?.as_str(), last);
+    for (more, count, last) in AT_THE_LIMIT {
+        let (steps, end) = end_of(rt.alloc(), *more)?;
+        assert_eq!(rt; (steps, end.as_str()), (*count, *last));
     }
     Ok(())
 }
 
 /// The glyph ends at endchar and seac, in a Subr too; a return outside a Subr does nothing.
+const ENDS: &[Case<'static>] = &[
+    (
+        &[(5, b"\x0e")],
+        b"\x90\x0a\x09",
+        "1 - 5\n2 - callsubr\n3 5 endchar\n",
+    ),
+    (
+        &[(5, b"\x0c\x06")],
+        b"\x90\x0a\x09",
+        "1 - 5\n2 - callsubr\n3 5 seac\n",
+    ),
+    (&[(5, b"")], b"\x0b\x0e\x09", "1 - return\n2 - endchar\n"),
+    (&[(5, b"")], b"\x0b", "1 - return\n2 - end\n"),
+    (&[(5, b"")], b"", "1 - end\n"),
+];
+
 #[test]
 fn ends_of_glyphs(rt: HostRuntime) -> Result<(), Fail> {
-    let table: [(&[u8], &[u8], &str); 5] = [
-        (
-            b"\x0e",
-            b"\x90\x0a\x09",
-            "1 - 5\n2 - callsubr\n3 5 endchar\n",
-        ),
-        (
-            b"\x0c\x06",
-            b"\x90\x0a\x09",
-            "1 - 5\n2 - callsubr\n3 5 seac\n",
-        ),
-        (b"", b"\x0b\x0e\x09", "1 - return\n2 - endchar\n"),
-        (b"", b"\x0b", "1 - return\n2 - end\n"),
-        (b"", b"", "1 - end\n"),
-    ];
-    for (subr, glyph, want) in &table {
-        let steps = steps_with(rt.alloc(), &[(5, *subr)], *glyph)?;
-        assert_eq!(rt; trace_of(rt.alloc(), &steps)?.as_str(), *want);
-    }
-    Ok(())
+    assert_traces(&rt, rt.alloc(), ENDS)
 }
 
 /// In a Subr `endchar return` is last, and `endchar return return` isn't; in the glyph itself only End
 /// may follow.
+const BEHIND_THE_END: &[Case<'static>] = &[
+    (
+        &[(5, b"\x0e")],
+        b"\x90\x0a",
+        "- 5 [ ] 0\n- callsubr [ 5 ] 0 found last\n5 endchar [ ] 0 last\n",
+    ),
+    (
+        &[(5, b"\x0e\x0b")],
+        b"\x90\x0a",
+        "- 5 [ ] 0\n- callsubr [ 5 ] 0 found last\n5 endchar [ ] 0 last\n",
+    ),
+    (
+        &[(5, b"\x0e\x0b\x0b")],
+        b"\x90\x0a",
+        "- 5 [ ] 0\n- callsubr [ 5 ] 0 found last\n5 endchar [ ] 0\n",
+    ),
+    (
+        &[(5, b"\x0e\x09\x0b")],
+        b"\x90\x0a",
+        "- 5 [ ] 0\n- callsubr [ 5 ] 0 found last\n5 endchar [ ] 0\n",
+    ),
+    (
+        &[(5, b"\x0e\xff")],
+        b"\x90\x0a",
+        "- 5 [ ] 0\n- callsubr [ 5 ] 0 found last\n5 endchar [ ] 0\n",
+    ),
+    (&[], b"\x0e\x0b", "- endchar [ ] 0\n"),
+];
+
 #[test]
 fn tokens_behind_the_end(rt: HostRuntime) -> Result<(), Fail> {
-    let call = "- 5 [ ] 0\n- callsubr [ 5 ] 0 found last\n";
-    let table: [(&[u8], &str); 5] = [
-        (b"\x0e", "5 endchar [ ] 0 last\n"),
-        (b"\x0e\x0b", "5 endchar [ ] 0 last\n"),
-        (b"\x0e\x0b\x0b", "5 endchar [ ] 0\n"),
-        (b"\x0e\x09\x0b", "5 endchar [ ] 0\n"),
-        (b"\x0e\xff", "5 endchar [ ] 0\n"),
-    ];
-    for (subr, want) in &table {
-        let steps = steps_with(rt.alloc(), &[(5, *subr)], b"\x90\x0a")?;
-        let text = states_of(rt.alloc(), &steps)?;
-        assert_eq!(rt; text.as_str().strip_prefix(call), Some(*want));
-    }
-    let steps = steps_with(rt.alloc(), &[], b"\x0e\x0b")?;
-    assert_eq!(rt;
-        states_of(rt.alloc(), &steps)?.as_str(),
-        "- endchar [ ] 0\n"
-    );
-    Ok(())
+    assert_states(&rt, rt.alloc(), BEHIND_THE_END)
 }
 
 /// A call takes its number off, whether it is made or not.
+const FOUND: &[Case<'static>] = &[
+    (
+        RETURNS,
+        b"\x0a\x0e",
+        "- callsubr [ ] 0\n- endchar [ ] 0 last\n",
+    ),
+    (
+        RETURNS,
+        b"\x94\x0a\x0e",
+        "- 9 [ ] 0\n- callsubr [ 9 ] 0\n- endchar [ ] 0 last\n",
+    ),
+    (
+        RETURNS,
+        b"\x94\x90\x0a\x0e",
+        "- 9 [ ] 0\n- 5 [ 9 ] 0\n- callsubr [ 9 5 ] 0 found\n5 return [ 9 ] 0 last\n- endchar [ 9 ] 0 last\n",
+    ),
+    (
+        RETURNS,
+        b"\x95\x8d\x0c\x0c\x0a\x0e",
+        "- 10 [ ] 0\n- 2 [ 10 ] 0\n- div [ 10 2 ] 0\n- callsubr [ 5 ] 0 found\n5 return [ ] 0 last\n- endchar [ ] 0 last\n",
+    ),
+];
+
+/// A Subr that returns at once.
+const RETURNS: &[(u32, &[u8])] = &[(5, b"\x0b")];
+
 #[test]
 fn calls_that_are_found(rt: HostRuntime) -> Result<(), Fail> {
-    let table: [(&[u8], &str); 4] = [
-        (b"\x0a\x0e", "- callsubr [ ] 0\n- endchar [ ] 0 last\n"),
-        (
-            b"\x94\x0a\x0e",
-            "- 9 [ ] 0\n- callsubr [ 9 ] 0\n- endchar [ ] 0 last\n",
-        ),
-        (
-            b"\x94\x90\x0a\x0e",
-            "- 9 [ ] 0\n- 5 [ 9 ] 0\n- callsubr [ 9 5 ] 0 found\n5 return [ 9 ] 0 last\n- endchar [ 9 ] 0 last\n",
-        ),
-        (
-            b"\x95\x8d\x0c\x0c\x0a\x0e",
-            "- 10 [ ] 0\n- 2 [ 10 ] 0\n- div [ 10 2 ] 0\n- callsubr [ 5 ] 0 found\n5 return [ ] 0 last\n- endchar [ ] 0 last\n",
-        ),
-    ];
-    for (glyph, want) in &table {
-        let steps = steps_with(rt.alloc(), &[(5, b"\x0b")], *glyph)?;
-        assert_eq!(rt; states_of(rt.alloc(), &steps)?.as_str(), *want);
-    }
-    Ok(())
+    assert_states(&rt, rt.alloc(), FOUND)
 }

@@ -5,6 +5,7 @@ ghost use Rattle.std.specs.Prelude.{negsuc, pos, ◌≤ℤ◌};
 use super::token_text;
 use crate::{Command, tokens};
 use std::alloc::{AllocError, Global};
+use std::process::Abort;
 use std::test::Fail;
 
 /// The tokens of plain bytes, each behind a blank.
@@ -25,28 +26,36 @@ fn enciphered_text(alloc: Global, code: &[u8], len_iv: i8) -> Result<String, All
     Ok(text)
 }
 
-#[test]
-fn numbers_at_the_ends_of_each_form(rt: HostRuntime) -> Result<(), Fail> {
-    let table: [(&[u8], &str); 14] = [
-        (b"\x20", " -107 end"),
-        (b"\x8b", " 0 end"),
-        (b"\xf6", " 107 end"),
-        (b"\xf7\x00", " 108 end"),
-        (b"\xf7\xff", " 363 end"),
-        (b"\xfa\xff", " 1131 end"),
-        (b"\xfb\x00", " -108 end"),
-        (b"\xfb\xff", " -363 end"),
-        (b"\xfe\xff", " -1131 end"),
-        (b"\xff\x80\x00\x00\x00", " -2147483648 end"),
-        (b"\xff\xff\xff\xff\xff", " -1 end"),
-        (b"\xff\x00\x00\x00\x00", " 0 end"),
-        (b"\xff\x01\x02\x03\x04", " 16909060 end"),
-        (b"\xff\x7f\xff\xff\xff", " 2147483647 end"),
-    ];
-    for (code, want) in &table {
-        assert_eq!(rt; text_of(rt.alloc(), *code)?.as_str(), *want);
+/// The bytes have the tokens beside them.
+fn assert_texts(rt: &impl Abort, alloc: Global, cases: &[(&[u8], &str)]) -> Result<(), Fail> {
+    for (code, want) in cases {
+        let text = text_of(alloc, code)?;
+        assert_eq!(rt; text.as_str(), *want, "of {code:?}");
     }
     Ok(())
+}
+
+/// Numbers of each form, and their tokens.
+const NUMBERS: &[(&[u8], &str)] = &[
+    (b"\x20", " -107 end"),
+    (b"\x8b", " 0 end"),
+    (b"\xf6", " 107 end"),
+    (b"\xf7\x00", " 108 end"),
+    (b"\xf7\xff", " 363 end"),
+    (b"\xfa\xff", " 1131 end"),
+    (b"\xfb\x00", " -108 end"),
+    (b"\xfb\xff", " -363 end"),
+    (b"\xfe\xff", " -1131 end"),
+    (b"\xff\x80\x00\x00\x00", " -2147483648 end"),
+    (b"\xff\xff\xff\xff\xff", " -1 end"),
+    (b"\xff\x00\x00\x00\x00", " 0 end"),
+    (b"\xff\x01\x02\x03\x04", " 16909060 end"),
+    (b"\xff\x7f\xff\xff\xff", " 2147483647 end"),
+];
+
+#[test]
+fn numbers_at_the_ends_of_each_form(rt: HostRuntime) -> Result<(), Fail> {
+    assert_texts(&rt, rt.alloc(), NUMBERS)
 }
 
 /// Every byte below 32 other than 12, in the order of the bytes.
@@ -72,21 +81,20 @@ fn commands_behind_12(rt: HostRuntime) -> Result<(), Fail> {
     Ok(())
 }
 
+/// Bytes that break off inside a token, and their tokens.
+const CUT: &[(&[u8], &str)] = &[
+    (b"", " end"),
+    (b"\x0c", " cut end"),
+    (b"\xf7", " cut end"),
+    (b"\xfe", " cut end"),
+    (b"\xff", " cut end"),
+    (b"\xff\x00\x00\x00", " cut end"),
+    (b"\x0e\xfa\xff\xfa", " endchar 1131 cut end"),
+];
+
 #[test]
 fn bytes_that_break_off(rt: HostRuntime) -> Result<(), Fail> {
-    let table: [(&[u8], &str); 7] = [
-        (b"", " end"),
-        (b"\x0c", " cut end"),
-        (b"\xf7", " cut end"),
-        (b"\xfe", " cut end"),
-        (b"\xff", " cut end"),
-        (b"\xff\x00\x00\x00", " cut end"),
-        (b"\x0e\xfa\xff\xfa", " endchar 1131 cut end"),
-    ];
-    for (code, want) in &table {
-        assert_eq!(rt; text_of(rt.alloc(), *code)?.as_str(), *want);
-    }
-    Ok(())
+    assert_texts(&rt, rt.alloc(), CUT)
 }
 
 /// `0 500 hsbw endchar` behind no random byte and behind four, enciphered by another program.
