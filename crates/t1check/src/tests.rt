@@ -10,6 +10,7 @@ use crate::asked::Options;
 use crate::running::run;
 use crate::status::Status;
 use std::alloc::{AllocError, Global};
+use std::process::Abort;
 use t1_io::{In, Out};
 use t1_samples::{Charstrings, FontFile, Sample, TRAILER};
 
@@ -78,4 +79,11 @@ fn is_clean(alloc: Global, file: &[u8]) -> bool {
 /// Whether the program refuses a file with this line alone.
 fn is_refused(alloc: Global, file: &[u8], line: &str) -> bool {
     answer_to(alloc, file).is(Status::Refused, b"", line.as_bytes())
+}
+
+/// The program refuses each file with the line beside it alone.
+fn assert_refusals(rt: &impl Abort, alloc: Global, cases: &[(&[u8], &str)]) {
+    for (file, line) in cases {
+        assert!(rt; is_refused(alloc, file, line), "{line} of {file:?}");
+    }
 }

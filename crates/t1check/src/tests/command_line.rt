@@ -1,6 +1,8 @@
 use crate::asked::UsageError;
 use crate::command_line::options;
 use std::alloc::Global;
+use std::process::Abort;
+use std::test::Fail;
 
 const HELP: &str = "\
 Lists every rule of the book that an Adobe Type 1 font (PFA or PFB) breaks. So far
@@ -58,87 +60,100 @@ fn gives(alloc: Global, words: &[&str], (after, max, trace, file): Given<'_>) ->
         && text(&taken.file) == file
 }
 
+/// The words give the options beside them.
+fn assert_given(rt: &impl Abort, alloc: Global, cases: &[(&[&str], Given<'_>)]) {
+    for (words, given) in cases {
+        assert!(rt; gives(alloc, words, *given), "of {words:?}");
+    }
+}
+
 /// The number of lines that are left out, and the file's name, which may be empty.
+const WORDS: &[(&[&str], Given<'static>)] = &[
+    (&["t1check"], (0, None, None, None)),
+    (&[], (0, None, None, None)),
+    (&["t1check", "font.pfb"], (0, None, None, Some("font.pfb"))),
+    (&["t1check", "-"], (0, None, None, Some("-"))),
+    (&["t1check", "--after", "1"], (1, None, None, None)),
+    (
+        &["t1check", "font.pfb", "--after=007"],
+        (7, None, None, Some("font.pfb")),
+    ),
+    (
+        &["t1check", "--after", "+5", "--", "--help"],
+        (5, None, None, Some("--help")),
+    ),
+    (
+        &["t1check", "--after", "18446744073709551615"],
+        (u64::MAX, None, None, None),
+    ),
+    (
+        &["t1check", "--after", "16", ""],
+        (16, None, None, Some("")),
+    ),
+];
+
 #[test]
 fn takes_words(rt: HostRuntime) {
-    let table: [(&[&str], u64, Option<&str>); 9] = [
-        (&["t1check"], 0, None),
-        (&[], 0, None),
-        (&["t1check", "font.pfb"], 0, Some("font.pfb")),
-        (&["t1check", "-"], 0, Some("-")),
-        (&["t1check", "--after", "1"], 1, None),
-        (&["t1check", "font.pfb", "--after=007"], 7, Some("font.pfb")),
-        (
-            &["t1check", "--after", "+5", "--", "--help"],
-            5,
-            Some("--help"),
-        ),
-        (
-            &["t1check", "--after", "18446744073709551615"],
-            u64::MAX,
-            None,
-        ),
-        (&["t1check", "--after", "16", ""], 16, Some("")),
-    ];
-    for (words, after, file) in table {
-        assert!(rt;
-            gives(rt.alloc(), words, (after, None, None, file)),
-            "of {words:?}"
-        );
-    }
+    assert_given(&rt, rt.alloc(), WORDS);
 }
 
 /// The name of a glyph, which may be empty, and the greatest number of lines.
+const NAMES_AND_NUMBERS: &[(&[&str], Given<'static>)] = &[
+    (
+        &["t1check", "--trace", "A", "font.pfb"],
+        (0, None, Some("A"), Some("font.pfb")),
+    ),
+    (
+        &["t1check", "--trace=", "font.pfb"],
+        (0, None, Some(""), Some("font.pfb")),
+    ),
+    (
+        &["t1check", "--max", "1", "--trace", "a.b"],
+        (0, Some(1), Some("a.b"), None),
+    ),
+    (&["t1check", "--max", "0"], (0, Some(0), None, None)),
+    (
+        &["t1check", "--max=+07", "font.pfb"],
+        (0, Some(7), None, Some("font.pfb")),
+    ),
+    (
+        &["t1check", "--after", "1", "--max", "2"],
+        (1, Some(2), None, None),
+    ),
+    (
+        &["t1check", "--max", "2", "--after", "1"],
+        (1, Some(2), None, None),
+    ),
+    (
+        &["t1check", "--max", "18446744073709551615"],
+        (0, Some(u64::MAX), None, None),
+    ),
+];
+
 #[test]
 fn takes_names_of_glyphs_and_greatest_numbers(rt: HostRuntime) {
-    let file = Some("font.pfb");
-    let table: [(&[&str], Given); 8] = [
-        (
-            &["t1check", "--trace", "A", "font.pfb"],
-            (0, None, Some("A"), file),
-        ),
-        (
-            &["t1check", "--trace=", "font.pfb"],
-            (0, None, Some(""), file),
-        ),
-        (
-            &["t1check", "--max", "1", "--trace", "a.b"],
-            (0, Some(1), Some("a.b"), None),
-        ),
-        (&["t1check", "--max", "0"], (0, Some(0), None, None)),
-        (
-            &["t1check", "--max=+07", "font.pfb"],
-            (0, Some(7), None, file),
-        ),
-        (
-            &["t1check", "--after", "1", "--max", "2"],
-            (1, Some(2), None, None),
-        ),
-        (
-            &["t1check", "--max", "2", "--after", "1"],
-            (1, Some(2), None, None),
-        ),
-        (
-            &["t1check", "--max", "18446744073709551615"],
-            (0, Some(u64::MAX), None, None),
-        ),
-    ];
-    for (words, given) in table {
-        assert!(rt; gives(rt.alloc(), words, given), "of {words:?}");
+    assert_given(&rt, rt.alloc(), NAMES_AND_NUMBERS);
+}
+
+/// The text of help that words ask for.
+fn help_of(alloc: Global, words: &[&str]) -> Result<String, Fail> {
+    match options(alloc, words) {
+        Err(UsageError::Help(text)) => Ok(text),
+        _ => Err(Fail::from("no help")),
     }
 }
 
+/// Words that ask for help.
+const ASK_HELP: &[&[&str]] = &[
+    &["t1check", "--help"],
+    &["t1check", "-h"],
+    &["t1check", "font.pfb", "--help"],
+];
+
 #[test]
-fn gives_help(rt: HostRuntime) {
-    let table: [&[&str]; 3] = [
-        &["t1check", "--help"],
-        &["t1check", "-h"],
-        &["t1check", "font.pfb", "--help"],
-    ];
-    for words in table {
-        match options(rt.alloc(), words) {
-            Err(UsageError::Help(text)) => assert_eq!(rt; text.as_str(), HELP, "of {words:?}"),
-            _ => panic!(rt; "no help of {words:?}"),
-        }
+fn gives_help(rt: HostRuntime) -> Result<(), Fail> {
+    for words in ASK_HELP {
+        assert_eq!(rt; help_of(rt.alloc(), words)?.as_str(), HELP, "of {words:?}");
     }
+    Ok(())
 }

@@ -100,50 +100,68 @@ fn writer(alloc: Global, fails_at_write: u64, fails_at_flush: u64) -> Writes {
     }
 }
 
+/// Whether a run on a file of `whole` reads ends at the read that fails, or at the end of the file.
+fn ends_at_read(alloc: Global, file: &[u8], whole: u64, fails_at: u64) -> bool {
+    let mut reader = Reads {
+        left: file,
+        count: 0,
+        fails_at,
+    };
+    let ends = run_on(alloc, &mut reader);
+    let wanted = if fails_at > whole {
+        (Status::Faults, true, false)
+    } else {
+        (Status::Failed, false, true)
+    };
+    ends == wanted && reader.count == fails_at.min(whole)
+}
+
 /// The file is read part by part, and the last read finds its end; where read k fails, k are made.
 #[test]
 fn a_read_that_fails_once_ends_the_run(rt: HostRuntime) -> Result<(), Fail> {
     let file = ended_by(rt.alloc(), b"")?;
     let whole = (file.len() / BYTES_PER_READ + 2) as u64;
     for fails_at in 1..whole + 2 {
-        let mut reader = Reads {
-            left: file.as_slice(),
-            count: 0,
-            fails_at,
-        };
-        let ends = run_on(rt.alloc(), &mut reader);
-        let wanted = if fails_at > whole {
-            (Status::Faults, true, false)
-        } else {
-            (Status::Failed, false, true)
-        };
         assert!(rt;
-            ends == wanted && reader.count == fails_at.min(whole),
+            ends_at_read(rt.alloc(), file.as_slice(), whole, fails_at),
             "at {fails_at}"
         );
     }
     Ok(())
 }
 
+/// Whether a write that fails ends the run with a front of the report.
+fn ends_at_write(alloc: Global, file: &[u8], place: u64) -> bool {
+    let report = NO_END_REPORT.as_bytes();
+    let mut output = writer(alloc, place, 0);
+    let (status, told) = run_into(alloc, file, &mut output);
+    let is_told = told.as_slice() == b"t1check: write failed\n".as_slice();
+    let is_front = report.starts_with(output.text.as_slice()) && output.text.len() < report.len();
+    let is_last = output.writes == place && output.flushes == 0;
+    status == Status::Failed && is_told && is_front && is_last
+}
+
 /// Each write of a line fails in turn: what was written before it went out, and nothing is flushed.
 #[test]
 fn a_write_that_fails_once_ends_the_run(rt: HostRuntime) -> Result<(), Fail> {
     let file = ended_by(rt.alloc(), b"")?;
-    let report = NO_END_REPORT.as_bytes();
     for place in 1..12u64 {
-        let mut output = writer(rt.alloc(), place, 0);
-        let (status, told) = run_into(rt.alloc(), file.as_slice(), &mut output);
         assert!(rt;
-            status == Status::Failed && told.as_slice() == b"t1check: write failed\n".as_slice(),
-            "at {place}"
-        );
-        assert!(rt; output.writes == place && output.flushes == 0, "at {place}");
-        assert!(rt;
-            report.starts_with(output.text.as_slice()) && output.text.len() < report.len(),
+            ends_at_write(rt.alloc(), file.as_slice(), place),
             "at {place}"
         );
     }
     Ok(())
+}
+
+/// Whether the whole report is written and flushed once, and a flush that fails is told.
+fn is_flushed_once(alloc: Global, file: &[u8], place: u64) -> bool {
+    let mut output = writer(alloc, 0, place);
+    let (status, told) = run_into(alloc, file, &mut output);
+    let fails = place == 1;
+    let is_whole = output.text.as_slice() == NO_END_REPORT.as_bytes();
+    let is_told = (status == Status::Failed) == fails && told.is_empty() != fails;
+    is_told && is_whole && output.flushes == 1
 }
 
 /// The flush reaches the writer, once; where it fails the whole text went out, and that is told.
@@ -151,15 +169,8 @@ fn a_write_that_fails_once_ends_the_run(rt: HostRuntime) -> Result<(), Fail> {
 fn a_report_is_flushed_once(rt: HostRuntime) -> Result<(), Fail> {
     let file = ended_by(rt.alloc(), b"")?;
     for place in 0..3u64 {
-        let mut output = writer(rt.alloc(), 0, place);
-        let (status, told) = run_into(rt.alloc(), file.as_slice(), &mut output);
-        let fails = place == 1;
         assert!(rt;
-            (status == Status::Failed) == fails && told.is_empty() != fails,
-            "at {place}"
-        );
-        assert!(rt;
-            output.text.as_slice() == NO_END_REPORT.as_bytes() && output.flushes == 1,
+            is_flushed_once(rt.alloc(), file.as_slice(), place),
             "at {place}"
         );
     }
