@@ -6,9 +6,9 @@ use std::test::Fail;
 
 const HELP: &str = "\
 Lists every rule of the book that an Adobe Type 1 font (PFA or PFB) breaks. So far
-46 of 69 rules are checked: those on the file, on the font's dictionaries, and on
-the arguments, calls and paths of charstrings. Those on stems, hint replacement,
-flex, OtherSubrs and seac aren't checked yet.
+62 of 69 rules are checked: those on the file, on the font's dictionaries, and on
+the arguments, calls, paths, stems, hint replacement, flex and OtherSubrs of
+charstrings. Those on seac aren't checked yet.
 
 Usage: t1check [OPTIONS] [FILE]
 
