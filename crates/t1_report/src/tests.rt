@@ -1,11 +1,14 @@
 mod arguments;
 mod assembly;
 mod calls;
+mod flex;
 mod limit;
 mod lines;
 mod order;
+mod othersubrs;
 mod paths;
 mod places;
+mod stems;
 
 use crate::{Fault, report, write_fault};
 use assembly::charstring;

@@ -22,7 +22,7 @@ fn lines_of_a_long_glyph(alloc: Global, times: usize, end: &str) -> Result<Strin
 }
 
 /// Step 100,000 is checked, and the next one isn't, however the glyph goes on: 3 + 12 * 8333 = 99,999 steps
-/// stand in front of the end.
+/// stand in front of the end. A replacement at step 100,000 breaks nothing.
 #[test]
 fn glyphs_past_the_limit(rt: HostRuntime) -> Result<(), Fail> {
     for (times, end, lines) in [
@@ -39,6 +39,16 @@ fn glyphs_past_the_limit(rt: HostRuntime) -> Result<(), Fail> {
 2: glyph A - 100001 L01 step limit\n",
         ),
         (8_331, "endchar", "1: glyph A 5 100001 L01 step limit\n"),
+        (
+            8_329,
+            "5 hmoveto 5 hmoveto 5 hmoveto 5 hmoveto 5 1 3 callothersubr endchar",
+            "1: glyph A - 100000 R01 no pop after hint replacement\n",
+        ),
+        (
+            8_329,
+            "5 hmoveto 5 hmoveto 5 hmoveto 5 hmoveto dotsection 5 1 3 callothersubr endchar",
+            "1: glyph A - 100001 L01 step limit\n",
+        ),
     ] {
         let found = lines_of_a_long_glyph(rt.alloc(), times, end)?;
         assert_eq!(rt; found.as_str(), lines, "{times} {end}");

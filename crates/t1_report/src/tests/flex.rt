@@ -1,0 +1,601 @@
+//! Flex: each rule is broken, and then just isn't.
+
+use super::{assert_lines, lines_with};
+use std::alloc::Global;
+use std::process::Abort;
+use std::test::Fail;
+
+/// Subr 4 gives seven points of a flex, each behind a move by 1 to the right, and Subr 5 gives one.
+pub(super) const POINTS: &str = "\
+4: 1 hmoveto 0 2 callothersubr 1 hmoveto 0 2 callothersubr 1 hmoveto 0 2 callothersubr \
+1 hmoveto 0 2 callothersubr 1 hmoveto 0 2 callothersubr 1 hmoveto 0 2 callothersubr \
+1 hmoveto 0 2 callothersubr return |\
+5: 1 hmoveto 0 2 callothersubr return";
+
+/// A font with these Subrs and a glyph A gives the lines beside it.
+fn assert_flex_lines(rt: &impl Abort, alloc: Global, cases: &[(&str, &str)]) -> Result<(), Fail> {
+    for (glyph, lines) in cases {
+        let found = lines_with(alloc, POINTS, glyph)?;
+        assert_eq!(rt; found.as_str(), *lines, "A: {glyph}");
+    }
+    Ok(())
+}
+
+/// A start inside a flex begins the count of its points anew. One end ends the flex, however often it was
+/// started.
+const STARTS: &[(&str, &str)] = &[
+    (
+        "0 500 hsbw 0 hmoveto 0 1 callothersubr 4 callsubr 50 7 0 3 0 callothersubr closepath endchar",
+        "",
+    ),
+    (
+        "0 500 hsbw 0 hmoveto 0 1 callothersubr 0 1 callothersubr 4 callsubr 50 7 0 3 0 callothersubr \
+         closepath endchar",
+        "1: glyph A - 11 X01 flex inside flex\n",
+    ),
+    (
+        "0 500 hsbw 0 hmoveto 0 1 callothersubr 4 callsubr 50 7 0 3 0 callothersubr \
+         0 1 callothersubr 4 callsubr 50 14 0 3 0 callothersubr closepath endchar",
+        "",
+    ),
+    (
+        "0 500 hsbw 0 hmoveto 0 1 callothersubr 5 callsubr 5 callsubr 5 callsubr \
+         0 1 callothersubr 4 callsubr 50 10 0 3 0 callothersubr closepath endchar",
+        "1: glyph A - 35 X01 flex inside flex\n",
+    ),
+    (
+        "0 500 hsbw 0 hmoveto 0 1 callothersubr 5 callsubr 5 callsubr 5 callsubr 0 1 callothersubr \
+         5 callsubr 5 callsubr 5 callsubr 5 callsubr 50 7 0 3 0 callothersubr closepath endchar",
+        "1: glyph A - 35 X01 flex inside flex\n\
+2: glyph A - 73 X04 flex points are not seven pairs\n",
+    ),
+    (
+        "0 500 hsbw 0 hmoveto 0 1 callothersubr 7 1 1 callothersubr 4 callsubr 50 7 0 3 0 callothersubr \
+         closepath endchar",
+        "1: glyph A - 12 O03 wrong count for this OtherSubr\n",
+    ),
+    (
+        "0 500 hsbw 0 hmoveto 0 1 callothersubr 0 1 callothersubr 4 callsubr \
+         50 7 0 3 0 callothersubr 50 7 0 3 0 callothersubr closepath endchar",
+        "1: glyph A - 11 X01 flex inside flex\n\
+2: glyph A - 61 X02 flex call outside flex\n",
+    ),
+];
+
+/// No other rule on flex speaks of a point or an end outside one. An OtherSubr 0 with two arguments is no
+/// end.
+const POINTS_AND_ENDS_OUTSIDE: &[(&str, &str)] = &[
+    (
+        "0 500 hsbw 0 2 callothersubr endchar",
+        "1: glyph A - 6 X02 flex call outside flex\n",
+    ),
+    (
+        "0 500 hsbw 50 9 9 3 0 callothersubr endchar",
+        "1: glyph A - 9 X02 flex call outside flex\n",
+    ),
+    (
+        "0 500 hsbw 0 hmoveto 0 2 callothersubr 0 1 callothersubr 4 callsubr 50 7 0 3 0 callothersubr \
+         closepath endchar",
+        "1: glyph A - 8 X02 flex call outside flex\n",
+    ),
+    (
+        "0 500 hsbw 0 hmoveto 0 1 callothersubr 4 callsubr 50 7 0 3 0 callothersubr 0 2 callothersubr \
+         closepath endchar",
+        "1: glyph A - 55 X02 flex call outside flex\n",
+    ),
+    (
+        "0 500 hsbw 0 hmoveto 0 1 callothersubr 4 callsubr 7 0 2 0 callothersubr \
+         50 7 0 3 0 callothersubr closepath endchar",
+        "1: glyph A - 51 O03 wrong count for this OtherSubr\n",
+    ),
+];
+
+/// Each clearing command breaks the rule but the three moves. Numbers, calls, div, pop and what isn't known
+/// are no clearing commands, and neither is the end of a glyph's bytes.
+const COMMANDS_INSIDE_FLEX: &[(&str, &str)] = &[
+    (
+        "0 500 hsbw 0 hmoveto 0 1 callothersubr dotsection 10 20 hstem 10 20 vstem \
+         40 20 80 20 120 20 hstem3 40 20 80 20 120 20 vstem3 endchar",
+        "1: glyph A - 9 X03 command inside flex\n\
+2: glyph A - 12 X03 command inside flex\n\
+3: glyph A - 15 X03 command inside flex\n\
+4: glyph A - 22 X03 command inside flex\n\
+5: glyph A - 29 X03 command inside flex\n\
+6: glyph A - 30 X03 command inside flex\n",
+    ),
+    (
+        "0 500 hsbw 0 hmoveto 0 1 callothersubr 5 5 rlineto 5 hlineto 5 vlineto 1 2 3 4 5 6 rrcurveto \
+         1 2 3 4 vhcurveto 1 2 3 4 hvcurveto closepath endchar",
+        "1: glyph A - 11 X03 command inside flex\n\
+2: glyph A - 13 X03 command inside flex\n\
+3: glyph A - 15 X03 command inside flex\n\
+4: glyph A - 22 X03 command inside flex\n\
+5: glyph A - 27 X03 command inside flex\n\
+6: glyph A - 32 X03 command inside flex\n\
+7: glyph A - 33 X03 command inside flex\n\
+8: glyph A - 34 X03 command inside flex\n",
+    ),
+    (
+        "0 500 hsbw 0 hmoveto 0 1 callothersubr 0 0 setcurrentpoint 0 500 hsbw 0 0 500 0 sbw endchar",
+        "1: glyph A - 11 X03 command inside flex\n\
+2: glyph A - 11 X06 setcurrentpoint outside flex\n\
+3: glyph A - 14 W02 hsbw or sbw again\n\
+4: glyph A - 14 X03 command inside flex\n\
+5: glyph A - 19 W02 hsbw or sbw again\n\
+6: glyph A - 19 X03 command inside flex\n\
+7: glyph A - 20 X03 command inside flex\n",
+    ),
+    (
+        "0 500 hsbw 0 hmoveto 0 1 callothersubr 0 0 0 65 65 seac",
+        "1: glyph A - 14 X03 command inside flex\n",
+    ),
+    (
+        "0 500 hsbw 0 hmoveto 0 1 callothersubr 1 0 rmoveto 0 2 callothersubr 0 vmoveto 0 2 callothersubr \
+         4 2 div hmoveto 0 2 callothersubr 5 callsubr 5 callsubr 0 12 callothersubr 5 callsubr 5 callsubr \
+         50 7 0 3 0 callothersubr closepath endchar",
+        "",
+    ),
+    (
+        "0 500 hsbw 0 hmoveto 0 1 callothersubr 5 1 3 callothersubr pop callsubr 5 callsubr 5 callsubr \
+         5 callsubr 5 callsubr 5 callsubr 5 callsubr 50 7 0 3 0 callothersubr closepath endchar",
+        "",
+    ),
+    (
+        "0 500 hsbw 0 hmoveto 0 1 callothersubr #15 4 callsubr 50 7 0 3 0 callothersubr closepath endchar",
+        "1: glyph A - 9 C03 unknown command\n",
+    ),
+    (
+        "0 500 hsbw 0 hmoveto 0 1 callothersubr",
+        "1: glyph A - 9 GE01 no endchar\n",
+    ),
+];
+
+#[test]
+fn flexes(rt: HostRuntime) -> Result<(), Fail> {
+    assert_flex_lines(&rt, rt.alloc(), STARTS)?;
+    assert_flex_lines(&rt, rt.alloc(), POINTS_AND_ENDS_OUTSIDE)?;
+    assert_flex_lines(&rt, rt.alloc(), COMMANDS_INSIDE_FLEX)
+}
+
+/// One move stands in front of each point. Where one is missing or too many, each later point is faulted as
+/// well, and the end.
+const PAIRS: &[(&str, &str)] = &[
+    (
+        "0 500 hsbw 0 hmoveto 0 1 callothersubr 5 callsubr 5 callsubr 5 callsubr 5 callsubr 5 callsubr \
+         5 callsubr 50 6 0 3 0 callothersubr closepath endchar",
+        "1: glyph A - 62 X04 flex points are not seven pairs\n",
+    ),
+    (
+        "0 500 hsbw 0 hmoveto 0 1 callothersubr 4 callsubr 5 callsubr 50 8 0 3 0 callothersubr \
+         closepath endchar",
+        "1: glyph A - 60 X04 flex points are not seven pairs\n",
+    ),
+    (
+        "0 500 hsbw 0 hmoveto 0 1 callothersubr 50 0 0 3 0 callothersubr closepath endchar",
+        "1: glyph A - 14 X04 flex points are not seven pairs\n",
+    ),
+    (
+        "0 500 hsbw 0 hmoveto 0 1 callothersubr 5 callsubr 5 callsubr 5 callsubr 5 callsubr 5 callsubr \
+         5 callsubr 1 hmoveto 1 hmoveto 0 2 callothersubr 50 8 0 3 0 callothersubr closepath endchar",
+        "1: glyph A - 63 X04 flex points are not seven pairs\n\
+2: glyph A - 69 X04 flex points are not seven pairs\n",
+    ),
+    (
+        "0 500 hsbw 0 hmoveto 0 1 callothersubr 1 hmoveto 4 callsubr 50 8 0 3 0 callothersubr \
+         closepath endchar",
+        "1: glyph A 4 17 X04 flex points are not seven pairs\n\
+2: glyph A 4 22 X04 flex points are not seven pairs\n\
+3: glyph A 4 27 X04 flex points are not seven pairs\n\
+4: glyph A 4 32 X04 flex points are not seven pairs\n\
+5: glyph A 4 37 X04 flex points are not seven pairs\n\
+6: glyph A 4 42 X04 flex points are not seven pairs\n\
+7: glyph A 4 47 X04 flex points are not seven pairs\n\
+8: glyph A - 54 X04 flex points are not seven pairs\n",
+    ),
+    (
+        "0 500 hsbw 0 hmoveto 0 1 callothersubr 0 2 callothersubr 5 callsubr 5 callsubr 5 callsubr \
+         5 callsubr 5 callsubr 5 callsubr 50 6 0 3 0 callothersubr closepath endchar",
+        "1: glyph A - 11 X04 flex points are not seven pairs\n\
+2: glyph A 5 18 X04 flex points are not seven pairs\n\
+3: glyph A 5 26 X04 flex points are not seven pairs\n\
+4: glyph A 5 34 X04 flex points are not seven pairs\n\
+5: glyph A 5 42 X04 flex points are not seven pairs\n\
+6: glyph A 5 50 X04 flex points are not seven pairs\n\
+7: glyph A 5 58 X04 flex points are not seven pairs\n\
+8: glyph A - 65 X04 flex points are not seven pairs\n",
+    ),
+    (
+        "0 500 hsbw 0 hmoveto 0 1 callothersubr 4 callsubr 1 hmoveto 50 8 0 3 0 callothersubr \
+         closepath endchar",
+        "1: glyph A - 54 X04 flex points are not seven pairs\n",
+    ),
+    (
+        "0 500 hsbw 0 hmoveto 0 1 callothersubr 4 callsubr 0 2 callothersubr 50 7 0 3 0 callothersubr \
+         closepath endchar",
+        "1: glyph A - 49 X04 flex points are not seven pairs\n\
+2: glyph A - 55 X04 flex points are not seven pairs\n",
+    ),
+    (
+        "0 500 hsbw 0 hmoveto 0 1 callothersubr 5 callsubr 5 callsubr 5 callsubr 5 callsubr 5 callsubr \
+         5 callsubr 1 hmoveto 50 7 0 3 0 callothersubr closepath endchar",
+        "1: glyph A - 64 X04 flex points are not seven pairs\n",
+    ),
+    (
+        "0 500 hsbw 0 hmoveto 1 hmoveto 1 hmoveto 0 1 callothersubr 4 callsubr 50 9 0 3 0 callothersubr \
+         closepath 1 hmoveto endchar",
+        "",
+    ),
+    (
+        "0 500 hsbw 0 hmoveto 0 1 callothersubr 5 callsubr 5 callsubr 5 callsubr 5 callsubr 5 callsubr \
+         5 callsubr 50 6 0 3 0 callothersubr 0 1 callothersubr 4 callsubr 50 13 0 3 0 callothersubr \
+         closepath endchar",
+        "1: glyph A - 62 X04 flex points are not seven pairs\n",
+    ),
+];
+
+/// The end of a flex names the current point by its second and third arguments, exactly, and its first may
+/// be anything. They aren't kept within 32000, and neither is the point.
+const ENDS_OF_FLEX: &[(&str, &str)] = &[
+    (
+        "0 500 hsbw 0 hmoveto 0 1 callothersubr 4 callsubr 50 8 0 3 0 callothersubr closepath endchar",
+        "1: glyph A - 52 X05 flex ends elsewhere\n",
+    ),
+    (
+        "0 500 hsbw 0 hmoveto 0 1 callothersubr 4 callsubr 50 7 1 3 0 callothersubr closepath endchar",
+        "1: glyph A - 52 X05 flex ends elsewhere\n",
+    ),
+    (
+        "0 500 hsbw 0 hmoveto 0 1 callothersubr 4 callsubr -1 7 0 3 0 callothersubr closepath endchar",
+        "",
+    ),
+    (
+        "0 500 hsbw 0 hmoveto 0 1 callothersubr 4 callsubr 50 458753 65536 div 0 3 0 callothersubr \
+         closepath endchar",
+        "1: glyph A - 54 X05 flex ends elsewhere\n",
+    ),
+    (
+        "0 500 hsbw 31993 hmoveto 0 1 callothersubr 4 callsubr 50 32001 0 3 0 callothersubr \
+         closepath endchar",
+        "1: glyph A - 52 X05 flex ends elsewhere\n",
+    ),
+    (
+        "0 500 hsbw 31993 hmoveto 0 1 callothersubr 4 callsubr 50 32000 0 3 0 callothersubr \
+         closepath endchar",
+        "",
+    ),
+    (
+        "0 500 hsbw 32000 hmoveto 0 1 callothersubr 4 callsubr 50 32007 0 3 0 callothersubr \
+         closepath endchar",
+        "",
+    ),
+    (
+        "0 500 hsbw 32000 hmoveto 0 1 callothersubr 4 callsubr 50 32000 0 3 0 callothersubr \
+         closepath endchar",
+        "1: glyph A - 52 X05 flex ends elsewhere\n",
+    ),
+];
+
+/// hsbw, sbw and setcurrentpoint set the point wherever they stand. Arguments are kept within 32000, and are
+/// those at the bottom of the stack.
+const POINTS_OF_FAULTY_COMMANDS: &[(&str, &str)] = &[
+    (
+        "0 500 hsbw 0 hmoveto 20 30 setcurrentpoint 0 1 callothersubr 4 callsubr 50 27 30 3 0 callothersubr \
+         closepath endchar",
+        "1: glyph A - 8 X06 setcurrentpoint outside flex\n",
+    ),
+    (
+        "0 500 hsbw 0 hmoveto 20 30 setcurrentpoint 0 1 callothersubr 4 callsubr 50 7 0 3 0 callothersubr \
+         closepath endchar",
+        "1: glyph A - 8 X06 setcurrentpoint outside flex\n\
+2: glyph A - 55 X05 flex ends elsewhere\n",
+    ),
+    (
+        "0 500 hsbw 0 hmoveto 0 1 callothersubr 4 callsubr 50 8 0 3 0 callothersubr pop pop setcurrentpoint \
+         0 1 callothersubr 4 callsubr 50 15 0 3 0 callothersubr closepath endchar",
+        "1: glyph A - 52 X05 flex ends elsewhere\n",
+    ),
+    (
+        "0 500 hsbw 3 4 rmoveto 20 500 hsbw 0 1 callothersubr 4 callsubr 50 27 0 3 0 callothersubr \
+         closepath endchar",
+        "1: glyph A - 9 W02 hsbw or sbw again\n",
+    ),
+    (
+        "0 500 hsbw 3 4 rmoveto hsbw 0 1 callothersubr 4 callsubr 50 7 0 3 0 callothersubr closepath endchar",
+        "1: glyph A - 7 C04 too few arguments\n\
+2: glyph A - 7 W02 hsbw or sbw again\n",
+    ),
+    (
+        "0 500 hsbw 3 4 rmoveto 20 setcurrentpoint 0 1 callothersubr 4 callsubr 50 27 0 3 0 callothersubr \
+         closepath endchar",
+        "1: glyph A - 8 C04 too few arguments\n\
+2: glyph A - 8 X06 setcurrentpoint outside flex\n",
+    ),
+    (
+        "0 500 hsbw 3 4 rmoveto 20 30 500 0 sbw 0 1 callothersubr 4 callsubr 50 27 30 3 0 callothersubr \
+         closepath endchar",
+        "1: glyph A - 11 W02 hsbw or sbw again\n",
+    ),
+    (
+        "0 500 hsbw 40000 hmoveto 0 1 callothersubr 4 callsubr 50 32007 0 3 0 callothersubr \
+         closepath endchar",
+        "1: glyph A - 5 C07 number out of range\n",
+    ),
+    (
+        "0 500 hsbw 3 9 hmoveto 0 1 callothersubr 4 callsubr 50 10 0 3 0 callothersubr closepath endchar",
+        "1: glyph A - 6 C05 too many arguments\n",
+    ),
+    (
+        "0 500 hsbw 3 rmoveto 0 1 callothersubr 4 callsubr 50 10 0 3 0 callothersubr closepath endchar",
+        "1: glyph A - 5 C04 too few arguments\n",
+    ),
+    (
+        "0 500 hsbw 0 hmoveto 5 #15 0 1 callothersubr 4 callsubr 50 7 0 3 0 callothersubr closepath endchar",
+        "1: glyph A - 7 C03 unknown command\n",
+    ),
+];
+
+/// Two pops, right behind the end of a flex, stand right in front of setcurrentpoint. An end outside a flex
+/// serves as well, and has X02 already.
+const SETTINGS_OF_THE_POINT: &[(&str, &str, &str)] = &[
+    (
+        "",
+        "0 500 hsbw 0 0 setcurrentpoint endchar",
+        "1: glyph A - 6 X06 setcurrentpoint outside flex\n",
+    ),
+    (
+        POINTS,
+        "0 500 hsbw 0 hmoveto 0 1 callothersubr 4 callsubr 50 7 0 3 0 callothersubr \
+         pop pop setcurrentpoint closepath endchar",
+        "",
+    ),
+    (
+        POINTS,
+        "0 500 hsbw 0 hmoveto 0 1 callothersubr 4 callsubr 50 7 0 3 0 callothersubr \
+         pop setcurrentpoint closepath endchar",
+        "1: glyph A - 54 C04 too few arguments\n\
+2: glyph A - 54 X06 setcurrentpoint outside flex\n",
+    ),
+    (
+        POINTS,
+        "0 500 hsbw 0 hmoveto 0 1 callothersubr 4 callsubr 50 7 0 3 0 callothersubr \
+         pop 0 setcurrentpoint closepath endchar",
+        "1: glyph A - 55 X06 setcurrentpoint outside flex\n",
+    ),
+    (
+        POINTS,
+        "0 500 hsbw 0 hmoveto 0 1 callothersubr 4 callsubr 50 7 0 3 0 callothersubr \
+         pop pop pop setcurrentpoint closepath endchar",
+        "1: glyph A - 55 O04 pop of nothing\n\
+2: glyph A - 56 X06 setcurrentpoint outside flex\n",
+    ),
+    (
+        POINTS,
+        "0 500 hsbw 0 hmoveto 0 1 callothersubr 4 callsubr 50 7 0 3 0 callothersubr \
+         9 pop pop setcurrentpoint closepath endchar",
+        "1: glyph A - 56 C05 too many arguments\n\
+2: glyph A - 56 X06 setcurrentpoint outside flex\n",
+    ),
+    (
+        POINTS,
+        "0 500 hsbw 0 hmoveto 0 1 callothersubr 4 callsubr 50 7 0 3 0 callothersubr \
+         pop pop 0 12 callothersubr setcurrentpoint closepath endchar",
+        "1: glyph A - 58 X06 setcurrentpoint outside flex\n",
+    ),
+    (
+        POINTS,
+        "0 500 hsbw 0 hmoveto 0 1 callothersubr 4 callsubr 50 7 0 3 0 callothersubr \
+         pop pop setcurrentpoint 7 0 setcurrentpoint closepath endchar",
+        "1: glyph A - 58 X06 setcurrentpoint outside flex\n",
+    ),
+    (
+        "",
+        "0 500 hsbw 7 0 2 14 callothersubr pop pop setcurrentpoint endchar",
+        "1: glyph A - 8 O01 unknown OtherSubr\n\
+2: glyph A - 11 X06 setcurrentpoint outside flex\n",
+    ),
+    (
+        "",
+        "0 500 hsbw 7 0 2 0 callothersubr pop pop setcurrentpoint endchar",
+        "1: glyph A - 8 O03 wrong count for this OtherSubr\n\
+2: glyph A - 11 X06 setcurrentpoint outside flex\n",
+    ),
+    (
+        "",
+        "0 500 hsbw 50 0 0 3 0 callothersubr pop pop setcurrentpoint endchar",
+        "1: glyph A - 9 X02 flex call outside flex\n",
+    ),
+    (
+        "0: 3 0 callothersubr pop pop return",
+        "0 500 hsbw 50 0 0 0 callsubr setcurrentpoint endchar",
+        "1: glyph A 0 11 X02 flex call outside flex\n\
+2: glyph A - 15 X06 setcurrentpoint outside flex\n",
+    ),
+];
+
+#[test]
+fn ends_of_flexes(rt: HostRuntime) -> Result<(), Fail> {
+    assert_flex_lines(&rt, rt.alloc(), PAIRS)?;
+    assert_flex_lines(&rt, rt.alloc(), ENDS_OF_FLEX)?;
+    assert_flex_lines(&rt, rt.alloc(), POINTS_OF_FAULTY_COMMANDS)?;
+    assert_lines(&rt, rt.alloc(), SETTINGS_OF_THE_POINT)
+}
+
+/// What stands in front of a flex that goes 7 to the right, the point where the flex ends, and the step of its
+/// end. closepath leaves the point where it is.
+const CURRENT_POINTS: &[(&str, i32, i32, u32)] = &[
+    ("10 500 hsbw 0 hmoveto", 17, 0, 52),
+    ("10 20 500 0 sbw 0 hmoveto", 17, 20, 54),
+    ("0 500 hsbw 3 4 rmoveto", 10, 4, 53),
+    ("0 500 hsbw -3 -4 rmoveto", 4, -4, 53),
+    ("0 500 hsbw 3 hmoveto", 10, 0, 52),
+    ("0 500 hsbw 4 vmoveto", 7, 4, 52),
+    ("0 500 hsbw 0 hmoveto 3 4 rlineto", 10, 4, 55),
+    ("0 500 hsbw 0 hmoveto 3 hlineto", 10, 0, 54),
+    ("0 500 hsbw 0 hmoveto 4 vlineto", 7, 4, 54),
+    (
+        "0 500 hsbw 0 hmoveto 1 2 30 40 500 600 rrcurveto",
+        538,
+        642,
+        59,
+    ),
+    (
+        "0 500 hsbw 0 hmoveto 1 20 300 4000 vhcurveto",
+        4_027,
+        301,
+        57,
+    ),
+    (
+        "0 500 hsbw 0 hmoveto 1 20 300 4000 hvcurveto",
+        28,
+        4_300,
+        57,
+    ),
+    (
+        "0 500 hsbw 3 4 rmoveto 5 6 rlineto closepath 0 hmoveto",
+        15,
+        10,
+        59,
+    ),
+    ("0 500 hsbw 10 20 hstem dotsection 3 hmoveto", 10, 0, 56),
+    ("0 500 hsbw 1 2 div hmoveto 1 2 div hmoveto", 8, 0, 58),
+    (
+        "0 500 hsbw 0 hmoveto 0 1 callothersubr 4 callsubr 50 7 0 3 0 callothersubr \
+         pop pop setcurrentpoint",
+        14,
+        0,
+        102,
+    ),
+];
+
+/// The report of a glyph of these words and a flex that ends at this point.
+fn lines_of_an_end(alloc: Global, words: &str, x: i32, y: i32) -> Result<String, Fail> {
+    let glyph = format!(in alloc;
+        "{words} 0 1 callothersubr 4 callsubr 50 {x} {y} 3 0 callothersubr closepath endchar"
+    )?;
+    lines_with(alloc, POINTS, glyph.as_str())
+}
+
+#[test]
+fn commands_move_the_current_point(rt: HostRuntime) -> Result<(), Fail> {
+    for (words, x, y, step) in CURRENT_POINTS {
+        let there = lines_of_an_end(rt.alloc(), words, *x, *y)?;
+        assert_eq!(rt; there.as_str(), "", "{words}");
+        let elsewhere = format!(in rt.alloc(); "1: glyph A - {step} X05 flex ends elsewhere\n")?;
+        let right = lines_of_an_end(rt.alloc(), words, x.wrapping_add(1), *y)?;
+        assert_eq!(rt; right.as_str(), elsewhere.as_str(), "{words}");
+        let above = lines_of_an_end(rt.alloc(), words, *x, y.wrapping_add(1))?;
+        assert_eq!(rt; above.as_str(), elsewhere.as_str(), "{words}");
+    }
+    Ok(())
+}
+
+/// The usual Subrs 0 to 3 of flex, the usual Subr 4 of hint replacement, and one with other stems.
+const USUAL_SUBRS: &str = "\
+0: 3 0 callothersubr pop pop setcurrentpoint return |\
+1: 0 1 callothersubr return |\
+2: 0 2 callothersubr return |\
+3: return |\
+4: 1 3 callothersubr pop callsubr return |\
+5: 10 20 hstem return";
+
+/// A serif with a flex, drawn as real fonts do it, and hint replacement in front of a second path.
+const USUAL_GLYPHS: &[(&str, &str, &str)] = &[
+    (
+        USUAL_SUBRS,
+        "0 500 hsbw 0 20 hstem 100 0 rmoveto 1 callsubr 50 0 rmoveto 2 callsubr -40 0 rmoveto 2 callsubr \
+         20 5 rmoveto 2 callsubr 20 0 rmoveto 2 callsubr 20 0 rmoveto 2 callsubr 20 -5 rmoveto 2 callsubr \
+         10 0 rmoveto 2 callsubr 50 200 0 0 callsubr 20 vlineto -100 hlineto closepath \
+         5 4 callsubr 0 300 rmoveto 5 hlineto closepath endchar",
+        "",
+    ),
+    (
+        USUAL_SUBRS,
+        "0 500 hsbw 0 20 hstem 100 0 rmoveto 5 hlineto closepath 3 4 callsubr endchar",
+        "",
+    ),
+];
+
+#[test]
+fn usual_subrs_break_no_rule(rt: HostRuntime) -> Result<(), Fail> {
+    assert_lines(&rt, rt.alloc(), USUAL_GLYPHS)
+}
+
+/// A flex with 256 pairs more than it may have: each point has its move.
+#[test]
+fn points_are_counted_past_256(rt: HostRuntime) -> Result<(), Fail> {
+    let alloc = rt.alloc();
+    let pairs = "5 callsubr ".repeat(alloc, 263)?;
+    let glyph = format!(in alloc;
+        "0 500 hsbw 0 hmoveto 0 1 callothersubr {pairs} 50 263 0 3 0 callothersubr closepath endchar"
+    )?;
+    let found = lines_with(alloc, POINTS, glyph.as_str())?;
+    assert_eq!(rt;
+        found.as_str(),
+        "1: glyph A - 2118 X04 flex points are not seven pairs\n"
+    );
+    Ok(())
+}
+
+/// What stands in front of 49,956 moves, each of them, what stands behind them, and the lines. Only clearing
+/// commands take numbers within 32000. The end of the last flex is step 100,000.
+const FAR_POINTS: &[(&str, &str, &str, &str)] = &[
+    (
+        "0 500 hsbw",
+        "32000 hmoveto ",
+        "0 1 callothersubr 4 callsubr 50 1598592007 0 3 0 callothersubr closepath endchar",
+        "",
+    ),
+    (
+        "0 500 hsbw",
+        "32000 hmoveto ",
+        "0 1 callothersubr 4 callsubr 50 1598592008 0 3 0 callothersubr closepath endchar",
+        "1: glyph A - 99998 X05 flex ends elsewhere\n",
+    ),
+    (
+        "0 500 hsbw",
+        "-32000 vmoveto ",
+        "0 1 callothersubr 4 callsubr 50 7 -1598592000 3 0 callothersubr closepath endchar",
+        "",
+    ),
+    (
+        "0 500 hsbw",
+        "-32000 vmoveto ",
+        "0 1 callothersubr 4 callsubr 50 7 -1598592001 3 0 callothersubr closepath endchar",
+        "1: glyph A - 99998 X05 flex ends elsewhere\n",
+    ),
+    (
+        "0 500 hsbw 0 hmoveto 0 1 callothersubr",
+        "32000 hmoveto ",
+        "4 callsubr 50 1598592007 0 3 0 callothersubr closepath endchar",
+        "1: glyph A 4 99963 X04 flex points are not seven pairs\n\
+2: glyph A 4 99968 X04 flex points are not seven pairs\n\
+3: glyph A 4 99973 X04 flex points are not seven pairs\n\
+4: glyph A 4 99978 X04 flex points are not seven pairs\n\
+5: glyph A 4 99983 X04 flex points are not seven pairs\n\
+6: glyph A 4 99988 X04 flex points are not seven pairs\n\
+7: glyph A 4 99993 X04 flex points are not seven pairs\n\
+8: glyph A - 100000 X04 flex points are not seven pairs\n\
+9: glyph A - 100001 L01 step limit\n",
+    ),
+];
+
+/// The report of a glyph of these words, 12 calls of a Subr that makes a move 4,162 times, each with one more
+/// such move behind it, and other words. Subr 4 gives the seven points of a flex.
+fn lines_of_a_far_point(alloc: Global, front: &str, far: &str, back: &str) -> Result<String, Fail> {
+    let points = "1 hmoveto 0 2 callothersubr ".repeat(alloc, 7)?;
+    let moves = far.repeat(alloc, 4_162)?;
+    let subrs = format!(in alloc; "4: {points} return | 5: {moves} return")?;
+    let call = format!(in alloc; "5 callsubr {far}")?;
+    let calls = call.as_str().repeat(alloc, 12)?;
+    let glyph = format!(in alloc; "{front} {calls} {back}")?;
+    lines_with(alloc, subrs.as_str(), glyph.as_str())
+}
+
+#[test]
+fn flexes_end_far_away(rt: HostRuntime) -> Result<(), Fail> {
+    for (front, far, back, lines) in FAR_POINTS {
+        let found = lines_of_a_far_point(rt.alloc(), front, far, back)?;
+        assert_eq!(rt; found.as_str(), *lines, "{front} {far} {back}");
+    }
+    Ok(())
+}
