@@ -2,10 +2,12 @@
 pub mod AbsentEntries
 pub mod Before
 pub mod Book
+pub mod Components
 pub mod Divisions
 pub mod Flex
 pub mod FlexPairs
 pub mod FontRules
+pub mod GlyphPlaces
 pub mod Keys
 pub mod Mask
 pub mod OthersubrCalls
@@ -13,6 +15,8 @@ pub mod Othersubrs
 pub mod Overlaps
 pub mod Paths
 pub mod Products
+pub mod Seac
+pub mod StandardNames
 pub mod Stems
 pub mod StepRules
 pub mod Watches

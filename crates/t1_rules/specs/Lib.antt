@@ -1,8 +1,10 @@
 pub mod Book
+pub mod Components
 pub mod FontRules
 pub mod Keys
 pub mod Laws
 pub mod Mask
+pub mod StandardEncoding
 pub mod StepRules
 pub mod Watches
 pub mod Words

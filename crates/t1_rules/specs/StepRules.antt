@@ -5,6 +5,7 @@ pub mod Calls
 pub mod Flex
 pub mod Othersubrs
 pub mod Paths
+pub mod Seac
 pub mod Stems
 pub mod Tokens
 use Rattle.std.specs.Prelude.{ℕ, ◌==◌, ◌&&◌, Bool, false, Option, Some, None, List, [], ◌∷◌, ◌++◌, slice_get, take}
@@ -12,13 +13,15 @@ use Rattle.std.specs.List.{list_any}
 use Rattle.t1_char.specs.Since.{Test}
 use Rattle.t1_char.specs.Steps.{StepView}
 use Rattle.t1_rules.specs.declared.rule.Rule.{Rule}
-use Rattle.t1_rules.specs.declared.rule.Rule.TheVariants.{C01, C02, C03, C04, C05, C06, C07, C08, C09, S01, S02, S03, S04, GE01, GE02, W01, W02, P01, P02, P03, H01, H02, H03, H04, R01, R02, X01, X02, X03, X04, X05, X06, O01, O02, O03, O04}
+use Rattle.t1_rules.specs.declared.sidebearings.Component.{Component}
+use Rattle.t1_rules.specs.declared.rule.Rule.TheVariants.{C01, C02, C03, C04, C05, C06, C07, C08, C09, S01, S02, S03, S04, GE01, GE02, W01, W02, P01, P02, P03, H01, H02, H03, H04, R01, R02, X01, X02, X03, X04, X05, X06, O01, O02, O03, O04, K01, K02, K03, K04, K05, K06, K07}
 use Rattle.t1_rules.specs.Book.{number_of}
 use Rattle.t1_rules.specs.StepRules.Arguments.{has_too_few, has_too_many, overflows, has_argument_past, divides_past, divides_by_zero}
 use Rattle.t1_rules.specs.StepRules.Calls.{calls_missing, calls_too_deep, returns_from_glyph, ends_in_subr, ends_in_glyph, goes_on_past_end}
 use Rattle.t1_rules.specs.StepRules.Flex.{starts_in_flex, goes_on_outside, commands_in_flex, counts_no_pairs, ends_elsewhere, sets_point_alone}
 use Rattle.t1_rules.specs.StepRules.Othersubrs.{calls_unknown, has_bad_count, has_wrong_count, pops_nothing}
 use Rattle.t1_rules.specs.StepRules.Paths.{starts_without_width, sets_width_later, draws_unmoved, leaves_open, closes_nothing}
+use Rattle.t1_rules.specs.StepRules.Seac.{has_no_code, has_unnamed_code, stands_beside_outline, lacks_component, nests, differs_in_sidebearing, lacks_sidebearing}
 use Rattle.t1_rules.specs.StepRules.Stems.{overlap, sets_stem_late, sets_overlapping, sets_without_width, sets_unequal, leaves_out_pop, leaves_out_call}
 use Rattle.t1_rules.specs.StepRules.Tokens.{is_short, is_cut, is_unknown}
 
@@ -136,9 +139,39 @@ othersubr_rules =
     ∷ of_step O04 pops_nothing
     ∷ []
 
--- The table of the charstring rules, in the order of the book.
+-- Accented characters, by the glyph's own steps.
+unfoldable pub seac_rules : List StepRule
+seac_rules =
+    -- A code isn't whole from 0 to 255. Type 1 Font Format, chapter 6.
+    of_step K01 has_no_code
+    -- A code has no name in StandardEncoding. Type 1 Font Format, chapter 6.
+    ∷ of_step K02 has_unnamed_code
+    -- The glyph has an outline of its own. Type 1 Font Format, chapter 6.
+    ∷ row K06 stands_beside_outline
+    ∷ []
+
+-- Accented characters, by their components.
+unfoldable pub component_rules : List Component → List StepRule
+component_rules components =
+    -- A component isn't in the font. Type 1 Font Format, chapter 6.
+    of_step K03 (lacks_component components)
+    -- A component is made by seac itself. Type 1 Font Format, chapter 6.
+    ∷ of_step K04 (nests components)
+    -- The accent has another left sidebearing than seac says. Type 1 Font Format, chapter 6.
+    ∷ of_step K05 (differs_in_sidebearing components)
+    -- A component has neither hsbw nor sbw. Type 1 Font Format, chapter 6.
+    ∷ of_step K07 (lacks_sidebearing components)
+    ∷ []
+
+-- The table of the rules that a glyph's own steps decide, in the order of the book.
 unfoldable pub step_rules : List StepRule
-step_rules = argument_rules ++ (call_rules ++ (path_rules ++ (stem_rules ++ (flex_rules ++ othersubr_rules))))
+step_rules =
+    argument_rules
+    ++ (call_rules ++ (path_rules ++ (stem_rules ++ (flex_rules ++ (othersubr_rules ++ seac_rules)))))
+
+-- All charstring rules, where the components of all codes are these.
+unfoldable pub charstring_rules : List Component → List StepRule
+charstring_rules components = step_rules ++ component_rules components
 
 -- The rule of this number is one of these, and the step breaks it, given the steps before.
 abbrev pub breaks : List StepRule → ℕ → List StepView → StepView → Bool

@@ -7,10 +7,12 @@ use Rattle.t1_char.specs.Steps.{StepView, is_end}
 use Rattle.t1_rules.specs.declared.step_rules.flex.FlexWatcher.{FlexWatcher}
 use Rattle.t1_rules.specs.declared.step_rules.flex.Point.{Point}
 use Rattle.t1_rules.specs.declared.step_rules.paths.PathWatcher.{PathWatcher}
+use Rattle.t1_rules.specs.declared.step_rules.seac.SeacWatcher.{SeacWatcher}
 use Rattle.t1_rules.specs.declared.step_rules.stems.StemWatcher.{StemWatcher}
 use Rattle.t1_rules.specs.declared.watches.Watches.{Watches}
 use Rattle.t1_rules.specs.StepRules.Flex.{current_point, flex_moves, flex_points, is_ended_and_popped}
 use Rattle.t1_rules.specs.StepRules.Paths.{clearing_step, in_flex, is_moved, is_open}
+use Rattle.t1_rules.specs.StepRules.Seac.{makes_outline}
 use Rattle.t1_rules.specs.StepRules.Stems.{lies_across, stands_upright, hint_set, is_drawn, is_replaced, is_replaced_and_popped, popping}
 use Rattle.t1_rules.specs.StepRules.Tokens.{clears, sets_width, is_move, is_line, closes}
 
@@ -66,7 +68,12 @@ pub record FlexStandsFor (watcher : FlexWatcher) (before : List StepView) : Type
   pub few_points : watcher.points ≤ length before
   pub near : IsNear (length before) watcher.point
 
+pub record SeacStandsFor (watcher : SeacWatcher) (before : List StepView) : Type 0 where
+  pub in_flex : watcher.in_flex ≡ in_flex before
+  pub outlined : watcher.outlined ≡ any_so_far makes_outline before
+
 -- All watchers stand for the same steps; those of arguments, calls and OtherSubrs keep nothing.
 unfoldable pub WatchesStandFor : Watches → List StepView → Type 0
 WatchesStandFor watches before =
-    PathsStandFor watches.paths before × (StemsStandFor watches.stems before × FlexStandsFor watches.flex before)
+    PathsStandFor watches.paths before × (StemsStandFor watches.stems before
+    × (FlexStandsFor watches.flex before × SeacStandsFor watches.seac before))

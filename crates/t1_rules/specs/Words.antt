@@ -2,6 +2,7 @@
 pub mod BookRows
 pub mod Edges
 pub mod KeyTests
+pub mod Seac
 pub mod Stems
 pub mod StepTests
 pub mod Sums

@@ -3,7 +3,7 @@
 ghost use Rattle.t1_rules.specs.Laws.FontRules.{AbsentEntriesBreakNothing, BrokenIsInTheBook, NothingIsBrokenPastLast, NothingIsBrokenPastPlaces, RuleNumbersAreInOrder};
 ghost use Rattle.t1_rules.specs.Laws.Flex.{ClosepathLeavesThePoint, EndsLeadOutOfFlex, SevenPairsAreAFlex, StartsLeadIntoFlex, StepsMoveThePoint, WidthsSetThePoint};
 ghost use Rattle.t1_rules.specs.Laws.Othersubrs.{CallsAreOneOfFive};
-ghost use Rattle.t1_rules.specs.Laws.StepRules.{ArgumentsCountFromTheBottom, BrokenStepsHaveTheseNumbers, EndsBreakOneRule, FlexIsByPlaces, LaterStepsHaveNoSay, MovedIsByPlaces, OneStepStartsWithoutWidth, OpenIsByPlaces, StepRuleNumbersAreInOrder, SurplusNumbersAreNotPast};
+ghost use Rattle.t1_rules.specs.Laws.StepRules.{ArgumentsCountFromTheBottom, BrokenStepsHaveTheseNumbers, ComponentRuleNumbersAreInOrder, EndsBreakOneRule, FlexIsByPlaces, LaterStepsHaveNoSay, MovedIsByPlaces, OneStepStartsWithoutWidth, OpenIsByPlaces, StepRuleNumbersAreInOrder, SurplusNumbersAreNotPast};
 ghost use Rattle.t1_rules.specs.Laws.Stems.{HintSetsAreBounded, OverlapIsMutual, ReplacementsEmptyHintSets, SignsHaveNoSay, StemsOverlapWhereTheyShareAPlace};
 ghost use Rattle.t1_rules.specs.Laws.Zones.{ZonesAreApartWhereOneIsAbove, ZonesMeetOneOfTheOthers, ZonesAreNearBothWays, ZonesAreNearTheOneBefore, NoZoneIsPastPairs, ZonesReachOne, ListsRiseWhereNoneFalls, ZonesArePairs};
 
@@ -55,10 +55,12 @@ pub fn numbers_rise_where_none_falls()
     ensures { ListsRiseWhereNoneFalls }
 {}
 
-/// The rules on steps of a glyph have the numbers from 26 to 61, and what a step breaks is one of them.
-#[tactic(auto, using(crate::proofs::Lemmas::StepRules::numbers_in_order, crate::proofs::Lemmas::StepRules::broken_have_these_numbers))]
+/// The rules on steps of a glyph have the numbers from 26 to 68, and what its own steps break is one of
+/// 26 to 67.
+#[tactic(auto, using(crate::proofs::Lemmas::StepRules::numbers_in_order, crate::proofs::Lemmas::StepRules::component_numbers_in_order, crate::proofs::Lemmas::StepRules::broken_have_these_numbers))]
 pub fn step_rules_have_their_numbers()
     ensures order { StepRuleNumbersAreInOrder }
+    ensures components { ComponentRuleNumbersAreInOrder }
     ensures these { BrokenStepsHaveTheseNumbers }
 {}
 

@@ -6,5 +6,6 @@ pub(crate) mod flex;
 mod numbers;
 pub(crate) mod othersubrs;
 pub(crate) mod paths;
+pub(crate) mod seac;
 pub(crate) mod stems;
-mod tokens;
+pub(crate) mod tokens;

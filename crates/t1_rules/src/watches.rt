@@ -8,11 +8,12 @@ use crate::step_rules::calls::CallWatcher;
 use crate::step_rules::flex::FlexWatcher;
 use crate::step_rules::othersubrs::OthersubrWatcher;
 use crate::step_rules::paths::PathWatcher;
+use crate::step_rules::seac::SeacWatcher;
 use crate::step_rules::stems::StemWatcher;
 use crate::watch::Watch;
 use t1_char::Step;
 
-/// Watches for the rules from C01 to O04, which a glyph's own steps decide.
+/// Watches for the rules from C01 to O04, K01, K02 and K06, which a glyph's own steps decide.
 #[derive(Drop)]
 pub struct Watches {
     arguments: ArgumentWatcher,
@@ -21,6 +22,7 @@ pub struct Watches {
     stems: StemWatcher,
     flex: FlexWatcher,
     othersubrs: OthersubrWatcher,
+    seac: SeacWatcher,
 }
 
 impl Watch for Watches {
@@ -39,6 +41,7 @@ impl Watch for Watches {
             stems: StemWatcher::start(),
             flex: FlexWatcher::start(),
             othersubrs: OthersubrWatcher::start(),
+            seac: SeacWatcher::start(),
         }
     }
 
@@ -49,6 +52,7 @@ impl Watch for Watches {
         let stems = self.stems.see(step);
         let flex = self.flex.see(step);
         let othersubrs = self.othersubrs.see(step);
-        arguments.join(calls.join(paths.join(stems.join(flex.join(othersubrs)))))
+        let seac = self.seac.see(step);
+        arguments.join(calls.join(paths.join(stems.join(flex.join(othersubrs.join(seac))))))
     }
 }

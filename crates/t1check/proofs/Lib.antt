@@ -1,7 +1,6 @@
 pub mod AnswerLemmas
 pub mod CommandLemmas
 pub mod FontFileLemmas
-pub mod GlyphPlaces
 pub mod InputLemmas
 pub mod ReportLemmas
 pub mod RunLaws

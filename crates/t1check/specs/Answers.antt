@@ -10,7 +10,8 @@ use Rattle.t1check.specs.declared.unread.Unread.{Unread}
 use Rattle.t1check.specs.FontFiles.{font_of}
 use Rattle.t1check.specs.Lines.{lines_of}
 use Rattle.t1check.specs.Refusals.{told_of}
-use Rattle.t1check.specs.Traces.{glyph_named, no_glyph_line, trace_of}
+use Rattle.t1_rules.specs.Components.{glyph_named}
+use Rattle.t1check.specs.Traces.{no_glyph_line, trace_of}
 
 pub record Answer : Type 0 where
   pub output : List ℕ

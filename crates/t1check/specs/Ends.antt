@@ -15,7 +15,8 @@ use Rattle.t1check.specs.Answers.{selection, status_of}
 use Rattle.t1check.specs.FontFiles.{IsUnread, font_of}
 use Rattle.t1check.specs.Lines.{lines_of}
 use Rattle.t1check.specs.Refusals.{told_of}
-use Rattle.t1check.specs.Traces.{glyph_named, no_glyph_line, trace_of}
+use Rattle.t1_rules.specs.Components.{glyph_named}
+use Rattle.t1check.specs.Traces.{no_glyph_line, trace_of}
 
 -- A text was to be told on standard error, and then a status to be answered; where that can't be told,
 -- Failed.

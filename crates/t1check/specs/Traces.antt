@@ -7,10 +7,6 @@ use Rattle.t1_char.specs.Steps.{NumberedStep, first_steps}
 use Rattle.t1_char.specs.declared.expansion.TheConstants.{STEP_LIMIT}
 use Rattle.t1_report.specs.Traces.{step_line}
 
--- The glyph of a name, by its place.
-abbrev pub glyph_named : FontValue → List ℕ → Option ℕ
-glyph_named font name = position (same_name name) (map (λ glyph. glyph.0) font.glyphs)
-
 -- The lines of steps up to the limit, and a line that tells of more.
 abbrev pub trace_text : ℕ → List NumberedStep → List ℕ
 trace_text limit steps =

@@ -16,7 +16,7 @@ use crate::lines::{at_most, without_first, write_report};
 use crate::reading::{Input, read_all};
 use crate::status::Status;
 use crate::telling::{READ_FAILED, WRITE_FAILED, tell, tell_no_glyph};
-use crate::tracing::{glyph_named, write_trace};
+use crate::tracing::write_trace;
 use crate::unread::Unread;
 use std::alloc::{AllocError, Global};
 use t1_char::{STEP_LIMIT, Step, expand};

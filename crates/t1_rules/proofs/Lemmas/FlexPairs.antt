@@ -14,7 +14,7 @@ use Rattle.t1_char.specs.Stacks.{from_top}
 use Rattle.t1_char.specs.Steps.{StepView}
 use Rattle.t1_char.proofs.LookingBack.{since_goes_on}
 use Rattle.t1_rules.specs.Laws.Flex.{StartsLeadIntoFlex, EndsLeadOutOfFlex, WidthsSetThePoint, StepsMoveThePoint, ClosepathLeavesThePoint, IsBeside, ArePairs, nothing, and_beside, and_move, and_point, SevenPairsAreAFlex}
-use Rattle.t1_rules.specs.StepRules.{argument_rules, call_rules, path_rules, stem_rules, flex_rules, othersubr_rules, step_rules, breaks, breaks_at}
+use Rattle.t1_rules.specs.StepRules.{argument_rules, call_rules, path_rules, stem_rules, flex_rules, othersubr_rules, seac_rules, step_rules, breaks, breaks_at}
 use Rattle.t1_rules.specs.StepRules.Flex.{counts_no_pairs, current_point, flex_moves, flex_points, miscounts, moving}
 use Rattle.t1_rules.specs.StepRules.Paths.{flex_start, flex_end, in_flex}
 use Rattle.t1_rules.specs.StepRules.Tokens.{is_move}
@@ -117,7 +117,7 @@ counts_of before start starts _ _ _ (and_point n steps t pairs point) =
     (counts_on _ t _ _ _ _ false true (counts_of before start starts n true steps pairs) (point_is_no_start t point) (point_is_no_end t point) (call_is_no_move t.token (call_of 2 0 t point)) point (omega arith) (omega arith))
 
 x04_row : (before : List StepView) (step : StepView) → breaks step_rules 55 before step ≡ counts_no_pairs before step
-unfolding step_rules argument_rules call_rules path_rules stem_rules flex_rules othersubr_rules
+unfolding step_rules argument_rules call_rules path_rules stem_rules flex_rules othersubr_rules seac_rules
 x04_row before step = row_decides 55 step_rules 29 _ refl refl refl refl before step
 
 -- No step behind the start breaks X04.

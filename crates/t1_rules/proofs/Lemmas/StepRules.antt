@@ -9,8 +9,8 @@ use Rattle.t1_char.specs.Since.{any_from, any_so_far}
 use Rattle.t1_char.specs.Steps.{StepView}
 use Rattle.t1_char.proofs.SincePlaces.{since_is_by_places}
 use Rattle.t1_rules.specs.Book.{number_of}
-use Rattle.t1_rules.specs.Laws.StepRules.{StepRuleNumbersAreInOrder, BrokenStepsHaveTheseNumbers, LaterStepsHaveNoSay, ArgumentsCountFromTheBottom, SurplusNumbersAreNotPast, EndsBreakOneRule, OneStepStartsWithoutWidth, FlexIsByPlaces, MovedIsByPlaces, OpenIsByPlaces}
-use Rattle.t1_rules.specs.StepRules.{StepRule, argument_rules, call_rules, flex_rules, othersubr_rules, path_rules, stem_rules, step_rules, breaks, breaks_next, breaks_at}
+use Rattle.t1_rules.specs.Laws.StepRules.{StepRuleNumbersAreInOrder, ComponentRuleNumbersAreInOrder, BrokenStepsHaveTheseNumbers, LaterStepsHaveNoSay, ArgumentsCountFromTheBottom, SurplusNumbersAreNotPast, EndsBreakOneRule, OneStepStartsWithoutWidth, FlexIsByPlaces, MovedIsByPlaces, OpenIsByPlaces}
+use Rattle.t1_rules.specs.StepRules.{StepRule, argument_rules, call_rules, component_rules, flex_rules, othersubr_rules, path_rules, seac_rules, stem_rules, step_rules, breaks, breaks_next, breaks_at}
 use Rattle.t1_rules.specs.StepRules.Arguments.{is_past}
 use Rattle.t1_rules.specs.StepRules.Calls.{ends_in_subr, ends_in_glyph}
 use Rattle.t1_rules.specs.StepRules.Paths.{flex_start, flex_end, outer_move, drawing, closing_step, clearing_step, starts_without_width}
@@ -18,8 +18,12 @@ use Rattle.t1_rules.specs.StepRules.Tokens.{clears}
 use Rattle.t1_rules.proofs.Lemmas.Book.{both}
 
 pub numbers_in_order : StepRuleNumbersAreInOrder
-unfolding step_rules argument_rules call_rules path_rules stem_rules flex_rules othersubr_rules
+unfolding step_rules argument_rules call_rules path_rules stem_rules flex_rules othersubr_rules seac_rules
 numbers_in_order = refl
+
+pub component_numbers_in_order : ComponentRuleNumbersAreInOrder
+unfolding component_rules
+component_numbers_in_order components = refl
 
 -- All rules of a table have numbers between two others.
 abbrev numbers_between : ℕ → ℕ → List StepRule → Bool
@@ -42,12 +46,12 @@ number_between least greatest (r ∷ rs) within n before step broken =
         let found : (least ≤ number_of r.rule) × (number_of r.rule ≤ greatest) = (leb-true least (number_of r.rule) here.0, leb-true (number_of r.rule) greatest here.1) in
         rw same at found
 
-table_between : numbers_between 26 61 step_rules ≡ true
-unfolding step_rules argument_rules call_rules path_rules stem_rules flex_rules othersubr_rules
+table_between : numbers_between 26 67 step_rules ≡ true
+unfolding step_rules argument_rules call_rules path_rules stem_rules flex_rules othersubr_rules seac_rules
 table_between = refl
 
 pub broken_have_these_numbers : BrokenStepsHaveTheseNumbers
-broken_have_these_numbers = number_between 26 61 step_rules table_between
+broken_have_these_numbers = number_between 26 67 step_rules table_between
 
 -- No rule of a table has this number.
 abbrev without_number : ℕ → List StepRule → Bool
@@ -84,15 +88,15 @@ row_decides n (q ∷ qs) (suc place) r there own front rest before step =
     go false e later = rw (and-false (q.is_broken before step)) later
 
 width_row : (before : List StepView) (step : StepView) → breaks step_rules 41 before step ≡ starts_without_width before step
-unfolding step_rules argument_rules call_rules path_rules stem_rules flex_rules othersubr_rules
+unfolding step_rules argument_rules call_rules path_rules stem_rules flex_rules othersubr_rules seac_rules
 width_row before step = row_decides 41 step_rules 15 _ refl refl refl refl before step
 
 subr_row : (before : List StepView) (step : StepView) → breaks step_rules 38 before step ≡ ends_in_subr step
-unfolding step_rules argument_rules call_rules path_rules stem_rules flex_rules othersubr_rules
+unfolding step_rules argument_rules call_rules path_rules stem_rules flex_rules othersubr_rules seac_rules
 subr_row before step = row_decides 38 step_rules 12 _ refl refl refl refl before step
 
 glyph_row : (before : List StepView) (step : StepView) → breaks step_rules 39 before step ≡ ends_in_glyph step
-unfolding step_rules argument_rules call_rules path_rules stem_rules flex_rules othersubr_rules
+unfolding step_rules argument_rules call_rules path_rules stem_rules flex_rules othersubr_rules seac_rules
 glyph_row before step = row_decides 39 step_rules 13 _ refl refl refl refl before step
 
 pub ends_break_one_rule : EndsBreakOneRule

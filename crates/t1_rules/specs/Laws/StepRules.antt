@@ -1,24 +1,31 @@
 -- Laws of the table of charstring rules.
-use Rattle.std.specs.Prelude.{◌≡◌, ℕ, ℤ, ◌<◌, ◌≤◌, ◌↔◌, not, Bool, true, Some, List, ◌++◌, length, map}
+use Rattle.std.specs.Prelude.{◌≡◌, ℕ, ℤ, ◌<◌, ◌≤◌, ◌↔◌, not, Bool, true, Some, List, [], ◌∷◌, ◌++◌, length, map}
 use Rattle.std.specs.List.{range_with_len}
 use Rattle.t1_char.specs.Arguments.{argument}
 use Rattle.t1_char.specs.Laws.Since.{IsSince}
 use Rattle.t1_char.specs.Steps.{StepView, is_end}
 use Rattle.t1_rules.specs.declared.rule.Rule.TheVariants.{S04, GE01, W01}
+use Rattle.t1_rules.specs.declared.sidebearings.Component.{Component}
 use Rattle.t1_rules.specs.Book.{number_of}
-use Rattle.t1_rules.specs.StepRules.{StepRule, step_rules, breaks, breaks_at}
+use Rattle.t1_rules.specs.StepRules.{StepRule, component_rules, step_rules, breaks, breaks_at}
 use Rattle.t1_rules.specs.StepRules.Arguments.{one_is_past}
 use Rattle.t1_rules.specs.StepRules.Paths.{flex_start, flex_end, in_flex, outer_move, drawing, closing_step, is_moved, is_open}
 
--- The rows have the numbers from 26 to 61, in order and each once.
+-- The rows have the numbers from 26 to 63, and 67, in order and each once; those on components 64 to 66,
+-- and 68.
 abbrev pub StepRuleNumbersAreInOrder : Type 0
-StepRuleNumbersAreInOrder = map (λ r. number_of r.rule) step_rules ≡ range_with_len 26 36
+StepRuleNumbersAreInOrder = map (λ r. number_of r.rule) step_rules ≡ range_with_len 26 38 ++ 67 ∷ []
+
+abbrev pub ComponentRuleNumbersAreInOrder : Type 0
+ComponentRuleNumbersAreInOrder =
+    (components : List Component) →
+    map (λ r. number_of r.rule) (component_rules components) ≡ 64 ∷ 65 ∷ 66 ∷ 68 ∷ []
 
 -- What a step breaks has one of these numbers.
 abbrev pub BrokenStepsHaveTheseNumbers : Type 0
 BrokenStepsHaveTheseNumbers =
     (n : ℕ) (before : List StepView) (step : StepView) → breaks step_rules n before step ≡ true →
-    (26 ≤ n) × (n ≤ 61)
+    (26 ≤ n) × (n ≤ 67)
 
 -- What is broken at a place of a list depends on the steps up to there alone, whatever the rules.
 abbrev pub LaterStepsHaveNoSay : Type 0

@@ -207,7 +207,7 @@ fn is_quiet(token: CharToken) -> bool
 }
 
 /// Whether a command sets stems.
-fn is_stem(token: CharToken) -> bool
+pub(crate) fn is_stem(token: CharToken) -> bool
     ensures { result ≡ is_stem token }
 {
     lies_across(token) | stands_upright(token)

@@ -4,7 +4,7 @@ ghost use Rattle.std.specs.Prelude.{◌≡◌};
 ghost use Rattle.t1_char.specs.Arguments.{is_callothersubr};
 ghost use Rattle.t1_char.specs.Laws.Steps.{is_finishing};
 ghost use Rattle.t1_char.specs.Steps.{is_callsubr, is_end, is_return};
-ghost use Rattle.t1_rules.specs.StepRules.Tokens.{clears, closes, is_hsbw, is_line, is_move, is_pop, is_setcurrentpoint, sets_point, sets_width};
+ghost use Rattle.t1_rules.specs.StepRules.Tokens.{clears, closes, is_hsbw, is_line, is_move, is_pop, is_seac, is_setcurrentpoint, sets_point, sets_width};
 
 use t1_char::{CharToken, Command};
 
@@ -112,4 +112,10 @@ pub(crate) fn sets_point(token: CharToken) -> bool
     ensures { result ≡ sets_point token }
 {
     sets_width(token) | is_setcurrentpoint(token)
+}
+
+pub(crate) fn is_seac(token: CharToken) -> bool
+    ensures { result ≡ is_seac token }
+{
+    matches!(token, CharToken::Command(Command::Seac))
 }

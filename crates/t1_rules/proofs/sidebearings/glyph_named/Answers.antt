@@ -1,8 +1,8 @@
 use Rattle.std.proofs.Common.{ℕ, List, ◌∙◌, ap, map}
 use Rattle.std.specs.List.{position}
 use Rattle.t1_font.specs.Keys.{same_name}
-use Rattle.t1check.proofs.GlyphPlaces.{name_position}
-use Rattle.t1check.proofs.tracing.glyph_named.Goals as goal
+use Rattle.t1_rules.proofs.Lemmas.GlyphPlaces.{name_position}
+use Rattle.t1_rules.proofs.sidebearings.glyph_named.Goals as goal
 
 pub returns-clause-place : goal.returns-clause-place
 returns-clause-place c =

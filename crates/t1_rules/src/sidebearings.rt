@@ -1,0 +1,259 @@
+//! The rules on accented characters that speak of their components, K03 to K05 and K07: Type 1 Font Format
+//! 1.1, chapter 6 (seac).
+
+ghost use Rattle.std.specs.Prelude.{◌≡◌, ◌<◌, ◌&&◌, ◌||◌, ℕ, ℤ, List, IfOk, IfSome, OnOk, length, map, take};
+ghost use Rattle.t1_char.specs.Steps.{StepView, steps_of};
+ghost use Rattle.t1_char.specs.StepValues.{step_view};
+ghost use Rattle.t1_rules.specs.Components.{component_at, component_in, component_named, component_of_glyph, components_of, glyph_named};
+ghost use Rattle.t1_rules.specs.Mask.{has};
+ghost use Rattle.t1_rules.specs.StepRules.{breaks, component_rules};
+ghost use Rattle.t1_rules.specs.StepRules.Seac.{accent, base, component_of_code, differs_in_sidebearing, is_another, is_lacking, is_named, is_without_sidebearing, lacks_component, lacks_sidebearing, nests};
+ghost use Rattle.t1_rules.specs.Words.Seac.{with_step};
+
+use crate::mask::Mask;
+use crate::rule::Rule;
+use crate::standard_encoding::standard_name;
+use crate::step_rules::seac::{accent_code, base_code, is_unnamed};
+use crate::step_rules::tokens::{is_seac, sets_width};
+use std::alloc::{AllocError, Global};
+use std::marker::Model;
+use t1_char::{STEP_LIMIT, Step, expand};
+use t1_font::Font;
+
+/// How many codes there are.
+const CODES: u16 = 256;
+
+/// What the rules ask of a component.
+#[derive(Clone, Copy, Debug, PartialEq, Eq)]
+pub(crate) struct Component {
+    /// Whether there is a glyph of that name.
+    there: bool,
+    /// The first argument of its first hsbw or sbw, in units of 1/65536.
+    sidebearing: Option<i32>,
+    /// Whether it is made by seac itself.
+    has_seac: bool,
+}
+
+/// The components of accented characters, by their codes in StandardEncoding.
+#[derive(Drop)]
+pub struct Sidebearings {
+    components: Vec<Component>,
+}
+
+impl Model for Sidebearings {
+    ghost use Rattle.std.specs.Prelude.{List};
+    ghost use Rattle.t1_rules.specs.declared.sidebearings.Component.{Component};
+
+    ghost Value = { List Component };
+
+    ghost view = { λ s. s.components.items };
+}
+
+impl Sidebearings {
+    /// The components of a font: each glyph that StandardEncoding names and the font has is executed
+    /// once, up to the limit of steps.
+    pub fn prepare(alloc: Global, font: &Font<'_>) -> Result<Sidebearings, AllocError>
+        ensures { IfOk result (λ sidebearings. sidebearings ≡ components_of STEP_LIMIT font.now) }
+    {
+        let mut components = Vec::new(alloc);
+        for code in 0..CODES {
+            components.push(component_at(alloc, font, code as u8)?)?;
+        }
+        Ok(Sidebearings { components })
+    }
+
+    /// Which of K03, K04, K05 and K07 a step breaks.
+    #[tactic(auto, unfolding(crate::specs::StepRules::component_rules))]
+    pub fn see(&self, step: &Step) -> Mask
+        ensures { (before : List StepView) → (n : ℕ) →
+            has result n ≡ breaks (component_rules self.now) n before (step_view step.now) }
+    {
+        if is_seac(step.token) {
+            self.faults(step)
+        } else {
+            Mask::empty()
+        }
+    }
+
+    /// What a seac breaks.
+    #[tactic(auto, unfolding(crate::specs::StepRules::component_rules))]
+    fn faults(&self, step: &Step) -> Mask
+        ensures { (before : List StepView) → (n : ℕ) →
+            has result n ≡ breaks (component_rules self.now) n before (step_view step.now) }
+    {
+        Mask::empty()
+            .with(Rule::K07, self.lacks_sidebearing(step))
+            .with(Rule::K05, self.differs_in_sidebearing(step))
+            .with(Rule::K04, self.nests(step))
+            .with(Rule::K03, self.lacks_component(step))
+    }
+
+    /// Whether a component that a code names isn't there.
+    fn lacks_component(&self, step: &Step) -> bool
+        ensures { result ≡ lacks_component self.now (step_view step.now) }
+    {
+        is_seac(step.token)
+            && (is_lacking(base_code(step), self.base(step))
+                || is_lacking(accent_code(step), self.accent(step)))
+    }
+
+    /// Whether a component is made by seac itself.
+    fn nests(&self, step: &Step) -> bool
+        ensures { result ≡ nests self.now (step_view step.now) }
+    {
+        is_seac(step.token) && (self.base(step).has_seac || self.accent(step).has_seac)
+    }
+
+    /// Whether the accent's sidebearing is another than the step says.
+    fn differs_in_sidebearing(&self, step: &Step) -> bool
+        ensures { result ≡ differs_in_sidebearing self.now (step_view step.now) }
+    {
+        is_seac(step.token) && is_another(self.accent(step).sidebearing, step.argument(0))
+    }
+
+    /// Whether a component has neither hsbw nor sbw.
+    fn lacks_sidebearing(&self, step: &Step) -> bool
+        ensures { result ≡ lacks_sidebearing self.now (step_view step.now) }
+    {
+        is_seac(step.token)
+            && (self.base(step).is_without_sidebearing()
+                || self.accent(step).is_without_sidebearing())
+    }
+
+    fn base(&self, step: &Step) -> Component
+        ensures { result ≡ base self.now (step_view step.now) }
+    {
+        self.component(base_code(step))
+    }
+
+    fn accent(&self, step: &Step) -> Component
+        ensures { result ≡ accent self.now (step_view step.now) }
+    {
+        self.component(accent_code(step))
+    }
+
+    /// The component of a code.
+    fn component(&self, code: Option<u8>) -> Component
+        ensures { result ≡ component_of_code self.now code }
+    {
+        match code {
+            Some(code) => match self.components.get(code as usize) {
+                Some(component) => *component,
+                None => Component::MISSING,
+            },
+            None => Component::MISSING,
+        }
+    }
+}
+
+impl Component {
+    /// A component that isn't there.
+    const MISSING: Component = Component {
+        there: false,
+        sidebearing: None,
+        has_seac: false,
+    };
+
+    /// Takes a step of its own in.
+    fn take_in(&mut self, step: &Step)
+        ensures { self.new ≡ with_step self.old (step_view step.now) }
+    {
+        if sets_width(step.token) && self.sidebearing.is_none() {
+            self.sidebearing = Some(step.argument(0));
+        }
+        self.has_seac = self.has_seac | is_seac(step.token);
+    }
+
+    /// Whether it is there, and has neither hsbw nor sbw.
+    fn is_without_sidebearing(self) -> bool
+        ensures { result ≡ is_without_sidebearing self }
+    {
+        self.there & self.sidebearing.is_none()
+    }
+}
+
+/// The component of a code.
+fn component_at(alloc: Global, font: &Font<'_>, code: u8) -> Result<Component, AllocError>
+    ensures { IfOk result (λ component. component ≡ component_at STEP_LIMIT font.now code) }
+{
+    component_named(alloc, font, standard_name(code))
+}
+
+/// The component of a name; none is there without one.
+fn component_named(alloc: Global, font: &Font<'_>, name: &str) -> Result<Component, AllocError>
+    ensures { IfOk result (λ component. component ≡ component_named STEP_LIMIT font.now name.now) }
+{
+    if name.is_empty() {
+        return Ok(Component::MISSING);
+    }
+    match glyph_named(font, name.as_bytes()) {
+        Some(glyph) => component_of_glyph(alloc, font, glyph),
+        None => Ok(Component::MISSING),
+    }
+}
+
+/// The place of the glyph of a name in the font's CharStrings.
+pub fn glyph_named(font: &Font<'_>, name: &[u8]) -> Option<usize>
+    ensures place { result ≡ glyph_named font.now name.now }
+    ensures within { IfSome result (λ glyph. glyph < length font.now.glyphs) }
+{
+    font.glyphs().get_index_of(&name)
+}
+
+/// What a glyph is as a component.
+fn component_of_glyph(alloc: Global, font: &Font<'_>, glyph: usize) -> Result<Component, AllocError>
+    requires { glyph < length font.now.glyphs }
+    ensures { IfOk result (λ component. component ≡ component_in (take STEP_LIMIT (steps_of font.now glyph))) }
+{
+    let steps = expand(alloc, font, glyph)?;
+    Ok(component_in(first(STEP_LIMIT as usize, &steps)))
+}
+
+/// The first steps, so many or all.
+fn first(count: usize, steps: &[Step]) -> &[Step]
+    ensures { result.now ≡ take count steps.now }
+{
+    if count < steps.len() {
+        &steps[..count]
+    } else {
+        steps
+    }
+}
+
+/// What a glyph of these steps is as a component.
+fn component_in(steps: &[Step]) -> Component
+    ensures { result ≡ component_in (map step_view steps.now) }
+{
+    let mut component = Component {
+        there: true,
+        sidebearing: None,
+        has_seac: false,
+    };
+    for step in steps {
+        component.take_in(step);
+    }
+    component
+}
+
+/// Whether a code has a name, and its component isn't there.
+fn is_lacking(code: Option<u8>, component: Component) -> bool
+    ensures { result ≡ is_lacking code component }
+{
+    is_named(code) & !component.there
+}
+
+fn is_named(code: Option<u8>) -> bool
+    ensures { result ≡ is_named code }
+{
+    code.is_some() && !is_unnamed(code)
+}
+
+/// Whether there is a sidebearing, and it isn't this number.
+fn is_another(sidebearing: Option<i32>, number: i32) -> bool
+    ensures { result ≡ is_another sidebearing number }
+{
+    match sidebearing {
+        Some(sidebearing) => sidebearing != number,
+        None => false,
+    }
+}

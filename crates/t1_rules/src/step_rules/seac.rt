@@ -1,0 +1,133 @@
+//! The rules on accented characters that a glyph's own steps decide, K01, K02 and K06: Type 1 Font Format
+//! 1.1, chapter 6 (seac).
+
+ghost use Rattle.std.specs.Prelude.{◌≡◌, ◌&&◌, ◌||◌, is_none, not, ℕ, List, [], ◌∷◌, ◌++◌, false};
+ghost use Rattle.t1_char.specs.Arguments.{is_flex_end};
+ghost use Rattle.t1_char.specs.Steps.{StepView};
+ghost use Rattle.t1_char.specs.StepValues.{step_view};
+ghost use Rattle.t1_rules.specs.Mask.{has};
+ghost use Rattle.t1_rules.specs.StepRules.{breaks, seac_rules};
+ghost use Rattle.t1_rules.specs.StepRules.Seac.{accent_code, base_code, code_of, has_no_code, has_unnamed_code, is_unnamed};
+ghost use Rattle.t1_rules.specs.StepRules.Stems.{is_stem};
+ghost use Rattle.t1_rules.specs.StepRules.Tokens.{closes, is_line, is_move};
+ghost use Rattle.t1_rules.specs.Watches.{SeacStandsFor};
+
+use crate::mask::Mask;
+use crate::rule::Rule;
+use crate::standard_encoding::standard_name;
+use crate::step_rules::paths::draws;
+use crate::step_rules::stems::is_stem;
+use crate::step_rules::tokens::{closes, is_move, is_seac};
+use crate::watch::Watch;
+use t1_char::{Step, natural};
+
+/// Watches for K01, K02 and K06.
+#[derive(Clone, Copy, Debug, PartialEq, Eq)]
+pub struct SeacWatcher {
+    /// Whether a flex was started, and not ended since.
+    in_flex: bool,
+    /// Whether there was a move, a drawing, a stem or a closepath.
+    outlined: bool,
+}
+
+impl Watch for SeacWatcher {
+    ghost use Rattle.t1_rules.specs.StepRules.{seac_rules};
+    ghost use Rattle.t1_rules.specs.Watches.{SeacStandsFor};
+
+    ghost stands_for = { SeacStandsFor };
+
+    ghost rules = { seac_rules };
+
+    fn start() -> SeacWatcher {
+        SeacWatcher {
+            in_flex: false,
+            outlined: false,
+        }
+    }
+
+    fn see(&mut self, step: &Step) -> Mask {
+        let broken = self.faults(step);
+        self.go_on(step);
+        broken
+    }
+}
+
+impl SeacWatcher {
+    /// What a step breaks.
+    #[tactic(auto, unfolding(crate::specs::StepRules::seac_rules))]
+    fn faults(&self, step: &Step) -> Mask
+        ensures { (before : List StepView) → SeacStandsFor self.now before →
+            (n : ℕ) → has result n ≡ breaks seac_rules n before (step_view step.now) }
+    {
+        Mask::empty()
+            .with(Rule::K06, is_seac(step.token) & self.outlined)
+            .with(Rule::K02, has_unnamed_code(step))
+            .with(Rule::K01, has_no_code(step))
+    }
+
+    /// Keeps what the step changes.
+    fn go_on(&mut self, step: &Step)
+        ensures { (before : List StepView) → SeacStandsFor self.old before →
+            SeacStandsFor self.new (before ++ step_view step.now ∷ []) }
+    {
+        self.outlined = self.outlined | makes_outline(step, self.in_flex);
+        self.in_flex = step.starts_flex() | (self.in_flex & !step.ends_flex());
+    }
+}
+
+/// Whether the step makes a part of an outline, being in flex or not.
+fn makes_outline(step: &Step, in_flex: bool) -> bool
+    ensures { result ≡ (is_move step.now.token
+        || ((is_line step.now.token || (is_flex_end (step_view step.now) && in_flex))
+        || (is_stem step.now.token || closes step.now.token))) }
+{
+    is_move(step.token) | (draws(step, in_flex) | (is_stem(step.token) | closes(step.token)))
+}
+
+/// Whether a code of seac isn't whole from 0 to 255.
+fn has_no_code(step: &Step) -> bool
+    ensures { result ≡ has_no_code (step_view step.now) }
+{
+    is_seac(step.token) && (base_code(step).is_none() || accent_code(step).is_none())
+}
+
+/// Whether a code of seac has no name in StandardEncoding.
+fn has_unnamed_code(step: &Step) -> bool
+    ensures { result ≡ has_unnamed_code (step_view step.now) }
+{
+    is_seac(step.token) && (is_unnamed(base_code(step)) || is_unnamed(accent_code(step)))
+}
+
+/// Whether a code has no name.
+pub(crate) fn is_unnamed(code: Option<u8>) -> bool
+    ensures { result ≡ is_unnamed code }
+{
+    match code {
+        Some(code) => standard_name(code).is_empty(),
+        None => false,
+    }
+}
+
+/// The code of the base.
+pub(crate) fn base_code(step: &Step) -> Option<u8>
+    ensures { result ≡ base_code (step_view step.now) }
+{
+    code_of(step.argument(3))
+}
+
+/// The code of the accent.
+pub(crate) fn accent_code(step: &Step) -> Option<u8>
+    ensures { result ≡ accent_code (step_view step.now) }
+{
+    code_of(step.argument(4))
+}
+
+/// A number as a code, where it is whole from 0 to 255.
+fn code_of(number: i32) -> Option<u8>
+    ensures { result ≡ code_of number }
+{
+    match natural(i64::from(number)) {
+        Some(code) if code < 256 => Some(code as u8),
+        _ => None,
+    }
+}
