@@ -1,5 +1,5 @@
 -- What is broken at a unit and a step: in the font, at the steps of a glyph, and where nothing is.
-use Rattle.std.proofs.Common.{◌≡◌, ℕ, zero, suc, ◌+◌, ◌*◌, ◌/◌, ◌%◌, ◌<◌, ◌≤◌, ◌&&◌, nat_lt, Bool, true, false, List, [], length, take, slice_get, Option, Some, None, inl, inr, refl, ap, ◌∙◌, arith, rules}
+use Rattle.std.proofs.Common.{◌≡◌, ℕ, zero, suc, ◌+◌, ◌*◌, ◌/◌, ◌%◌, ◌<◌, ◌≤◌, ◌&&◌, ◌||◌, nat_lt, Bool, true, false, List, [], length, take, slice_get, Option, Some, None, inl, inr, refl, ap, ◌∙◌, arith, rules}
 use Rattle.std.proofs.Math.Bool.{and-false}
 use Rattle.std.proofs.lemmas.Bool.{cases_lt, ne_eqb}
 use Rattle.std.proofs.lemmas.List.{length-take}
@@ -8,9 +8,13 @@ use Rattle.t1_char.specs.Steps.{StepView, steps_of}
 use Rattle.t1_font.specs.Fonts.{FontValue}
 use Rattle.t1_rules.specs.FontRules.{font_rules, violated}
 use Rattle.t1_rules.specs.Keys.{places_of}
+use Rattle.t1_rules.specs.declared.sidebearings.Component.{Component}
+use Rattle.t1_rules.specs.Components.{components_of}
+use Rattle.t1_rules.specs.StepRules.{StepRule, breaks, charstring_rules, component_rules, step_rules}
 use Rattle.t1_rules.proofs.Lemmas.Keys.{past_places}
+use Rattle.t1_rules.proofs.Lemmas.Watches.{joined}
 use Rattle.t1_rules.proofs.Lemmas.FontRules.{past_last}
-use Rattle.t1_report.specs.Reports.{is_broken, path_in, step_breaks, path_of_step}
+use Rattle.t1_report.specs.Reports.{is_broken, path_in, rules_of, step_breaks, path_of_step}
 
 -- ---- the font
 
@@ -47,13 +51,13 @@ not_less : (a b : ℕ) → b ≤ a → nat_lt a b ≡ false
 not_less a b more = search rules
 
 by_place : (limit : ℕ) (font : FontValue) (glyph i n : ℕ) → glyph < length font.glyphs
-    → is_broken limit font (suc glyph) (suc i) n ≡ step_breaks limit n (take i (steps_of font glyph)) (slice_get (steps_of font glyph) i)
+    → is_broken limit font (suc glyph) (suc i) n ≡ step_breaks limit (rules_of limit font) n (take i (steps_of font glyph)) (slice_get (steps_of font glyph) i)
 unfolding is_broken
 by_place limit font glyph i n there = rw (less_is glyph (length font.glyphs) there) refl
 
 -- at a step of a glyph
 pub at_step : (limit : ℕ) (font : FontValue) (unit step glyph i n : ℕ) → unit ≡ glyph + 1 → step ≡ i + 1 → glyph < length font.glyphs
-    → is_broken limit font unit step n ≡ step_breaks limit n (take i (steps_of font glyph)) (slice_get (steps_of font glyph) i)
+    → is_broken limit font unit step n ≡ step_breaks limit (rules_of limit font) n (take i (steps_of font glyph)) (slice_get (steps_of font glyph) i)
 at_step limit font unit step glyph i n at place there =
     let unit_is : unit ≡ suc glyph = omega arith in
     let step_is : step ≡ suc i = omega arith in
@@ -81,19 +85,19 @@ at_no_step limit font (suc glyph) step n first none =
     ap (λ (s : ℕ). is_broken limit font (suc glyph) s n) step_is ∙ no_step limit font glyph n
 
 -- past the first step past the limit nothing is broken
-past_limit : (limit n : ℕ) (before : List StepView) (s : Option StepView) → limit < length before → step_breaks limit n before s ≡ false
-past_limit limit n before None past = refl
-past_limit limit n before (Some s) past = rw (not_less (length before) limit (omega arith), ne_eqb (length before) limit (λ e. omega arith)) refl
+past_limit : (limit : ℕ) (table : List StepRule) (n : ℕ) (before : List StepView) (s : Option StepView) → limit < length before → step_breaks limit table n before s ≡ false
+past_limit limit table n before None past = refl
+past_limit limit table n before (Some s) past = rw (not_less (length before) limit (omega arith), ne_eqb (length before) limit (λ e. omega arith)) refl
 
 by_limit : (limit : ℕ) (font : FontValue) (glyph i n : ℕ) → length (take (limit + 1) (steps_of font glyph)) ≤ i
-    → (nat_lt glyph (length font.glyphs) && step_breaks limit n (take i (steps_of font glyph)) (slice_get (steps_of font glyph) i)) ≡ false
+    → (nat_lt glyph (length font.glyphs) && step_breaks limit (rules_of limit font) n (take i (steps_of font glyph)) (slice_get (steps_of font glyph) i)) ≡ false
 by_limit limit font glyph i n past =
     let steps : List StepView = steps_of font glyph in
     let count = length-take (limit + 1) steps in
     let before = length-take i steps in
     elim (cases_lt i (length steps)) [
-      | inr beyond ↦ ap (λ (s : Option StepView). nat_lt glyph (length font.glyphs) && step_breaks limit n (take i steps) s) (slice_get_past steps i beyond) ∙ and-false _
-      | inl within ↦ ap (λ (b : Bool). nat_lt glyph (length font.glyphs) && b) (past_limit limit n (take i steps) (slice_get steps i) (omega (arith, count, before))) ∙ and-false _
+      | inr beyond ↦ ap (λ (s : Option StepView). nat_lt glyph (length font.glyphs) && step_breaks limit (rules_of limit font) n (take i steps) s) (slice_get_past steps i beyond) ∙ and-false _
+      | inl within ↦ ap (λ (b : Bool). nat_lt glyph (length font.glyphs) && b) (past_limit limit (rules_of limit font) n (take i steps) (slice_get steps i) (omega (arith, count, before))) ∙ and-false _
     ]
 
 behind : (limit : ℕ) (font : FontValue) (glyph step n : ℕ) → length (take (limit + 1) (steps_of font glyph)) < step → is_broken limit font (suc glyph) step n ≡ false
@@ -113,3 +117,18 @@ unfolding is_broken
 past_glyphs limit font zero step n past = absurd (omega arith)
 past_glyphs limit font (suc glyph) zero n past = refl
 past_glyphs limit font (suc glyph) (suc i) n past = rw (not_less glyph (length font.glyphs) (omega arith)) refl
+
+-- The rules of a font, by what its components are.
+pub rules_by : (limit : ℕ) (font : FontValue) (components : List Component) → components ≡ components_of limit font → charstring_rules components ≡ rules_of limit font
+unfolding rules_of
+rules_by limit font components are = ap charstring_rules are
+
+-- Up to the limit a step breaks one of the rules.
+pub within_limit : (limit : ℕ) (table : List StepRule) (n : ℕ) (before : List StepView) (step : StepView) → length before < limit → breaks table n before step ≡ step_breaks limit table n before (Some step)
+within_limit limit table n before step less = rw (less_is (length before) limit less) refl
+
+-- The rules of a glyph's own steps and those on components, joined.
+pub both_kinds : (components : List Component) (n : ℕ) (before : List StepView) (step : StepView) (both left right : Bool) → both ≡ (left || right)
+    → left ≡ breaks step_rules n before step → right ≡ breaks (component_rules components) n before step → both ≡ breaks (charstring_rules components) n before step
+unfolding charstring_rules
+both_kinds components n before step both left right is by_left by_right = joined step_rules (component_rules components) n before step both left right is by_left by_right

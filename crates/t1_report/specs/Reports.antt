@@ -6,7 +6,8 @@ use Rattle.t1_font.specs.Fonts.{FontValue}
 use Rattle.t1_rules.specs.declared.rule.Rule.{Rule}
 use Rattle.t1_rules.specs.FontRules.{font_rules, violated}
 use Rattle.t1_rules.specs.declared.rule.Rule.TheVariants.{L01}
-use Rattle.t1_rules.specs.StepRules.{breaks, step_rules}
+use Rattle.t1_rules.specs.Components.{components_of}
+use Rattle.t1_rules.specs.StepRules.{StepRule, breaks, charstring_rules}
 use Rattle.t1_rules.specs.Book.{number_of}
 use Rattle.t1_report.specs.Faults.{FaultValue}
 
@@ -29,13 +30,17 @@ IsBefore p q = Comes p.unit p.step (number_of p.rule) q.unit q.step (number_of q
 abbrev pub step_limit : ℕ
 step_limit = 100000
 
--- What a step breaks, given the steps before it: up to the limit the charstring rules, and the first step past
--- the limit the rule on the limit alone.
-abbrev pub step_breaks : ℕ → ℕ → List StepView → Option StepView → Bool
-step_breaks limit n before None = false
-step_breaks limit n before (Some step) =
-    if nat_lt (length before) limit then breaks step_rules n before step
+-- What a step breaks, given the rules and the steps before it: up to the limit one of the rules, and the
+-- first step past the limit the rule on the limit alone.
+abbrev pub step_breaks : ℕ → List StepRule → ℕ → List StepView → Option StepView → Bool
+step_breaks limit rules n before None = false
+step_breaks limit rules n before (Some step) =
+    if nat_lt (length before) limit then breaks rules n before step
     else length before == limit && number_of L01 == n
+
+-- The charstring rules of a font, whose components of accented characters are looked at up to the limit.
+unfoldable pub rules_of : ℕ → FontValue → List StepRule
+rules_of limit font = charstring_rules (components_of limit font)
 
 -- The rule of a number is broken at a unit and a step: in the font at the key and the index of the step, in a
 -- glyph at one of its steps, which count from 1.
@@ -44,7 +49,8 @@ is_broken limit font zero step n = violated font_rules n font (step / 65536) (st
 is_broken limit font (suc glyph) zero n = false
 is_broken limit font (suc glyph) (suc i) n =
     nat_lt glyph (length font.glyphs)
-    && step_breaks limit n (take i (steps_of font glyph)) (slice_get (steps_of font glyph) i)
+    && step_breaks limit (rules_of limit font) n (take i (steps_of font glyph))
+    (slice_get (steps_of font glyph) i)
 
 -- The rule is violated at the place.
 abbrev pub IsViolated : FontValue → Place → Type 0

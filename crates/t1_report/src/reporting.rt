@@ -9,15 +9,17 @@ ghost use Rattle.t1_report.specs.Faults.{fault_value, faults_of};
 ghost use Rattle.t1_report.specs.Lines.{IsInFont};
 ghost use Rattle.t1_report.specs.Reports.{IsFront, IsReport, step_breaks, step_limit};
 ghost use Rattle.t1_report.specs.Workings.{HasBroken, HaveSeen, IsNext};
+ghost use Rattle.t1_rules.specs.Components.{components_of};
 ghost use Rattle.t1_rules.specs.Keys.{places_of};
 ghost use Rattle.t1_rules.specs.Mask.{has};
+ghost use Rattle.t1_rules.specs.StepRules.{charstring_rules};
 
 use crate::faults::{DEEPEST, Fault};
 use arrayvec::ArrayVec;
 use std::alloc::{AllocError, Global};
 use t1_char::{STEP_LIMIT, Step, expand};
 use t1_font::Font;
-use t1_rules::{Mask, Rule, Watch, Watches, font_faults, places};
+use t1_rules::{Mask, Rule, Sidebearings, Watch, Watches, font_faults, places};
 
 /// How many keys a font has a place for.
 const KEYS: u8 = 22;
@@ -43,8 +45,9 @@ pub fn report(alloc: Global, font: &Font<'_>) -> Result<Vec<Fault>, AllocError>
     for key in 0..KEYS {
         add_key(&mut faults, font, key)?;
     }
+    let sidebearings = Sidebearings::prepare(alloc, font)?;
     for glyph in 0..font.glyphs().len() {
-        add_glyph(alloc, &mut faults, font, glyph)?;
+        add_glyph(alloc, &mut faults, font, &sidebearings, glyph)?;
     }
     Ok(faults)
 }
@@ -71,8 +74,10 @@ fn add_glyph(
     alloc: Global,
     faults: &mut Vec<Fault>,
     font: &Font<'_>,
+    sidebearings: &Sidebearings,
     glyph: usize,
 ) -> Result<(), AllocError>
+    requires sidebearings { sidebearings.now ≡ components_of step_limit font.now }
     requires glyph { glyph < length font.now.glyphs }
     requires few { length font.now.glyphs ≤ 65535 }
     requires front { IsFront font.now (glyph + 1) 0 0 (faults_of faults.old.items) }
@@ -86,24 +91,25 @@ fn add_glyph(
             step: step.number,
             path: step.path.as_slice(),
         };
-        add_faults(faults, place, broken_at(&mut watches, step))?;
+        add_faults(faults, place, broken_at(&mut watches, sidebearings, step))?;
     }
     Ok(())
 }
 
 /// The rules that the next step of a glyph breaks: the first step past the limit breaks the rule on the
 /// limit, and no other.
-fn broken_at(watches: &mut Watches, step: &Step) -> Mask
+fn broken_at(watches: &mut Watches, sidebearings: &Sidebearings, step: &Step) -> Mask
     requires { (before : List StepView) × IsNext watches.old before step.now }
     ensures broken { (before : List StepView) → IsNext watches.old before step.now →
-        (n : ℕ) → has result n ≡ step_breaks step_limit n before (Some (step_view step.now)) }
+        (n : ℕ) → has result n
+        ≡ step_breaks step_limit (charstring_rules sidebearings.now) n before (Some (step_view step.now)) }
     ensures seen { (before : List StepView) → IsNext watches.old before step.now →
         HaveSeen watches.new (before ++ step_view step.now ∷ []) }
 {
     if STEP_LIMIT < step.number {
         return Mask::empty().with(Rule::L01, true);
     }
-    watches.see(step)
+    watches.see(step).join(sidebearings.see(step))
 }
 
 /// Adds the faults of a place, by the numbers of their rules.

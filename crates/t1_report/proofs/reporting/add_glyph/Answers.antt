@@ -1,12 +1,13 @@
-use Rattle.std.proofs.Common.{ℕ, ◌≡◌, ◌+◌, ◌∙◌, List, Option, length, map, take, ap, refl, subst, sym, arith}
+use Rattle.std.proofs.Common.{ℕ, ◌≡◌, ◌+◌, ◌∙◌, List, Option, Some, length, map, take, ap, refl, subst, sym, arith}
 use Rattle.t1_char.specs.declared.step.Step.{Step}
 use Rattle.t1_char.specs.Steps.{StepView, steps_of}
 use Rattle.t1_char.specs.StepValues.{step_view, step_value}
 use Rattle.t1_rules.specs.Book.{number_of}
+use Rattle.t1_rules.specs.StepRules.{StepRule}
 use Rattle.t1_report.specs.Faults.{faults_of}
-use Rattle.t1_report.specs.Reports.{IsFront, is_broken, path_at, path_of_step, step_breaks, step_limit}
+use Rattle.t1_report.specs.Reports.{IsFront, is_broken, path_at, path_of_step, rules_of, step_breaks, step_limit}
 use Rattle.t1_report.specs.Workings.{HaveSeen}
-use Rattle.t1_report.proofs.Broken.{at_no_step, at_step, path_at_step}
+use Rattle.t1_report.proofs.Broken.{at_no_step, at_step, path_at_step, rules_by}
 use Rattle.t1_report.proofs.GlyphSteps.{is_next, listed_at, none_behind, take_next}
 use Rattle.t1_report.proofs.UnitFronts.{quiet_on, unit_ends}
 use Rattle.t1_report.proofs.reporting.add_glyph.Goals as goal
@@ -47,7 +48,8 @@ loop-step-preserved c =
           (c.in_ok-add_faults.ensures font
           (record {
             rules = λ n. c.broken_at.ensures.broken (take place all) next n
-                ∙ ap (λ (s : Option StepView). step_breaks step_limit n (take place all) s) (sym is.there)
+                ∙ ap (λ (rules : List StepRule). step_breaks step_limit rules n (take place all) (Some (step_view step))) (rules_by step_limit font c.args.sidebearings.now c.requires.sidebearings)
+                ∙ ap (λ (s : Option StepView). step_breaks step_limit (rules_of step_limit font) n (take place all) s) (sym is.there)
                 ∙ sym (at_step step_limit font (glyph + 1) step.number glyph place n refl is.number c.requires.glyph);
             path = c.as_slice.ensures.value ∙ sym (path_at_step font (glyph + 1) step.number glyph place refl is.number ∙ ap path_of_step is.there);
           })
