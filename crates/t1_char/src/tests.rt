@@ -5,7 +5,7 @@ mod tokens;
 
 ghost use Rattle.std.specs.Prelude.{◌≡◌, length};
 
-use crate::{CharToken, Path, Stack, Step, command_name, expand};
+use crate::{CharToken, Stack, Step, command_name, expand};
 use std::alloc::{AllocError, Global};
 use std::process::Abort;
 use std::test::Fail;
@@ -16,59 +16,89 @@ use t1_seal::Joined;
 /// `0 500 hsbw`.
 const HSBW: &[u8] = b"\x8b\xf8\x88\x0d";
 
-/// What a token is called: its number or its command's name.
-fn token_text(alloc: Global, token: CharToken) -> Result<String, AllocError> {
+/// Adds a number in digits.
+fn push_number(alloc: Global, text: &mut String, number: i64) -> Result<(), AllocError> {
+    let digits = format!(in alloc; "{number}")?;
+    text.push_str(digits.as_str())
+}
+
+/// Adds words and a byte in digits.
+fn push_byte(alloc: Global, text: &mut String, words: &str, byte: u8) -> Result<(), AllocError> {
+    text.push_str(words)?;
+    push_number(alloc, text, i64::from(byte))
+}
+
+/// Adds what a token is called: its number or its command's name.
+fn push_token(alloc: Global, text: &mut String, token: CharToken) -> Result<(), AllocError> {
     match token {
-        CharToken::Number(number) => format!(in alloc; "{number}"),
-        CharToken::Command(command) => String::from_str(alloc, command_name(command)),
-        CharToken::Unknown(byte) => format!(in alloc; "unknown {byte}"),
-        CharToken::Unknown12(byte) => format!(in alloc; "unknown 12 {byte}"),
-        CharToken::Cut => String::from_str(alloc, "cut"),
-        CharToken::Short => String::from_str(alloc, "short"),
-        CharToken::End => String::from_str(alloc, "end"),
+        CharToken::Number(number) => push_number(alloc, text, i64::from(number)),
+        CharToken::Command(command) => text.push_str(command_name(command)),
+        CharToken::Unknown(byte) => push_byte(alloc, text, "unknown ", byte),
+        CharToken::Unknown12(byte) => push_byte(alloc, text, "unknown 12 ", byte),
+        CharToken::Cut => text.push_str("cut"),
+        CharToken::Short => text.push_str("short"),
+        CharToken::End => text.push_str("end"),
     }
 }
 
-/// The Subrs of a path with `>` between them, or `-`.
-fn path_text(alloc: Global, path: &Path) -> Result<String, AllocError> {
-    let mut text = String::new(alloc);
-    for subr in path.as_slice() {
-        if !text.is_empty() {
-            text.push_str(">")?;
-        }
-        let number = format!(in alloc; "{subr}")?;
-        text.push_str(number.as_str())?;
+/// Adds the Subrs of a path with `>` between them, or `-`.
+fn push_path(alloc: Global, text: &mut String, path: &[u32]) -> Result<(), AllocError> {
+    if path.is_empty() {
+        return text.push_str("-");
     }
-    if text.is_empty() {
-        text.push_str("-")?;
+    let mut mark = "";
+    for subr in path {
+        text.push_str(mark)?;
+        push_number(alloc, text, i64::from(*subr))?;
+        mark = ">";
     }
-    Ok(text)
+    Ok(())
 }
 
-/// The numbers of a stack: whole ones as they are, others in units of 1/65536 behind a `~`.
-fn stack_text(alloc: Global, stack: &Stack) -> Result<String, AllocError> {
-    let mut text = String::new(alloc);
+/// Adds a number of a stack: a whole one as it is, another in units of 1/65536 behind a `~`.
+fn push_entry(alloc: Global, text: &mut String, number: i64) -> Result<(), AllocError> {
+    if number % 65536 == 0 {
+        text.push_str(" ")?;
+        push_number(alloc, text, number / 65536)
+    } else {
+        text.push_str(" ~")?;
+        push_number(alloc, text, number)
+    }
+}
+
+/// Adds the numbers of a stack, in brackets.
+fn push_stack(alloc: Global, text: &mut String, stack: &Stack) -> Result<(), AllocError> {
+    text.push_str("[")?;
     for number in stack.as_slice() {
-        let entry = if *number % 65536 == 0 {
-            let whole = *number / 65536;
-            format!(in alloc; " {whole}")?
-        } else {
-            format!(in alloc; " ~{number}")?
-        };
-        text.push_str(entry.as_str())?;
+        push_entry(alloc, text, *number)?;
     }
-    Ok(text)
+    text.push_str(" ]")
+}
+
+/// Adds a step's path and its token.
+fn push_place(alloc: Global, text: &mut String, step: &Step) -> Result<(), AllocError> {
+    push_path(alloc, text, step.path.as_slice())?;
+    text.push_str(" ")?;
+    push_token(alloc, text, step.token)
+}
+
+/// Adds how many results wait, and the two facts of a step.
+fn push_facts(alloc: Global, text: &mut String, step: &Step) -> Result<(), AllocError> {
+    let waiting = step.waiting;
+    let count = format!(in alloc; "{waiting}")?;
+    text.push_str(count.as_str())?;
+    text.push_str(if step.found { " found" } else { "" })?;
+    text.push_str(if step.last { " last" } else { "" })
 }
 
 /// A line for each step: its number, its path and its token.
 fn trace_of(alloc: Global, steps: &[Step]) -> Result<String, AllocError> {
     let mut text = String::new(alloc);
     for step in steps {
-        let path = path_text(alloc, &step.path)?;
-        let token = token_text(alloc, step.token)?;
-        let number = step.number;
-        let line = format!(in alloc; "{number} {path} {token}\n")?;
-        text.push_str(line.as_str())?;
+        push_number(alloc, &mut text, i64::from(step.number))?;
+        text.push_str(" ")?;
+        push_place(alloc, &mut text, step)?;
+        text.push_str("\n")?;
     }
     Ok(text)
 }
@@ -77,14 +107,12 @@ fn trace_of(alloc: Global, steps: &[Step]) -> Result<String, AllocError> {
 fn states_of(alloc: Global, steps: &[Step]) -> Result<String, AllocError> {
     let mut text = String::new(alloc);
     for step in steps {
-        let path = path_text(alloc, &step.path)?;
-        let token = token_text(alloc, step.token)?;
-        let stack = stack_text(alloc, &step.stack)?;
-        let waiting = step.waiting;
-        let found = if step.found { " found" } else { "" };
-        let last = if step.last { " last" } else { "" };
-        let line = format!(in alloc; "{path} {token} [{stack} ] {waiting}{found}{last}\n")?;
-        text.push_str(line.as_str())?;
+        push_place(alloc, &mut text, step)?;
+        text.push_str(" ")?;
+        push_stack(alloc, &mut text, &step.stack)?;
+        text.push_str(" ")?;
+        push_facts(alloc, &mut text, step)?;
+        text.push_str("\n")?;
     }
     Ok(text)
 }

@@ -2,7 +2,7 @@
 
 ghost use Rattle.std.specs.Prelude.{negsuc, pos, ◌≤ℤ◌};
 
-use super::token_text;
+use super::push_token;
 use crate::{Command, tokens};
 use std::alloc::{AllocError, Global};
 use std::process::Abort;
@@ -20,8 +20,7 @@ fn enciphered_text(alloc: Global, code: &[u8], len_iv: i8) -> Result<String, All
     let mut text = String::new(alloc);
     for token in &tokens(alloc, code, len_iv)? {
         text.push_str(" ")?;
-        let token = token_text(alloc, *token)?;
-        text.push_str(token.as_str())?;
+        push_token(alloc, &mut text, *token)?;
     }
     Ok(text)
 }
@@ -128,10 +127,17 @@ fn charstrings_shorter_than_len_iv(rt: HostRuntime) -> Result<(), Fail> {
     Ok(())
 }
 
+/// Commands, and how many arguments each takes from the bottom of the stack.
+const COUNTS: &[(Command, Option<u8>)] = &[
+    (Command::Rrcurveto, Some(6)),
+    (Command::Seac, Some(5)),
+    (Command::Closepath, Some(0)),
+    (Command::Callothersubr, None),
+];
+
 #[test]
 fn counts_of_arguments(rt: HostRuntime) {
-    assert_eq!(rt; Command::Rrcurveto.arguments(), Some(6));
-    assert_eq!(rt; Command::Seac.arguments(), Some(5));
-    assert_eq!(rt; Command::Closepath.arguments(), Some(0));
-    assert_eq!(rt; Command::Callothersubr.arguments(), None);
+    for (command, count) in COUNTS {
+        assert_eq!(rt; command.arguments(), *count);
+    }
 }
