@@ -2,6 +2,7 @@
 pub mod AbsentEntries
 pub mod Before
 pub mod Book
+pub mod ComponentLaws
 pub mod Components
 pub mod Divisions
 pub mod Flex

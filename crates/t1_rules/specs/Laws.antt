@@ -1,4 +1,5 @@
 -- Statements of laws, which the functions of src/laws.rt prove.
+pub mod Components
 pub mod Flex
 pub mod FontRules
 pub mod Othersubrs

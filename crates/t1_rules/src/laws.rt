@@ -1,6 +1,7 @@
 //! Laws of the definitions, each on a call that does nothing.
 
 ghost use Rattle.t1_rules.specs.Laws.FontRules.{AbsentEntriesBreakNothing, BrokenIsInTheBook, NothingIsBrokenPastLast, NothingIsBrokenPastPlaces, RuleNumbersAreInOrder};
+ghost use Rattle.t1_rules.specs.Laws.Components.{CodesAreCounted, NamesAreCounted, NoNameStandsTwice, OwnEncodingHasNoSay, PlacesHaveNoSay};
 ghost use Rattle.t1_rules.specs.Laws.Flex.{ClosepathLeavesThePoint, EndsLeadOutOfFlex, SevenPairsAreAFlex, StartsLeadIntoFlex, StepsMoveThePoint, WidthsSetThePoint};
 ghost use Rattle.t1_rules.specs.Laws.Othersubrs.{CallsAreOneOfFive};
 ghost use Rattle.t1_rules.specs.Laws.StepRules.{ArgumentsCountFromTheBottom, BrokenStepsHaveTheseNumbers, ComponentRuleNumbersAreInOrder, EndsBreakOneRule, FlexIsByPlaces, LaterStepsHaveNoSay, MovedIsByPlaces, OneStepStartsWithoutWidth, OpenIsByPlaces, StepRuleNumbersAreInOrder, SurplusNumbersAreNotPast};
@@ -137,4 +138,20 @@ pub fn flex_goes_from_its_start_to_its_end()
     ensures start { StartsLeadIntoFlex }
     ensures end { EndsLeadOutOfFlex }
     ensures pairs { SevenPairsAreAFlex }
+{}
+
+/// StandardEncoding gives 149 of its 256 codes a name, and no name to two codes.
+#[tactic(auto, using(crate::proofs::Lemmas::ComponentLaws::codes_are_counted, crate::proofs::Lemmas::ComponentLaws::names_are_counted, crate::proofs::Lemmas::ComponentLaws::no_name_stands_twice))]
+pub fn standard_encoding_names_149_codes()
+    ensures codes { CodesAreCounted }
+    ensures names { NamesAreCounted }
+    ensures once { NoNameStandsTwice }
+{}
+
+/// What a component is, its charstring alone tells: the font's own Encoding has no say, nor has its place
+/// among the glyphs, so that it may stand before the accented character or behind it.
+#[tactic(auto, using(crate::proofs::Lemmas::ComponentLaws::own_encoding_has_no_say, crate::proofs::Lemmas::ComponentLaws::places_have_no_say))]
+pub fn components_are_found_by_their_names()
+    ensures encoding { OwnEncodingHasNoSay }
+    ensures places { PlacesHaveNoSay }
 {}

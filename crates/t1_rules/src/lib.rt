@@ -52,11 +52,12 @@ pub use book::{rule_code, rule_text};
 pub use font_rules::font_faults;
 pub use keys::{key_text, places};
 pub use laws::{
-    absent_entries_are_fine, arguments_count_from_the_bottom, current_points_move_on,
-    ends_break_one_rule, flex_goes_from_its_start_to_its_end, hint_sets_begin_anew,
-    later_steps_have_no_say, numbers_rise_where_none_falls, one_step_starts_without_width,
-    othersubr_calls_are_one_of_five, paths_are_by_places, rules_are_on_zones,
-    rules_have_their_numbers, rules_have_their_places, stems_overlap_where_they_share_a_place,
+    absent_entries_are_fine, arguments_count_from_the_bottom, components_are_found_by_their_names,
+    current_points_move_on, ends_break_one_rule, flex_goes_from_its_start_to_its_end,
+    hint_sets_begin_anew, later_steps_have_no_say, numbers_rise_where_none_falls,
+    one_step_starts_without_width, othersubr_calls_are_one_of_five, paths_are_by_places,
+    rules_are_on_zones, rules_have_their_numbers, rules_have_their_places,
+    standard_encoding_names_149_codes, stems_overlap_where_they_share_a_place,
     step_rules_have_their_numbers, zones_are_pairs, zones_come_near_both_ways,
 };
 pub use mask::Mask;

@@ -23,6 +23,7 @@ use t1_char::{STEP_LIMIT, Step, expand};
 use t1_font::{Font, read_clear, read_font};
 use t1_io::{Sink, Source};
 use t1_report::{Fault, report};
+use t1_rules::glyph_named;
 use t1_seal::{join, open_eexec};
 
 /// Reads a font to its end and writes its report.

@@ -1,0 +1,48 @@
+-- Laws of StandardEncoding and the components of accented characters.
+use Rattle.std.specs.Prelude.{◌≡◌, ℕ, ◌<◌, ◌==◌, not, Bool, false, List, [], ◌∷◌, ◌++◌, length, take}
+use Rattle.std.specs.List.{AllPass, count_by}
+use Rattle.t1_char.specs.Charstrings.{tokens_in}
+use Rattle.t1_char.specs.Effects.{most_calls}
+use Rattle.t1_char.specs.Steps.{StepView, at_start, expansion}
+use Rattle.t1_font.specs.declared.encoding.Encoding.{Encoding}
+use Rattle.t1_font.specs.Fonts.{FontValue}
+use Rattle.t1_font.specs.Keys.{same_name}
+use Rattle.t1_rules.specs.Components.{component_in, component_named, components_of}
+use Rattle.t1_rules.specs.StandardEncoding.{standard_encoding, standard_name}
+
+-- StandardEncoding has 256 codes, of which 149 have a name, and no name stands at two codes.
+abbrev pub has_letters : List ℕ → Bool
+has_letters name = not (length name == 0)
+
+abbrev pub CodesAreCounted : Type 0
+CodesAreCounted = length standard_encoding ≡ 256
+
+abbrev pub NamesAreCounted : Type 0
+NamesAreCounted = count_by has_letters standard_encoding ≡ 149
+
+abbrev pub NoNameStandsTwice : Type 0
+NoNameStandsTwice =
+    (one other : ℕ) → standard_name one ≡ standard_name other → 0 < length (standard_name one) → one ≡ other
+
+-- The font with another Encoding, and other codes in it.
+abbrev pub encoded_anew : FontValue → Encoding → List (ℕ × List ℕ) → Bool → FontValue
+encoded_anew font encoding codes bad_code =
+    record font { encoding = encoding; codes = codes; bad_code = bad_code }
+
+-- Components are looked up in StandardEncoding: the font's own Encoding has no say.
+abbrev pub OwnEncodingHasNoSay : Type 0
+OwnEncodingHasNoSay =
+    (limit : ℕ) (font : FontValue) (encoding : Encoding) (codes : List (ℕ × List ℕ)) (bad_code : Bool) →
+    components_of limit (encoded_anew font encoding codes bad_code) ≡ components_of limit font
+
+-- The steps of a glyph with this charstring, wherever it stands among the glyphs.
+abbrev pub steps_by_code : FontValue → List ℕ → List StepView
+steps_by_code font code = (expansion font most_calls [] (tokens_in font code) at_start).steps
+
+-- A component is what its charstring is: which glyphs stand before it and behind it has no say.
+abbrev pub PlacesHaveNoSay : Type 0
+PlacesHaveNoSay =
+    (limit : ℕ) (font : FontValue) (front rest : List (List ℕ × List ℕ)) (name code : List ℕ) →
+    0 < length name → AllPass (λ glyph. not (same_name name glyph.0)) front →
+    component_named limit (record font { glyphs = front ++ (name, code) ∷ rest }) name
+    ≡ component_in (take limit (steps_by_code font code))
