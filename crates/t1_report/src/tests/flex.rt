@@ -412,82 +412,84 @@ const SETTINGS_OF_THE_POINT: &[(&str, &str, &str)] = &[
     ),
 ];
 
-#[test]
-fn ends_of_flexes(rt: HostRuntime) -> Result<(), Fail> {
-    assert_flex_lines(&rt, rt.alloc(), PAIRS)?;
-    assert_flex_lines(&rt, rt.alloc(), ENDS_OF_FLEX)?;
-    assert_flex_lines(&rt, rt.alloc(), POINTS_OF_FAULTY_COMMANDS)?;
-    assert_lines(&rt, rt.alloc(), SETTINGS_OF_THE_POINT)
-}
-
-/// What stands in front of a flex that goes 7 to the right, the point where the flex ends, and the step of its
-/// end. closepath leaves the point where it is.
-const CURRENT_POINTS: &[(&str, i32, i32, u32)] = &[
-    ("10 500 hsbw 0 hmoveto", 17, 0, 52),
-    ("10 20 500 0 sbw 0 hmoveto", 17, 20, 54),
-    ("0 500 hsbw 3 4 rmoveto", 10, 4, 53),
-    ("0 500 hsbw -3 -4 rmoveto", 4, -4, 53),
-    ("0 500 hsbw 3 hmoveto", 10, 0, 52),
-    ("0 500 hsbw 4 vmoveto", 7, 4, 52),
-    ("0 500 hsbw 0 hmoveto 3 4 rlineto", 10, 4, 55),
-    ("0 500 hsbw 0 hmoveto 3 hlineto", 10, 0, 54),
-    ("0 500 hsbw 0 hmoveto 4 vlineto", 7, 4, 54),
+/// What moves the current point: the flex goes 7 to the right from there. closepath leaves it where it is.
+const CURRENT_POINTS: &[(&str, &str)] = &[
     (
-        "0 500 hsbw 0 hmoveto 1 2 30 40 500 600 rrcurveto",
-        538,
-        642,
-        59,
+        "10 500 hsbw 0 hmoveto 0 1 callothersubr 4 callsubr 50 17 0 3 0 callothersubr closepath endchar",
+        "",
     ),
     (
-        "0 500 hsbw 0 hmoveto 1 20 300 4000 vhcurveto",
-        4_027,
-        301,
-        57,
+        "10 20 500 0 sbw 0 hmoveto 0 1 callothersubr 4 callsubr 50 17 20 3 0 callothersubr closepath \
+         endchar",
+        "",
     ),
     (
-        "0 500 hsbw 0 hmoveto 1 20 300 4000 hvcurveto",
-        28,
-        4_300,
-        57,
+        "0 500 hsbw 3 4 rmoveto 0 1 callothersubr 4 callsubr 50 10 4 3 0 callothersubr closepath endchar",
+        "",
     ),
     (
-        "0 500 hsbw 3 4 rmoveto 5 6 rlineto closepath 0 hmoveto",
-        15,
-        10,
-        59,
+        "0 500 hsbw -3 -4 rmoveto 0 1 callothersubr 4 callsubr 50 4 -4 3 0 callothersubr closepath endchar",
+        "",
     ),
-    ("0 500 hsbw 10 20 hstem dotsection 3 hmoveto", 10, 0, 56),
-    ("0 500 hsbw 1 2 div hmoveto 1 2 div hmoveto", 8, 0, 58),
     (
-        "0 500 hsbw 0 hmoveto 0 1 callothersubr 4 callsubr 50 7 0 3 0 callothersubr \
-         pop pop setcurrentpoint",
-        14,
-        0,
-        102,
+        "0 500 hsbw 3 hmoveto 0 1 callothersubr 4 callsubr 50 10 0 3 0 callothersubr closepath endchar",
+        "",
+    ),
+    (
+        "0 500 hsbw 4 vmoveto 0 1 callothersubr 4 callsubr 50 7 4 3 0 callothersubr closepath endchar",
+        "",
+    ),
+    (
+        "0 500 hsbw 0 hmoveto 3 4 rlineto 0 1 callothersubr 4 callsubr 50 10 4 3 0 callothersubr closepath \
+         endchar",
+        "",
+    ),
+    (
+        "0 500 hsbw 0 hmoveto 3 hlineto 0 1 callothersubr 4 callsubr 50 10 0 3 0 callothersubr closepath \
+         endchar",
+        "",
+    ),
+    (
+        "0 500 hsbw 0 hmoveto 4 vlineto 0 1 callothersubr 4 callsubr 50 7 4 3 0 callothersubr closepath \
+         endchar",
+        "",
+    ),
+    (
+        "0 500 hsbw 0 hmoveto 1 2 30 40 500 600 rrcurveto 0 1 callothersubr 4 callsubr 50 538 642 3 0 \
+         callothersubr closepath endchar",
+        "",
+    ),
+    (
+        "0 500 hsbw 0 hmoveto 1 20 300 4000 vhcurveto 0 1 callothersubr 4 callsubr 50 4027 301 3 0 \
+         callothersubr closepath endchar",
+        "",
+    ),
+    (
+        "0 500 hsbw 0 hmoveto 1 20 300 4000 hvcurveto 0 1 callothersubr 4 callsubr 50 28 4300 3 0 \
+         callothersubr closepath endchar",
+        "",
+    ),
+    (
+        "0 500 hsbw 3 4 rmoveto 5 6 rlineto closepath 0 hmoveto 0 1 callothersubr 4 callsubr 50 15 10 3 0 \
+         callothersubr closepath endchar",
+        "",
+    ),
+    (
+        "0 500 hsbw 10 20 hstem dotsection 3 hmoveto 0 1 callothersubr 4 callsubr 50 10 0 3 0 \
+         callothersubr closepath endchar",
+        "",
+    ),
+    (
+        "0 500 hsbw 1 2 div hmoveto 1 2 div hmoveto 0 1 callothersubr 4 callsubr 50 8 0 3 0 callothersubr \
+         closepath endchar",
+        "",
+    ),
+    (
+        "0 500 hsbw 0 hmoveto 0 1 callothersubr 4 callsubr 50 7 0 3 0 callothersubr pop pop \
+         setcurrentpoint 0 1 callothersubr 4 callsubr 50 14 0 3 0 callothersubr closepath endchar",
+        "",
     ),
 ];
-
-/// The report of a glyph of these words and a flex that ends at this point.
-fn lines_of_an_end(alloc: Global, words: &str, x: i32, y: i32) -> Result<String, Fail> {
-    let glyph = format!(in alloc;
-        "{words} 0 1 callothersubr 4 callsubr 50 {x} {y} 3 0 callothersubr closepath endchar"
-    )?;
-    lines_with(alloc, POINTS, glyph.as_str())
-}
-
-#[test]
-fn commands_move_the_current_point(rt: HostRuntime) -> Result<(), Fail> {
-    for (words, x, y, step) in CURRENT_POINTS {
-        let there = lines_of_an_end(rt.alloc(), words, *x, *y)?;
-        assert_eq!(rt; there.as_str(), "", "{words}");
-        let elsewhere = format!(in rt.alloc(); "1: glyph A - {step} X05 flex ends elsewhere\n")?;
-        let right = lines_of_an_end(rt.alloc(), words, x.wrapping_add(1), *y)?;
-        assert_eq!(rt; right.as_str(), elsewhere.as_str(), "{words}");
-        let above = lines_of_an_end(rt.alloc(), words, *x, y.wrapping_add(1))?;
-        assert_eq!(rt; above.as_str(), elsewhere.as_str(), "{words}");
-    }
-    Ok(())
-}
 
 /// The usual Subrs 0 to 3 of flex, the usual Subr 4 of hint replacement, and one with other stems.
 const USUAL_SUBRS: &str = "\
@@ -515,87 +517,101 @@ const USUAL_GLYPHS: &[(&str, &str, &str)] = &[
     ),
 ];
 
-#[test]
-fn usual_subrs_break_no_rule(rt: HostRuntime) -> Result<(), Fail> {
-    assert_lines(&rt, rt.alloc(), USUAL_GLYPHS)
-}
+/// Subr 2 gives 256 points, each behind its move, so that the flex has 263.
+const TOO_MANY_PAIRS: &[(&str, &str, &str)] = &[(
+    "2: 3 callsubr 3 callsubr 3 callsubr 3 callsubr 3 callsubr 3 callsubr 3 callsubr 3 callsubr return |\
+3: 4 callsubr 4 callsubr 4 callsubr 4 callsubr 4 callsubr 4 callsubr 4 callsubr 4 callsubr return |\
+4: 5 callsubr 5 callsubr 5 callsubr 5 callsubr return |\
+5: 1 hmoveto 0 2 callothersubr return",
+    "0 500 hsbw 0 hmoveto 0 1 callothersubr 2 callsubr 5 callsubr 5 callsubr 5 callsubr 5 callsubr 5 callsubr \
+     5 callsubr 5 callsubr 50 263 0 3 0 callothersubr closepath endchar",
+    "1: glyph A - 2337 X04 flex points are not seven pairs\n",
+)];
 
-/// A flex with 256 pairs more than it may have: each point has its move.
-#[test]
-fn points_are_counted_past_256(rt: HostRuntime) -> Result<(), Fail> {
-    let alloc = rt.alloc();
-    let pairs = "5 callsubr ".repeat(alloc, 263)?;
-    let glyph = format!(in alloc;
-        "0 500 hsbw 0 hmoveto 0 1 callothersubr {pairs} 50 263 0 3 0 callothersubr closepath endchar"
-    )?;
-    let found = lines_with(alloc, POINTS, glyph.as_str())?;
-    assert_eq!(rt;
-        found.as_str(),
-        "1: glyph A - 2118 X04 flex points are not seven pairs\n"
-    );
-    Ok(())
-}
+/// Subr 0 makes 42,837 moves: Subr 5 makes ten of them, and Subrs 4, 3 and 2 call the next one ten times.
+/// Subr 1 gives the seven points of a flex.
+const FAR_RIGHT: &str = "\
+0: 2 callsubr 2 callsubr 2 callsubr 2 callsubr 3 callsubr 3 callsubr 4 callsubr 4 callsubr \
+4 callsubr 4 callsubr 4 callsubr 4 callsubr 4 callsubr 4 callsubr 5 callsubr 5 callsubr 5 callsubr \
+32000 hmoveto 32000 hmoveto 32000 hmoveto 32000 hmoveto \
+32000 hmoveto 32000 hmoveto 32000 hmoveto return |\
+1: 1 hmoveto 0 2 callothersubr 1 hmoveto 0 2 callothersubr 1 hmoveto 0 2 callothersubr \
+1 hmoveto 0 2 callothersubr 1 hmoveto 0 2 callothersubr 1 hmoveto 0 2 callothersubr \
+1 hmoveto 0 2 callothersubr return |\
+2: 3 callsubr 3 callsubr 3 callsubr 3 callsubr 3 callsubr 3 callsubr 3 callsubr 3 callsubr \
+3 callsubr 3 callsubr return |\
+3: 4 callsubr 4 callsubr 4 callsubr 4 callsubr 4 callsubr 4 callsubr 4 callsubr 4 callsubr \
+4 callsubr 4 callsubr return |\
+4: 5 callsubr 5 callsubr 5 callsubr 5 callsubr 5 callsubr 5 callsubr 5 callsubr 5 callsubr \
+5 callsubr 5 callsubr return |\
+5: 32000 hmoveto 32000 hmoveto 32000 hmoveto 32000 hmoveto 32000 hmoveto \
+32000 hmoveto 32000 hmoveto 32000 hmoveto 32000 hmoveto 32000 hmoveto return";
 
-/// What stands in front of 49,956 moves, each of them, what stands behind them, and the lines. Only clearing
-/// commands take numbers within 32000. The end of the last flex is step 100,000.
-const FAR_POINTS: &[(&str, &str, &str, &str)] = &[
+/// The same with moves down.
+const FAR_DOWN: &str = "\
+0: 2 callsubr 2 callsubr 2 callsubr 2 callsubr 3 callsubr 3 callsubr 4 callsubr 4 callsubr \
+4 callsubr 4 callsubr 4 callsubr 4 callsubr 4 callsubr 4 callsubr 5 callsubr 5 callsubr 5 callsubr \
+-32000 vmoveto -32000 vmoveto -32000 vmoveto -32000 vmoveto \
+-32000 vmoveto -32000 vmoveto -32000 vmoveto return |\
+1: 1 hmoveto 0 2 callothersubr 1 hmoveto 0 2 callothersubr 1 hmoveto 0 2 callothersubr \
+1 hmoveto 0 2 callothersubr 1 hmoveto 0 2 callothersubr 1 hmoveto 0 2 callothersubr \
+1 hmoveto 0 2 callothersubr return |\
+2: 3 callsubr 3 callsubr 3 callsubr 3 callsubr 3 callsubr 3 callsubr 3 callsubr 3 callsubr \
+3 callsubr 3 callsubr return |\
+3: 4 callsubr 4 callsubr 4 callsubr 4 callsubr 4 callsubr 4 callsubr 4 callsubr 4 callsubr \
+4 callsubr 4 callsubr return |\
+4: 5 callsubr 5 callsubr 5 callsubr 5 callsubr 5 callsubr 5 callsubr 5 callsubr 5 callsubr \
+5 callsubr 5 callsubr return |\
+5: -32000 vmoveto -32000 vmoveto -32000 vmoveto -32000 vmoveto -32000 vmoveto \
+-32000 vmoveto -32000 vmoveto -32000 vmoveto -32000 vmoveto -32000 vmoveto return";
+
+/// A flex far away, and one with all the moves inside it, up to the last step that is checked. The arguments
+/// of an end may be as great as numbers are.
+const FAR_POINTS: &[(&str, &str, &str)] = &[
     (
-        "0 500 hsbw",
-        "32000 hmoveto ",
-        "0 1 callothersubr 4 callsubr 50 1598592007 0 3 0 callothersubr closepath endchar",
+        FAR_RIGHT,
+        "0 500 hsbw 0 callsubr 0 1 callothersubr 1 callsubr 50 1370784007 0 3 0 callothersubr closepath endchar",
         "",
     ),
     (
-        "0 500 hsbw",
-        "32000 hmoveto ",
-        "0 1 callothersubr 4 callsubr 50 1598592008 0 3 0 callothersubr closepath endchar",
+        FAR_RIGHT,
+        "0 500 hsbw 0 callsubr 0 1 callothersubr 1 callsubr 50 1370784008 0 3 0 callothersubr closepath endchar",
         "1: glyph A - 99998 X05 flex ends elsewhere\n",
     ),
     (
-        "0 500 hsbw",
-        "-32000 vmoveto ",
-        "0 1 callothersubr 4 callsubr 50 7 -1598592000 3 0 callothersubr closepath endchar",
+        FAR_DOWN,
+        "0 500 hsbw 0 callsubr 0 1 callothersubr 1 callsubr 50 7 -1370784000 3 0 callothersubr closepath endchar",
         "",
     ),
     (
-        "0 500 hsbw",
-        "-32000 vmoveto ",
-        "0 1 callothersubr 4 callsubr 50 7 -1598592001 3 0 callothersubr closepath endchar",
+        FAR_DOWN,
+        "0 500 hsbw 0 callsubr 0 1 callothersubr 1 callsubr 50 7 -1370784001 3 0 callothersubr closepath endchar",
         "1: glyph A - 99998 X05 flex ends elsewhere\n",
     ),
     (
-        "0 500 hsbw 0 hmoveto 0 1 callothersubr",
-        "32000 hmoveto ",
-        "4 callsubr 50 1598592007 0 3 0 callothersubr closepath endchar",
-        "1: glyph A 4 99963 X04 flex points are not seven pairs\n\
-2: glyph A 4 99968 X04 flex points are not seven pairs\n\
-3: glyph A 4 99973 X04 flex points are not seven pairs\n\
-4: glyph A 4 99978 X04 flex points are not seven pairs\n\
-5: glyph A 4 99983 X04 flex points are not seven pairs\n\
-6: glyph A 4 99988 X04 flex points are not seven pairs\n\
-7: glyph A 4 99993 X04 flex points are not seven pairs\n\
+        FAR_RIGHT,
+        "0 500 hsbw 0 hmoveto 0 1 callothersubr 0 callsubr 1 callsubr 50 1370784007 0 3 0 callothersubr \
+         closepath endchar",
+        "1: glyph A 1 99963 X04 flex points are not seven pairs\n\
+2: glyph A 1 99968 X04 flex points are not seven pairs\n\
+3: glyph A 1 99973 X04 flex points are not seven pairs\n\
+4: glyph A 1 99978 X04 flex points are not seven pairs\n\
+5: glyph A 1 99983 X04 flex points are not seven pairs\n\
+6: glyph A 1 99988 X04 flex points are not seven pairs\n\
+7: glyph A 1 99993 X04 flex points are not seven pairs\n\
 8: glyph A - 100000 X04 flex points are not seven pairs\n\
 9: glyph A - 100001 L01 step limit\n",
     ),
 ];
 
-/// The report of a glyph of these words, 12 calls of a Subr that makes a move 4,162 times, each with one more
-/// such move behind it, and other words. Subr 4 gives the seven points of a flex.
-fn lines_of_a_far_point(alloc: Global, front: &str, far: &str, back: &str) -> Result<String, Fail> {
-    let points = "1 hmoveto 0 2 callothersubr ".repeat(alloc, 7)?;
-    let moves = far.repeat(alloc, 4_162)?;
-    let subrs = format!(in alloc; "4: {points} return | 5: {moves} return")?;
-    let call = format!(in alloc; "5 callsubr {far}")?;
-    let calls = call.as_str().repeat(alloc, 12)?;
-    let glyph = format!(in alloc; "{front} {calls} {back}")?;
-    lines_with(alloc, subrs.as_str(), glyph.as_str())
-}
-
 #[test]
-fn flexes_end_far_away(rt: HostRuntime) -> Result<(), Fail> {
-    for (front, far, back, lines) in FAR_POINTS {
-        let found = lines_of_a_far_point(rt.alloc(), front, far, back)?;
-        assert_eq!(rt; found.as_str(), *lines, "{front} {far} {back}");
-    }
-    Ok(())
+fn ends_of_flexes(rt: HostRuntime) -> Result<(), Fail> {
+    assert_flex_lines(&rt, rt.alloc(), PAIRS)?;
+    assert_flex_lines(&rt, rt.alloc(), ENDS_OF_FLEX)?;
+    assert_flex_lines(&rt, rt.alloc(), CURRENT_POINTS)?;
+    assert_flex_lines(&rt, rt.alloc(), POINTS_OF_FAULTY_COMMANDS)?;
+    assert_lines(&rt, rt.alloc(), SETTINGS_OF_THE_POINT)?;
+    assert_lines(&rt, rt.alloc(), USUAL_GLYPHS)?;
+    assert_lines(&rt, rt.alloc(), TOO_MANY_PAIRS)?;
+    assert_lines(&rt, rt.alloc(), FAR_POINTS)
 }

@@ -1,7 +1,6 @@
 //! OtherSubrs and their results: each rule is broken, and then just isn't.
 
-use super::{assert_glyph_lines, assert_lines, lines_with};
-use std::alloc::{AllocError, Global};
+use super::{assert_glyph_lines, assert_lines};
 use std::test::Fail;
 
 /// A number that isn't whole is unknown, and so is 65536 + 12. An unknown OtherSubr gives its arguments back,
@@ -169,62 +168,96 @@ const RESULTS: &[(&str, &str, &str)] = &[
     ),
 ];
 
+/// Each OtherSubr is called with 0, 1, 2, 3 and 4 arguments, and then with one that isn't there: a call
+/// breaks O01, O02 or O03, or none of them, and never two. A point or an end of a flex that is one stands
+/// outside a flex here.
+const COUNTS: &[(&str, &str)] = &[
+    (
+        "0 500 hsbw 0 -1 callothersubr 0 1 -1 callothersubr 0 0 2 -1 callothersubr \
+         0 0 0 3 -1 callothersubr 0 0 0 0 4 -1 callothersubr 5 -1 callothersubr endchar",
+        "1: glyph A - 6 O01 unknown OtherSubr\n\
+2: glyph A - 10 O01 unknown OtherSubr\n\
+3: glyph A - 15 O01 unknown OtherSubr\n\
+4: glyph A - 21 O01 unknown OtherSubr\n\
+5: glyph A - 28 O01 unknown OtherSubr\n\
+6: glyph A - 31 O02 bad OtherSubr count\n",
+    ),
+    (
+        "0 500 hsbw 0 0 callothersubr 0 1 0 callothersubr 0 0 2 0 callothersubr \
+         0 0 0 3 0 callothersubr 0 0 0 0 4 0 callothersubr 5 0 callothersubr endchar",
+        "1: glyph A - 6 O03 wrong count for this OtherSubr\n\
+2: glyph A - 10 O03 wrong count for this OtherSubr\n\
+3: glyph A - 15 O03 wrong count for this OtherSubr\n\
+4: glyph A - 21 X02 flex call outside flex\n\
+5: glyph A - 28 O03 wrong count for this OtherSubr\n\
+6: glyph A - 31 O02 bad OtherSubr count\n",
+    ),
+    (
+        "0 500 hsbw 0 1 callothersubr 0 1 1 callothersubr 0 0 2 1 callothersubr \
+         0 0 0 3 1 callothersubr 0 0 0 0 4 1 callothersubr 5 1 callothersubr endchar",
+        "1: glyph A - 10 O03 wrong count for this OtherSubr\n\
+2: glyph A - 15 O03 wrong count for this OtherSubr\n\
+3: glyph A - 21 O03 wrong count for this OtherSubr\n\
+4: glyph A - 28 O03 wrong count for this OtherSubr\n\
+5: glyph A - 31 O02 bad OtherSubr count\n\
+6: glyph A - 32 X03 command inside flex\n",
+    ),
+    (
+        "0 500 hsbw 0 2 callothersubr 0 1 2 callothersubr 0 0 2 2 callothersubr \
+         0 0 0 3 2 callothersubr 0 0 0 0 4 2 callothersubr 5 2 callothersubr endchar",
+        "1: glyph A - 6 X02 flex call outside flex\n\
+2: glyph A - 10 O03 wrong count for this OtherSubr\n\
+3: glyph A - 15 O03 wrong count for this OtherSubr\n\
+4: glyph A - 21 O03 wrong count for this OtherSubr\n\
+5: glyph A - 28 O03 wrong count for this OtherSubr\n\
+6: glyph A - 31 O02 bad OtherSubr count\n",
+    ),
+    (
+        "0 500 hsbw 0 3 callothersubr 0 1 3 callothersubr 0 0 2 3 callothersubr \
+         0 0 0 3 3 callothersubr 0 0 0 0 4 3 callothersubr 5 3 callothersubr endchar",
+        "1: glyph A - 6 O03 wrong count for this OtherSubr\n\
+2: glyph A - 11 R01 no pop after hint replacement\n\
+3: glyph A - 15 O03 wrong count for this OtherSubr\n\
+4: glyph A - 21 O03 wrong count for this OtherSubr\n\
+5: glyph A - 28 O03 wrong count for this OtherSubr\n\
+6: glyph A - 31 O02 bad OtherSubr count\n",
+    ),
+    (
+        "0 500 hsbw 0 4 callothersubr 0 1 4 callothersubr 0 0 2 4 callothersubr \
+         0 0 0 3 4 callothersubr 0 0 0 0 4 4 callothersubr 5 4 callothersubr endchar",
+        "1: glyph A - 6 O01 unknown OtherSubr\n\
+2: glyph A - 10 O01 unknown OtherSubr\n\
+3: glyph A - 15 O01 unknown OtherSubr\n\
+4: glyph A - 21 O01 unknown OtherSubr\n\
+5: glyph A - 28 O01 unknown OtherSubr\n\
+6: glyph A - 31 O02 bad OtherSubr count\n",
+    ),
+    (
+        "0 500 hsbw 0 12 callothersubr 0 1 12 callothersubr 0 0 2 12 callothersubr \
+         0 0 0 3 12 callothersubr 0 0 0 0 4 12 callothersubr 5 12 callothersubr endchar",
+        "1: glyph A - 31 O02 bad OtherSubr count\n",
+    ),
+    (
+        "0 500 hsbw 0 13 callothersubr 0 1 13 callothersubr 0 0 2 13 callothersubr \
+         0 0 0 3 13 callothersubr 0 0 0 0 4 13 callothersubr 5 13 callothersubr endchar",
+        "1: glyph A - 31 O02 bad OtherSubr count\n",
+    ),
+    (
+        "0 500 hsbw 0 14 callothersubr 0 1 14 callothersubr 0 0 2 14 callothersubr \
+         0 0 0 3 14 callothersubr 0 0 0 0 4 14 callothersubr 5 14 callothersubr endchar",
+        "1: glyph A - 6 O01 unknown OtherSubr\n\
+2: glyph A - 10 O01 unknown OtherSubr\n\
+3: glyph A - 15 O01 unknown OtherSubr\n\
+4: glyph A - 21 O01 unknown OtherSubr\n\
+5: glyph A - 28 O01 unknown OtherSubr\n\
+6: glyph A - 31 O02 bad OtherSubr count\n",
+    ),
+];
+
 #[test]
 fn othersubrs_and_results(rt: HostRuntime) -> Result<(), Fail> {
     assert_lines(&rt, rt.alloc(), UNKNOWN_OTHERSUBRS)?;
     assert_glyph_lines(&rt, rt.alloc(), BAD_COUNTS)?;
+    assert_glyph_lines(&rt, rt.alloc(), COUNTS)?;
     assert_lines(&rt, rt.alloc(), RESULTS)
-}
-
-/// The rule that a call of each OtherSubr breaks, with 0, 1, 2, 3, 4 and 5 as its count, where four numbers
-/// are left. An end or a point of a flex breaks X02, because no flex was started.
-const COUNTS: &[(i32, [&str; 6])] = &[
-    (-1, ["O01", "O01", "O01", "O01", "O01", "O02"]),
-    (0, ["O03", "O03", "O03", "X02", "O03", "O02"]),
-    (1, ["", "O03", "O03", "O03", "O03", "O02"]),
-    (2, ["X02", "O03", "O03", "O03", "O03", "O02"]),
-    (3, ["O03", "", "O03", "O03", "O03", "O02"]),
-    (4, ["O01", "O01", "O01", "O01", "O01", "O02"]),
-    (11, ["O01", "O01", "O01", "O01", "O01", "O02"]),
-    (12, ["", "", "", "", "", "O02"]),
-    (13, ["", "", "", "", "", "O02"]),
-    (14, ["O01", "O01", "O01", "O01", "O01", "O02"]),
-];
-
-/// The rules that speak of a call of an OtherSubr.
-const CALL_RULES: [(&str, &str); 4] = [
-    ("X02", "flex call outside flex"),
-    ("O01", "unknown OtherSubr"),
-    ("O02", "bad OtherSubr count"),
-    ("O03", "wrong count for this OtherSubr"),
-];
-
-/// The lines of a glyph without endchar that breaks this rule at step 10, which is the last one.
-fn lines_of_a_call(alloc: Global, rule: &str) -> Result<String, AllocError> {
-    match CALL_RULES.iter().find(|(code, _)| *code == rule) {
-        None => format!(in alloc; "1: glyph A - 11 GE01 no endchar\n"),
-        Some((code, text)) => format!(in alloc;
-            "1: glyph A - 10 {code} {text}\n2: glyph A - 11 GE01 no endchar\n"
-        ),
-    }
-}
-
-/// Whatever the count and the number, a call breaks one of O01, O02 and O03 at most. A replacement with
-/// nothing behind it breaks R01 besides, and has its own tests.
-#[test]
-fn each_count_breaks_one_rule_at_most(rt: HostRuntime) -> Result<(), Fail> {
-    for (number, rules) in COUNTS {
-        for (count, rule) in rules.iter().enumerate() {
-            if *number == 3 && count == 1 {
-                continue;
-            }
-            let glyph = format!(in rt.alloc();
-                "0 500 hsbw 0 0 0 0 {count} {number} callothersubr"
-            )?;
-            let found = lines_with(rt.alloc(), "", glyph.as_str())?;
-            let lines = lines_of_a_call(rt.alloc(), *rule)?;
-            assert_eq!(rt; found.as_str(), lines.as_str(), "{glyph}");
-        }
-    }
-    Ok(())
 }
