@@ -8,6 +8,7 @@ mod order;
 mod othersubrs;
 mod paths;
 mod places;
+mod seac;
 mod stems;
 
 use crate::{Fault, report, write_fault};

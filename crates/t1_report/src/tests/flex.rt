@@ -127,7 +127,9 @@ const COMMANDS_INSIDE_FLEX: &[(&str, &str)] = &[
     ),
     (
         "0 500 hsbw 0 hmoveto 0 1 callothersubr 0 0 0 65 65 seac",
-        "1: glyph A - 14 X03 command inside flex\n",
+        "1: glyph A - 14 X03 command inside flex\n\
+2: glyph A - 14 K04 seac of a seac\n\
+3: glyph A - 14 K06 seac beside other commands\n",
     ),
     (
         "0 500 hsbw 0 hmoveto 0 1 callothersubr 1 0 rmoveto 0 2 callothersubr 0 vmoveto 0 2 callothersubr \

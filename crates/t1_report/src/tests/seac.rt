@@ -1,0 +1,1040 @@
+//! Accented characters: each rule is broken, and then just isn't.
+
+use super::{Texts, Told, charstring, faults_of, lines_of, with_subrs};
+use std::alloc::Global;
+use std::process::Abort;
+use std::test::Fail;
+use t1_rules::Rule;
+use t1_samples::Sample;
+
+/// A font with these Subrs and glyphs: each glyph a name, a colon and words, with a bar in front of the next.
+fn with_glyphs(alloc: Global, subrs: &str, glyphs: &str) -> Result<Sample, Fail> {
+    let mut sample = with_subrs(alloc, subrs)?;
+    for glyph in glyphs.split('|') {
+        if let Some((name, words)) = glyph.split_once(':') {
+            sample = sample.glyph(name.trim().as_bytes(), charstring(alloc, words)?.as_slice())?;
+        }
+    }
+    Ok(sample)
+}
+
+/// The report of a font.
+fn lines_of_sample(alloc: Global, sample: &Sample) -> Result<String, Fail> {
+    lines_of(alloc, &Texts::of(alloc, sample.pfb()?.as_slice())?)
+}
+
+/// Fonts with Subrs and glyphs give the lines beside them.
+fn assert_fonts(rt: &impl Abort, alloc: Global, cases: &[(&str, &str, &str)]) -> Result<(), Fail> {
+    for (subrs, glyphs, lines) in cases {
+        let found = lines_of_sample(alloc, &with_glyphs(alloc, subrs, glyphs)?)?;
+        assert_eq!(rt; found.as_str(), *lines, "{subrs} {glyphs}");
+    }
+    Ok(())
+}
+
+/// The report of a font with the glyphs A, of sidebearing 0, B, of sidebearing 7, and C, which is these words.
+fn lines_of_c(alloc: Global, words: &str) -> Result<String, Fail> {
+    let glyphs = format!(in alloc; "A: 0 500 hsbw endchar | B: 7 500 hsbw endchar | C: {words}")?;
+    lines_of_sample(alloc, &with_glyphs(alloc, "", glyphs.as_str())?)
+}
+
+/// A glyph C beside A and B, of sidebearings 0 and 7, gives the lines beside it.
+fn assert_lines_of_c(rt: &impl Abort, alloc: Global, cases: &[(&str, &str)]) -> Result<(), Fail> {
+    for (words, lines) in cases {
+        let found = lines_of_c(alloc, words)?;
+        assert_eq!(rt; found.as_str(), *lines, "C: {words}");
+    }
+    Ok(())
+}
+
+/// A code is whole and from 0 to 255; a quotient may be one. 4259841 / 65536 is 1/65536 above 65.
+const CODES: &[(&str, &str)] = &[
+    ("0 500 hsbw 7 0 0 65 66 seac", ""),
+    (
+        "0 500 hsbw 7 0 0 -1 66 seac",
+        "1: glyph C - 9 K01 seac code is not 0 to 255\n",
+    ),
+    (
+        "0 500 hsbw 7 0 0 65 -1 seac",
+        "1: glyph C - 9 K01 seac code is not 0 to 255\n",
+    ),
+    (
+        "0 500 hsbw 7 0 0 256 66 seac",
+        "1: glyph C - 9 K01 seac code is not 0 to 255\n",
+    ),
+    (
+        "0 500 hsbw 7 0 0 65 256 seac",
+        "1: glyph C - 9 K01 seac code is not 0 to 255\n",
+    ),
+    (
+        "0 500 hsbw 7 0 0 131 2 div 66 seac",
+        "1: glyph C - 11 K01 seac code is not 0 to 255\n",
+    ),
+    (
+        "0 500 hsbw 7 0 0 65 131 2 div seac",
+        "1: glyph C - 11 K01 seac code is not 0 to 255\n",
+    ),
+    ("0 500 hsbw 7 0 0 130 2 div 66 seac", ""),
+    ("0 500 hsbw 7 0 0 65 132 2 div seac", ""),
+    (
+        "0 500 hsbw 7 0 0 4259841 65536 div 66 seac",
+        "1: glyph C - 11 K01 seac code is not 0 to 255\n",
+    ),
+    (
+        "0 500 hsbw 7 0 0 -1 65536 div 66 seac",
+        "1: glyph C - 11 K01 seac code is not 0 to 255\n",
+    ),
+    (
+        "0 500 hsbw 7 0 0 16711681 65536 div 66 seac",
+        "1: glyph C - 11 K01 seac code is not 0 to 255\n",
+    ),
+    (
+        "0 500 hsbw 7 0 0 40000 66 seac",
+        "1: glyph C - 9 C07 number out of range\n\
+2: glyph C - 9 K01 seac code is not 0 to 255\n",
+    ),
+    (
+        "0 500 hsbw 7 0 0 65 -2147483648 seac",
+        "1: glyph C - 9 C07 number out of range\n\
+2: glyph C - 9 K01 seac code is not 0 to 255\n",
+    ),
+];
+
+/// A code from 0 to 255 may have no name, and an absent code is 0. A rule is broken once, by one code or both.
+const CODES_WITHOUT_A_NAME: &[(&str, &str)] = &[
+    (
+        "0 500 hsbw 7 0 0 255 66 seac",
+        "1: glyph C - 9 K02 seac code not in StandardEncoding\n",
+    ),
+    (
+        "0 500 hsbw 7 0 0 65 255 seac",
+        "1: glyph C - 9 K02 seac code not in StandardEncoding\n",
+    ),
+    (
+        "0 500 hsbw 7 0 0 0 66 seac",
+        "1: glyph C - 9 K02 seac code not in StandardEncoding\n",
+    ),
+    (
+        "0 500 hsbw 9 0 0 65 0 seac",
+        "1: glyph C - 9 K02 seac code not in StandardEncoding\n",
+    ),
+    (
+        "0 500 hsbw 7 0 0 0 0 seac",
+        "1: glyph C - 9 K02 seac code not in StandardEncoding\n",
+    ),
+    (
+        "0 500 hsbw 7 0 0 0 255 seac",
+        "1: glyph C - 9 K02 seac code not in StandardEncoding\n",
+    ),
+    (
+        "0 500 hsbw 7 0 0 -1 256 seac",
+        "1: glyph C - 9 K01 seac code is not 0 to 255\n",
+    ),
+    (
+        "0 500 hsbw 7 0 0 -1 255 seac",
+        "1: glyph C - 9 K01 seac code is not 0 to 255\n\
+2: glyph C - 9 K02 seac code not in StandardEncoding\n",
+    ),
+    (
+        "0 500 hsbw 7 0 0 0 256 seac",
+        "1: glyph C - 9 K01 seac code is not 0 to 255\n\
+2: glyph C - 9 K02 seac code not in StandardEncoding\n",
+    ),
+    (
+        "0 500 hsbw seac",
+        "1: glyph C - 4 C04 too few arguments\n\
+2: glyph C - 4 K02 seac code not in StandardEncoding\n",
+    ),
+    (
+        "0 500 hsbw 9 0 0 65 seac",
+        "1: glyph C - 8 C04 too few arguments\n\
+2: glyph C - 8 K02 seac code not in StandardEncoding\n",
+    ),
+    (
+        "0 500 hsbw 7 0 0 65 66 255 seac",
+        "1: glyph C - 10 C05 too many arguments\n",
+    ),
+    (
+        "0 500 hsbw 255 7 0 0 65 66 seac",
+        "1: glyph C - 10 C05 too many arguments\n\
+2: glyph C - 10 K02 seac code not in StandardEncoding\n\
+3: glyph C - 10 K05 accent sidebearing differs\n",
+    ),
+];
+
+/// Codes 68, 69, 98 and 194 are D, E, b and acute, which aren't in the font. Of a component that isn't there
+/// nothing else is asked.
+const COMPONENTS_THAT_ARE_NOT_THERE: &[(&str, &str)] = &[
+    (
+        "0 500 hsbw 7 0 0 68 66 seac",
+        "1: glyph C - 9 K03 seac component missing\n",
+    ),
+    (
+        "0 500 hsbw 9 0 0 65 68 seac",
+        "1: glyph C - 9 K03 seac component missing\n",
+    ),
+    (
+        "0 500 hsbw 7 0 0 68 69 seac",
+        "1: glyph C - 9 K03 seac component missing\n",
+    ),
+    (
+        "0 500 hsbw 7 0 0 68 68 seac",
+        "1: glyph C - 9 K03 seac component missing\n",
+    ),
+    (
+        "0 500 hsbw 7 0 0 65 98 seac",
+        "1: glyph C - 9 K03 seac component missing\n",
+    ),
+    (
+        "0 500 hsbw 7 0 0 65 194 seac",
+        "1: glyph C - 9 K03 seac component missing\n",
+    ),
+    (
+        "0 500 hsbw 7 0 0 -1 68 seac",
+        "1: glyph C - 9 K01 seac code is not 0 to 255\n\
+2: glyph C - 9 K03 seac component missing\n",
+    ),
+    (
+        "0 500 hsbw 7 0 0 68 0 seac",
+        "1: glyph C - 9 K02 seac code not in StandardEncoding\n\
+2: glyph C - 9 K03 seac component missing\n",
+    ),
+    (
+        "0 500 hsbw 9 0 0 65 133 2 div seac",
+        "1: glyph C - 11 K01 seac code is not 0 to 255\n",
+    ),
+];
+
+#[test]
+fn codes_of_seac(rt: HostRuntime) -> Result<(), Fail> {
+    assert_lines_of_c(&rt, rt.alloc(), CODES)?;
+    assert_lines_of_c(&rt, rt.alloc(), CODES_WITHOUT_A_NAME)?;
+    assert_lines_of_c(&rt, rt.alloc(), COMPONENTS_THAT_ARE_NOT_THERE)
+}
+
+/// The accent's sidebearing alone is compared, and exactly: neither the base's nor the glyph's own.
+const ACCENTS: &[(&str, &str)] = &[
+    (
+        "0 500 hsbw 8 0 0 65 66 seac",
+        "1: glyph C - 9 K05 accent sidebearing differs\n",
+    ),
+    (
+        "0 500 hsbw 0 0 0 65 66 seac",
+        "1: glyph C - 9 K05 accent sidebearing differs\n",
+    ),
+    (
+        "0 500 hsbw -7 0 0 65 66 seac",
+        "1: glyph C - 9 K05 accent sidebearing differs\n",
+    ),
+    ("0 500 hsbw 0 0 0 66 65 seac", ""),
+    (
+        "0 500 hsbw 7 0 0 66 65 seac",
+        "1: glyph C - 9 K05 accent sidebearing differs\n",
+    ),
+    ("0 500 hsbw 7 0 0 66 66 seac", ""),
+    (
+        "0 500 hsbw 0 0 0 66 66 seac",
+        "1: glyph C - 9 K05 accent sidebearing differs\n",
+    ),
+    ("3 500 hsbw 7 9 -9 65 66 seac", ""),
+    ("0 500 hsbw 14 2 div 0 0 65 66 seac", ""),
+    (
+        "0 500 hsbw 458753 65536 div 0 0 65 66 seac",
+        "1: glyph C - 11 K05 accent sidebearing differs\n",
+    ),
+    (
+        "7 0 0 65 66 seac",
+        "1: glyph C - 6 W01 hsbw or sbw not first\n",
+    ),
+];
+
+/// Both numbers are kept within 32000. The sidebearing may be a fraction, and an absent one is 0.
+const NUMBERS_OF_SIDEBEARINGS: &[(&str, &str, &str)] = &[
+    (
+        "",
+        "B: 32000 500 hsbw endchar | C: 0 500 hsbw 40000 0 0 66 66 seac",
+        "1: glyph C - 9 C07 number out of range\n",
+    ),
+    (
+        "",
+        "B: 40000 500 hsbw endchar | C: 0 500 hsbw 32000 0 0 66 66 seac",
+        "1: glyph B - 3 C07 number out of range\n",
+    ),
+    (
+        "",
+        "B: 40000 500 hsbw endchar | C: 0 500 hsbw 32001 0 0 66 66 seac",
+        "1: glyph B - 3 C07 number out of range\n\
+2: glyph C - 9 C07 number out of range\n",
+    ),
+    (
+        "",
+        "B: 40000 500 hsbw endchar | C: 0 500 hsbw 31999 0 0 66 66 seac",
+        "1: glyph B - 3 C07 number out of range\n\
+2: glyph C - 9 K05 accent sidebearing differs\n",
+    ),
+    (
+        "",
+        "B: -40000 500 hsbw endchar | C: 0 500 hsbw -32000 0 0 66 66 seac",
+        "1: glyph B - 3 C07 number out of range\n",
+    ),
+    (
+        "",
+        "B: 15 2 div 500 hsbw endchar | C: 0 500 hsbw 15 2 div 0 0 66 66 seac",
+        "",
+    ),
+    (
+        "",
+        "B: 15 2 div 500 hsbw endchar | C: 0 500 hsbw 7 0 0 66 66 seac",
+        "1: glyph C - 9 K05 accent sidebearing differs\n",
+    ),
+    (
+        "",
+        "B: 15 2 div 500 hsbw endchar | C: 0 500 hsbw 8 0 0 66 66 seac",
+        "1: glyph C - 9 K05 accent sidebearing differs\n",
+    ),
+    (
+        "",
+        "B: hsbw endchar | C: 0 500 hsbw 0 0 0 66 66 seac",
+        "1: glyph B - 1 C04 too few arguments\n",
+    ),
+    (
+        "",
+        "B: hsbw endchar | C: 0 500 hsbw 1 0 0 66 66 seac",
+        "1: glyph B - 1 C04 too few arguments\n\
+2: glyph C - 9 K05 accent sidebearing differs\n",
+    ),
+    (
+        "",
+        "B: 7 500 8 hsbw endchar | C: 0 500 hsbw 7 0 0 66 66 seac",
+        "1: glyph B - 4 C05 too many arguments\n",
+    ),
+];
+
+/// The first hsbw or sbw that is executed counts, wherever it stands.
+const PLACES_OF_SIDEBEARINGS: &[(&str, &str, &str)] = &[
+    (
+        "",
+        "B: 7 500 hsbw 8 500 hsbw endchar | C: 0 500 hsbw 7 0 0 66 66 seac",
+        "1: glyph B - 6 W02 hsbw or sbw again\n",
+    ),
+    (
+        "",
+        "B: 7 500 hsbw 8 500 hsbw endchar | C: 0 500 hsbw 8 0 0 66 66 seac",
+        "1: glyph B - 6 W02 hsbw or sbw again\n\
+2: glyph C - 9 K05 accent sidebearing differs\n",
+    ),
+    (
+        "",
+        "B: 7 9 500 0 sbw endchar | C: 0 500 hsbw 7 0 0 66 66 seac",
+        "",
+    ),
+    (
+        "",
+        "B: 7 9 500 0 sbw endchar | C: 0 500 hsbw 9 0 0 66 66 seac",
+        "1: glyph C - 9 K05 accent sidebearing differs\n",
+    ),
+    (
+        "",
+        "B: 7 9 500 0 sbw 8 500 hsbw endchar | C: 0 500 hsbw 7 0 0 66 66 seac",
+        "1: glyph B - 8 W02 hsbw or sbw again\n",
+    ),
+    (
+        "",
+        "B: 7 500 hsbw 8 9 500 0 sbw endchar | C: 0 500 hsbw 8 0 0 66 66 seac",
+        "1: glyph B - 8 W02 hsbw or sbw again\n\
+2: glyph C - 9 K05 accent sidebearing differs\n",
+    ),
+    (
+        "",
+        "B: 0 hmoveto 7 500 hsbw endchar | C: 0 500 hsbw 7 0 0 66 66 seac",
+        "1: glyph B - 2 W01 hsbw or sbw not first\n\
+2: glyph B - 5 W02 hsbw or sbw again\n",
+    ),
+    (
+        "5: 7 500 hsbw return",
+        "B: 5 callsubr endchar | C: 0 500 hsbw 7 0 0 66 66 seac",
+        "",
+    ),
+    (
+        "5: 7 500 hsbw return",
+        "B: 5 callsubr endchar | C: 0 500 hsbw 5 0 0 66 66 seac",
+        "1: glyph C - 9 K05 accent sidebearing differs\n",
+    ),
+];
+
+/// A component that is there and never executes hsbw or sbw has no sidebearing to compare.
+const COMPONENTS_WITHOUT_A_SIDEBEARING: &[(&str, &str, &str)] = &[
+    (
+        "",
+        "A: endchar | B: 0 500 hsbw endchar | C: 0 500 hsbw 0 0 0 65 66 seac",
+        "1: glyph A - 1 W01 hsbw or sbw not first\n\
+2: glyph C - 9 K07 seac component without sidebearing\n",
+    ),
+    (
+        "",
+        "A: endchar | B: 0 500 hsbw endchar | C: 0 500 hsbw 9 0 0 66 65 seac",
+        "1: glyph A - 1 W01 hsbw or sbw not first\n\
+2: glyph C - 9 K07 seac component without sidebearing\n",
+    ),
+    (
+        "",
+        "A: endchar | C: 0 500 hsbw 9 0 0 65 65 seac",
+        "1: glyph A - 1 W01 hsbw or sbw not first\n\
+2: glyph C - 9 K07 seac component without sidebearing\n",
+    ),
+    (
+        "",
+        "A: | C: 0 500 hsbw 0 0 0 65 65 seac",
+        "1: glyph A - 1 GE01 no endchar\n\
+2: glyph C - 9 K07 seac component without sidebearing\n",
+    ),
+    (
+        "",
+        "A: endchar 0 500 hsbw | C: 0 500 hsbw 0 0 0 65 65 seac",
+        "1: glyph A - 1 GE02 tokens after the end\n\
+2: glyph A - 1 W01 hsbw or sbw not first\n\
+3: glyph C - 9 K07 seac component without sidebearing\n",
+    ),
+    (
+        "4: 0 500 hsbw return",
+        "A: 5 callsubr endchar | C: 0 500 hsbw 0 0 0 65 65 seac",
+        "1: glyph A - 2 S01 no such Subr\n\
+2: glyph A - 3 W01 hsbw or sbw not first\n\
+3: glyph C - 9 K07 seac component without sidebearing\n",
+    ),
+    (
+        "",
+        "A: endchar | C: 0 500 hsbw 0 0 0 68 65 seac",
+        "1: glyph A - 1 W01 hsbw or sbw not first\n\
+2: glyph C - 9 K03 seac component missing\n\
+3: glyph C - 9 K07 seac component without sidebearing\n",
+    ),
+];
+
+#[test]
+fn sidebearings(rt: HostRuntime) -> Result<(), Fail> {
+    assert_lines_of_c(&rt, rt.alloc(), ACCENTS)?;
+    assert_fonts(&rt, rt.alloc(), NUMBERS_OF_SIDEBEARINGS)?;
+    assert_fonts(&rt, rt.alloc(), PLACES_OF_SIDEBEARINGS)?;
+    assert_fonts(&rt, rt.alloc(), COMPONENTS_WITHOUT_A_SIDEBEARING)
+}
+
+/// A component may not execute a seac, in a Subr either. A glyph may name itself.
+const NESTED_SEACS: &[(&str, &str, &str)] = &[
+    (
+        "",
+        "A: 0 500 hsbw endchar | B: 0 500 hsbw 0 0 0 65 65 seac | C: 0 500 hsbw 0 0 0 66 65 seac",
+        "1: glyph C - 9 K04 seac of a seac\n",
+    ),
+    (
+        "",
+        "A: 0 500 hsbw endchar | B: 0 500 hsbw 0 0 0 65 65 seac | C: 0 500 hsbw 0 0 0 65 66 seac",
+        "1: glyph C - 9 K04 seac of a seac\n",
+    ),
+    (
+        "",
+        "A: 0 500 hsbw endchar | B: 0 500 hsbw 0 0 0 65 65 seac | C: 0 500 hsbw 0 0 0 66 66 seac",
+        "1: glyph C - 9 K04 seac of a seac\n",
+    ),
+    (
+        "",
+        "A: 0 500 hsbw 0 0 0 65 65 seac",
+        "1: glyph A - 9 K04 seac of a seac\n",
+    ),
+    (
+        "",
+        "A: 0 500 hsbw endchar | B: 0 500 hsbw 0 0 0 66 65 seac",
+        "1: glyph B - 9 K04 seac of a seac\n",
+    ),
+    (
+        "",
+        "A: 0 500 hsbw endchar | B: 0 500 hsbw 0 0 0 65 66 seac",
+        "1: glyph B - 9 K04 seac of a seac\n",
+    ),
+    (
+        "",
+        "A: 0 500 hsbw 0 0 0 66 66 seac | B: 0 500 hsbw 0 0 0 65 65 seac",
+        "1: glyph A - 9 K04 seac of a seac\n\
+2: glyph B - 9 K04 seac of a seac\n",
+    ),
+    (
+        "5: 0 0 0 65 65 seac",
+        "A: 0 500 hsbw endchar | B: 0 500 hsbw 5 callsubr | C: 0 500 hsbw 0 0 0 66 65 seac",
+        "1: glyph C - 9 K04 seac of a seac\n",
+    ),
+    (
+        "5: 0 0 0 66 65 seac",
+        "A: 0 500 hsbw endchar | B: 0 500 hsbw 0 0 0 65 65 seac | C: 0 500 hsbw 5 callsubr",
+        "1: glyph C 5 11 K04 seac of a seac\n",
+    ),
+    (
+        "",
+        "A: 0 500 hsbw endchar | B: 0 500 hsbw endchar 0 0 0 65 65 seac | C: 0 500 hsbw 0 0 0 66 65 seac",
+        "1: glyph B - 4 GE02 tokens after the end\n",
+    ),
+    (
+        "",
+        "A: 0 500 hsbw endchar | B: 0 500 hsbw seac | C: 0 500 hsbw 0 0 0 66 65 seac",
+        "1: glyph B - 4 C04 too few arguments\n\
+2: glyph B - 4 K02 seac code not in StandardEncoding\n\
+3: glyph C - 9 K04 seac of a seac\n",
+    ),
+    (
+        "",
+        "A: 0 500 hsbw endchar | B: 0 0 0 65 65 seac | C: 0 500 hsbw 0 0 0 66 65 seac",
+        "1: glyph B - 6 W01 hsbw or sbw not first\n\
+2: glyph C - 9 K04 seac of a seac\n\
+3: glyph C - 9 K07 seac component without sidebearing\n",
+    ),
+];
+
+/// A component may stand behind the glyph that names it, and of a glyph that is given twice the later bytes
+/// count.
+const ORDERS_OF_GLYPHS: &[(&str, &str, &str)] = &[
+    (
+        "",
+        "C: 0 500 hsbw 0 0 0 65 65 seac | A: 0 500 hsbw endchar",
+        "",
+    ),
+    (
+        "",
+        "C: 0 500 hsbw 7 0 0 65 65 seac | A: 0 500 hsbw endchar",
+        "1: glyph C - 9 K05 accent sidebearing differs\n",
+    ),
+    (
+        "",
+        "C: 0 500 hsbw 0 0 0 66 65 seac | B: 0 500 hsbw 0 0 0 65 65 seac | A: 0 500 hsbw endchar",
+        "1: glyph C - 9 K04 seac of a seac\n",
+    ),
+    (
+        "",
+        "C: 0 500 hsbw 0 0 0 65 65 seac | A: endchar",
+        "1: glyph C - 9 K07 seac component without sidebearing\n\
+2: glyph A - 1 W01 hsbw or sbw not first\n",
+    ),
+    (
+        "",
+        "A: endchar | A: 7 500 hsbw endchar | C: 0 500 hsbw 7 0 0 65 65 seac",
+        "1: font CharStrings 1 F10 glyph given twice\n",
+    ),
+    (
+        "",
+        "A: 7 500 hsbw endchar | C: 0 500 hsbw 7 0 0 65 65 seac | A: 0 500 hsbw endchar",
+        "1: font CharStrings 1 F10 glyph given twice\n\
+2: glyph C - 9 K05 accent sidebearing differs\n",
+    ),
+];
+
+/// A code without a name has no component, and a glyph with the empty name is none.
+const GLYPHS_WITHOUT_A_NAME: &[(&str, &str, &str)] = &[
+    (
+        "",
+        "A: 0 500 hsbw endchar | : 9 500 hsbw endchar | C: 0 500 hsbw 0 0 0 65 255 seac",
+        "1: glyph C - 9 K02 seac code not in StandardEncoding\n",
+    ),
+    (
+        "",
+        "A: 0 500 hsbw endchar | : 0 500 hsbw 0 0 0 65 65 seac | C: 0 500 hsbw 0 0 0 65 0 seac",
+        "1: glyph C - 9 K02 seac code not in StandardEncoding\n",
+    ),
+    (
+        "",
+        "A: 0 500 hsbw endchar | : endchar | C: 0 500 hsbw 0 0 0 255 65 seac",
+        "1: glyph  - 1 W01 hsbw or sbw not first\n\
+2: glyph C - 9 K02 seac code not in StandardEncoding\n",
+    ),
+];
+
+/// An A with an acute, made as real fonts make it.
+const WELL_MADE: &[(&str, &str, &str)] = &[(
+    "",
+    "A: 20 600 hsbw 0 20 hstem 0 0 rmoveto 300 600 rlineto 300 -600 rlineto closepath endchar |\
+acute: 90 333 hsbw 100 500 rmoveto 100 100 rlineto -50 hlineto closepath endchar |\
+Aacute: 20 600 hsbw 90 150 200 65 194 seac",
+    "",
+)];
+
+#[test]
+fn components(rt: HostRuntime) -> Result<(), Fail> {
+    assert_fonts(&rt, rt.alloc(), NESTED_SEACS)?;
+    assert_fonts(&rt, rt.alloc(), ORDERS_OF_GLYPHS)?;
+    assert_fonts(&rt, rt.alloc(), GLYPHS_WITHOUT_A_NAME)?;
+    assert_fonts(&rt, rt.alloc(), WELL_MADE)
+}
+
+/// What draws, moves, or gives stems may not stand in front of a seac; the end of a flex draws, and an end
+/// outside a flex doesn't.
+const COMMANDS_BEFORE_SEAC: &[(&str, &str)] = &[
+    (
+        "0 500 hsbw 0 hmoveto 7 0 0 65 66 seac",
+        "1: glyph C - 11 K06 seac beside other commands\n",
+    ),
+    (
+        "0 500 hsbw 0 vmoveto 7 0 0 65 66 seac",
+        "1: glyph C - 11 K06 seac beside other commands\n",
+    ),
+    (
+        "0 500 hsbw 0 0 rmoveto 7 0 0 65 66 seac",
+        "1: glyph C - 12 K06 seac beside other commands\n",
+    ),
+    (
+        "0 500 hsbw 5 hlineto 7 0 0 65 66 seac",
+        "1: glyph C - 5 P01 drawing without a move\n\
+2: glyph C - 11 P02 path not closed\n\
+3: glyph C - 11 K06 seac beside other commands\n",
+    ),
+    (
+        "0 500 hsbw 5 vlineto 7 0 0 65 66 seac",
+        "1: glyph C - 5 P01 drawing without a move\n\
+2: glyph C - 11 P02 path not closed\n\
+3: glyph C - 11 K06 seac beside other commands\n",
+    ),
+    (
+        "0 500 hsbw 5 5 rlineto 7 0 0 65 66 seac",
+        "1: glyph C - 6 P01 drawing without a move\n\
+2: glyph C - 12 P02 path not closed\n\
+3: glyph C - 12 K06 seac beside other commands\n",
+    ),
+    (
+        "0 500 hsbw 1 2 3 4 5 6 rrcurveto 7 0 0 65 66 seac",
+        "1: glyph C - 10 P01 drawing without a move\n\
+2: glyph C - 16 P02 path not closed\n\
+3: glyph C - 16 K06 seac beside other commands\n",
+    ),
+    (
+        "0 500 hsbw 1 2 3 4 vhcurveto 7 0 0 65 66 seac",
+        "1: glyph C - 8 P01 drawing without a move\n\
+2: glyph C - 14 P02 path not closed\n\
+3: glyph C - 14 K06 seac beside other commands\n",
+    ),
+    (
+        "0 500 hsbw 1 2 3 4 hvcurveto 7 0 0 65 66 seac",
+        "1: glyph C - 8 P01 drawing without a move\n\
+2: glyph C - 14 P02 path not closed\n\
+3: glyph C - 14 K06 seac beside other commands\n",
+    ),
+    (
+        "0 500 hsbw 0 20 hstem 7 0 0 65 66 seac",
+        "1: glyph C - 12 K06 seac beside other commands\n",
+    ),
+    (
+        "0 500 hsbw 0 20 vstem 7 0 0 65 66 seac",
+        "1: glyph C - 12 K06 seac beside other commands\n",
+    ),
+    (
+        "0 500 hsbw 40 20 80 20 120 20 hstem3 7 0 0 65 66 seac",
+        "1: glyph C - 16 K06 seac beside other commands\n",
+    ),
+    (
+        "0 500 hsbw 40 20 80 20 120 20 vstem3 7 0 0 65 66 seac",
+        "1: glyph C - 16 K06 seac beside other commands\n",
+    ),
+    (
+        "0 500 hsbw closepath 7 0 0 65 66 seac",
+        "1: glyph C - 4 P03 closepath without a path\n\
+2: glyph C - 10 K06 seac beside other commands\n",
+    ),
+    (
+        "0 500 hsbw 0 20 hstem 0 hmoveto 5 hlineto closepath 7 0 0 65 66 seac",
+        "1: glyph C - 17 K06 seac beside other commands\n",
+    ),
+    (
+        "0 500 hsbw 0 1 callothersubr 50 0 0 3 0 callothersubr 7 0 0 65 66 seac",
+        "1: glyph C - 12 P01 drawing without a move\n\
+2: glyph C - 12 X04 flex points are not seven pairs\n\
+3: glyph C - 18 P02 path not closed\n\
+4: glyph C - 18 K06 seac beside other commands\n",
+    ),
+    (
+        "0 500 hsbw 0 1 callothersubr 1 hmoveto 7 0 0 65 66 seac",
+        "1: glyph C - 14 X03 command inside flex\n\
+2: glyph C - 14 K06 seac beside other commands\n",
+    ),
+    (
+        "0 500 hsbw 50 0 0 3 0 callothersubr 7 0 0 65 66 seac",
+        "1: glyph C - 9 X02 flex call outside flex\n",
+    ),
+];
+
+/// Nothing else in front of a seac breaks the rule.
+const HARMLESS_BEFORE_SEAC: &[(&str, &str)] = &[
+    (
+        "0 500 hsbw 0 1 callothersubr 7 0 0 65 66 seac",
+        "1: glyph C - 12 X03 command inside flex\n",
+    ),
+    (
+        "0 500 hsbw 0 1 callothersubr 0 2 callothersubr 7 0 0 65 66 seac",
+        "1: glyph C - 9 X04 flex points are not seven pairs\n\
+2: glyph C - 15 X03 command inside flex\n",
+    ),
+    ("0 500 hsbw dotsection 7 0 0 65 66 seac", ""),
+    (
+        "0 500 hsbw 0 0 setcurrentpoint 7 0 0 65 66 seac",
+        "1: glyph C - 6 X06 setcurrentpoint outside flex\n",
+    ),
+    (
+        "0 500 hsbw 0 500 hsbw 7 0 0 65 66 seac",
+        "1: glyph C - 6 W02 hsbw or sbw again\n",
+    ),
+    ("0 0 500 0 sbw 7 0 0 65 66 seac", ""),
+    (
+        "0 500 hsbw #15 7 0 0 65 66 seac",
+        "1: glyph C - 4 C03 unknown command\n",
+    ),
+    ("0 500 hsbw 0 12 callothersubr 7 0 0 65 66 seac", ""),
+    (
+        "0 500 hsbw 7 0 0 65 66 seac 0 hmoveto endchar",
+        "1: glyph C - 9 GE02 tokens after the end\n",
+    ),
+];
+
+/// What a Subr executes stands in front of the seac, and a seac may stand in a Subr.
+const SUBRS_AND_SEAC: &[(&str, &str, &str)] = &[
+    (
+        "5: return",
+        "A: 0 500 hsbw endchar | C: 0 500 hsbw 5 1 3 callothersubr pop callsubr 0 0 0 65 65 seac",
+        "",
+    ),
+    (
+        "5: 0 20 hstem return",
+        "A: 0 500 hsbw endchar | C: 0 500 hsbw 5 callsubr 0 0 0 65 65 seac",
+        "1: glyph C - 15 K06 seac beside other commands\n",
+    ),
+    (
+        "5: 0 0 0 65 65 seac",
+        "A: 0 500 hsbw endchar | C: 0 500 hsbw 0 hmoveto 5 callsubr",
+        "1: glyph C 5 13 K06 seac beside other commands\n",
+    ),
+    (
+        "5: 0 20 hstem return",
+        "A: 0 500 hsbw 5 callsubr endchar | C: 0 500 hsbw 0 0 0 65 65 seac",
+        "",
+    ),
+];
+
+#[test]
+fn commands_beside_seac(rt: HostRuntime) -> Result<(), Fail> {
+    assert_lines_of_c(&rt, rt.alloc(), COMMANDS_BEFORE_SEAC)?;
+    assert_lines_of_c(&rt, rt.alloc(), HARMLESS_BEFORE_SEAC)?;
+    assert_fonts(&rt, rt.alloc(), SUBRS_AND_SEAC)
+}
+
+/// Several rules at one step come in their order, each once.
+const RULES_AT_ONE_STEP: &[(&str, &str, &str)] = &[
+    (
+        "",
+        "A: 0 500 hsbw endchar | B: 7 500 hsbw 0 0 0 65 65 seac | C: 0 500 hsbw 0 hmoveto 0 0 0 68 66 seac",
+        "1: glyph C - 11 K03 seac component missing\n\
+2: glyph C - 11 K04 seac of a seac\n\
+3: glyph C - 11 K05 accent sidebearing differs\n\
+4: glyph C - 11 K06 seac beside other commands\n",
+    ),
+    (
+        "",
+        "A: 0 500 hsbw endchar | B: 7 500 hsbw 0 0 0 65 65 seac | D: endchar |\
+C: 0 500 hsbw 0 hmoveto 0 0 0 68 66 seac",
+        "1: glyph D - 1 W01 hsbw or sbw not first\n\
+2: glyph C - 11 K04 seac of a seac\n\
+3: glyph C - 11 K05 accent sidebearing differs\n\
+4: glyph C - 11 K06 seac beside other commands\n\
+5: glyph C - 11 K07 seac component without sidebearing\n",
+    ),
+    (
+        "",
+        "A: 0 500 hsbw endchar | B: 7 500 hsbw 0 0 0 65 65 seac | C: 0 500 hsbw 0 hmoveto 0 0 0 -1 66 seac",
+        "1: glyph C - 11 K01 seac code is not 0 to 255\n\
+2: glyph C - 11 K04 seac of a seac\n\
+3: glyph C - 11 K05 accent sidebearing differs\n\
+4: glyph C - 11 K06 seac beside other commands\n",
+    ),
+    (
+        "",
+        "A: 0 500 hsbw endchar | C: 40000 0 0 0 65 9 seac endchar",
+        "1: glyph C - 7 C05 too many arguments\n\
+2: glyph C - 7 C07 number out of range\n\
+3: glyph C - 7 GE02 tokens after the end\n\
+4: glyph C - 7 W01 hsbw or sbw not first\n\
+5: glyph C - 7 K02 seac code not in StandardEncoding\n\
+6: glyph C - 7 K05 accent sidebearing differs\n",
+    ),
+    (
+        "",
+        "A: 0 500 hsbw endchar | C: 0 500 hsbw 0 hmoveto 5 hlineto 0 1 callothersubr 0 0 0 65 255 seac",
+        "1: glyph C - 16 P02 path not closed\n\
+2: glyph C - 16 X03 command inside flex\n\
+3: glyph C - 16 K02 seac code not in StandardEncoding\n\
+4: glyph C - 16 K06 seac beside other commands\n",
+    ),
+];
+
+#[test]
+fn rules_at_one_seac(rt: HostRuntime) -> Result<(), Fail> {
+    assert_fonts(&rt, rt.alloc(), RULES_AT_ONE_STEP)
+}
+
+/// A glyph without a name in StandardEncoding as a component, and an accent of another sidebearing.
+const TWO_FAULTS: &str = "\
+A: 0 500 hsbw endchar | B: 0 500 hsbw 0 0 0 0 0 seac | C: 0 500 hsbw 7 0 0 65 65 seac";
+
+/// Glyphs of which C is sound.
+const NO_FAULT: &str = "\
+A: 0 500 hsbw endchar | B: 7 500 hsbw endchar | C: 0 500 hsbw 0 0 0 65 65 seac";
+
+/// The font's own Encoding, of any form, doesn't name the components.
+const ENCODINGS: &[(&str, &str, &str)] = &[
+    (
+        "/Encoding StandardEncoding def\n",
+        TWO_FAULTS,
+        "1: glyph B - 9 K02 seac code not in StandardEncoding\n\
+2: glyph C - 9 K05 accent sidebearing differs\n",
+    ),
+    (
+        "/Encoding 256 array dup 65 /B put def\n",
+        TWO_FAULTS,
+        "1: glyph B - 9 K02 seac code not in StandardEncoding\n\
+2: glyph C - 9 K05 accent sidebearing differs\n",
+    ),
+    (
+        "/Encoding 256 array dup 0 /A put def\n",
+        TWO_FAULTS,
+        "1: glyph B - 9 K02 seac code not in StandardEncoding\n\
+2: glyph C - 9 K05 accent sidebearing differs\n",
+    ),
+    ("/Encoding 256 array dup 65 /B put def\n", NO_FAULT, ""),
+    ("/Encoding 256 array def\n", NO_FAULT, ""),
+    (
+        "/Encoding [/B] def\n",
+        NO_FAULT,
+        "1: font Encoding 0 F11 Encoding of another form\n",
+    ),
+    (
+        "",
+        NO_FAULT,
+        "1: font Encoding 0 F11 Encoding of another form\n",
+    ),
+];
+
+/// The report of a font with this Encoding and these glyphs.
+fn lines_of_encoded(alloc: Global, encoding: &str, glyphs: &str) -> Result<String, Fail> {
+    let sample = with_glyphs(alloc, "", glyphs)?.encoding(encoding.as_bytes())?;
+    lines_of_sample(alloc, &sample)
+}
+
+#[test]
+fn encodings_name_no_components(rt: HostRuntime) -> Result<(), Fail> {
+    for (encoding, glyphs, lines) in ENCODINGS {
+        let found = lines_of_encoded(rt.alloc(), encoding, glyphs)?;
+        assert_eq!(rt; found.as_str(), *lines, "{encoding} {glyphs}");
+    }
+    Ok(())
+}
+
+/// The words of B in front of 12 calls of a Subr that is so many times dotsection and a return, those behind
+/// them, the words of C, and the lines. Of a component 100,000 steps count, and of each glyph as many.
+const LONG_COMPONENTS: &[(&str, usize, &str, &str, &str)] = &[
+    (
+        "0 500 hsbw",
+        8_329,
+        "dotsection dotsection dotsection dotsection dotsection dotsection dotsection 0 0 0 65 0 seac",
+        "0 500 hsbw 0 0 0 65 66 seac",
+        "1: glyph B - 100000 K02 seac code not in StandardEncoding\n\
+2: glyph C - 9 K04 seac of a seac\n",
+    ),
+    (
+        "0 500 hsbw",
+        8_329,
+        "dotsection dotsection dotsection dotsection dotsection dotsection dotsection dotsection \
+         0 0 0 65 0 seac",
+        "0 500 hsbw 0 0 0 65 66 seac",
+        "1: glyph B - 100001 L01 step limit\n",
+    ),
+    (
+        "",
+        8_330,
+        "dotsection 7 500 hsbw endchar",
+        "0 500 hsbw 7 0 0 65 66 seac",
+        "1: glyph B 5 3 W01 hsbw or sbw not first\n\
+2: glyph B - 100000 W02 hsbw or sbw again\n\
+3: glyph B - 100001 L01 step limit\n",
+    ),
+    (
+        "",
+        8_330,
+        "dotsection 7 500 hsbw endchar",
+        "0 500 hsbw 8 0 0 65 66 seac",
+        "1: glyph B 5 3 W01 hsbw or sbw not first\n\
+2: glyph B - 100000 W02 hsbw or sbw again\n\
+3: glyph B - 100001 L01 step limit\n\
+4: glyph C - 9 K05 accent sidebearing differs\n",
+    ),
+    (
+        "",
+        8_330,
+        "dotsection dotsection 7 500 hsbw endchar",
+        "0 500 hsbw 8 0 0 65 66 seac",
+        "1: glyph B 5 3 W01 hsbw or sbw not first\n\
+2: glyph B - 100001 L01 step limit\n\
+3: glyph C - 9 K07 seac component without sidebearing\n",
+    ),
+];
+
+/// The report of a font with a component B of these words around twelve calls of the Subr.
+fn lines_of_a_long_component(
+    alloc: Global,
+    front: &str,
+    times: usize,
+    back: &str,
+    accented: &str,
+) -> Result<String, Fail> {
+    let subr = "dotsection ".repeat(alloc, times)?;
+    let subrs = format!(in alloc; "5: {subr} return")?;
+    let calls = "5 callsubr ".repeat(alloc, 12)?;
+    let glyphs = format!(in alloc;
+        "A: 0 500 hsbw endchar | B: {front} {calls} {back} | C: {accented}"
+    )?;
+    lines_of_sample(alloc, &with_glyphs(alloc, subrs.as_str(), glyphs.as_str())?)
+}
+
+#[test]
+fn components_past_the_limit(rt: HostRuntime) -> Result<(), Fail> {
+    for (front, times, back, accented, lines) in LONG_COMPONENTS {
+        let found = lines_of_a_long_component(rt.alloc(), front, *times, back, accented)?;
+        assert_eq!(rt;
+            found.as_str(),
+            *lines,
+            "{front} {times} {back} C: {accented}"
+        );
+    }
+    Ok(())
+}
+
+/// StandardEncoding: a code, and its name and those of the codes behind it.
+const STANDARD_NAMES: &[(u32, &str)] = &[
+    (
+        32,
+        "space exclam quotedbl numbersign dollar percent ampersand quoteright parenleft parenright \
+         asterisk plus comma hyphen period slash",
+    ),
+    (48, "zero one two three four five six seven eight nine"),
+    (58, "colon semicolon less equal greater question at"),
+    (65, "A B C D E F G H I J K L M N O P Q R S T U V W X Y Z"),
+    (
+        91,
+        "bracketleft backslash bracketright asciicircum underscore quoteleft",
+    ),
+    (97, "a b c d e f g h i j k l m n o p q r s t u v w x y z"),
+    (123, "braceleft bar braceright asciitilde"),
+    (
+        161,
+        "exclamdown cent sterling fraction yen florin section currency quotesingle quotedblleft \
+         guillemotleft guilsinglleft guilsinglright fi fl",
+    ),
+    (177, "endash dagger daggerdbl periodcentered"),
+    (
+        182,
+        "paragraph bullet quotesinglbase quotedblbase quotedblright guillemotright ellipsis \
+         perthousand",
+    ),
+    (191, "questiondown"),
+    (
+        193,
+        "grave acute circumflex tilde macron breve dotaccent dieresis",
+    ),
+    (202, "ring cedilla"),
+    (205, "hungarumlaut ogonek caron emdash"),
+    (225, "AE"),
+    (227, "ordfeminine"),
+    (232, "Lslash Oslash OE ordmasculine"),
+    (241, "ae"),
+    (245, "dotlessi"),
+    (248, "lslash oslash oe germandbls"),
+];
+
+/// The first and the last of codes in a row without a name.
+const CODES_IN_NO_ENCODING: &[(u32, u32)] = &[
+    (0, 31),
+    (127, 160),
+    (176, 176),
+    (181, 181),
+    (190, 190),
+    (192, 192),
+    (201, 201),
+    (204, 204),
+    (209, 224),
+    (226, 226),
+    (228, 231),
+    (236, 240),
+    (242, 244),
+    (246, 247),
+    (252, 255),
+];
+
+/// Adds a glyph of each name from this code on, whose sidebearing is its code.
+fn add_names(alloc: Global, mut sample: Sample, first: u32, names: &str) -> Result<Sample, Fail> {
+    for (code, name) in (first..).zip(names.split_whitespace()) {
+        let words = format!(in alloc; "{code} 500 hsbw endchar")?;
+        sample = sample.glyph(
+            name.as_bytes(),
+            charstring(alloc, words.as_str())?.as_slice(),
+        )?;
+    }
+    Ok(sample)
+}
+
+/// Adds an accented glyph for each code, which is its base, its accent and the sidebearing that it wants.
+fn add_codes(alloc: Global, mut sample: Sample) -> Result<Sample, Fail> {
+    for code in 0..256u32 {
+        let name = format!(in alloc; "code{code}")?;
+        let words = format!(in alloc; "0 500 hsbw {code} 0 0 {code} {code} seac")?;
+        sample = sample.glyph(
+            name.as_bytes(),
+            charstring(alloc, words.as_str())?.as_slice(),
+        )?;
+    }
+    Ok(sample)
+}
+
+/// A font with the 149 glyphs that StandardEncoding names, and 256 accented glyphs.
+fn with_all_codes(alloc: Global) -> Result<Sample, Fail> {
+    let mut sample = Sample::new(alloc)?;
+    for (first, names) in STANDARD_NAMES {
+        sample = add_names(alloc, sample, *first, names)?;
+    }
+    add_codes(alloc, sample)
+}
+
+/// The unit of the accented glyph of code 0, behind the font, .notdef and 149 glyphs.
+const FIRST_UNIT: u32 = 151;
+
+/// The codes whose accented glyphs are told to have no name.
+fn codes_told(alloc: Global, faults: &[Told]) -> Result<Vec<u32>, Fail> {
+    let mut codes = Vec::new(alloc);
+    for fault in faults {
+        if fault.step != 9 || fault.rule != Rule::K02 {
+            return Err(Fail::from("another fault"));
+        }
+        codes.push(fault.unit.wrapping_sub(FIRST_UNIT))?;
+    }
+    Ok(codes)
+}
+
+/// The codes that have no name.
+fn codes_in_no_encoding(alloc: Global) -> Result<Vec<u32>, Fail> {
+    let mut codes = Vec::new(alloc);
+    for (first, last) in CODES_IN_NO_ENCODING {
+        for code in *first..last.wrapping_add(1) {
+            codes.push(code)?;
+        }
+    }
+    Ok(codes)
+}
+
+/// Each named code means the glyph of its name, and each other code breaks the rule on names alone.
+#[test]
+fn standard_encoding_names_components(rt: HostRuntime) -> Result<(), Fail> {
+    let alloc = rt.alloc();
+    let faults = faults_of(alloc, with_all_codes(alloc)?.pfb()?.as_slice())?;
+    let told = codes_told(alloc, faults.as_slice())?;
+    assert_eq!(rt; told.as_slice(), codes_in_no_encoding(alloc)?.as_slice());
+    Ok(())
+}
