@@ -1,5 +1,5 @@
 -- What watchers keep of the steps that they have seen.
-use Rattle.std.specs.Prelude.{◌≡◌, ⊤, false, ℕ, ℤ, pos, ◌+ℤ◌, ◌*◌, ◌&&◌, ◌≤◌, ◌≤ℤ◌, List, length}
+use Rattle.std.specs.Prelude.{◌≡◌, ⊤, false, ℕ, pos, ◌+ℤ◌, ◌*◌, ◌&&◌, ◌≤◌, ◌≤ℤ◌, List, length}
 use Rattle.t1_char.specs.Arguments.{is_callothersubr, is_flex_end}
 use Rattle.t1_char.specs.Laws.Steps.{is_finishing}
 use Rattle.t1_char.specs.Since.{any_so_far, was}

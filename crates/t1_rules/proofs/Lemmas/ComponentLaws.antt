@@ -1,6 +1,6 @@
 -- StandardEncoding's names, and what components depend on.
-use Rattle.std.proofs.Common.{◌≡◌, ℕ, zero, suc, ◌<◌, ◌≤◌, ◌==◌, ◌&&◌, ◌||◌, not, nat_lt, if◌then◌else◌, Bool, true, false, Option, Some, None, List, [], ◌∷◌, ◌++◌, length, map, take, slice_get, slice_index_or, count_by, refl, sym, ap, ◌∙◌, arith}
-use Rattle.std.specs.List.{AllPass, list_any, position, position_or_len, range_with_len}
+use Rattle.std.proofs.Common.{◌≡◌, ℕ, zero, suc, ◌<◌, ◌==◌, ◌&&◌, ◌||◌, not, nat_lt, if◌then◌else◌, Bool, true, false, Option, Some, None, List, [], ◌∷◌, ◌++◌, length, map, take, slice_get, slice_index_or, refl, sym, ap, ◌∙◌, arith}
+use Rattle.std.specs.List.{AllPass, list_any, position_or_len, range_with_len}
 use Rattle.t1_char.specs.Charstrings.{code_at, code_or_empty, tokens_in}
 use Rattle.t1_char.specs.declared.token.CharToken.{CharToken}
 use Rattle.t1_char.specs.Effects.{Action, State, calls, finishes, goes, most_calls, returns}
@@ -9,7 +9,7 @@ use Rattle.t1_font.specs.declared.encoding.Encoding.{Encoding}
 use Rattle.t1_font.specs.Fonts.{FontValue}
 use Rattle.t1_font.specs.Keys.{same_name}
 use Rattle.t1_rules.specs.Components.{component_at, component_in, component_named, component_of_glyph, components_of, glyph_named}
-use Rattle.t1_rules.specs.Laws.Components.{CodesAreCounted, NamesAreCounted, NoNameStandsTwice, OwnEncodingHasNoSay, PlacesHaveNoSay, encoded_anew, has_letters, steps_by_code}
+use Rattle.t1_rules.specs.Laws.Components.{CodesAreCounted, NamesAreCounted, NoNameStandsTwice, OwnEncodingHasNoSay, PlacesHaveNoSay, encoded_anew}
 use Rattle.t1_rules.specs.StandardEncoding.{standard_encoding, standard_name}
 use Rattle.t1_rules.proofs.Lemmas.Book.{both}
 use Rattle.t1_rules.proofs.Lemmas.Components.{named_by_letters}

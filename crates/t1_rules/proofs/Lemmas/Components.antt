@@ -1,5 +1,5 @@
 -- Components of accented characters, step by step and code by code.
-use Rattle.std.proofs.Common.{◌≡◌, ℕ, ◌+◌, ◌<◌, ◌==◌, ◌||◌, if◌then◌else◌, Bool, true, false, Option, Some, None, List, [], ◌∷◌, ◌++◌, length, map, slice_index_or, take, refl, sym, ap, ◌∙◌, arith}
+use Rattle.std.proofs.Common.{◌≡◌, ℕ, ◌+◌, ◌<◌, ◌==◌, ◌||◌, if◌then◌else◌, Bool, true, false, Some, List, [], ◌∷◌, ◌++◌, length, map, slice_index_or, take, refl, sym, ap, ◌∙◌, arith}
 use Rattle.std.specs.List.{list_any}
 use Rattle.std.proofs.lemmas.List.{map-append, take_more, take-map, take-take}
 use Rattle.t1_char.specs.declared.step.Step.{Step}
@@ -7,7 +7,7 @@ use Rattle.t1_char.specs.Arguments.{argument}
 use Rattle.t1_char.specs.Steps.{StepView, first_steps, numbered, steps_of}
 use Rattle.t1_char.specs.StepValues.{step_value, step_view}
 use Rattle.t1_font.specs.Fonts.{FontValue}
-use Rattle.t1_rules.specs.Components.{component, component_in, component_named, component_of_glyph, glyph_named, first_sidebearing, is_seac_step}
+use Rattle.t1_rules.specs.Components.{component_in, component_named, component_of_glyph, glyph_named, first_sidebearing, is_seac_step}
 use Rattle.t1_rules.specs.StepRules.Tokens.{sets_width}
 use Rattle.t1_rules.specs.Words.Seac.{sidebearing_with, with_step}
 

@@ -1,5 +1,5 @@
 -- The current point, and what else the watcher of flex keeps, one step further.
-use Rattle.std.proofs.Common.{◌≡◌, ℕ, suc, ℤ, pos, ◌+◌, ◌<◌, ◌≤◌, ◌+ℤ◌, ◌≤ℤ◌, ◌&&◌, ◌||◌, not, if◌then◌else◌, Bool, true, false, Option, Some, None, List, [], ◌∷◌, ◌++◌, length, length-append, refl, sym, ap, ◌∙◌, arith}
+use Rattle.std.proofs.Common.{◌≡◌, ℕ, suc, ℤ, pos, ◌+◌, ◌≤◌, ◌+ℤ◌, ◌&&◌, ◌||◌, not, if◌then◌else◌, Bool, true, false, Some, List, [], ◌∷◌, ◌++◌, length, length-append, refl, sym, ap, ◌∙◌, arith}
 use Rattle.std.proofs.lemmas.Int.{ints}
 use Rattle.t1_char.specs.Arguments.{is_flex_start, is_flex_point, is_flex_end}
 use Rattle.t1_char.specs.Since.{after_last, last_of}

@@ -1,11 +1,8 @@
 -- The current point behind a step, and the pairs of a flex.
-use Rattle.std.proofs.Common.{◌≡◌, ℕ, zero, suc, ◌+◌, ◌<◌, ◌==◌, ◌≤◌, ◌&&◌, ◌||◌, not, if◌then◌else◌, Bool, true, false, nat_le, nat_lt, ℤ, pos, Some, None, List, [], ◌∷◌, ◌++◌, length, length-append, take, drop, slice_get, count_by, refl, sym, ap, ◌∙◌, append_assoc, append-nil, arith}
+use Rattle.std.proofs.Common.{◌≡◌, ℕ, suc, ◌+◌, ◌<◌, ◌==◌, ◌&&◌, if◌then◌else◌, Bool, true, false, nat_le, nat_lt, ℤ, Some, List, [], ◌∷◌, ◌++◌, length, length-append, slice_get, refl, sym, ◌∙◌, append_assoc, append-nil, arith}
 use Rattle.std.proofs.Math.Bool.{and-false}
 use Rattle.std.proofs.Math.Seq.{take-append_seam}
 use Rattle.std.proofs.lemmas.Bool.{ltb-true, ltb-false}
-use Rattle.std.proofs.lemmas.Int.{ints}
-use Rattle.std.proofs.lemmas.Grind.{common_steps}
-use Rattle.t1_char.specs.declared.command.Command.{Command as Commands}
 use Rattle.t1_char.specs.declared.command.Command.TheVariants.{Callothersubr}
 use Rattle.t1_char.specs.declared.token.CharToken.{CharToken}
 use Rattle.t1_char.specs.declared.token.CharToken.TheVariants.{Command}
@@ -13,9 +10,9 @@ use Rattle.t1_char.specs.Arguments.{calls_othersubr, is_callothersubr, is_flex_e
 use Rattle.t1_char.specs.Stacks.{from_top}
 use Rattle.t1_char.specs.Steps.{StepView}
 use Rattle.t1_char.proofs.LookingBack.{since_goes_on}
-use Rattle.t1_rules.specs.Laws.Flex.{StartsLeadIntoFlex, EndsLeadOutOfFlex, WidthsSetThePoint, StepsMoveThePoint, ClosepathLeavesThePoint, IsBeside, ArePairs, nothing, and_beside, and_move, and_point, SevenPairsAreAFlex}
+use Rattle.t1_rules.specs.Laws.Flex.{StartsLeadIntoFlex, EndsLeadOutOfFlex, WidthsSetThePoint, StepsMoveThePoint, ClosepathLeavesThePoint, ArePairs, nothing, and_beside, and_move, and_point, SevenPairsAreAFlex}
 use Rattle.t1_rules.specs.StepRules.{argument_rules, call_rules, path_rules, stem_rules, flex_rules, othersubr_rules, seac_rules, step_rules, breaks, breaks_at}
-use Rattle.t1_rules.specs.StepRules.Flex.{counts_no_pairs, current_point, flex_moves, flex_points, miscounts, moving}
+use Rattle.t1_rules.specs.StepRules.Flex.{counts_no_pairs, current_point, flex_moves, flex_points, moving}
 use Rattle.t1_rules.specs.StepRules.Paths.{flex_start, flex_end, in_flex}
 use Rattle.t1_rules.specs.StepRules.Tokens.{is_move}
 use Rattle.t1_rules.proofs.Lemmas.Before.{counted_on}

@@ -1,12 +1,12 @@
 -- What a call of an OtherSubr can be.
-use Rattle.std.proofs.Common.{◌≡◌, ℕ, ◌-◌, ◌≤◌, ◌+◌, ◌*◌, ◌&&◌, ◌||◌, not, Bool, true, false, nat_le, ℤ, pos, List, [], ◌∷◌, length, refl, ap, sym, ◌∙◌, arith}
+use Rattle.std.proofs.Common.{◌≡◌, ℕ, ◌-◌, ◌≤◌, ◌+◌, ◌*◌, ◌&&◌, ◌||◌, not, Bool, true, false, nat_le, ℤ, pos, [], ◌∷◌, length, refl, ap, ◌∙◌, arith}
 use Rattle.std.proofs.lemmas.Bool.{le-leb, leb-true}
 use Rattle.std.proofs.lemmas.Bool.Decides.{Decides-int_eq}
 use Rattle.t1_char.specs.Arguments.{calls_othersubr, is_flex_start, is_flex_point, is_flex_end, is_hint_replacement, is_whole}
 use Rattle.t1_char.specs.Stacks.{from_top}
 use Rattle.t1_char.specs.Steps.{StepView}
 use Rattle.t1_rules.specs.Laws.Othersubrs.{CallsAreOneOfFive, how_many}
-use Rattle.t1_rules.specs.StepRules.Othersubrs.{has_good_count, is_counter_control, is_effective, is_flex_or_hints, is_good_count, is_known}
+use Rattle.t1_rules.specs.StepRules.Othersubrs.{has_good_count, is_counter_control, is_effective, is_flex_or_hints, is_known}
 
 pub and_both : (a b : Bool) → (a && b) ≡ true → (a ≡ true) × (b ≡ true)
 and_both true true e = (refl, refl)

@@ -1,15 +1,13 @@
 -- Stems that overlap, and hint sets.
-use Rattle.std.proofs.Common.{◌≡◌, ℕ, zero, suc, ℤ, pos, neg_ℤ, ◌+ℤ◌, ◌≤◌, ◌≤ℤ◌, ◌<ℤ◌, Bool, true, false, int_lt, List, [], ◌∷◌, ◌++◌, length, take, flat_map, refl, sym, ap, ◌∙◌, arith}
-use Rattle.std.specs.Int.{int_max, int_min}
+use Rattle.std.proofs.Common.{◌≡◌, ◌≤◌, true, List, length, take, flat_map, refl, ◌∙◌, arith}
+use Rattle.std.specs.Int.{int_max}
 use Rattle.std.proofs.lemmas.Int.{ints, clamps}
 use Rattle.std.proofs.lemmas.List.{length-take}
-use Rattle.t1_char.specs.declared.command.Command.{Command as Commands}
 use Rattle.t1_char.specs.Arguments.{is_hint_replacement}
 use Rattle.t1_char.specs.Since.{after_last}
-use Rattle.t1_char.specs.Steps.{StepView}
 use Rattle.t1_rules.specs.declared.step_rules.stems.Stem.{Stem}
-use Rattle.t1_rules.specs.Laws.Stems.{LiesIn, ShareAPlace, StemsOverlapWhereTheyShareAPlace, OverlapIsMutual, SignsHaveNoSay, ReplacementsEmptyHintSets, HintSetsAreBounded, from_other_edge}
-use Rattle.t1_rules.specs.StepRules.Stems.{hint_set, lower, overlap, stems_in, upper}
+use Rattle.t1_rules.specs.Laws.Stems.{ShareAPlace, StemsOverlapWhereTheyShareAPlace, OverlapIsMutual, SignsHaveNoSay, ReplacementsEmptyHintSets, HintSetsAreBounded}
+use Rattle.t1_rules.specs.StepRules.Stems.{lower, overlap, stems_in}
 use Rattle.t1_rules.proofs.Lemmas.Stems.{hint_set_goes_on}
 
 shared : (one other : Stem) → overlap one other ≡ true → ShareAPlace one other

@@ -1,5 +1,5 @@
 -- The letters of a name in a table of names.
-use Rattle.std.proofs.Common.{◌≡◌, ℕ, zero, suc, ◌<◌, List, [], ◌∷◌, length, map, slice_index_or, refl, arith}
+use Rattle.std.proofs.Common.{◌≡◌, ℕ, zero, suc, ◌<◌, List, [], ◌∷◌, length, slice_index_or, refl, arith}
 use Rattle.std.specs.Borrow.{Bor}
 use Rattle.t1_rules.specs.StandardEncoding.{text_at}
 

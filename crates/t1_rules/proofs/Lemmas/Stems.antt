@@ -1,13 +1,12 @@
 -- What the watcher of stems keeps, one step further.
-use Rattle.std.proofs.Common.{◌≡◌, ℕ, ◌&&◌, ◌||◌, not, if◌then◌else◌, Bool, true, false, List, [], ◌∷◌, ◌++◌, append-nil, take, flat_map, refl, sym, ap, ◌∙◌}
+use Rattle.std.proofs.Common.{◌≡◌, ◌&&◌, ◌||◌, not, if◌then◌else◌, Bool, true, false, List, [], ◌∷◌, ◌++◌, append-nil, take, flat_map, refl, sym, ap, ◌∙◌}
 use Rattle.std.proofs.Math.Bool.{and-true}
 use Rattle.std.proofs.lemmas.Grind.{flat_map-append}
 use Rattle.t1_char.specs.declared.command.Command.{Command as Commands}
-use Rattle.t1_char.specs.Arguments.{is_callothersubr, is_flex_start, is_flex_end, is_hint_replacement}
+use Rattle.t1_char.specs.Arguments.{is_flex_start, is_flex_end, is_hint_replacement}
 use Rattle.t1_char.specs.Since.{after_last}
 use Rattle.t1_char.specs.Steps.{StepView}
 use Rattle.t1_char.proofs.LookingBack.{after_last_goes_on, since_goes_on}
-use Rattle.t1_rules.specs.declared.step_rules.stems.Stem.{Stem}
 use Rattle.t1_rules.specs.declared.step_rules.stems.StemWatcher.{StemWatcher}
 use Rattle.t1_rules.specs.StepRules.Paths.{drawing, flex_start, flex_end}
 use Rattle.t1_rules.specs.StepRules.Stems.{hint_set, lies_across, popping, replacing_step, stands_upright, stems_in, stems_of}

@@ -1,5 +1,5 @@
 -- Laws of StandardEncoding and the components of accented characters.
-use Rattle.std.specs.Prelude.{◌≡◌, ℕ, ◌<◌, ◌==◌, not, Bool, false, List, [], ◌∷◌, ◌++◌, length, take}
+use Rattle.std.specs.Prelude.{◌≡◌, ℕ, ◌<◌, ◌==◌, not, Bool, List, [], ◌∷◌, ◌++◌, length, take}
 use Rattle.std.specs.List.{AllPass, count_by}
 use Rattle.t1_char.specs.Charstrings.{tokens_in}
 use Rattle.t1_char.specs.Effects.{most_calls}

@@ -1,10 +1,7 @@
 -- Accented characters: where a step breaks K01, K02 and K06, and, given what components are, K03 to K05 and
 -- K07. Type 1 Font Format 1.1, chapter 6 (seac).
-use Rattle.std.specs.Prelude.{ℕ, ℤ, ◌==◌, ◌&&◌, ◌||◌, not, nat_lt, if◌then◌else◌, is_none, Bool, true, false, Option, Some, None, List, length, slice_index_or}
+use Rattle.std.specs.Prelude.{ℕ, ℤ, ◌==◌, ◌&&◌, ◌||◌, not, nat_lt, if◌then◌else◌, is_none, Bool, false, Option, Some, None, List, length, slice_index_or}
 use Rattle.std.specs.Ordering.{int_eq}
-use Rattle.t1_char.specs.declared.command.Command.TheVariants.{Seac}
-use Rattle.t1_char.specs.declared.token.CharToken.{CharToken}
-use Rattle.t1_char.specs.declared.token.CharToken.TheVariants.{Command}
 use Rattle.t1_char.specs.Arguments.{argument}
 use Rattle.t1_char.specs.Numbers.{natural}
 use Rattle.t1_char.specs.Since.{any_so_far}

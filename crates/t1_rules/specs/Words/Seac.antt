@@ -1,5 +1,5 @@
 -- What is known of a component after one step more of it.
-use Rattle.std.specs.Prelude.{ℤ, ◌||◌, if◌then◌else◌, Bool, Option, Some, None}
+use Rattle.std.specs.Prelude.{ℤ, ◌||◌, if◌then◌else◌, Option, Some, None}
 use Rattle.t1_char.specs.Arguments.{argument}
 use Rattle.t1_char.specs.Steps.{StepView}
 use Rattle.t1_rules.specs.declared.sidebearings.Component.{Component}

@@ -1,4 +1,4 @@
-use Rattle.std.proofs.Common.{map, take, ap, sym, ◌∙◌}
+use Rattle.std.proofs.Common.{map, ap, ◌∙◌}
 use Rattle.t1_char.specs.declared.expansion.TheConstants.{STEP_LIMIT}
 use Rattle.t1_char.specs.StepValues.{step_value, step_view}
 use Rattle.t1_rules.specs.Components.{component_in}
