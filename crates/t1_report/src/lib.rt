@@ -1,6 +1,5 @@
 //! The report of a Type 1 font: which rules of the book the font and its glyphs break, in order, each
-//! with its place and its number, and the line that is written of it. So far the rules from 1 to 61 and
-//! 69 are asked.
+//! with its place and its number, and the line that is written of it. All 69 rules are asked.
 //!
 //! A place is a unit and a step. Unit 0 is the font; its step is 65,536 times the number of a key, plus
 //! an index. Unit g + 1 is glyph g; its steps are the tokens that it executes, from 1 on, of which the

@@ -8,17 +8,22 @@
 //! key have to be asked.
 //!
 //! [`Watches`] sees the steps of a glyph one after another, and answers of each which rules on
-//! charstrings it breaks. It is three watchers as one: [`ArgumentWatcher`], [`CallWatcher`] and
-//! [`PathWatcher`]. [`Watch`] is what watchers have in common.
+//! charstrings it breaks, as far as the glyph's own steps decide. It is seven watchers as one:
+//! [`ArgumentWatcher`], [`CallWatcher`], [`PathWatcher`], [`StemWatcher`], [`FlexWatcher`],
+//! [`OthersubrWatcher`] and [`SeacWatcher`]. [`Watch`] is what watchers have in common. [`Sidebearings`]
+//! has the components of accented characters, and answers of each step which of K03 to K05 and K07 it
+//! breaks.
 //!
 //! What is promised, for all fonts:
 //!
 //! - `font_faults` answers exactly the rules that the table in `specs/FontRules.antt` says are broken at
 //!   that key and index. Numbers are compared exactly, in units of 10^-9 and their products.
 //! - Of each step, given those before it, a watcher answers exactly those of its rules that the table in
-//!   `specs/StepRules.antt` says are broken there. It keeps a few flags, and no list of steps.
+//!   `specs/StepRules.antt` says are broken there. What it keeps is of a fixed size, and no list of steps.
+//! - The same of `Sidebearings` and the four rules on components, where [`Sidebearings::prepare`] was given
+//!   the same font.
 //! - Nothing is broken past the places of a key, past the last key or past index 65,535.
-//! - No call takes memory; no index, sum, product or cast goes wrong.
+//! - No call but `Sidebearings::prepare` takes memory; no index, sum, product or cast goes wrong.
 //!
 //! ```
 //! for index in 0..places(&font, 9) {
@@ -27,9 +32,10 @@
 //!     }
 //! }
 //!
+//! let sidebearings = Sidebearings::prepare(alloc, &font)?;
 //! let mut watches = Watches::start();
 //! for step in &t1_char::expand(alloc, &font, 0)? {
-//!     if let Some(rule) = watches.see(step).above(0) {
+//!     if let Some(rule) = watches.see(step).join(sidebearings.see(step)).above(0) {
 //!         println!(rt; "{} {}", step.number, rule_code(rule))?;
 //!     }
 //! }

@@ -10,10 +10,9 @@ use std::alloc::{AllocError, Global};
 use std::convert::AsStr;
 
 const ABOUT: &str = "\
-Lists every rule of the book that an Adobe Type 1 font (PFA or PFB) breaks. So far
-62 of 69 rules are checked: those on the file, on the font's dictionaries, and on
-the arguments, calls, paths, stems, hint replacement, flex and OtherSubrs of
-charstrings. Those on seac aren't checked yet.";
+Lists every rule of the book that an Adobe Type 1 font (PFA or PFB) breaks. The book
+has 69 rules: on the file, on the font's dictionaries, and on charstrings, of which
+the first 100,000 steps are checked.";
 
 const AFTER_HELP: &str = "\
 A line of the report:
