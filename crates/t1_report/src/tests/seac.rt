@@ -1,10 +1,9 @@
 //! Accented characters: each rule is broken, and then just isn't.
 
-use super::{Texts, Told, charstring, faults_of, lines_of, with_subrs};
+use super::{Texts, charstring, lines_of, with_subrs};
 use std::alloc::Global;
 use std::process::Abort;
 use std::test::Fail;
-use t1_rules::Rule;
 use t1_samples::Sample;
 
 /// A font with these Subrs and glyphs: each glyph a name, a colon and words, with a bar in front of the next.
@@ -34,8 +33,11 @@ fn assert_fonts(rt: &impl Abort, alloc: Global, cases: &[(&str, &str, &str)]) ->
 
 /// The report of a font with the glyphs A, of sidebearing 0, B, of sidebearing 7, and C, which is these words.
 fn lines_of_c(alloc: Global, words: &str) -> Result<String, Fail> {
-    let glyphs = format!(in alloc; "A: 0 500 hsbw endchar | B: 7 500 hsbw endchar | C: {words}")?;
-    lines_of_sample(alloc, &with_glyphs(alloc, "", glyphs.as_str())?)
+    let sample = with_glyphs(alloc, "", "A: 0 500 hsbw endchar | B: 7 500 hsbw endchar")?.glyph(
+        b"C",
+        charstring(alloc, words)?.as_slice(),
+    )?;
+    lines_of_sample(alloc, &sample)
 }
 
 /// A glyph C beside A and B, of sidebearings 0 and 7, gives the lines beside it.
@@ -554,14 +556,6 @@ Aacute: 20 600 hsbw 90 150 200 65 194 seac",
     "",
 )];
 
-#[test]
-fn components(rt: HostRuntime) -> Result<(), Fail> {
-    assert_fonts(&rt, rt.alloc(), NESTED_SEACS)?;
-    assert_fonts(&rt, rt.alloc(), ORDERS_OF_GLYPHS)?;
-    assert_fonts(&rt, rt.alloc(), GLYPHS_WITHOUT_A_NAME)?;
-    assert_fonts(&rt, rt.alloc(), WELL_MADE)
-}
-
 /// What draws, moves, or gives stems may not stand in front of a seac; the end of a flex draws, and an end
 /// outside a flex doesn't.
 const COMMANDS_BEFORE_SEAC: &[(&str, &str)] = &[
@@ -712,13 +706,6 @@ const SUBRS_AND_SEAC: &[(&str, &str, &str)] = &[
     ),
 ];
 
-#[test]
-fn commands_beside_seac(rt: HostRuntime) -> Result<(), Fail> {
-    assert_lines_of_c(&rt, rt.alloc(), COMMANDS_BEFORE_SEAC)?;
-    assert_lines_of_c(&rt, rt.alloc(), HARMLESS_BEFORE_SEAC)?;
-    assert_fonts(&rt, rt.alloc(), SUBRS_AND_SEAC)
-}
-
 /// Several rules at one step come in their order, each once.
 const RULES_AT_ONE_STEP: &[(&str, &str, &str)] = &[
     (
@@ -768,11 +755,14 @@ C: 0 500 hsbw 0 hmoveto 0 0 0 68 66 seac",
 ];
 
 #[test]
-fn rules_at_one_seac(rt: HostRuntime) -> Result<(), Fail> {
+fn commands_beside_seac(rt: HostRuntime) -> Result<(), Fail> {
+    assert_lines_of_c(&rt, rt.alloc(), COMMANDS_BEFORE_SEAC)?;
+    assert_lines_of_c(&rt, rt.alloc(), HARMLESS_BEFORE_SEAC)?;
+    assert_fonts(&rt, rt.alloc(), SUBRS_AND_SEAC)?;
     assert_fonts(&rt, rt.alloc(), RULES_AT_ONE_STEP)
 }
 
-/// A glyph without a name in StandardEncoding as a component, and an accent of another sidebearing.
+/// Glyphs of which B names codes without a name, and C an accent of another sidebearing.
 const TWO_FAULTS: &str = "\
 A: 0 500 hsbw endchar | B: 0 500 hsbw 0 0 0 0 0 seac | C: 0 500 hsbw 7 0 0 65 65 seac";
 
@@ -829,212 +819,70 @@ fn encodings_name_no_components(rt: HostRuntime) -> Result<(), Fail> {
     Ok(())
 }
 
-/// The words of B in front of 12 calls of a Subr that is so many times dotsection and a return, those behind
-/// them, the words of C, and the lines. Of a component 100,000 steps count, and of each glyph as many.
-const LONG_COMPONENTS: &[(&str, usize, &str, &str, &str)] = &[
+/// Subr 0 is 99,987 steps and a return: Subr 5 is ten times dotsection, and Subrs 4, 3 and 2 call the next one
+/// ten times.
+const LONG: &str = "\
+0: 2 callsubr 2 callsubr 2 callsubr 2 callsubr 2 callsubr 2 callsubr 2 callsubr \
+3 callsubr 3 callsubr 3 callsubr 3 callsubr 4 callsubr 4 callsubr 4 callsubr 4 callsubr 4 callsubr \
+4 callsubr 4 callsubr 4 callsubr 4 callsubr 5 callsubr 5 callsubr 5 callsubr 5 callsubr 5 callsubr \
+5 callsubr 5 callsubr 5 callsubr 5 callsubr dotsection dotsection dotsection dotsection dotsection \
+dotsection dotsection dotsection dotsection dotsection return |\
+2: 3 callsubr 3 callsubr 3 callsubr 3 callsubr 3 callsubr 3 callsubr 3 callsubr 3 callsubr \
+3 callsubr 3 callsubr return |\
+3: 4 callsubr 4 callsubr 4 callsubr 4 callsubr 4 callsubr 4 callsubr 4 callsubr 4 callsubr \
+4 callsubr 4 callsubr return |\
+4: 5 callsubr 5 callsubr 5 callsubr 5 callsubr 5 callsubr 5 callsubr 5 callsubr 5 callsubr \
+5 callsubr 5 callsubr return |\
+5: dotsection dotsection dotsection dotsection dotsection \
+dotsection dotsection dotsection dotsection dotsection return";
+
+/// The seac of B is step 100,000 or the next, and so is its hsbw. Of a component 100,000 steps count.
+const LONG_COMPONENTS: &[(&str, &str, &str)] = &[
     (
-        "0 500 hsbw",
-        8_329,
-        "dotsection dotsection dotsection dotsection dotsection dotsection dotsection 0 0 0 65 0 seac",
-        "0 500 hsbw 0 0 0 65 66 seac",
+        LONG,
+        "A: 0 500 hsbw endchar | B: 0 500 hsbw 0 callsubr dotsection 0 0 0 65 0 seac |\
+C: 0 500 hsbw 0 0 0 65 66 seac",
         "1: glyph B - 100000 K02 seac code not in StandardEncoding\n\
 2: glyph C - 9 K04 seac of a seac\n",
     ),
     (
-        "0 500 hsbw",
-        8_329,
-        "dotsection dotsection dotsection dotsection dotsection dotsection dotsection dotsection \
-         0 0 0 65 0 seac",
-        "0 500 hsbw 0 0 0 65 66 seac",
+        LONG,
+        "A: 0 500 hsbw endchar | B: 0 500 hsbw 0 callsubr dotsection dotsection 0 0 0 65 0 seac |\
+C: 0 500 hsbw 0 0 0 65 66 seac",
         "1: glyph B - 100001 L01 step limit\n",
     ),
     (
-        "",
-        8_330,
-        "dotsection 7 500 hsbw endchar",
-        "0 500 hsbw 7 0 0 65 66 seac",
-        "1: glyph B 5 3 W01 hsbw or sbw not first\n\
+        LONG,
+        "B: 0 callsubr dotsection dotsection dotsection dotsection dotsection dotsection dotsection \
+         7 500 hsbw endchar | C: 0 500 hsbw 7 0 0 66 66 seac",
+        "1: glyph B 0>2>3>4>5 11 W01 hsbw or sbw not first\n\
 2: glyph B - 100000 W02 hsbw or sbw again\n\
 3: glyph B - 100001 L01 step limit\n",
     ),
     (
-        "",
-        8_330,
-        "dotsection 7 500 hsbw endchar",
-        "0 500 hsbw 8 0 0 65 66 seac",
-        "1: glyph B 5 3 W01 hsbw or sbw not first\n\
+        LONG,
+        "B: 0 callsubr dotsection dotsection dotsection dotsection dotsection dotsection dotsection \
+         7 500 hsbw endchar | C: 0 500 hsbw 8 0 0 66 66 seac",
+        "1: glyph B 0>2>3>4>5 11 W01 hsbw or sbw not first\n\
 2: glyph B - 100000 W02 hsbw or sbw again\n\
 3: glyph B - 100001 L01 step limit\n\
 4: glyph C - 9 K05 accent sidebearing differs\n",
     ),
     (
-        "",
-        8_330,
-        "dotsection dotsection 7 500 hsbw endchar",
-        "0 500 hsbw 8 0 0 65 66 seac",
-        "1: glyph B 5 3 W01 hsbw or sbw not first\n\
+        LONG,
+        "B: 0 callsubr dotsection dotsection dotsection dotsection dotsection dotsection dotsection dotsection \
+         7 500 hsbw endchar | C: 0 500 hsbw 8 0 0 66 66 seac",
+        "1: glyph B 0>2>3>4>5 11 W01 hsbw or sbw not first\n\
 2: glyph B - 100001 L01 step limit\n\
 3: glyph C - 9 K07 seac component without sidebearing\n",
     ),
 ];
 
-/// The report of a font with a component B of these words around twelve calls of the Subr.
-fn lines_of_a_long_component(
-    alloc: Global,
-    front: &str,
-    times: usize,
-    back: &str,
-    accented: &str,
-) -> Result<String, Fail> {
-    let subr = "dotsection ".repeat(alloc, times)?;
-    let subrs = format!(in alloc; "5: {subr} return")?;
-    let calls = "5 callsubr ".repeat(alloc, 12)?;
-    let glyphs = format!(in alloc;
-        "A: 0 500 hsbw endchar | B: {front} {calls} {back} | C: {accented}"
-    )?;
-    lines_of_sample(alloc, &with_glyphs(alloc, subrs.as_str(), glyphs.as_str())?)
-}
-
 #[test]
-fn components_past_the_limit(rt: HostRuntime) -> Result<(), Fail> {
-    for (front, times, back, accented, lines) in LONG_COMPONENTS {
-        let found = lines_of_a_long_component(rt.alloc(), front, *times, back, accented)?;
-        assert_eq!(rt;
-            found.as_str(),
-            *lines,
-            "{front} {times} {back} C: {accented}"
-        );
-    }
-    Ok(())
-}
-
-/// StandardEncoding: a code, and its name and those of the codes behind it.
-const STANDARD_NAMES: &[(u32, &str)] = &[
-    (
-        32,
-        "space exclam quotedbl numbersign dollar percent ampersand quoteright parenleft parenright \
-         asterisk plus comma hyphen period slash",
-    ),
-    (48, "zero one two three four five six seven eight nine"),
-    (58, "colon semicolon less equal greater question at"),
-    (65, "A B C D E F G H I J K L M N O P Q R S T U V W X Y Z"),
-    (
-        91,
-        "bracketleft backslash bracketright asciicircum underscore quoteleft",
-    ),
-    (97, "a b c d e f g h i j k l m n o p q r s t u v w x y z"),
-    (123, "braceleft bar braceright asciitilde"),
-    (
-        161,
-        "exclamdown cent sterling fraction yen florin section currency quotesingle quotedblleft \
-         guillemotleft guilsinglleft guilsinglright fi fl",
-    ),
-    (177, "endash dagger daggerdbl periodcentered"),
-    (
-        182,
-        "paragraph bullet quotesinglbase quotedblbase quotedblright guillemotright ellipsis \
-         perthousand",
-    ),
-    (191, "questiondown"),
-    (
-        193,
-        "grave acute circumflex tilde macron breve dotaccent dieresis",
-    ),
-    (202, "ring cedilla"),
-    (205, "hungarumlaut ogonek caron emdash"),
-    (225, "AE"),
-    (227, "ordfeminine"),
-    (232, "Lslash Oslash OE ordmasculine"),
-    (241, "ae"),
-    (245, "dotlessi"),
-    (248, "lslash oslash oe germandbls"),
-];
-
-/// The first and the last of codes in a row without a name.
-const CODES_IN_NO_ENCODING: &[(u32, u32)] = &[
-    (0, 31),
-    (127, 160),
-    (176, 176),
-    (181, 181),
-    (190, 190),
-    (192, 192),
-    (201, 201),
-    (204, 204),
-    (209, 224),
-    (226, 226),
-    (228, 231),
-    (236, 240),
-    (242, 244),
-    (246, 247),
-    (252, 255),
-];
-
-/// Adds a glyph of each name from this code on, whose sidebearing is its code.
-fn add_names(alloc: Global, mut sample: Sample, first: u32, names: &str) -> Result<Sample, Fail> {
-    for (code, name) in (first..).zip(names.split_whitespace()) {
-        let words = format!(in alloc; "{code} 500 hsbw endchar")?;
-        sample = sample.glyph(
-            name.as_bytes(),
-            charstring(alloc, words.as_str())?.as_slice(),
-        )?;
-    }
-    Ok(sample)
-}
-
-/// Adds an accented glyph for each code, which is its base, its accent and the sidebearing that it wants.
-fn add_codes(alloc: Global, mut sample: Sample) -> Result<Sample, Fail> {
-    for code in 0..256u32 {
-        let name = format!(in alloc; "code{code}")?;
-        let words = format!(in alloc; "0 500 hsbw {code} 0 0 {code} {code} seac")?;
-        sample = sample.glyph(
-            name.as_bytes(),
-            charstring(alloc, words.as_str())?.as_slice(),
-        )?;
-    }
-    Ok(sample)
-}
-
-/// A font with the 149 glyphs that StandardEncoding names, and 256 accented glyphs.
-fn with_all_codes(alloc: Global) -> Result<Sample, Fail> {
-    let mut sample = Sample::new(alloc)?;
-    for (first, names) in STANDARD_NAMES {
-        sample = add_names(alloc, sample, *first, names)?;
-    }
-    add_codes(alloc, sample)
-}
-
-/// The unit of the accented glyph of code 0, behind the font, .notdef and 149 glyphs.
-const FIRST_UNIT: u32 = 151;
-
-/// The codes whose accented glyphs are told to have no name.
-fn codes_told(alloc: Global, faults: &[Told]) -> Result<Vec<u32>, Fail> {
-    let mut codes = Vec::new(alloc);
-    for fault in faults {
-        if fault.step != 9 || fault.rule != Rule::K02 {
-            return Err(Fail::from("another fault"));
-        }
-        codes.push(fault.unit.wrapping_sub(FIRST_UNIT))?;
-    }
-    Ok(codes)
-}
-
-/// The codes that have no name.
-fn codes_in_no_encoding(alloc: Global) -> Result<Vec<u32>, Fail> {
-    let mut codes = Vec::new(alloc);
-    for (first, last) in CODES_IN_NO_ENCODING {
-        for code in *first..last.wrapping_add(1) {
-            codes.push(code)?;
-        }
-    }
-    Ok(codes)
-}
-
-/// Each named code means the glyph of its name, and each other code breaks the rule on names alone.
-#[test]
-fn standard_encoding_names_components(rt: HostRuntime) -> Result<(), Fail> {
-    let alloc = rt.alloc();
-    let faults = faults_of(alloc, with_all_codes(alloc)?.pfb()?.as_slice())?;
-    let told = codes_told(alloc, faults.as_slice())?;
-    assert_eq!(rt; told.as_slice(), codes_in_no_encoding(alloc)?.as_slice());
-    Ok(())
+fn components(rt: HostRuntime) -> Result<(), Fail> {
+    assert_fonts(&rt, rt.alloc(), NESTED_SEACS)?;
+    assert_fonts(&rt, rt.alloc(), ORDERS_OF_GLYPHS)?;
+    assert_fonts(&rt, rt.alloc(), GLYPHS_WITHOUT_A_NAME)?;
+    assert_fonts(&rt, rt.alloc(), WELL_MADE)?;
+    assert_fonts(&rt, rt.alloc(), LONG_COMPONENTS)
 }
