@@ -1,8 +1,9 @@
 -- What a call of an OtherSubr can be.
-use Rattle.std.proofs.Common.{◌≡◌, ℕ, ◌-◌, ◌≤◌, ◌+◌, ◌*◌, ◌&&◌, ◌||◌, not, Bool, true, false, nat_le, ℤ, pos, [], ◌∷◌, length, refl, ap, ◌∙◌, arith}
+use Rattle.std.proofs.Common.{Some, ◌≡◌, ℕ, ◌-◌, ◌≤◌, ◌+◌, ◌*◌, ◌&&◌, ◌||◌, not, Bool, true, false, nat_le, ℤ, pos, [], ◌∷◌, length, refl, ap, ◌∙◌, arith}
 use Rattle.std.proofs.lemmas.Bool.{le-leb, leb-true}
 use Rattle.std.proofs.lemmas.Bool.Decides.{Decides-int_eq}
 use Rattle.t1_char.specs.Arguments.{calls_othersubr, is_flex_start, is_flex_point, is_flex_end, is_hint_replacement, is_whole}
+use Rattle.t1_char.specs.Numbers.{natural}
 use Rattle.t1_char.specs.Stacks.{from_top}
 use Rattle.t1_char.specs.Steps.{StepView}
 use Rattle.t1_rules.specs.Laws.Othersubrs.{CallsAreOneOfFive, how_many}
@@ -38,43 +39,25 @@ record IsOwn (t : StepView) : Type 0 where
   good : has_good_count t ≡ true
   own : is_flex_or_hints (from_top t.stack 0) ≡ true
 
-own_end : (t : StepView) → is_flex_end t ≡ true → IsOwn t
-own_end t e =
-    let called = is_called 0 3 t e in
-    let room : nat_le 3 (length t.stack - 2) ≡ true = le-leb 3 (length t.stack - 2) (omega (arith, called.room)) in
-    record { good = rw (called.below) room; own = rw (called.top) refl }
-
-own_start : (t : StepView) → is_flex_start t ≡ true → IsOwn t
-own_start t e =
-    let called = is_called 1 0 t e in
-    let room : nat_le 0 (length t.stack - 2) ≡ true = le-leb 0 (length t.stack - 2) (omega (arith, called.room)) in
-    record { good = rw (called.below) room; own = rw (called.top) refl }
-
-own_point : (t : StepView) → is_flex_point t ≡ true → IsOwn t
-own_point t e =
-    let called = is_called 2 0 t e in
-    let room : nat_le 0 (length t.stack - 2) ≡ true = le-leb 0 (length t.stack - 2) (omega (arith, called.room)) in
-    record { good = rw (called.below) room; own = rw (called.top) refl }
-
-own_replacement : (t : StepView) → is_hint_replacement t ≡ true → IsOwn t
-own_replacement t e =
-    let called = is_called 3 1 t e in
-    let room : nat_le 1 (length t.stack - 2) ≡ true = le-leb 1 (length t.stack - 2) (omega (arith, called.room)) in
-    record { good = rw (called.below) room; own = rw (called.top) refl }
+own_call : (number count : ℕ) (t : StepView) → calls_othersubr number count t ≡ true → natural (pos (count * 65536)) ≡ Some count → is_flex_or_hints (pos (number * 65536)) ≡ true → IsOwn t
+own_call number count t e whole is =
+    let called = is_called number count t e in
+    let room : nat_le count (length t.stack - 2) ≡ true = le-leb count (length t.stack - 2) (omega (arith, called.room)) in
+    record { good = rw (called.below, whole) room; own = rw (called.top) is }
 
 own : (t : StepView) → is_effective t ≡ true → IsOwn t
 own t e = by_end (is_flex_end t) refl e
   where
     by_point : (b c : Bool) → is_flex_point t ≡ b → is_hint_replacement t ≡ c → (b || c) ≡ true → IsOwn t
-    by_point true c is other some = own_point t is
-    by_point false c is other some = own_replacement t (other ∙ some)
+    by_point true c is other some = own_call 2 0 t is refl refl
+    by_point false c is other some = own_call 3 1 t (other ∙ some) refl refl
 
     by_start : (b : Bool) → is_flex_start t ≡ b → (b || (is_flex_point t || is_hint_replacement t)) ≡ true → IsOwn t
-    by_start true is some = own_start t is
+    by_start true is some = own_call 1 0 t is refl refl
     by_start false is some = by_point (is_flex_point t) (is_hint_replacement t) refl refl some
 
     by_end : (b : Bool) → is_flex_end t ≡ b → (b || (is_flex_start t || (is_flex_point t || is_hint_replacement t))) ≡ true → IsOwn t
-    by_end true is some = own_end t is
+    by_end true is some = own_call 0 3 t is refl refl
     by_end false is some = by_start (is_flex_start t) refl some
 
 -- No number is one of 0 to 3 and one of 12 and 13.
