@@ -28,7 +28,7 @@ take_short : (most : ℕ) (xs : List StepView) → length (take most xs) < most 
 take_short most xs short = take_all most xs (omega (arith, length-take most xs))
 
 -- What follows a run stands behind its steps.
-and_then_front : (run : Run) (next : State → Run) → (more : List StepView) × ((and_then run next).steps ≡ run.steps ++ more)
+pub and_then_front : (run : Run) (next : State → Run) → (more : List StepView) × ((and_then run next).steps ≡ run.steps ++ more)
 and_then_front run next = by_finished run.finished run.steps next run.state
   where
     by_finished : (b : Bool) (steps : List StepView) (next : State → Run) (s : State) → (more : List StepView) × ((cond b (record { steps = steps; finished = b; state = s }) (after steps (next s))).steps ≡ steps ++ more)

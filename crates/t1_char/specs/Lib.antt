@@ -3,10 +3,13 @@ pub mod Charstrings
 pub mod Commands
 pub mod Effects
 pub mod Laws
+pub mod Lending
 pub mod Numbers
 pub mod Since
 pub mod Stacks
 pub mod StepValues
 pub mod Steps
 pub mod Tokens
+pub mod TurnViews
+pub mod Turns
 pub mod Workings

@@ -1,4 +1,6 @@
 pub mod Actions
 pub mod Cursors
+pub mod Frames
 pub mod Listings
+pub mod Machines
 pub mod Steps

@@ -12,7 +12,7 @@ use t1_seal::Cipher;
 
 /// What is left of a charstring: bytes of its slice, the cipher's state, and whether it is shorter than
 /// lenIV, which is told first.
-#[derive(Clone, Copy)]
+#[derive(Clone, Copy, Default)]
 pub(crate) struct Cursor<'a> {
     left: &'a [u8],
     /// None where charstrings aren't encrypted.

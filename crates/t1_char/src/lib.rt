@@ -37,7 +37,9 @@ mod command;
 mod cursor;
 mod effect;
 mod expansion;
+mod frames;
 mod laws;
+mod machine;
 mod numbers;
 mod stack;
 mod step;
@@ -53,6 +55,7 @@ pub use laws::{
     stacks_are_taken_from_the_top, steps_are_looked_back_on, steps_follow_the_tokens,
     written_charstrings_are_read,
 };
+pub use machine::{Machine, Turn};
 pub use numbers::{cut_quotient, natural};
 pub use stack::Stack;
 pub use step::{Path, Step};

@@ -60,7 +60,7 @@ pub(crate) fn copy_of(path: &Path) -> Path
     copy
 }
 
-fn is_callsubr(token: CharToken) -> bool
+pub(crate) fn is_callsubr(token: CharToken) -> bool
     ensures { result ≡ is_callsubr token }
 {
     matches!(token, CharToken::Command(Command::Callsubr))

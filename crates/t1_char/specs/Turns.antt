@@ -1,0 +1,38 @@
+-- A glyph that is executed one step a call. Type 1 Font Format 1.1, chapters 6 and 8.
+use Rattle.std.specs.Prelude.{ℕ, ◌+◌, nat_lt, if◌then◌else◌, Option, Some, None, List, length, take, slice_get}
+use Rattle.t1_font.specs.Fonts.{FontValue}
+use Rattle.t1_char.specs.Steps.{StepView, NumberedStep}
+
+-- A machine: what it executes, how often it was asked for a step, and the step that it stands before.
+pub record MachineView : Type 0 where
+  pub font : FontValue
+  pub glyph : ℕ
+  pub counted : ℕ
+  pub step : NumberedStep
+
+-- What it answers: the next step; that there is none; the first step past the limit.
+pub data TurnValue : Type 0 where
+  stepped : NumberedStep → TurnValue
+  ended : TurnValue
+  limited : NumberedStep → TurnValue
+
+abbrev pub step_of_number : ℕ → StepView → NumberedStep
+step_of_number n step = record { number = n; step = step }
+
+-- The steps behind the first n, up to the limit.
+abbrev pub step_or_end : ℕ → Option StepView → TurnValue
+step_or_end n None = ended
+step_or_end n (Some step) = stepped (step_of_number (n + 1) step)
+
+abbrev pub limit_or_end : ℕ → Option StepView → TurnValue
+limit_or_end n None = ended
+limit_or_end n (Some step) = limited (step_of_number (n + 1) step)
+
+-- The answer to the call behind n of them; the end and the limit are answered again.
+abbrev pub turn_at : ℕ → List StepView → ℕ → TurnValue
+turn_at limit steps n =
+    if nat_lt n limit then step_or_end n (slice_get steps n) else limit_or_end limit (slice_get steps limit)
+
+-- How many calls there were behind one more, up to the first end or limit.
+abbrev pub counted_after : ℕ → List StepView → ℕ → ℕ
+counted_after limit steps n = if nat_lt (length (take limit steps)) n then n else n + 1

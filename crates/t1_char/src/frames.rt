@@ -1,0 +1,128 @@
+//! The charstrings that are being executed: a glyph's, and those of the Subrs that it calls.
+
+ghost use Rattle.std.specs.Prelude.{◌≡◌, ◌<◌, ◌-◌, ◌++◌, ◌∷◌, [], if◌then◌else◌, length, take};
+ghost use Rattle.t1_char.specs.Charstrings.{tokens_in};
+ghost use Rattle.t1_char.specs.Effects.{most_calls};
+ghost use Rattle.t1_char.specs.Steps.{steps_of};
+ghost use Rattle.t1_char.specs.StepValues.{step_view};
+ghost use Rattle.t1_char.specs.Workings.Cursors.{tokens_left};
+ghost use Rattle.t1_char.specs.Workings.Frames.{IsReady, state_in, step_here, steps_behind, steps_from};
+
+use crate::action::Action;
+use crate::charstrings::{code_at, cursor_at};
+use crate::cursor::Cursor;
+use crate::effect::{Waiting, apply};
+use crate::stack::Stack;
+use crate::step::{Step, is_callsubr, is_last, named_at};
+use crate::subr::Subr;
+use crate::token::CharToken;
+use arrayvec::ArrayVec;
+use t1_font::Font;
+
+/// A glyph's charstring and those of the Subrs that are being executed, at most eleven, with a step that
+/// was read and not yet executed.
+#[derive(Drop)]
+pub(crate) struct Frames<'a> {
+    /// Behind the step's token.
+    current: Cursor<'a>,
+    /// The charstrings that called, the glyph's first, each behind its callsubr.
+    callers: ArrayVec<Cursor<'a>, 10>,
+    /// The Subr that the step calls, where its token is callsubr.
+    named: Option<Subr<'a>>,
+    waiting: Waiting,
+    pub(crate) step: Step,
+}
+
+impl<'a> Frames<'a> {
+    /// A glyph's charstring, behind a step that does nothing.
+    pub(crate) fn start(font: &'a Font<'a>, glyph: usize) -> Frames<'a>
+        ensures ready { IsReady font.now result }
+        ensures steps { steps_from font.now result ≡ step_here font.now result ∷ steps_of font.now glyph }
+    {
+        Frames {
+            current: cursor_at(font, code_at(font, glyph)),
+            callers: ArrayVec::new(),
+            named: None,
+            waiting: ArrayVec::new(),
+            step: Step {
+                number: 0,
+                token: CharToken::Cut,
+                path: ArrayVec::new(),
+                stack: Stack::new(),
+                waiting: 0,
+                found: false,
+                last: false,
+            },
+        }
+    }
+
+    /// Executes the step, and tells whether the run goes on.
+    pub(crate) fn execute(&mut self, font: &'a Font<'a>) -> bool
+        requires { IsReady font.now self.old }
+        ensures steps { steps_from font.now self.old
+            ≡ step_here font.now self.old ∷ (if result then steps_behind font.now self.new else []) }
+        ensures even { length self.new.step.path.items ≡ length self.new.callers.items }
+    {
+        let depth = self.step.path.len();
+        match apply(&mut self.step.stack, &mut self.waiting, self.step.token, self.named, depth) {
+            Action::Goes => true,
+            Action::Calls(subr) => {
+                self.enter(font, subr);
+                true
+            }
+            Action::Returns => {
+                self.leave();
+                true
+            }
+            Action::Finishes => false,
+        }
+    }
+
+    /// Goes into a Subr.
+    fn enter(&mut self, font: &'a Font<'a>, subr: Subr<'a>)
+        requires room { length self.old.step.path.items < most_calls }
+        requires even { length self.old.step.path.items ≡ length self.old.callers.items }
+        ensures path { self.new.step.path.items ≡ self.old.step.path.items ++ subr.entry.number ∷ [] }
+        ensures callers { self.new.callers.items ≡ self.old.callers.items ++ self.old.current ∷ [] }
+        ensures current { tokens_left self.new.current ≡ tokens_in font.now subr.entry.code.now }
+        ensures state { state_in self.new ≡ state_in self.old }
+    {
+        self.callers.push(self.current);
+        self.step.path.push(subr.number);
+        self.current = cursor_at(font, subr.code);
+    }
+
+    /// Goes back into the charstring that called.
+    fn leave(&mut self)
+        requires called { 0 < length self.old.callers.items }
+        ensures path { self.new.step.path.items
+            ≡ take (length self.old.step.path.items - 1) self.old.step.path.items }
+        ensures callers { self.old.callers.items ≡ self.new.callers.items ++ self.new.current ∷ [] }
+        ensures state { state_in self.new ≡ state_in self.old }
+    {
+        self.step.path.pop();
+        if let Some(caller) = self.callers.pop() {
+            self.current = caller;
+        }
+    }
+
+    /// Reads the next step.
+    pub(crate) fn read(&mut self, font: &'a Font<'a>, number: u32)
+        requires even { length self.old.step.path.items ≡ length self.old.callers.items }
+        ensures ready { IsReady font.now self.new }
+        ensures steps { steps_from font.now self.new ≡ steps_behind font.now self.old }
+        ensures step { step_view self.new.step ≡ step_here font.now self.new }
+        ensures number { self.new.step.number ≡ number }
+    {
+        let token = self.current.next_token();
+        self.step.number = number;
+        self.step.token = token;
+        self.step.waiting = self.waiting.len();
+        self.step.found = false;
+        if is_callsubr(token) {
+            self.named = named_at(font, token, &self.step.stack);
+            self.step.found = self.named.is_some();
+        }
+        self.step.last = is_last(token, self.current, self.step.path.len());
+    }
+}

@@ -1,0 +1,139 @@
+//! The steps of a glyph one at a time: Type 1 Font Format 1.1, chapters 6 and 8.
+
+ghost use Rattle.std.specs.Prelude.{◌≡◌, ◌<◌, ◌≤◌, ◌+◌, length};
+ghost use Rattle.t1_char.specs.Steps.{steps_of};
+ghost use Rattle.t1_char.specs.StepValues.{step_value};
+ghost use Rattle.t1_char.specs.Turns.{counted_after, turn_at};
+ghost use Rattle.t1_char.specs.TurnViews.{turn_view};
+ghost use Rattle.t1_char.specs.Workings.Machines.{answer_view};
+
+use crate::expansion::STEP_LIMIT;
+use crate::frames::Frames;
+use crate::step::Step;
+use std::marker::Model;
+use t1_font::Font;
+
+/// What a machine answers.
+#[derive(Clone, Copy)]
+pub enum Turn<'m> {
+    /// The next step; it is executed by the next call.
+    Step(&'m Step),
+    /// The glyph has no further step.
+    Ended,
+    /// The first step past the limit; it isn't executed.
+    Limit(&'m Step),
+}
+
+/// The same without the step.
+#[derive(Clone, Copy)]
+enum Answer {
+    Step,
+    Ended,
+    Limit,
+}
+
+/// A glyph that is executed step by step: no list is made, and no memory is taken.
+///
+/// ```
+/// let mut machine = Machine::start(font, 0);
+/// while let Turn::Step(step) = machine.step() {
+///     println!(rt; "{} {:?}", step.number, step.token)?;
+/// }
+/// ```
+#[derive(Drop)]
+pub struct Machine<'a> {
+    font: &'a Font<'a>,
+    glyph: usize,
+    counted: u32,
+    answer: Answer,
+    frames: Frames<'a>,
+}
+
+impl<'a> Model for Machine<'a> {
+    ghost use Rattle.t1_char.specs.StepValues.{step_value};
+    ghost use Rattle.t1_char.specs.Turns.{MachineView};
+    ghost use Rattle.t1_char.specs.Workings.Machines.{IsAt};
+    ghost use Rattle.t1_char.specs.Steps.{steps_of};
+    ghost use Rattle.t1_char.specs.declared.expansion.TheConstants.{STEP_LIMIT};
+
+    ghost Value = { MachineView };
+
+    ghost view = { λ m. record { font = m.font.now; glyph = m.glyph; counted = m.counted; step = step_value m.frames.step } };
+
+    ghost invariant = { λ m. IsAt STEP_LIMIT (steps_of m.font.now m.glyph) m.font.now m.counted m.answer m.frames };
+}
+
+impl<'a> Machine<'a> {
+    ghost use Rattle.std.specs.Borrow.{sem};
+    ghost use Rattle.t1_char.specs.Lending.{MovesOn};
+
+    /// A machine before the first step of a glyph, by its place.
+    pub fn start(font: &'a Font<'a>, glyph: usize) -> Machine<'a>
+        requires { glyph < length font.now.glyphs }
+        ensures font { result.font ≡ font.now }
+        ensures glyph { result.glyph ≡ glyph }
+        ensures counted { result.counted ≡ 0 }
+    {
+        Machine {
+            font,
+            glyph,
+            counted: 0,
+            answer: Answer::Step,
+            frames: Frames::start(font, glyph),
+        }
+    }
+
+    /// The next step, up to the limit of [`STEP_LIMIT`]; the end and the limit are told again.
+    pub fn step(&mut self) -> Turn<'_>
+        ensures* moves_on { sem 𝓛 (MovesOn self.entry) }
+        ensures turn { turn_view result ≡ turn_at STEP_LIMIT (steps_of self.old.font self.old.glyph) self.old.counted }
+    {
+        match self.go_on() {
+            Answer::Step => Turn::Step(self.shown()),
+            Answer::Ended => Turn::Ended,
+            Answer::Limit => Turn::Limit(self.shown()),
+        }
+    }
+
+    /// How often it was asked for a step, up to the first end or limit.
+    pub fn counted(&self) -> u32
+        ensures counted { result ≡ self.now.counted }
+        ensures most { result ≤ STEP_LIMIT + 1 }
+    {
+        self.counted
+    }
+
+    /// Executes the step that was answered last, and reads the next.
+    fn go_on(&mut self) -> Answer
+        ensures answer { answer_view result self.new.step
+            ≡ turn_at STEP_LIMIT (steps_of self.old.font self.old.glyph) self.old.counted }
+        ensures counted { self.new.counted
+            ≡ counted_after STEP_LIMIT (steps_of self.old.font self.old.glyph) self.old.counted }
+        ensures font { self.new.font ≡ self.old.font }
+        ensures glyph { self.new.glyph ≡ self.old.glyph }
+    {
+        match self.answer {
+            Answer::Step => {
+                self.counted += 1;
+                if !self.frames.execute(self.font) {
+                    self.answer = Answer::Ended;
+                    return Answer::Ended;
+                }
+                self.frames.read(self.font, self.counted);
+                if self.counted > STEP_LIMIT {
+                    self.answer = Answer::Limit;
+                    return Answer::Limit;
+                }
+                Answer::Step
+            }
+            Answer::Ended => Answer::Ended,
+            Answer::Limit => Answer::Limit,
+        }
+    }
+
+    fn shown(&self) -> &Step
+        ensures { step_value result.now ≡ self.now.step }
+    {
+        &self.frames.step
+    }
+}
