@@ -19,3 +19,4 @@ pub mod SincePlaces
 pub mod Skipping
 pub mod Spelling
 pub mod TextsReadBack
+pub mod TurnsTaken

@@ -17,7 +17,7 @@ use crate::step_rules::seac::{accent_code, base_code, is_unnamed};
 use crate::step_rules::tokens::{is_seac, sets_width};
 use std::alloc::{AllocError, Global};
 use std::marker::Model;
-use t1_char::{STEP_LIMIT, Step, expand};
+use t1_char::{Machine, STEP_LIMIT, Step, Turn};
 use t1_font::Font;
 
 /// How many codes there are.
@@ -57,7 +57,7 @@ impl Sidebearings {
     {
         let mut components = Vec::new(alloc);
         for code in 0..CODES {
-            components.push(component_at(alloc, font, code as u8)?)?;
+            components.push(component_at(font, code as u8))?;
         }
         Ok(Sidebearings { components })
     }
@@ -173,22 +173,22 @@ impl Component {
 }
 
 /// The component of a code.
-fn component_at(alloc: Global, font: &Font<'_>, code: u8) -> Result<Component, AllocError>
-    ensures { IfOk result (λ component. component ≡ component_at STEP_LIMIT font.now code) }
+fn component_at(font: &Font<'_>, code: u8) -> Component
+    ensures { result ≡ component_at STEP_LIMIT font.now code }
 {
-    component_named(alloc, font, standard_name(code))
+    component_named(font, standard_name(code))
 }
 
 /// The component of a name; none is there without one.
-fn component_named(alloc: Global, font: &Font<'_>, name: &str) -> Result<Component, AllocError>
-    ensures { IfOk result (λ component. component ≡ component_named STEP_LIMIT font.now name.now) }
+fn component_named(font: &Font<'_>, name: &str) -> Component
+    ensures { result ≡ component_named STEP_LIMIT font.now name.now }
 {
     if name.is_empty() {
-        return Ok(Component::MISSING);
+        return Component::MISSING;
     }
     match glyph_named(font, name.as_bytes()) {
-        Some(glyph) => component_of_glyph(alloc, font, glyph),
-        None => Ok(Component::MISSING),
+        Some(glyph) => component_of_glyph(&*font, glyph),
+        None => Component::MISSING,
     }
 }
 
@@ -200,36 +200,18 @@ pub fn glyph_named(font: &Font<'_>, name: &[u8]) -> Option<usize>
     font.glyphs().get_index_of(&name)
 }
 
-/// What a glyph is as a component.
-fn component_of_glyph(alloc: Global, font: &Font<'_>, glyph: usize) -> Result<Component, AllocError>
+/// What a glyph is as a component, by its steps up to the limit.
+fn component_of_glyph<'a>(font: &'a Font<'a>, glyph: usize) -> Component
     requires { glyph < length font.now.glyphs }
-    ensures { IfOk result (λ component. component ≡ component_in (take STEP_LIMIT (steps_of font.now glyph))) }
+    ensures { result ≡ component_in (take STEP_LIMIT (steps_of font.now glyph)) }
 {
-    let steps = expand(alloc, font, glyph)?;
-    Ok(component_in(first(STEP_LIMIT as usize, &steps)))
-}
-
-/// The first steps, so many or all.
-fn first(count: usize, steps: &[Step]) -> &[Step]
-    ensures { result.now ≡ take count steps.now }
-{
-    if count < steps.len() {
-        &steps[..count]
-    } else {
-        steps
-    }
-}
-
-/// What a glyph of these steps is as a component.
-fn component_in(steps: &[Step]) -> Component
-    ensures { result ≡ component_in (map step_view steps.now) }
-{
+    let mut machine = Machine::start(font, glyph);
     let mut component = Component {
         there: true,
         sidebearing: None,
         has_seac: false,
     };
-    for step in steps {
+    while let Turn::Step(step) = machine.step() {
         component.take_in(step);
     }
     component

@@ -9,8 +9,8 @@ pub loop-code-preserved : goal.loop-code-preserved
 loop-code-preserved c =
     let code = c.loop-code.code in
     c.in_ok-push.ensures.items
-    ∙ ap (λ items. items ++ c.in_ok-component_at.field-0 ∷ []) c.loop-code.invariant
-    ∙ ap (λ component. map (component_at STEP_LIMIT c.args.font.now) (range_with_len 0 code) ++ component ∷ []) c.in_ok-component_at.ensures
+    ∙ ap (λ items. items ++ c.component_at.result ∷ []) c.loop-code.invariant
+    ∙ ap (λ component. map (component_at STEP_LIMIT c.args.font.now) (range_with_len 0 code) ++ component ∷ []) c.component_at.ensures
     ∙ sym (map-range_with_len_more (component_at STEP_LIMIT c.args.font.now) 0 code code (omega arith))
 
 pub returns : goal.returns

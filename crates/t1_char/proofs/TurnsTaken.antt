@@ -1,0 +1,102 @@
+-- What the answers of a machine tell of the steps up to the limit.
+use Rattle.std.proofs.Common.{◌≡◌, ℕ, zero, suc, ◌+◌, ◌-◌, ◌<◌, ◌≤◌, Bool, true, false, true≢false, cond, nat_lt, Option, None, Some, List, [], ◌∷◌, ◌++◌, length, take, slice_get, length-take, refl, ap, sym, ◌∙◌, lt-ltb, le-ltb, arith}
+use Rattle.std.proofs.lemmas.Bool.{ltb-true, ltb-false}
+use Rattle.std.proofs.lemmas.List.{take_all, take_more, get_or-take}
+use Rattle.std.proofs.lemmas.Option.{get_or_from_slice_get, slice_get_within}
+use Rattle.std.specs.Borrow.{Bor}
+use Rattle.t1_font.specs.Fonts.{FontValue}
+use Rattle.t1_char.specs.Steps.{StepView, NumberedStep, steps_of}
+use Rattle.t1_char.specs.declared.machine.Turn.{Turn as Turns}
+use Rattle.t1_char.specs.declared.machine.Turn.TheVariants.{Step, Ended, Limit}
+use Rattle.t1_char.specs.declared.step.Step.{Step as Steps}
+use Rattle.t1_char.specs.TurnViews.{turn_view}
+use Rattle.t1_char.specs.Turns.{MachineView, TurnValue, stepped, ended, limited, step_of_number, step_or_end, limit_or_end, turn_at, counted_after}
+
+-- The next step was answered.
+pub record IsStepped (limit : ℕ) (steps : List StepView) (n : ℕ) (answer : NumberedStep) : Type 0 where
+  pub within : n < length (take limit steps)
+  pub more : take (n + 1) (take limit steps) ≡ take n (take limit steps) ++ answer.step ∷ []
+  pub number : answer.number ≡ n + 1
+  pub counted : counted_after limit steps n ≡ n + 1
+
+abbrev pub is_step : TurnValue → Bool
+is_step (stepped _) = true
+is_step ended = false
+is_step (limited _) = false
+
+abbrev step_in : NumberedStep → TurnValue → NumberedStep
+step_in default (stepped step) = step
+step_in default ended = default
+step_in default (limited _) = default
+
+no_limit : (limit : ℕ) (o : Option StepView) → is_step (limit_or_end limit o) ≡ false
+no_limit limit None = refl
+no_limit limit (Some step) = refl
+
+pub stepped_is : (limit : ℕ) (steps : List StepView) (n : ℕ) (answer : NumberedStep) → stepped answer ≡ turn_at limit steps n → IsStepped limit steps n answer
+stepped_is limit steps n answer is = by_place (nat_lt n limit) (slice_get steps n) refl refl is
+  where
+    of_step : (step : StepView) → n < limit → slice_get steps n ≡ Some step → answer ≡ step_of_number (n + 1) step → IsStepped limit steps n answer
+    of_step step below get same =
+        let there : n < length steps = slice_get_within steps n step get in
+        let less : n < length (take limit steps) = omega (arith, there, below, length-take limit steps) in
+        record {
+          within = less;
+          more = take_more (take limit steps) n step less
+              ∙ ap (λ x. take n (take limit steps) ++ x ∷ []) (get_or-take limit steps n step below ∙ get_or_from_slice_get steps n step step get ∙ sym (ap (λ a. a.step) same));
+          number = ap (λ a. a.number) same;
+          counted = ap (λ b. cond b n (n + 1)) (le-ltb (length (take limit steps)) n (omega (arith, less)));
+        }
+
+    by_place : (b : Bool) (o : Option StepView) → nat_lt n limit ≡ b → slice_get steps n ≡ o → stepped answer ≡ cond b (step_or_end n o) (limit_or_end limit (slice_get steps limit)) → IsStepped limit steps n answer
+    by_place true (Some step) below get is = of_step step (ltb-true n limit below) get (ap (step_in answer) is)
+    by_place true None below get is = absurd (true≢false (ap is_step is))
+    by_place false o above get is = absurd (true≢false (ap is_step is ∙ no_limit limit (slice_get steps limit)))
+
+some_there : (n : ℕ) (xs : List StepView) (k : ℕ) → k < length xs → is_step (step_or_end n (slice_get xs k)) ≡ true
+some_there n [] k less = absurd (omega (arith, less))
+some_there n (x ∷ xs) zero less = refl
+some_there n (x ∷ xs) (suc k) less = some_there n xs k (omega (arith, less))
+
+stepped_there : (limit : ℕ) (steps : List StepView) (n : ℕ) → n < limit → n < length steps → is_step (turn_at limit steps n) ≡ true
+stepped_there limit steps n below there =
+    ap (λ b. is_step (cond b (step_or_end n (slice_get steps n)) (limit_or_end limit (slice_get steps limit)))) (lt-ltb n limit below)
+    ∙ some_there n steps n there
+
+-- No step was answered: all up to the limit were.
+pub turns_over : (limit : ℕ) (steps : List StepView) (n : ℕ) → is_step (turn_at limit steps n) ≡ false → length (take limit steps) ≤ n
+turns_over limit steps n no_step = by_place (nat_lt n (length (take limit steps))) refl
+  where
+    by_place : (b : Bool) → nat_lt n (length (take limit steps)) ≡ b → length (take limit steps) ≤ n
+    by_place false past = ltb-false n (length (take limit steps)) past
+    by_place true less =
+        let within : n < length (take limit steps) = ltb-true n (length (take limit steps)) less in
+        let below : n < limit = omega (arith, within, length-take limit steps) in
+        let there : n < length steps = omega (arith, within, length-take limit steps) in
+        absurd (true≢false (sym (stepped_there limit steps n below there) ∙ no_step))
+
+-- The same of a machine that executes this glyph of this font.
+same_turn : (limit : ℕ) (m : MachineView) (font : FontValue) (glyph : ℕ) → m.font ≡ font → m.glyph ≡ glyph → turn_at limit (steps_of m.font m.glyph) m.counted ≡ turn_at limit (steps_of font glyph) m.counted
+same_turn limit m font glyph of_font of_glyph =
+    ap (λ f. turn_at limit (steps_of f m.glyph) m.counted) of_font ∙ ap (λ g. turn_at limit (steps_of font g) m.counted) of_glyph
+
+pub machine_stepped : (limit : ℕ) (m : MachineView) (font : FontValue) (glyph : ℕ) (answer : NumberedStep) → m.font ≡ font → m.glyph ≡ glyph → stepped answer ≡ turn_at limit (steps_of m.font m.glyph) m.counted → IsStepped limit (steps_of font glyph) m.counted answer
+machine_stepped limit m font glyph answer of_font of_glyph is = stepped_is limit (steps_of font glyph) m.counted answer (is ∙ same_turn limit m font glyph of_font of_glyph)
+
+pub machine_counted : (limit : ℕ) (m : MachineView) (font : FontValue) (glyph : ℕ) (answer : NumberedStep) (counted : ℕ) → m.font ≡ font → m.glyph ≡ glyph → IsStepped limit (steps_of font glyph) m.counted answer → counted ≡ counted_after limit (steps_of m.font m.glyph) m.counted → counted ≡ m.counted + 1
+machine_counted limit m font glyph answer counted of_font of_glyph stepped_to is =
+    is ∙ ap (λ f. counted_after limit (steps_of f m.glyph) m.counted) of_font ∙ ap (λ g. counted_after limit (steps_of font g) m.counted) of_glyph ∙ stepped_to.counted
+
+not_step : (turn : Turns) → ((step : Bor Steps) → turn ≡ Step step → ⊥) → is_step (turn_view turn) ≡ false
+not_step (Step step) other = absurd (other step refl)
+not_step Ended other = refl
+not_step (Limit step) other = refl
+
+pub machine_over : (limit : ℕ) (m : MachineView) (font : FontValue) (glyph : ℕ) (turn : Turns) → m.font ≡ font → m.glyph ≡ glyph → ((step : Bor Steps) → turn ≡ Step step → ⊥) → turn_view turn ≡ turn_at limit (steps_of m.font m.glyph) m.counted → take m.counted (take limit (steps_of font glyph)) ≡ take limit (steps_of font glyph)
+machine_over limit m font glyph turn of_font of_glyph other is =
+    take_all m.counted (take limit (steps_of font glyph))
+    (turns_over limit (steps_of font glyph) m.counted (ap is_step (sym (is ∙ same_turn limit m font glyph of_font of_glyph)) ∙ not_step turn other))
+
+-- How many calls are left.
+pub fewer_left : (limit : ℕ) (steps : List StepView) (n counted : ℕ) → counted ≡ n + 1 → n < length (take limit steps) → limit + 1 - counted < limit + 1 - n
+fewer_left limit steps n counted is within = omega (arith, is, within, length-take limit steps)
