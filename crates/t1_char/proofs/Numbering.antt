@@ -6,10 +6,10 @@ use Rattle.t1_char.specs.Steps.{StepView, NumberedStep, numbered}
 use Rattle.t1_char.specs.StepValues.{step_view, step_value}
 use Rattle.t1_char.specs.Workings.Steps.{AreNumbered}
 
-abbrev with_number : StepView → ℕ → NumberedStep
+abbrev pub with_number : StepView → ℕ → NumberedStep
 with_number s n = record { number = n; step = s }
 
-numbered_more : (n : ℕ) (ss : List StepView) (s : StepView) → numbered n (ss ++ s ∷ []) ≡ numbered n ss ++ with_number s (n + length ss) ∷ []
+pub numbered_more : (n : ℕ) (ss : List StepView) (s : StepView) → numbered n (ss ++ s ∷ []) ≡ numbered n ss ++ with_number s (n + length ss) ∷ []
 numbered_more n [] s = ap (λ k. with_number s k ∷ []) (omega arith)
 numbered_more n (t ∷ ss) s =
     let k : n + 1 + length ss ≡ n + suc (length ss) = omega arith in

@@ -1,5 +1,5 @@
 -- What the answers of a machine tell of the steps up to the limit.
-use Rattle.std.proofs.Common.{◌≡◌, ℕ, zero, suc, ◌+◌, ◌-◌, ◌<◌, ◌≤◌, Bool, true, false, true≢false, cond, nat_lt, Option, None, Some, List, [], ◌∷◌, ◌++◌, length, take, slice_get, length-take, refl, ap, sym, ◌∙◌, lt-ltb, le-ltb, arith}
+use Rattle.std.proofs.Common.{◌≡◌, ℕ, zero, suc, ◌+◌, ◌-◌, ◌<◌, ◌≤◌, Bool, true, false, true≢false, cond, nat_lt, Option, None, Some, is_some, List, [], ◌∷◌, ◌++◌, length, take, slice_get, length-take, refl, ap, sym, ◌∙◌, lt-ltb, le-ltb, arith}
 use Rattle.std.proofs.lemmas.Bool.{ltb-true, ltb-false}
 use Rattle.std.proofs.lemmas.List.{take_all, take_more, get_or-take}
 use Rattle.std.proofs.lemmas.Option.{get_or_from_slice_get, slice_get_within}
@@ -100,3 +100,48 @@ machine_over limit m font glyph turn of_font of_glyph other is =
 -- How many calls are left.
 pub fewer_left : (limit : ℕ) (steps : List StepView) (n counted : ℕ) → counted ≡ n + 1 → n < length (take limit steps) → limit + 1 - counted < limit + 1 - n
 fewer_left limit steps n counted is within = omega (arith, is, within, length-take limit steps)
+
+-- The end was answered: there are no steps past the limit, and all were answered.
+pub record IsOver (limit : ℕ) (steps : List StepView) (n : ℕ) : Type 0 where
+  pub few : length steps ≤ limit
+  pub all : length steps ≤ n
+
+get_none : (steps : List StepView) (n : ℕ) → slice_get steps n ≡ None → length steps ≤ n
+get_none [] n is = omega arith
+get_none (step ∷ steps) zero is = absurd (true≢false (ap is_some is))
+get_none (step ∷ steps) (suc n) is = omega (arith, get_none steps n is)
+
+is_end : TurnValue → Bool
+is_end (stepped _) = false
+is_end ended = true
+is_end (limited _) = false
+
+is_limit : TurnValue → Bool
+is_limit (stepped _) = false
+is_limit ended = false
+is_limit (limited _) = true
+
+pub ended_is : (limit : ℕ) (steps : List StepView) (n : ℕ) → ended ≡ turn_at limit steps n → IsOver limit steps n
+unfolding is_end
+ended_is limit steps n is = by_place (nat_lt n limit) (slice_get steps n) (slice_get steps limit) refl refl refl is
+  where
+    by_place : (b : Bool) (o p : Option StepView) → nat_lt n limit ≡ b → slice_get steps n ≡ o → slice_get steps limit ≡ p → ended ≡ cond b (step_or_end n o) (limit_or_end limit p) → IsOver limit steps n
+    by_place true None p below get past is =
+        let all : length steps ≤ n = get_none steps n get in
+        record { few = omega (arith, all, ltb-true n limit below); all = all }
+    by_place true (Some step) p below get past is = absurd (true≢false (ap is_end is))
+    by_place false o None above get past is =
+        let few : length steps ≤ limit = get_none steps limit past in
+        record { few = few; all = omega (arith, few, ltb-false n limit above) }
+    by_place false o (Some step) above get past is = absurd (true≢false (ap is_end is))
+
+-- The limit was answered: there are steps past it.
+pub limited_is : (limit : ℕ) (steps : List StepView) (n : ℕ) (answer : NumberedStep) → limited answer ≡ turn_at limit steps n → (limit < length steps) × (limit ≤ n)
+unfolding is_limit
+limited_is limit steps n answer is = by_place (nat_lt n limit) (slice_get steps n) (slice_get steps limit) refl refl is
+  where
+    by_place : (b : Bool) (o p : Option StepView) → nat_lt n limit ≡ b → slice_get steps limit ≡ p → limited answer ≡ cond b (step_or_end n o) (limit_or_end limit p) → (limit < length steps) × (limit ≤ n)
+    by_place true None p below past is = absurd (true≢false (ap is_limit is))
+    by_place true (Some step) p below past is = absurd (true≢false (ap is_limit is))
+    by_place false o None above past is = absurd (true≢false (ap is_limit is))
+    by_place false o (Some step) above past is = (slice_get_within steps limit step past, ltb-false n limit above)

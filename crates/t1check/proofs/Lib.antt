@@ -5,4 +5,5 @@ pub mod InputLemmas
 pub mod ReportLemmas
 pub mod RunLaws
 pub mod SingleFault
+pub mod TraceLemmas
 pub mod ValueLemmas

@@ -3,12 +3,6 @@ use Rattle.std.proofs.Common.{length, if◌then◌else◌, codes, map, nat_lt, o
 use Rattle.std.proofs.lemmas.List.{length-map}
 use Rattle.std.proofs.lemmas.List.Elements.{All-drop, All-take}
 use Rattle.std.specs.List.{All, flat_map}
-use Rattle.t1_char.specs.declared.step.Step.{Step}
-use Rattle.t1_char.specs.StepValues.{step_value}
-use Rattle.t1_char.specs.Steps.{NumberedStep}
-use Rattle.t1check.specs.declared.status.Status.TheVariants.{Clean}
-use Rattle.t1_report.specs.Traces.{step_line}
-use Rattle.t1check.specs.Traces.{trace_text}
 use Rattle.t1_font.specs.Fonts.{FontValue}
 use Rattle.t1_io.specs.Devices.{SinkState}
 use Rattle.t1_report.specs.declared.faults.Fault.{Fault}
@@ -81,23 +75,3 @@ all_chosen P options faults all = all_most P options.max (drop options.after fau
     all_most : (P : Fault → Type 0) (max : Option ℕ) (faults : List Fault) → All P faults → All P (at_most max faults)
     all_most P None faults all = all
     all_most P (Some n) faults all = All-take P n faults all
-
--- The lines of the first steps, as the program has them.
-pub trace_lines : (n : ℕ) (steps : List Step) → flat_map (λ step. step_line (step_value step)) (take n steps) ≡ flat_map step_line (take n (map step_value steps))
-trace_lines zero steps = refl
-trace_lines (suc n) [] = refl
-trace_lines (suc n) (s ∷ ss) = ap (λ (text : List ℕ). step_line (step_value s) ++ text) (trace_lines n ss)
-
-pub traced_text : (n : ℕ) (steps : List Step)
-    → flat_map (λ step. step_line (step_value step)) (take n steps) ++ (if nat_lt n (length steps) then codes "limit\n" else []) ≡ trace_text n (map step_value steps)
-traced_text n steps =
-    ap (λ (text : List ℕ). text ++ (if nat_lt n (length steps) then codes "limit\n" else [])) (trace_lines n steps)
-    ∙ ap (λ (k : ℕ). flat_map step_line (take n (map step_value steps)) ++ (if nat_lt n k then codes "limit\n" else [])) (sym (length-map steps step_value))
-
--- Giving the trace of the program's steps is giving that of the glyph's.
-pub gives_trace : (limit : ℕ) (steps items : List Step) (all : List NumberedStep) (out out' errors errors' : SinkState) (result : Status)
-    → steps ≡ items → map step_value items ≡ all
-    → Gives (trace_text limit (map step_value steps)) Clean out out' errors errors' result → Gives (trace_text limit all) Clean out out' errors errors' result
-gives_trace limit steps items all out out' errors errors' result same are gives =
-    subst (λ (xs : List NumberedStep). Gives (trace_text limit xs) Clean out out' errors errors' result) are
-    (subst (λ (xs : List Step). Gives (trace_text limit (map step_value xs)) Clean out out' errors errors' result) same gives)

@@ -1,6 +1,5 @@
-ghost use Rattle.std.specs.Prelude.{◌≡◌, ◌≤◌, ◌+◌, false, map};
+ghost use Rattle.std.specs.Prelude.{◌≡◌, ◌≤◌, ◌<◌, ◌+◌, false, length};
 ghost use Rattle.std.specs.List.{All, flat_map};
-ghost use Rattle.t1_char.specs.StepValues.{step_value};
 ghost use Rattle.t1_report.specs.Faults.{fault_value};
 ghost use Rattle.t1_report.specs.Lines.{IsInFont};
 ghost use Rattle.t1check.specs.Answers.{status_of};
@@ -9,7 +8,7 @@ ghost use Rattle.t1check.specs.FontFiles.{font_in};
 ghost use Rattle.t1check.specs.Input.{TakesAtMost};
 ghost use Rattle.t1check.specs.Lines.{fault_line};
 ghost use Rattle.t1check.specs.Refusals.{told_of};
-ghost use Rattle.t1check.specs.Traces.{trace_text};
+ghost use Rattle.t1check.specs.Traces.{trace_of};
 
 use crate::asked::Options;
 use crate::lines::{at_most, without_first, write_report};
@@ -19,7 +18,6 @@ use crate::telling::{READ_FAILED, WRITE_FAILED, tell, tell_no_glyph};
 use crate::tracing::write_trace;
 use crate::unread::Unread;
 use std::alloc::{AllocError, Global};
-use t1_char::{STEP_LIMIT, Step, expand};
 use t1_font::{Font, read_clear, read_font};
 use t1_io::{Sink, Source};
 use t1_report::{Fault, report};
@@ -89,8 +87,7 @@ fn show<W: Sink, E: Sink>(
     let Some(glyph) = glyph_named(font, name.as_bytes()) else {
         return Ok(tell_no_glyph(name.as_str(), errors));
     };
-    let steps = expand(alloc, font, glyph)?;
-    Ok(give_trace(steps.as_slice(), out, errors))
+    Ok(give_trace(&*font, glyph, out, errors))
 }
 
 /// Tells why a file isn't read.
@@ -132,12 +129,18 @@ fn status_of(faults: &[Fault]) -> Status
     }
 }
 
-/// Writes the trace of these steps.
-fn give_trace<W: Sink, E: Sink>(steps: &[Step], out: &mut W, errors: &mut E) -> Status
-    ensures { Gives (trace_text STEP_LIMIT (map step_value steps.now)) Status.Clean
+/// Writes the trace of a glyph, by its place.
+fn give_trace<'a, W: Sink, E: Sink>(
+    font: &'a Font<'a>,
+    glyph: usize,
+    out: &mut W,
+    errors: &mut E,
+) -> Status
+    requires { glyph < length font.now.glyphs }
+    ensures { Gives (trace_of font.now glyph) Status.Clean
         (W.state out.old) (W.state out.new) (E.state errors.old) (E.state errors.new) result }
 {
-    match write_trace(out, steps) {
+    match write_trace(out, font, glyph) {
         Ok(()) => Status::Clean,
         Err(_) => tell(errors, WRITE_FAILED, Status::Failed),
     }

@@ -1,10 +1,9 @@
 use Rattle.std.proofs.Common.{ap, option_map, refl, string_bytes, sym, ◌∙◌}
-use Rattle.t1_char.specs.declared.expansion.TheConstants.{STEP_LIMIT}
 use Rattle.t1_report.specs.declared.faults.Fault.{Fault}
 use Rattle.t1_report.specs.Faults.{fault_value, faults_of}
 use Rattle.t1_report.specs.Lines.{IsInFont}
 use Rattle.t1check.specs.Ends.Shows.{no_glyph, reported, traced}
-use Rattle.t1check.proofs.ReportLemmas.{all_chosen, gives_chosen, gives_trace}
+use Rattle.t1check.proofs.ReportLemmas.{all_chosen, gives_chosen}
 use Rattle.t1check.proofs.running.show.Goals as goal
 
 pub give_report-requires : goal.give_report-requires
@@ -28,4 +27,4 @@ pub returns : goal.returns
 returns g c =
     traced (string_bytes c.in-Some.name) (ap (option_map string_bytes) c.in-Some.is) c.in-Some-glyph_named.glyph
     (sym (rw c.as_bytes.ensures.value at c.glyph_named.ensures.place) ∙ c.in-Some-glyph_named.is)
-    (gives_trace STEP_LIMIT _ c.in_ok-steps.steps.items _ _ _ _ _ _ c.as_slice-2.ensures.value c.in_ok-steps.ensures c.give_trace.ensures)
+    c.give_trace.ensures

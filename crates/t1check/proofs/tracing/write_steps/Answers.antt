@@ -1,11 +1,52 @@
-use Rattle.t1_io.proofs.SinkLemmas.{PutFailed-part, Writes-failed}
-use Rattle.t1_char.specs.declared.step.Step.{Step}
+use Rattle.std.proofs.Common.{◌≡◌, ◌+◌, List, ℕ, ap, sym, subst, ◌∙◌, codes}
+use Rattle.t1_io.specs.Devices.{Wrote, Writes}
+use Rattle.t1_io.proofs.SinkLemmas.{Writes-then, Writes-failed}
+use Rattle.t1_char.specs.declared.expansion.TheConstants.{STEP_LIMIT}
+use Rattle.t1_char.specs.Steps.{steps_of}
 use Rattle.t1_char.specs.StepValues.{step_value}
-use Rattle.t1_report.specs.Traces.{step_line}
+use Rattle.t1_char.proofs.TurnsTaken.{IsStepped, machine_stepped, machine_counted, fewer_left}
+use Rattle.t1check.proofs.TraceLemmas.{lines_to, step_failed, wrote_step, trace_ended, trace_past}
 use Rattle.t1check.proofs.tracing.write_steps.Goals as goal
 
-pub returns-in_err-write_step : goal.returns-in_err-write_step
-returns-in_err-write_step g c =
+pub loop-step-smaller : goal.loop-step-smaller
+loop-step-smaller g c =
+    let steps = steps_of c.args.machine.font c.args.machine.glyph in
+    let one_more : IsStepped STEP_LIMIT steps c.loop-step.machine.counted (step_value c.in-Step.step.now) =
+    machine_stepped STEP_LIMIT c.loop-step.machine c.args.machine.font c.args.machine.glyph (step_value c.in-Step.step.now) c.loop-step.invariant.font c.loop-step.invariant.glyph c.in-Step.ensures.turn in
+    fewer_left STEP_LIMIT steps c.loop-step.machine.counted c.step.follows.lender-at-none.counted
+    (machine_counted STEP_LIMIT c.loop-step.machine c.args.machine.font c.args.machine.glyph (step_value c.in-Step.step.now) c.step.follows.lender-at-none.counted c.loop-step.invariant.font c.loop-step.invariant.glyph one_more c.step.follows.holds-at-none.0)
+    one_more.within
+
+pub loop-step-preserved : goal.loop-step-preserved
+loop-step-preserved g c =
+    let steps = steps_of c.args.machine.font c.args.machine.glyph in
+    let one_more : IsStepped STEP_LIMIT steps c.loop-step.machine.counted (step_value c.in-Step.step.now) =
+    machine_stepped STEP_LIMIT c.loop-step.machine c.args.machine.font c.args.machine.glyph (step_value c.in-Step.step.now) c.loop-step.invariant.font c.loop-step.invariant.glyph c.in-Step.ensures.turn in
+    let counted : c.step.follows.lender-at-none.counted ≡ c.loop-step.machine.counted + 1 =
+    machine_counted STEP_LIMIT c.loop-step.machine c.args.machine.font c.args.machine.glyph (step_value c.in-Step.step.now) c.step.follows.lender-at-none.counted c.loop-step.invariant.font c.loop-step.invariant.glyph one_more c.step.follows.holds-at-none.0 in
+    record {
+      font = c.step.follows.holds-at-none.1 ∙ c.loop-step.invariant.font;
+      glyph = c.step.follows.holds-at-none.2 ∙ c.loop-step.invariant.glyph;
+      wrote = subst (λ n. Wrote (g.W.Sink.state c.args.sink.now) (g.W.Sink.state c.write_step.new.sink) (lines_to STEP_LIMIT steps n)) (sym counted)
+          (wrote_step STEP_LIMIT steps c.loop-step.machine.counted (step_value c.in-Step.step.now) _ _ _ one_more c.loop-step.invariant.wrote c.in_ok-write_step-in-Step.ensures);
+    }
+
+pub returns-in_err-write_step-in-Step : goal.returns-in_err-write_step-in-Step
+returns-in_err-write_step-in-Step g c =
+    let step = step_value c.in-Step.step.now in
     Writes-failed _ _ _ _ _ c.from_residual.ensures.1
-    (PutFailed-part (λ (step : Step). step_line (step_value step)) c.args.steps.now c.loop-step.step-index _ _ _ _ c.loop-step-test.true c.loop-step.invariant.wrote
-    (rw c.step-item.is at c.in_err-write_step.ensures))
+    (step_failed STEP_LIMIT c.args.machine.font c.args.machine.glyph c.loop-step.machine.counted step _ _ _
+    (machine_stepped STEP_LIMIT c.loop-step.machine c.args.machine.font c.args.machine.glyph step c.loop-step.invariant.font c.loop-step.invariant.glyph c.in-Step.ensures.turn)
+    c.loop-step.invariant.wrote c.in_err-write_step-in-Step.ensures)
+
+pub returns-in-Ended : goal.returns-in-Ended
+returns-in-Ended g c =
+    subst (λ (text : List ℕ). Wrote (g.W.Sink.state c.args.sink.now) (g.W.Sink.state c.loop-step.sink) text)
+    (sym (trace_ended STEP_LIMIT c.loop-step.machine c.args.machine.font c.args.machine.glyph c.loop-step.invariant.font c.loop-step.invariant.glyph c.in-Ended.ensures.turn))
+    c.loop-step.invariant.wrote
+
+pub returns-in-Limit : goal.returns-in-Limit
+returns-in-Limit g c =
+    subst (λ (text : List ℕ). Writes (g.W.Sink.state c.args.sink.now) (g.W.Sink.state c.put_all.new.sink) text c.put_all.result)
+    (sym (trace_past STEP_LIMIT c.loop-step.machine c.args.machine.font c.args.machine.glyph _ c.loop-step.invariant.font c.loop-step.invariant.glyph c.in-Limit.ensures.turn))
+    (Writes-then _ _ _ _ _ _ c.loop-step.invariant.wrote c.put_all.ensures)

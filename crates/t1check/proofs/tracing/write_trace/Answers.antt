@@ -1,8 +1,18 @@
+use Rattle.std.proofs.Common.{List, ℕ, ap, sym, subst, ◌∙◌}
+use Rattle.t1_io.specs.Devices.{Delivers}
+use Rattle.t1_char.specs.Turns.{MachineView}
+use Rattle.t1check.specs.Traces.{trace_of}
 use Rattle.t1_io.proofs.SinkLemmas.{Delivers-failed, Delivers-flush}
 use Rattle.t1check.proofs.tracing.write_trace.Goals as goal
 
-pub returns-in_err-write_lines : goal.returns-in_err-write_lines
-returns-in_err-write_lines g c = Delivers-failed _ _ _ _ _ c.from_residual.ensures.1 c.in_err-write_lines.ensures
+pub returns-in_err-write_steps : goal.returns-in_err-write_steps
+returns-in_err-write_steps g c =
+    subst (λ (text : List ℕ). Delivers (g.W.Sink.state c.args.sink.now) (g.W.Sink.state c.write_steps.new.sink) text c.from_residual.result)
+    (ap (λ font. trace_of font c.start.result.glyph) c.start.ensures.font ∙ ap (trace_of c.args.font.now) c.start.ensures.glyph)
+    (Delivers-failed _ _ _ _ _ c.from_residual.ensures.1 c.in_err-write_steps.ensures)
 
 pub returns : goal.returns
-returns g c = Delivers-flush _ _ _ _ _ c.in_ok-write_lines.ensures c.flush.ensures.flushes
+returns g c =
+    subst (λ (text : List ℕ). Delivers (g.W.Sink.state c.args.sink.now) (g.W.Sink.state c.flush.new.self) text c.flush.result)
+    (ap (λ font. trace_of font c.start.result.glyph) c.start.ensures.font ∙ ap (trace_of c.args.font.now) c.start.ensures.glyph)
+    (Delivers-flush _ _ _ _ _ c.in_ok-write_steps.ensures c.flush.ensures.flushes)
