@@ -7,6 +7,7 @@ pub mod Expanding
 pub mod FirstSteps
 pub mod LastSteps
 pub mod Lasts
+pub mod LastsAhead
 pub mod Listed
 pub mod LookingBack
 pub mod MachineSteps

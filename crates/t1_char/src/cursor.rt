@@ -1,6 +1,6 @@
 //! A place in a charstring, at which it is deciphered as it is read.
 
-ghost use Rattle.std.specs.Prelude.{◌≡◌, false, ◌/◌, bit_xor, MatchOption, [], ◌∷◌, drop};
+ghost use Rattle.std.specs.Prelude.{◌≡◌, false, ◌/◌, bit_xor, MatchOption, [], ◌∷◌, drop, length};
 ghost use Rattle.t1_seal.specs.Laws.Cipher.{next_state};
 ghost use Rattle.t1_char.specs.Tokens.{charstring_tokens, long_number, more_of, random_of, token_at};
 ghost use Rattle.t1_seal.specs.Cipher.{charstring_start, decrypted};
@@ -55,7 +55,17 @@ impl<'a> Cursor<'a> {
         cursor
     }
 
+    /// How many bytes are left.
+    #[tactic(auto, using(crate::proofs::LastsAhead::length_deciphered))]
+    #[inline(always)]
+    pub(crate) fn left_len(&self) -> usize
+        ensures { result ≡ length (bytes_left self.now) }
+    {
+        self.left.len()
+    }
+
     /// The next token.
+    #[inline(always)]
     #[tactic(auto, using(crate::proofs::Skipping::tokens_behind_is), unfolding(crate::specs::Tokens::tokens_behind))]
     pub(crate) fn next_token(&mut self) -> CharToken
         ensures { tokens_left self.old ≡ result ∷ behind_token result (tokens_left self.new) }
@@ -71,6 +81,7 @@ impl<'a> Cursor<'a> {
     }
 
     /// The token of its first byte and the bytes behind it.
+    #[inline(always)]
     fn token_behind(&mut self, first: u8) -> CharToken
         ensures token { result ≡ token_at first (bytes_left self.old) }
         ensures left { bytes_left self.new ≡ drop (more_of first) (bytes_left self.old) }
@@ -97,6 +108,7 @@ impl<'a> Cursor<'a> {
     }
 
     /// The number of the next four bytes.
+    #[inline(always)]
     fn long_number(&mut self) -> CharToken
         ensures token { result ≡ long_number (bytes_left self.old) }
         ensures left { bytes_left self.new ≡ drop 4 (bytes_left self.old) }
@@ -123,6 +135,7 @@ impl<'a> Cursor<'a> {
     }
 
     /// The next plain byte.
+    #[inline(always)]
     #[tactic(auto, unfolding(crate::specs::Workings::Cursors::deciphered))]
     fn next_byte(&mut self) -> Option<u8>
         ensures byte { MatchOption result (bytes_left self.old ≡ [])
@@ -140,6 +153,7 @@ impl<'a> Cursor<'a> {
     }
 
     /// The plain byte of a byte; the cipher goes on.
+    #[inline(always)]
     fn plain(&mut self, byte: u8) -> u8
         ensures byte { result ≡ plain_by (key_of self.old.cipher) byte }
         ensures key { key_of self.new.cipher ≡ key_after (key_of self.old.cipher) byte }

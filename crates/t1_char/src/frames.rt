@@ -107,6 +107,7 @@ impl<'a> Frames<'a> {
     }
 
     /// Reads the next step.
+    #[inline(always)]
     pub(crate) fn read(&mut self, font: &'a Font<'a>, number: u32)
         requires even { length self.old.step.path.items ≡ length self.old.callers.items }
         ensures ready { IsReady font.now self.new }

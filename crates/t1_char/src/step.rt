@@ -67,7 +67,20 @@ pub(crate) fn is_callsubr(token: CharToken) -> bool
 }
 
 /// Whether what follows a token is End alone, or, in a Subr, return and End.
-pub(crate) fn is_last(token: CharToken, mut behind: Cursor<'_>, depth: usize) -> bool
+#[inline(always)]
+pub(crate) fn is_last(token: CharToken, behind: Cursor<'_>, depth: usize) -> bool
+    ensures { result ≡ is_last depth (behind_token token (tokens_left behind.entry)) }
+{
+    // A return is a byte, and End none: where more bytes are left, more follows.
+    if behind.left_len() > 1 {
+        return false;
+    }
+    ends(token, behind, depth)
+}
+
+/// The same by the tokens that follow.
+#[inline(never)]
+fn ends(token: CharToken, mut behind: Cursor<'_>, depth: usize) -> bool
     ensures { result ≡ is_last depth (behind_token token (tokens_left behind.entry)) }
 {
     if is_end(token) {
