@@ -1,11 +1,13 @@
 mod arguments;
 mod effects;
+mod machines;
 mod steps;
 mod tokens;
 
 ghost use Rattle.std.specs.Prelude.{◌≡◌, length};
 
 use crate::{CharToken, Stack, Step, command_name, expand};
+use machines::{states_told, trace_told};
 use std::alloc::{AllocError, Global};
 use std::process::Abort;
 use std::test::Fail;
@@ -91,28 +93,38 @@ fn push_facts(alloc: Global, text: &mut String, step: &Step) -> Result<(), Alloc
     text.push_str(if step.last { " last" } else { "" })
 }
 
+/// Adds a step's number, its path and its token.
+fn push_line(alloc: Global, text: &mut String, step: &Step) -> Result<(), AllocError> {
+    push_number(alloc, text, i64::from(step.number))?;
+    text.push_str(" ")?;
+    push_place(alloc, text, step)?;
+    text.push_str("\n")
+}
+
 /// A line for each step: its number, its path and its token.
 fn trace_of(alloc: Global, steps: &[Step]) -> Result<String, AllocError> {
     let mut text = String::new(alloc);
     for step in steps {
-        push_number(alloc, &mut text, i64::from(step.number))?;
-        text.push_str(" ")?;
-        push_place(alloc, &mut text, step)?;
-        text.push_str("\n")?;
+        push_line(alloc, &mut text, step)?;
     }
     Ok(text)
+}
+
+/// Adds a step's path, its token, the stack, how many results wait, and its two facts.
+fn push_state(alloc: Global, text: &mut String, step: &Step) -> Result<(), AllocError> {
+    push_place(alloc, text, step)?;
+    text.push_str(" ")?;
+    push_stack(alloc, text, &step.stack)?;
+    text.push_str(" ")?;
+    push_facts(alloc, text, step)?;
+    text.push_str("\n")
 }
 
 /// A line for each step: its path, its token, the stack, how many results wait, and its two facts.
 fn states_of(alloc: Global, steps: &[Step]) -> Result<String, AllocError> {
     let mut text = String::new(alloc);
     for step in steps {
-        push_place(alloc, &mut text, step)?;
-        text.push_str(" ")?;
-        push_stack(alloc, &mut text, &step.stack)?;
-        text.push_str(" ")?;
-        push_facts(alloc, &mut text, step)?;
-        text.push_str("\n")?;
+        push_state(alloc, &mut text, step)?;
     }
     Ok(text)
 }
@@ -130,14 +142,19 @@ fn font<'a>(alloc: Global, text: &'a Joined, private: &'a [u8]) -> Result<Box<Fo
 
 /// The steps of a sample's second glyph.
 fn steps_of(alloc: Global, sample: &Sample) -> Result<Vec<Step>, Refusal> {
-    let text = Joined {
+    let text = clear_of(sample)?;
+    let private = sample.private()?;
+    steps_of_texts(alloc, &text, private.as_slice())
+}
+
+/// The clear text of a sample.
+fn clear_of(sample: &Sample) -> Result<Joined, AllocError> {
+    Ok(Joined {
         bytes: sample.clear()?,
         pfb: false,
         end_segment: false,
         trailing: false,
-    };
-    let private = sample.private()?;
-    steps_of_texts(alloc, &text, private.as_slice())
+    })
 }
 
 fn steps_of_texts(alloc: Global, text: &Joined, private: &[u8]) -> Result<Vec<Step>, Refusal> {
@@ -194,6 +211,8 @@ fn assert_states(rt: &impl Abort, alloc: Global, cases: &[Case<'_>]) -> Result<(
     for (subrs, glyph, want) in cases {
         let states = states_with(alloc, subrs, glyph)?;
         assert_eq!(rt; states.as_str(), *want, "of {glyph:?}");
+        let told = states_told(alloc, subrs, glyph)?;
+        assert_eq!(rt; told.as_str(), *want, "of {glyph:?}, by a machine");
     }
     Ok(())
 }
@@ -203,6 +222,8 @@ fn assert_traces(rt: &impl Abort, alloc: Global, cases: &[Case<'_>]) -> Result<(
     for (subrs, glyph, want) in cases {
         let trace = trace_with(alloc, subrs, glyph)?;
         assert_eq!(rt; trace.as_str(), *want, "of {glyph:?}");
+        let told = trace_told(alloc, subrs, glyph)?;
+        assert_eq!(rt; told.as_str(), *want, "of {glyph:?}, by a machine");
     }
     Ok(())
 }

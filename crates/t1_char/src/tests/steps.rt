@@ -141,7 +141,7 @@ fn a_glyph_that_breaks_off(rt: HostRuntime) -> Result<(), Fail> {
 
 /// Subr 5 of 8,330 times dotsection and return; the glyph `0 500 hsbw`, twelve calls, so many times
 /// dotsection, and endchar.
-fn long_glyph(alloc: Global, more: usize) -> Result<(Vec<u8>, Vec<u8>), AllocError> {
+pub(super) fn long_glyph(alloc: Global, more: usize) -> Result<(Vec<u8>, Vec<u8>), AllocError> {
     let mut subr = Vec::new(alloc);
     for _ in 0..8330 {
         subr.extend_from_slice(b"\x0c\x00")?;
@@ -168,7 +168,7 @@ fn end_of(alloc: Global, more: usize) -> Result<(usize, String), Refusal> {
 }
 
 /// How many times more dotsection, and how many steps are listed, and the last.
-const AT_THE_LIMIT: &[(usize, usize, &str)] = &[
+pub(super) const AT_THE_LIMIT: &[(usize, usize, &str)] = &[
     (0, 100_000, "100000 - endchar\n"),
     (1, 100_001, "100001 - endchar\n"),
     (2, 100_001, "100001 - dotsection\n"),
