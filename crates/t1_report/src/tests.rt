@@ -4,6 +4,7 @@ mod calls;
 mod flex;
 mod limit;
 mod lines;
+mod machines;
 mod order;
 mod othersubrs;
 mod paths;
@@ -13,6 +14,7 @@ mod stems;
 
 use crate::{Fault, report, write_fault};
 use assembly::charstring;
+use machines::assert_same_steps;
 use std::alloc::Global;
 use std::process::Abort;
 use std::test::Fail;
@@ -117,9 +119,10 @@ fn add_line(text: &mut Vec<u8>, font: &Font<'_>, fault: &Fault) -> Result<(), Fa
     }
 }
 
-/// The lines of a font's report.
+/// The lines of a font's report; a machine executes its glyphs as the report's lists say.
 fn lines_of(alloc: Global, texts: &Texts) -> Result<String, Fail> {
     let font = texts.font(alloc)?;
+    assert_same_steps(alloc, &font)?;
     let mut text = Vec::new(alloc);
     for fault in report(alloc, &font)?.iter() {
         add_line(&mut text, &font, fault)?;
