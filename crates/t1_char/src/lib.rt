@@ -5,6 +5,7 @@
 //!   the cipher and the random bytes in front.
 //! - [`expand`] executes a glyph and lists its steps, those of the Subrs that it calls among them, each
 //!   with its number, its path of Subrs, and the stack before it: the same, chapters 6 and 8.
+//! - [`Machine`] executes a glyph one step a call: the same steps, without a list, and without memory.
 //! - [`command_name`] is what the standard calls a command; [`Command::arguments`] counts what it takes.
 //!
 //! Numbers on the stack are in units of 1/65536.
@@ -14,6 +15,7 @@
 //! - the tokens are those that the definitions in `specs/` read, and the steps those of the expansion,
 //!   up to the first past the limit of [`STEP_LIMIT`], numbered from 1; want of memory alone says
 //!   nothing of them;
+//! - a machine answers just these, each at its call, then the end or the limit, however often it is asked;
 //! - a faulty charstring is executed too: a 25th number is dropped, an eleventh call isn't made, a
 //!   division by zero gives 0, a command that isn't known empties the stack;
 //! - no index, sum, cast or divisor goes wrong, calls nest ten deep at most, and each call returns.
