@@ -113,10 +113,10 @@ answers_end limit steps font n f new h over =
     let few : length steps ≤ n = no_more n steps (ap tail_of (sym h.steps_are ∙ over)) in
     record {
       stands = record {
-          again = turn_past limit steps (n + 1) (omega (arith, few, h.near)) (omega (arith, few));
-          stays = count_stays limit steps (n + 1) (omega (arith, few, length-take limit steps));
-          most = omega (arith, h.near);
-        };
+        again = turn_past limit steps (n + 1) (omega (arith, few, h.near)) (omega (arith, few));
+        stays = count_stays limit steps (n + 1) (omega (arith, few, length-take limit steps));
+        most = omega (arith, h.near);
+      };
       turn = sym (turn_past limit steps n (omega (arith, few, h.near)) few);
       count = count_on limit steps n (omega (arith, few, h.near, h.within, length-take limit steps));
     }
@@ -141,11 +141,11 @@ answers_step limit steps font n f new h next near =
     let one_more : n + 1 ≡ suc n = omega arith in
     record {
       stands = record {
-          ready = next.ready;
-          steps_are = (leads font new).1 ∙ ap (λ l. step_here font new ∷ l) (sym (ap (λ k. drop k steps) one_more ∙ drop_next n steps rest (step_here font new) there));
-          near = near;
-          within = is_within n steps rest (step_here font new) there;
-        };
+        ready = next.ready;
+        steps_are = (leads font new).1 ∙ ap (λ l. step_here font new ∷ l) (sym (ap (λ k. drop k steps) one_more ∙ drop_next n steps rest (step_here font new) there));
+        near = near;
+        within = is_within n steps rest (step_here font new) there;
+      };
       turn = sym (turn_below limit steps n (omega (arith, near)) ∙ ap (step_or_end n) (get_there n steps rest (step_here font new) there) ∙ ap stepped (same_step font n f new next));
       count = count_on limit steps n (omega (arith, near, h.within, length-take limit steps));
     }
@@ -161,10 +161,10 @@ answers_limit limit steps font n f new h next past =
     ∙ ap limited (same_step font n f new next) in
     record {
       stands = record {
-          again = turn_above limit steps (n + 1) (omega (arith, at)) ∙ found;
-          stays = count_stays limit steps (n + 1) (omega (arith, at, length-take limit steps));
-          most = omega (arith, at);
-        };
+        again = turn_above limit steps (n + 1) (omega (arith, at)) ∙ found;
+        stays = count_stays limit steps (n + 1) (omega (arith, at, length-take limit steps));
+        most = omega (arith, at);
+      };
       turn = sym (turn_above limit steps n (omega (arith, at)) ∙ found);
       count = count_on limit steps n (omega (arith, at, h.within, length-take limit steps));
     }

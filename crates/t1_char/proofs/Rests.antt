@@ -24,6 +24,7 @@ then_nothing run = by_finished run.finished run.steps run.state
   where
     with_steps : Bool → State → List StepView → Run
     with_steps b s steps = record { steps = steps; finished = b; state = s }
+
     by_finished : (b : Bool) (steps : List StepView) (s : State) → cond b (record { steps = steps; finished = b; state = s }) (after steps (nothing s)) ≡ record { steps = steps; finished = b; state = s }
     by_finished true steps s = refl
     by_finished false steps s = ap (with_steps false s) (append-nil steps)
@@ -34,9 +35,11 @@ then_again run f next = by_finished run.finished run.steps run.state
   where
     with_steps : Bool → State → List StepView → Run
     with_steps b s steps = record { steps = steps; finished = b; state = s }
+
     joined : (front : List StepView) (b : Bool) (steps : List StepView) (s : State) → and_then (after front (record { steps = steps; finished = b; state = s })) next ≡ after front (and_then (record { steps = steps; finished = b; state = s }) next)
     joined front true steps s = refl
     joined front false steps s = ap (with_steps (next s).finished (next s).state) (append_assoc front steps (next s).steps)
+
     by_finished : (b : Bool) (steps : List StepView) (s : State) → and_then (and_then (record { steps = steps; finished = b; state = s }) f) next ≡ and_then (record { steps = steps; finished = b; state = s }) (λ x. and_then (f x) next)
     by_finished true steps s = refl
     by_finished false steps s = joined steps (f s).finished (f s).steps (f s).state

@@ -64,7 +64,13 @@ impl<'a> Frames<'a> {
         ensures even { length self.new.step.path.items ≡ length self.new.callers.items }
     {
         let depth = self.step.path.len();
-        match apply(&mut self.step.stack, &mut self.waiting, self.step.token, self.named, depth) {
+        match apply(
+            &mut self.step.stack,
+            &mut self.waiting,
+            self.step.token,
+            self.named,
+            depth,
+        ) {
             Action::Goes => true,
             Action::Calls(subr) => {
                 self.enter(font, subr);

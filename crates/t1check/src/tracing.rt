@@ -8,7 +8,11 @@ use t1_io::{Broken, Sink, put_all};
 use t1_report::write_step;
 
 /// Writes the steps of a glyph up to the limit and the line on more of them, and flushes them.
-pub fn write_trace<'a, W: Sink>(sink: &mut W, font: &'a Font<'a>, glyph: usize) -> Result<(), Broken>
+pub fn write_trace<'a, W: Sink>(
+    sink: &mut W,
+    font: &'a Font<'a>,
+    glyph: usize,
+) -> Result<(), Broken>
     requires { glyph < length font.now.glyphs }
     ensures { Delivers (W.state sink.old) (W.state sink.new) (trace_of font.now glyph) result }
 {

@@ -71,11 +71,7 @@ fn told_in(alloc: Global, font: &Font<'_>, lines: Lines) -> Result<String, Alloc
     told_by(alloc, Machine::start(&*font, 1), lines)
 }
 
-fn told_by(
-    alloc: Global,
-    mut machine: Machine<'_>,
-    lines: Lines,
-) -> Result<String, AllocError> {
+fn told_by(alloc: Global, mut machine: Machine<'_>, lines: Lines) -> Result<String, AllocError> {
     let mut text = String::new(alloc);
     for _call in 0..=STEP_LIMIT {
         match machine.step() {
@@ -91,12 +87,7 @@ fn told_by(
     Ok(text)
 }
 
-fn push_as(
-    alloc: Global,
-    text: &mut String,
-    step: &Step,
-    lines: Lines,
-) -> Result<(), AllocError> {
+fn push_as(alloc: Global, text: &mut String, step: &Step, lines: Lines) -> Result<(), AllocError> {
     match lines {
         Lines::Trace => push_line(alloc, text, step),
         Lines::States => push_state(alloc, text, step),
@@ -105,11 +96,7 @@ fn push_as(
 }
 
 /// Adds the next answer, and how many calls there were.
-fn push_end(
-    alloc: Global,
-    text: &mut String,
-    machine: &mut Machine<'_>,
-) -> Result<(), AllocError> {
+fn push_end(alloc: Global, text: &mut String, machine: &mut Machine<'_>) -> Result<(), AllocError> {
     match machine.step() {
         Turn::Step(step) => push_line(alloc, text, step)?,
         Turn::Ended => text.push_str("ended ")?,
@@ -125,11 +112,7 @@ fn push_end(
 
 /// Glyphs, and what is answered behind the end.
 const ENDS: &[(&[(u32, &[u8])], &[u8], &str)] = &[
-    (
-        &[],
-        b"\x8b\xf8\x88\x0d\x0e",
-        "ended 5\nended 5\nended 5\n",
-    ),
+    (&[], b"\x8b\xf8\x88\x0d\x0e", "ended 5\nended 5\nended 5\n"),
     (&[], b"", "ended 2\nended 2\nended 2\n"),
     (
         &[(5, b"\x0e")],

@@ -55,10 +55,27 @@ fn files(alloc: Global) -> Result<Vec<Vec<u8>>, AllocError> {
     let private = enciphered.private()?;
     let file = FontFile::of(clear.as_slice(), private.as_slice());
     let mut files = Vec::new(alloc);
-    files.push(FontFile { trailer: TRAILER, ..file }.pfb(alloc)?)?;
-    files.push(FontFile { trailer: TRAILER, end: b"", ..file }.pfb(alloc)?)?;
-    files.push(FontFile { trailer: TRAILER, ..file }.pfa_hexadecimal(alloc)?)?;
-    files.push(FontFile { discarded: [0x98, 0xff, 0, 0], ..file }.pfb(alloc)?)?;
+    files.push(FontFile {
+        trailer: TRAILER,
+        ..file
+    }
+    .pfb(alloc)?)?;
+    files.push(FontFile {
+        trailer: TRAILER,
+        end: b"",
+        ..file
+    }
+    .pfb(alloc)?)?;
+    files.push(FontFile {
+        trailer: TRAILER,
+        ..file
+    }
+    .pfa_hexadecimal(alloc)?)?;
+    files.push(FontFile {
+        discarded: [0x98, 0xff, 0, 0],
+        ..file
+    }
+    .pfb(alloc)?)?;
     Ok(files)
 }
 

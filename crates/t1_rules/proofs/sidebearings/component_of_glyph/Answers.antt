@@ -19,13 +19,15 @@ loop-step-smaller c = fewer_left STEP_LIMIT (steps_of c.args.font.now c.args.gly
 
 pub loop-step-preserved : goal.loop-step-preserved
 loop-step-preserved c =
-    let steps = take STEP_LIMIT (steps_of c.args.font.now c.args.glyph) in
-    (c.step.follows.holds-at-none.1 ∙ c.loop-step.invariant.0, c.step.follows.holds-at-none.2 ∙ c.loop-step.invariant.1,
-    c.take_in.ensures
-    ∙ ap (λ component. with_step component (step_view c.in-Step.step.now)) c.loop-step.invariant.2
-    ∙ sym (component_goes_on (take c.loop-step.machine.counted steps) (step_view c.in-Step.step.now))
-    ∙ ap component_in (sym (one_more c).more)
-    ∙ ap (λ n. component_in (take n steps)) (sym (counted c)))
+    let steps = take STEP_LIMIT (steps_of c.args.font.now c.args.glyph) in (
+      c.step.follows.holds-at-none.1 ∙ c.loop-step.invariant.0,
+      c.step.follows.holds-at-none.2 ∙ c.loop-step.invariant.1,
+      c.take_in.ensures
+          ∙ ap (λ component. with_step component (step_view c.in-Step.step.now)) c.loop-step.invariant.2
+          ∙ sym (component_goes_on (take c.loop-step.machine.counted steps) (step_view c.in-Step.step.now))
+          ∙ ap component_in (sym (one_more c).more)
+          ∙ ap (λ n. component_in (take n steps)) (sym (counted c)),
+    )
 
 pub returns : goal.returns
 returns c =
