@@ -1,5 +1,5 @@
 -- What executing its step leaves of frames, one lemma an action.
-use Rattle.std.proofs.Common.{◌≡◌, ℕ, zero, suc, ℤ, ◌+◌, ◌-◌, ◌<◌, true, false, Option, List, [], ◌∷◌, ◌++◌, length, length-append, take, refl, ap, sym, subst, ◌∙◌, arith}
+use Rattle.std.proofs.Common.{◌≡◌, ℕ, zero, suc, ℤ, ◌+◌, ◌-◌, ◌<◌, true, Option, List, [], ◌∷◌, ◌++◌, length, length-append, take, refl, ap, sym, subst, ◌∙◌, arith}
 use Rattle.t1_font.specs.Fonts.{FontValue}
 use Rattle.t1_char.specs.declared.command.Command.TheVariants.{Callsubr}
 use Rattle.t1_char.specs.declared.cursor.Cursor.{Cursor}
@@ -8,13 +8,12 @@ use Rattle.t1_char.specs.declared.token.CharToken.{CharToken}
 use Rattle.t1_char.specs.declared.token.CharToken.TheVariants.{Command, Cut}
 use Rattle.t1_char.specs.Charstrings.{code_at, tokens_in}
 use Rattle.t1_char.specs.Effects.{State, CalledSubr, Action, goes, calls, returns, finishes, effect, effect_of, most_calls}
-use Rattle.t1_char.specs.Steps.{StepView, at_start, is_callsubr, named_at, effect_at, step_at, expansion, steps_of}
+use Rattle.t1_char.specs.Steps.{StepView, at_start, is_callsubr, named_at, effect_at, step_at, steps_of}
 use Rattle.t1_char.specs.Workings.Actions.{named_of, state_of}
-use Rattle.t1_char.specs.Workings.Cursors.{tokens_left, behind_token}
-use Rattle.t1_char.specs.Workings.Frames.{Frame, IsReady, frame, frames_with, left_behind, rest_of, callers_of, state_in, step_here, steps_from, steps_behind}
+use Rattle.t1_char.specs.Workings.Cursors.{tokens_left}
+use Rattle.t1_char.specs.Workings.Frames.{IsReady, frame, frames_with, left_behind, rest_of, callers_of, state_in, step_here, steps_from, steps_behind}
 use Rattle.t1_char.proofs.Expanding.{IsInner, open_by, behind_open}
 use Rattle.t1_char.proofs.Rests.{rest_of_one, rest_goes, rest_calls, rest_returns, rest_finishes, caller_on_top}
-use Rattle.std.proofs.Math.Seq.{take-append_seam}
 
 -- The Subr that is named matters to callsubr alone.
 effect_named : (t : CharToken) (a b : Option CalledSubr) (depth : ℕ) (s : State) → (is_callsubr t ≡ true → a ≡ b) → effect_of t a depth s ≡ effect_of t b depth s

@@ -1,14 +1,13 @@
 -- Where more than one byte is left, neither End nor a return and End follows.
-use Rattle.std.proofs.Common.{◌≡◌, ℕ, zero, suc, ◌+◌, ◌<◌, ◌==◌, Bool, true, false, nat_lt, ◌&&◌, if◌then◌else◌, cond, Option, None, Some, List, [], ◌∷◌, length, refl, ap, sym, ◌∙◌, arith}
+use Rattle.std.proofs.Common.{◌≡◌, ℕ, zero, suc, ◌<◌, ◌==◌, Bool, true, false, nat_lt, ◌&&◌, if◌then◌else◌, cond, Option, List, [], ◌∷◌, length, refl, ap, ◌∙◌, arith}
 use Rattle.t1_char.specs.declared.command.Command.{Command as Commands}
-use Rattle.t1_char.specs.declared.command.Command.TheVariants.{Return}
 use Rattle.t1_char.specs.declared.cursor.Cursor.{Cursor}
 use Rattle.t1_char.specs.declared.token.CharToken.{CharToken}
-use Rattle.t1_char.specs.declared.token.CharToken.TheVariants.{Command, Short}
+use Rattle.t1_char.specs.declared.token.CharToken.TheVariants.{Short}
 use Rattle.t1_char.specs.Commands.{escaped_of}
-use Rattle.t1_char.specs.Tokens.{Form, whole, two, five, form_of, completed, more_in, escaped_code, long_number, with_second, tokens_behind, tokens_of}
+use Rattle.t1_char.specs.Tokens.{Form, whole, two, five, form_of, completed, more_in, escaped_code, long_number, tokens_behind, tokens_of}
 use Rattle.t1_char.specs.Steps.{is_end, is_return, is_last}
-use Rattle.t1_char.specs.Workings.Cursors.{bytes_left, tokens_left, behind_token, deciphered, plain_by, key_after}
+use Rattle.t1_char.specs.Workings.Cursors.{bytes_left, tokens_left, behind_token, deciphered, key_after}
 
 -- As many bytes are left as are to be deciphered.
 pub length_deciphered : (key : Option ℕ) (bytes : List ℕ) → length (deciphered key bytes) ≡ length bytes

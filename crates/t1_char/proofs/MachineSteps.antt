@@ -1,5 +1,5 @@
 -- What a call of a machine answers, over its count and the steps of its glyph.
-use Rattle.std.proofs.Common.{◌≡◌, ℕ, zero, suc, ◌+◌, ◌-◌, ◌<◌, ◌≤◌, Bool, true, false, cond, nat_lt, Option, None, Some, List, [], ◌∷◌, ◌++◌, length, take, drop, slice_get, length-take, refl, ap, sym, subst, ◌∙◌, lt-ltb, le-ltb, arith}
+use Rattle.std.proofs.Common.{◌≡◌, ℕ, zero, suc, ◌+◌, ◌-◌, ◌<◌, ◌≤◌, Bool, true, false, cond, nat_lt, None, Some, List, [], ◌∷◌, ◌++◌, length, take, drop, slice_get, length-take, refl, ap, sym, subst, ◌∙◌, lt-ltb, le-ltb, arith}
 use Rattle.t1_font.specs.Fonts.{FontValue}
 use Rattle.t1_char.specs.declared.frames.Frames.{Frames}
 use Rattle.t1_char.specs.declared.machine.Answer.{Answer}
@@ -9,9 +9,9 @@ use Rattle.t1_char.specs.Charstrings.{tokens_in}
 use Rattle.t1_char.specs.Effects.{State, Action, goes, calls, returns, finishes, most_calls}
 use Rattle.t1_char.specs.Steps.{StepView, Run, and_then, expansion, step_at, effect_at, led_to}
 use Rattle.t1_char.specs.StepValues.{step_view, step_value}
-use Rattle.t1_char.specs.Turns.{TurnValue, ended, limited, stepped, step_of_number, step_or_end, limit_or_end, turn_at, counted_after}
-use Rattle.t1_char.specs.Workings.Frames.{Frame, IsReady, frame, rest_of, callers_of, state_in, left_behind, step_here, steps_from, steps_behind}
-use Rattle.t1_char.specs.Workings.Machines.{GoesOnFrom, IsAt, Repeats, answer_view}
+use Rattle.t1_char.specs.Turns.{ended, limited, stepped, step_of_number, step_or_end, limit_or_end, turn_at, counted_after}
+use Rattle.t1_char.specs.Workings.Frames.{Frame, IsReady, frame, rest_of, callers_of, state_in, left_behind, step_here, steps_from}
+use Rattle.t1_char.specs.Workings.Machines.{GoesOnFrom, IsAt, answer_view}
 use Rattle.t1_char.proofs.Additions.{and_then_front}
 
 -- The step of the first token stands first, whatever it does.

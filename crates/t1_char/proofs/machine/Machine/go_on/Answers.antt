@@ -1,4 +1,4 @@
-use Rattle.std.proofs.Common.{◌≡◌, ℕ, ◌+◌, ◌∷◌, sym, subst, ap, ◌∙◌}
+use Rattle.std.proofs.Common.{ℕ, ◌+◌, ◌∷◌, sym, subst, ap, ◌∙◌}
 use Rattle.t1_char.specs.declared.expansion.TheConstants.{STEP_LIMIT}
 use Rattle.t1_char.specs.declared.machine.Answer.TheVariants.{Step, Ended, Limit}
 use Rattle.t1_char.specs.Steps.{steps_of}
