@@ -3,4 +3,5 @@ pub mod Laws
 pub mod Lines
 pub mod Reports
 pub mod Traces
+pub mod Walks
 pub mod Workings

@@ -23,6 +23,7 @@ mod decimal;
 mod faults;
 mod laws;
 mod lines;
+mod marks;
 mod reporting;
 #[cfg(test)]
 mod tests;
@@ -31,5 +32,6 @@ mod traces;
 pub use faults::Fault;
 pub use laws::a_font_has_one_report;
 pub use lines::write_fault;
+pub use marks::Mark;
 pub use reporting::report;
 pub use traces::write_step;

@@ -1,0 +1,12 @@
+//! Marks: how far a report was given.
+
+/// The last fault that was given: its number, its place, and the number of its rule. Any four numbers are a
+/// mark; that of four zeros stands before all faults.
+#[derive(Clone, Copy, Debug, PartialEq, Eq, Default)]
+pub struct Mark {
+    /// How many faults were given, if it comes from a walk.
+    pub number: u64,
+    pub unit: u32,
+    pub step: u32,
+    pub rule: u8,
+}
