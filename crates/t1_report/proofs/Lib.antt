@@ -4,6 +4,7 @@ pub mod Pushed
 pub mod Broken
 pub mod UnitFronts
 pub mod Fronts
+pub mod HasReport
 pub mod InFont
 pub mod GlyphNames
 pub mod GlyphSteps

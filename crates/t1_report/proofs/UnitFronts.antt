@@ -102,14 +102,29 @@ module _ (broken : ℕ → ℕ → ℕ → Bool) (path_of : Place → List ℕ) 
       (λ p is before. comes_back p.unit p.step (number_of p.rule) unit step (floor + 1) next
       (λ at place past less. never p.unit p.step unit step (number_of p.rule) at place is (sym (agrees (number_of p.rule)) ∙ none p.rule (omega arith) less)) before)
 
+  -- over a rule that isn't broken
+  pub rule_passed : (unit step : ℕ) (rule : Rule) (faults : List FaultValue) → Front unit step (number_of rule) faults
+      → broken unit step (number_of rule) ≡ false → Front unit step (number_of rule + 1) faults
+  rule_passed unit step rule faults front none =
+      front_on IsBroken path_of unit step (number_of rule) unit step (number_of rule + 1) faults front
+      (λ u s r. comes_up u s r unit step (number_of rule) (number_of rule + 1) (omega arith))
+      (λ p is before. comes_back p.unit p.step (number_of p.rule) unit step (number_of rule) (number_of rule + 1)
+      (λ at place past less. let same : number_of p.rule ≡ number_of rule = omega arith in
+      never p.unit p.step unit step (number_of p.rule) at place is (ap (λ (n : ℕ). broken unit step n) same ∙ none)) before)
+
+  -- past the last rule of the book
+  pub step_passed : (unit step : ℕ) (faults : List FaultValue) → Front unit step 70 faults → Front unit (step + 1) 0 faults
+  step_passed unit step faults front =
+      front_on IsBroken path_of unit step 70 unit (step + 1) 0 faults front
+      (λ u s r before. comes_on u s r unit step 70 unit (step + 1) 0 before (inr (refl, inl (omega arith))))
+      (λ p is before. comes_last p.unit p.step (number_of p.rule) unit step (let last = (in_book p.rule).1 in omega arith) before)
+
   -- the end of a step
   pub place_ends : (unit step floor : ℕ) (mask : Mask) (faults : List FaultValue) → Front unit step (floor + 1) faults
       → HasNoneAbove mask floor → Agrees mask unit step → floor ≤ 69 → Front unit (step + 1) 0 faults
   place_ends unit step floor mask faults front none agrees low =
-      front_on IsBroken path_of unit step 70 unit (step + 1) 0 faults
+      step_passed unit step faults
       (up_to unit step floor 70 mask faults front agrees (omega arith) (λ rule above below. none (number_of rule) above (in_book rule).1))
-      (λ u s r before. comes_on u s r unit step 70 unit (step + 1) 0 before (inr (refl, inl (omega arith))))
-      (λ p is before. comes_last p.unit p.step (number_of p.rule) unit step (let last = (in_book p.rule).1 in omega arith) before)
 
   -- the next rule of a step
   pub fault_more : (unit step floor : ℕ) (mask : Mask) (rule : Rule) (faults : List FaultValue) → Front unit step (floor + 1) faults

@@ -30,7 +30,7 @@ mod tests;
 mod traces;
 
 pub use faults::Fault;
-pub use laws::a_font_has_one_report;
+pub use laws::{a_font_has_one_report, each_font_has_a_report};
 pub use lines::write_fault;
 pub use marks::Mark;
 pub use reporting::report;
