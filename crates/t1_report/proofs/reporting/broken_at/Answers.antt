@@ -1,4 +1,4 @@
-use Rattle.std.proofs.Common.{◌+◌, ◌<◌, length, ◌∙◌, arith}
+use Rattle.std.proofs.Common.{◌<◌, length, ◌∙◌, arith}
 use Rattle.t1_char.specs.StepValues.{step_view}
 use Rattle.t1_rules.specs.StepRules.{charstring_rules}
 use Rattle.t1_rules.specs.Watches.{most_steps}
