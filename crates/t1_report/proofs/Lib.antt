@@ -5,6 +5,9 @@ pub mod Broken
 pub mod UnitFronts
 pub mod Fronts
 pub mod HasReport
+pub mod FewFaults
+pub mod SoFar
+pub mod LaterFaults
 pub mod InFont
 pub mod GlyphNames
 pub mod GlyphSteps

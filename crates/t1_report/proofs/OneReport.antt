@@ -20,10 +20,10 @@ never_both u s r u' s' r' (inr (a, inl c)) (inr (b, inr (d, e))) = omega arith
 never_both u s r u' s' r' (inr (a, inr (c, e))) (inr (b, inl d)) = omega arith
 never_both u s r u' s' r' (inr (a, inr (c, e))) (inr (b, inr (d, f))) = omega arith
 
-itself : (p : Place) → IsBefore p p → ⊥
+pub itself : (p : Place) → IsBefore p p → ⊥
 itself p = never_itself p.unit p.step (number_of p.rule)
 
-both : (p q : Place) → IsBefore p q → IsBefore q p → ⊥
+pub both : (p q : Place) → IsBefore p q → IsBefore q p → ⊥
 both p q = never_both p.unit p.step (number_of p.rule) q.unit q.step (number_of q.rule)
 
 -- ---- lists of faults
@@ -74,7 +74,7 @@ among_tail x y xs ys same rising among i d lt = later (among (suc i) d (omega ar
 made : ℕ → Place → List ℕ → FaultValue
 made number p path = record { number = number; unit = p.unit; step = p.step; rule = p.rule; path = path }
 
-same_fault : (path_of : Place → List ℕ) (x y : FaultValue) → x.number ≡ y.number → place_of x ≡ place_of y → x.path ≡ path_of (place_of x) → y.path ≡ path_of (place_of y) → x ≡ y
+pub same_fault : (path_of : Place → List ℕ) (x y : FaultValue) → x.number ≡ y.number → place_of x ≡ place_of y → x.path ≡ path_of (place_of x) → y.path ≡ path_of (place_of y) → x ≡ y
 unfolding made
 same_fault path_of x y number place path path' =
     ap (λ (n : ℕ). made n (place_of x) x.path) number ∙ ap (λ (p : Place). made y.number p x.path) place

@@ -1,2 +1,3 @@
 -- The statements of laws.
 pub mod Reports
+pub mod Walks

@@ -1,5 +1,5 @@
 -- A report that is given one fault at a time, from a mark on.
-use Rattle.std.specs.Prelude.{◌≡◌, ℕ, zero, suc, ◌+◌, ◌-◌, ◌*◌, ◌^◌, ◌≤◌, ◌<◌, ◌⊎◌, min, List, length, slice_index_or, take}
+use Rattle.std.specs.Prelude.{◌≡◌, ℕ, zero, suc, ◌+◌, ◌-◌, ◌^◌, ◌≤◌, ◌<◌, ◌⊎◌, min, List, [], ◌∷◌, length, slice_index_or, take}
 use Rattle.t1_char.specs.Steps.{steps_of}
 use Rattle.t1_font.specs.Fonts.{FontValue}
 use Rattle.t1_rules.specs.Book.{number_of}
@@ -10,6 +10,10 @@ use Rattle.t1_report.specs.Reports.{Comes, IsBefore, IsViolated, IsViolationOf, 
 -- A place and its rule come after a mark.
 abbrev pub IsLater : Mark → Place → Type 0
 IsLater mark p = Comes mark.unit mark.step mark.rule p.unit p.step (number_of p.rule)
+
+-- The mark that stands before all faults.
+abbrev pub first_mark : Mark
+first_mark = record { number = 0; unit = 0; step = 0; rule = 0 }
 
 -- The mark of a fault.
 abbrev pub mark_of : FaultValue → Mark
@@ -37,6 +41,16 @@ IsNext font mark fault = IsNextOf (IsViolated font) (path_at font) mark fault
 
 abbrev pub HasNoneLater : FontValue → Mark → Type 0
 HasNoneLater font mark = HasNoneLaterOf (IsViolated font) mark
+
+-- Over any violations: these are the faults after a mark, each the next one, until there is none.
+abbrev pub AreLaterOf : (Place → Type 0) → (Place → List ℕ) → Mark → List FaultValue → Type 0
+AreLaterOf Violated path_of mark [] = HasNoneLaterOf Violated mark
+AreLaterOf Violated path_of mark (fault ∷ rest) =
+    IsNextOf Violated path_of mark fault × AreLaterOf Violated path_of (mark_of fault) rest
+
+-- The faults after a mark, in a font.
+abbrev pub AreLater : FontValue → Mark → List FaultValue → Type 0
+AreLater font mark faults = AreLaterOf (IsViolated font) (path_at font) mark faults
 
 -- How often a machine is asked for a whole glyph's steps: for each up to the limit, and once more.
 unfoldable pub turns_of_glyph : FontValue → ℕ → ℕ

@@ -30,7 +30,10 @@ mod tests;
 mod traces;
 
 pub use faults::Fault;
-pub use laws::{a_font_has_one_report, each_font_has_a_report};
+pub use laws::{
+    a_font_has_one_report, each_font_has_a_report, faults_after_a_mark_are_the_rest,
+    faults_after_the_first_mark_are_the_report,
+};
 pub use lines::write_fault;
 pub use marks::Mark;
 pub use reporting::report;
