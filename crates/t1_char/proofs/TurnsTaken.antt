@@ -15,6 +15,7 @@ use Rattle.t1_char.specs.Turns.{MachineView, TurnValue, stepped, ended, limited,
 -- The next step was answered.
 pub record IsStepped (limit : ℕ) (steps : List StepView) (n : ℕ) (answer : NumberedStep) : Type 0 where
   pub within : n < length (take limit steps)
+  pub there : slice_get steps n ≡ Some answer.step
   pub more : take (n + 1) (take limit steps) ≡ take n (take limit steps) ++ answer.step ∷ []
   pub number : answer.number ≡ n + 1
   pub counted : counted_after limit steps n ≡ n + 1
@@ -42,6 +43,7 @@ stepped_is limit steps n answer is = by_place (nat_lt n limit) (slice_get steps 
         let less : n < length (take limit steps) = omega (arith, there, below, length-take limit steps) in
         record {
           within = less;
+          there = get ∙ ap (λ (x : StepView). Some x) (sym (ap (λ a. a.step) same));
           more = take_more (take limit steps) n step less
               ∙ ap (λ x. take n (take limit steps) ++ x ∷ []) (get_or-take limit steps n step below ∙ get_or_from_slice_get steps n step step get ∙ sym (ap (λ a. a.step) same));
           number = ap (λ a. a.number) same;
@@ -135,13 +137,33 @@ ended_is limit steps n is = by_place (nat_lt n limit) (slice_get steps n) (slice
         record { few = few; all = omega (arith, few, ltb-false n limit above) }
     by_place false o (Some step) above get past is = absurd (true≢false (ap is_end is))
 
--- The limit was answered: there are steps past it.
-pub limited_is : (limit : ℕ) (steps : List StepView) (n : ℕ) (answer : NumberedStep) → limited answer ≡ turn_at limit steps n → (limit < length steps) × (limit ≤ n)
-unfolding is_limit
+-- The limit was answered: it is the first step past it.
+pub record IsLimited (limit : ℕ) (steps : List StepView) (n : ℕ) (answer : NumberedStep) : Type 0 where
+  pub past : limit ≤ n
+  pub within : limit < length steps
+  pub there : slice_get steps limit ≡ Some answer.step
+  pub number : answer.number ≡ limit + 1
+
+limit_in : NumberedStep → TurnValue → NumberedStep
+limit_in default (stepped _) = default
+limit_in default ended = default
+limit_in default (limited step) = step
+
+pub limited_is : (limit : ℕ) (steps : List StepView) (n : ℕ) (answer : NumberedStep) → limited answer ≡ turn_at limit steps n → IsLimited limit steps n answer
+unfolding is_limit limit_in
 limited_is limit steps n answer is = by_place (nat_lt n limit) (slice_get steps n) (slice_get steps limit) refl refl is
   where
-    by_place : (b : Bool) (o p : Option StepView) → nat_lt n limit ≡ b → slice_get steps limit ≡ p → limited answer ≡ cond b (step_or_end n o) (limit_or_end limit p) → (limit < length steps) × (limit ≤ n)
+    of_step : (step : StepView) → limit ≤ n → slice_get steps limit ≡ Some step → answer ≡ step_of_number (limit + 1) step → IsLimited limit steps n answer
+    of_step step above get same =
+        record {
+          past = above;
+          within = slice_get_within steps limit step get;
+          there = get ∙ ap (λ (x : StepView). Some x) (sym (ap (λ a. a.step) same));
+          number = ap (λ a. a.number) same;
+        }
+
+    by_place : (b : Bool) (o p : Option StepView) → nat_lt n limit ≡ b → slice_get steps limit ≡ p → limited answer ≡ cond b (step_or_end n o) (limit_or_end limit p) → IsLimited limit steps n answer
     by_place true None p below past is = absurd (true≢false (ap is_limit is))
     by_place true (Some step) p below past is = absurd (true≢false (ap is_limit is))
     by_place false o None above past is = absurd (true≢false (ap is_limit is))
-    by_place false o (Some step) above past is = (slice_get_within steps limit step past, ltb-false n limit above)
+    by_place false o (Some step) above past is = of_step step (ltb-false n limit above) past (ap (limit_in answer) is)

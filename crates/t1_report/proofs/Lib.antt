@@ -3,6 +3,7 @@ pub mod OneReport
 pub mod Pushed
 pub mod Broken
 pub mod UnitFronts
+pub mod Units
 pub mod Fronts
 pub mod HasReport
 pub mod FewFaults
@@ -11,3 +12,6 @@ pub mod LaterFaults
 pub mod InFont
 pub mod GlyphNames
 pub mod GlyphSteps
+pub mod Hands
+pub mod PlaceSearch
+pub mod RunSteps

@@ -1,7 +1,11 @@
+pub mod Courses
 pub mod Faults
 pub mod Laws
 pub mod Lines
 pub mod Reports
+pub mod Searches
+pub mod Searching
 pub mod Traces
+pub mod WalkViews
 pub mod Walks
 pub mod Workings

@@ -10,6 +10,7 @@
 //! - The report rises strictly by unit, step and rule; its members are exactly the violations, numbered
 //!   from 1. A font has one such report and no other.
 //! - A line is written whole, or the device failed and a front of the line went out.
+//! - A [`Walk`] gives the same faults one at a time, from any [`Mark`] on; it can't fail.
 //! - Want of memory is told, and says nothing of the font. Nothing but [`report`] takes memory.
 //!
 //! ```
@@ -28,6 +29,7 @@ mod reporting;
 #[cfg(test)]
 mod tests;
 mod traces;
+mod walk;
 
 pub use faults::Fault;
 pub use laws::{
@@ -38,3 +40,4 @@ pub use lines::write_fault;
 pub use marks::Mark;
 pub use reporting::report;
 pub use traces::write_step;
+pub use walk::Walk;

@@ -98,7 +98,7 @@ fn add_glyph(
 
 /// The rules that the next step of a glyph breaks: the first step past the limit breaks the rule on the
 /// limit, and no other.
-fn broken_at(watches: &mut Watches, sidebearings: &Sidebearings, step: &Step) -> Mask
+pub(crate) fn broken_at(watches: &mut Watches, sidebearings: &Sidebearings, step: &Step) -> Mask
     requires { (before : List StepView) × IsNext watches.old before step.now }
     ensures broken { (before : List StepView) → IsNext watches.old before step.now →
         (n : ℕ) → has result n
@@ -138,7 +138,7 @@ fn add_faults(
 }
 
 /// A path of these Subrs.
-fn copy_of(subrs: &[u32]) -> ArrayVec<u32, DEEPEST>
+pub(crate) fn copy_of(subrs: &[u32]) -> ArrayVec<u32, DEEPEST>
     requires { length subrs.now ≤ 10 }
     ensures { result.items ≡ subrs.now }
 {

@@ -11,6 +11,7 @@ mod paths;
 mod places;
 mod seac;
 mod stems;
+mod walks;
 
 use crate::{Fault, report, write_fault};
 use assembly::charstring;
@@ -23,6 +24,7 @@ use t1_io::{Fuse, Limit, Out, Sink};
 use t1_rules::Rule;
 use t1_samples::Sample;
 use t1_seal::{Joined, join, open_eexec};
+use walks::assert_walks;
 
 /// A fault without its path.
 #[derive(Clone, Copy, Debug, PartialEq, Eq)]
@@ -119,10 +121,17 @@ fn add_line(text: &mut Vec<u8>, font: &Font<'_>, fault: &Fault) -> Result<(), Fa
     }
 }
 
-/// The lines of a font's report; a machine executes its glyphs as the report's lists say.
+/// From how many bytes on a private text is long: walks execute its glyphs behind each fault again.
+const LONG: usize = 3_000;
+
+/// The lines of a font's report; a machine executes its glyphs as the report's lists say, and walks give
+/// the report of a short text, from each mark on.
 fn lines_of(alloc: Global, texts: &Texts) -> Result<String, Fail> {
     let font = texts.font(alloc)?;
     assert_same_steps(alloc, &font)?;
+    if texts.private.len() < LONG {
+        assert_walks(alloc, &font)?;
+    }
     let mut text = Vec::new(alloc);
     for fault in report(alloc, &font)?.iter() {
         add_line(&mut text, &font, fault)?;

@@ -10,7 +10,7 @@ use Rattle.t1_io.proofs.SinkLemmas.{Wrote-trans, PutFailed-first, PutFailed-seco
 use Rattle.t1_char.specs.Steps.{StepView, NumberedStep, first_steps, numbered, steps_of}
 use Rattle.t1_char.proofs.Numbering.{numbered_more, with_number}
 use Rattle.t1_char.specs.Turns.{MachineView, ended, limited, turn_at}
-use Rattle.t1_char.proofs.TurnsTaken.{IsStepped, IsOver, ended_is, limited_is}
+use Rattle.t1_char.proofs.TurnsTaken.{IsStepped, IsOver, IsLimited, ended_is, limited_is}
 use Rattle.t1_report.specs.Traces.{step_line}
 use Rattle.t1check.specs.Traces.{trace_text}
 
@@ -113,4 +113,5 @@ trace_ended limit m font glyph of_font of_glyph is =
 
 pub trace_past : (limit : ℕ) (m : MachineView) (font : FontValue) (glyph : ℕ) (step : NumberedStep) → m.font ≡ font → m.glyph ≡ glyph → limited step ≡ turn_at limit (steps_of m.font m.glyph) m.counted → trace_text limit (first_steps limit font glyph) ≡ lines_to limit (steps_of font glyph) m.counted ++ codes "limit\n"
 trace_past limit m font glyph step of_font of_glyph is =
-    trace_limited limit font glyph m.counted (limited_is limit (steps_of font glyph) m.counted step (is ∙ same_turn limit m font glyph of_font of_glyph))
+    let at : IsLimited limit (steps_of font glyph) m.counted step = limited_is limit (steps_of font glyph) m.counted step (is ∙ same_turn limit m font glyph of_font of_glyph) in
+    trace_limited limit font glyph m.counted (at.within, at.past)

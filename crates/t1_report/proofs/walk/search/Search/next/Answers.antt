@@ -1,0 +1,26 @@
+use Rattle.std.proofs.Common.{◌<◌, ◌∙◌, length, sym, subst, arith}
+use Rattle.t1_report.proofs.Units.{next_passed, none_past, over_past}
+use Rattle.t1_report.specs.Searches.{IsQuietFrom}
+use Rattle.t1_report.specs.Searching.{step_of_part}
+use Rattle.t1_report.proofs.walk.search.Search.next.Goals as goal
+
+pub loop-self-preserved : goal.loop-self-preserved
+loop-self-preserved c =
+    let s = c.args.self.now in
+    let now = c.loop-self.self in
+    let new = c.next_unit.new.self in
+    record {
+      search = c.next_unit.ensures.search;
+      font = c.next_unit.ensures.font ∙ c.next_in_unit.ensures.font ∙ c.loop-self.invariant.font;
+      from = c.next_unit.ensures.from ∙ c.next_in_unit.ensures.from ∙ c.loop-self.invariant.from;
+      passed = next_passed s.font.now s.unit (step_of_part s.part) now.unit (step_of_part now.part) new.unit (step_of_part new.part) c.loop-self.invariant.passed
+          (subst (λ font. IsQuietFrom font now.unit (step_of_part now.part)) c.loop-self.invariant.font c.in_default.ensures.found)
+          (omega (arith, c.next_unit.ensures.unit, c.next_in_unit.ensures.unit)) c.next_unit.ensures.start;
+    }
+
+pub returns-clause-found : goal.returns-clause-found
+returns-clause-found c =
+    let s = c.args.self.now in
+    let now = c.loop-self.self in
+    none_past s.font.now s.unit (step_of_part s.part) now.unit (step_of_part now.part) c.loop-self.invariant.passed
+    (subst (λ f. length f.glyphs < now.unit) c.loop-self.invariant.font (over_past now.font.now now.from now.unit now.passed now.part c.loop-self.invariant.search.part_is (sym c.loop-self-test.ensures)))

@@ -1,0 +1,191 @@
+//! A report that is given one fault at a time: the whole of it, and what is left behind a mark.
+
+ghost use Rattle.std.specs.Prelude.{◌≡◌};
+ghost use Rattle.t1_report.specs.Reports.{step_limit};
+ghost use Rattle.t1_rules.specs.Components.{components_of};
+
+use super::Texts;
+use crate::{Fault, Mark, Walk, report};
+use std::alloc::{AllocError, Global};
+use std::test::Fail;
+use t1_font::Font;
+use t1_rules::{Sidebearings, rule_code};
+use t1_samples::Sample;
+
+/// A walk of this font gives its report, and one that is resumed behind each of its faults gives the rest.
+pub(super) fn assert_walks(alloc: Global, font: &Font<'_>) -> Result<(), Fail> {
+    let faults = report(alloc, font)?;
+    let sidebearings = Sidebearings::prepare(alloc, font)?;
+    if !gives(&*font, &sidebearings, FIRST, faults.as_slice()) {
+        return Err(Fail::from("a walk isn't the report"));
+    }
+    for place in 0..faults.len() {
+        let (given, rest) = faults.as_slice().split_at(place + 1);
+        if !goes_on(&*font, &sidebearings, given, rest) {
+            return Err(Fail::from("a walk from a mark isn't the rest of the report"));
+        }
+    }
+    Ok(())
+}
+
+/// The mark before all faults.
+const FIRST: Mark = Mark {
+    number: 0,
+    unit: 0,
+    step: 0,
+    rule: 0,
+};
+
+/// Whether behind the last of the faults that were given the others follow.
+fn goes_on<'a>(
+    font: &'a Font<'a>,
+    sidebearings: &'a Sidebearings,
+    given: &[Fault],
+    rest: &[Fault],
+) -> bool
+    requires { sidebearings.now ≡ components_of step_limit font.now }
+{
+    match given.last() {
+        Some(fault) => {
+            let mark = Mark {
+                number: fault.number,
+                unit: fault.unit,
+                step: fault.step,
+                rule: fault.rule.number(),
+            };
+            gives(font, sidebearings, mark, rest)
+        }
+        None => false,
+    }
+}
+
+/// Whether just these faults stand behind a mark.
+fn gives<'a>(
+    font: &'a Font<'a>,
+    sidebearings: &'a Sidebearings,
+    mark: Mark,
+    faults: &[Fault],
+) -> bool
+    requires { sidebearings.now ≡ components_of step_limit font.now }
+{
+    let mut walk = Walk::resume(font, sidebearings, mark);
+    for fault in faults {
+        if walk.next().as_ref() != Some(fault) {
+            return false;
+        }
+    }
+    walk.next().is_none() && walk.next().is_none()
+}
+
+/// The number 32001, 0, hmoveto, closepath, endchar.
+const GLYPH: &[u8] = b"\xff\x00\x00\x7d\x01\x8b\x16\x09\x0e";
+
+/// Marks, the faults behind them, and how often machines were asked behind each.
+const MARKS: &[(Mark, &str)] = &[
+    (
+        FIRST,
+        "1 C05 8, 2 C07 8, 3 W01 8, 4 P03 9, none 11, none 11, ",
+    ),
+    (
+        Mark {
+            number: 0,
+            unit: 2,
+            step: 3,
+            rule: 31,
+        },
+        "1 C07 3, 2 W01 3, 3 P03 4, none 6, none 6, none 6, ",
+    ),
+    (
+        Mark {
+            number: 2,
+            unit: 2,
+            step: 3,
+            rule: 32,
+        },
+        "3 W01 3, 4 P03 4, none 6, none 6, none 6, none 6, ",
+    ),
+    (
+        Mark {
+            number: u64::MAX,
+            unit: 2,
+            step: 3,
+            rule: 41,
+        },
+        "18446744073709551615 P03 4, none 6, none 6, none 6, none 6, none 6, ",
+    ),
+    (
+        Mark {
+            number: 7,
+            unit: 4_000_000_000,
+            step: 0,
+            rule: 0,
+        },
+        "none 0, none 0, none 0, none 0, none 0, none 0, ",
+    ),
+    (
+        Mark {
+            number: 0,
+            unit: 1,
+            step: 4_000_000_000,
+            rule: 255,
+        },
+        "1 C05 8, 2 C07 8, 3 W01 8, 4 P03 9, none 11, none 11, ",
+    ),
+    (
+        Mark {
+            number: 0,
+            unit: 0,
+            step: 4_000_000_000,
+            rule: 255,
+        },
+        "1 C05 8, 2 C07 8, 3 W01 8, 4 P03 9, none 11, none 11, ",
+    ),
+];
+
+/// Six answers of a walk, each with how often machines were asked.
+fn told<'a>(
+    alloc: Global,
+    font: &'a Font<'a>,
+    sidebearings: &'a Sidebearings,
+    mark: Mark,
+) -> Result<String, AllocError>
+    requires { sidebearings.now ≡ components_of step_limit font.now }
+{
+    let mut walk = Walk::resume(font, sidebearings, mark);
+    let mut text = String::new(alloc);
+    for _call in 0..6 {
+        match walk.next() {
+            Some(fault) => {
+                let number = fault.number;
+                let code = rule_code(fault.rule);
+                text.push_str(format!(in alloc; "{number} {code} ")?.as_str())?;
+            }
+            None => text.push_str("none ")?,
+        }
+        let turns = walk.turns();
+        text.push_str(format!(in alloc; "{turns}, ")?.as_str())?;
+    }
+    Ok(text)
+}
+
+/// The answers of a font behind a mark.
+fn told_of(alloc: Global, texts: &Texts, mark: Mark) -> Result<String, Fail> {
+    let font = texts.font(alloc)?;
+    Ok(told_in(alloc, &font, mark)?)
+}
+
+fn told_in(alloc: Global, font: &Font<'_>, mark: Mark) -> Result<String, AllocError> {
+    let sidebearings = Sidebearings::prepare(alloc, font)?;
+    told(alloc, &*font, &sidebearings, mark)
+}
+
+#[test]
+fn walks_from_any_mark(rt: HostRuntime) -> Result<(), Fail> {
+    let sample = Sample::new(rt.alloc())?.glyph(b"A", GLYPH)?;
+    let texts = Texts::of(rt.alloc(), sample.pfb()?.as_slice())?;
+    for (mark, want) in MARKS {
+        let found = told_of(rt.alloc(), &texts, *mark)?;
+        assert_eq!(rt; found.as_str(), *want, "from {mark:?}");
+    }
+    Ok(())
+}

@@ -1,0 +1,133 @@
+//! How a walk goes on from its mark: the rules of the place in hand, and then the next place.
+
+ghost use Rattle.std.specs.Prelude.{◌≡◌, MatchOption};
+ghost use Rattle.t1_report.specs.Courses.{IsCourse, IsFloor, mark_after, turns_after, turns_so_far};
+ghost use Rattle.t1_report.specs.Faults.{fault_value};
+ghost use Rattle.t1_report.specs.Reports.{step_limit};
+ghost use Rattle.t1_report.specs.Walks.{HasNoneLater, IsNext, mark_of, number_behind};
+ghost use Rattle.t1_rules.specs.Components.{components_of};
+
+use crate::faults::Fault;
+use crate::marks::Mark;
+use crate::reporting::copy_of;
+use crate::walk::found::Found;
+use crate::walk::search::Search;
+use arrayvec::ArrayVec;
+use t1_font::Font;
+use t1_rules::{Mask, Rule, Sidebearings};
+
+/// A search, the place that it found last, and the mark.
+#[derive(Drop)]
+pub(crate) struct Course<'a> {
+    search: Search<'a>,
+    found: Found,
+    mark: Mark,
+}
+
+impl<'a> Course<'a> {
+    /// From behind a mark on.
+    pub(crate) fn from(font: &'a Font<'a>, sidebearings: &'a Sidebearings, mark: Mark) -> Course<'a>
+        requires { sidebearings.now ≡ components_of step_limit font.now }
+        ensures course { IsCourse result }
+        ensures font { result.search.font.now ≡ font.now }
+        ensures from { result.search.from ≡ mark.unit }
+        ensures mark { result.mark ≡ mark }
+        ensures turns { turns_so_far result.search ≡ 0 }
+    {
+        Course {
+            search: Search::from(font, sidebearings, mark.unit, mark.step),
+            found: Found {
+                unit: mark.unit,
+                step: mark.step,
+                path: ArrayVec::new(),
+                rules: Mask::empty(),
+            },
+            mark,
+        }
+    }
+
+    pub(crate) fn mark(&self) -> Mark
+        ensures { result ≡ self.now.mark }
+    {
+        self.mark
+    }
+
+    /// How often machines were asked.
+    pub(crate) fn turns(&self) -> u64
+        requires { IsCourse self.now }
+        ensures { result ≡ turns_so_far self.now.search }
+    {
+        self.search.turns()
+    }
+
+    /// The next fault behind the mark.
+    pub(crate) fn next(&mut self) -> Option<Fault>
+        requires { IsCourse self.old }
+        ensures next { MatchOption result (HasNoneLater self.old.search.font.now self.old.mark)
+            (λ fault. IsNext self.old.search.font.now self.old.mark (fault_value fault)) }
+        ensures mark { self.new.mark ≡ mark_after self.old.mark result }
+        ensures turns { turns_so_far self.new.search
+            ≡ turns_after self.old.search.font.now self.old.search.from result }
+        ensures course { IsCourse self.new }
+        ensures font { self.new.search.font.now ≡ self.old.search.font.now }
+        ensures from { self.new.search.from ≡ self.old.search.from }
+    {
+        loop {
+            let floor = floor(self.mark, self.found.unit, self.found.step);
+            if let Some(rule) = self.found.rules.above(floor) {
+                let fault = fault_in(&self.found, rule, self.mark.number);
+                self.mark = mark_at(&fault);
+                return Some(fault);
+            }
+            match self.search.next() {
+                Some(found) => self.found = found,
+                None => {
+                    self.found.rules = Mask::empty();
+                    return None;
+                }
+            }
+        }
+    }
+}
+
+/// A number of a rule: of the rules of a place those above it come after the mark.
+fn floor(mark: Mark, unit: u32, step: u32) -> u8
+    ensures { IsFloor mark unit step result }
+{
+    if unit < mark.unit || unit == mark.unit && step < mark.step {
+        u8::MAX
+    } else if unit == mark.unit && step == mark.step {
+        mark.rule
+    } else {
+        0
+    }
+}
+
+/// The fault of one of the rules in hand, behind the fault of a number.
+fn fault_in(found: &Found, rule: Rule, number: u64) -> Fault
+    ensures number { result.number ≡ number_behind number }
+    ensures unit { result.unit ≡ found.now.unit }
+    ensures step { result.step ≡ found.now.step }
+    ensures rule { result.rule ≡ rule }
+    ensures path { result.path.items ≡ found.now.path.items }
+{
+    Fault {
+        number: number.saturating_add(1),
+        unit: found.unit,
+        step: found.step,
+        rule,
+        path: copy_of(found.path.as_slice()),
+    }
+}
+
+/// The mark of a fault.
+fn mark_at(fault: &Fault) -> Mark
+    ensures { result ≡ mark_of (fault_value fault.now) }
+{
+    Mark {
+        number: fault.number,
+        unit: fault.unit,
+        step: fault.step,
+        rule: fault.rule.number(),
+    }
+}

@@ -1,0 +1,75 @@
+//! The places of the font, asked one after another.
+
+ghost use Rattle.std.specs.Prelude.{◌≡◌, ◌≤◌, ◌+◌, ◌*◌, MatchOption};
+ghost use Rattle.t1_report.specs.Searches.{IsFirst, IsFontPlaces, IsQuietFrom, font_step};
+
+use crate::reporting::STEPS_OF_A_KEY;
+use crate::walk::found::Found;
+use crate::walk::glyph_run::has_rules;
+use arrayvec::ArrayVec;
+use t1_font::Font;
+use t1_rules::{font_faults, places};
+
+/// How many keys a font has a place for.
+const KEYS: u8 = 22;
+
+/// The next place of the font that is to be asked.
+#[derive(Clone, Copy)]
+pub(crate) struct FontPlaces {
+    key: u8,
+    index: u32,
+    /// How many indexes of the key can have a fault.
+    places: u32,
+}
+
+impl FontPlaces {
+    /// From a step on.
+    pub(crate) fn from(font: &Font<'_>, step: u32) -> FontPlaces
+        ensures places { IsFontPlaces font.now result }
+        ensures step { font_step result ≤ step }
+    {
+        let key = step / STEPS_OF_A_KEY;
+        if key >= u32::from(KEYS) {
+            return FontPlaces {
+                key: KEYS,
+                index: 0,
+                places: 0,
+            };
+        }
+        FontPlaces {
+            key: key as u8,
+            index: step % STEPS_OF_A_KEY,
+            places: places(font, key as u8),
+        }
+    }
+
+    /// The next place where a rule is broken; places that can have no fault aren't asked.
+    pub(crate) fn next(&mut self, font: &Font<'_>) -> Option<Found>
+        requires places { IsFontPlaces font.now self.old }
+        ensures found { MatchOption result (IsQuietFrom font.now 0 (font_step self.old))
+            (λ found. IsFirst font.now 0 (font_step self.old) found) }
+        ensures step { MatchOption result (self.new.key ≡ 22) (λ found. font_step self.new ≡ found.step + 1) }
+        ensures places { IsFontPlaces font.now self.new }
+    {
+        while self.key < KEYS {
+            if self.index < self.places {
+                let index = self.index;
+                self.index += 1;
+                let rules = font_faults(font, self.key, index);
+                if has_rules(rules) {
+                    return Some(Found {
+                        unit: 0,
+                        step: STEPS_OF_A_KEY * u32::from(self.key) + index,
+                        path: ArrayVec::new(),
+                        rules,
+                    });
+                }
+            } else {
+                self.key += 1;
+                self.index = 0;
+                self.places = places(font, self.key);
+            }
+        }
+        None
+    }
+}

@@ -1,0 +1,15 @@
+//! The place where a walk stands.
+
+use crate::faults::DEEPEST;
+use arrayvec::ArrayVec;
+use t1_rules::Mask;
+
+/// A place where rules are broken.
+#[derive(Drop)]
+pub(crate) struct Found {
+    pub(crate) unit: u32,
+    pub(crate) step: u32,
+    pub(crate) path: ArrayVec<u32, DEEPEST>,
+    /// The rules that are broken there.
+    pub(crate) rules: Mask,
+}

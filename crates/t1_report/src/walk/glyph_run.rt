@@ -1,0 +1,111 @@
+//! A glyph, executed up to the next step that breaks a rule.
+
+ghost use Rattle.std.specs.Prelude.{◌≡◌, ◌<◌, ◌≤◌, ◌+◌, false, MatchOption, length};
+ghost use Rattle.t1_report.specs.Reports.{step_limit};
+ghost use Rattle.t1_report.specs.Searches.{IsFirst, IsQuietFrom, IsRun};
+ghost use Rattle.t1_report.specs.Walks.{turns_of_glyph};
+ghost use Rattle.t1_rules.specs.Components.{components_of};
+ghost use Rattle.t1_rules.specs.Mask.{HasNoneAbove};
+
+use crate::reporting::{broken_at, copy_of};
+use crate::walk::found::Found;
+use t1_char::{Machine, STEP_LIMIT, Turn};
+use t1_font::Font;
+use t1_rules::{Mask, Sidebearings, Watch, Watches};
+
+/// The machine of a glyph, and the watchers that saw its steps.
+#[derive(Drop)]
+pub(crate) struct GlyphRun<'a> {
+    machine: Machine<'a>,
+    watches: Watches,
+}
+
+impl<'a> GlyphRun<'a> {
+    /// A glyph before its first step.
+    pub(crate) fn start(font: &'a Font<'a>, glyph: usize) -> GlyphRun<'a>
+        requires { glyph < length font.now.glyphs }
+        ensures run { IsRun result.machine result.watches }
+        ensures font { result.machine.font ≡ font.now }
+        ensures glyph { result.machine.glyph ≡ glyph }
+        ensures counted { result.machine.counted ≡ 0 }
+    {
+        GlyphRun {
+            machine: Machine::start(font, glyph),
+            watches: Watches::start(),
+        }
+    }
+
+    /// How many steps were asked for.
+    pub(crate) fn counted(&self) -> u32
+        ensures counted { result ≡ self.now.machine.counted }
+        ensures most { result ≤ 100001 }
+    {
+        self.machine.counted()
+    }
+
+    /// The next step that breaks a rule; the rest of the glyph breaks none where there is none.
+    pub(crate) fn next(&mut self, sidebearings: &Sidebearings, unit: u32) -> Option<Found>
+        requires run { IsRun self.old.machine self.old.watches }
+        requires sidebearings { sidebearings.now ≡ components_of step_limit self.old.machine.font }
+        requires unit { unit ≡ self.old.machine.glyph + 1 }
+        ensures found { MatchOption result
+            (IsQuietFrom self.old.machine.font unit (self.old.machine.counted + 1))
+            (λ found. IsFirst self.old.machine.font unit (self.old.machine.counted + 1) found) }
+        ensures counted { MatchOption result
+            (self.new.machine.counted ≡ turns_of_glyph self.old.machine.font self.old.machine.glyph)
+            (λ found. self.new.machine.counted ≡ found.step) }
+        ensures run { IsRun self.new.machine self.new.watches }
+        ensures font { self.new.machine.font ≡ self.old.machine.font }
+        ensures glyph { self.new.machine.glyph ≡ self.old.machine.glyph }
+    {
+        next_broken(&mut self.machine, &mut self.watches, sidebearings, unit)
+    }
+}
+
+/// The next step of a machine that breaks a rule.
+fn next_broken(
+    machine: &mut Machine<'_>,
+    watches: &mut Watches,
+    sidebearings: &Sidebearings,
+    unit: u32,
+) -> Option<Found>
+    requires run { IsRun machine.old watches.old }
+    requires sidebearings { sidebearings.now ≡ components_of step_limit machine.old.font }
+    requires unit { unit ≡ machine.old.glyph + 1 }
+    ensures found { MatchOption result
+        (IsQuietFrom machine.old.font unit (machine.old.counted + 1))
+        (λ found. IsFirst machine.old.font unit (machine.old.counted + 1) found) }
+    ensures counted { MatchOption result
+        (machine.new.counted ≡ turns_of_glyph machine.old.font machine.old.glyph)
+        (λ found. machine.new.counted ≡ found.step) }
+    ensures run { IsRun machine.new watches.new }
+    ensures font { machine.new.font ≡ machine.old.font }
+    ensures glyph { machine.new.glyph ≡ machine.old.glyph }
+{
+    while machine.counted() <= STEP_LIMIT {
+        let step = match machine.step() {
+            Turn::Step(step) | Turn::Limit(step) => step,
+            Turn::Ended => return None,
+        };
+        let rules = broken_at(watches, sidebearings, step);
+        if has_rules(rules) {
+            return Some(Found {
+                unit,
+                step: step.number,
+                path: copy_of(step.path.as_slice()),
+                rules,
+            });
+        }
+    }
+    None
+}
+
+/// Whether a set has a rule.
+pub(crate) fn has_rules(rules: Mask) -> bool
+    ensures { result ≡ false → HasNoneAbove rules 0 }
+{
+    match rules.above(0) {
+        Some(_) => true,
+        None => false,
+    }
+}
