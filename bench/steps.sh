@@ -1,0 +1,29 @@
+#!/bin/sh
+# Prints how long a step of a glyph takes in the machine alone, and with all watchers, over the fonts below a folder,
+# which are told by their names' ends: ./bench/steps.sh FOLDER
+# The program is proved and built in a folder of its own, over what the crates' out folders keep of earlier proofs.
+set -eu
+top=$(cd "$(dirname "$0")/.." && pwd)
+if [ $# -ne 1 ] || [ ! -d "$1" ]; then
+    echo 'usage: bench/steps.sh FOLDER   (FOLDER holds fonts)' >&2
+    exit 2
+fi
+folder=$(cd "$1" && pwd)
+work=$(mktemp -d)
+trap 'rm -rf "$work"' EXIT
+
+crates='t1_seal t1_samples t1_scan t1_font t1_char t1_rules'
+mkdir -p "$work/crates/timing/src"
+for crate in $crates; do
+    cp -R "$top/crates/$crate" "$work/crates/"
+    grep "^$crate:" "$top/crates.txt" >>"$work/crates.txt"
+done
+cp "$top/bench/steps/main.txt" "$work/crates/timing/src/main.rt"
+echo 'timing: t1_seal t1_font t1_char t1_rules' >>"$work/crates.txt"
+
+cd "$work/crates/timing"
+if ! rt run >"$work/log" 2>&1 </dev/null; then
+    cat "$work/log" >&2
+    exit 1
+fi
+find -L "$folder" -type f \( -name '*.pfb' -o -name '*.pfa' -o -name '*.t1' \) | sort | out/timing
