@@ -1,6 +1,5 @@
 -- What the options choose of a report, and the lines of the program's faults.
-use Rattle.std.proofs.Common.{length, if◌then◌else◌, codes, map, nat_lt, option_map, string_bytes, ◌≡◌, ℕ, zero, suc, List, [], ◌∷◌, ◌++◌, Option, None, Some, Result, Ok, Err, take, drop, refl, sym, ap, subst, ◌∙◌}
-use Rattle.std.proofs.lemmas.List.{length-map}
+use Rattle.std.proofs.Common.{option_map, string_bytes, ◌≡◌, ℕ, zero, suc, List, [], ◌∷◌, ◌++◌, Option, None, Some, Result, Ok, Err, take, drop, refl, sym, ap, subst, ◌∙◌}
 use Rattle.std.proofs.lemmas.List.Elements.{All-drop, All-take}
 use Rattle.std.specs.List.{All, flat_map}
 use Rattle.t1_font.specs.Fonts.{FontValue}

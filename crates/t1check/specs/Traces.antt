@@ -1,8 +1,7 @@
 -- The trace of a glyph: its steps, a line each.
-use Rattle.std.specs.Prelude.{ℕ, nat_lt, if◌then◌else◌, List, [], ◌∷◌, ◌++◌, length, map, take, Option, codes}
-use Rattle.std.specs.List.{concat, flat_map, position}
+use Rattle.std.specs.Prelude.{ℕ, nat_lt, if◌then◌else◌, List, [], ◌∷◌, ◌++◌, length, take, codes}
+use Rattle.std.specs.List.{concat, flat_map}
 use Rattle.t1_font.specs.Fonts.{FontValue}
-use Rattle.t1_font.specs.Keys.{same_name}
 use Rattle.t1_char.specs.Steps.{NumberedStep, first_steps}
 use Rattle.t1_char.specs.declared.expansion.TheConstants.{STEP_LIMIT}
 use Rattle.t1_report.specs.Traces.{step_line}

@@ -1,4 +1,4 @@
-use Rattle.std.proofs.Common.{◌≡◌, ◌+◌, List, ℕ, ap, sym, subst, ◌∙◌, codes}
+use Rattle.std.proofs.Common.{◌≡◌, ◌+◌, List, ℕ, sym, subst, ◌∙◌}
 use Rattle.t1_io.specs.Devices.{Wrote, Writes}
 use Rattle.t1_io.proofs.SinkLemmas.{Writes-then, Writes-failed}
 use Rattle.t1_char.specs.declared.expansion.TheConstants.{STEP_LIMIT}

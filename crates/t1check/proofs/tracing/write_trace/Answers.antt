@@ -1,6 +1,5 @@
-use Rattle.std.proofs.Common.{List, ℕ, ap, sym, subst, ◌∙◌}
+use Rattle.std.proofs.Common.{List, ℕ, ap, subst, ◌∙◌}
 use Rattle.t1_io.specs.Devices.{Delivers}
-use Rattle.t1_char.specs.Turns.{MachineView}
 use Rattle.t1check.specs.Traces.{trace_of}
 use Rattle.t1_io.proofs.SinkLemmas.{Delivers-failed, Delivers-flush}
 use Rattle.t1check.proofs.tracing.write_trace.Goals as goal
