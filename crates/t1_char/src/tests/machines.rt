@@ -12,7 +12,7 @@ use t1_seal::Joined;
 
 /// What is written of steps.
 #[derive(Clone, Copy)]
-enum Lines {
+pub(super) enum Lines {
     Trace,
     States,
     /// Nothing of the steps; each answer behind them, with the count of calls.
@@ -47,7 +47,8 @@ fn told_with(
     told_of(alloc, &sample, lines)
 }
 
-fn told_of(alloc: Global, sample: &Sample, lines: Lines) -> Result<String, Refusal> {
+/// What a machine tells of a sample's second glyph.
+pub(super) fn told_of(alloc: Global, sample: &Sample, lines: Lines) -> Result<String, Refusal> {
     let text = clear_of(sample)?;
     let private = sample.private()?;
     told_of_texts(alloc, &text, private.as_slice(), lines)

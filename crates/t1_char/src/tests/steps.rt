@@ -1,7 +1,9 @@
 //! Steps of glyphs: calls, returns, ends, and the two facts of each step.
 
+use super::machines::{Lines, told_of};
 use super::{Case, HSBW, assert_states, assert_traces, states_of, steps_of, steps_with, trace_of};
 use std::alloc::{AllocError, Global};
+use std::process::Abort;
 use std::test::Fail;
 use t1_font::Refusal;
 use t1_samples::{Charstrings, Sample};
@@ -81,13 +83,23 @@ fn the_tenth_call(rt: HostRuntime) -> Result<(), Fail> {
     Ok(())
 }
 
-/// The trace of a glyph that calls a Subr, in a font with such charstrings.
-fn trace_in(alloc: Global, charstrings: Charstrings) -> Result<String, Refusal> {
-    let sample = Sample::with_charstrings(alloc, charstrings)?
-        .subr(5, b"\x0b")?
-        .glyph(b"A", CALLS)?;
-    let steps = steps_of(alloc, &sample)?;
-    Ok(trace_of(alloc, &steps)?)
+/// A font with such charstrings, whose glyph `0 500 hsbw 5 callsubr endchar` calls this Subr.
+fn calling(alloc: Global, charstrings: Charstrings, subr: &[u8]) -> Result<Sample, AllocError> {
+    Sample::with_charstrings(alloc, charstrings)?
+        .subr(5, subr)?
+        .glyph(b"A", CALLS)
+}
+
+/// The list of a sample's second glyph has these states, and a machine tells them too.
+fn assert_both(rt: &impl Abort, alloc: Global, sample: &Sample, want: &str) -> Result<(), Fail> {
+    let steps = steps_of(alloc, sample)?;
+    assert_eq!(rt; states_of(alloc, &steps)?.as_str(), want);
+    let told = told_of(alloc, sample, Lines::States)?;
+    assert_eq!(rt; told.as_str(), want, "by a machine");
+    let trace = trace_of(alloc, &steps)?;
+    let told = told_of(alloc, sample, Lines::Trace)?;
+    assert_eq!(rt; told.as_str(), trace.as_str(), "by a machine");
+    Ok(())
 }
 
 /// The ways in which charstrings are enciphered.
@@ -100,12 +112,38 @@ const CIPHERS: &[Charstrings] = &[
 
 #[test]
 fn enciphered_fonts(rt: HostRuntime) -> Result<(), Fail> {
+    let want = "1 - 0\n2 - 500\n3 - hsbw\n4 - 5\n5 - callsubr\n6 5 return\n7 - endchar\n";
     for charstrings in CIPHERS {
-        let trace = trace_in(rt.alloc(), *charstrings)?;
-        assert_eq!(rt;
-            trace.as_str(),
-            "1 - 0\n2 - 500\n3 - hsbw\n4 - 5\n5 - callsubr\n6 5 return\n7 - endchar\n"
-        );
+        let sample = calling(rt.alloc(), *charstrings, b"\x0b")?;
+        let steps = steps_of(rt.alloc(), &sample)?;
+        assert_eq!(rt; trace_of(rt.alloc(), &steps)?.as_str(), want);
+        let told = told_of(rt.alloc(), &sample, Lines::Trace)?;
+        assert_eq!(rt; told.as_str(), want, "by a machine");
+    }
+    Ok(())
+}
+
+/// Subrs, and the states of their steps behind the call: what follows is read ahead.
+const READ_AHEAD: &[(&[u8], &str)] = &[
+    (b"\x0e\x0b", "5 endchar [ ] 0 last\n"),
+    (b"\x0e\x0b\x0b", "5 endchar [ ] 0\n"),
+    (
+        b"\x8c\xff",
+        "5 1 [ ] 0\n5 cut [ 1 ] 0 last\n5 end [ 1 ] 0\n- endchar [ 1 ] 0 last\n",
+    ),
+    (b"", "5 end [ ] 0\n- endchar [ ] 0 last\n"),
+];
+
+#[test]
+fn enciphered_subrs(rt: HostRuntime) -> Result<(), Fail> {
+    let call =
+        "- 0 [ ] 0\n- 500 [ 0 ] 0\n- hsbw [ 0 500 ] 0\n- 5 [ ] 0\n- callsubr [ 5 ] 0 found\n";
+    for charstrings in CIPHERS {
+        for (subr, states) in READ_AHEAD {
+            let sample = calling(rt.alloc(), *charstrings, subr)?;
+            let want = format!(in rt.alloc(); "{call}{states}")?;
+            assert_both(&rt, rt.alloc(), &sample, want.as_str())?;
+        }
     }
     Ok(())
 }
@@ -116,12 +154,12 @@ fn a_glyph_shorter_than_len_iv(rt: HostRuntime) -> Result<(), Fail> {
     let sample = Sample::new(rt.alloc())?
         .key(b"/lenIV 4 def")?
         .glyph(b"A", b"\x8b\x0d\x0e")?;
-    let steps = steps_of(rt.alloc(), &sample)?;
-    assert_eq!(rt;
-        states_of(rt.alloc(), &steps)?.as_str(),
-        "- short [ ] 0 last\n- end [ ] 0\n"
-    );
-    Ok(())
+    assert_both(
+        &rt,
+        rt.alloc(),
+        &sample,
+        "- short [ ] 0 last\n- end [ ] 0\n",
+    )
 }
 
 /// Glyphs that break off inside a token.
