@@ -29,7 +29,7 @@ pub(super) fn assert_walks(alloc: Global, font: &Font<'_>) -> Result<(), Fail> {
 }
 
 /// The mark before all faults.
-const FIRST: Mark = Mark {
+pub(super) const FIRST: Mark = Mark {
     number: 0,
     unit: 0,
     step: 0,
@@ -78,7 +78,7 @@ fn gives<'a>(
 }
 
 /// The number 32001, 0, hmoveto, closepath, endchar.
-const GLYPH: &[u8] = b"\xff\x00\x00\x7d\x01\x8b\x16\x09\x0e";
+pub(super) const GLYPH: &[u8] = b"\xff\x00\x00\x7d\x01\x8b\x16\x09\x0e";
 
 /// Marks, the faults behind them, and how often machines were asked behind each.
 const MARKS: &[(Mark, &str)] = &[
@@ -174,7 +174,8 @@ fn told_of(alloc: Global, texts: &Texts, mark: Mark) -> Result<String, Fail> {
     Ok(told_in(alloc, &font, mark)?)
 }
 
-fn told_in(alloc: Global, font: &Font<'_>, mark: Mark) -> Result<String, AllocError> {
+/// Six answers behind a mark, each with how often machines were asked.
+pub(super) fn told_in(alloc: Global, font: &Font<'_>, mark: Mark) -> Result<String, AllocError> {
     let sidebearings = Sidebearings::prepare(alloc, font)?;
     told(alloc, &*font, &sidebearings, mark)
 }
