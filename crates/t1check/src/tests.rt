@@ -1,4 +1,5 @@
 mod command_line;
+mod cut_files;
 mod devices;
 mod fonts;
 mod passing_failures;

@@ -4,7 +4,7 @@ use std::test::Fail;
 use t1_samples::{Charstrings, FontFile, Sample, TRAILER};
 
 /// A sound font whose section is hexadecimal, as a PFA file.
-fn hexadecimal(alloc: Global) -> Result<Vec<u8>, AllocError> {
+pub(super) fn hexadecimal(alloc: Global) -> Result<Vec<u8>, AllocError> {
     let sample = Sample::with_charstrings(alloc, Charstrings::Encrypted(4))?;
     let clear = sample.clear()?;
     let private = sample.private()?;
