@@ -1,9 +1,11 @@
 mod command_line;
 mod cut_files;
 mod devices;
+mod explaining;
 mod fonts;
 mod passing_failures;
 mod refusals;
+mod runs;
 mod scale;
 mod segments;
 

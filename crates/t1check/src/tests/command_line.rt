@@ -4,7 +4,7 @@ use std::alloc::Global;
 use std::process::Abort;
 use std::test::Fail;
 
-const HELP: &str = "\
+pub(super) const HELP: &str = "\
 Lists every rule of the book that an Adobe Type 1 font (PFA or PFB) breaks. The book
 has 69 rules: on the file, on the font's dictionaries, and on charstrings, of which
 the first 100,000 steps are checked.
@@ -135,7 +135,7 @@ fn takes_names_of_glyphs_and_greatest_numbers(rt: HostRuntime) {
 }
 
 /// The text of help that words ask for.
-fn help_of(alloc: Global, words: &[&str]) -> Result<String, Fail> {
+pub(super) fn help_of(alloc: Global, words: &[&str]) -> Result<String, Fail> {
     match options(alloc, words) {
         Err(UsageError::Help(text)) => Ok(text),
         _ => Err(Fail::from("no help")),

@@ -1,16 +1,18 @@
 ghost use Rattle.std.specs.Prelude.{◌≡◌, true};
 ghost use Rattle.t1_io.specs.Limits.{lets_some_through};
 
-use super::{ALL, Answer, NO_END_REPORT, ended_by};
-use crate::asked::UsageError;
-use crate::explaining::explain;
+use super::runs::{Run, runs, without_an_end};
+use super::{ALL, Answer};
+use crate::asked::Options;
 use crate::running::run;
 use crate::status::Status;
 use std::alloc::{AllocError, Global};
 use std::io;
 use std::io::Read;
+use std::process::Abort;
 use std::test::Fail;
 use t1_io::{Fuse, In, Limit, Out};
+use t1_samples::{CLEAR, FontFile, Sample};
 
 /// A reader that gives a byte a read, without end.
 #[derive(Drop)]
@@ -30,7 +32,14 @@ impl Read for Endless {
 }
 
 /// Runs the program on a file, over devices with these limits.
-fn answer_within(alloc: Global, file: &[u8], input: Limit, output: Limit, errors: Limit) -> Answer
+fn answer_within(
+    alloc: Global,
+    file: &[u8],
+    options: &Options,
+    input: Limit,
+    output: Limit,
+    errors: Limit,
+) -> Answer
     requires input { lets_some_through input ≡ true }
     requires output { lets_some_through output ≡ true }
     requires errors { lets_some_through errors ≡ true }
@@ -40,7 +49,7 @@ fn answer_within(alloc: Global, file: &[u8], input: Limit, output: Limit, errors
     let status = run(
         alloc,
         &mut Fuse::source(In::new(file), input),
-        &ALL,
+        options,
         &mut Fuse::sink(Out::new(&mut text), output),
         &mut Fuse::sink(Out::new(&mut told), errors),
     );
@@ -52,7 +61,15 @@ fn answer_within(alloc: Global, file: &[u8], input: Limit, output: Limit, errors
 }
 
 /// A limit that no run of a test reaches.
-const FAR: Limit = Limit::Bytes(1_000_000);
+pub(super) const FAR: Limit = Limit::Bytes(1_000_000);
+
+/// Makes a run over devices with these limits.
+fn answer_of(alloc: Global, run: &Run, input: Limit, output: Limit) -> Answer
+    requires input { lets_some_through input ≡ true }
+    requires output { lets_some_through output ≡ true }
+{
+    answer_within(alloc, run.file.as_slice(), &run.options, input, output, FAR)
+}
 
 /// Runs the program on this reader.
 fn answer_to_endless(alloc: Global, reader: &mut Endless) -> Answer {
@@ -83,109 +100,149 @@ fn stops_at_the_limit_of_reads(rt: HostRuntime) {
 /// A byte a read and a byte a write: the same text.
 #[test]
 fn moves_a_byte_a_call(rt: HostRuntime) -> Result<(), Fail> {
-    let file = ended_by(rt.alloc(), b"")?;
     let one = Limit::BytesPerCall(1);
-    let answer = answer_within(rt.alloc(), file.as_slice(), one, one, FAR);
-    assert!(rt; answer.is(Status::Faults, NO_END_REPORT.as_bytes(), b""));
-    Ok(())
-}
-
-/// Whether a file's report that fails behind so many bytes is answered so.
-fn tells_failed_write(alloc: Global, file: &[u8], room: usize) -> bool {
-    let answer = answer_within(alloc, file, FAR, Limit::Bytes(room), FAR);
-    match NO_END_REPORT.as_bytes().get(..room) {
-        Some(front) => answer.is(Status::Failed, front, b"t1check: write failed\n"),
-        None => false,
-    }
-}
-
-/// The output fails after each count of bytes, the last time at the flush.
-#[test]
-fn tells_a_failed_write(rt: HostRuntime) -> Result<(), Fail> {
-    let file = ended_by(rt.alloc(), b"")?;
-    for room in 0..NO_END_REPORT.len() + 1 {
+    let runs = runs(rt.alloc())?;
+    for run in &runs {
+        let answer = answer_of(rt.alloc(), run, one, one);
         assert!(rt;
-            tells_failed_write(rt.alloc(), file.as_slice(), room),
-            "{room}"
+            answer.is(run.status, run.text.as_bytes(), b""),
+            "{:?}",
+            run.text
         );
     }
     Ok(())
 }
 
-/// Whether an input that fails behind so many reads is answered so.
-fn tells_failed_read(alloc: Global, file: &[u8], calls: usize) -> bool {
-    let answer = answer_within(alloc, file, Limit::Calls(calls), FAR, FAR);
+/// Whether a run whose output fails behind so many bytes is answered so.
+fn tells_failed_write(alloc: Global, run: &Run, room: usize) -> bool {
+    let answer = answer_of(alloc, run, FAR, Limit::Bytes(room));
+    match run.text.as_bytes().get(..room) {
+        Some(front) => answer.is(Status::Failed, front, b"t1check: write failed\n"),
+        None => false,
+    }
+}
+
+/// The output of a run fails after each count of bytes, the last time at the flush.
+fn assert_failed_writes(rt: &impl Abort, alloc: Global, run: &Run) {
+    for room in 0..run.text.len() + 1 {
+        assert!(rt;
+            tells_failed_write(alloc, run, room),
+            "{room} bytes of {:?}",
+            run.text
+        );
+    }
+}
+
+#[test]
+fn tells_a_failed_write(rt: HostRuntime) -> Result<(), Fail> {
+    let runs = runs(rt.alloc())?;
+    for run in &runs {
+        assert_failed_writes(&rt, rt.alloc(), run);
+    }
+    Ok(())
+}
+
+#[test]
+fn ten_bytes_go_out(rt: HostRuntime) -> Result<(), Fail> {
+    let run = without_an_end(rt.alloc())?;
+    let answer = answer_of(rt.alloc(), &run, FAR, Limit::Bytes(10));
+    assert!(rt; answer.is(Status::Failed, b"1: font fi", b"t1check: write failed\n"));
+    Ok(())
+}
+
+/// Whether a run whose input fails behind so many reads is answered so.
+fn tells_failed_read(alloc: Global, run: &Run, calls: usize) -> bool {
+    let answer = answer_of(alloc, run, Limit::Calls(calls), FAR);
     answer.is(Status::Failed, b"", b"t1check: read failed\n")
 }
 
 /// The input fails at its first read, and at the one that would have found its end.
 #[test]
 fn tells_a_failed_read(rt: HostRuntime) -> Result<(), Fail> {
-    let file = ended_by(rt.alloc(), b"")?;
-    for calls in 0..2usize {
-        assert!(rt;
-            tells_failed_read(rt.alloc(), file.as_slice(), calls),
-            "{calls}"
-        );
+    let runs = runs(rt.alloc())?;
+    for run in &runs {
+        for calls in 0..2usize {
+            assert!(rt;
+                tells_failed_read(rt.alloc(), run, calls),
+                "{calls} reads for {:?}",
+                run.text
+            );
+        }
     }
     Ok(())
 }
 
-/// Whether a refusal that can be told up to so many bytes is answered so.
-fn tells_front(alloc: Global, room: usize) -> bool {
-    let answer = answer_within(alloc, b"\x80", FAR, FAR, Limit::Bytes(room));
-    match b"refused: E03 segment cut short\n".get(..room) {
+/// A file, and the line that it is refused with.
+#[derive(Drop)]
+struct RefusedFile {
+    file: Vec<u8>,
+    line: &'static str,
+}
+
+/// A segment that is cut short.
+fn cut_segment(alloc: Global) -> Result<RefusedFile, AllocError> {
+    Ok(RefusedFile {
+        file: Vec::from_slice(alloc, &[0x80, 1, 5, 0, 0, 0, 0x25, 0x21, 0x0a, 0x0a])?,
+        line: "refused: E03 segment cut short\n",
+    })
+}
+
+/// A sound font but for this key.
+fn with_key(alloc: Global, key: &[u8], line: &'static str) -> Result<RefusedFile, AllocError> {
+    Ok(RefusedFile {
+        file: Sample::new(alloc)?.key(key)?.pfb()?,
+        line,
+    })
+}
+
+/// A font whose private text is cut before its last `end`.
+fn cut_text(alloc: Global) -> Result<RefusedFile, AllocError> {
+    let text = Sample::new(alloc)?.private()?;
+    let front = text.as_slice().strip_suffix(b"end\n").unwrap_or(b"");
+    Ok(RefusedFile {
+        file: FontFile::of(CLEAR, front).pfb(alloc)?,
+        line: "refused: E09 CharStrings malformed or absent\n",
+    })
+}
+
+/// Files that are refused at different places.
+fn refused_files(alloc: Global) -> Result<[RefusedFile; 4], AllocError> {
+    Ok([
+        cut_segment(alloc)?,
+        with_key(alloc, b"/lenIV 65 def", "refused: E10 lenIV out of range\n")?,
+        with_key(alloc, b"/Subrs 0 array", "refused: E12 second Subrs\n")?,
+        cut_text(alloc)?,
+    ])
+}
+
+/// Whether a refusal of which so many bytes can be told is answered so: where that isn't all, it has failed.
+fn tells_front(alloc: Global, refused: &RefusedFile, room: usize) -> bool {
+    let file = refused.file.as_slice();
+    let answer = answer_within(alloc, file, &ALL, FAR, FAR, Limit::Bytes(room));
+    let line = refused.line.as_bytes();
+    match line.get(..room) {
+        Some(told) if room == line.len() => answer.is(Status::Refused, b"", told),
         Some(told) => answer.is(Status::Failed, b"", told),
         None => false,
     }
 }
 
-#[test]
-fn fails_where_nothing_can_be_told(rt: HostRuntime) {
-    for room in 0..31usize {
-        assert!(rt; tells_front(rt.alloc(), room), "{room}");
+/// Standard error fails after each count of a refusal's bytes.
+fn assert_failed_refusals(rt: &impl Abort, alloc: Global, refused: &RefusedFile) {
+    for room in 0..refused.line.len() + 1 {
+        assert!(rt;
+            tells_front(alloc, refused, room),
+            "{room} bytes of {}",
+            refused.line
+        );
     }
 }
 
-/// What is answered to words that gave no options, over an output with this limit.
-fn explained(alloc: Global, error: &UsageError, output: Limit) -> Answer
-    requires { lets_some_through output ≡ true }
-{
-    let mut text = Vec::new(alloc);
-    let mut told = Vec::new(alloc);
-    let status = explain(
-        error,
-        &mut Fuse::sink(Out::new(&mut text), output),
-        &mut Out::new(&mut told),
-    );
-    Answer {
-        status,
-        output: text,
-        told,
-    }
-}
-
-/// What is answered to a request for help, over an output with so much room.
-fn help_within(alloc: Global, room: usize) -> Result<Answer, AllocError> {
-    let help = UsageError::Help(String::from_str(alloc, "help\n")?);
-    Ok(explained(alloc, &help, Limit::Bytes(room)))
-}
-
-/// What is answered to a usage fault.
-fn usage(alloc: Global) -> Result<Answer, AllocError> {
-    let usage = UsageError::Usage(String::from_str(alloc, "usage\n")?);
-    Ok(explained(alloc, &usage, FAR))
-}
-
 #[test]
-fn explains_on_the_right_device(rt: HostRuntime) -> Result<(), Fail> {
-    let answer = help_within(rt.alloc(), 1_000_000)?;
-    assert!(rt; answer.is(Status::Clean, b"help\n", b""));
-    let answer = usage(rt.alloc())?;
-    assert!(rt; answer.is(Status::Failed, b"", b"usage\n"));
-    let answer = explained(rt.alloc(), &UsageError::Memory, FAR);
-    assert!(rt; answer.is(Status::Failed, b"", b"t1check: out of memory\n"));
-    let answer = help_within(rt.alloc(), 2)?;
-    assert!(rt; answer.is(Status::Failed, b"he", b"t1check: write failed\n"));
+fn fails_where_nothing_can_be_told(rt: HostRuntime) -> Result<(), Fail> {
+    let files = refused_files(rt.alloc())?;
+    for file in &files {
+        assert_failed_refusals(&rt, rt.alloc(), file);
+    }
     Ok(())
 }

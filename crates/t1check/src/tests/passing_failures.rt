@@ -1,11 +1,14 @@
 //! Readers and writers of std of which one call fails, and each later one works again.
 
-use super::{ALL, NO_END_REPORT, ended_by};
+use super::runs::{Run, runs};
+use super::{ALL, Answer};
+use crate::asked::Options;
 use crate::running::run;
 use crate::status::Status;
 use std::alloc::Global;
 use std::io;
 use std::io::{Read, Write};
+use std::process::Abort;
 use std::test::Fail;
 use t1_io::{In, Out};
 
@@ -31,148 +34,200 @@ impl Read for Reads<'_> {
     }
 }
 
+/// The call of a writer that fails, the first being 1.
+#[derive(Clone, Copy, Debug, PartialEq, Eq)]
+enum Failing {
+    /// No call.
+    None,
+    /// This write.
+    Write(u64),
+    /// This write, which takes no byte and tells no error.
+    TakesNone(u64),
+    /// This flush.
+    Flush(u64),
+}
+
 /// A writer that keeps what is written and counts its calls, and fails at one of them.
 #[derive(Drop)]
 struct Writes {
     text: Vec<u8>,
     writes: u64,
     flushes: u64,
-    fails_at_write: u64,
-    fails_at_flush: u64,
+    failing: Failing,
 }
 
 impl Write for Writes {
     fn write(&mut self, bytes: &[u8]) -> io::Result<usize> {
         self.writes = self.writes.saturating_add(1);
-        if self.writes == self.fails_at_write {
+        if self.failing == Failing::Write(self.writes) {
             return Err(io::Error::from(io::ErrorKind::Other));
+        }
+        if self.failing == Failing::TakesNone(self.writes) {
+            return Ok(0);
         }
         self.text.write(bytes)
     }
 
     fn flush(&mut self) -> io::Result<()> {
         self.flushes = self.flushes.saturating_add(1);
-        if self.flushes == self.fails_at_flush {
+        if self.failing == Failing::Flush(self.flushes) {
             return Err(io::Error::from(io::ErrorKind::Other));
         }
         Ok(())
     }
 }
 
-/// Runs the program on this reader, and gives the status, whether the report of a file without an end
-/// was written and nothing told, and whether a failed read was told and nothing written.
-fn run_on(alloc: Global, reader: &mut Reads<'_>) -> (Status, bool, bool) {
+/// A writer that fails at this call.
+fn writer(alloc: Global, failing: Failing) -> Writes {
+    Writes {
+        text: Vec::new(alloc),
+        writes: 0,
+        flushes: 0,
+        failing,
+    }
+}
+
+/// Runs the program on this reader.
+fn answer_from(alloc: Global, options: &Options, reader: &mut Reads<'_>) -> Answer {
     let mut output = Vec::new(alloc);
     let mut told = Vec::new(alloc);
     let status = run(
         alloc,
         &mut In::new(reader),
-        &ALL,
+        options,
         &mut Out::new(&mut output),
         &mut Out::new(&mut told),
     );
-    let is_written = output.as_slice() == NO_END_REPORT.as_bytes() && told.is_empty();
-    let is_told = told.as_slice() == b"t1check: read failed\n".as_slice() && output.is_empty();
-    (status, is_written, is_told)
+    Answer {
+        status,
+        output,
+        told,
+    }
 }
 
 /// Runs the program on a file and this writer, and gives the status and what was told.
-fn run_into(alloc: Global, file: &[u8], writer: &mut Writes) -> (Status, Vec<u8>) {
+fn run_into(
+    alloc: Global,
+    file: &[u8],
+    options: &Options,
+    writer: &mut Writes,
+) -> (Status, Vec<u8>) {
     let mut told = Vec::new(alloc);
     let status = run(
         alloc,
         &mut In::new(file),
-        &ALL,
+        options,
         &mut Out::new(writer),
         &mut Out::new(&mut told),
     );
     (status, told)
 }
 
-/// A writer that fails at these calls, the first being 1.
-fn writer(alloc: Global, fails_at_write: u64, fails_at_flush: u64) -> Writes {
-    Writes {
-        text: Vec::new(alloc),
-        writes: 0,
-        flushes: 0,
-        fails_at_write,
-        fails_at_flush,
-    }
-}
-
-/// Whether a run on a file of `whole` reads ends at the read that fails, or at the end of the file.
-fn ends_at_read(alloc: Global, file: &[u8], whole: u64, fails_at: u64) -> bool {
+/// Whether a run of `whole` reads ends at the read that fails, or at the end of the file.
+fn ends_at_read(alloc: Global, run: &Run, whole: u64, fails_at: u64) -> bool {
     let mut reader = Reads {
-        left: file,
+        left: run.file.as_slice(),
         count: 0,
         fails_at,
     };
-    let ends = run_on(alloc, &mut reader);
-    let wanted = if fails_at > whole {
-        (Status::Faults, true, false)
+    let answer = answer_from(alloc, &run.options, &mut reader);
+    let is_answered = if fails_at > whole {
+        answer.is(run.status, run.text.as_bytes(), b"")
     } else {
-        (Status::Failed, false, true)
+        answer.is(Status::Failed, b"", b"t1check: read failed\n")
     };
-    ends == wanted && reader.count == fails_at.min(whole)
+    is_answered && reader.count == fails_at.min(whole)
 }
 
 /// The file is read part by part, and the last read finds its end; where read k fails, k are made.
-#[test]
-fn a_read_that_fails_once_ends_the_run(rt: HostRuntime) -> Result<(), Fail> {
-    let file = ended_by(rt.alloc(), b"")?;
-    let whole = (file.len() / BYTES_PER_READ + 2) as u64;
+fn assert_failed_reads(rt: &impl Abort, alloc: Global, run: &Run) {
+    let whole = (run.file.len() / BYTES_PER_READ + 2) as u64;
     for fails_at in 1..whole + 2 {
         assert!(rt;
-            ends_at_read(rt.alloc(), file.as_slice(), whole, fails_at),
-            "at {fails_at}"
+            ends_at_read(alloc, run, whole, fails_at),
+            "at {fails_at} for {:?}",
+            run.text
         );
+    }
+}
+
+#[test]
+fn a_read_that_fails_once_ends_the_run(rt: HostRuntime) -> Result<(), Fail> {
+    let runs = runs(rt.alloc())?;
+    for run in &runs {
+        assert_failed_reads(&rt, rt.alloc(), run);
     }
     Ok(())
 }
 
-/// Whether a write that fails ends the run with a front of the report.
-fn ends_at_write(alloc: Global, file: &[u8], place: u64) -> bool {
-    let report = NO_END_REPORT.as_bytes();
-    let mut output = writer(alloc, place, 0);
-    let (status, told) = run_into(alloc, file, &mut output);
+/// How many writes a run makes, if it writes its whole text.
+fn count_writes(alloc: Global, run: &Run) -> Option<u64> {
+    let mut output = writer(alloc, Failing::None);
+    let (status, told) = run_into(alloc, run.file.as_slice(), &run.options, &mut output);
+    let is_whole = output.text.as_slice() == run.text.as_bytes() && told.is_empty();
+    (status == run.status && is_whole).then_some(output.writes)
+}
+
+/// Whether a write that fails ends the run with a front of the text, and nothing is flushed.
+fn ends_at_write(alloc: Global, run: &Run, failing: Failing, place: u64) -> bool {
+    let text = run.text.as_bytes();
+    let mut output = writer(alloc, failing);
+    let (status, told) = run_into(alloc, run.file.as_slice(), &run.options, &mut output);
     let is_told = told.as_slice() == b"t1check: write failed\n".as_slice();
-    let is_front = report.starts_with(output.text.as_slice()) && output.text.len() < report.len();
+    let is_front = text.starts_with(output.text.as_slice()) && output.text.len() < text.len();
     let is_last = output.writes == place && output.flushes == 0;
     status == Status::Failed && is_told && is_front && is_last
 }
 
-/// Each write of a line fails in turn: what was written before it went out, and nothing is flushed.
+/// Each write of a run fails in turn, with an error and by taking no byte.
+fn assert_failed_writes(rt: &impl Abort, alloc: Global, run: &Run, writes: u64) {
+    for place in 1..writes.saturating_add(1) {
+        for failing in [Failing::Write(place), Failing::TakesNone(place)] {
+            assert!(rt;
+                ends_at_write(alloc, run, failing, place),
+                "{failing:?} for {:?}",
+                run.text
+            );
+        }
+    }
+}
+
+/// Each write fails in turn: what was written before it went out.
 #[test]
 fn a_write_that_fails_once_ends_the_run(rt: HostRuntime) -> Result<(), Fail> {
-    let file = ended_by(rt.alloc(), b"")?;
-    for place in 1..12u64 {
-        assert!(rt;
-            ends_at_write(rt.alloc(), file.as_slice(), place),
-            "at {place}"
-        );
+    let runs = runs(rt.alloc())?;
+    for run in &runs {
+        let writes = count_writes(rt.alloc(), run).ok_or("the whole text")?;
+        assert_failed_writes(&rt, rt.alloc(), run, writes);
     }
     Ok(())
 }
 
-/// Whether the whole report is written and flushed once, and a flush that fails is told.
-fn is_flushed_once(alloc: Global, file: &[u8], place: u64) -> bool {
-    let mut output = writer(alloc, 0, place);
-    let (status, told) = run_into(alloc, file, &mut output);
-    let fails = place == 1;
-    let is_whole = output.text.as_slice() == NO_END_REPORT.as_bytes();
-    let is_told = (status == Status::Failed) == fails && told.is_empty() != fails;
-    is_told && is_whole && output.flushes == 1
+/// Whether the whole text is written and flushed once, and a first flush that fails is told.
+fn is_flushed_once(alloc: Global, run: &Run, place: u64) -> bool {
+    let mut output = writer(alloc, Failing::Flush(place));
+    let (status, told) = run_into(alloc, run.file.as_slice(), &run.options, &mut output);
+    let is_whole = output.text.as_slice() == run.text.as_bytes();
+    let is_answered = if place == 1 {
+        status == Status::Failed && told.as_slice() == b"t1check: write failed\n".as_slice()
+    } else {
+        status == run.status && told.is_empty()
+    };
+    is_answered && is_whole && output.flushes == 1
 }
 
 /// The flush reaches the writer, once; where it fails the whole text went out, and that is told.
 #[test]
-fn a_report_is_flushed_once(rt: HostRuntime) -> Result<(), Fail> {
-    let file = ended_by(rt.alloc(), b"")?;
-    for place in 0..3u64 {
-        assert!(rt;
-            is_flushed_once(rt.alloc(), file.as_slice(), place),
-            "at {place}"
-        );
+fn a_text_is_flushed_once(rt: HostRuntime) -> Result<(), Fail> {
+    let runs = runs(rt.alloc())?;
+    for run in &runs {
+        for place in 0..3u64 {
+            assert!(rt;
+                is_flushed_once(rt.alloc(), run, place),
+                "at {place} for {:?}",
+                run.text
+            );
+        }
     }
     Ok(())
 }
@@ -180,8 +235,8 @@ fn a_report_is_flushed_once(rt: HostRuntime) -> Result<(), Fail> {
 /// A refusal leaves the output alone; standard error isn't flushed, as nothing of it waits.
 #[test]
 fn a_refusal_flushes_nothing(rt: HostRuntime) {
-    let mut output = writer(rt.alloc(), 0, 0);
-    let (status, _told) = run_into(rt.alloc(), b"", &mut output);
+    let mut output = writer(rt.alloc(), Failing::None);
+    let (status, _told) = run_into(rt.alloc(), b"", &ALL, &mut output);
     assert_eq!(rt; status, Status::Refused);
     assert_eq!(rt; (output.writes, output.flushes), (0, 0));
 }
