@@ -25,7 +25,8 @@ key_within limit font unit step n first is =
       | inr past ↦ absurd (true≢false (sym is ∙ ap (λ (u : ℕ). is_broken limit font u step n) first ∙ past_keys limit font step n past))
     ]
 
-in_font : (font : FontValue) (fault : FaultValue) → IsViolationOf (IsViolated font) (path_at font) fault → IsInFont font fault
+-- A violation stands in its font.
+pub in_font : (font : FontValue) (fault : FaultValue) → IsViolationOf (IsViolated font) (path_at font) fault → IsInFont font fault
 in_font font fault is = record {
   unit = unit_within step_limit font fault.unit fault.step (number_of fault.rule) is.violated;
   key = λ first. key_within step_limit font fault.unit fault.step (number_of fault.rule) first is.violated;

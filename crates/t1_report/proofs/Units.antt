@@ -12,7 +12,7 @@ use Rattle.t1_report.specs.declared.walk.font_places.FontPlaces.{FontPlaces}
 use Rattle.t1_report.specs.declared.walk.search.Part.{Part}
 use Rattle.t1_report.specs.declared.walk.search.Part.TheVariants.{Font, Glyph, Over}
 use Rattle.t1_report.specs.declared.walk.search.Search.{Search}
-use Rattle.t1_report.specs.Searching.{HasNoneFrom, IsFirstPlace, IsFrom, IsGlyphBegun, IsPart, IsSearch, is_over, step_of_part}
+use Rattle.t1_report.specs.Searching.{HasNoneFrom, IsFirstPlace, IsFrom, IsGlyphBegun, IsPart, IsSearch, is_over, step_of_part, turns_in}
 use Rattle.t1_report.specs.Walks.{turns_of_glyph, turns_of_unit, turns_of, turns_before}
 use Rattle.t1_report.proofs.Broken.{at_no_step, past_glyphs}
 
@@ -44,6 +44,21 @@ few_over most font from (suc n) few =
 -- At most 100,001 a unit.
 pub few_before : (font : FontValue) (from unit : ℕ) → turns_before font from unit ≤ (step_limit + 1) * (unit - from)
 few_before font from unit = few_over (step_limit + 1) font from (unit - from) (few_in_unit font)
+
+-- None for the font, and at most 100,001 a glyph.
+few_from_font : (font : FontValue) (n : ℕ) → turns_of font 0 (suc n) ≤ (step_limit + 1) * n
+unfolding turns_of
+few_from_font font zero = omega arith
+few_from_font font (suc n) =
+    let so_far = few_from_font font n in
+    let next = few_in_unit font (0 + suc n) in
+    omega (arith, so_far, next)
+
+few_to_glyph : (font : FontValue) (from n : ℕ) → turns_before font from (suc n) ≤ (step_limit + 1) * n
+few_to_glyph font zero n =
+    let all : suc n ≡ suc n - 0 = omega arith in
+    subst (λ m. turns_of font 0 m ≤ (step_limit + 1) * n) all (few_from_font font n)
+few_to_glyph font (suc from) n = let few = few_before font (suc from) (suc n) in omega (arith, few)
 
 -- Those of one unit more.
 pub turns_next : (font : FontValue) (from unit : ℕ) → from ≤ unit → turns_before font from (unit + 1) ≡ turns_before font from unit + turns_of_unit font unit
@@ -203,6 +218,24 @@ few_passed s is = by_part s.part is.part_is
     by_part Over at =
         let few = few_before s.font.now s.from (length s.font.now.glyphs + 1) in
         omega (arith, at.passed_are, few, at.few)
+
+-- No more than the steps up to the limit of all glyphs, and one for each.
+pub few_turns_in_all : (s : Search) → IsSearch s → s.passed + turns_in s.part ≤ 100001 * length s.font.now.glyphs
+few_turns_in_all s is = by_part s.part is.part_is
+  where
+    by_part : (part : Part) → IsPart s.font.now s.from s.unit s.passed part → s.passed + turns_in part ≤ 100001 * length s.font.now.glyphs
+    by_part (Font places) at = omega (arith, at.none_passed)
+    by_part (Glyph run) at =
+        let unit : s.unit ≡ suc run.machine.glyph = omega (arith, at.unit_is) in
+        let passed : s.passed ≤ (step_limit + 1) * run.machine.glyph =
+        subst (λ n. n ≤ (step_limit + 1) * run.machine.glyph) (sym (at.passed_are ∙ ap (turns_before s.font.now s.from) unit)) (few_to_glyph s.font.now s.from run.machine.glyph) in
+        let there : run.machine.glyph < length s.font.now.glyphs = subst (λ (font : FontValue). run.machine.glyph < length font.glyphs) at.font_is at.runs.there in
+        omega (arith, passed, at.runs.counted, few_turns run.machine.font run.machine.glyph, there)
+    by_part Over at =
+        let last : length s.font.now.glyphs + 1 ≡ suc (length s.font.now.glyphs) = omega arith in
+        let passed : s.passed ≤ (step_limit + 1) * length s.font.now.glyphs =
+        subst (λ n. n ≤ (step_limit + 1) * length s.font.now.glyphs) (sym (at.passed_are ∙ ap (turns_before s.font.now s.from) last)) (few_to_glyph s.font.now s.from (length s.font.now.glyphs)) in
+        omega (arith, passed)
 
 pub over_past : (font : FontValue) (from unit passed : ℕ) (part : Part) → IsPart font from unit passed part → is_over part ≡ true → length font.glyphs < unit
 over_past font from unit passed (Font places) is over = absurd (true≢false (sym over))

@@ -96,9 +96,10 @@ impl<'a> Walk<'a> {
         self.course.mark()
     }
 
-    /// How often it has asked a machine for a step.
+    /// How often it has asked a machine for a step: never more often than 100,001 times a glyph.
     pub fn turns(&self) -> u64
         ensures turns { result ≡ self.now.turns }
+        ensures few { result ≤ 100001 * length self.now.font.glyphs }
     {
         self.course.turns()
     }

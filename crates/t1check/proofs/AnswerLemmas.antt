@@ -1,14 +1,18 @@
 -- What the program answers to the bytes that a source gave until its end.
-use Rattle.std.proofs.Common.{codes, ◌≡◌, ℕ, ◌<◌, ◌≤◌, nat_lt, Bool, false, true, List, ◌++◌, Option, None, Some, Result, Err, inl, inr, length, subst, ap, ◌∙◌, refl, arith, append-nil, length-append}
+use Rattle.std.proofs.Common.{option_map, string_bytes, codes, ◌≡◌, ℕ, ◌<◌, ◌≤◌, nat_lt, Bool, false, true, List, ◌++◌, Option, None, Some, Result, Ok, Err, inl, inr, length, subst, sym, ap, ◌∙◌, refl, arith, append-nil, length-append}
 use Rattle.std.proofs.lemmas.Bool.Decides.{nat_tests}
 use Rattle.std.specs.Io.KnownBytes.{Consumes, IsAtEnd}
 use Rattle.t1_font.specs.Fonts.{FontValue}
 use Rattle.t1_io.specs.Devices.{SinkState}
+use Rattle.t1_report.specs.Faults.{FaultValue}
+use Rattle.t1_report.proofs.OneReport.{no_other_report}
 use Rattle.t1check.specs.declared.asked.Options.{Options}
 use Rattle.t1check.specs.declared.status.Status.{Status}
 use Rattle.t1check.specs.declared.status.Status.TheVariants.{Failed}
 use Rattle.t1check.specs.declared.unread.Unread.{Unread}
 use Rattle.t1check.specs.declared.unread.Unread.TheVariants.{TooLarge}
+use Rattle.t1check.specs.Answers.{Answer, IsAnswerTo, IsShown, selection, reported}
+use Rattle.t1check.specs.Laws.Answers.{HasNoOtherAnswer}
 use Rattle.t1check.specs.Ends.{AreRead, Checks, Ends, Tells, unread_status}
 use Rattle.t1check.specs.Ends.Ends.{no_memory, refused}
 use Rattle.t1check.specs.FontFiles.{font_in, font_of}
@@ -51,3 +55,16 @@ unread_ends options left failed out out' told told' errors' reason read result a
     no_memory kept same (subst (λ (s : SinkState). Tells (codes "t1check: out of memory\n") Failed s errors' result) told_same as_memory)
 unread_ends options left failed out out' told told' errors' reason read result are kept (inr is, same, told_same) tells =
     refused reason (subst (AreRead left) is are) kept same (subst (λ (s : SinkState). Tells (told_of reason) (unread_status reason) s errors' result) told_same tells)
+
+-- the options and the bytes decide the answer
+one_shown : (options : Options) (font : FontValue) (name : Option (List ℕ)) (a b : Answer) → IsShown options font name a → IsShown options font name b → a ≡ b
+one_shown options font None a b (xs, (p, e)) (ys, (q, f)) =
+    e ∙ ap (λ (zs : List FaultValue). reported font (selection options zs)) (no_other_report font xs ys p q) ∙ sym f
+one_shown options font (Some name) a b p q = p ∙ sym q
+
+one_by_read : (options : Options) (read : Result FontValue Unread) (a b : Answer) → IsAnswerTo options read a → IsAnswerTo options read b → a ≡ b
+one_by_read options (Ok font) a b p q = one_shown options font (option_map string_bytes options.trace) a b p q
+one_by_read options (Err unread) a b p q = p ∙ sym q
+
+pub one_answer : HasNoOtherAnswer
+one_answer options input a b p q = one_by_read options (font_of input) a b p q

@@ -1,5 +1,5 @@
 -- What the steps of reading a font's file say together.
-use Rattle.std.proofs.Common.{◌≡◌, ◌⊎◌, inl, inr, ℕ, List, drop, Result, Ok, Err, refl, subst, sym, ap, ◌∙◌}
+use Rattle.std.proofs.Common.{◌≡◌, ◌≤◌, ◌⊎◌, inl, inr, ℕ, List, length, drop, Result, Ok, Err, refl, subst, sym, ap, ◌∙◌}
 use Rattle.std.specs.Result.{IsErrAnd}
 use Rattle.t1_seal.specs.Eexec.{private_text_of}
 use Rattle.t1_seal.specs.Segments.{JoinedText, joined_of}
@@ -13,6 +13,7 @@ use Rattle.t1_font.specs.Texts.{ClearValue, clear_value_of, clear_read, font_rea
 use Rattle.t1_font.specs.Turns.{TextRead}
 use Rattle.t1_font.specs.declared.refusal.Refusal.{Refusal}
 use Rattle.t1_font.specs.declared.refusal.Refusal.TheVariants as refusal
+use Rattle.t1_font.proofs.LimitsKept.{fonts_within_limits}
 use Rattle.t1_io.specs.Devices.{SinkState}
 use Rattle.t1check.specs.declared.asked.Options.{Options}
 use Rattle.t1check.specs.declared.status.Status.{Status}
@@ -111,6 +112,10 @@ module _ (bytes : List ℕ) (joined : JoinedText) (clear : ClearValue) (opened :
       → ((m : Marks) (before : List Stated) → clear.font ≡ value_of m before → font_read m before text ≡ Ok font)
       → font_in bytes ≡ Ok font
   font_found text font is h = opened_next text is ∙ ap as_unread (h (marks_in joined) read.text.stated read.font)
+
+  pub few_glyphs : (text : List ℕ) (font : FontValue) → ((m : Marks) (before : List Stated) → clear.font ≡ value_of m before → font_read m before text ≡ Ok font)
+      → length font.glyphs ≤ 65535
+  few_glyphs text font h = (fonts_within_limits (marks_in joined) joined.bytes text read.text font read.is (h (marks_in joined) read.text.stated read.font)).glyphs
 
 -- A reason that is handed on, with nothing given or told.
 pub handed_on : (options : Options) (out out' errors errors' : SinkState) (r : Result Status Unread) (e : Unread) (there : Result FontValue Unread)

@@ -1,8 +1,8 @@
 pub mod AnswerLemmas
+pub mod ChosenLines
 pub mod CommandLemmas
 pub mod FontFileLemmas
 pub mod InputLemmas
-pub mod ReportLemmas
 pub mod RunLaws
 pub mod SingleFault
 pub mod TraceLemmas

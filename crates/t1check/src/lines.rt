@@ -1,56 +1,81 @@
-ghost use Rattle.std.specs.Prelude.{◌≡◌, drop};
-ghost use Rattle.std.specs.List.{All, flat_map};
+ghost use Rattle.std.specs.Prelude.{◌≡◌, ◌≤◌, ℕ, List, IfOk, drop, length, min, take};
+ghost use Rattle.t1_font.specs.Fonts.{FontValue};
 ghost use Rattle.t1_io.specs.Devices.{Delivers, Writes};
-ghost use Rattle.t1_report.specs.Faults.{fault_value};
-ghost use Rattle.t1_report.specs.Lines.{IsInFont};
-ghost use Rattle.t1check.specs.Answers.{at_most};
-ghost use Rattle.t1check.specs.Lines.{fault_line};
+ghost use Rattle.t1_report.specs.Faults.{FaultValue};
+ghost use Rattle.t1_report.specs.Reports.{IsReport};
+ghost use Rattle.t1_report.specs.Walks.{IsSoFar};
+ghost use Rattle.t1_rules.specs.Components.{components_of};
+ghost use Rattle.t1check.specs.Answers.{selection, status_of};
+ghost use Rattle.t1check.specs.Lines.{lines_of};
 
+use crate::asked::Options;
+use crate::status::Status;
+use t1_char::STEP_LIMIT;
 use t1_font::Font;
 use t1_io::{Broken, Sink};
-use t1_report::{Fault, write_fault};
+use t1_report::{Walk, write_fault};
+use t1_rules::Sidebearings;
 
-/// Writes the lines of faults, one after another. After a failure a front of them went out.
-pub fn write_faults<W: Sink>(sink: &mut W, font: &Font<'_>, faults: &[Fault]) -> Result<(), Broken>
-    requires { All (λ fault. IsInFont font.now (fault_value fault)) faults.now }
-    ensures { Writes (W.state sink.old) (W.state sink.new)
-        (flat_map (fault_line font.now) faults.now) result }
+/// Writes the lines of a font's report that the options choose, each before the next fault is sought, and
+/// flushes them; tells whether there was one. After a failure a front of them went out.
+pub fn write_report<'a, W: Sink>(
+    sink: &mut W,
+    font: &'a Font<'a>,
+    sidebearings: &'a Sidebearings,
+    options: &Options,
+) -> Result<Status, Broken>
+    requires few { length font.now.glyphs ≤ 65535 }
+    requires sidebearings { sidebearings.now ≡ components_of STEP_LIMIT font.now }
+    ensures delivers { (faults : List FaultValue) → IsReport font.now faults →
+        Delivers (W.state sink.old) (W.state sink.new)
+        (lines_of font.now (selection options.now faults)) result }
+    ensures status { (faults : List FaultValue) → IsReport font.now faults →
+        IfOk result (λ status. status ≡ status_of (selection options.now faults)) }
 {
-    for fault in faults {
-        write_fault(sink, font, fault)?;
-    }
-    Ok(())
+    let mut walk = Walk::begin(font, sidebearings);
+    pass(&mut walk, options.after);
+    let status = write_lines(sink, font, walk, options.max.unwrap_or(u64::MAX))?;
+    sink.flush()?;
+    Ok(status)
 }
 
-/// Writes the lines of faults, and flushes them.
-pub fn write_report<W: Sink>(sink: &mut W, font: &Font<'_>, faults: &[Fault]) -> Result<(), Broken>
-    requires { All (λ fault. IsInFont font.now (fault_value fault)) faults.now }
-    ensures { Delivers (W.state sink.old) (W.state sink.new)
-        (flat_map (fault_line font.now) faults.now) result }
+/// Goes past so many faults, or past all.
+fn pass(walk: &mut Walk<'_>, count: u64)
+    requires few { length walk.old.font.glyphs ≤ 65535 }
+    ensures font { walk.new.font ≡ walk.old.font }
+    ensures passed { (faults : List FaultValue) → IsReport walk.old.font faults →
+        IsSoFar faults 0 walk.old.mark → IsSoFar faults (min count (length faults)) walk.new.mark }
 {
-    write_faults(sink, font, faults)?;
-    sink.flush()
-}
-
-/// A list without its first elements, `count` of them.
-pub fn without_first<T>(items: &[T], count: u64) -> &[T]
-    ensures { result.now ≡ drop count items.now }
-{
-    match items.get(count as usize..) {
-        Some(rest) => rest,
-        None => &[],
+    for _fault in 0..count {
+        let Some(_passed) = walk.next() else {
+            return;
+        };
     }
 }
 
-/// At most so many elements of a list, or all of them.
-pub fn at_most<T>(items: &[T], max: Option<u64>) -> &[T]
-    ensures { result.now ≡ at_most max items.now }
+/// Writes the lines of the faults behind the mark of a walk, at most so many of them.
+fn write_lines<W: Sink>(
+    sink: &mut W,
+    font: &Font<'_>,
+    mut walk: Walk<'_>,
+    most: u64,
+) -> Result<Status, Broken>
+    requires font { walk.font ≡ font.now }
+    requires few { length font.now.glyphs ≤ 65535 }
+    ensures writes { (faults : List FaultValue) (k : ℕ) → IsReport font.now faults →
+        IsSoFar faults k walk.entry.mark → Writes (W.state sink.old) (W.state sink.new)
+        (lines_of font.now (take most (drop k faults))) result }
+    ensures status { (faults : List FaultValue) (k : ℕ) → IsReport font.now faults →
+        IsSoFar faults k walk.entry.mark →
+        IfOk result (λ status. status ≡ status_of (take most (drop k faults))) }
 {
-    let Some(max) = max else {
-        return items;
-    };
-    match items.get(..max as usize) {
-        Some(front) => front,
-        None => items,
+    let mut status = Status::Clean;
+    for _line in 0..most {
+        let Some(fault) = walk.next() else {
+            break;
+        };
+        write_fault(sink, font, &fault)?;
+        status = Status::Faults;
     }
+    Ok(status)
 }

@@ -1,27 +1,27 @@
-ghost use Rattle.std.specs.Prelude.{◌≡◌, ◌≤◌, ◌<◌, ◌+◌, false, length};
-ghost use Rattle.std.specs.List.{All, flat_map};
-ghost use Rattle.t1_report.specs.Faults.{fault_value};
-ghost use Rattle.t1_report.specs.Lines.{IsInFont};
-ghost use Rattle.t1check.specs.Answers.{status_of};
+ghost use Rattle.std.specs.Prelude.{◌≡◌, ◌≤◌, ◌<◌, ◌+◌, List, false, length};
+ghost use Rattle.t1_report.specs.Faults.{FaultValue};
+ghost use Rattle.t1_report.specs.Reports.{IsReport};
+ghost use Rattle.t1_rules.specs.Components.{components_of};
+ghost use Rattle.t1check.specs.Answers.{selection, status_of};
 ghost use Rattle.t1check.specs.Ends.{Checks, Ends, Gives, ShowsOrNot, Tells, unread_status};
 ghost use Rattle.t1check.specs.FontFiles.{font_in};
 ghost use Rattle.t1check.specs.Input.{TakesAtMost};
-ghost use Rattle.t1check.specs.Lines.{fault_line};
+ghost use Rattle.t1check.specs.Lines.{lines_of};
 ghost use Rattle.t1check.specs.Refusals.{told_of};
 ghost use Rattle.t1check.specs.Traces.{trace_of};
 
 use crate::asked::Options;
-use crate::lines::{at_most, without_first, write_report};
+use crate::lines::write_report;
 use crate::reading::{Input, read_all};
 use crate::status::Status;
 use crate::telling::{READ_FAILED, WRITE_FAILED, tell, tell_no_glyph};
 use crate::tracing::write_trace;
 use crate::unread::Unread;
 use std::alloc::{AllocError, Global};
+use t1_char::STEP_LIMIT;
 use t1_font::{Font, read_clear, read_font};
 use t1_io::{Sink, Source};
-use t1_report::{Fault, report};
-use t1_rules::glyph_named;
+use t1_rules::{Sidebearings, glyph_named};
 use t1_seal::{join, open_eexec};
 
 /// Reads a font to its end and writes its report.
@@ -76,13 +76,13 @@ fn show<W: Sink, E: Sink>(
     out: &mut W,
     errors: &mut E,
 ) -> Result<Status, AllocError>
+    requires { length font.now.glyphs ≤ 65535 }
     ensures { ShowsOrNot options.now font.now
         (W.state out.old) (W.state out.new) (E.state errors.old) (E.state errors.new) result }
 {
     let Some(name) = &options.trace else {
-        let faults = report(alloc, font)?;
-        let selection = at_most(without_first(faults.as_slice(), options.after), options.max);
-        return Ok(give_report(font, selection, out, errors));
+        let sidebearings = Sidebearings::prepare(alloc, font)?;
+        return Ok(give_report(&*font, &sidebearings, options, out, errors));
     };
     let Some(glyph) = glyph_named(font, name.as_bytes()) else {
         return Ok(tell_no_glyph(name.as_str(), errors));
@@ -101,31 +101,23 @@ fn tell_unread<E: Sink>(unread: Unread, errors: &mut E) -> Status
     tell(errors, unread.told(), status)
 }
 
-/// Writes the lines of faults and flushes them.
-fn give_report<W: Sink, E: Sink>(
-    font: &Font<'_>,
-    faults: &[Fault],
+/// Writes the lines of a font's report that the options choose.
+fn give_report<'a, W: Sink, E: Sink>(
+    font: &'a Font<'a>,
+    sidebearings: &'a Sidebearings,
+    options: &Options,
     out: &mut W,
     errors: &mut E,
 ) -> Status
-    requires { All (λ fault. IsInFont font.now (fault_value fault)) faults.now }
-    ensures { Gives (flat_map (fault_line font.now) faults.now) (status_of faults.now)
+    requires few { length font.now.glyphs ≤ 65535 }
+    requires sidebearings { sidebearings.now ≡ components_of STEP_LIMIT font.now }
+    ensures { (faults : List FaultValue) → IsReport font.now faults →
+        Gives (lines_of font.now (selection options.now faults)) (status_of (selection options.now faults))
         (W.state out.old) (W.state out.new) (E.state errors.old) (E.state errors.new) result }
 {
-    match write_report(out, font, faults) {
-        Ok(()) => status_of(faults),
+    match write_report(out, font, sidebearings, options) {
+        Ok(status) => status,
         Err(_) => tell(errors, WRITE_FAILED, Status::Failed),
-    }
-}
-
-/// Whether lines were written.
-fn status_of(faults: &[Fault]) -> Status
-    ensures { result ≡ status_of faults.now }
-{
-    if faults.is_empty() {
-        Status::Clean
-    } else {
-        Status::Faults
     }
 }
 

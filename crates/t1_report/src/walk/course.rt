@@ -1,6 +1,6 @@
 //! How a walk goes on from its mark: the rules of the place in hand, and then the next place.
 
-ghost use Rattle.std.specs.Prelude.{◌≡◌, MatchOption};
+ghost use Rattle.std.specs.Prelude.{◌≡◌, ◌≤◌, ◌*◌, MatchOption, length};
 ghost use Rattle.t1_report.specs.Courses.{IsCourse, IsFloor, mark_after, turns_after, turns_so_far};
 ghost use Rattle.t1_report.specs.Faults.{fault_value};
 ghost use Rattle.t1_report.specs.Reports.{step_limit};
@@ -55,7 +55,8 @@ impl<'a> Course<'a> {
     /// How often machines were asked.
     pub(crate) fn turns(&self) -> u64
         requires { IsCourse self.now }
-        ensures { result ≡ turns_so_far self.now.search }
+        ensures turns { result ≡ turns_so_far self.now.search }
+        ensures few { result ≤ 100001 * length self.now.search.font.now.glyphs }
     {
         self.search.turns()
     }

@@ -1,6 +1,6 @@
 //! The places where rules are broken, one after another: those of the font, then those of each glyph.
 
-ghost use Rattle.std.specs.Prelude.{◌≡◌, ◌≤◌, ◌<◌, ◌+◌, false, MatchOption, length};
+ghost use Rattle.std.specs.Prelude.{◌≡◌, ◌≤◌, ◌<◌, ◌+◌, ◌*◌, false, MatchOption, length};
 ghost use Rattle.t1_report.specs.Reports.{IsViolated, Place, step_limit};
 ghost use Rattle.t1_report.specs.Searches.{IsFirst, IsQuietFrom};
 ghost use Rattle.t1_report.specs.Searching.{HasNoneFrom, IsFirstPlace, IsGlyphBegun, IsSearch, is_over, step_of_part, turns_in};
@@ -90,7 +90,8 @@ impl<'a> Search<'a> {
     /// How often machines were asked, in the units before and in this one.
     pub(crate) fn turns(&self) -> u64
         requires { IsSearch self.now }
-        ensures { result ≡ self.now.passed + turns_in self.now.part }
+        ensures turns { result ≡ self.now.passed + turns_in self.now.part }
+        ensures few { result ≤ 100001 * length self.now.font.now.glyphs }
     {
         self.passed + self.turns_in_part()
     }

@@ -1,6 +1,6 @@
 use Rattle.std.proofs.Common.{inl, refl}
 use Rattle.t1_seal.specs.Joined.{joined_text}
-use Rattle.t1check.proofs.FontFileLemmas.{clear_fails, font_found, handed_on, joined_fails, private_fails, section_fails}
+use Rattle.t1check.proofs.FontFileLemmas.{clear_fails, font_found, few_glyphs, handed_on, joined_fails, private_fails, section_fails}
 use Rattle.t1check.proofs.running.check.Goals as goal
 
 pub returns-in_err-joined : goal.returns-in_err-joined
@@ -24,6 +24,12 @@ returns-in_err-font g c =
     (record { joined_is = c.in_ok-joined.ensures; clear_is = c.in_ok-clear.ensures.gives; behind = c.in_ok-clear.ensures.behind })
     c.in_ok-private.private.items _ (rw (c.split_at.ensures.back, c.as_slice.ensures.value, c.after.ensures) at c.in_ok-private.ensures)
     (rw c.as_slice-2.ensures.value at c.in_err-font.ensures.stated))
+
+pub show-requires : goal.show-requires
+show-requires g c =
+    few_glyphs _ (joined_text c.in_ok-joined.joined) c.in_ok-clear.clear
+    (record { joined_is = c.in_ok-joined.ensures; clear_is = c.in_ok-clear.ensures.gives; behind = c.in_ok-clear.ensures.behind })
+    c.in_ok-private.private.items c.in_ok-font.font (rw c.as_slice-2.ensures.value at c.in_ok-font.ensures.stated)
 
 pub returns-in_err-show : goal.returns-in_err-show
 returns-in_err-show g c =

@@ -1,0 +1,157 @@
+-- The lines of the faults that are chosen of a report, one after another.
+use Rattle.std.proofs.Common.{◌≡◌, ℕ, suc, ◌+◌, ◌-◌, ◌^◌, ◌<◌, ◌≤◌, min, List, [], ◌∷◌, Option, None, Some, Result, Ok, Err, inl, inr, length, take, drop, get_or, slice_get, refl, sym, ap, subst, ◌∙◌, arith}
+use Rattle.std.proofs.lemmas.Bool.{cases_lt}
+use Rattle.std.proofs.lemmas.List.{drop_all, get_or-drop, get_or-take, length-drop, length-take, take_all}
+use Rattle.std.proofs.lemmas.Option.{get_or_from_slice_get, slice_get_within}
+use Rattle.std.specs.Option.{unwrap_or}
+use Rattle.t1_font.specs.Fonts.{FontValue}
+use Rattle.std.specs.Result.{IsErrAnd}
+use Rattle.t1_io.specs.Devices.{CallFailed, Delivered, Delivers, Flushed, PutFailed, SinkState, Wrote}
+use Rattle.t1_io.proofs.SinkLemmas.{Delivers-flush, PutFailed-part, Wrote-part}
+use Rattle.t1_report.specs.Faults.{FaultValue}
+use Rattle.t1_report.specs.Lines.{line_of}
+use Rattle.t1_report.specs.Reports.{IsReport}
+use Rattle.t1_report.specs.Walks.{HasNoneLater, IsNext, IsSoFar, first_mark, mark_of}
+use Rattle.t1_report.specs.WalkViews.{WalkView}
+use Rattle.t1_report.specs.declared.marks.Mark.{Mark}
+use Rattle.t1_report.proofs.FewFaults.{few_faults}
+use Rattle.t1_report.proofs.SoFar.{next_in_font, none_left_in_font, one_more_in_font, so_far_start}
+use Rattle.t1check.specs.declared.asked.Options.{Options}
+use Rattle.t1check.specs.declared.status.Status.{Status}
+use Rattle.t1check.specs.declared.status.Status.TheVariants.{Faults}
+use Rattle.t1check.specs.Answers.{at_most, selection, status_of}
+use Rattle.t1check.specs.Lines.{lines_of}
+
+-- Of the faults from k on at most so many.
+abbrev pub chosen : List FaultValue → ℕ → ℕ → List FaultValue
+chosen faults k most = take most (drop k faults)
+
+-- Of these the lines of the first i were written, and the mark is that of the last.
+pub record HaveGone (font : FontValue) (faults : List FaultValue) (k most i : ℕ) (mark : Mark) (old new : SinkState) (status : Status) : Type 0 where
+  pub so_far : IsSoFar faults (k + i) mark
+  pub wrote : Wrote old new (lines_of font (take i (chosen faults k most)))
+  pub status_is : status ≡ status_of (take i (chosen faults k most))
+
+status_some : {A : Type 0} (xs : List A) (i : ℕ) → i < length xs → Faults ≡ status_of (take (suc i) xs)
+status_some [] i less = absurd (omega (arith, less))
+status_some (x ∷ xs) i less = refl
+
+chosen_within : (faults : List FaultValue) (k most i : ℕ) (fault : FaultValue) → i < most → slice_get faults (k + i) ≡ Some fault → i < length (chosen faults k most)
+chosen_within faults k most i fault less is =
+    let within = slice_get_within faults (k + i) fault is in
+    omega (arith, less, within, length-take most (drop k faults), length-drop k faults)
+
+chosen_at : (faults : List FaultValue) (k most i : ℕ) (fault : FaultValue) → i < most → slice_get faults (k + i) ≡ Some fault → get_or (chosen faults k most) i fault ≡ fault
+chosen_at faults k most i fault less is =
+    get_or-take most (drop k faults) i fault less ∙ get_or-drop k faults i fault ∙ get_or_from_slice_get faults (k + i) fault fault is
+
+pub none_gone : (font : FontValue) (faults : List FaultValue) (k most : ℕ) (mark : Mark) (sink : SinkState) (status : Status) → IsSoFar faults k mark
+    → Wrote sink sink [] → status ≡ status_of {A = FaultValue} [] → HaveGone font faults k most 0 mark sink sink status
+none_gone font faults k most mark sink status so_far wrote is =
+    let first : k ≡ k + 0 = omega arith in
+    record { so_far = subst (λ n. IsSoFar faults n mark) first so_far; wrote = wrote; status_is = is }
+
+pub one_gone : (font : FontValue) (faults : List FaultValue) (k most i : ℕ) (mark : Mark) (fault : FaultValue) (a b c : SinkState) (status : Status)
+    → length font.glyphs ≤ 65535 → i < most → IsReport font faults → IsNext font mark fault → HaveGone font faults k most i mark a b status → Wrote b c (line_of font fault)
+    → HaveGone font faults k most (i + 1) (mark_of fault) a c Faults
+one_gone font faults k most i mark fault a b c status few less report next gone more =
+    let is = (next_in_font font faults (k + i) mark fault few report gone.so_far next).1 in
+    let within = chosen_within faults k most i fault less is in
+    let on : (k + i) + 1 ≡ k + (i + 1) = omega arith in
+    let count : suc i ≡ i + 1 = omega arith in
+    record {
+      so_far = subst (λ n. IsSoFar faults n (mark_of fault)) on (one_more_in_font font faults (k + i) mark fault few report gone.so_far next);
+      wrote = Wrote-part (line_of font) (chosen faults k most) i fault a b c within gone.wrote
+          (subst (λ f. Wrote b c (line_of font f)) (sym (chosen_at faults k most i fault less is)) more);
+      status_is = subst (λ n. Faults ≡ status_of (take n (chosen faults k most))) count (status_some (chosen faults k most) i within);
+    }
+
+pub one_failed : (font : FontValue) (faults : List FaultValue) (k most i : ℕ) (mark : Mark) (fault : FaultValue) (a b c : SinkState) (status : Status)
+    → length font.glyphs ≤ 65535 → i < most → IsReport font faults → IsNext font mark fault → HaveGone font faults k most i mark a b status → PutFailed b c (line_of font fault)
+    → PutFailed a c (lines_of font (chosen faults k most))
+one_failed font faults k most i mark fault a b c status few less report next gone broke =
+    let is = (next_in_font font faults (k + i) mark fault few report gone.so_far next).1 in
+    PutFailed-part (line_of font) (chosen faults k most) i fault a b c (chosen_within faults k most i fault less is) gone.wrote
+    (subst (λ f. PutFailed b c (line_of font f)) (sym (chosen_at faults k most i fault less is)) broke)
+
+-- all of them
+whole : (font : FontValue) (faults : List FaultValue) (k most i : ℕ) (mark : Mark) (old new : SinkState) (status : Status) → HaveGone font faults k most i mark old new status
+    → length (chosen faults k most) ≤ i → Wrote old new (lines_of font (chosen faults k most)) × (status ≡ status_of (chosen faults k most))
+whole font faults k most i mark old new status gone all =
+    let same = take_all i (chosen faults k most) all in
+    (subst (λ fs. Wrote old new (lines_of font fs)) same gone.wrote, subst (λ (fs : List FaultValue). status ≡ status_of fs) same gone.status_is)
+
+pub most_gone : (font : FontValue) (faults : List FaultValue) (k most i : ℕ) (mark : Mark) (old new : SinkState) (status : Status) → HaveGone font faults k most i mark old new status
+    → most ≤ i → Wrote old new (lines_of font (chosen faults k most)) × (status ≡ status_of (chosen faults k most))
+most_gone font faults k most i mark old new status gone all =
+    whole font faults k most i mark old new status gone (omega (arith, all, length-take most (drop k faults)))
+
+pub all_gone : (font : FontValue) (faults : List FaultValue) (k most i : ℕ) (mark : Mark) (old new : SinkState) (status : Status) → IsReport font faults → HasNoneLater font mark
+    → HaveGone font faults k most i mark old new status → Wrote old new (lines_of font (chosen faults k most)) × (status ≡ status_of (chosen faults k most))
+all_gone font faults k most i mark old new status report none gone =
+    let last = none_left_in_font font faults (k + i) mark report gone.so_far none in
+    whole font faults k most i mark old new status gone (omega (arith, last, length-take most (drop k faults), length-drop k faults))
+
+-- ---- what the options choose
+
+drop_min : {A : Type 0} (n : ℕ) (xs : List A) → drop (min n (length xs)) xs ≡ drop n xs
+drop_min n xs =
+    elim (cases_lt (length xs) n) [
+      | inl less ↦
+          let same : min n (length xs) ≡ length xs = omega (arith, less) in
+          ap (λ m. drop m xs) same ∙ drop_all (length xs) xs (omega arith) ∙ sym (drop_all n xs (omega (arith, less)))
+      | inr within ↦
+          let same : min n (length xs) ≡ n = omega (arith, within) in
+          ap (λ m. drop m xs) same
+    ]
+
+most_are : (max : Option ℕ) (faults : List FaultValue) → length faults < 2 ^ 64 → take (unwrap_or max (2 ^ 64 - 1)) faults ≡ at_most max faults
+most_are None faults few = take_all (2 ^ 64 - 1) faults (omega (arith, few))
+most_are (Some max) faults few = refl
+
+chosen_are : (font : FontValue) (faults : List FaultValue) (options : Options) → length font.glyphs ≤ 65535 → IsReport font faults
+    → chosen faults (min options.after (length faults)) (unwrap_or options.max (2 ^ 64 - 1)) ≡ selection options faults
+chosen_are font faults options few report =
+    let count = few_faults font faults few report in
+    ap (take (unwrap_or options.max (2 ^ 64 - 1))) (drop_min options.after faults)
+    ∙ most_are options.max (drop options.after faults) (omega (arith, count, length-drop options.after faults))
+
+-- ---- faults that are passed
+
+pub one_passed : (font : FontValue) (faults : List FaultValue) (i : ℕ) (mark : Mark) (fault : FaultValue) → length font.glyphs ≤ 65535 → IsReport font faults
+    → IsNext font mark fault → IsSoFar faults i mark → IsSoFar faults (i + 1) (mark_of fault)
+one_passed font faults i mark fault few report next so_far = one_more_in_font font faults i mark fault few report so_far next
+
+pub count_passed : (faults : List FaultValue) (count i : ℕ) (mark : Mark) → count ≡ i → IsSoFar faults i mark → IsSoFar faults (min count (length faults)) mark
+count_passed faults count i mark is so_far =
+    let within = so_far.given in
+    let same : i ≡ min count (length faults) = omega (arith, is, within) in
+    subst (λ n. IsSoFar faults n mark) same so_far
+
+pub all_passed : (font : FontValue) (faults : List FaultValue) (count i : ℕ) (mark : Mark) → IsReport font faults → HasNoneLater font mark → i < count → IsSoFar faults i mark
+    → IsSoFar faults (min count (length faults)) mark
+all_passed font faults count i mark report none less so_far =
+    let last = none_left_in_font font faults i mark report so_far none in
+    let same : i ≡ min count (length faults) = omega (arith, last, less) in
+    subst (λ n. IsSoFar faults n mark) same so_far
+
+-- from before the first fault on
+pub first_passed : (font : FontValue) (begun : WalkView) (count : ℕ) (mark : Mark) → begun.font ≡ font → begun.mark ≡ first_mark
+    → ((faults : List FaultValue) → IsReport begun.font faults → IsSoFar faults 0 begun.mark → IsSoFar faults (min count (length faults)) mark)
+    → (faults : List FaultValue) → IsReport font faults → IsSoFar faults (min count (length faults)) mark
+first_passed font begun count mark of_font first passed faults report =
+    passed faults (subst (λ (f : FontValue). IsReport f faults) (sym of_font) report) (subst (λ (m : Mark). IsSoFar faults 0 m) (sym first) (so_far_start faults))
+
+pub chosen_by : (font : FontValue) (faults : List FaultValue) (options : Options) (most : ℕ) → most ≡ unwrap_or options.max (2 ^ 64 - 1) → length font.glyphs ≤ 65535
+    → IsReport font faults → chosen faults (min options.after (length faults)) most ≡ selection options faults
+chosen_by font faults options most is few report = ap (λ n. take n (drop (min options.after (length faults)) faults)) is ∙ chosen_are font faults options few report
+
+-- ---- the flush behind the lines
+
+pub lines_delivered : (a b c : SinkState) (text : List ℕ) → Wrote a b text → Flushed b c → Delivered a c text
+lines_delivered a b c text before flushed = Delivers-flush {X = ℕ} {E = ℕ} a b c text (Ok 0) before flushed
+
+pub lines_unflushed : {X E : Type 0} (a b c : SinkState) (text : List ℕ) (r : Result X E) (P : E → Type 0) → IsErrAnd r P → Wrote a b text
+    → CallFailed b c × (c.failed_puts ≡ b.failed_puts) → Delivers a c text r
+lines_unflushed a b c text (Ok x) P never before failed = absurd never
+lines_unflushed {X = X} {E = E} a b c text (Err e) P is before failed = Delivers-flush {X = X} {E = E} a b c text (Err e) before failed

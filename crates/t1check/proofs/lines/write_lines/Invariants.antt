@@ -1,0 +1,13 @@
+use Rattle.std.proofs.Common.{◌≡◌, ℕ, List}
+use Rattle.t1_report.specs.Faults.{FaultValue}
+use Rattle.t1_report.specs.Reports.{IsReport}
+use Rattle.t1_report.specs.Walks.{IsSoFar}
+use Rattle.t1check.proofs.ChosenLines.{HaveGone}
+use Rattle.t1check.proofs.lines.write_lines.Given as goal
+
+abbrev pub invariant-loop-line : goal.invariant-loop-line
+invariant-loop-line g l = record {
+  font : l.walk.font ≡ l.font;
+  gone : (faults : List FaultValue) (k : ℕ) → IsReport l.font faults → IsSoFar faults k l.fn.walk.mark
+      → HaveGone l.font faults k l.most l._line l.walk.mark (g.W.Sink.state l.fn.sink) (g.W.Sink.state l.sink) l.status;
+}
