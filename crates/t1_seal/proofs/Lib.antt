@@ -2,6 +2,7 @@ pub mod Rows
 pub mod SegmentFaults
 pub mod WrittenRows
 pub mod ReadRows
+pub mod CutRows
 pub mod States
 pub mod Deciphering
 pub mod Openings

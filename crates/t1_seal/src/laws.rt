@@ -3,7 +3,7 @@
 
 ghost use Rattle.t1_seal.specs.Laws.Cipher.{DeciphersTheEnciphered, StartsAtTheStart, StateRunsAlong};
 ghost use Rattle.t1_seal.specs.Laws.Eexec.{OpensBinary, OpensHexadecimal};
-ghost use Rattle.t1_seal.specs.Laws.Segments.{JoinedPfaIsWritten, JoinedPfbIsWritten, JoinsPfa, JoinsWrittenPfb, ReadRowsAreWritten, ReadsWrittenRows, RefusesByFault};
+ghost use Rattle.t1_seal.specs.Laws.Segments.{CutFilesTellOfLoss, JoinedPfaIsWritten, JoinedPfbIsWritten, JoinsPfa, JoinsWrittenPfb, ReadRowsAreWritten, ReadsWrittenRows, RefusesByFault};
 
 /// A file that isn't joined is no PFA or PFB file, has a bad header, or is cut short.
 pub fn segment_refusals()
@@ -23,6 +23,12 @@ pub fn font_files()
     ensures pfb_written { JoinedPfbIsWritten }
     ensures pfa_read { JoinsPfa }
     ensures pfa_written { JoinedPfaIsWritten }
+{}
+
+/// A PFB file with nothing behind its end segment that lost bytes at its end tells so: nothing is left, a
+/// segment is cut short, or it is joined without an end segment.
+pub fn cut_files_tell_of_loss()
+    ensures { CutFilesTellOfLoss }
 {}
 
 /// The state of the cipher is that of the standard's formula, a byte at a time.

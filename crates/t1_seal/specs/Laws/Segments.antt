@@ -1,9 +1,10 @@
 -- Laws of the segments' definition, in the words of Adobe Technical Note 5040, the IBM PC format: how a
 -- file is written as segments, and that it is read as it was written.
-use Rattle.std.specs.Prelude.{◌≡◌, ℕ, ◌<◌, ◌^◌, ◌==◌, ◌++◌, not, true, false, List, [], ◌∷◌, length, Ok, Err}
+use Rattle.std.specs.Prelude.{◌≡◌, ℕ, ◌<◌, ◌^◌, ◌==◌, ◌++◌, not, true, false, List, [], ◌∷◌, length, Result, Ok, Err}
 use Rattle.std.specs.Int.{to_le_bytes, w32}
 use Rattle.std.specs.List.{All, flat_map}
 use Rattle.t1_seal.specs.declared.errors.SealError.{SealError}
+use Rattle.t1_seal.specs.declared.errors.SealError.TheVariants.{CutShort, NotAFont}
 use Rattle.t1_seal.specs.SealError.{IsSegmentFault}
 use Rattle.t1_seal.specs.Segments.{Row, row_of, JoinedText, as_pfa, joined_of}
 
@@ -132,3 +133,16 @@ abbrev pub JoinedPfaIsWritten : Type 0
 JoinedPfaIsWritten =
     (bytes : List ℕ) (joined : JoinedText) → joined_of bytes ≡ Ok joined → joined.pfb ≡ false
     → IsPfa bytes joined
+
+-- What is left of a PFB file tells that bytes were lost: nothing is left, a segment is cut short, or no
+-- end segment closes the row.
+abbrev pub TellsOfLoss : List ℕ → Result JoinedText SealError → Type 0
+TellsOfLoss [] joined = joined ≡ Err NotAFont
+TellsOfLoss (x ∷ left) (Err e) = e ≡ CutShort
+TellsOfLoss (x ∷ left) (Ok joined) = (joined.pfb ≡ true) × (joined.end_segment ≡ false)
+
+-- A PFB file with nothing behind its end segment tells of any bytes that are lost at its end.
+abbrev pub CutFilesTellOfLoss : Type 0
+CutFilesTellOfLoss =
+    (left lost : List ℕ) (whole : JoinedText) → 0 < length lost → joined_of (left ++ lost) ≡ Ok whole
+    → whole.pfb ≡ true → whole.trailing ≡ false → TellsOfLoss left (joined_of left)
