@@ -1,15 +1,17 @@
 #!/bin/sh
 # Refuses allocations, the first in a first run, the second in a second, and so on, until a run has none
 # left to refuse: ./bench/allocations.sh
-# First in t1_seal's tests, each a process of its own, and then in a program that reads a font's file by
-# the calls of t1_seal and t1_font; last in the program, on a word that no option takes. What was refused
-# an allocation has to end with that error; one that ends otherwise, as with another answer in place of
-# it, fails the script.
+# First in t1_seal's tests, each a process of its own, by `rt try`. Then in the built program, which a library
+# is loaded into that refuses one.
+# Each refusal has to be told, with nothing else written, and the run without one has to give its own
+# answer; else the script fails. It wants `rt`, `cc` and glibc.
 set -eu
 top=$(cd "$(dirname "$0")/.." && pwd)
+cases=$top/tests/program
 work=$(mktemp -d)
 trap 'rm -rf "$work"' EXIT
 log=$work/log
+refusals=0
 
 # Shows what a run told, and why it isn't right.
 fail() {
@@ -37,58 +39,129 @@ refuse_in_tests() {
     echo "t1_seal, allocation $count: no test asks for it; $refused refusals in all, each told"
 }
 
-# The reading of a font, in a folder of its own.
-refuse_in_reading() {
-    mkdir -p "$work/crates/reading/src"
-    cp -R "$top/crates/t1_seal" "$top/crates/t1_scan" "$top/crates/t1_font" "$work/crates/"
-    rm -rf "$work"/crates/*/out
-    cp "$top/bench/allocations/main.txt" "$work/crates/reading/src/main.rt"
-    {
-        grep -E '^t1_(seal|scan):' "$top/crates.txt"
-        grep '^t1_font:' "$top/crates.txt" | sed 's/ t1_samples//'
-        echo 'reading: t1_seal t1_font'
-    } >"$work/crates.txt"
-    cd "$work/crates/reading"
-    count=1
-    while ! rt try --fail-alloc "$count" >"$log" 2>&1; do
-        call=$(sed -nE 's/^Error: (Join|Clear|Section|Private)\(Memory\)$/\1/p' "$log")
-        [ -n "$call" ] || fail "$count" "the reading ended otherwise than with the refusal"
-        echo "t1_font, allocation $count refused: told by the call $call"
-        count=$((count + 1))
-    done
-    echo "t1_font, allocation $count: the reading asks for none more"
+# Builds the library, and t1check where it isn't built.
+build() {
+    cc -O2 -shared -fPIC -x c -o "$work/refuse.so" "$top/bench/allocations/refuse.txt"
+    "$top/bin/t1check" --help >/dev/null
+    checker=$top/crates/t1check/out/t1check
 }
 
-# What the program told in the last run, without what rt says of it.
-told() {
-    grep -vE '^(rt:|interpreter:|checked:|run=|allocations:)' "$log" || true
+# A sound font, PFB: its clear text is at byte 7, its section at 117, its trailer at 300.
+pfb=$top/crates/t1check/stdin
+pfa=$work/hexadecimal.pfa
+
+# The same font as PFA, its section in digits, with line ends and blanks inside pairs.
+write_pfa() {
+    tail -c +7 "$pfb" | head -c 104
+    digits=$(tail -c +117 "$pfb" | head -c 177 | od -An -v -tx1 | tr -d ' \n')
+    behind=${digits#?????}
+    printf '%s\r' "${digits%"$behind"}"
+    printf '%s\n' "$behind" | fold -w 6 | paste -s -d '\n\r \t' -
+    tail -c +300 "$pfb" | head -c 532
 }
 
-# The program on an unknown option: it tells the whole text of the usage fault, or want of memory. Some
-# allocations it can do without, so the sweep ends where sixteen in turn change nothing.
-refuse_in_options() {
-    cd "$top/crates/t1check"
-    rt try -- --bogus >"$log" 2>&1 || true
-    told >"$work/whole"
-    grep -q "^error: unexpected argument '--bogus' found$" "$work/whole" || fail 0 "no usage fault is told"
-    count=1
-    unchanged=0
-    while [ "$unchanged" -lt 16 ]; do
-        rt try --fail-alloc "$count" -- --bogus >"$log" 2>&1 || true
-        grep -q '^run=ended status=3 ' "$log" || fail "$count" "the status isn't 3"
-        if told | cmp -s - "$work/whole"; then
-            unchanged=$((unchanged + 1))
-        elif [ "$(told)" = 't1check: out of memory' ]; then
-            unchanged=0
-            echo "t1check, allocation $count refused: told"
-        else
-            fail "$count" "neither the whole text nor the refusal is told"
+# Runs a program on words and a font, and refuses the allocations between two numbers: FIRST LAST FONT
+# PROGRAM [WORD..].
+run_refusing() {
+    refused="$1 $2" font=$3
+    shift 3
+    status=0
+    : >"$work/refused"
+    LD_PRELOAD=$work/refuse.so REFUSED=$refused "$@" <"$font" >"$work/out" 2>"$log" 9>"$work/refused" || status=$?
+}
+
+# Runs a program with its next allocation refused, and tells whether it asked for so many.
+refuse_next() {
+    number=$((number + 1))
+    run_refusing "$number" "$number" "$@"
+    [ -s "$work/refused" ]
+}
+
+# Whether a run ended with the refusal alone.
+is_told() {
+    [ ! -s "$work/out" ] && [ "$status $(cat "$log")" = '3 t1check: out of memory' ]
+}
+
+# Whether a run gave its own answer: a status, what is written, and nothing told.
+is_own() {
+    [ "$status" -eq "$wanted_status" ] && cmp -s "$work/out" "$work/wanted" && [ ! -s "$log" ]
+}
+
+# Refuses each allocation of a run in turn: STATUS SPARES FONT PROGRAM [WORD..], the wanted output in a file.
+# So many are asked for again, with less room, where they are refused: then the second request is refused too.
+refuse_in_turn() {
+    wanted_status=$1 spares=$2
+    shift 2
+    number=0
+    while refuse_next "$@"; do
+        is_told && continue
+        spares=$((spares - 1))
+        if [ "$spares" -lt 0 ] || ! is_own; then
+            fail "$number" "the refusal is swallowed in a run of $*"
         fi
-        count=$((count + 1))
+        run_refusing "$number" $((number + 1)) "$@"
+        is_told || fail "$number" "two refusals are swallowed in a run of $*"
     done
-    echo "t1check, allocation $count: the words ask for none more"
+    is_own || fail "$number" "no allocation was refused, and the answer is another in a run of $*"
+    [ "$number" -gt 1 ] || fail "$number" "no allocation is asked for in a run of $*"
+    refusals=$((refusals + number - 1))
+}
+
+# t1check on a font and words, with the status and the output of a case of tests/program. The list of the
+# words is asked for again where it is refused.
+refuse_in_case() {
+    case=$cases/$1.case
+    shift
+    sed -n 's/^out: //p' "$case" >"$work/wanted"
+    refuse_in_turn "$(sed -n 's/^status: //p' "$case")" 1 "$@"
+    echo "t1check, $(basename "$case" .case): $((number - 1)) refusals, each told"
+}
+
+# t1check on a font in which it finds nothing.
+refuse_in_clean() {
+    : >"$work/wanted"
+    refuse_in_turn 0 1 "$2" "$checker"
+    echo "t1check, $1: $((number - 1)) refusals, each told"
+}
+
+# t1check on words that it explains. Some allocations it can do without: then the whole text is there all
+# the same.
+refuse_in_words() {
+    wanted_status=0
+    "$checker" "$@" >"$work/wanted" 2>"$work/told" </dev/null || wanted_status=$?
+    number=0
+    without=0
+    while refuse_next /dev/null "$checker" "$@"; do
+        is_told && continue
+        is_explained || fail "$number" "neither the refusal nor the whole text is told of $*"
+        without=$((without + 1))
+    done
+    is_explained || fail "$number" "no allocation was refused, and the text is another of $*"
+    refusals=$((refusals + number - 1 - without))
+    echo "t1check $*: $((number - 1 - without)) refusals told, $without done without"
+}
+
+# Whether the whole text was given.
+is_explained() {
+    [ "$status" -eq "$wanted_status" ] && cmp -s "$work/out" "$work/wanted" && cmp -s "$log" "$work/told"
+}
+
+refuse_in_program() {
+    fonts=$cases/fonts
+    write_pfa >"$pfa"
+    refuse_in_clean 'a PFB font' "$pfb"
+    refuse_in_clean 'a hexadecimal PFA font' "$pfa"
+    refuse_in_case accented_characters "$fonts/accented_characters.pfb" "$checker"
+    refuse_in_case subr_called_twice "$fonts/subr.pfb" "$checker"
+    refuse_in_case F13 "$fonts/F13.pfb" "$checker"
+    refuse_in_case standard_encoding "$fonts/standard_encoding.pfb" "$checker"
+    refuse_in_case glyph_lines_after_one_at_most_one "$fonts/four_faults.pfb" "$checker" --after 1 --max 1
+    refuse_in_case trace "$fonts/clean.pfb" "$checker" --trace A
+    refuse_in_words --bogus
+    refuse_in_words --help
 }
 
 refuse_in_tests
-refuse_in_reading
-refuse_in_options
+build
+refuse_in_program
+echo "$refusals refusals in the program, each told"
