@@ -1,5 +1,5 @@
 -- What is known of a device, and what a call does to it.
-use Rattle.std.specs.Prelude.{◌≡◌, ℕ, ◌+◌, ◌-◌, ◌^◌, ◌==◌, ◌≤◌, ◌<◌, min, length, take, List, ◌++◌, Bool, true, ◌&&◌, Option, Result, Ok, Err}
+use Rattle.std.specs.Prelude.{◌≡◌, if◌then◌else◌, ℕ, ◌+◌, ◌-◌, ◌^◌, ◌==◌, ◌≤◌, ◌<◌, min, length, take, List, ◌++◌, Bool, true, ◌&&◌, Option, Result, Ok, Err}
 use Rattle.std.specs.Borrow.{Bor}
 use Rattle.std.specs.List.{flat_map}
 use Rattle.std.specs.Io.KnownBytes.{Appends, Consumes, IsAtEnd, Keeps}
@@ -14,8 +14,14 @@ pub record SourceState : Type 0 where
   pub left : Option (List ℕ)
   -- How many calls of take there were.
   pub takes : ℕ
+  -- How many of them came behind a call that failed.
+  pub late_takes : ℕ
   -- Whether a call has failed.
   pub failed : Bool
+
+-- The calls of take behind a failed one, after one call more.
+abbrev pub late_takes_behind : SourceState → ℕ
+late_takes_behind old = if old.failed then one_more old.late_takes else old.late_takes
 
 -- A read gave so many bytes, at the front of the buffer: none only at the end or without room.
 pub record Took (old new : SourceState) (buffer : List ℕ) (count : ℕ) : Type 0 where
@@ -23,12 +29,14 @@ pub record Took (old new : SourceState) (buffer : List ℕ) (count : ℕ) : Type
   pub bytes : Consumes old.left new.left (take count buffer)
   pub end : count ≡ 0 → 0 < length buffer → IsAtEnd new.left
   pub takes : new.takes ≡ one_more old.takes
+  pub late_takes : new.late_takes ≡ late_takes_behind old
   pub failed : new.failed ≡ old.failed
 
 -- A read failed: no byte was taken.
 pub record TookNone (old new : SourceState) : Type 0 where
   pub bytes : Keeps old.left new.left
   pub takes : new.takes ≡ one_more old.takes
+  pub late_takes : new.late_takes ≡ late_takes_behind old
   pub failed : new.failed ≡ true
 
 -- What a call of take does.

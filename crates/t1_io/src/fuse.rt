@@ -14,6 +14,7 @@ pub struct Fuse<D> {
     /// What is left of the fuse.
     pub limit: Limit,
     takes: u64,
+    late_takes: u64,
     failed_puts: u64,
     failed: bool,
     ghost moves: { lets_some_through limit ≡ true },
@@ -25,7 +26,10 @@ impl<D: Source> Fuse<D> {
         requires { lets_some_through limit ≡ true }
         ensures device { result.device ≡ device }
         ensures limit { result.limit ≡ limit }
-        ensures state { ⟦<Fuse<D> as Source>⟧.state result ≡ record (D.state device) { takes = 0 } }
+        ensures state { ⟦<Fuse<D> as Source>⟧.state result ≡ record (D.state device) {
+          takes = 0;
+          late_takes = 0;
+        } }
     {
         let read_failed = device.has_failed();
         Fuse::over(device, limit, read_failed)
@@ -52,6 +56,7 @@ impl<D> Fuse<D> {
         ensures device { result.device ≡ device }
         ensures limit { result.limit ≡ limit }
         ensures takes { result.takes ≡ 0 }
+        ensures late_takes { result.late_takes ≡ 0 }
         ensures failed_puts { result.failed_puts ≡ 0 }
         ensures failed { result.failed ≡ failed }
     {
@@ -59,6 +64,7 @@ impl<D> Fuse<D> {
             device,
             limit,
             takes: 0,
+            late_takes: 0,
             failed_puts: 0,
             failed,
         }
@@ -66,7 +72,11 @@ impl<D> Fuse<D> {
 }
 
 impl<D: Source> Source for Fuse<D> {
-    ghost state = { λ fuse. record (D.state fuse.device) { takes = fuse.takes; failed = fuse.failed } };
+    ghost state = { λ fuse. record (D.state fuse.device) {
+      takes = fuse.takes;
+      late_takes = fuse.late_takes;
+      failed = fuse.failed;
+    } };
 
     fn take(&mut self, buffer: &mut [u8]) -> Result<usize, Broken>
         ensures takes { Takes (⟦<Fuse<D> as Source>⟧.state self.old)
@@ -82,6 +92,9 @@ impl<D: Source> Source for Fuse<D> {
         ensures burnt { self.new.limit ≡ burnt self.old.limit (count_of result) }
     {
         self.takes = self.takes.saturating_add(1);
+        if self.failed {
+            self.late_takes = self.late_takes.saturating_add(1);
+        }
         if self.limit.has_blown() {
             self.limit = self.limit.burnt(0);
             self.failed = true;

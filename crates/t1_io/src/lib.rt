@@ -10,7 +10,8 @@
 //! - a call that succeeds leaves `has_failed` as it was, and moves a byte or more, unless there is
 //!   no room or no byte for it, or the source is at its end;
 //! - the bytes left in a source and written to a sink are told where the device knows them, and so
-//!   are the number of takes and whether all that was put has been flushed.
+//!   are the number of takes, of takes behind a failed one, and whether all that was put has been
+//!   flushed.
 //!
 //! Nothing here takes memory.
 //!

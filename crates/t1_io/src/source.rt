@@ -24,6 +24,7 @@ pub trait Source {
 pub struct In<R: Read> {
     reader: R,
     takes: u64,
+    late_takes: u64,
     failed: bool,
 }
 
@@ -33,12 +34,14 @@ impl<R: Read> In<R> {
         ensures { ⟦<In<R> as Source>⟧.state result ≡ record {
           left = R.remaining reader;
           takes = 0;
+          late_takes = 0;
           failed = false;
         } }
     {
         In {
             reader,
             takes: 0,
+            late_takes: 0,
             failed: false,
         }
     }
@@ -48,11 +51,15 @@ impl<R: Read> Source for In<R> {
     ghost state = { λ source. record {
       left = R.remaining source.reader;
       takes = source.takes;
+      late_takes = source.late_takes;
       failed = source.failed;
     } };
 
     fn take(&mut self, buffer: &mut [u8]) -> Result<usize, Broken> {
         self.takes = self.takes.saturating_add(1);
+        if self.failed {
+            self.late_takes = self.late_takes.saturating_add(1);
+        }
         match self.reader.read(buffer) {
             Ok(count) => Ok(count),
             Err(_) => {

@@ -1,4 +1,4 @@
-ghost use Rattle.std.specs.Prelude.{◌≤◌, ◌+◌};
+ghost use Rattle.std.specs.Prelude.{◌≡◌, ◌≤◌, ◌+◌, false};
 ghost use Rattle.t1check.specs.Input.{Gathers, TakesAtMost};
 
 use std::alloc::Global;
@@ -29,6 +29,8 @@ pub fn read_all<R: Source>(alloc: Global, source: &mut R) -> Input
     ensures gathers { Gathers (R.state source.old) (R.state source.new) result }
     ensures takes { (R.state source.new).takes ≤ (R.state source.old).takes + 16777217 }
     ensures taken { TakesAtMost 16777217 (R.state source.old).left (R.state source.new).left }
+    ensures stops { (R.state source.old).failed ≡ false
+        → (R.state source.new).late_takes ≡ (R.state source.old).late_takes }
 {
     let mut bytes = Vec::new(alloc);
     let mut buffer = [0u8; ROOM];

@@ -37,6 +37,7 @@ pub fn run<R: Source, W: Sink, E: Sink>(
         (W.state out.old) (W.state out.new) (E.state errors.old) (E.state errors.new) result }
     ensures reads { (R.state source.new).takes ≤ (R.state source.old).takes + 16777217 }
     ensures taken { TakesAtMost 16777217 (R.state source.old).left (R.state source.new).left }
+    ensures stops { (R.state source.new).late_takes ≡ (R.state source.old).late_takes }
 {
     match read_all(alloc, source) {
         Input::Bytes(bytes) => match check(alloc, bytes.as_slice(), options, out, errors) {

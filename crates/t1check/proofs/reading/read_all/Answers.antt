@@ -1,6 +1,6 @@
 use Rattle.std.proofs.Common.{arith, ◌≡◌, ◌++◌, ◌∙◌, ℕ, length, take, drop, ap, vec_len, length-append}
 use Rattle.std.proofs.lemmas.List.{length-take}
-use Rattle.t1check.proofs.InputLemmas.{TakesAtMost-more, Consumes-more, items-extended}
+use Rattle.t1check.proofs.InputLemmas.{TakesAtMost-more, Consumes-more, items-extended, not_late}
 use Rattle.t1check.proofs.reading.read_all.Goals as goal
 
 pub returns-then-is_err-clause-taken : goal.returns-then-is_err-clause-taken
@@ -19,6 +19,9 @@ loop-turn-preserved g c =
       consumed = Consumes-more _ _ _ c.loop-turn.bytes.items _ _ c.loop-turn.invariant.consumed c.in-Ok.ensures.takes.bytes items;
       counted = omega (arith, c.in-Ok.ensures.takes.takes);
       kept = c.in-Ok.ensures.takes.failed ∙ c.loop-turn.invariant.kept;
+      stops = λ sound.
+          not_late (g.R.Source.state c.loop-turn.source) (g.R.Source.state c.take.new.self)
+          c.in-Ok.ensures.takes.late_takes (c.loop-turn.invariant.kept ∙ sound) ∙ c.loop-turn.invariant.stops sound;
       long = omega (arith, ap length items, c.in-Ok.ensures.takes.bound, length-append {A = ℕ}, length-take {A = ℕ});
       short = omega arith;
     }
