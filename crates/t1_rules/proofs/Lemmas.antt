@@ -20,5 +20,6 @@ pub mod Seac
 pub mod StandardNames
 pub mod Stems
 pub mod StepRules
+pub mod Tokens
 pub mod Watches
 pub mod Zones

@@ -1,5 +1,6 @@
 -- What watchers keep of the steps that they have seen.
 use Rattle.std.specs.Prelude.{◌≡◌, ⊤, false, ℕ, pos, ◌+ℤ◌, ◌*◌, ◌&&◌, ◌≤◌, ◌≤ℤ◌, List, length}
+use Rattle.t1_char.specs.declared.token.CharToken.{CharToken}
 use Rattle.t1_char.specs.Arguments.{is_callothersubr, is_flex_end}
 use Rattle.t1_char.specs.Laws.Steps.{is_finishing}
 use Rattle.t1_char.specs.Since.{any_so_far, was}
@@ -14,7 +15,7 @@ use Rattle.t1_rules.specs.StepRules.Flex.{current_point, flex_moves, flex_points
 use Rattle.t1_rules.specs.StepRules.Paths.{clearing_step, in_flex, is_moved, is_open}
 use Rattle.t1_rules.specs.StepRules.Seac.{makes_outline}
 use Rattle.t1_rules.specs.StepRules.Stems.{lies_across, stands_upright, hint_set, is_drawn, is_replaced, is_replaced_and_popped, popping}
-use Rattle.t1_rules.specs.StepRules.Tokens.{clears, sets_width, is_move, is_line, closes}
+use Rattle.t1_rules.specs.StepRules.Tokens.{clears, sets_width, is_move, is_line, is_setcurrentpoint, closes}
 
 -- How many steps a watcher can see: more than the limit of steps of any glyph.
 abbrev pub most_steps : ℕ
@@ -67,6 +68,11 @@ pub record FlexStandsFor (watcher : FlexWatcher) (before : List StepView) : Type
   pub few_moves : watcher.moves ≤ length before
   pub few_points : watcher.points ≤ length before
   pub near : IsNear (length before) watcher.point
+
+-- A token that breaks no rule on flex where none was started.
+pub record IsQuietForFlex (token : CharToken) : Type 0 where
+  pub othersubr : is_callothersubr token ≡ false
+  pub point : is_setcurrentpoint token ≡ false
 
 pub record SeacStandsFor (watcher : SeacWatcher) (before : List StepView) : Type 0 where
   pub in_flex : watcher.in_flex ≡ in_flex before

@@ -1,6 +1,7 @@
 -- The current point, and what else the watcher of flex keeps, one step further.
 use Rattle.std.proofs.Common.{◌≡◌, ℕ, suc, ℤ, pos, ◌+◌, ◌≤◌, ◌+ℤ◌, ◌&&◌, ◌||◌, not, if◌then◌else◌, Bool, true, false, Some, List, [], ◌∷◌, ◌++◌, length, length-append, refl, sym, ap, ◌∙◌, arith}
 use Rattle.std.proofs.lemmas.Int.{ints}
+use Rattle.std.proofs.Math.Bool.{and-true}
 use Rattle.t1_char.specs.Arguments.{is_flex_start, is_flex_point, is_flex_end}
 use Rattle.t1_char.specs.Since.{after_last, last_of}
 use Rattle.t1_char.specs.Steps.{StepView}
@@ -12,6 +13,7 @@ use Rattle.t1_rules.specs.StepRules.Paths.{flex_start, flex_end}
 use Rattle.t1_rules.specs.StepRules.Stems.{popping}
 use Rattle.t1_rules.specs.StepRules.Tokens.{is_move, is_pop, sets_point}
 use Rattle.t1_rules.specs.Watches.{FlexStandsFor, IsNear}
+use Rattle.t1_rules.proofs.Lemmas.Tokens.{IsNoCommand}
 use Rattle.t1_rules.proofs.Lemmas.Before.{counted_on, was_last, was_before}
 
 -- Points are equal where both coordinates are.
@@ -83,3 +85,28 @@ one_more_in_flex old new before t st in_flex moves points point ended popped pop
     turned true false = refl
     turned false true = refl
     turned false false = refl
+
+-- A point stays as near behind one step more.
+near_on : (n : ℕ) (p : Point) → IsNear n p → IsNear (n + 1) p
+near_on n p near = record {
+  left = omega (arith, ints, near.left);
+  right = omega (arith, ints, near.right);
+  low = omega (arith, ints, near.low);
+  high = omega (arith, ints, near.high);
+}
+
+-- What is no command changes what the last steps were alone.
+pub flex_stays : (old new : FlexWatcher) (before : List StepView) (t : StepView) → IsNoCommand t.token → FlexStandsFor old before
+    → new.in_flex ≡ old.in_flex → new.moves ≡ old.moves → new.points ≡ old.points → new.point ≡ old.point
+    → new.ended ≡ false → new.popped ≡ false → new.popped_twice ≡ false
+    → FlexStandsFor new (before ++ t ∷ [])
+flex_stays old new before t quiet st in_flex moves points point ended popped popped_twice =
+    one_more_in_flex old new before t st
+    (in_flex ∙ rw (quiet.othersubr) (sym (and-true old.in_flex)))
+    (moves ∙ rw (quiet.othersubr, quiet.moves) refl)
+    (points ∙ rw (quiet.othersubr) refl)
+    (point ∙ rw (quiet.sets, quiet.stays t.stack) (sym (plus_origin old.point)))
+    (ended ∙ rw (quiet.othersubr) refl)
+    (popped ∙ rw (quiet.pops) refl)
+    (popped_twice ∙ rw (quiet.pops) refl)
+    (rw point (near_on (length before) old.point st.near))

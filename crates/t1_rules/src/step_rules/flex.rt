@@ -9,13 +9,15 @@ ghost use Rattle.t1_rules.specs.Mask.{has};
 ghost use Rattle.t1_rules.specs.StepRules.{breaks, flex_rules};
 ghost use Rattle.t1_rules.specs.StepRules.Flex.{at, displacement, ends_away_from, is_elsewhere, miscounts, moved_by, origin, plus, point_set};
 ghost use Rattle.t1_rules.specs.StepRules.Tokens.{clears, is_move, is_pop, sets_point};
-ghost use Rattle.t1_rules.specs.Watches.{FlexStandsFor, IsNear, most_steps};
+ghost use Rattle.t1_rules.specs.Watches.{FlexStandsFor, IsNear, IsQuietForFlex, most_steps};
 ghost use Rattle.t1_rules.specs.Words.Sums.{IsWithin};
 
 use crate::mask::Mask;
 use crate::rule::Rule;
 use crate::step_rules::numbers::sum;
-use crate::step_rules::tokens::{clears, is_hsbw, is_move, is_pop, is_setcurrentpoint, sets_point};
+use crate::step_rules::tokens::{
+    clears, is_callothersubr, is_command, is_hsbw, is_move, is_pop, is_setcurrentpoint, sets_point,
+};
 use crate::watch::Watch;
 use t1_char::{CharToken, Command, Step};
 
@@ -81,6 +83,9 @@ impl FlexWatcher {
             (n : ℕ) → has result n ≡ breaks flex_rules n before (step_view step.now) }
     {
         let token = step.token;
+        if is_quiet(token) && !self.in_flex {
+            return Mask::empty();
+        }
         Mask::empty()
             .with(Rule::X06, is_setcurrentpoint(token) & !self.popped_twice)
             .with(Rule::X05, ends_away_from(self.point, step) & self.in_flex)
@@ -102,6 +107,12 @@ impl FlexWatcher {
         ensures { (before : List StepView) → FlexStandsFor self.old before → length before < most_steps →
             FlexStandsFor self.new (before ++ step_view step.now ∷ []) }
     {
+        if !is_command(step.token) {
+            self.ended = false;
+            self.popped = false;
+            self.popped_twice = false;
+            return;
+        }
         let pops = is_pop(step.token);
         self.popped_twice = pops & self.popped;
         self.popped = pops & self.ended;
@@ -111,6 +122,13 @@ impl FlexWatcher {
         self.in_flex = step.starts_flex() | (self.in_flex & !self.ended);
         self.point = next_point(self.point, step);
     }
+}
+
+/// Whether outside flex none of these rules speaks of a token.
+fn is_quiet(token: CharToken) -> bool
+    ensures { result ≡ true → IsQuietForFlex token }
+{
+    !(is_callothersubr(token) | is_setcurrentpoint(token))
 }
 
 /// A count since the last start of a flex, with one more where the step is counted.

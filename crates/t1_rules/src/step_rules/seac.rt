@@ -17,7 +17,7 @@ use crate::rule::Rule;
 use crate::standard_encoding::standard_name;
 use crate::step_rules::paths::draws;
 use crate::step_rules::stems::is_stem;
-use crate::step_rules::tokens::{closes, is_move, is_seac};
+use crate::step_rules::tokens::{closes, is_command, is_move, is_seac};
 use crate::watch::Watch;
 use t1_char::{Step, natural};
 
@@ -59,8 +59,11 @@ impl SeacWatcher {
         ensures { (before : List StepView) → SeacStandsFor self.now before →
             (n : ℕ) → has result n ≡ breaks seac_rules n before (step_view step.now) }
     {
+        if !is_seac(step.token) {
+            return Mask::empty();
+        }
         Mask::empty()
-            .with(Rule::K06, is_seac(step.token) & self.outlined)
+            .with(Rule::K06, self.outlined)
             .with(Rule::K02, has_unnamed_code(step))
             .with(Rule::K01, has_no_code(step))
     }
@@ -70,6 +73,9 @@ impl SeacWatcher {
         ensures { (before : List StepView) → SeacStandsFor self.old before →
             SeacStandsFor self.new (before ++ step_view step.now ∷ []) }
     {
+        if !is_command(step.token) {
+            return;
+        }
         self.outlined = self.outlined | makes_outline(step, self.in_flex);
         self.in_flex = step.starts_flex() | (self.in_flex & !step.ends_flex());
     }

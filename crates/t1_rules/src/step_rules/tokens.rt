@@ -1,10 +1,10 @@
 //! The kinds of tokens that charstring rules speak of: Type 1 Font Format 1.1, chapter 6.
 
-ghost use Rattle.std.specs.Prelude.{◌≡◌};
+ghost use Rattle.std.specs.Prelude.{◌≡◌, true};
 ghost use Rattle.t1_char.specs.Arguments.{is_callothersubr};
 ghost use Rattle.t1_char.specs.Laws.Steps.{is_finishing};
 ghost use Rattle.t1_char.specs.Steps.{is_callsubr, is_end, is_return};
-ghost use Rattle.t1_rules.specs.StepRules.Tokens.{clears, closes, is_hsbw, is_line, is_move, is_pop, is_seac, is_setcurrentpoint, sets_point, sets_width};
+ghost use Rattle.t1_rules.specs.StepRules.Tokens.{clears, closes, is_command, is_hsbw, is_line, is_move, is_pop, is_seac, is_setcurrentpoint, sets_point, sets_width};
 
 use t1_char::{CharToken, Command};
 
@@ -12,6 +12,13 @@ pub(crate) fn is_end(token: CharToken) -> bool
     ensures { result ≡ is_end token }
 {
     matches!(token, CharToken::End)
+}
+
+/// Whether it is a command. Most tokens are numbers, at which little changes.
+pub(crate) fn is_command(token: CharToken) -> bool
+    ensures { result ≡ is_command (λ command. true) token }
+{
+    matches!(token, CharToken::Command(_))
 }
 
 pub(crate) fn is_callsubr(token: CharToken) -> bool

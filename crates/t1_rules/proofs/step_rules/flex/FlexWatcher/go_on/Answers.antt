@@ -1,7 +1,13 @@
-use Rattle.std.proofs.Common.{length, ◌∙◌}
+use Rattle.std.proofs.Common.{length, refl, sym, ◌∙◌}
 use Rattle.t1_char.specs.StepValues.{step_view}
-use Rattle.t1_rules.proofs.Lemmas.Flex.{one_more_in_flex}
+use Rattle.t1_rules.proofs.Lemmas.Flex.{flex_stays, one_more_in_flex}
+use Rattle.t1_rules.proofs.Lemmas.Tokens.{no_command}
 use Rattle.t1_rules.proofs.step_rules.flex.FlexWatcher.go_on.Goals as goal
+
+pub returns-then-not-is_command : goal.returns-then-not-is_command
+returns-then-not-is_command c = λ before st short.
+    flex_stays c.args.self.now _ before (step_view c.args.step.now)
+    (no_command _ (sym c.is_command.ensures ∙ c.if-not-is_command.true)) st refl refl refl refl refl refl refl
 
 pub returns : goal.returns
 returns c = λ before st short.
