@@ -16,6 +16,7 @@ pub mod NumberLists
 pub mod PrivateItemsRead
 pub mod PrivateRead
 pub mod Reading
+pub mod Refused
 pub mod Room
 pub mod Running
 pub mod Scanning

@@ -54,5 +54,7 @@ pub use laws::{
 };
 pub use limit_laws::limits_of_fonts;
 pub use refusal::Refusal;
-pub use refusal_laws::{early_ends, long_charstrings, small_broken_texts, unclosed_tokens};
+pub use refusal_laws::{
+    early_ends, long_charstrings, refusals_of_texts, small_broken_texts, unclosed_tokens,
+};
 pub use value_laws::lists_by_tokens;

@@ -1,7 +1,18 @@
-//! Laws of the refusals of private texts in the usual form that break off or hold one wrong thing, on
-//! calls that do nothing.
+//! Laws of the refusals, on calls that do nothing: those that a text can have, and those of private texts in
+//! the usual form that break off or hold one wrong thing.
 
 ghost use Rattle.t1_font.specs.Laws.BrokenTexts.{EndsTooSoon, GlyphCutOff, GlyphTooLong, SmallTextsBreak, SubrCutOff, SubrNumberFirst, SubrTooLong, UnclosedToken};
+ghost use Rattle.t1_font.specs.Laws.Refusals.{ClearReadRefusals, ClearRefusals, FontAfterRefusals, FontReadRefusals, PrivateRefusals};
+
+/// Whatever its bytes, a clear text is refused for nothing but E04, E07 or E13, and a private text for
+/// nothing but E07, E08, E09, E10, E11 or E12; so want of memory is no refusal of a text.
+pub fn refusals_of_texts()
+    ensures clear { ClearRefusals }
+    ensures clear_read { ClearReadRefusals }
+    ensures private { PrivateRefusals }
+    ensures font_read { FontReadRefusals }
+    ensures font_after { FontAfterRefusals }
+{}
 
 /// Where the text ends: E10 behind `/lenIV`; E08 in the head of the Subrs and behind the number of one; and
 /// E09 elsewhere. A charstring that is cut off is E08 for a Subr and E09 for a glyph.
