@@ -1,3 +1,4 @@
 -- The statements of laws.
 pub mod Answers
+pub mod Refusals
 pub mod Runs

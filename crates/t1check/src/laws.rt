@@ -1,11 +1,20 @@
 //! Laws above the definitions: each is the contract of a function without a body.
 
 ghost use Rattle.t1check.specs.Laws.Answers.{HasNoOtherAnswer};
+ghost use Rattle.t1check.specs.Laws.Refusals.{NeverForMemory, RefusedByPart};
 ghost use Rattle.t1check.specs.Laws.Runs.{RunsKeepPromises};
 
 /// The options and the bytes of a file decide the answer.
 pub fn a_file_has_one_answer()
     ensures { HasNoOtherAnswer }
+{}
+
+/// A file is refused for its size by E05; for its segments by E01, E02 or E03; for its clear text by E04,
+/// E07 or E13; for its encrypted section by E06; for its private text by E07 to E12. So no bytes are
+/// refused for want of memory.
+pub fn each_part_has_its_refusals()
+    ensures parts { RefusedByPart }
+    ensures memory { NeverForMemory }
 {}
 
 /// What the ways in which a run ends say of the status, the output and standard error.
