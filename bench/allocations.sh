@@ -2,7 +2,8 @@
 # Refuses allocations, the first in a first run, the second in a second, and so on, until a run has none
 # left to refuse: ./bench/allocations.sh
 # First in t1_seal's tests, each a process of its own, by `rt try`. Then in the built program, which a library
-# is loaded into that refuses one.
+# is loaded into that refuses one. Last, by the same library, in a program that lists a font's tokens, steps and
+# faults; it is proved and built in a folder of its own, over what the crates' out folders keep of earlier proofs.
 # Each refusal has to be told, with nothing else written, and the run without one has to give its own
 # answer; else the script fails. It wants `rt`, `cc` and glibc.
 set -eu
@@ -161,7 +162,47 @@ refuse_in_program() {
     refuse_in_words --help
 }
 
+# Builds the program that lists the plain form of a font.
+build_plain() {
+    crates='t1_io t1_seal t1_samples t1_scan t1_font t1_char t1_rules t1_report'
+    mkdir -p "$work/crates/plain/src"
+    for crate in $crates; do
+        cp -R "$top/crates/$crate" "$work/crates/"
+        grep "^$crate:" "$top/crates.txt" >>"$work/crates.txt"
+    done
+    cp "$top/bench/allocations/plain.txt" "$work/crates/plain/src/main.rt"
+    echo 'plain: t1_seal t1_font t1_char t1_report' >>"$work/crates.txt"
+    cd "$work/crates/plain"
+    if ! rt run >"$log" 2>&1 <"$pfb"; then
+        cat "$log" >&2
+        exit 1
+    fi
+    plain=$work/crates/plain/out/plain
+}
+
+# The plain form of a font, which has so many: WHAT FONT TOKENS STEPS FAULTS. A charstring's end is a token too.
+refuse_in_lists() {
+    echo "$3 tokens, $4 steps, $5 faults" >"$work/wanted"
+    refuse_in_turn 0 0 "$2" "$plain"
+    echo "plain form, $1: $((number - 1)) refusals, each told"
+}
+
+refuse_in_plain_form() {
+    refuse_in_lists 'a PFB font' "$pfb" 5 4 0
+    refuse_in_lists 'a hexadecimal PFA font' "$pfa" 5 4 0
+    refuse_in_lists 'two glyphs' "$fonts/clean.pfb" 10 8 0
+    refuse_in_lists 'accented characters' "$fonts/accented_characters.pfb" 30 26 2
+    refuse_in_lists 'a Subr called twice' "$fonts/subr.pfb" 14 22 4
+    refuse_in_lists 'a Subr that calls itself' "$fonts/nested.pfb" 12 40 11
+    refuse_in_lists 'the most steps' "$fonts/most_steps.pfb" 34 100004 0
+    refuse_in_lists 'a step more' "$fonts/past_the_limit.pfb" 35 100005 1
+}
+
 refuse_in_tests
 build
 refuse_in_program
 echo "$refusals refusals in the program, each told"
+refusals=0
+build_plain
+refuse_in_plain_form
+echo "$refusals refusals in the plain form, each told"
