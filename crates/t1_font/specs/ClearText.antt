@@ -1,6 +1,6 @@
 -- The clear text, to the word eexec (Type 1 Font Format, chapter 2): the plain keys with their values,
 -- and the Encoding.
-use Rattle.std.specs.Prelude.{ℕ, Bool, false, Option, Some, None, Result, Ok, Err, List, [], ◌∷◌, ◌*◌, ◌==◌, ◌&&◌, if◌then◌else◌, codes, not, pos}
+use Rattle.std.specs.Prelude.{ℕ, Bool, false, Option, Some, None, Result, Ok, Err, List, [], ◌*◌, ◌==◌, if◌then◌else◌, codes, not, pos}
 use Rattle.t1_scan.specs.declared.token.Kind.{Kind}
 use Rattle.t1_scan.specs.declared.token.Kind.TheVariants.{Number}
 use Rattle.t1_seal.specs.Segments.{begins_pfa}
