@@ -1,6 +1,6 @@
 //! Fonts of the greatest sizes. No contract can rule out a body that answers want of memory there.
 
-use super::{answer_to, is_clean};
+use super::{answer_to, is_clean, is_refused};
 use crate::status::Status;
 use std::alloc::{AllocError, Global};
 use std::test::Fail;
@@ -11,6 +11,9 @@ const GREATEST: usize = 16_777_216;
 
 /// How many Subrs a font has at most.
 const SUBRS: u32 = 65_535;
+
+/// How many glyphs a font has at most.
+const GLYPHS: u32 = 65_535;
 
 /// How many glyphs are given twice.
 const DOUBLED: u32 = 4_465;
@@ -108,5 +111,50 @@ fn writes_seventy_thousand_lines(rt: HostRuntime) -> Result<(), Fail> {
         text.starts_with(b"1: font Subrs 0 F14 Subr given twice or past the array\n")
             && text.ends_with(b"\n70000: font CharStrings 4465 F10 glyph given twice\n")
     );
+    Ok(())
+}
+
+/// The private text in front of the CharStrings' entries.
+const FRONT: &[u8] = b"dup /Private 8 dict dup begin\n/password 5839 def\n/MinFeature {16 16} def\n\
+/lenIV -1 def\n/Subrs 6 array\nND\n2 index /CharStrings 65535 dict dup begin\n";
+
+/// A font of so many empty glyphs, g0 and on, without .notdef.
+fn of_empty_glyphs(alloc: Global, count: u32) -> Result<Vec<u8>, AllocError> {
+    let mut private = Vec::from_slice(alloc, FRONT)?;
+    for number in 0..count {
+        let line = format!(in alloc; "/g{number} 0 RD  ND\n")?;
+        private.extend_from_slice(line.as_bytes())?;
+    }
+    private.extend_from_slice(b"end\n")?;
+    FontFile::of(CLEAR, private.as_slice()).pfb(alloc)
+}
+
+/// The lines of the font of the most empty glyphs.
+fn lines_of_empty_glyphs(alloc: Global) -> Result<Vec<u8>, AllocError> {
+    let mut lines = Vec::from_slice(alloc, b"1: font CharStrings 0 F09 no .notdef\n")?;
+    for number in 0..GLYPHS {
+        let place = number + 2;
+        let line = format!(in alloc; "{place}: glyph g{number} - 1 GE01 no endchar\n")?;
+        lines.extend_from_slice(line.as_bytes())?;
+    }
+    Ok(lines)
+}
+
+#[test]
+fn writes_the_lines_of_the_most_glyphs(rt: HostRuntime) -> Result<(), Fail> {
+    let file = of_empty_glyphs(rt.alloc(), GLYPHS)?;
+    let answer = answer_to(rt.alloc(), file.as_slice());
+    let text = answer.output.as_slice();
+    assert!(rt; text.ends_with(b"\n65536: glyph g65534 - 1 GE01 no endchar\n"));
+    let lines = lines_of_empty_glyphs(rt.alloc())?;
+    assert!(rt; answer.is(Status::Faults, lines.as_slice(), b""));
+    Ok(())
+}
+
+#[test]
+fn refuses_one_glyph_more(rt: HostRuntime) -> Result<(), Fail> {
+    let file = of_empty_glyphs(rt.alloc(), GLYPHS + 1)?;
+    let line = "refused: E11 count past its limit\n";
+    assert!(rt; is_refused(rt.alloc(), file.as_slice(), line));
     Ok(())
 }
