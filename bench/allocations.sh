@@ -13,6 +13,7 @@ work=$(mktemp -d)
 trap 'rm -rf "$work"' EXIT
 log=$work/log
 refusals=0
+. "$top/bench/crates.sh"
 
 # Shows what a run told, and why it isn't right.
 fail() {
@@ -164,12 +165,8 @@ refuse_in_program() {
 
 # Builds the program that lists the plain form of a font.
 build_plain() {
-    crates='t1_io t1_seal t1_samples t1_scan t1_font t1_char t1_rules t1_report'
+    copy_crates "$top" "$work"
     mkdir -p "$work/crates/plain/src"
-    for crate in $crates; do
-        cp -R "$top/crates/$crate" "$work/crates/"
-        grep "^$crate:" "$top/crates.txt" >>"$work/crates.txt"
-    done
     cp "$top/bench/allocations/plain.txt" "$work/crates/plain/src/main.rt"
     echo 'plain: t1_seal t1_font t1_char t1_report' >>"$work/crates.txt"
     cd "$work/crates/plain"

@@ -1,6 +1,6 @@
 #!/bin/sh
-# Prints how long a step of a glyph takes in the machine alone, with all watchers, and by a walk, over the fonts below a folder,
-# which are told by their names' ends: ./bench/steps.sh FOLDER
+# Prints how long a step of a glyph takes in the machine alone, with all watchers, and by a walk, over the fonts
+# below a folder, which are told by their names' ends: ./bench/steps.sh FOLDER
 # The program is proved and built in a folder of its own, over what the crates' out folders keep of earlier proofs.
 set -eu
 top=$(cd "$(dirname "$0")/.." && pwd)
@@ -12,12 +12,9 @@ folder=$(cd "$1" && pwd)
 work=$(mktemp -d)
 trap 'rm -rf "$work"' EXIT
 
-crates='t1_io t1_seal t1_samples t1_scan t1_font t1_char t1_rules t1_report'
+. "$top/bench/crates.sh"
+copy_crates "$top" "$work"
 mkdir -p "$work/crates/timing/src" "$work/crates/timing/proofs/watch_glyph"
-for crate in $crates; do
-    cp -R "$top/crates/$crate" "$work/crates/"
-    grep "^$crate:" "$top/crates.txt" >>"$work/crates.txt"
-done
 cp "$top/bench/steps/main.txt" "$work/crates/timing/src/main.rt"
 for proof in Invariants Answers; do
     cp "$top/bench/steps/watch_glyph/$proof.txt" "$work/crates/timing/proofs/watch_glyph/$proof.antt"
