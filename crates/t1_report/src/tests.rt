@@ -1,7 +1,9 @@
 mod arguments;
 mod assembly;
 mod calls;
+mod components;
 mod flex;
+mod flex_ends;
 mod hostile;
 mod limit;
 mod lines;
