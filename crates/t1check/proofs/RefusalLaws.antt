@@ -17,42 +17,12 @@ use Rattle.t1_font.specs.declared.refusal.Refusal.TheVariants as refusal
 use Rattle.t1_font.proofs.Refused.{clear_refusals, font_read_refusals}
 use Rattle.t1check.specs.declared.unread.Unread.TheVariants.{TooLarge, Memory}
 use Rattle.t1check.specs.FontFiles.{of_seal_error, of_refusal, marks_in, as_unread, private_next, section_next, clear_next, font_in, font_of}
-use Rattle.t1check.specs.Laws.Refusals.{IsOfSegments, IsOfClearText, IsOfPrivateText, IsOfSection, IsOfTexts, IsOfJoined, IsOfSized, IsOfFile, RefusedByPart, NeverForMemory}
-
--- The refusals by their names in the program.
-of_segments : (e : SealError) → IsSegmentFault e → IsOfSegments (of_seal_error e)
-of_segments seal.NotAFont h = tt
-of_segments seal.BadHeader h = tt
-of_segments seal.CutShort h = tt
-of_segments seal.TooShort h = absurd h
-of_segments seal.Memory h = absurd h
-
-of_clear_text : (e : Refusal) → IsClearRefusal e → IsOfClearText (of_refusal e)
-of_clear_text refusal.NoEexec h = tt
-of_clear_text refusal.Unclosed h = tt
-of_clear_text refusal.BadSubrs h = absurd h
-of_clear_text refusal.BadCharStrings h = absurd h
-of_clear_text refusal.BadLenIv h = absurd h
-of_clear_text refusal.PastLimit h = absurd h
-of_clear_text refusal.SecondSubrs h = absurd h
-of_clear_text refusal.MultipleMaster h = tt
-of_clear_text refusal.Memory h = absurd h
-
-of_private_text : (e : Refusal) → IsPrivateRefusal e → IsOfPrivateText (of_refusal e)
-of_private_text refusal.NoEexec h = absurd h
-of_private_text refusal.Unclosed h = tt
-of_private_text refusal.BadSubrs h = tt
-of_private_text refusal.BadCharStrings h = tt
-of_private_text refusal.BadLenIv h = tt
-of_private_text refusal.PastLimit h = tt
-of_private_text refusal.SecondSubrs h = tt
-of_private_text refusal.MultipleMaster h = absurd h
-of_private_text refusal.Memory h = absurd h
+use Rattle.t1check.specs.Laws.Refusals.{IsOfText, IsOfSection, IsOfTexts, IsOfJoined, IsOfSized, IsOfFile, RefusedByPart, NeverForMemory}
 
 -- Each part, over what it is read as.
-private_refused : (read : Result FontValue Refusal) → ((e : Refusal) → read ≡ Err e → IsPrivateRefusal e) → IfErr (as_unread read) IsOfPrivateText
+private_refused : (read : Result FontValue Refusal) → ((e : Refusal) → read ≡ Err e → IsPrivateRefusal e) → IfErr (as_unread read) (IsOfText IsPrivateRefusal)
 private_refused (Ok font) h = tt
-private_refused (Err e) h = of_private_text e (h e refl)
+private_refused (Err e) h = (e, (h e refl, refl))
 
 section_refused : (marks : Marks) (before : List Stated) (section : Result (List ℕ) SealError) → ((e : SealError) → section ≡ Err e → e ≡ seal.TooShort) → IfErr (private_next marks before section) (IsOfSection section)
 section_refused marks before (Ok text) h = private_refused (font_read marks before text) (font_read_refusals marks before text)
@@ -68,11 +38,11 @@ too_short bytes e h = chosen (nat_lt (length (cipher_bytes (section_of bytes))) 
 
 texts_refused : (marks : Marks) (read : Result TextRead Refusal) → ((e : Refusal) → read ≡ Err e → IsClearRefusal e) → IfErr (section_next marks read) (IsOfTexts read)
 texts_refused marks (Ok clear) h = section_refused marks clear.stated (private_text_of clear.rest) (too_short clear.rest)
-texts_refused marks (Err e) h = of_clear_text e (h e refl)
+texts_refused marks (Err e) h = (e, (h e refl, refl))
 
 joined_refused : (joined : Result JoinedText SealError) → ((e : SealError) → joined ≡ Err e → IsSegmentFault e) → IfErr (clear_next joined) (IsOfJoined joined)
 joined_refused (Ok joined) h = texts_refused (marks_in joined) (clear_of (marks_in joined) joined.bytes) (clear_refusals (marks_in joined) joined.bytes)
-joined_refused (Err e) h = of_segments e (h e refl)
+joined_refused (Err e) h = (e, (h e refl, refl))
 
 in_file : (bytes : List ℕ) → IfErr (font_in bytes) (IsOfJoined (joined_of bytes))
 unfolding font_in
@@ -87,17 +57,35 @@ unfolding font_of
 refused_by_part bytes unread known = IfErr-at_err (IsOfFile bytes) known (sized (nat_lt 16777216 (length bytes)) bytes)
 
 -- Want of memory is of no part.
+no_segments : (e : SealError) → IsSegmentFault e → Memory ≡ of_seal_error e → ⊥
+no_segments seal.NotAFont h named = cc
+no_segments seal.BadHeader h named = cc
+no_segments seal.CutShort h named = cc
+no_segments seal.TooShort h named = h
+no_segments seal.Memory h named = h
+
+no_text : (kind : Refusal → Type 0) → (kind refusal.Memory → ⊥) → (e : Refusal) → kind e → Memory ≡ of_refusal e → ⊥
+no_text kind never refusal.NoEexec h named = cc
+no_text kind never refusal.Unclosed h named = cc
+no_text kind never refusal.BadSubrs h named = cc
+no_text kind never refusal.BadCharStrings h named = cc
+no_text kind never refusal.BadLenIv h named = cc
+no_text kind never refusal.PastLimit h named = cc
+no_text kind never refusal.SecondSubrs h named = cc
+no_text kind never refusal.MultipleMaster h named = cc
+no_text kind never refusal.Memory h named = never h
+
 no_section : (section : Result (List ℕ) SealError) → IsOfSection section Memory → ⊥
-no_section (Ok text) h = h
+no_section (Ok text) h = no_text IsPrivateRefusal (λ none. none) h.0 h.1.0 h.1.1
 no_section (Err e) h = cc
 
 no_texts : (read : Result TextRead Refusal) → IsOfTexts read Memory → ⊥
 no_texts (Ok clear) h = no_section (private_text_of clear.rest) h
-no_texts (Err e) h = h
+no_texts (Err e) h = no_text IsClearRefusal (λ none. none) h.0 h.1.0 h.1.1
 
 no_joined : (joined : Result JoinedText SealError) → IsOfJoined joined Memory → ⊥
 no_joined (Ok joined) h = no_texts (clear_of (marks_in joined) joined.bytes) h
-no_joined (Err e) h = h
+no_joined (Err e) h = no_segments h.0 h.1.0 h.1.1
 
 no_file : (test : Bool) (bytes : List ℕ) → IsOfSized test bytes Memory → ⊥
 no_file true bytes h = cc

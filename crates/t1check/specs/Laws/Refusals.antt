@@ -2,46 +2,33 @@
 use Rattle.std.specs.Prelude.{◌≡◌, ℕ, nat_lt, Bool, true, false, List, length, Result, Ok, Err}
 use Rattle.t1_seal.specs.Segments.{JoinedText, joined_of}
 use Rattle.t1_seal.specs.Eexec.{private_text_of}
+use Rattle.t1_seal.specs.SealError.{IsSegmentFault}
 use Rattle.t1_seal.specs.declared.errors.SealError.{SealError}
 use Rattle.t1_font.specs.ClearText.{clear_of}
+use Rattle.t1_font.specs.Laws.Refusals.{IsClearRefusal, IsPrivateRefusal}
 use Rattle.t1_font.specs.Turns.{TextRead}
 use Rattle.t1_font.specs.declared.refusal.Refusal.{Refusal}
 use Rattle.t1check.specs.declared.unread.Unread.{Unread}
-use Rattle.t1check.specs.declared.unread.Unread.TheVariants.{NotAFont, BadHeader, CutShort, NoEexec, TooLarge, TooShort, Unclosed, BadSubrs, BadCharStrings, BadLenIv, PastLimit, SecondSubrs, MultipleMaster, Memory}
-use Rattle.t1check.specs.FontFiles.{marks_in, font_of}
+use Rattle.t1check.specs.declared.unread.Unread.TheVariants.{TooLarge, TooShort, Memory}
+use Rattle.t1check.specs.FontFiles.{of_seal_error, of_refusal, marks_in, font_of}
 
--- Of the segments: E01, E02 or E03.
+-- Of the segments: E01, E02 or E03, by its name in the program.
 abbrev pub IsOfSegments : Unread → Type 0
-IsOfSegments NotAFont = Unit {0}
-IsOfSegments BadHeader = Unit {0}
-IsOfSegments CutShort = Unit {0}
-IsOfSegments _ = ⊥
+IsOfSegments unread = (e : SealError) × (IsSegmentFault e × (unread ≡ of_seal_error e))
 
--- Of the clear text: E04, E07 or E13.
-abbrev pub IsOfClearText : Unread → Type 0
-IsOfClearText NoEexec = Unit {0}
-IsOfClearText Unclosed = Unit {0}
-IsOfClearText MultipleMaster = Unit {0}
-IsOfClearText _ = ⊥
+-- Of a text, one of these refusals, by its name in the program.
+abbrev pub IsOfText : (Refusal → Type 0) → Unread → Type 0
+IsOfText kind unread = (e : Refusal) × (kind e × (unread ≡ of_refusal e))
 
--- Of the private text: E07, E08, E09, E10, E11 or E12.
-abbrev pub IsOfPrivateText : Unread → Type 0
-IsOfPrivateText Unclosed = Unit {0}
-IsOfPrivateText BadSubrs = Unit {0}
-IsOfPrivateText BadCharStrings = Unit {0}
-IsOfPrivateText BadLenIv = Unit {0}
-IsOfPrivateText PastLimit = Unit {0}
-IsOfPrivateText SecondSubrs = Unit {0}
-IsOfPrivateText _ = ⊥
-
--- Behind a clear text that was read: E06 where the encrypted section isn't opened, else of the private
--- text.
+-- Behind a clear text that was read: E06 where the encrypted section isn't opened, else of the private text:
+-- E07, E08, E09, E10, E11 or E12.
 abbrev pub IsOfSection : Result (List ℕ) SealError → Unread → Type 0
 IsOfSection (Err e) unread = unread ≡ TooShort
-IsOfSection (Ok text) unread = IsOfPrivateText unread
+IsOfSection (Ok text) unread = IsOfText IsPrivateRefusal unread
 
+-- Of the clear text: E04, E07 or E13; else of what is behind it.
 abbrev pub IsOfTexts : Result TextRead Refusal → Unread → Type 0
-IsOfTexts (Err e) unread = IsOfClearText unread
+IsOfTexts (Err e) unread = IsOfText IsClearRefusal unread
 IsOfTexts (Ok clear) unread = IsOfSection (private_text_of clear.rest) unread
 
 abbrev pub IsOfJoined : Result JoinedText SealError → Unread → Type 0
