@@ -65,7 +65,13 @@ pub fn read_clear<'a>(alloc: Global, joined: &'a Joined) -> Result<Clear<'a>, Re
     }
     let no_end = joined.pfb & !joined.end_segment;
     let mut font = Font::new(alloc, no_end, joined.trailing);
-    let rest = take_clear(&mut font, text)?;
+    let rest = match take_clear(&mut font, text) {
+        Ok(rest) => rest,
+        Err(refusal) => {
+            let_go(font);
+            return Err(refusal);
+        }
+    };
     let after = text.len() - rest.len();
     Ok(Clear { font, after })
 }
@@ -78,6 +84,14 @@ pub fn read_font<'a>(_alloc: Global, clear: Clear<'a>, text: &'a [u8]) -> Result
         Reads (λ f. f) result (font_read marks before text.now) }
 {
     let mut font = clear.into_font();
-    take_private(&mut font, text)?;
-    Ok(font)
+    match take_private(&mut font, text) {
+        Ok(()) => Ok(font),
+        Err(refusal) => {
+            let_go(font);
+            Err(refusal)
+        }
+    }
 }
+
+/// Lets a font go: a function that drops one takes long to prove, so that one alone does.
+fn let_go(_font: Font<'_>) {}

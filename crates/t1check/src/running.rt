@@ -19,7 +19,7 @@ use crate::tracing::write_trace;
 use crate::unread::Unread;
 use std::alloc::{AllocError, Global};
 use t1_char::STEP_LIMIT;
-use t1_font::{Font, read_clear, read_font};
+use t1_font::{Clear, Font, read_clear, read_font};
 use t1_io::{Sink, Source};
 use t1_rules::{Sidebearings, glyph_named};
 use t1_seal::{join, open_eexec};
@@ -64,10 +64,24 @@ fn check<W: Sink, E: Sink>(
     let joined = join(alloc, bytes)?;
     let clear = read_clear(alloc, &joined)?;
     let (_, section) = joined.bytes.as_slice().split_at(clear.after());
-    let private = open_eexec(alloc, section)?;
+    let private = match open_eexec(alloc, section) {
+        Ok(private) => private,
+        Err(error) => {
+            give_up(clear);
+            return Err(Unread::from(error));
+        }
+    };
     let font = read_font(alloc, clear, private.as_slice())?;
-    Ok(show(alloc, &font, options, out, errors)?)
+    let shown = show(alloc, &font, options, out, errors);
+    let_go(font);
+    Ok(shown?)
 }
+
+/// Lets a font go.
+fn let_go(_font: Font<'_>) {}
+
+/// Lets go of what a clear text states.
+fn give_up(_clear: Clear<'_>) {}
 
 /// Writes what the options ask for of a font: lines of its report, or the trace of a glyph.
 fn show<W: Sink, E: Sink>(
