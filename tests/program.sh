@@ -4,6 +4,10 @@
 #
 # A case is a file of lines `KEY: VALUE`, and runs in tests/program/fonts:
 #   word: WORD      one more word of the command line; \0NNN in it is a byte, in octal
+#   waivers: TEXT   the last words are --waive and a file of this text; \n, \r, \t and \0NNN in it are bytes.
+#                   Where more than one such line stands, each is tried in a run of its own
+#   empty: N        N empty lines stand in front of that text
+#   same: WORDS     one more run, in which these words stand behind all others, is wanted to answer the same
 #   input: NAME     standard input: a file, or `closed`; without this line nothing stands on it
 #   output: WHERE   standard output: `full` (a device that takes no byte) or `closed`; else it is compared
 #   errors: WHERE   the same of standard error
@@ -12,6 +16,7 @@
 #   out: LINE       one more wanted line of standard output
 #   has: LINE       a line that standard output has to have; it may have others
 #   hasnot: LINE    a line that it must not have
+#   count: N        how many lines it has to have, where `has` lines stand
 #   err: LINE       one more wanted line of standard error
 set -u
 LC_ALL=C
@@ -27,7 +32,7 @@ lines() {
     sed -n "s/^$1: \{0,1\}//p" "$2"
 }
 
-# Runs the program as the case says, and answers its status.
+# Runs the program as the case says, and answers its status: CASE [WORD..], words behind the case's own.
 run_program() {
     input=$(lines input "$1") output=$(lines output "$1") errors=$(lines errors "$1") memory=$(lines memory "$1")
     rm -f "$scratch/out" "$scratch/err"
@@ -35,6 +40,8 @@ run_program() {
     : >"$scratch/err"
     lines word "$1" >"$scratch/words"
     shift
+    [ $# -eq 0 ] || printf '%s\n' "$@" >>"$scratch/words"
+    set --
     while IFS= read -r word; do
         set -- "$@" "$(printf '%b' "$word")"
     done <"$scratch/words"
@@ -42,7 +49,8 @@ run_program() {
         cd "$cases/fonts" || exit 99
         case $input in
             closed) exec <&- ;;
-            ?*) exec <"$input" ;;
+            '') exec </dev/null ;;
+            *) exec <"$input" ;;
         esac
         case $output in
             closed) exec >&- ;;
@@ -69,7 +77,7 @@ is_wanted() {
     return 1
 }
 
-# Whether each line that the output has to have stands in it, and none that it must not have.
+# Whether each line that the output has to have stands in it, none that it must not have, and as many as wanted.
 has_lines() {
     lines has "$1" >"$scratch/lines"
     while IFS= read -r line; do
@@ -83,10 +91,15 @@ has_lines() {
         echo "failed: $(basename "$1" .case): the output has the line '$line'"
         return 1
     done <"$scratch/lines"
+    count=$(lines count "$1") given=$(wc -l <"$scratch/out")
+    [ "$given" -eq "${count:-$given}" ] && return 0
+    echo "failed: $(basename "$1" .case): the output has $given lines, wanted $count"
+    return 1
 }
 
-passes() {
-    run_program "$1"
+# Whether a run gives what the case wants: CASE [WORD..], words behind the case's own.
+answers() {
+    run_program "$@"
     status=$?
     wanted=$(lines status "$1")
     if [ "$status" != "$wanted" ]; then
@@ -100,6 +113,40 @@ passes() {
         is_wanted out "$scratch/out" "$1" || return 1
     fi
     is_wanted err "$scratch/err" "$1"
+}
+
+# Whether a run gives what the case wants, and one more with each of its further words: CASE [WORD..]
+answers_the_same() {
+    answers "$@" || return 1
+    lines same "$1" >"$scratch/same"
+    while IFS= read -r words; do
+        # shellcheck disable=SC2086
+        answers "$@" $words && continue
+        printf "where the last words are '%s'\n" "$words"
+        return 1
+    done <"$scratch/same"
+}
+
+# Writes a file of waivers: empty lines, then a text.
+write_waivers() {
+    head -c "$1" /dev/zero | tr '\0' '\n'
+    printf '%b' "$2"
+}
+
+# Whether each run of a case gives what it wants.
+passes() {
+    lines waivers "$1" >"$scratch/texts"
+    if [ ! -s "$scratch/texts" ]; then
+        answers_the_same "$1"
+        return
+    fi
+    empty=$(lines empty "$1")
+    while IFS= read -r text; do
+        write_waivers "${empty:-0}" "$text" >"$scratch/waivers"
+        answers_the_same "$1" --waive "$scratch/waivers" && continue
+        printf "where the waivers are '%s'\n" "$text"
+        return 1
+    done <"$scratch/texts"
 }
 
 if ! "$top/bin/t1check" --help >/dev/null; then

@@ -1,6 +1,7 @@
 pub mod Additions
 pub mod Bounds
 pub mod Deciphering
+pub mod EditionLemmas
 pub mod Enciphered
 pub mod Executing
 pub mod Expanding

@@ -5,6 +5,8 @@ use Rattle.std.proofs.lemmas.List.{take_all, take_more, get_or-take}
 use Rattle.std.proofs.lemmas.Option.{get_or_from_slice_get, slice_get_within}
 use Rattle.std.specs.Borrow.{Bor}
 use Rattle.t1_font.specs.Fonts.{FontValue}
+use Rattle.t1_char.specs.declared.edition.Edition.{Edition}
+use Rattle.t1_char.specs.Editions.{limit_of}
 use Rattle.t1_char.specs.Steps.{StepView, NumberedStep, steps_of}
 use Rattle.t1_char.specs.declared.machine.Turn.{Turn as Turns}
 use Rattle.t1_char.specs.declared.machine.Turn.TheVariants.{Step, Ended, Limit}
@@ -77,27 +79,39 @@ turns_over limit steps n no_step = by_place (nat_lt n (length (take limit steps)
         let there : n < length steps = omega (arith, within, length-take limit steps) in
         absurd (true≢false (sym (stepped_there limit steps n below there) ∙ no_step))
 
--- The same of a machine that executes this glyph of this font.
-same_turn : (limit : ℕ) (m : MachineView) (font : FontValue) (glyph : ℕ) → m.font ≡ font → m.glyph ≡ glyph → turn_at limit (steps_of m.font m.glyph) m.counted ≡ turn_at limit (steps_of font glyph) m.counted
-same_turn limit m font glyph of_font of_glyph =
-    ap (λ f. turn_at limit (steps_of f m.glyph) m.counted) of_font ∙ ap (λ g. turn_at limit (steps_of font g) m.counted) of_glyph
+-- The same of a machine that executes this glyph of this font by this edition.
+pub record Executes (edition : Edition) (font : FontValue) (glyph : ℕ) (m : MachineView) : Type 0 where
+  pub edition_is : m.edition ≡ edition
+  pub font_is : m.font ≡ font
+  pub glyph_is : m.glyph ≡ glyph
 
-pub machine_stepped : (limit : ℕ) (m : MachineView) (font : FontValue) (glyph : ℕ) (answer : NumberedStep) → m.font ≡ font → m.glyph ≡ glyph → stepped answer ≡ turn_at limit (steps_of m.font m.glyph) m.counted → IsStepped limit (steps_of font glyph) m.counted answer
-machine_stepped limit m font glyph answer of_font of_glyph is = stepped_is limit (steps_of font glyph) m.counted answer (is ∙ same_turn limit m font glyph of_font of_glyph)
+pub same_turn : (edition : Edition) (m : MachineView) (font : FontValue) (glyph : ℕ) → Executes edition font glyph m → turn_at (limit_of m.edition) (steps_of m.font m.glyph) m.counted ≡ turn_at (limit_of edition) (steps_of font glyph) m.counted
+same_turn edition m font glyph same =
+    ap (λ e. turn_at (limit_of e) (steps_of m.font m.glyph) m.counted) same.edition_is
+    ∙ ap (λ f. turn_at (limit_of edition) (steps_of f m.glyph) m.counted) same.font_is
+    ∙ ap (λ g. turn_at (limit_of edition) (steps_of font g) m.counted) same.glyph_is
 
-pub machine_counted : (limit : ℕ) (m : MachineView) (font : FontValue) (glyph : ℕ) (answer : NumberedStep) (counted : ℕ) → m.font ≡ font → m.glyph ≡ glyph → IsStepped limit (steps_of font glyph) m.counted answer → counted ≡ counted_after limit (steps_of m.font m.glyph) m.counted → counted ≡ m.counted + 1
-machine_counted limit m font glyph answer counted of_font of_glyph stepped_to is =
-    is ∙ ap (λ f. counted_after limit (steps_of f m.glyph) m.counted) of_font ∙ ap (λ g. counted_after limit (steps_of font g) m.counted) of_glyph ∙ stepped_to.counted
+pub same_count : (edition : Edition) (m : MachineView) (font : FontValue) (glyph : ℕ) → Executes edition font glyph m → counted_after (limit_of m.edition) (steps_of m.font m.glyph) m.counted ≡ counted_after (limit_of edition) (steps_of font glyph) m.counted
+same_count edition m font glyph same =
+    ap (λ e. counted_after (limit_of e) (steps_of m.font m.glyph) m.counted) same.edition_is
+    ∙ ap (λ f. counted_after (limit_of edition) (steps_of f m.glyph) m.counted) same.font_is
+    ∙ ap (λ g. counted_after (limit_of edition) (steps_of font g) m.counted) same.glyph_is
+
+pub machine_stepped : (edition : Edition) (m : MachineView) (font : FontValue) (glyph : ℕ) (answer : NumberedStep) → Executes edition font glyph m → stepped answer ≡ turn_at (limit_of m.edition) (steps_of m.font m.glyph) m.counted → IsStepped (limit_of edition) (steps_of font glyph) m.counted answer
+machine_stepped edition m font glyph answer same is = stepped_is (limit_of edition) (steps_of font glyph) m.counted answer (is ∙ same_turn edition m font glyph same)
+
+pub machine_counted : (edition : Edition) (m : MachineView) (font : FontValue) (glyph : ℕ) (answer : NumberedStep) (counted : ℕ) → Executes edition font glyph m → IsStepped (limit_of edition) (steps_of font glyph) m.counted answer → counted ≡ counted_after (limit_of m.edition) (steps_of m.font m.glyph) m.counted → counted ≡ m.counted + 1
+machine_counted edition m font glyph answer counted same stepped_to is = is ∙ same_count edition m font glyph same ∙ stepped_to.counted
 
 not_step : (turn : Turns) → ((step : Bor Steps) → turn ≡ Step step → ⊥) → is_step (turn_view turn) ≡ false
 not_step (Step step) other = absurd (other step refl)
 not_step Ended other = refl
 not_step (Limit step) other = refl
 
-pub machine_over : (limit : ℕ) (m : MachineView) (font : FontValue) (glyph : ℕ) (turn : Turns) → m.font ≡ font → m.glyph ≡ glyph → ((step : Bor Steps) → turn ≡ Step step → ⊥) → turn_view turn ≡ turn_at limit (steps_of m.font m.glyph) m.counted → take m.counted (take limit (steps_of font glyph)) ≡ take limit (steps_of font glyph)
-machine_over limit m font glyph turn of_font of_glyph other is =
-    take_all m.counted (take limit (steps_of font glyph))
-    (turns_over limit (steps_of font glyph) m.counted (ap is_step (sym (is ∙ same_turn limit m font glyph of_font of_glyph)) ∙ not_step turn other))
+pub machine_over : (edition : Edition) (m : MachineView) (font : FontValue) (glyph : ℕ) (turn : Turns) → Executes edition font glyph m → ((step : Bor Steps) → turn ≡ Step step → ⊥) → turn_view turn ≡ turn_at (limit_of m.edition) (steps_of m.font m.glyph) m.counted → take m.counted (take (limit_of edition) (steps_of font glyph)) ≡ take (limit_of edition) (steps_of font glyph)
+machine_over edition m font glyph turn same other is =
+    take_all m.counted (take (limit_of edition) (steps_of font glyph))
+    (turns_over (limit_of edition) (steps_of font glyph) m.counted (ap is_step (sym (is ∙ same_turn edition m font glyph same)) ∙ not_step turn other))
 
 -- How many calls are left.
 pub fewer_left : (limit : ℕ) (steps : List StepView) (n counted : ℕ) → counted ≡ n + 1 → n < length (take limit steps) → limit + 1 - counted < limit + 1 - n

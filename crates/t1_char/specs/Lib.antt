@@ -1,6 +1,7 @@
 pub mod Arguments
 pub mod Charstrings
 pub mod Commands
+pub mod Editions
 pub mod Effects
 pub mod Laws
 pub mod Lending

@@ -1,12 +1,14 @@
 -- A glyph that is executed one step a call. Type 1 Font Format 1.1, chapters 6 and 8.
 use Rattle.std.specs.Prelude.{ℕ, ◌+◌, nat_lt, if◌then◌else◌, Option, Some, None, List, length, take, slice_get}
 use Rattle.t1_font.specs.Fonts.{FontValue}
+use Rattle.t1_char.specs.declared.edition.Edition.{Edition}
 use Rattle.t1_char.specs.Steps.{StepView, NumberedStep}
 
--- A machine: what it executes, how often it was asked for a step, and the step that it stands before.
+-- A machine: what it executes and by which edition, how often it was asked for a step, and the step that it stands before.
 pub record MachineView : Type 0 where
   pub font : FontValue
   pub glyph : ℕ
+  pub edition : Edition
   pub counted : ℕ
   pub step : NumberedStep
 

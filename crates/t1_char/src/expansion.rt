@@ -1,6 +1,7 @@
 //! A glyph's steps as a list.
 
 ghost use Rattle.std.specs.Prelude.{◌^◌, ◌≡◌, ◌≤◌, ◌<◌, ◌-◌, ◌++◌, ◌∷◌, [], false, IfOk, MatchBool, OnOk, length, map};
+ghost use Rattle.t1_char.specs.Editions.{limit_of};
 ghost use Rattle.t1_char.specs.Effects.{effect};
 ghost use Rattle.t1_char.specs.Steps.{first_steps};
 ghost use Rattle.t1_char.specs.Workings.Actions.{IsNested, action_of};
@@ -12,6 +13,7 @@ ghost use Rattle.t1_char.specs.Workings.Steps.{AreNumbered, IsExpanded};
 use crate::action::Action;
 use crate::charstrings::{code_at, cursor_at};
 use crate::cursor::Cursor;
+use crate::edition::Edition;
 use crate::effect::{Waiting, apply};
 use crate::stack::Stack;
 use crate::step::{Path, Step, copy_of, is_last, named_at};
@@ -20,17 +22,19 @@ use arrayvec::ArrayVec;
 use std::alloc::{AllocError, Global};
 use t1_font::Font;
 
-/// How many steps of a glyph are looked at.
-pub const STEP_LIMIT: u32 = 100_000;
-
-/// The steps of a glyph, by its place, from the first on: all, or the first 100,001.
+/// The steps of a glyph, by its place, from the first on: all, or those up to the first past the limit of the edition.
 ///
 /// It is the plain form: each step keeps a path and a stack of its own.
-pub fn expand(alloc: Global, font: &Font<'_>, glyph: usize) -> Result<Vec<Step>, AllocError>
+pub fn expand(
+    alloc: Global,
+    font: &Font<'_>,
+    glyph: usize,
+    edition: Edition,
+) -> Result<Vec<Step>, AllocError>
     requires { glyph < length font.now.glyphs }
-    ensures { IfOk result (λ steps. map step_value steps.items ≡ first_steps STEP_LIMIT font.now glyph) }
+    ensures { IfOk result (λ steps. map step_value steps.items ≡ first_steps (limit_of edition) font.now glyph) }
 {
-    expand_to(alloc, STEP_LIMIT, &*font, glyph)
+    expand_to(alloc, edition.step_limit(), &*font, glyph)
 }
 
 /// The steps up to the first past a limit.

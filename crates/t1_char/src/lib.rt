@@ -13,7 +13,7 @@
 //! What is promised, for all bytes and all fonts:
 //!
 //! - the tokens are those that the definitions in `specs/` read, and the steps those of the expansion,
-//!   up to the first past the limit of [`STEP_LIMIT`], numbered from 1; want of memory alone says
+//!   up to the first past the limit of the [`Edition`], numbered from 1; want of memory alone says
 //!   nothing of them;
 //! - a machine answers just these, each at its call, then the end or the limit, however often it is asked;
 //! - a faulty charstring is executed too: a 25th number is dropped, an eleventh call isn't made, a
@@ -26,7 +26,7 @@
 //! for token in &t1_char::tokens(alloc, b"\x8b\xf8\x88\x0d\x0e", -1)? {
 //!     println!(rt; "{token:?}")?; // 0, 500, hsbw, endchar, and the end
 //! }
-//! for step in &t1_char::expand(alloc, &font, 0)? {
+//! for step in &t1_char::expand(alloc, &font, 0, Edition::One)? {
 //!     println!(rt; "{} {:?}", step.number, step.token)?;
 //! }
 //! ```
@@ -37,6 +37,7 @@ mod argument;
 mod charstrings;
 mod command;
 mod cursor;
+mod edition;
 mod effect;
 mod expansion;
 mod frames;
@@ -52,7 +53,8 @@ mod token;
 mod token_list;
 
 pub use command::{Command, command_name};
-pub use expansion::{STEP_LIMIT, expand};
+pub use edition::Edition;
+pub use expansion::expand;
 pub use laws::{
     stacks_are_taken_from_the_top, steps_are_looked_back_on, steps_follow_the_tokens,
     written_charstrings_are_read,

@@ -1,13 +1,14 @@
 //! The steps of a glyph one at a time: Type 1 Font Format 1.1, chapters 6 and 8.
 
 ghost use Rattle.std.specs.Prelude.{◌≡◌, ◌<◌, ◌≤◌, ◌+◌, length};
+ghost use Rattle.t1_char.specs.Editions.{limit_of};
 ghost use Rattle.t1_char.specs.Steps.{steps_of};
 ghost use Rattle.t1_char.specs.StepValues.{step_value};
 ghost use Rattle.t1_char.specs.Turns.{counted_after, turn_at};
 ghost use Rattle.t1_char.specs.TurnViews.{turn_view};
 ghost use Rattle.t1_char.specs.Workings.Machines.{answer_view};
 
-use crate::expansion::STEP_LIMIT;
+use crate::edition::Edition;
 use crate::frames::Frames;
 use crate::step::Step;
 use std::marker::Model;
@@ -35,7 +36,7 @@ enum Answer {
 /// A glyph that is executed step by step: no list is made, and no memory is taken.
 ///
 /// ```
-/// let mut machine = Machine::start(font, 0);
+/// let mut machine = Machine::start(font, 0, Edition::One);
 /// while let Turn::Step(step) = machine.step() {
 ///     println!(rt; "{} {:?}", step.number, step.token)?;
 /// }
@@ -44,23 +45,28 @@ enum Answer {
 pub struct Machine<'a> {
     font: &'a Font<'a>,
     glyph: usize,
+    edition: Edition,
+    /// How many steps the edition looks at.
+    limit: u32,
     counted: u32,
     answer: Answer,
     frames: Frames<'a>,
 }
 
 impl<'a> Model for Machine<'a> {
+    ghost use Rattle.std.specs.Prelude.{◌≡◌};
     ghost use Rattle.t1_char.specs.StepValues.{step_value};
     ghost use Rattle.t1_char.specs.Turns.{MachineView};
     ghost use Rattle.t1_char.specs.Workings.Machines.{IsAt};
     ghost use Rattle.t1_char.specs.Steps.{steps_of};
-    ghost use Rattle.t1_char.specs.declared.expansion.TheConstants.{STEP_LIMIT};
+    ghost use Rattle.t1_char.specs.Editions.{limit_of};
 
     ghost Value = { MachineView };
 
-    ghost view = { λ m. record { font = m.font.now; glyph = m.glyph; counted = m.counted; step = step_value m.frames.step } };
+    ghost view = { λ m. record { font = m.font.now; glyph = m.glyph; edition = m.edition; counted = m.counted; step = step_value m.frames.step } };
 
-    ghost invariant = { λ m. IsAt STEP_LIMIT (steps_of m.font.now m.glyph) m.font.now m.counted m.answer m.frames };
+    ghost invariant = { λ m. IsAt (limit_of m.edition) (steps_of m.font.now m.glyph) m.font.now m.counted m.answer m.frames
+        × (m.limit ≡ limit_of m.edition) };
 }
 
 impl<'a> Machine<'a> {
@@ -68,25 +74,28 @@ impl<'a> Machine<'a> {
     ghost use Rattle.t1_char.specs.Lending.{MovesOn};
 
     /// A machine before the first step of a glyph, by its place.
-    pub fn start(font: &'a Font<'a>, glyph: usize) -> Machine<'a>
+    pub fn start(font: &'a Font<'a>, glyph: usize, edition: Edition) -> Machine<'a>
         requires { glyph < length font.now.glyphs }
         ensures font { result.font ≡ font.now }
         ensures glyph { result.glyph ≡ glyph }
+        ensures edition { result.edition ≡ edition }
         ensures counted { result.counted ≡ 0 }
     {
         Machine {
             font,
             glyph,
+            edition,
+            limit: edition.step_limit(),
             counted: 0,
             answer: Answer::Step,
             frames: Frames::start(font, glyph),
         }
     }
 
-    /// The next step, up to the limit of [`STEP_LIMIT`]; the end and the limit are told again.
+    /// The next step, up to the limit of the edition; the end and the limit are told again.
     pub fn step(&mut self) -> Turn<'_>
         ensures* moves_on { sem 𝓛 (MovesOn self.entry) }
-        ensures turn { turn_view result ≡ turn_at STEP_LIMIT (steps_of self.old.font self.old.glyph) self.old.counted }
+        ensures turn { turn_view result ≡ turn_at (limit_of self.old.edition) (steps_of self.old.font self.old.glyph) self.old.counted }
     {
         match self.go_on() {
             Answer::Step => Turn::Step(self.shown()),
@@ -98,7 +107,7 @@ impl<'a> Machine<'a> {
     /// How often it was asked for a step, up to the first end or limit.
     pub fn counted(&self) -> u32
         ensures counted { result ≡ self.now.counted }
-        ensures most { result ≤ STEP_LIMIT + 1 }
+        ensures most { result ≤ limit_of self.now.edition + 1 }
     {
         self.counted
     }
@@ -106,11 +115,12 @@ impl<'a> Machine<'a> {
     /// Executes the step that was answered last, and reads the next.
     fn go_on(&mut self) -> Answer
         ensures answer { answer_view result self.new.step
-            ≡ turn_at STEP_LIMIT (steps_of self.old.font self.old.glyph) self.old.counted }
+            ≡ turn_at (limit_of self.old.edition) (steps_of self.old.font self.old.glyph) self.old.counted }
         ensures counted { self.new.counted
-            ≡ counted_after STEP_LIMIT (steps_of self.old.font self.old.glyph) self.old.counted }
+            ≡ counted_after (limit_of self.old.edition) (steps_of self.old.font self.old.glyph) self.old.counted }
         ensures font { self.new.font ≡ self.old.font }
         ensures glyph { self.new.glyph ≡ self.old.glyph }
+        ensures edition { self.new.edition ≡ self.old.edition }
     {
         match self.answer {
             Answer::Step => {
@@ -120,7 +130,7 @@ impl<'a> Machine<'a> {
                     return Answer::Ended;
                 }
                 self.frames.read(self.font, self.counted);
-                if self.counted > STEP_LIMIT {
+                if self.counted > self.limit {
                     self.answer = Answer::Limit;
                     return Answer::Limit;
                 }

@@ -1,12 +1,13 @@
 mod arguments;
 mod effects;
+mod limits;
 mod machines;
 mod steps;
 mod tokens;
 
 ghost use Rattle.std.specs.Prelude.{◌≡◌, length};
 
-use crate::{CharToken, Stack, Step, command_name, expand};
+use crate::{CharToken, Edition, Stack, Step, command_name, expand};
 use machines::{states_told, trace_told};
 use std::alloc::{AllocError, Global};
 use std::process::Abort;
@@ -159,7 +160,7 @@ fn clear_of(sample: &Sample) -> Result<Joined, AllocError> {
 
 fn steps_of_texts(alloc: Global, text: &Joined, private: &[u8]) -> Result<Vec<Step>, Refusal> {
     let font = font(alloc, text, private)?;
-    Ok(steps_in(alloc, &font)?)
+    Ok(steps_in(alloc, &font, Edition::One)?)
 }
 
 /// How many glyphs a font has.
@@ -169,11 +170,12 @@ fn glyph_count(font: &Font<'_>) -> usize
     font.glyphs().len()
 }
 
-fn steps_in(alloc: Global, font: &Font<'_>) -> Result<Vec<Step>, AllocError> {
+/// The steps of a font's second glyph.
+fn steps_in(alloc: Global, font: &Font<'_>, edition: Edition) -> Result<Vec<Step>, AllocError> {
     if glyph_count(font) < 2 {
         return Ok(Vec::new(alloc));
     }
-    expand(alloc, font, 1)
+    expand(alloc, font, 1, edition)
 }
 
 /// A sound font with these Subrs.

@@ -1,7 +1,7 @@
 -- What a walk has in hand: the next of its rules, the next place, and that there is none.
-use Rattle.std.proofs.Common.{◌≡◌, ◌⊎◌, ℕ, suc, ◌+◌, ◌-◌, ◌*◌, ◌<◌, ◌≤◌, inl, inr, true, false, true≢false, List, length, refl, sym, ap, subst, ◌∙◌, arith}
-use Rattle.std.proofs.lemmas.Bool.{cases_lt}
-use Rattle.t1_font.specs.Fonts.{FontValue}
+use Rattle.std.proofs.Common.{◌≡◌, ◌⊎◌, ℕ, suc, ◌+◌, ◌-◌, ◌*◌, ◌<◌, ◌≤◌, inl, inr, true, false, true≢false, List, length, refl, sym, ap, subst, ◌∙◌, arith, cond}
+use Rattle.std.proofs.lemmas.Bool.{cases_lt, eq-eqb, ne_eqb}
+use Rattle.t1_report.specs.Checked.{CheckedFont, executed}
 use Rattle.t1_rules.specs.declared.rule.Rule.{Rule}
 use Rattle.t1_rules.specs.Book.{number_of}
 use Rattle.t1_rules.specs.Mask.{HasNoneAbove, IsLeastAbove, has}
@@ -10,20 +10,21 @@ use Rattle.t1_report.specs.declared.faults.Fault.{Fault}
 use Rattle.t1_report.specs.declared.marks.Mark.{Mark}
 use Rattle.t1_report.specs.declared.walk.found.Found.{Found}
 use Rattle.t1_report.specs.declared.walk.search.Part.{Part}
-use Rattle.t1_report.specs.declared.walk.search.Part.TheVariants.{Font, Glyph, Over}
+use Rattle.t1_report.specs.declared.walk.search.Part.TheVariants.{Font, Glyph, Over, Waivers}
 use Rattle.t1_report.specs.declared.walk.search.Search.{Search}
 use Rattle.t1_report.specs.Courses.{HasInHand, IsFloor, IsInHand, turns_so_far}
 use Rattle.t1_report.specs.Faults.{FaultValue, fault_value}
-use Rattle.t1_report.specs.Reports.{Comes, IsViolated, Place, is_broken, path_in, step_limit}
-use Rattle.t1_report.specs.Searching.{HasNoneFrom, IsFirstPlace, IsFrom, IsPart, IsSearch, step_of_part, turns_in}
-use Rattle.t1_report.specs.Walks.{HasNoneLater, IsLater, IsNext, mark_of, number_behind, turns_at, turns_before}
+use Rattle.t1_report.specs.Reports.{Comes, Place, path_in, IsTold, is_told}
+use Rattle.t1_report.specs.Searching.{HasNoneFrom, checked_in, IsFirstPlace, IsFrom, IsPart, IsSearch, step_of_part, turns_in}
+use Rattle.t1_report.specs.Walks.{HasNoneLater, IsLater, IsNext, mark_of, number_behind, turns_at, turns_before, turns_asked, turns_in_all}
 use Rattle.t1_report.proofs.Fronts.{comes_on}
 use Rattle.t1_report.proofs.Units.{few_steps}
+use Rattle.t1_report.specs.Waivers.{Waiver}
 
 -- ---- the beginning
 
 pub hand_begun : (s : Search) (found : Found) (mark : Mark) → ((n : ℕ) → has found.rules n ≡ false) → s.unit ≡ mark.unit
-    → ((p : Place) → IsViolated s.font.now p → p.unit ≡ mark.unit → mark.step ≤ p.step → step_of_part s.part ≤ p.step) → HasInHand s found mark
+    → ((p : Place) → IsTold (checked_in s) s.waivers.now p → p.unit ≡ mark.unit → mark.step ≤ p.step → step_of_part s.part ≤ p.step) → HasInHand s found mark
 hand_begun s found mark none unit behind =
     record {
       broken = λ n has_it. absurd (true≢false (sym has_it ∙ none n));
@@ -32,7 +33,7 @@ hand_begun s found mark none unit behind =
       complete = λ p is later. inr (from p is later);
     }
   where
-    from : (p : Place) → IsViolated s.font.now p → IsLater mark p → IsFrom s.unit (step_of_part s.part) p.unit p.step
+    from : (p : Place) → IsTold (checked_in s) s.waivers.now p → IsLater mark p → IsFrom s.unit (step_of_part s.part) p.unit p.step
     from p is (inl less) = inl (omega (arith, less, unit))
     from p is (inr (same, inl less)) = inr (unit ∙ same, behind p is (sym same) (omega (arith, less)))
     from p is (inr (same, inr (here, above))) = inr (unit ∙ same, behind p is (sym same) (omega (arith, here)))
@@ -43,7 +44,7 @@ abbrev place : ℕ → ℕ → Rule → Place
 place u t r = record { unit = u; step = t; rule = r }
 
 in_hand_later : (s : Search) (found : Found) (mark : Mark) (floor : ℕ) (rule : Rule) → HasInHand s found mark → IsFloor mark found.unit found.step floor → IsLeastAbove found.rules floor rule
-    → (p : Place) → IsViolated s.font.now p → IsLater mark p → (place found.unit found.step rule ≡ p) ⊎ Comes found.unit found.step (number_of rule) p.unit p.step (number_of p.rule)
+    → (p : Place) → IsTold (checked_in s) s.waivers.now p → IsLater mark p → (place found.unit found.step rule ≡ p) ⊎ Comes found.unit found.step (number_of rule) p.unit p.step (number_of p.rule)
 in_hand_later s found mark floor rule hand is_floor least p is later = by_kind (hand.complete p is later)
   where
     ordered : IsInHand found p → (place found.unit found.step rule ≡ p) ⊎ Comes found.unit found.step (number_of rule) p.unit p.step (number_of p.rule)
@@ -74,7 +75,7 @@ abbrev value : ℕ → ℕ → ℕ → Rule → List ℕ → FaultValue
 value n u t r path = record { number = n; unit = u; step = t; rule = r; path = path }
 
 next_value : (s : Search) (found : Found) (mark : Mark) (floor : ℕ) (rule : Rule) → HasInHand s found mark → IsFloor mark found.unit found.step floor → IsLeastAbove found.rules floor rule
-    → IsNext s.font.now mark (value (number_behind mark.number) found.unit found.step rule found.path.items)
+    → IsNext (checked_in s) s.waivers.now mark (value (number_behind mark.number) found.unit found.step rule found.path.items)
 next_value s found mark floor rule hand is_floor least =
     record {
       violation = record { violated = hand.broken (number_of rule) least.is_in; path = hand.path (number_of rule) least.is_in };
@@ -100,11 +101,11 @@ value_is found mark rule fault is =
     ∙ ap (λ path. value fault.number fault.unit fault.step fault.rule path) (sym is.path_is)
 
 pub next_fault : (s : Search) (found : Found) (mark : Mark) (floor : ℕ) (rule : Rule) (fault : Fault) → HasInHand s found mark → IsFloor mark found.unit found.step floor → IsLeastAbove found.rules floor rule
-    → IsFaultOf found mark rule fault → IsNext s.font.now mark (fault_value fault)
+    → IsFaultOf found mark rule fault → IsNext (checked_in s) s.waivers.now mark (fault_value fault)
 next_fault s found mark floor rule fault hand is_floor least is =
-    subst (λ v. IsNext s.font.now mark v) (value_is found mark rule fault is) (next_value s found mark floor rule hand is_floor least)
+    subst (λ v. IsNext (checked_in s) s.waivers.now mark v) (value_is found mark rule fault is) (next_value s found mark floor rule hand is_floor least)
 
-pub hand_marked : (s : Search) (found : Found) (mark : Mark) (fault : FaultValue) → HasInHand s found mark → IsNext s.font.now mark fault → HasInHand s found (mark_of fault)
+pub hand_marked : (s : Search) (found : Found) (mark : Mark) (fault : FaultValue) → HasInHand s found mark → IsNext (checked_in s) s.waivers.now mark fault → HasInHand s found (mark_of fault)
 hand_marked s found mark fault hand next =
     record {
       broken = hand.broken;
@@ -115,36 +116,49 @@ hand_marked s found mark fault hand next =
 
 -- ---- turns
 
-turns_in_unit : (font : FontValue) (from unit passed u t : ℕ) (part : Part) → IsPart font from unit passed part → unit ≡ u → step_of_part part ≡ t + 1 → passed + turns_in part ≡ turns_at font from u t
-turns_in_unit font from unit passed u t (Font places) is at step = omega (arith, is.none_passed) ∙ ap (λ v. turns_at font from v t) (sym is.unit_is ∙ at)
-turns_in_unit font from unit passed u t (Glyph run) is at step =
+turns_in_unit : (font : CheckedFont) (waivers : List Waiver) (from first unit passed checked u t : ℕ) (part : Part) → IsPart font waivers from first unit passed checked part → unit ≡ u → step_of_part part ≡ t + 1 → passed + turns_in part + checked ≡ turns_at font waivers from first u t
+turns_in_unit font waivers from first unit passed checked u t (Font places) (is, none) at step = omega (arith, is.none_passed, none) ∙ ap (λ v. turns_at font waivers from first v t) (sym is.unit_is ∙ at)
+turns_in_unit font waivers from first unit passed checked u t (Glyph run) (is, none) at step =
     let glyph : suc run.machine.glyph ≡ u = omega (arith, is.unit_is, at) in
-    let counted : run.machine.counted ≡ t = omega (arith, step) in
-    ap (λ n. passed + n) counted
+    let counted : passed + run.machine.counted + checked ≡ passed + t = omega (arith, step, none) in
+    let there : run.machine.glyph < length font.value.glyphs = subst (λ (f : CheckedFont). run.machine.glyph < length f.value.glyphs) is.font_is is.runs.there in
+    counted
     ∙ ap (λ n. n + t) (is.passed_are ∙ ap (turns_before font from) (at ∙ sym glyph))
-    ∙ ap (λ v. turns_at font from v t) glyph
-turns_in_unit font from unit passed u t Over is at step = absurd (omega (arith, step))
+    ∙ ap (λ b. turns_before font from (suc run.machine.glyph) + cond b (turns_asked font waivers from first t) t) (sym (ne_eqb run.machine.glyph (length font.value.glyphs) (λ e. omega (arith, e, there))))
+    ∙ ap (λ v. turns_at font waivers from first v t) glyph
+turns_in_unit font waivers from first unit passed checked u t (Waivers next) is at step =
+    let behind : suc (length font.value.glyphs) ≡ u = omega (arith, is.unit_is, at) in
+    let last : next - 1 ≡ t = omega (arith, step) in
+    let asked : checked ≡ turns_asked font waivers from first t = is.checked_are ∙ ap (turns_asked font waivers from first) last in
+    let sum : passed + 0 + checked ≡ passed + turns_asked font waivers from first t = omega (arith, asked) in
+    sum
+    ∙ ap (λ n. n + turns_asked font waivers from first t) (is.passed_are ∙ ap (turns_before font from) (at ∙ sym behind))
+    ∙ ap (λ b. turns_before font from (suc (length font.value.glyphs)) + cond b (turns_asked font waivers from first t) t) (sym (eq-eqb (length font.value.glyphs) (length font.value.glyphs) refl))
+    ∙ ap (λ v. turns_at font waivers from first v t) behind
+turns_in_unit font waivers from first unit passed checked u t Over is at step = absurd (omega (arith, step))
 
-pub turns_found : (s : Search) (found : Found) (mark : Mark) (rule : Rule) (fault : Fault) → IsSearch s → HasInHand s found mark → has found.rules (number_of rule) ≡ true → IsFaultOf found mark rule fault → turns_so_far s ≡ turns_at s.font.now s.from fault.unit fault.step
+pub turns_found : (s : Search) (found : Found) (mark : Mark) (rule : Rule) (fault : Fault) → IsSearch s → HasInHand s found mark → has found.rules (number_of rule) ≡ true → IsFaultOf found mark rule fault
+    → turns_so_far s ≡ turns_at (checked_in s) s.waivers.now s.from s.first fault.unit fault.step
 turns_found s found mark rule fault search hand there is =
     let ahead = hand.ahead (number_of rule) there in
-    turns_in_unit s.font.now s.from s.unit s.passed fault.unit fault.step s.part search.part_is (ahead.0 ∙ sym is.unit_is) (ahead.1 ∙ ap (λ t. t + 1) (sym is.step_is))
+    turns_in_unit (checked_in s) s.waivers.now s.from s.first s.unit s.passed s.checked fault.unit fault.step s.part search.part_is (ahead.0 ∙ sym is.unit_is) (ahead.1 ∙ ap (λ t. t + 1) (sym is.step_is))
 
-turns_past : (font : FontValue) (from unit passed : ℕ) (part : Part) → IsPart font from unit passed part → length font.glyphs < unit → passed + turns_in part ≡ turns_before font from (length font.glyphs + 1)
-turns_past font from unit passed (Font places) is past = absurd (omega (arith, is.unit_is, past))
-turns_past font from unit passed (Glyph run) is past =
-    let there : run.machine.glyph < length font.glyphs = subst (λ (f : FontValue). run.machine.glyph < length f.glyphs) is.font_is is.runs.there in
+turns_past : (font : CheckedFont) (waivers : List Waiver) (from first unit passed checked : ℕ) (part : Part) → IsPart font waivers from first unit passed checked part → length font.value.glyphs + 1 < unit → passed + turns_in part + checked ≡ turns_in_all font waivers from first
+turns_past font waivers from first unit passed checked (Font places) (is, none) past = absurd (omega (arith, is.unit_is, past))
+turns_past font waivers from first unit passed checked (Glyph run) (is, none) past =
+    let there : run.machine.glyph < length font.value.glyphs = subst (λ (f : CheckedFont). run.machine.glyph < length f.value.glyphs) is.font_is is.runs.there in
     absurd (omega (arith, is.unit_is, past, there))
-turns_past font from unit passed Over is past = omega arith ∙ is.passed_are
+turns_past font waivers from first unit passed checked (Waivers next) is past = absurd (omega (arith, is.unit_is, past))
+turns_past font waivers from first unit passed checked Over (is, asked) past = omega (arith, is.passed_are, asked.0)
 
-pub turns_over : (s : Search) → IsSearch s → length s.font.now.glyphs < s.unit → turns_so_far s ≡ turns_before s.font.now s.from (length s.font.now.glyphs + 1)
-turns_over s search past = turns_past s.font.now s.from s.unit s.passed s.part search.part_is past
+pub turns_over : (s : Search) → IsSearch s → length s.font.now.glyphs + 1 < s.unit → turns_so_far s ≡ turns_in_all (checked_in s) s.waivers.now s.from s.first
+turns_over s search past = turns_past (checked_in s) s.waivers.now s.from s.first s.unit s.passed s.checked s.part search.part_is past
 
 -- ---- the next place
 
 -- Nothing in hand comes after the mark.
 to_be_found : (s : Search) (found : Found) (mark : Mark) (floor : ℕ) → HasInHand s found mark → IsFloor mark found.unit found.step floor → HasNoneAbove found.rules floor
-    → (p : Place) → IsViolated s.font.now p → IsLater mark p → IsFrom s.unit (step_of_part s.part) p.unit p.step
+    → (p : Place) → IsTold (checked_in s) s.waivers.now p → IsLater mark p → IsFrom s.unit (step_of_part s.part) p.unit p.step
 to_be_found s found mark floor hand is_floor none p is later = by_kind (hand.complete p is later)
   where
     by_kind : IsInHand found p ⊎ IsFrom s.unit (step_of_part s.part) p.unit p.step → IsFrom s.unit (step_of_part s.part) p.unit p.step
@@ -155,33 +169,33 @@ to_be_found s found mark floor hand is_floor none p is later = by_kind (hand.com
         (subst (λ u. Comes mark.unit mark.step mark.rule u found.step (number_of p.rule)) unit (subst (λ t. Comes mark.unit mark.step mark.rule p.unit t (number_of p.rule)) step later))) (in_book p.rule).1))
 
 pub hand_found : (s new : Search) (found place : Found) (mark : Mark) (floor : ℕ) → HasInHand s found mark → IsFloor mark found.unit found.step floor → HasNoneAbove found.rules floor
-    → new.font.now ≡ s.font.now → IsFirstPlace s.font.now s.unit (step_of_part s.part) place → (new.unit ≡ place.unit) × (step_of_part new.part ≡ place.step + 1) → HasInHand new place mark
-hand_found s new found place mark floor hand is_floor none font first (unit, step) =
+    → checked_in new ≡ checked_in s → new.waivers.now ≡ s.waivers.now → IsFirstPlace (checked_in s) s.waivers.now s.unit (step_of_part s.part) place → (new.unit ≡ place.unit) × (step_of_part new.part ≡ place.step + 1) → HasInHand new place mark
+hand_found s new found place mark floor hand is_floor none font waivers first (unit, step) =
     record {
-      broken = λ n there. ap (λ f. is_broken step_limit f place.unit place.step n) font ∙ sym (first.rules n) ∙ there;
-      path = λ n there. first.path ∙ ap (λ f. path_in f place.unit place.step) (sym font);
+      broken = λ n there. ap (λ f. is_told f new.waivers.now place.unit place.step n) font ∙ ap (λ w. is_told (checked_in s) w place.unit place.step n) waivers ∙ sym (first.rules n) ∙ there;
+      path = λ n there. first.path ∙ ap (λ f. path_in f.value place.unit place.step) (sym font);
       ahead = λ n there. (unit, step);
       complete = λ p is later. found_or_later p (same p is) (first.first p (same p is) (to_be_found s found mark floor hand is_floor none p (same p is) later));
     }
   where
-    same : (p : Place) → IsViolated new.font.now p → IsViolated s.font.now p
-    same p is = subst (λ f. IsViolated f p) font is
+    same : (p : Place) → IsTold (checked_in new) new.waivers.now p → IsTold (checked_in s) s.waivers.now p
+    same p is = subst (λ w. IsTold (checked_in s) w p) waivers (subst (λ f. IsTold f new.waivers.now p) font is)
 
-    found_or_later : (p : Place) → IsViolated s.font.now p → IsFrom place.unit place.step p.unit p.step → IsInHand place p ⊎ IsFrom new.unit (step_of_part new.part) p.unit p.step
+    found_or_later : (p : Place) → IsTold (checked_in s) s.waivers.now p → IsFrom place.unit place.step p.unit p.step → IsInHand place p ⊎ IsFrom new.unit (step_of_part new.part) p.unit p.step
     found_or_later p is (inl less) = inr (inl (omega (arith, less, unit)))
     found_or_later p is (inr (at, past)) =
         elim (cases_lt place.step p.step) [
           | inl more ↦ inr (inr (unit ∙ at, omega (arith, more, step)))
           | inr near ↦
               let here : p.step ≡ place.step = omega (arith, past, near) in
-              inl (sym at, here, first.rules (number_of p.rule) ∙ ap (λ u. is_broken step_limit s.font.now u place.step (number_of p.rule)) at ∙ ap (λ t. is_broken step_limit s.font.now p.unit t (number_of p.rule)) (sym here) ∙ is)
+              inl (sym at, here, first.rules (number_of p.rule) ∙ ap (λ u. is_told (checked_in s) s.waivers.now u place.step (number_of p.rule)) at ∙ ap (λ t. is_told (checked_in s) s.waivers.now p.unit t (number_of p.rule)) (sym here) ∙ is)
         ]
 
 pub hand_none : (s : Search) (found : Found) (mark : Mark) (floor : ℕ) → HasInHand s found mark → IsFloor mark found.unit found.step floor → HasNoneAbove found.rules floor
-    → HasNoneFrom s.font.now s.unit (step_of_part s.part) → HasNoneLater s.font.now mark
+    → HasNoneFrom (checked_in s) s.waivers.now s.unit (step_of_part s.part) → HasNoneLater (checked_in s) s.waivers.now mark
 hand_none s found mark floor hand is_floor none over p is later = over p is (to_be_found s found mark floor hand is_floor none p is later)
 
-pub hand_empty : (s : Search) (found : Found) (mark : Mark) → ((n : ℕ) → has found.rules n ≡ false) → HasNoneLater s.font.now mark → HasInHand s found mark
+pub hand_empty : (s : Search) (found : Found) (mark : Mark) → ((n : ℕ) → has found.rules n ≡ false) → HasNoneLater (checked_in s) s.waivers.now mark → HasInHand s found mark
 hand_empty s found mark none over =
     record {
       broken = λ n has_it. absurd (true≢false (sym has_it ∙ none n));
@@ -192,19 +206,20 @@ hand_empty s found mark none over =
 
 -- ---- the measure
 
-steps_of_part : (font : FontValue) (from unit passed : ℕ) (part : Part) → IsPart font from unit passed part → step_of_part part ≤ 1600000
-steps_of_part font from unit passed (Font places) is = omega (arith, is.places_are.key, is.places_are.index)
-steps_of_part font from unit passed (Glyph run) is = few_steps run.machine.font run.machine.glyph run.machine.counted is.runs.counted
-steps_of_part font from unit passed Over is = omega arith
+steps_of_part : (font : CheckedFont) (waivers : List Waiver) (from first unit passed checked : ℕ) (part : Part) → IsPart font waivers from first unit passed checked part → step_of_part part ≤ 1600000
+steps_of_part font waivers from first unit passed checked (Font places) (is, none) = omega (arith, is.places_are.key, is.places_are.index)
+steps_of_part font waivers from first unit passed checked (Glyph run) (is, none) = few_steps (executed run.machine) run.machine.glyph run.machine.counted is.runs.counted
+steps_of_part font waivers from first unit passed checked (Waivers next) is = omega (arith, is.within, is.few_waivers)
+steps_of_part font waivers from first unit passed checked Over is = omega arith
 
-pub fewer_places : (s new : Search) (place : Found) → IsSearch s → new.font.now ≡ s.font.now → IsFirstPlace s.font.now s.unit (step_of_part s.part) place → (new.unit ≡ place.unit) × (step_of_part new.part ≡ place.step + 1)
-    → (length new.font.now.glyphs + 1 - new.unit) * 2000000 + (2000000 - step_of_part new.part) < (length s.font.now.glyphs + 1 - s.unit) * 2000000 + (2000000 - step_of_part s.part)
+pub fewer_places : (s new : Search) (place : Found) → IsSearch s → checked_in new ≡ checked_in s → IsFirstPlace (checked_in s) s.waivers.now s.unit (step_of_part s.part) place → (new.unit ≡ place.unit) × (step_of_part new.part ≡ place.step + 1)
+    → (length new.font.now.glyphs + 2 - new.unit) * 2000000 + (2000000 - step_of_part new.part) < (length s.font.now.glyphs + 2 - s.unit) * 2000000 + (2000000 - step_of_part s.part)
 fewer_places s new place search font first (unit, step) =
-    let few : step_of_part s.part ≤ 1600000 = steps_of_part s.font.now s.from s.unit s.passed s.part search.part_is in
-    let count : length new.font.now.glyphs ≡ length s.font.now.glyphs = ap (λ f. length f.glyphs) font in
+    let few : step_of_part s.part ≤ 1600000 = steps_of_part (checked_in s) s.waivers.now s.from s.first s.unit s.passed s.checked s.part search.part_is in
+    let count : length new.font.now.glyphs ≡ length s.font.now.glyphs = ap (λ (f : CheckedFont). length f.value.glyphs) font in
     by_place few count first.behind
   where
     by_place : step_of_part s.part ≤ 1600000 → length new.font.now.glyphs ≡ length s.font.now.glyphs → IsFrom s.unit (step_of_part s.part) place.unit place.step
-        → (length new.font.now.glyphs + 1 - new.unit) * 2000000 + (2000000 - step_of_part new.part) < (length s.font.now.glyphs + 1 - s.unit) * 2000000 + (2000000 - step_of_part s.part)
+        → (length new.font.now.glyphs + 2 - new.unit) * 2000000 + (2000000 - step_of_part new.part) < (length s.font.now.glyphs + 2 - s.unit) * 2000000 + (2000000 - step_of_part s.part)
     by_place few count (inl less) = omega (arith, few, count, less, unit, step, first.within)
     by_place few count (inr (same, past)) = omega (arith, few, count, same, past, unit, step, first.within)

@@ -1,18 +1,19 @@
 -- Each font has a report: a front is carried over one rule, over a step, over a unit, and over all units.
-use Rattle.std.proofs.Common.{◌≡◌, ℕ, zero, suc, ◌+◌, ◌*◌, ◌<◌, ◌≤◌, ◌==◌, ◌&&◌, inl, inr, Bool, true, false, List, [], ◌∷◌, ◌++◌, length, take, refl, sym, subst, arith}
-use Rattle.std.proofs.lemmas.Bool.{cases_Bool, eqb-true}
+use Rattle.std.proofs.Common.{◌≡◌, ℕ, zero, suc, ◌+◌, ◌*◌, ◌<◌, ◌≤◌, ◌==◌, ◌&&◌, inl, inr, Bool, true, false, List, [], ◌∷◌, ◌++◌, length, take, refl, sym, subst, arith, ◌∙◌}
+use Rattle.std.proofs.lemmas.Bool.{cases_Bool, eqb-true, cases_order}
 use Rattle.std.proofs.lemmas.List.{length-take}
 use Rattle.t1_char.specs.Steps.{StepView, steps_of}
-use Rattle.t1_font.specs.Fonts.{FontValue}
+use Rattle.t1_report.specs.Checked.{CheckedFont, step_limit}
 use Rattle.t1_rules.specs.declared.rule.Rule.{Rule}
-use Rattle.t1_rules.specs.Book.{number_of}
-use Rattle.t1_rules.specs.Words.BookRows.{rules}
+use Rattle.t1_rules.specs.Book.{number_of, rules}
 use Rattle.t1_rules.proofs.Lemmas.Book.{both}
 use Rattle.t1_report.specs.Faults.{FaultValue}
-use Rattle.t1_report.specs.Reports.{IsFrontOf, IsReport, IsReportOf, Place, is_broken, path_at, step_limit}
-use Rattle.t1_report.proofs.Broken.{past_glyphs, past_keys, past_steps}
+use Rattle.t1_report.specs.Reports.{IsFrontOf, IsReport, IsReportOf, Place, is_broken, path_at, is_told}
+use Rattle.t1_report.proofs.Broken.{past_keys, past_steps}
 use Rattle.t1_report.proofs.Fronts.{fault_at, front_start, front_with}
 use Rattle.t1_report.proofs.UnitFronts.{all_units, first_rule, rule_passed, step_passed, unit_ends}
+use Rattle.t1_report.specs.Waivers.{Waiver}
+use Rattle.t1_report.proofs.Told.{no_waiver, past_waivers, quiet_told, told_of_waiver}
 
 -- The numbers of these rules rise from n one by one.
 rise_from : ℕ → List Rule → Bool
@@ -61,13 +62,13 @@ module _ (broken : ℕ → ℕ → ℕ → Bool) (path_of : Place → List ℕ) 
       let all : suc n + length rest ≡ n + suc (length rest) = omega arith in
       subst (HasFront unit step) all (over_rules unit step rest (suc n) parts.1 (subst (HasFront unit step) next (over_rule unit step rule (subst (HasFront unit step) (sym first) front))))
 
-  over_book : (unit step : ℕ) → HasFront unit step 1 → HasFront unit step 70
+  over_book : (unit step : ℕ) → HasFront unit step 1 → HasFront unit step 71
   over_book unit step front = over_rules unit step rules 1 all_rise front
 
   from_first : (unit step : ℕ) → HasFront unit step 0 → HasFront unit step 1
   from_first unit step (faults, front) = (faults, first_rule broken path_of unit step faults front)
 
-  past_last : (unit step : ℕ) → HasFront unit step 70 → HasFront unit (step + 1) 0
+  past_last : (unit step : ℕ) → HasFront unit step 71 → HasFront unit (step + 1) 0
   past_last unit step (faults, front) = (faults, step_passed broken path_of unit step faults front)
 
   over_step : (unit step : ℕ) → HasFront unit step 0 → HasFront unit (step + 1) 0
@@ -99,16 +100,26 @@ module _ (broken : ℕ → ℕ → ℕ → Bool) (path_of : Place → List ℕ) 
 few_steps : (limit step : ℕ) (steps : List StepView) → limit + 2 ≤ step → length (take (limit + 1) steps) < step
 few_steps limit step steps past = let count = length-take (limit + 1) steps in omega (arith, count)
 
-unit_end : (limit : ℕ) (font : FontValue) (unit : ℕ) → (count : ℕ) × ((s : ℕ) (rule : Rule) → count ≤ s → is_broken limit font unit s (number_of rule) ≡ false)
-unit_end limit font zero = (65536 * 22, λ s rule past. past_keys limit font s (number_of rule) past)
-unit_end limit font (suc glyph) =
-    (limit + 2, λ s rule past. past_steps limit font (suc glyph) glyph s (number_of rule) (omega arith) (few_steps limit s (steps_of font glyph) past))
+-- Behind the first step past the limit a glyph breaks nothing.
+pub quiet_behind : (font : CheckedFont) (glyph s : ℕ) (rule : Rule) → step_limit font + 2 ≤ s → is_broken font (suc glyph) s (number_of rule) ≡ false
+quiet_behind font glyph s rule past = past_steps font (suc glyph) glyph s (number_of rule) (omega arith) (few_steps (step_limit font) s (steps_of font.value glyph) past)
 
-has_report_at : (limit : ℕ) (font : FontValue) → (faults : List FaultValue)
-    × IsReportOf (λ p. is_broken limit font p.unit p.step (number_of p.rule) ≡ true) (path_at font) faults
-has_report_at limit font =
-    report_of (is_broken limit font) (path_at font) (unit_end limit font) (length font.glyphs + 1)
-    (λ u s rule past. past_glyphs limit font u s (number_of rule) (omega arith))
+unit_end : (font : CheckedFont) (unit : ℕ) → (count : ℕ) × ((s : ℕ) (rule : Rule) → count ≤ s → is_broken font unit s (number_of rule) ≡ false)
+unit_end font zero = (65536 * 22, λ s rule past. past_keys font s (number_of rule) past)
+unit_end font (suc glyph) = (step_limit font + 2, quiet_behind font glyph)
 
-pub has_report : (font : FontValue) → (faults : List FaultValue) × IsReport font faults
-has_report font = has_report_at step_limit font
+told_end : (font : CheckedFont) (waivers : List Waiver) (unit : ℕ) → (count : ℕ) × ((s : ℕ) (rule : Rule) → count ≤ s → is_told font waivers unit s (number_of rule) ≡ false)
+told_end font waivers unit = elim (cases_order unit (length font.value.glyphs + 1)) [
+  | inl same ↦ (length waivers + 1, λ s rule past. told_of_waiver font waivers unit s (number_of rule) same ∙ no_waiver font waivers s (number_of rule) (omega (arith, past)))
+  | inr (inl less) ↦ ((unit_end font unit).0, λ s rule past. quiet_told font waivers unit s (number_of rule) (omega (arith, less)) ((unit_end font unit).1 s rule past))
+  | inr (inr more) ↦ (0, λ s rule past. past_waivers font waivers unit s (number_of rule) more)
+]
+
+has_report_at : (font : CheckedFont) (waivers : List Waiver) → (faults : List FaultValue)
+    × IsReportOf (λ p. is_told font waivers p.unit p.step (number_of p.rule) ≡ true) (path_at font) faults
+has_report_at font waivers =
+    report_of (is_told font waivers) (path_at font) (told_end font waivers) (length font.value.glyphs + 2)
+    (λ u s rule past. past_waivers font waivers u s (number_of rule) (omega (arith, past)))
+
+pub has_report : (font : CheckedFont) (waivers : List Waiver) → (faults : List FaultValue) × IsReport font waivers faults
+has_report font waivers = has_report_at font waivers

@@ -3,15 +3,16 @@ use Rattle.std.proofs.Common.{◌≡◌, ◌↔◌, ℕ, zero, suc, ◌+◌, ◌
 use Rattle.std.proofs.lemmas.List.{drop_all}
 use Rattle.std.proofs.lemmas.Option.{get_or_from_slice_get, slice_get_cases, slice_get_within}
 use Rattle.std.proofs.Math.Seq.{drop-cons}
-use Rattle.t1_font.specs.Fonts.{FontValue}
+use Rattle.t1_report.specs.Checked.{CheckedFont}
 use Rattle.t1_report.specs.declared.marks.Mark.{Mark}
 use Rattle.t1_report.specs.Faults.{FaultValue}
 use Rattle.t1_report.specs.Laws.Walks.{AreTheReport, AreTheRest}
-use Rattle.t1_report.specs.Reports.{IsReport, IsReportOf, IsViolated, Place, path_at}
+use Rattle.t1_report.specs.Reports.{IsReport, IsReportOf, Place, path_at, IsTold}
 use Rattle.t1_report.specs.Walks.{AreLater, AreLaterOf, IsSoFar, first_mark, mark_of}
 use Rattle.t1_report.proofs.FewFaults.{few_faults}
 use Rattle.t1_report.proofs.HasReport.{has_report}
 use Rattle.t1_report.proofs.SoFar.{has_none_later, is_next, next_is, none_left, one_more, so_far_at, so_far_start}
+use Rattle.t1_report.specs.Waivers.{Waiver}
 
 drop_next : (faults : List FaultValue) (k : ℕ) (fault : FaultValue) → slice_get faults k ≡ Some fault → drop k faults ≡ fault ∷ drop (k + 1) faults
 drop_next faults k fault is =
@@ -56,19 +57,19 @@ module _ (Violated : Place → Type 0) (path_of : Place → List ℕ) where
 
 -- ---- in a font
 
-rest_in_font : (font : FontValue) (faults : List FaultValue) (k : ℕ) (mark : Mark) (later : List FaultValue) → length font.glyphs ≤ 65535 → IsReport font faults
-    → IsSoFar faults k mark → AreLater font mark later ↔ (later ≡ drop k faults)
-rest_in_font font faults k mark later few report = rest_is (IsViolated font) (path_at font) faults k mark later (few_faults font faults few report) report
+rest_in_font : (font : CheckedFont) (waivers : List Waiver) (faults : List FaultValue) (k : ℕ) (mark : Mark) (later : List FaultValue) → length font.value.glyphs ≤ 65535 → length waivers ≤ 1048576 → IsReport font waivers faults
+    → IsSoFar faults k mark → AreLater font waivers mark later ↔ (later ≡ drop k faults)
+rest_in_font font waivers faults k mark later few few_waivers report = rest_is (IsTold font waivers) (path_at font) faults k mark later (few_faults font waivers faults few few_waivers report) report
 
-are_report : (font : FontValue) (report faults : List FaultValue) → length font.glyphs ≤ 65535 → IsReport font report → AreLater font first_mark faults → IsReport font faults
-are_report font report faults few is later =
-    let same : faults ≡ report = (rest_in_font font report 0 first_mark faults few is (so_far_start report)).0 later in
-    subst (IsReport font) (sym same) is
+are_report : (font : CheckedFont) (waivers : List Waiver) (report faults : List FaultValue) → length font.value.glyphs ≤ 65535 → length waivers ≤ 1048576 → IsReport font waivers report → AreLater font waivers first_mark faults → IsReport font waivers faults
+are_report font waivers report faults few few_waivers is later =
+    let same : faults ≡ report = (rest_in_font font waivers report 0 first_mark faults few few_waivers is (so_far_start report)).0 later in
+    subst (IsReport font waivers) (sym same) is
 
 pub the_report : AreTheReport
-the_report font faults few =
-    let some = has_report font in
-    (are_report font some.0 faults few some.1, λ report. (rest_in_font font faults 0 first_mark faults few report (so_far_start faults)).1 refl)
+the_report font waivers faults few few_waivers =
+    let some = has_report font waivers in
+    (are_report font waivers some.0 faults few few_waivers some.1, λ report. (rest_in_font font waivers faults 0 first_mark faults few few_waivers report (so_far_start faults)).1 refl)
 
 pub the_rest : AreTheRest
-the_rest font faults k fault rest few report is = rest_in_font font faults (k + 1) (mark_of fault) rest few report (so_far_at faults k fault report.rising report.numbered is)
+the_rest font waivers faults k fault rest few few_waivers report is = rest_in_font font waivers faults (k + 1) (mark_of fault) rest few few_waivers report (so_far_at faults k fault report.rising report.numbered is)

@@ -3,7 +3,7 @@ use Rattle.std.proofs.Common.{◌≡◌, ℕ, ◌+◌, ◌<◌, zero, suc, List,
 use Rattle.std.specs.List.{Any, slice_index_or}
 use Rattle.t1_rules.specs.Book.{number_of}
 use Rattle.t1_report.specs.Faults.{FaultValue}
-use Rattle.t1_report.specs.Reports.{Place, Comes, IsBefore, place_of, StandsAt, IsRising, AreNumbered, IsReportOf, IsViolated, path_at}
+use Rattle.t1_report.specs.Reports.{Place, Comes, IsBefore, place_of, StandsAt, IsRising, AreNumbered, IsReportOf, path_at, IsTold}
 use Rattle.t1_report.specs.Laws.Reports.{HasNoOtherReport}
 
 never_itself : (u s r : ℕ) → Comes u s r u s r → ⊥
@@ -29,14 +29,14 @@ both p q = never_both p.unit p.step (number_of p.rule) q.unit q.step (number_of 
 -- ---- lists of faults
 
 -- the places of some faults are places of others
-abbrev AreAmong : List FaultValue → List FaultValue → Type 0
+abbrev pub AreAmong : List FaultValue → List FaultValue → Type 0
 AreAmong xs ys = (i : ℕ) (d : FaultValue) → i < length xs → Any (StandsAt (place_of (slice_index_or xs i d))) ys
 
 -- each has the path of its place
-abbrev HavePaths : (Place → List ℕ) → List FaultValue → Type 0
+abbrev pub HavePaths : (Place → List ℕ) → List FaultValue → Type 0
 HavePaths path_of xs = (i : ℕ) (d : FaultValue) → i < length xs → (slice_index_or xs i d).path ≡ path_of (place_of (slice_index_or xs i d))
 
-rising_tail : (x : FaultValue) (xs : List FaultValue) → IsRising (x ∷ xs) → IsRising xs
+pub rising_tail : (x : FaultValue) (xs : List FaultValue) → IsRising (x ∷ xs) → IsRising xs
 rising_tail x xs rising i j d lt within = rising (suc i) (suc j) d (omega arith) (omega arith)
 
 rising_head : (x : FaultValue) (xs : List FaultValue) → IsRising (x ∷ xs) → (i : ℕ) (d : FaultValue) → i < length xs → IsBefore (place_of x) (place_of (slice_index_or xs i d))
@@ -51,7 +51,7 @@ first_or_later p y ys rising (zero, z, lt, at, same) = inl (subst (StandsAt p) (
 first_or_later p y ys rising (suc k, z, lt, at, same) =
     inr (subst (IsBefore (place_of y)) same (subst (λ f. IsBefore (place_of y) (place_of f)) at (rising_head y ys rising k z (omega arith))))
 
-heads_same : (x y : FaultValue) (xs ys : List FaultValue) → IsRising (x ∷ xs) → IsRising (y ∷ ys) → AreAmong (x ∷ xs) (y ∷ ys) → AreAmong (y ∷ ys) (x ∷ xs) → place_of x ≡ place_of y
+pub heads_same : (x y : FaultValue) (xs ys : List FaultValue) → IsRising (x ∷ xs) → IsRising (y ∷ ys) → AreAmong (x ∷ xs) (y ∷ ys) → AreAmong (y ∷ ys) (x ∷ xs) → place_of x ≡ place_of y
 heads_same x y xs ys rise rise' among among' =
     elim (first_or_later (place_of x) y ys rise' (among 0 x (omega arith))) [
       | inl same ↦ sym same
@@ -62,7 +62,7 @@ heads_same x y xs ys rise rise' among among' =
     ]
 
 -- what comes after the first stands after the other's first
-among_tail : (x y : FaultValue) (xs ys : List FaultValue) → place_of x ≡ place_of y → IsRising (x ∷ xs) → AreAmong (x ∷ xs) (y ∷ ys) → AreAmong xs ys
+pub among_tail : (x y : FaultValue) (xs ys : List FaultValue) → place_of x ≡ place_of y → IsRising (x ∷ xs) → AreAmong (x ∷ xs) (y ∷ ys) → AreAmong xs ys
 among_tail x y xs ys same rising among i d lt = later (among (suc i) d (omega arith))
   where
     later : Any (StandsAt (place_of (slice_index_or xs i d))) (y ∷ ys) → Any (StandsAt (place_of (slice_index_or xs i d))) ys
@@ -99,4 +99,4 @@ one_report Violated path_of a b p q =
     (λ i d lt. (p.violations i d lt).path) (λ i d lt. (q.violations i d lt).path)
 
 pub no_other_report : HasNoOtherReport
-no_other_report font a b = one_report (IsViolated font) (path_at font) a b
+no_other_report font waivers a b = one_report (IsTold font waivers) (path_at font) a b

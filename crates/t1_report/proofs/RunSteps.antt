@@ -2,23 +2,23 @@
 use Rattle.std.proofs.Common.{◌≡◌, ℕ, ◌+◌, ◌-◌, ◌<◌, ◌≤◌, inl, inr, if◌then◌else◌, nat_lt, Bool, true, false, Option, Some, List, [], ◌∷◌, ◌++◌, slice_get, length, length-take, take, refl, sym, ap, subst, ◌∙◌, le-ltb, arith}
 use Rattle.std.proofs.lemmas.Bool.{cases_lt, ltb-true, ltb-false}
 use Rattle.std.proofs.lemmas.List.{take_all}
+use Rattle.t1_char.specs.Editions.{limit_of}
 use Rattle.t1_char.specs.declared.step.Step.{Step}
 use Rattle.t1_char.specs.Steps.{StepView, steps_of}
 use Rattle.t1_char.specs.StepValues.{step_view, step_value}
 use Rattle.t1_char.specs.Turns.{MachineView, stepped, ended, limited, turn_at, counted_after}
 use Rattle.t1_char.proofs.TurnsTaken.{IsStepped, IsLimited, IsOver, stepped_is, limited_is, ended_is}
-use Rattle.t1_font.specs.Fonts.{FontValue}
+use Rattle.t1_report.specs.Checked.{CheckedFont, checked, executed, step_limit}
 use Rattle.t1_rules.specs.declared.mask.Mask.{Mask}
 use Rattle.t1_rules.specs.declared.rule.Rule.{Rule}
-use Rattle.t1_rules.specs.declared.sidebearings.Component.{Component}
 use Rattle.t1_rules.specs.declared.watches.Watches.{Watches}
 use Rattle.t1_rules.specs.Book.{number_of}
-use Rattle.t1_rules.specs.Components.{components_of}
+use Rattle.t1_rules.specs.Components.{AreOf, ComponentsView, components_of}
 use Rattle.t1_rules.specs.Mask.{HasNoneAbove, has}
 use Rattle.t1_rules.specs.StepRules.{StepRule, charstring_rules}
 use Rattle.t1_rules.proofs.Lemmas.Book.{in_book}
 use Rattle.t1_report.specs.declared.walk.found.Found.{Found}
-use Rattle.t1_report.specs.Reports.{is_broken, path_in, path_of_step, rules_of, step_breaks, step_limit}
+use Rattle.t1_report.specs.Reports.{is_broken, path_in, path_of_step, rules_of, step_breaks}
 use Rattle.t1_report.specs.Searches.{IsFirst, IsQuiet, IsRun}
 use Rattle.t1_report.specs.Workings.{HaveSeen}
 use Rattle.t1_report.specs.Walks.{turns_of_glyph}
@@ -40,73 +40,75 @@ listed_limited limit all n step near is =
     }
 
 -- Either is one turn more.
-pub turns_stepped : (font : FontValue) (glyph n : ℕ) (step : Step) → IsStepped step_limit (steps_of font glyph) n (step_value step) → n + 1 ≤ turns_of_glyph font glyph
+pub turns_stepped : (font : CheckedFont) (glyph n : ℕ) (step : Step) → IsStepped (step_limit font) (steps_of font.value glyph) n (step_value step) → n + 1 ≤ turns_of_glyph font glyph
 unfolding turns_of_glyph
 turns_stepped font glyph n step is = omega (arith, is.within)
 
 turns_past : (limit : ℕ) (all : List StepView) (n : ℕ) → n ≤ limit → limit < length all → n + 1 ≤ length (take limit all) + 1
 turns_past limit all n near within = omega (arith, near, within, length-take limit all)
 
-pub turns_limited : (font : FontValue) (glyph n : ℕ) (step : Step) → n ≤ step_limit → IsLimited step_limit (steps_of font glyph) n (step_value step) → n + 1 ≤ turns_of_glyph font glyph
+pub turns_limited : (font : CheckedFont) (glyph n : ℕ) (step : Step) → n ≤ step_limit font → IsLimited (step_limit font) (steps_of font.value glyph) n (step_value step) → n + 1 ≤ turns_of_glyph font glyph
 unfolding turns_of_glyph
-turns_limited font glyph n step near is = turns_past step_limit (steps_of font glyph) n near is.within
+turns_limited font glyph n step near is = turns_past (step_limit font) (steps_of font.value glyph) n near is.within
 
 -- What watchers and components answer at a listed step is what is broken there.
-pub step_agrees : (font : FontValue) (unit glyph place : ℕ) (step : Step) (components : List Component) (mask : Mask) → unit ≡ glyph + 1 → glyph < length font.glyphs → IsListed step_limit (steps_of font glyph) place step → components ≡ components_of step_limit font
-    → ((n : ℕ) → has mask n ≡ step_breaks step_limit (charstring_rules components) n (take place (steps_of font glyph)) (Some (step_view step)))
-    → (n : ℕ) → has mask n ≡ is_broken step_limit font unit step.number n
-step_agrees font unit glyph place step components mask at there is are answers n =
-    let all : List StepView = steps_of font glyph in
+pub step_agrees : (font : CheckedFont) (unit glyph place : ℕ) (step : Step) (components : ComponentsView) (mask : Mask) → unit ≡ glyph + 1 → glyph < length font.value.glyphs → IsListed (step_limit font) (steps_of font.value glyph) place step → AreOf font.value components → components.edition ≡ font.edition
+    → ((n : ℕ) → has mask n ≡ step_breaks (limit_of components.edition) (charstring_rules components.edition components.components) n (take place (steps_of font.value glyph)) (Some (step_view step)))
+    → (n : ℕ) → has mask n ≡ is_broken font unit step.number n
+step_agrees font unit glyph place step components mask at there is are same answers n =
+    let all : List StepView = steps_of font.value glyph in
+    let those : components.components ≡ components_of (step_limit font) font.value = are ∙ ap (λ e. components_of (limit_of e) font.value) same in
     answers n
-    ∙ ap (λ (rules : List StepRule). step_breaks step_limit rules n (take place all) (Some (step_view step))) (rules_by step_limit font components are)
-    ∙ ap (λ (s : Option StepView). step_breaks step_limit (rules_of step_limit font) n (take place all) s) (sym is.there)
-    ∙ sym (at_step step_limit font unit step.number glyph place n at is.number there)
+    ∙ ap (λ e. step_breaks (limit_of e) (charstring_rules e components.components) n (take place all) (Some (step_view step))) same
+    ∙ ap (λ (rules : List StepRule). step_breaks (step_limit font) rules n (take place all) (Some (step_view step))) (rules_by font components.components those)
+    ∙ ap (λ (s : Option StepView). step_breaks (step_limit font) (rules_of font) n (take place all) s) (sym is.there)
+    ∙ sym (at_step font unit step.number glyph place n at is.number there)
 
 -- One quiet step more.
-pub quiet_more : (font : FontValue) (unit from n : ℕ) (step : Step) (mask : Mask) → step.number ≡ n + 1 → IsQuiet font unit from (n + 1) → ((k : ℕ) → has mask k ≡ is_broken step_limit font unit step.number k) → HasNoneAbove mask 0 → IsQuiet font unit from (n + 1 + 1)
+pub quiet_more : (font : CheckedFont) (unit from n : ℕ) (step : Step) (mask : Mask) → step.number ≡ n + 1 → IsQuiet font unit from (n + 1) → ((k : ℕ) → has mask k ≡ is_broken font unit step.number k) → HasNoneAbove mask 0 → IsQuiet font unit from (n + 1 + 1)
 quiet_more font unit from n step mask number so_far agrees none = λ s rule past less.
     elim (cases_lt s (n + 1)) [
       | inl before ↦ so_far s rule past before
       | inr here ↦
           let at : s ≡ step.number = omega (arith, here, less, number) in
-          ap (λ (t : ℕ). is_broken step_limit font unit t (number_of rule)) at
+          ap (λ (t : ℕ). is_broken font unit t (number_of rule)) at
           ∙ sym (agrees (number_of rule)) ∙ none (number_of rule) (in_book rule).0 (in_book rule).1
     ]
 
 -- What was found at a listed step.
-pub found_at : (font : FontValue) (unit glyph from n : ℕ) (step : Step) (found : Found) → unit ≡ glyph + 1 → IsListed step_limit (steps_of font glyph) n step → from ≤ n + 1
+pub found_at : (font : CheckedFont) (unit glyph from n : ℕ) (step : Step) (found : Found) → glyph < length font.value.glyphs → unit ≡ glyph + 1 → IsListed (step_limit font) (steps_of font.value glyph) n step → from ≤ n + 1
     → IsQuiet font unit from (n + 1) → found.unit ≡ unit → found.step ≡ step.number → found.path.items ≡ step.path.items
-    → ((k : ℕ) → has found.rules k ≡ is_broken step_limit font unit step.number k) → IsFirst font unit from found
-found_at font unit glyph from n step found at is past so_far unit_is step_is path agrees =
+    → ((k : ℕ) → has found.rules k ≡ is_broken font unit step.number k) → IsFirst font unit from found
+found_at font unit glyph from n step found there at is past so_far unit_is step_is path agrees =
     record {
       unit_is = unit_is;
       behind = omega (arith, past, step_is, is.number);
       quiet = subst (λ k. IsQuiet font unit from k) (sym (step_is ∙ is.number)) so_far;
-      rules = λ k. agrees k ∙ ap (λ s. is_broken step_limit font unit s k) (sym step_is);
-      path = path ∙ sym (ap (path_in font unit) step_is ∙ path_at_step font unit step.number glyph n at is.number ∙ ap path_of_step is.there);
+      rules = λ k. agrees k ∙ ap (λ s. is_broken font unit s k) (sym step_is);
+      path = path ∙ sym (ap (path_in font.value unit) step_is ∙ path_at_step font.value unit step.number glyph n at is.number there ∙ ap path_of_step is.there);
     }
 
 -- Behind the end, and behind the limit, nothing is broken, and all turns were taken.
-quiet_past : (limit : ℕ) (font : FontValue) (unit glyph from n : ℕ) → unit ≡ glyph + 1 → length (take (limit + 1) (steps_of font glyph)) ≤ n
-    → ((s : ℕ) (r : Rule) → from ≤ s → s < n + 1 → is_broken limit font unit s (number_of r) ≡ false)
-    → (s : ℕ) (r : Rule) → from ≤ s → is_broken limit font unit s (number_of r) ≡ false
-quiet_past limit font unit glyph from n at all so_far s rule past =
+quiet_past : (font : CheckedFont) (unit glyph from n : ℕ) → unit ≡ glyph + 1 → length (take (step_limit font + 1) (steps_of font.value glyph)) ≤ n
+    → ((s : ℕ) (r : Rule) → from ≤ s → s < n + 1 → is_broken font unit s (number_of r) ≡ false)
+    → (s : ℕ) (r : Rule) → from ≤ s → is_broken font unit s (number_of r) ≡ false
+quiet_past font unit glyph from n at all so_far s rule past =
     elim (cases_lt s (n + 1)) [
       | inl before ↦ so_far s rule past before
-      | inr behind ↦ past_steps limit font unit glyph s (number_of rule) at (omega (arith, behind, all))
+      | inr behind ↦ past_steps font unit glyph s (number_of rule) at (omega (arith, behind, all))
     ]
 
-pub quiet_over : (limit : ℕ) (font : FontValue) (unit glyph from n : ℕ) → unit ≡ glyph + 1 → IsOver limit (steps_of font glyph) n
-    → ((s : ℕ) (r : Rule) → from ≤ s → s < n + 1 → is_broken limit font unit s (number_of r) ≡ false)
-    → (s : ℕ) (r : Rule) → from ≤ s → is_broken limit font unit s (number_of r) ≡ false
-quiet_over limit font unit glyph from n at over so_far =
-    quiet_past limit font unit glyph from n at (omega (arith, over.all, length-take (limit + 1) (steps_of font glyph))) so_far
+pub quiet_over : (font : CheckedFont) (unit glyph from n : ℕ) → unit ≡ glyph + 1 → IsOver (step_limit font) (steps_of font.value glyph) n
+    → ((s : ℕ) (r : Rule) → from ≤ s → s < n + 1 → is_broken font unit s (number_of r) ≡ false)
+    → (s : ℕ) (r : Rule) → from ≤ s → is_broken font unit s (number_of r) ≡ false
+quiet_over font unit glyph from n at over so_far =
+    quiet_past font unit glyph from n at (omega (arith, over.all, length-take (step_limit font + 1) (steps_of font.value glyph))) so_far
 
-pub quiet_limit : (limit : ℕ) (font : FontValue) (unit glyph from n : ℕ) → unit ≡ glyph + 1 → limit < n
-    → ((s : ℕ) (r : Rule) → from ≤ s → s < n + 1 → is_broken limit font unit s (number_of r) ≡ false)
-    → (s : ℕ) (r : Rule) → from ≤ s → is_broken limit font unit s (number_of r) ≡ false
-quiet_limit limit font unit glyph from n at past so_far =
-    quiet_past limit font unit glyph from n at (omega (arith, past, length-take (limit + 1) (steps_of font glyph))) so_far
+pub quiet_limit : (font : CheckedFont) (unit glyph from n : ℕ) → unit ≡ glyph + 1 → step_limit font < n
+    → ((s : ℕ) (r : Rule) → from ≤ s → s < n + 1 → is_broken font unit s (number_of r) ≡ false)
+    → (s : ℕ) (r : Rule) → from ≤ s → is_broken font unit s (number_of r) ≡ false
+quiet_limit font unit glyph from n at past so_far =
+    quiet_past font unit glyph from n at (omega (arith, past, length-take (step_limit font + 1) (steps_of font.value glyph))) so_far
 
 over_turns : (limit : ℕ) (all : List StepView) (n counted : ℕ) → IsOver limit all n → n ≤ length (take limit all) + 1 → counted ≡ counted_after limit all n → counted ≡ length (take limit all) + 1
 over_turns limit all n counted over few is = is ∙ by_place (nat_lt (length (take limit all)) n) refl
@@ -115,30 +117,34 @@ over_turns limit all n counted over few is = is ∙ by_place (nat_lt (length (ta
     by_place true past = omega (arith, ltb-true (length (take limit all)) n past, few)
     by_place false near = omega (arith, ltb-false (length (take limit all)) n near, over.all, over.few, length-take limit all)
 
-pub turns_over : (font : FontValue) (glyph n counted : ℕ) → IsOver step_limit (steps_of font glyph) n → n ≤ turns_of_glyph font glyph → counted ≡ counted_after step_limit (steps_of font glyph) n → counted ≡ turns_of_glyph font glyph
+pub turns_over : (font : CheckedFont) (glyph n counted : ℕ) → IsOver (step_limit font) (steps_of font.value glyph) n → n ≤ turns_of_glyph font glyph → counted ≡ counted_after (step_limit font) (steps_of font.value glyph) n → counted ≡ turns_of_glyph font glyph
 unfolding turns_of_glyph
-turns_over font glyph n counted over few is = over_turns step_limit (steps_of font glyph) n counted over few is
+turns_over font glyph n counted over few is = over_turns (step_limit font) (steps_of font.value glyph) n counted over few is
 
 limit_turns : (limit : ℕ) (all : List StepView) (n : ℕ) → limit < n → n ≤ length (take limit all) + 1 → n ≡ length (take limit all) + 1
 limit_turns limit all n past few = omega (arith, past, few, length-take limit all)
 
-pub turns_at_limit : (font : FontValue) (glyph n : ℕ) → step_limit < n → n ≤ turns_of_glyph font glyph → n ≡ turns_of_glyph font glyph
+pub turns_at_limit : (font : CheckedFont) (glyph n : ℕ) → step_limit font < n → n ≤ turns_of_glyph font glyph → n ≡ turns_of_glyph font glyph
 unfolding turns_of_glyph
-turns_at_limit font glyph n past few = limit_turns step_limit (steps_of font glyph) n past few
+turns_at_limit font glyph n past few = limit_turns (step_limit font) (steps_of font.value glyph) n past few
 
 -- The machine told a step, or the limit: the step is that of the list, and it was asked once more.
-pub record IsTold (font : FontValue) (glyph n counted : ℕ) (step : Step) : Type 0 where
-  pub listed : IsListed step_limit (steps_of font glyph) n step
+pub record IsTold (font : CheckedFont) (glyph n counted : ℕ) (step : Step) : Type 0 where
+  pub listed : IsListed (step_limit font) (steps_of font.value glyph) n step
   pub counted_is : counted ≡ n + 1
   pub turns : counted ≤ turns_of_glyph font glyph
 
-same_turn : (limit : ℕ) (m : MachineView) (font : FontValue) (glyph : ℕ) → m.font ≡ font → m.glyph ≡ glyph → turn_at limit (steps_of m.font m.glyph) m.counted ≡ turn_at limit (steps_of font glyph) m.counted
-same_turn limit m font glyph of_font of_glyph =
-    ap (λ f. turn_at limit (steps_of f m.glyph) m.counted) of_font ∙ ap (λ g. turn_at limit (steps_of font g) m.counted) of_glyph
+same_turn : (m : MachineView) (font : CheckedFont) (glyph : ℕ) → executed m ≡ font → m.glyph ≡ glyph → turn_at (limit_of m.edition) (steps_of m.font m.glyph) m.counted ≡ turn_at (step_limit font) (steps_of font.value glyph) m.counted
+same_turn m font glyph of_font of_glyph =
+    ap (λ (f : CheckedFont). turn_at (step_limit f) (steps_of f.value m.glyph) m.counted) of_font ∙ ap (λ g. turn_at (step_limit font) (steps_of font.value g) m.counted) of_glyph
 
-same_count : (limit : ℕ) (m : MachineView) (font : FontValue) (glyph counted : ℕ) → m.font ≡ font → m.glyph ≡ glyph → counted ≡ counted_after limit (steps_of m.font m.glyph) m.counted → counted ≡ counted_after limit (steps_of font glyph) m.counted
-same_count limit m font glyph counted of_font of_glyph is =
-    is ∙ ap (λ f. counted_after limit (steps_of f m.glyph) m.counted) of_font ∙ ap (λ g. counted_after limit (steps_of font g) m.counted) of_glyph
+same_count : (m : MachineView) (font : CheckedFont) (glyph counted : ℕ) → executed m ≡ font → m.glyph ≡ glyph → counted ≡ counted_after (limit_of m.edition) (steps_of m.font m.glyph) m.counted → counted ≡ counted_after (step_limit font) (steps_of font.value glyph) m.counted
+same_count m font glyph counted of_font of_glyph is =
+    is ∙ ap (λ (f : CheckedFont). counted_after (step_limit f) (steps_of f.value m.glyph) m.counted) of_font ∙ ap (λ g. counted_after (step_limit font) (steps_of font.value g) m.counted) of_glyph
+
+-- A machine of the same font and edition.
+pub same_executed : (new old : MachineView) → new.font ≡ old.font → new.edition ≡ old.edition → executed new ≡ executed old
+same_executed new old font edition = ap (λ f. checked f new.edition) font ∙ ap (checked old.font) edition
 
 count_near : (limit : ℕ) (all : List StepView) (n : ℕ) → n ≤ length (take limit all) → counted_after limit all n ≡ n + 1
 count_near limit all n near = ap (λ b. if b then n else n + 1) (le-ltb (length (take limit all)) n near)
@@ -147,73 +153,73 @@ count_limited : (limit : ℕ) (all : List StepView) (n : ℕ) → n ≤ limit �
 count_limited limit all n near within = count_near limit all n (omega (arith, near, within, length-take limit all))
 
 -- A machine that was asked at most as often as the limit, by what it answered.
-pub told_step : (m : MachineView) (font : FontValue) (glyph counted : ℕ) (step : Step) → m.font ≡ font → m.glyph ≡ glyph → m.counted ≤ step_limit
-    → counted ≡ counted_after step_limit (steps_of m.font m.glyph) m.counted → stepped (step_value step) ≡ turn_at step_limit (steps_of m.font m.glyph) m.counted → IsTold font glyph m.counted counted step
+pub told_step : (m : MachineView) (font : CheckedFont) (glyph counted : ℕ) (step : Step) → executed m ≡ font → m.glyph ≡ glyph → m.counted ≤ step_limit font
+    → counted ≡ counted_after (limit_of m.edition) (steps_of m.font m.glyph) m.counted → stepped (step_value step) ≡ turn_at (limit_of m.edition) (steps_of m.font m.glyph) m.counted → IsTold font glyph m.counted counted step
 told_step m font glyph counted step of_font of_glyph near count turn =
-    let is : IsStepped step_limit (steps_of font glyph) m.counted (step_value step) = stepped_is step_limit (steps_of font glyph) m.counted (step_value step) (turn ∙ same_turn step_limit m font glyph of_font of_glyph) in
-    let once : counted ≡ m.counted + 1 = same_count step_limit m font glyph counted of_font of_glyph count ∙ is.counted in
+    let is : IsStepped (step_limit font) (steps_of font.value glyph) m.counted (step_value step) = stepped_is (step_limit font) (steps_of font.value glyph) m.counted (step_value step) (turn ∙ same_turn m font glyph of_font of_glyph) in
+    let once : counted ≡ m.counted + 1 = same_count m font glyph counted of_font of_glyph count ∙ is.counted in
     record {
-      listed = listed_stepped step_limit (steps_of font glyph) m.counted step is;
+      listed = listed_stepped (step_limit font) (steps_of font.value glyph) m.counted step is;
       counted_is = once;
       turns = subst (λ k. k ≤ turns_of_glyph font glyph) (sym once) (turns_stepped font glyph m.counted step is);
     }
 
-pub told_limit : (m : MachineView) (font : FontValue) (glyph counted : ℕ) (step : Step) → m.font ≡ font → m.glyph ≡ glyph → m.counted ≤ step_limit
-    → counted ≡ counted_after step_limit (steps_of m.font m.glyph) m.counted → limited (step_value step) ≡ turn_at step_limit (steps_of m.font m.glyph) m.counted → IsTold font glyph m.counted counted step
+pub told_limit : (m : MachineView) (font : CheckedFont) (glyph counted : ℕ) (step : Step) → executed m ≡ font → m.glyph ≡ glyph → m.counted ≤ step_limit font
+    → counted ≡ counted_after (limit_of m.edition) (steps_of m.font m.glyph) m.counted → limited (step_value step) ≡ turn_at (limit_of m.edition) (steps_of m.font m.glyph) m.counted → IsTold font glyph m.counted counted step
 told_limit m font glyph counted step of_font of_glyph near count turn =
-    let is : IsLimited step_limit (steps_of font glyph) m.counted (step_value step) = limited_is step_limit (steps_of font glyph) m.counted (step_value step) (turn ∙ same_turn step_limit m font glyph of_font of_glyph) in
-    let once : counted ≡ m.counted + 1 = same_count step_limit m font glyph counted of_font of_glyph count ∙ count_limited step_limit (steps_of font glyph) m.counted near is.within in
+    let is : IsLimited (step_limit font) (steps_of font.value glyph) m.counted (step_value step) = limited_is (step_limit font) (steps_of font.value glyph) m.counted (step_value step) (turn ∙ same_turn m font glyph of_font of_glyph) in
+    let once : counted ≡ m.counted + 1 = same_count m font glyph counted of_font of_glyph count ∙ count_limited (step_limit font) (steps_of font.value glyph) m.counted near is.within in
     record {
-      listed = listed_limited step_limit (steps_of font glyph) m.counted step near is;
+      listed = listed_limited (step_limit font) (steps_of font.value glyph) m.counted step near is;
       counted_is = once;
       turns = subst (λ k. k ≤ turns_of_glyph font glyph) (sym once) (turns_limited font glyph m.counted step near is);
     }
 
-pub told_end : (m : MachineView) (font : FontValue) (glyph : ℕ) → m.font ≡ font → m.glyph ≡ glyph → ended ≡ turn_at step_limit (steps_of m.font m.glyph) m.counted → IsOver step_limit (steps_of font glyph) m.counted
-told_end m font glyph of_font of_glyph turn = ended_is step_limit (steps_of font glyph) m.counted (turn ∙ same_turn step_limit m font glyph of_font of_glyph)
+pub told_end : (m : MachineView) (font : CheckedFont) (glyph : ℕ) → executed m ≡ font → m.glyph ≡ glyph → ended ≡ turn_at (limit_of m.edition) (steps_of m.font m.glyph) m.counted → IsOver (step_limit font) (steps_of font.value glyph) m.counted
+told_end m font glyph of_font of_glyph turn = ended_is (step_limit font) (steps_of font.value glyph) m.counted (turn ∙ same_turn m font glyph of_font of_glyph)
 
-pub count_at_end : (m : MachineView) (font : FontValue) (glyph counted : ℕ) → m.font ≡ font → m.glyph ≡ glyph → IsOver step_limit (steps_of font glyph) m.counted → m.counted ≤ turns_of_glyph font glyph
-    → counted ≡ counted_after step_limit (steps_of m.font m.glyph) m.counted → counted ≡ turns_of_glyph font glyph
+pub count_at_end : (m : MachineView) (font : CheckedFont) (glyph counted : ℕ) → executed m ≡ font → m.glyph ≡ glyph → IsOver (step_limit font) (steps_of font.value glyph) m.counted → m.counted ≤ turns_of_glyph font glyph
+    → counted ≡ counted_after (limit_of m.edition) (steps_of m.font m.glyph) m.counted → counted ≡ turns_of_glyph font glyph
 count_at_end m font glyph counted of_font of_glyph over few count =
-    turns_over font glyph m.counted counted over few (same_count step_limit m font glyph counted of_font of_glyph count)
+    turns_over font glyph m.counted counted over few (same_count m font glyph counted of_font of_glyph count)
 
 -- A run of this glyph of this font.
-pub record IsRunAt (font : FontValue) (glyph counted : ℕ) (watches : Watches) : Type 0 where
+pub record IsRunAt (font : CheckedFont) (glyph counted : ℕ) (watches : Watches) : Type 0 where
   pub counted_few : counted ≤ turns_of_glyph font glyph
-  pub seen_are : HaveSeen watches (take counted (steps_of font glyph))
+  pub seen_are : HaveSeen font.edition watches (take counted (steps_of font.value glyph))
 
-pub run_at : (font : FontValue) (glyph : ℕ) (m : MachineView) (watches : Watches) → m.font ≡ font → m.glyph ≡ glyph → IsRun m watches → IsRunAt font glyph m.counted watches
+pub run_at : (font : CheckedFont) (glyph : ℕ) (m : MachineView) (watches : Watches) → executed m ≡ font → m.glyph ≡ glyph → IsRun m watches → IsRunAt font glyph m.counted watches
 run_at font glyph m watches of_font of_glyph run =
     subst (λ f. IsRunAt f glyph m.counted watches) of_font
-    (subst (λ g. IsRunAt m.font g m.counted watches) of_glyph (record { counted_few = run.counted; seen_are = run.seen }))
+    (subst (λ g. IsRunAt (executed m) g m.counted watches) of_glyph (record { counted_few = run.counted; seen_are = run.seen }))
 
-pub run_of : (font : FontValue) (glyph : ℕ) (m : MachineView) (watches : Watches) → m.font ≡ font → m.glyph ≡ glyph → glyph < length font.glyphs → IsRunAt font glyph m.counted watches → IsRun m watches
+pub run_of : (font : CheckedFont) (glyph : ℕ) (m : MachineView) (watches : Watches) → executed m ≡ font → m.glyph ≡ glyph → glyph < length font.value.glyphs → IsRunAt font glyph m.counted watches → IsRun m watches
 run_of font glyph m watches of_font of_glyph there at =
-    let same : IsRunAt m.font m.glyph m.counted watches =
-    subst (λ g. IsRunAt m.font g m.counted watches) (sym of_glyph) (subst (λ f. IsRunAt f glyph m.counted watches) (sym of_font) at) in
+    let same : IsRunAt (executed m) m.glyph m.counted watches =
+    subst (λ g. IsRunAt (executed m) g m.counted watches) (sym of_glyph) (subst (λ f. IsRunAt f glyph m.counted watches) (sym of_font) at) in
     record {
-      there = subst (λ g. g < length m.font.glyphs) (sym of_glyph) (subst (λ (f : FontValue). glyph < length f.glyphs) (sym of_font) there);
+      there = subst (λ g. g < length m.font.glyphs) (sym of_glyph) (subst (λ (f : CheckedFont). glyph < length f.value.glyphs) (sym of_font) there);
       counted = same.counted_few;
       seen = same.seen_are;
     }
 
 -- One step more.
-pub run_more : (font : FontValue) (glyph n counted : ℕ) (step : Step) (watches : Watches) → IsTold font glyph n counted step → HaveSeen watches (take n (steps_of font glyph) ++ step_view step ∷ []) → IsRunAt font glyph counted watches
+pub run_more : (font : CheckedFont) (glyph n counted : ℕ) (step : Step) (watches : Watches) → IsTold font glyph n counted step → HaveSeen font.edition watches (take n (steps_of font.value glyph) ++ step_view step ∷ []) → IsRunAt font glyph counted watches
 run_more font glyph n counted step watches told seen =
     record {
       counted_few = told.turns;
-      seen_are = subst (HaveSeen watches) (sym (ap (λ k. take k (steps_of font glyph)) told.counted_is ∙ take_next (steps_of font glyph) n (step_view step) told.listed.there)) seen;
+      seen_are = subst (HaveSeen font.edition watches) (sym (ap (λ k. take k (steps_of font.value glyph)) told.counted_is ∙ take_next (steps_of font.value glyph) n (step_view step) told.listed.there)) seen;
     }
 
 -- Behind the end no step was seen more.
-pub run_over : (font : FontValue) (glyph n counted : ℕ) (watches : Watches) → IsOver step_limit (steps_of font glyph) n → counted ≡ turns_of_glyph font glyph → IsRunAt font glyph n watches → IsRunAt font glyph counted watches
+pub run_over : (font : CheckedFont) (glyph n counted : ℕ) (watches : Watches) → IsOver (step_limit font) (steps_of font.value glyph) n → counted ≡ turns_of_glyph font glyph → IsRunAt font glyph n watches → IsRunAt font glyph counted watches
 unfolding turns_of_glyph
 run_over font glyph n counted watches over count run =
-    let all : List StepView = steps_of font glyph in
-    let same : take counted all ≡ take n all = take_all counted all (whole step_limit all n counted over count) ∙ sym (take_all n all over.all) in
+    let all : List StepView = steps_of font.value glyph in
+    let same : take counted all ≡ take n all = take_all counted all (whole (step_limit font) all n counted over count) ∙ sym (take_all n all over.all) in
     record {
       counted_few = omega (arith, count);
-      seen_are = subst (HaveSeen watches) (sym same) run.seen_are;
+      seen_are = subst (HaveSeen font.edition watches) (sym same) run.seen_are;
     }
   where
     whole : (limit : ℕ) (all : List StepView) (n counted : ℕ) → IsOver limit all n → counted ≡ length (take limit all) + 1 → length all ≤ counted

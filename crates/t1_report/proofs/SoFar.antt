@@ -4,15 +4,16 @@ use Rattle.std.proofs.lemmas.Bool.{cases_lt, cases_order}
 use Rattle.std.proofs.lemmas.Option.{get_or_from_slice_get, slice_get_cases, slice_get_read, slice_get_within}
 use Rattle.std.proofs.Math.Nat.{min-eq_left}
 use Rattle.std.specs.List.{Any}
-use Rattle.t1_font.specs.Fonts.{FontValue}
+use Rattle.t1_report.specs.Checked.{CheckedFont}
 use Rattle.t1_rules.specs.Book.{number_of}
 use Rattle.t1_rules.proofs.Lemmas.Book.{in_book}
 use Rattle.t1_report.specs.declared.marks.Mark.{Mark}
 use Rattle.t1_report.specs.Faults.{FaultValue}
-use Rattle.t1_report.specs.Reports.{AreNumbered, Comes, IsBefore, IsReport, IsReportOf, IsRising, IsViolated, IsViolationOf, Place, StandsAt, path_at, place_of}
+use Rattle.t1_report.specs.Reports.{AreNumbered, Comes, IsBefore, IsReport, IsReportOf, IsRising, IsViolationOf, Place, StandsAt, path_at, place_of, IsTold}
 use Rattle.t1_report.specs.Walks.{HasNoneLater, HasNoneLaterOf, IsLater, IsNext, IsNextOf, IsSoFar, first_mark, mark_of, number_behind}
 use Rattle.t1_report.proofs.FewFaults.{few_faults}
 use Rattle.t1_report.proofs.OneReport.{both, itself, same_fault}
+use Rattle.t1_report.specs.Waivers.{Waiver}
 
 -- ---- the first mark
 
@@ -187,14 +188,14 @@ module _ (Violated : Place → Type 0) (path_of : Place → List ℕ) where
 
 -- ---- in a font
 
-pub next_in_font : (font : FontValue) (faults : List FaultValue) (k : ℕ) (mark : Mark) (fault : FaultValue) → length font.glyphs ≤ 65535 → IsReport font faults
-    → IsSoFar faults k mark → IsNext font mark fault → (k < length faults) × (slice_get faults k ≡ Some fault)
-next_in_font font faults k mark fault few report = next_is (IsViolated font) (path_at font) faults k mark fault (few_faults font faults few report) report
+pub next_in_font : (font : CheckedFont) (waivers : List Waiver) (faults : List FaultValue) (k : ℕ) (mark : Mark) (fault : FaultValue) → length font.value.glyphs ≤ 65535 → length waivers ≤ 1048576 → IsReport font waivers faults
+    → IsSoFar faults k mark → IsNext font waivers mark fault → (k < length faults) × (slice_get faults k ≡ Some fault)
+next_in_font font waivers faults k mark fault few few_waivers report = next_is (IsTold font waivers) (path_at font) faults k mark fault (few_faults font waivers faults few few_waivers report) report
 
-pub one_more_in_font : (font : FontValue) (faults : List FaultValue) (k : ℕ) (mark : Mark) (fault : FaultValue) → length font.glyphs ≤ 65535 → IsReport font faults
-    → IsSoFar faults k mark → IsNext font mark fault → IsSoFar faults (k + 1) (mark_of fault)
-one_more_in_font font faults k mark fault few report = one_more (IsViolated font) (path_at font) faults k mark fault (few_faults font faults few report) report
+pub one_more_in_font : (font : CheckedFont) (waivers : List Waiver) (faults : List FaultValue) (k : ℕ) (mark : Mark) (fault : FaultValue) → length font.value.glyphs ≤ 65535 → length waivers ≤ 1048576 → IsReport font waivers faults
+    → IsSoFar faults k mark → IsNext font waivers mark fault → IsSoFar faults (k + 1) (mark_of fault)
+one_more_in_font font waivers faults k mark fault few few_waivers report = one_more (IsTold font waivers) (path_at font) faults k mark fault (few_faults font waivers faults few few_waivers report) report
 
-pub none_left_in_font : (font : FontValue) (faults : List FaultValue) (k : ℕ) (mark : Mark) → IsReport font faults → IsSoFar faults k mark
-    → HasNoneLater font mark → k ≡ length faults
-none_left_in_font font = none_left (IsViolated font) (path_at font)
+pub none_left_in_font : (font : CheckedFont) (waivers : List Waiver) (faults : List FaultValue) (k : ℕ) (mark : Mark) → IsReport font waivers faults → IsSoFar faults k mark
+    → HasNoneLater font waivers mark → k ≡ length faults
+none_left_in_font font waivers = none_left (IsTold font waivers) (path_at font)

@@ -1,6 +1,5 @@
 -- What a walk has in hand.
-use Rattle.std.specs.Prelude.{◌≡◌, ℕ, ◌+◌, ◌<◌, ◌≤◌, ◌⊎◌, true, Option, Some, None, length}
-use Rattle.t1_font.specs.Fonts.{FontValue}
+use Rattle.std.specs.Prelude.{◌≡◌, ℕ, ◌+◌, ◌<◌, ◌≤◌, ◌⊎◌, true, Option, Some, None, List}
 use Rattle.t1_rules.specs.Book.{number_of}
 use Rattle.t1_rules.specs.Mask.{has}
 use Rattle.t1_report.specs.declared.faults.Fault.{Fault}
@@ -9,9 +8,11 @@ use Rattle.t1_report.specs.declared.walk.course.Course.{Course}
 use Rattle.t1_report.specs.declared.walk.found.Found.{Found}
 use Rattle.t1_report.specs.declared.walk.search.Search.{Search}
 use Rattle.t1_report.specs.Faults.{fault_value}
-use Rattle.t1_report.specs.Reports.{Comes, IsViolated, Place, is_broken, path_in, step_limit}
-use Rattle.t1_report.specs.Searching.{IsFrom, IsSearch, step_of_part, turns_in}
-use Rattle.t1_report.specs.Walks.{IsLater, mark_of, turns_at, turns_before}
+use Rattle.t1_report.specs.Checked.{CheckedFont}
+use Rattle.t1_report.specs.Reports.{Comes, Place, path_in, IsTold, is_told}
+use Rattle.t1_report.specs.Searching.{IsFrom, IsSearch, checked_in, step_of_part, turns_in}
+use Rattle.t1_report.specs.Walks.{IsLater, mark_of, turns_at, turns_in_all}
+use Rattle.t1_report.specs.Waivers.{Waiver}
 
 -- The place and its rule are in hand.
 abbrev pub IsInHand : Found → Place → Type 0
@@ -19,16 +20,16 @@ IsInHand found p = (p.unit ≡ found.unit) × (p.step ≡ found.step) × (has fo
 
 -- A number of a rule: of a place's rules exactly those above it come after the mark.
 pub record IsFloor (mark : Mark) (unit step floor : ℕ) : Type 0 where
-  pub above : (r : ℕ) → floor < r → r ≤ 69 → Comes mark.unit mark.step mark.rule unit step r
+  pub above : (r : ℕ) → floor < r → r ≤ 70 → Comes mark.unit mark.step mark.rule unit step r
   pub below : (r : ℕ) → 0 < r → Comes mark.unit mark.step mark.rule unit step r → floor < r
 
 -- The rules in hand are broken at the place before the next one that is searched; every violation after the
 -- mark is in hand or still to be found.
 pub record HasInHand (search : Search) (found : Found) (mark : Mark) : Type 0 where
-  pub broken : (n : ℕ) → has found.rules n ≡ true → is_broken step_limit search.font.now found.unit found.step n ≡ true
+  pub broken : (n : ℕ) → has found.rules n ≡ true → is_told (checked_in search) search.waivers.now found.unit found.step n ≡ true
   pub path : (n : ℕ) → has found.rules n ≡ true → found.path.items ≡ path_in search.font.now found.unit found.step
   pub ahead : (n : ℕ) → has found.rules n ≡ true → (search.unit ≡ found.unit) × (step_of_part search.part ≡ found.step + 1)
-  pub complete : (p : Place) → IsViolated search.font.now p → IsLater mark p →
+  pub complete : (p : Place) → IsTold (checked_in search) search.waivers.now p → IsLater mark p →
       IsInHand found p ⊎ IsFrom search.unit (step_of_part search.part) p.unit p.step
 
 pub record IsCourse (c : Course) : Type 0 where
@@ -36,13 +37,13 @@ pub record IsCourse (c : Course) : Type 0 where
   pub hand : HasInHand c.search c.found c.mark
 
 abbrev pub turns_so_far : Search → ℕ
-turns_so_far search = search.passed + turns_in search.part
+turns_so_far search = search.passed + turns_in search.part + search.checked
 
 -- What an answer leaves: the mark of the fault, and how often machines were asked.
 abbrev pub mark_after : Mark → Option Fault → Mark
 mark_after mark None = mark
 mark_after mark (Some fault) = mark_of (fault_value fault)
 
-abbrev pub turns_after : FontValue → ℕ → Option Fault → ℕ
-turns_after font from None = turns_before font from (length font.glyphs + 1)
-turns_after font from (Some fault) = turns_at font from fault.unit fault.step
+abbrev pub turns_after : CheckedFont → List Waiver → ℕ → ℕ → Option Fault → ℕ
+turns_after font waivers from first None = turns_in_all font waivers from first
+turns_after font waivers from first (Some fault) = turns_at font waivers from first fault.unit fault.step

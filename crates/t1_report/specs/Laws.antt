@@ -1,3 +1,6 @@
 -- The statements of laws.
+pub mod Editions
 pub mod Reports
+pub mod WaivedFaults
 pub mod Walks
+pub mod WithWaivers

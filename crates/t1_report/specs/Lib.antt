@@ -1,3 +1,4 @@
+pub mod Checked
 pub mod Courses
 pub mod Faults
 pub mod Laws
@@ -6,6 +7,8 @@ pub mod Reports
 pub mod Searches
 pub mod Searching
 pub mod Traces
+pub mod WaiverViews
+pub mod Waivers
 pub mod WalkViews
 pub mod Walks
 pub mod Workings

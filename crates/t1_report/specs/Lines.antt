@@ -1,11 +1,13 @@
 -- The line of a fault.
-use Rattle.std.specs.Prelude.{◌≡◌, ℕ, ◌==◌, ◌/◌, ◌%◌, ◌-◌, ◌≤◌, List, [], ◌∷◌, ◌++◌, codes, length, if◌then◌else◌, Option, Some, None, slice_get}
+use Rattle.std.specs.Prelude.{◌≡◌, ℕ, ◌==◌, ◌/◌, ◌%◌, ◌-◌, ◌≤◌, List, [], ◌∷◌, ◌++◌, codes, length, if◌then◌else◌, Option, Some, None, slice_get, ◌+◌}
 use Rattle.std.specs.List.{concat, flat_map}
 use Rattle.std.specs.Fmt.{decimal}
 use Rattle.t1_font.specs.Fonts.{FontValue}
 use Rattle.t1_rules.specs.Keys.{key_text_of}
 use Rattle.t1_rules.specs.Book.{code_of, text_of}
 use Rattle.t1_report.specs.Faults.{FaultValue}
+use Rattle.t1_rules.specs.declared.rule.Rule.TheVariants.{U01}
+use Rattle.t1_report.specs.Waivers.{Waiver}
 
 -- `font KEY INDEX`, by the step.
 abbrev pub key_place : ℕ → List ℕ
@@ -28,25 +30,36 @@ name_in (Some glyph) = glyph.0
 abbrev pub glyph_name : FontValue → ℕ → List ℕ
 glyph_name font glyph = name_in (slice_get font.glyphs glyph)
 
+-- `waiver NAME RULE`, by the step, which is the waiver's place from 1.
+abbrev pub waiver_text : Option Waiver → List ℕ
+waiver_text None = []
+waiver_text (Some w) = concat (codes "waiver " ∷ w.0 ∷ codes " " ∷ code_of w.1 ∷ [])
+
+abbrev pub waiver_place : List Waiver → ℕ → List ℕ
+waiver_place waivers step = waiver_text (slice_get waivers (step - 1))
+
 -- `glyph NAME PATH STEP`.
 abbrev pub glyph_place : FontValue → FaultValue → List ℕ
 glyph_place font fault =
     concat (codes "glyph " ∷ glyph_name font (fault.unit - 1) ∷ codes " " ∷ [])
     ++ (path_text fault.path ++ concat (codes " " ∷ decimal fault.step ∷ []))
 
-abbrev pub place_text : FontValue → FaultValue → List ℕ
-place_text font fault = if fault.unit == 0 then key_place fault.step else glyph_place font fault
+abbrev pub place_text : FontValue → List Waiver → FaultValue → List ℕ
+place_text font waivers fault =
+    if fault.unit == 0 then key_place fault.step
+    else (if fault.unit == length font.glyphs + 1 then waiver_place waivers fault.step else glyph_place font fault)
 
 -- ` RULE TEXT`, ended by byte 10.
 abbrev pub rule_part : FaultValue → List ℕ
 rule_part fault = concat (codes " " ∷ code_of fault.rule ∷ codes " " ∷ text_of fault.rule ∷ codes "\n" ∷ [])
 
 -- `NUMBER: PLACE RULE TEXT`.
-abbrev pub line_of : FontValue → FaultValue → List ℕ
-line_of font fault =
-    concat (decimal fault.number ∷ codes ": " ∷ []) ++ (place_text font fault ++ rule_part fault)
+abbrev pub line_of : FontValue → List Waiver → FaultValue → List ℕ
+line_of font waivers fault =
+    concat (decimal fault.number ∷ codes ": " ∷ []) ++ (place_text font waivers fault ++ rule_part fault)
 
--- The fault stands in the font at one of its keys, or in one of its glyphs.
-pub record IsInFont (font : FontValue) (fault : FaultValue) : Type 0 where
-  pub unit : fault.unit ≤ length font.glyphs
+-- The fault stands in the font at one of its keys, in one of its glyphs, or it is a waiver that isn't used.
+pub record IsInFont (font : FontValue) (waivers : List Waiver) (fault : FaultValue) : Type 0 where
+  pub unit : fault.unit ≤ length font.glyphs + 1
   pub key : fault.unit ≡ 0 → fault.step / 65536 ≤ 21
+  pub waiver : fault.unit ≡ length font.glyphs + 1 → (fault.rule ≡ U01) × ((1 ≤ fault.step) × (fault.step ≤ length waivers))

@@ -1,15 +1,18 @@
 -- The report of a font: its violations by place, each once, numbered from 1.
-use Rattle.std.specs.Prelude.{◌≡◌, ℕ, zero, suc, ◌+◌, ◌/◌, ◌%◌, ◌<◌, ◌⊎◌, ◌==◌, ◌&&◌, nat_lt, if◌then◌else◌, Bool, true, false, Option, Some, None, List, [], length, slice_get, take}
+use Rattle.std.specs.Prelude.{◌≡◌, ℕ, zero, suc, ◌+◌, ◌/◌, ◌%◌, ◌<◌, ◌⊎◌, ◌==◌, ◌&&◌, nat_lt, if◌then◌else◌, Bool, true, false, Option, Some, None, List, [], length, slice_get, take, ◌||◌, not}
 use Rattle.std.specs.List.{All, AllPairs, Any, slice_index_or}
 use Rattle.t1_char.specs.Steps.{StepView, steps_of}
 use Rattle.t1_font.specs.Fonts.{FontValue}
 use Rattle.t1_rules.specs.declared.rule.Rule.{Rule}
 use Rattle.t1_rules.specs.FontRules.{font_rules, violated}
-use Rattle.t1_rules.specs.declared.rule.Rule.TheVariants.{L01}
-use Rattle.t1_rules.specs.Components.{components_of}
+use Rattle.t1_rules.specs.declared.rule.Rule.TheVariants.{L01, U01}
+use Rattle.t1_rules.specs.Components.{components_of, glyph_named}
 use Rattle.t1_rules.specs.StepRules.{StepRule, breaks, charstring_rules}
 use Rattle.t1_rules.specs.Book.{number_of}
+use Rattle.t1_report.specs.Checked.{CheckedFont, step_limit}
 use Rattle.t1_report.specs.Faults.{FaultValue}
+use Rattle.t1_report.specs.Lines.{glyph_name}
+use Rattle.t1_report.specs.Waivers.{Waiver, is_waived}
 
 -- A place and a rule: unit 0 is the font, whose step is 65,536 times a key's number plus an index.
 pub record Place : Type 0 where
@@ -26,10 +29,6 @@ Comes unit step rule unit' step' rule' =
 abbrev pub IsBefore : Place → Place → Type 0
 IsBefore p q = Comes p.unit p.step (number_of p.rule) q.unit q.step (number_of q.rule)
 
--- How many steps of a glyph are checked.
-abbrev pub step_limit : ℕ
-step_limit = 100000
-
 -- What a step breaks, given the rules and the steps before it: up to the limit one of the rules, and the
 -- first step past the limit the rule on the limit alone.
 abbrev pub step_breaks : ℕ → List StepRule → ℕ → List StepView → Option StepView → Bool
@@ -39,28 +38,62 @@ step_breaks limit rules n before (Some step) =
     else length before == limit && number_of L01 == n
 
 -- The charstring rules of a font, whose components of accented characters are looked at up to the limit.
-unfoldable pub rules_of : ℕ → FontValue → List StepRule
-rules_of limit font = charstring_rules (components_of limit font)
+unfoldable pub rules_of : CheckedFont → List StepRule
+rules_of font = charstring_rules font.edition (components_of (step_limit font) font.value)
 
 -- The rule of a number is broken at a unit and a step: in the font at the key and the index of the step, in a
 -- glyph at one of its steps, which count from 1.
-unfoldable pub is_broken : ℕ → FontValue → ℕ → ℕ → ℕ → Bool
-is_broken limit font zero step n = violated font_rules n font (step / 65536) (step % 65536)
-is_broken limit font (suc glyph) zero n = false
-is_broken limit font (suc glyph) (suc i) n =
-    nat_lt glyph (length font.glyphs)
-    && step_breaks limit (rules_of limit font) n (take i (steps_of font glyph))
-    (slice_get (steps_of font glyph) i)
+unfoldable pub is_broken : CheckedFont → ℕ → ℕ → ℕ → Bool
+is_broken font zero step n = violated font_rules n font.value (step / 65536) (step % 65536)
+is_broken font (suc glyph) zero n = false
+is_broken font (suc glyph) (suc i) n =
+    nat_lt glyph (length font.value.glyphs)
+    && step_breaks (step_limit font) (rules_of font) n (take i (steps_of font.value glyph))
+    (slice_get (steps_of font.value glyph) i)
 
--- The rule is violated at the place.
-abbrev pub IsViolated : FontValue → Place → Type 0
-IsViolated font p = is_broken step_limit font p.unit p.step (number_of p.rule) ≡ true
+-- The rule of a number is broken in a unit at a step below this one.
+unfoldable pub is_broken_below : CheckedFont → ℕ → ℕ → ℕ → Bool
+is_broken_below font unit zero n = false
+is_broken_below font unit (suc step) n =
+    is_broken font unit step n || is_broken_below font unit step n
+
+-- A waiver is used where the glyph of its name breaks its rule at one of its steps: the first past the limit
+-- is the last that can.
+abbrev pub is_used_by : CheckedFont → ℕ → Option ℕ → Bool
+is_used_by font n None = false
+is_used_by font n (Some glyph) = is_broken_below font (suc glyph) (step_limit font + 2) n
+
+abbrev pub is_used : CheckedFont → Waiver → Bool
+is_used font w = is_used_by font (number_of w.1) (glyph_named font.value w.0)
+
+abbrev pub is_unused : CheckedFont → Option Waiver → Bool
+is_unused font None = false
+is_unused font (Some w) = not (is_used font w)
+
+-- The waiver of a step, by its place from 1, isn't used: the rule on that is broken there.
+abbrev pub tells_unused : CheckedFont → List Waiver → ℕ → ℕ → Bool
+tells_unused font waivers zero n = false
+tells_unused font waivers (suc i) n =
+    number_of U01 == n && is_unused font (slice_get waivers i)
+
+-- What is told, given these waivers: of the font what is broken, of a glyph what is broken and not waived, and
+-- in the unit behind the last glyph's the waivers that aren't used.
+unfoldable pub is_told : CheckedFont → List Waiver → ℕ → ℕ → ℕ → Bool
+is_told font waivers zero step n = is_broken font zero step n
+is_told font waivers (suc glyph) step n =
+    if glyph == length font.value.glyphs then tells_unused font waivers step n
+    else is_broken font (suc glyph) step n && not (is_waived waivers (glyph_name font.value glyph) n)
+
+-- The rule is violated at the place, and not waived; or a waiver isn't used.
+abbrev pub IsTold : CheckedFont → List Waiver → Place → Type 0
+IsTold font waivers p = is_told font waivers p.unit p.step (number_of p.rule) ≡ true
 
 -- Where a fault stands.
 abbrev pub place_of : FaultValue → Place
 place_of fault = record { unit = fault.unit; step = fault.step; rule = fault.rule }
 
--- The Subrs that are being executed at a unit and a step, the outermost first: none in the font.
+-- The Subrs that are being executed at a unit and a step, the outermost first: none in the font, nor where
+-- there is no glyph.
 abbrev pub path_of_step : Option StepView → List ℕ
 path_of_step None = []
 path_of_step (Some step) = step.path
@@ -68,10 +101,11 @@ path_of_step (Some step) = step.path
 unfoldable pub path_in : FontValue → ℕ → ℕ → List ℕ
 path_in font zero step = []
 path_in font (suc glyph) zero = []
-path_in font (suc glyph) (suc i) = path_of_step (slice_get (steps_of font glyph) i)
+path_in font (suc glyph) (suc i) =
+    if nat_lt glyph (length font.glyphs) then path_of_step (slice_get (steps_of font glyph) i) else []
 
-abbrev pub path_at : FontValue → Place → List ℕ
-path_at font p = path_in font p.unit p.step
+abbrev pub path_at : CheckedFont → Place → List ℕ
+path_at font p = path_in font.value p.unit p.step
 
 -- The fault stands at this place.
 abbrev pub StandsAt : Place → FaultValue → Type 0
@@ -111,10 +145,11 @@ pub record IsFrontOf (Violated : Place → Type 0) (path_of : Place
       → Any (StandsAt p) faults
   pub numbered : AreNumbered 1 faults
 
--- The report of a font.
-abbrev pub IsReport : FontValue → List FaultValue → Type 0
-IsReport font faults = IsReportOf (IsViolated font) (path_at font) faults
+-- The report of a font by an edition, given waivers.
+abbrev pub IsReport : CheckedFont → List Waiver → List FaultValue → Type 0
+IsReport font waivers faults = IsReportOf (IsTold font waivers) (path_at font) faults
 
--- The front of a font's report.
-abbrev pub IsFront : FontValue → ℕ → ℕ → ℕ → List FaultValue → Type 0
-IsFront font unit step rule faults = IsFrontOf (IsViolated font) (path_at font) unit step rule faults
+-- The front of such a report.
+abbrev pub IsFront : CheckedFont → List Waiver → ℕ → ℕ → ℕ → List FaultValue → Type 0
+IsFront font waivers unit step rule faults =
+    IsFrontOf (IsTold font waivers) (path_at font) unit step rule faults

@@ -10,26 +10,27 @@ use Rattle.t1_rules.specs.declared.watches.Watches.{Watches}
 use Rattle.t1_char.specs.Turns.{MachineView}
 use Rattle.t1_report.specs.declared.walk.found.Found.{Found}
 use Rattle.t1_report.specs.declared.walk.font_places.FontPlaces.{FontPlaces}
-use Rattle.t1_report.specs.Reports.{is_broken, path_in, step_limit}
+use Rattle.t1_report.specs.Checked.{CheckedFont, executed}
+use Rattle.t1_report.specs.Reports.{is_broken, path_in}
 use Rattle.t1_report.specs.Walks.{turns_of_glyph}
 use Rattle.t1_report.specs.Workings.{HaveSeen}
 
 -- No rule is broken at a unit's steps from one on up to another; nor from one on.
-abbrev pub IsQuiet : FontValue → ℕ → ℕ → ℕ → Type 0
+abbrev pub IsQuiet : CheckedFont → ℕ → ℕ → ℕ → Type 0
 IsQuiet font unit from to =
-    (s : ℕ) (r : Rule) → from ≤ s → s < to → is_broken step_limit font unit s (number_of r) ≡ false
+    (s : ℕ) (r : Rule) → from ≤ s → s < to → is_broken font unit s (number_of r) ≡ false
 
-abbrev pub IsQuietFrom : FontValue → ℕ → ℕ → Type 0
+abbrev pub IsQuietFrom : CheckedFont → ℕ → ℕ → Type 0
 IsQuietFrom font unit from =
-    (s : ℕ) (r : Rule) → from ≤ s → is_broken step_limit font unit s (number_of r) ≡ false
+    (s : ℕ) (r : Rule) → from ≤ s → is_broken font unit s (number_of r) ≡ false
 
 -- What was found is where a rule is first broken in a unit from a step on, with the rules and the path of it.
-pub record IsFirst (font : FontValue) (unit from : ℕ) (found : Found) : Type 0 where
+pub record IsFirst (font : CheckedFont) (unit from : ℕ) (found : Found) : Type 0 where
   pub unit_is : found.unit ≡ unit
   pub behind : from ≤ found.step
   pub quiet : IsQuiet font unit from found.step
-  pub rules : (n : ℕ) → has found.rules n ≡ is_broken step_limit font unit found.step n
-  pub path : found.path.items ≡ path_in font unit found.step
+  pub rules : (n : ℕ) → has found.rules n ≡ is_broken font unit found.step n
+  pub path : found.path.items ≡ path_in font.value unit found.step
 
 -- The next place of the font to be asked.
 abbrev pub font_step : FontPlaces → ℕ
@@ -43,5 +44,5 @@ pub record IsFontPlaces (font : FontValue) (p : FontPlaces) : Type 0 where
 -- The machine told no more of its glyph than there is, and the watchers have seen what it told up to the limit.
 pub record IsRun (machine : MachineView) (watches : Watches) : Type 0 where
   pub there : machine.glyph < length machine.font.glyphs
-  pub counted : machine.counted ≤ turns_of_glyph machine.font machine.glyph
-  pub seen : HaveSeen watches (take machine.counted (steps_of machine.font machine.glyph))
+  pub counted : machine.counted ≤ turns_of_glyph (executed machine) machine.glyph
+  pub seen : HaveSeen machine.edition watches (take machine.counted (steps_of machine.font machine.glyph))

@@ -1,87 +1,141 @@
 -- What a search stands for.
-use Rattle.std.specs.Prelude.{◌≡◌, ℕ, ◌+◌, ◌<◌, ◌≤◌, ◌⊎◌, Bool, true, false, length}
-use Rattle.t1_font.specs.Fonts.{FontValue}
-use Rattle.t1_rules.specs.Components.{components_of}
+use Rattle.std.specs.Prelude.{◌≡◌, ℕ, ◌+◌, ◌<◌, ◌≤◌, ◌⊎◌, Bool, true, false, length, ◌-◌, List}
+use Rattle.t1_rules.specs.Components.{AreOf}
 use Rattle.t1_rules.specs.Mask.{has}
 use Rattle.t1_report.specs.declared.walk.found.Found.{Found}
 use Rattle.t1_report.specs.declared.walk.font_places.FontPlaces.{FontPlaces}
 use Rattle.t1_report.specs.declared.walk.glyph_run.GlyphRun.{GlyphRun}
 use Rattle.t1_report.specs.declared.walk.search.Part.{Part}
-use Rattle.t1_report.specs.declared.walk.search.Part.TheVariants.{Font, Glyph, Over}
+use Rattle.t1_report.specs.declared.walk.search.Part.TheVariants.{Font, Glyph, Over, Waivers}
 use Rattle.t1_report.specs.declared.walk.search.Search.{Search}
-use Rattle.t1_report.specs.Reports.{IsViolated, Place, is_broken, path_in, step_limit}
+use Rattle.t1_report.specs.Checked.{CheckedFont, checked, executed}
+use Rattle.t1_report.specs.Reports.{Place, path_in, IsTold, is_told}
 use Rattle.t1_report.specs.Searches.{IsFontPlaces, IsRun, font_step}
-use Rattle.t1_report.specs.Walks.{turns_before}
+use Rattle.t1_report.specs.Walks.{turns_before, first_asked, turns_asked, turns_of_unit}
+use Rattle.t1_rules.specs.declared.rule.Rule.{Rule}
+use Rattle.t1_rules.specs.Book.{number_of}
+use Rattle.t1_report.specs.Waivers.{Waiver}
 
 -- The place doesn't come before a unit and a step.
 abbrev pub IsFrom : ℕ → ℕ → ℕ → ℕ → Type 0
 IsFrom unit step unit' step' = (unit < unit') ⊎ ((unit ≡ unit') × (step ≤ step'))
 
--- No rule is broken from a unit and a step on.
-abbrev pub HasNoneFrom : FontValue → ℕ → ℕ → Type 0
-HasNoneFrom font unit step = (p : Place) → IsViolated font p → IsFrom unit step p.unit p.step → ⊥
+-- Nothing is told from a unit and a step on.
+abbrev pub HasNoneFrom : CheckedFont → List Waiver → ℕ → ℕ → Type 0
+HasNoneFrom font waivers unit step = (p : Place) → IsTold font waivers p → IsFrom unit step p.unit p.step → ⊥
+
+-- Nothing is told of a unit from a step on; nor from one up to another.
+abbrev pub TellsNoneFrom : CheckedFont → List Waiver → ℕ → ℕ → Type 0
+TellsNoneFrom font waivers unit from =
+    (s : ℕ) (r : Rule) → from ≤ s → is_told font waivers unit s (number_of r) ≡ false
+
+-- What was found is where something is first told of a unit from a step on, if there is anything.
+pub record IsFirstTold (font : CheckedFont) (waivers : List Waiver) (unit from : ℕ) (found : Found) : Type 0 where
+  pub unit_is : found.unit ≡ unit
+  pub behind : from ≤ found.step
+  pub quiet : (s : ℕ) (r : Rule) → from ≤ s → s < found.step → is_told font waivers unit s (number_of r) ≡ false
+  pub rules : (n : ℕ) → has found.rules n ≡ is_told font waivers unit found.step n
+  pub path : found.path.items ≡ path_in font.value unit found.step
 
 -- What was found is the first place from a unit and a step on where a rule is broken.
-pub record IsFirstPlace (font : FontValue) (unit step : ℕ) (found : Found) : Type 0 where
+pub record IsFirstPlace (font : CheckedFont) (waivers : List Waiver) (unit step : ℕ) (found : Found) : Type 0 where
   pub behind : IsFrom unit step found.unit found.step
-  pub within : found.unit ≤ length font.glyphs
-  pub first : (p : Place) → IsViolated font p → IsFrom unit step p.unit p.step → IsFrom found.unit found.step p.unit p.step
-  pub rules : (n : ℕ) → has found.rules n ≡ is_broken step_limit font found.unit found.step n
-  pub path : found.path.items ≡ path_in font found.unit found.step
+  pub within : found.unit ≤ length font.value.glyphs + 1
+  pub first : (p : Place) → IsTold font waivers p → IsFrom unit step p.unit p.step → IsFrom found.unit found.step p.unit p.step
+  pub rules : (n : ℕ) → has found.rules n ≡ is_told font waivers found.unit found.step n
+  pub path : found.path.items ≡ path_in font.value found.unit found.step
 
 -- The next step of a part, and how often its machine was asked.
 abbrev pub step_of_part : Part → ℕ
 step_of_part (Font places) = font_step places
 step_of_part (Glyph run) = run.machine.counted + 1
+step_of_part (Waivers next) = next
 step_of_part Over = 0
 
 abbrev pub turns_in : Part → ℕ
 turns_in (Font places) = 0
 turns_in (Glyph run) = run.machine.counted
+turns_in (Waivers next) = 0
 turns_in Over = 0
 
 abbrev pub is_over : Part → Bool
 is_over (Font places) = false
 is_over (Glyph run) = false
+is_over (Waivers next) = false
 is_over Over = true
 
 -- A glyph is before its first step; past the last glyph all is over.
-pub record IsBegun (font : FontValue) (glyph : ℕ) (run : GlyphRun) : Type 0 where
+pub record IsBegun (font : CheckedFont) (glyph : ℕ) (run : GlyphRun) : Type 0 where
   pub glyph_is : run.machine.glyph ≡ glyph
-  pub font_is : run.machine.font ≡ font
+  pub font_is : executed run.machine ≡ font
   pub runs : IsRun run.machine run.watches
   pub counted : run.machine.counted ≡ 0
 
-abbrev pub IsGlyphBegun : FontValue → ℕ → Part → Type 0
-IsGlyphBegun font glyph (Font places) = ⊥
-IsGlyphBegun font glyph (Glyph run) = IsBegun font glyph run
-IsGlyphBegun font glyph Over = length font.glyphs ≤ glyph
+-- The waivers are before a step, or before the first or behind the last.
+pub record AreBegun (font : CheckedFont) (waivers : List Waiver) (glyph step next : ℕ) : Type 0 where
+  pub behind : glyph ≡ length font.value.glyphs
+  pub first : 1 ≤ next
+  pub near : (next ≤ 1) ⊎ (next ≤ step)
+  pub past : (step ≤ next) ⊎ (length waivers < next)
+  pub within : next ≤ length waivers + 1
+
+abbrev pub IsPartBegun : CheckedFont → List Waiver → ℕ → ℕ → Part → Type 0
+IsPartBegun font waivers glyph step (Font places) = ⊥
+IsPartBegun font waivers glyph step (Glyph run) = IsBegun font glyph run
+IsPartBegun font waivers glyph step (Waivers next) = AreBegun font waivers glyph step next
+IsPartBegun font waivers glyph step Over = length font.value.glyphs < glyph
+
+-- A glyph is done when its machine has told all of it; the waivers are, when the last was asked.
+abbrev pub IsDone : CheckedFont → List Waiver → ℕ → Part → Type 0
+IsDone font waivers unit (Font places) = Unit {0}
+IsDone font waivers unit (Glyph run) = run.machine.counted ≡ turns_of_unit font unit
+IsDone font waivers unit (Waivers next) = length waivers < next
+IsDone font waivers unit Over = Unit {0}
 
 -- The part is that of the unit, and the turns are those of the units before.
-pub record IsFontPart (font : FontValue) (from unit passed : ℕ) (places : FontPlaces) : Type 0 where
+pub record IsFontPart (font : CheckedFont) (from unit passed : ℕ) (places : FontPlaces) : Type 0 where
   pub begins : from ≡ 0
   pub unit_is : unit ≡ 0
   pub none_passed : passed ≡ 0
-  pub places_are : IsFontPlaces font places
+  pub places_are : IsFontPlaces font.value places
 
-pub record IsGlyphPart (font : FontValue) (from unit passed : ℕ) (run : GlyphRun) : Type 0 where
+pub record IsGlyphPart (font : CheckedFont) (from unit passed : ℕ) (run : GlyphRun) : Type 0 where
   pub begins : from ≤ unit
   pub unit_is : unit ≡ run.machine.glyph + 1
-  pub font_is : run.machine.font ≡ font
+  pub font_is : executed run.machine ≡ font
   pub runs : IsRun run.machine run.watches
   pub passed_are : passed ≡ turns_before font from unit
-  pub few : length font.glyphs ≤ 65535
+  pub few : length font.value.glyphs ≤ 65535
 
-pub record IsOver (font : FontValue) (from unit passed : ℕ) : Type 0 where
-  pub past : length font.glyphs < unit
-  pub passed_are : passed ≡ turns_before font from (length font.glyphs + 1)
-  pub few : length font.glyphs ≤ 65535
+-- The waivers: those before the next one were asked, from the first that the search asks on.
+pub record IsWaiverPart (font : CheckedFont) (waivers : List Waiver) (from first_step unit passed checked next : ℕ) : Type 0 where
+  pub begins : from ≤ unit
+  pub unit_is : unit ≡ length font.value.glyphs + 1
+  pub first : 1 ≤ next
+  pub within : next ≤ length waivers + 1
+  pub passed_are : passed ≡ turns_before font from unit
+  pub begun : (first_asked font waivers from first_step < next) ⊎ (length waivers < next)
+  pub checked_are : checked ≡ turns_asked font waivers from first_step (next - 1)
+  pub few : length font.value.glyphs ≤ 65535
+  pub few_waivers : length waivers ≤ 1048576
 
-abbrev pub IsPart : FontValue → ℕ → ℕ → ℕ → Part → Type 0
-IsPart font from unit passed (Font places) = IsFontPart font from unit passed places
-IsPart font from unit passed (Glyph run) = IsGlyphPart font from unit passed run
-IsPart font from unit passed Over = IsOver font from unit passed
+pub record IsOver (font : CheckedFont) (from unit passed : ℕ) : Type 0 where
+  pub past : length font.value.glyphs + 1 < unit
+  pub passed_are : passed ≡ turns_before font from (length font.value.glyphs + 1)
+  pub few : length font.value.glyphs ≤ 65535
+
+abbrev pub IsPart : CheckedFont → List Waiver → ℕ → ℕ → ℕ → ℕ → ℕ → Part → Type 0
+IsPart font waivers from first unit passed checked (Font places) = IsFontPart font from unit passed places × (checked ≡ 0)
+IsPart font waivers from first unit passed checked (Glyph run) = IsGlyphPart font from unit passed run × (checked ≡ 0)
+IsPart font waivers from first unit passed checked (Waivers next) = IsWaiverPart font waivers from first unit passed checked next
+IsPart font waivers from first unit passed checked Over =
+    IsOver font from unit passed
+    × ((checked ≡ turns_asked font waivers from first (length waivers)) × (length waivers ≤ 1048576))
+
+-- The font, and the edition of its sidebearings.
+abbrev pub checked_in : Search → CheckedFont
+checked_in s = checked s.font.now s.sidebearings.now.edition
 
 pub record IsSearch (s : Search) : Type 0 where
-  pub part_is : IsPart s.font.now s.from s.unit s.passed s.part
-  pub components_are : s.sidebearings.now ≡ components_of step_limit s.font.now
+  pub part_is : IsPart (checked_in s) s.waivers.now s.from s.first s.unit s.passed s.checked s.part
+  pub components_are : AreOf s.font.now s.sidebearings.now

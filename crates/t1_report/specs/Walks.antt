@@ -1,11 +1,14 @@
 -- A report that is given one fault at a time, from a mark on.
-use Rattle.std.specs.Prelude.{◌≡◌, ℕ, zero, suc, ◌+◌, ◌-◌, ◌^◌, ◌≤◌, ◌<◌, ◌⊎◌, min, List, [], ◌∷◌, length, slice_index_or, take}
+use Rattle.std.specs.Prelude.{◌≡◌, ℕ, zero, suc, ◌+◌, ◌-◌, ◌^◌, ◌≤◌, ◌<◌, ◌⊎◌, min, List, [], ◌∷◌, length, slice_index_or, take, ◌==◌, nat_lt, if◌then◌else◌, Option, Some, None, slice_range}
 use Rattle.t1_char.specs.Steps.{steps_of}
-use Rattle.t1_font.specs.Fonts.{FontValue}
 use Rattle.t1_rules.specs.Book.{number_of}
 use Rattle.t1_report.specs.declared.marks.Mark.{Mark}
+use Rattle.t1_report.specs.Checked.{CheckedFont, step_limit}
 use Rattle.t1_report.specs.Faults.{FaultValue}
-use Rattle.t1_report.specs.Reports.{Comes, IsBefore, IsViolated, IsViolationOf, Place, path_at, place_of, step_limit}
+use Rattle.t1_report.specs.Reports.{Comes, IsBefore, IsViolationOf, Place, path_at, place_of, IsTold, is_broken_below}
+use Rattle.std.specs.List.{sum_by}
+use Rattle.t1_rules.specs.Components.{glyph_named}
+use Rattle.t1_report.specs.Waivers.{Waiver}
 
 -- A place and its rule come after a mark.
 abbrev pub IsLater : Mark → Place → Type 0
@@ -36,11 +39,11 @@ abbrev pub HasNoneLaterOf : (Place → Type 0) → Mark → Type 0
 HasNoneLaterOf Violated mark = (p : Place) → Violated p → IsLater mark p → ⊥
 
 -- The next fault of a font's report, and that there is none.
-abbrev pub IsNext : FontValue → Mark → FaultValue → Type 0
-IsNext font mark fault = IsNextOf (IsViolated font) (path_at font) mark fault
+abbrev pub IsNext : CheckedFont → List Waiver → Mark → FaultValue → Type 0
+IsNext font waivers mark fault = IsNextOf (IsTold font waivers) (path_at font) mark fault
 
-abbrev pub HasNoneLater : FontValue → Mark → Type 0
-HasNoneLater font mark = HasNoneLaterOf (IsViolated font) mark
+abbrev pub HasNoneLater : CheckedFont → List Waiver → Mark → Type 0
+HasNoneLater font waivers mark = HasNoneLaterOf (IsTold font waivers) mark
 
 -- Over any violations: these are the faults after a mark, each the next one, until there is none.
 abbrev pub AreLaterOf : (Place → Type 0) → (Place → List ℕ) → Mark → List FaultValue → Type 0
@@ -49,29 +52,69 @@ AreLaterOf Violated path_of mark (fault ∷ rest) =
     IsNextOf Violated path_of mark fault × AreLaterOf Violated path_of (mark_of fault) rest
 
 -- The faults after a mark, in a font.
-abbrev pub AreLater : FontValue → Mark → List FaultValue → Type 0
-AreLater font mark faults = AreLaterOf (IsViolated font) (path_at font) mark faults
+abbrev pub AreLater : CheckedFont → List Waiver → Mark → List FaultValue → Type 0
+AreLater font waivers mark faults = AreLaterOf (IsTold font waivers) (path_at font) mark faults
 
 -- How often a machine is asked for a whole glyph's steps: for each up to the limit, and once more.
-unfoldable pub turns_of_glyph : FontValue → ℕ → ℕ
-turns_of_glyph font glyph = length (take step_limit (steps_of font glyph)) + 1
+unfoldable pub turns_of_glyph : CheckedFont → ℕ → ℕ
+turns_of_glyph font glyph = length (take (step_limit font) (steps_of font.value glyph)) + 1
 
 -- The same for a unit: none for the font; for so many units from one on; for those from one on up to another.
-abbrev pub turns_of_unit : FontValue → ℕ → ℕ
+abbrev pub turns_of_unit : CheckedFont → ℕ → ℕ
 turns_of_unit font zero = 0
 turns_of_unit font (suc glyph) = turns_of_glyph font glyph
 
-unfoldable pub turns_of : FontValue → ℕ → ℕ → ℕ
+unfoldable pub turns_of : CheckedFont → ℕ → ℕ → ℕ
 turns_of font from zero = 0
 turns_of font from (suc n) = turns_of font from n + turns_of_unit font (from + n)
 
-abbrev pub turns_before : FontValue → ℕ → ℕ → ℕ
+abbrev pub turns_before : CheckedFont → ℕ → ℕ → ℕ
 turns_before font from unit = turns_of font from (unit - from)
 
--- And up to a step of a unit, for a walk that began at another.
-abbrev pub turns_at : FontValue → ℕ → ℕ → ℕ → ℕ
-turns_at font from zero step = 0
-turns_at font from (suc glyph) step = turns_before font from (suc glyph) + step
+-- Of a unit's first turns those up to the first step that breaks the rule of a number: a turn is asked for
+-- unless a step before it breaks the rule.
+unfoldable pub turns_up_to : CheckedFont → ℕ → ℕ → ℕ → ℕ
+turns_up_to font unit n zero = 0
+turns_up_to font unit n (suc turns) =
+    turns_up_to font unit n turns + (if is_broken_below font unit (suc turns) n then 0 else 1)
+
+-- How often a machine is asked for a waiver: for the steps of its glyph up to the first that breaks its rule,
+-- for all turns of the glyph where none does, and never where the font has no such glyph.
+abbrev pub turns_for : CheckedFont → ℕ → Option ℕ → ℕ
+turns_for font n None = 0
+turns_for font n (Some glyph) = turns_up_to font (suc glyph) n (turns_of_glyph font glyph)
+
+abbrev pub turns_of_waiver : CheckedFont → Waiver → ℕ
+turns_of_waiver font w = turns_for font (number_of w.1) (glyph_named font.value w.0)
+
+abbrev pub turns_if_any : CheckedFont → Option Waiver → ℕ
+turns_if_any font None = 0
+turns_if_any font (Some w) = turns_of_waiver font w
+
+-- The place of the first waiver that a walk asks, which began at a unit and a step: that of the step where it
+-- began with the waivers' unit, none where it began behind that, and else the first.
+abbrev pub first_asked : CheckedFont → List Waiver → ℕ → ℕ → ℕ
+first_asked font waivers from step =
+    if nat_lt from (length font.value.glyphs + 1) then 0
+    else (if from == length font.value.glyphs + 1 then step - 1 else length waivers)
+
+-- How often machines are asked for the waivers up to a place, in a walk that began at a unit and a step.
+unfoldable pub turns_asked : CheckedFont → List Waiver → ℕ → ℕ → ℕ → ℕ
+turns_asked font waivers from first to =
+    sum_by (turns_of_waiver font) (slice_range waivers (first_asked font waivers from first) to)
+
+-- How often machines were asked up to a step of a unit, in a walk that began at a unit and a step: for the
+-- units before, and then for the steps of the glyph, or for the waivers up to that of the step.
+abbrev pub turns_at : CheckedFont → List Waiver → ℕ → ℕ → ℕ → ℕ → ℕ
+turns_at font waivers from first zero step = 0
+turns_at font waivers from first (suc glyph) step =
+    turns_before font from (suc glyph)
+    + (if glyph == length font.value.glyphs then turns_asked font waivers from first step else step)
+
+-- And in all.
+abbrev pub turns_in_all : CheckedFont → List Waiver → ℕ → ℕ → ℕ
+turns_in_all font waivers from first =
+    turns_before font from (length font.value.glyphs + 1) + turns_asked font waivers from first (length waivers)
 
 -- So far k faults of a report were given, and the mark is that of the last: those behind it are to come.
 pub record IsSoFar (faults : List FaultValue) (k : ℕ) (mark : Mark) : Type 0 where

@@ -1,7 +1,10 @@
 //! Laws above the definitions: each is the contract of a function without a body.
 
+ghost use Rattle.t1_report.specs.Laws.Editions.{UsualFontsHaveOneReport};
 ghost use Rattle.t1_report.specs.Laws.Reports.{HasNoOtherReport, HasReport};
+ghost use Rattle.t1_report.specs.Laws.WaivedFaults.{OrderLeavesFaults, OrderLeavesUses, RepeatedLinesSayNothing, UnusedWaiversChangeNothing, WaivedFaultsAreLeftOut};
 ghost use Rattle.t1_report.specs.Laws.Walks.{AreTheReport, AreTheRest};
+ghost use Rattle.t1_report.specs.Laws.WithWaivers.{AskedToTheEnd, AskedToTheFirst, NoneIsAsked, ToldIsBroken};
 
 /// Each font has a report.
 pub fn each_font_has_a_report()
@@ -22,4 +25,38 @@ pub fn faults_after_the_first_mark_are_the_report()
 /// After the mark of a fault they are those behind it in the report, with the numbers they have there.
 pub fn faults_after_a_mark_are_the_rest()
     ensures { AreTheRest }
+{}
+
+/// A font has the same report in both editions where no glyph has more than 100,000 steps, and none of its
+/// steps sets a stem of width -20 or -21.
+pub fn usual_fonts_have_one_report()
+    ensures { UsualFontsHaveOneReport }
+{}
+
+/// Without waivers what is told is what is broken, and no machine is asked for one.
+pub fn no_waivers_change_nothing()
+    ensures told { ToldIsBroken }
+    ensures turns { NoneIsAsked }
+{}
+
+/// For a waiver a machine is asked up to the first step of its glyph that breaks its rule, or for the whole
+/// glyph where none does.
+pub fn waivers_are_asked_to_the_first_use()
+    ensures used { AskedToTheFirst }
+    ensures unused { AskedToTheEnd }
+{}
+
+/// The faults of the font and its glyphs with waivers are those without, in order, less those that are waived;
+/// a waiver is told unused exactly where they are the same without it.
+pub fn waivers_leave_out_what_they_say()
+    ensures left { WaivedFaultsAreLeftOut }
+    ensures unused { UnusedWaiversChangeNothing }
+{}
+
+/// The order of waivers decides only the order and the places of those that aren't used, and a line that stood
+/// before says nothing more.
+pub fn order_and_repetition_have_no_say()
+    ensures faults { OrderLeavesFaults }
+    ensures uses { OrderLeavesUses }
+    ensures repeated { RepeatedLinesSayNothing }
 {}

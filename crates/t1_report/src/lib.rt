@@ -1,21 +1,25 @@
 //! The report of a Type 1 font: which rules of the book the font and its glyphs break, in order, each
-//! with its place and its number, and the line that is written of it. All 69 rules are asked.
+//! with its place and its number, and the line that is written of it. All rules are asked. [`Waivers`]
+//! say of which glyphs a rule isn't told; one that leaves nothing out is told behind the glyphs.
 //!
 //! A place is a unit and a step. Unit 0 is the font; its step is 65,536 times the number of a key, plus
 //! an index. Unit g + 1 is glyph g; its steps are the tokens that it executes, from 1 on, of which the
-//! first 100,000 are checked.
+//! first 100,000 are checked, or 1,000,000 by the second edition. The unit behind the last glyph's is the
+//! waivers'; its steps are their places, from 1 on.
 //!
 //! What is promised, for all fonts:
 //!
-//! - The report rises strictly by unit, step and rule; its members are exactly the violations, numbered
-//!   from 1. A font has one such report and no other.
+//! - The report rises strictly by unit, step and rule; its members are exactly the violations that aren't
+//!   waived, then the waivers that aren't used, numbered from 1. A font has one such report and no other.
 //! - A line is written whole, or the device failed and a front of the line went out.
 //! - A [`Walk`] gives the same faults one at a time, from any [`Mark`] on; it can't fail.
-//! - Want of memory is told, and says nothing of the font. Nothing but [`report`] takes memory.
+//! - Want of memory is told, and says nothing of the font. Nothing but [`report`] and
+//!   [`Waivers::read`] takes memory.
 //!
 //! ```
-//! for fault in report(alloc, &font)?.iter() {
-//!     write_fault(&mut sink, &font, fault)?;
+//! let waivers = Waivers::none();
+//! for fault in report(alloc, &font, &waivers, Edition::One)?.iter() {
+//!     write_fault(&mut sink, &font, &waivers, fault)?;
 //! }
 //! ```
 #![tactic(auto)]
@@ -29,15 +33,20 @@ mod reporting;
 #[cfg(test)]
 mod tests;
 mod traces;
+mod usage;
+mod waivers;
 mod walk;
 
 pub use faults::Fault;
 pub use laws::{
     a_font_has_one_report, each_font_has_a_report, faults_after_a_mark_are_the_rest,
-    faults_after_the_first_mark_are_the_report,
+    faults_after_the_first_mark_are_the_report, no_waivers_change_nothing,
+    order_and_repetition_have_no_say, usual_fonts_have_one_report,
+    waivers_are_asked_to_the_first_use, waivers_leave_out_what_they_say,
 };
 pub use lines::write_fault;
 pub use marks::Mark;
 pub use reporting::report;
 pub use traces::write_step;
+pub use waivers::{LARGEST_WAIVERS, WaiverError, Waivers};
 pub use walk::Walk;

@@ -4,25 +4,31 @@ ghost use Rattle.std.specs.Prelude.{◌≡◌, ◌≤◌, ◌/◌};
 ghost use Rattle.std.specs.List.{flat_map};
 ghost use Rattle.t1_io.specs.Devices.{Writes};
 ghost use Rattle.t1_report.specs.Faults.{fault_value};
-ghost use Rattle.t1_report.specs.Lines.{IsInFont, glyph_name, glyph_place, inner_text, key_place, line_of, path_text, place_text};
+ghost use Rattle.t1_report.specs.Lines.{IsInFont, glyph_name, glyph_place, inner_text, key_place, line_of, path_text, place_text, waiver_place};
 
 use crate::decimal::Decimal;
 use crate::faults::Fault;
 use crate::reporting::STEPS_OF_A_KEY;
+use crate::waivers::Waivers;
 use t1_font::Font;
 use t1_io::{Broken, Sink, put_all, put_parts};
 use t1_rules::{key_text, rule_code, rule_text};
 
 /// Writes the line of a fault: `1: font file 0 F01 no end segment`, or of a glyph
-/// `2: glyph A 5>6 8 P01 drawing without a move`. The fault stands at a key of the font or in one of its
-/// glyphs.
-pub fn write_fault<W: Sink>(sink: &mut W, font: &Font<'_>, fault: &Fault) -> Result<(), Broken>
-    requires { IsInFont font.now (fault_value fault.now) }
-    ensures { Writes (W.state sink.old) (W.state sink.new) (line_of font.now (fault_value fault.now)) result }
+/// `2: glyph A 5>6 8 P01 drawing without a move`, or of a waiver `3: waiver A P01 U01 waiver not used`. The fault
+/// stands at a key of the font, in one of its glyphs, or in the unit behind them at the place of a waiver.
+pub fn write_fault<W: Sink>(
+    sink: &mut W,
+    font: &Font<'_>,
+    waivers: &Waivers<'_>,
+    fault: &Fault,
+) -> Result<(), Broken>
+    requires { IsInFont font.now waivers.now (fault_value fault.now) }
+    ensures { Writes (W.state sink.old) (W.state sink.new) (line_of font.now waivers.now (fault_value fault.now)) result }
 {
     let number = Decimal::new(fault.number);
     put_parts(sink, &[number.digits(), b": "])?;
-    write_place(sink, font, fault)?;
+    write_place(sink, font, waivers, fault)?;
     put_parts(
         sink,
         &[
@@ -36,13 +42,20 @@ pub fn write_fault<W: Sink>(sink: &mut W, font: &Font<'_>, fault: &Fault) -> Res
 }
 
 /// Writes where a fault stands.
-fn write_place<W: Sink>(sink: &mut W, font: &Font<'_>, fault: &Fault) -> Result<(), Broken>
-    requires { IsInFont font.now (fault_value fault.now) }
+fn write_place<W: Sink>(
+    sink: &mut W,
+    font: &Font<'_>,
+    waivers: &Waivers<'_>,
+    fault: &Fault,
+) -> Result<(), Broken>
+    requires { IsInFont font.now waivers.now (fault_value fault.now) }
     ensures { Writes (W.state sink.old) (W.state sink.new)
-        (place_text font.now (fault_value fault.now)) result }
+        (place_text font.now waivers.now (fault_value fault.now)) result }
 {
     if fault.unit == 0 {
         write_key_place(sink, fault.step)
+    } else if fault.unit as usize == font.glyphs().len() + 1 {
+        write_waiver_place(sink, waivers, fault.step)
     } else {
         write_glyph_place(sink, font, fault)
     }
@@ -61,6 +74,19 @@ fn write_key_place<W: Sink>(sink: &mut W, step: u32) -> Result<(), Broken>
     )
 }
 
+/// Writes the waiver of a step.
+fn write_waiver_place<W: Sink>(sink: &mut W, waivers: &Waivers<'_>, step: u32) -> Result<(), Broken>
+    requires { 1 ≤ step }
+    ensures { Writes (W.state sink.old) (W.state sink.new) (waiver_place waivers.now step) result }
+{
+    let Some((name, rule)) = waivers.pair(step as usize - 1) else {
+        return Ok(());
+    };
+    put_all(sink, b"waiver ")?;
+    put_all(sink, name)?;
+    put_parts(sink, &[b" ", rule_code(rule).as_bytes()])
+}
+
 /// Writes the glyph, the path and the step of a fault.
 fn write_glyph_place<W: Sink>(sink: &mut W, font: &Font<'_>, fault: &Fault) -> Result<(), Broken>
     requires { 1 ≤ fault.now.unit }
@@ -74,7 +100,7 @@ fn write_glyph_place<W: Sink>(sink: &mut W, font: &Font<'_>, fault: &Fault) -> R
 }
 
 /// The name of a glyph, by its number.
-fn glyph_name<'a>(font: &Font<'a>, glyph: u32) -> &'a [u8]
+pub(crate) fn glyph_name<'a>(font: &Font<'a>, glyph: u32) -> &'a [u8]
     ensures { result.now ≡ glyph_name font.now glyph }
 {
     match font.glyphs().get_index(glyph as usize) {

@@ -2,22 +2,28 @@
 
 ghost use Rattle.std.specs.Prelude.{◌≡◌, ◌<◌, ◌≤◌, ◌+◌, ◌*◌, ℕ, List, [], ◌∷◌, ◌++◌, Some, IfOk, OnOk, length};
 ghost use Rattle.std.specs.List.{All};
+ghost use Rattle.t1_char.specs.declared.edition.Edition.{Edition as Editions};
+ghost use Rattle.t1_char.specs.Editions.{limit_of};
 ghost use Rattle.t1_char.specs.Steps.{StepView};
 ghost use Rattle.t1_char.specs.StepValues.{step_view};
-ghost use Rattle.t1_font.specs.Fonts.{FontValue};
+ghost use Rattle.t1_report.specs.Checked.{CheckedFont, checked};
 ghost use Rattle.t1_report.specs.Faults.{fault_value, faults_of};
 ghost use Rattle.t1_report.specs.Lines.{IsInFont};
-ghost use Rattle.t1_report.specs.Reports.{IsFront, IsReport, step_breaks, step_limit};
-ghost use Rattle.t1_report.specs.Workings.{HasBroken, HaveSeen, IsNext};
-ghost use Rattle.t1_rules.specs.Components.{components_of};
+ghost use Rattle.t1_report.specs.Reports.{IsFront, IsReport, step_breaks};
+ghost use Rattle.t1_report.specs.Workings.{HaveSeen, IsNext, HasTold};
+ghost use Rattle.t1_rules.specs.Components.{AreOf};
 ghost use Rattle.t1_rules.specs.Keys.{places_of};
 ghost use Rattle.t1_rules.specs.Mask.{has};
 ghost use Rattle.t1_rules.specs.StepRules.{charstring_rules};
+ghost use Rattle.t1_report.specs.Waivers.{Waiver};
 
 use crate::faults::{DEEPEST, Fault};
+use crate::lines::glyph_name;
+use crate::usage::check_waiver;
+use crate::waivers::Waivers;
 use arrayvec::ArrayVec;
 use std::alloc::{AllocError, Global};
-use t1_char::{STEP_LIMIT, Step, expand};
+use t1_char::{Edition, Step, expand};
 use t1_font::Font;
 use t1_rules::{Mask, Rule, Sidebearings, Watch, Watches, font_faults, places};
 
@@ -35,28 +41,43 @@ struct FaultPlace<'a> {
     path: &'a [u32],
 }
 
-/// All violations in a font and its glyphs, in the order of their places.
-pub fn report(alloc: Global, font: &Font<'_>) -> Result<Vec<Fault>, AllocError>
-    ensures exact { IfOk result (λ faults. IsReport font.now (faults_of faults.items)) }
+/// All violations in a font and its glyphs that aren't waived, in the order of their places, and behind them the
+/// waivers that aren't used.
+pub fn report(
+    alloc: Global,
+    font: &Font<'_>,
+    waivers: &Waivers<'_>,
+    edition: Edition,
+) -> Result<Vec<Fault>, AllocError>
+    ensures exact { IfOk result (λ faults. IsReport (checked font.now edition) waivers.now (faults_of faults.items)) }
     ensures in_font { IfOk result
-        (λ faults. All (λ fault. IsInFont font.now (fault_value fault)) faults.items) }
+        (λ faults. All (λ fault. IsInFont font.now waivers.now (fault_value fault)) faults.items) }
 {
     let mut faults = Vec::new(alloc);
     for key in 0..KEYS {
-        add_key(&mut faults, font, key)?;
+        add_key(&mut faults, font, waivers, key)?;
     }
-    let sidebearings = Sidebearings::prepare(alloc, font)?;
+    let sidebearings = Sidebearings::prepare(alloc, font, edition)?;
     for glyph in 0..font.glyphs().len() {
-        add_glyph(alloc, &mut faults, font, &sidebearings, glyph)?;
+        add_glyph(alloc, &mut faults, font, &sidebearings, waivers, glyph)?;
+    }
+    for place in 0..waivers.len() {
+        add_waiver(&mut faults, font, &sidebearings, waivers, place)?;
     }
     Ok(faults)
 }
 
 /// Adds the faults of a key: past its places there is none.
-fn add_key(faults: &mut Vec<Fault>, font: &Font<'_>, key: u8) -> Result<(), AllocError>
+fn add_key(
+    faults: &mut Vec<Fault>,
+    font: &Font<'_>,
+    waivers: &Waivers<'_>,
+    key: u8,
+) -> Result<(), AllocError>
     requires key { key < 22 }
-    requires front { IsFront font.now 0 (65536 * key) 0 (faults_of faults.old.items) }
-    ensures { OnOk result (IsFront font.now 0 (65536 * (key + 1)) 0 (faults_of faults.new.items)) }
+    ensures { OnOk result ((edition : Editions) →
+        IsFront (checked font.now edition) waivers.now 0 (65536 * key) 0 (faults_of faults.old.items) →
+        IsFront (checked font.now edition) waivers.now 0 (65536 * (key + 1)) 0 (faults_of faults.new.items)) }
 {
     for index in 0..places(font, key) {
         let place = FaultPlace {
@@ -75,56 +96,89 @@ fn add_glyph(
     faults: &mut Vec<Fault>,
     font: &Font<'_>,
     sidebearings: &Sidebearings,
+    waivers: &Waivers<'_>,
     glyph: usize,
 ) -> Result<(), AllocError>
-    requires sidebearings { sidebearings.now ≡ components_of step_limit font.now }
+    requires sidebearings { AreOf font.now sidebearings.now }
     requires glyph { glyph < length font.now.glyphs }
     requires few { length font.now.glyphs ≤ 65535 }
-    requires front { IsFront font.now (glyph + 1) 0 0 (faults_of faults.old.items) }
-    ensures { OnOk result (IsFront font.now (glyph + 2) 0 0 (faults_of faults.new.items)) }
+    requires front { IsFront (checked font.now sidebearings.now.edition) waivers.now (glyph + 1) 0 0 (faults_of faults.old.items) }
+    ensures { OnOk result (IsFront (checked font.now sidebearings.now.edition) waivers.now (glyph + 2) 0 0 (faults_of faults.new.items)) }
 {
-    let steps = expand(alloc, font, glyph)?;
-    let mut watches = Watches::start();
+    let edition = sidebearings.edition();
+    let limit = edition.step_limit();
+    let steps = expand(alloc, font, glyph, edition)?;
+    let name = glyph_name(font, glyph as u32);
+    let mut watches = Watches::start(edition);
     for step in &steps {
         let place = FaultPlace {
             unit: glyph as u32 + 1,
             step: step.number,
             path: step.path.as_slice(),
         };
-        add_faults(faults, place, broken_at(&mut watches, sidebearings, step))?;
+        let broken = broken_at(&mut watches, sidebearings, limit, step);
+        add_faults(faults, place, waivers.left(name, broken))?;
     }
     Ok(())
 }
 
-/// The rules that the next step of a glyph breaks: the first step past the limit breaks the rule on the
-/// limit, and no other.
-pub(crate) fn broken_at(watches: &mut Watches, sidebearings: &Sidebearings, step: &Step) -> Mask
-    requires { (before : List StepView) × IsNext watches.old before step.now }
-    ensures broken { (before : List StepView) → IsNext watches.old before step.now →
-        (n : ℕ) → has result n
-        ≡ step_breaks step_limit (charstring_rules sidebearings.now) n before (Some (step_view step.now)) }
-    ensures seen { (before : List StepView) → IsNext watches.old before step.now →
-        HaveSeen watches.new (before ++ step_view step.now ∷ []) }
+/// Adds the fault of a waiver that isn't used.
+fn add_waiver(
+    faults: &mut Vec<Fault>,
+    font: &Font<'_>,
+    sidebearings: &Sidebearings,
+    waivers: &Waivers<'_>,
+    place: usize,
+) -> Result<(), AllocError>
+    requires sidebearings { AreOf font.now sidebearings.now }
+    requires place { place < length waivers.now }
+    requires few { length font.now.glyphs ≤ 65535 }
+    requires few_waivers { length waivers.now ≤ 1048576 }
+    requires front { IsFront (checked font.now sidebearings.now.edition) waivers.now (length font.now.glyphs + 1) (place + 1) 0 (faults_of faults.old.items) }
+    ensures { OnOk result (IsFront (checked font.now sidebearings.now.edition) waivers.now (length font.now.glyphs + 1) (place + 2) 0 (faults_of faults.new.items)) }
 {
-    if STEP_LIMIT < step.number {
+    let fault = FaultPlace {
+        unit: font.glyphs().len() as u32 + 1,
+        step: place as u32 + 1,
+        path: &[],
+    };
+    let check = check_waiver(&*font, &*sidebearings, waivers, place);
+    add_faults(faults, fault, check.rules)?;
+    Ok(())
+}
+
+/// The rules that the next step of a glyph breaks: the first step past the limit of the edition breaks the
+/// rule on the limit, and no other.
+pub(crate) fn broken_at(
+    watches: &mut Watches,
+    sidebearings: &Sidebearings,
+    limit: u32,
+    step: &Step,
+) -> Mask
+    requires limit { limit ≡ limit_of sidebearings.now.edition }
+    requires next { (before : List StepView) × IsNext sidebearings.now.edition watches.old before step.now }
+    ensures broken { (before : List StepView) → IsNext sidebearings.now.edition watches.old before step.now →
+        (n : ℕ) → has result n
+        ≡ step_breaks (limit_of sidebearings.now.edition)
+        (charstring_rules sidebearings.now.edition sidebearings.now.components) n before (Some (step_view step.now)) }
+    ensures seen { (before : List StepView) → IsNext sidebearings.now.edition watches.old before step.now →
+        HaveSeen sidebearings.now.edition watches.new (before ++ step_view step.now ∷ []) }
+{
+    if limit < step.number {
         return Mask::empty().with(Rule::L01, true);
     }
     watches.see(step).join(sidebearings.see(step))
 }
 
 /// Adds the faults of a place, by the numbers of their rules.
-fn add_faults(
-    faults: &mut Vec<Fault>,
-    place: FaultPlace<'_>,
-    broken: Mask,
-) -> Result<(), AllocError>
+fn add_faults(faults: &mut Vec<Fault>, place: FaultPlace<'_>, told: Mask) -> Result<(), AllocError>
     requires path { length place.path.now ≤ 10 }
-    ensures { OnOk result ((font : FontValue) → HasBroken font place.entry broken →
-        IsFront font place.entry.unit place.entry.step 0 (faults_of faults.old.items) →
-        IsFront font place.entry.unit (place.entry.step + 1) 0 (faults_of faults.new.items)) }
+    ensures { OnOk result ((font : CheckedFont) (waivers : List Waiver) → HasTold font waivers place.entry told →
+        IsFront font waivers place.entry.unit place.entry.step 0 (faults_of faults.old.items) →
+        IsFront font waivers place.entry.unit (place.entry.step + 1) 0 (faults_of faults.new.items)) }
 {
     let mut floor = 0;
-    while let Some(rule) = broken.above(floor) {
+    while let Some(rule) = told.above(floor) {
         faults.push(Fault {
             number: faults.len() as u64 + 1,
             unit: place.unit,

@@ -2,6 +2,7 @@ mod arguments;
 mod assembly;
 mod calls;
 mod components;
+mod editions;
 mod flex;
 mod flex_ends;
 mod hostile;
@@ -15,14 +16,20 @@ mod paths;
 mod places;
 mod seac;
 mod stems;
+mod waivers;
 mod walks;
 
-use crate::{Fault, report, write_fault};
+ghost use Rattle.std.specs.Prelude.{◌≡◌, true};
+ghost use Rattle.t1_report.specs.Faults.{fault_value};
+ghost use Rattle.t1_report.specs.Lines.{IsInFont};
+
+use crate::{Fault, Waivers, report, write_fault};
 use assembly::charstring;
 use machines::assert_same_steps;
 use std::alloc::Global;
 use std::process::Abort;
 use std::test::Fail;
+use t1_char::Edition;
 use t1_font::{Font, Refusal, read_clear, read_font};
 use t1_io::{Fuse, Limit, Out, Sink};
 use t1_rules::Rule;
@@ -86,13 +93,13 @@ impl Texts {
     ) -> Result<Option<bool>, Refusal> {
         let font = self.font(alloc)?;
         let mut sink = Fuse::sink(Out::new(text), Limit::Bytes(room));
-        Ok(is_written(&mut sink, &font, fault))
+        Ok(is_written(&mut sink, &font, &Waivers::none(), fault))
     }
 }
 
 /// The faults of a font.
 fn without_paths(alloc: Global, font: &Font<'_>) -> Result<Vec<Told>, Refusal> {
-    let faults = report(alloc, font)?;
+    let faults = report(alloc, font, &Waivers::none(), Edition::One)?;
     let mut told = Vec::new(alloc);
     for fault in faults.iter() {
         told.push(Told {
@@ -105,11 +112,34 @@ fn without_paths(alloc: Global, font: &Font<'_>) -> Result<Vec<Told>, Refusal> {
     Ok(told)
 }
 
-fn is_written<W: Sink>(sink: &mut W, font: &Font<'_>, fault: &Fault) -> Option<bool> {
-    if fault.unit as usize > font.glyphs().len() || fault.step / 65_536 > 21 {
+/// Whether a fault has a line: it stands at a key of the font, in a glyph, or is that of a waiver.
+fn has_line(font: &Font<'_>, waivers: &Waivers<'_>, fault: &Fault) -> bool
+    ensures { result ≡ true → IsInFont font.now waivers.now (fault_value fault.now) }
+{
+    let unit = fault.unit as usize;
+    let glyphs = font.glyphs().len();
+    if unit == 0 {
+        fault.step / 65_536 <= 21
+    } else if unit > glyphs {
+        unit == glyphs + 1
+            && matches!(fault.rule, Rule::U01)
+            && 1 <= fault.step
+            && fault.step as usize <= waivers.len()
+    } else {
+        true
+    }
+}
+
+fn is_written<W: Sink>(
+    sink: &mut W,
+    font: &Font<'_>,
+    waivers: &Waivers<'_>,
+    fault: &Fault,
+) -> Option<bool> {
+    if !has_line(font, waivers, fault) {
         return None;
     }
-    Some(write_fault(sink, font, fault).is_ok())
+    Some(write_fault(sink, font, waivers, fault).is_ok())
 }
 
 /// The faults of the file of a font.
@@ -118,8 +148,13 @@ fn faults_of(alloc: Global, file: &[u8]) -> Result<Vec<Told>, Fail> {
 }
 
 /// Adds the line of a fault.
-fn add_line(text: &mut Vec<u8>, font: &Font<'_>, fault: &Fault) -> Result<(), Fail> {
-    match is_written(&mut Out::new(text), font, fault) {
+fn add_line(
+    text: &mut Vec<u8>,
+    font: &Font<'_>,
+    waivers: &Waivers<'_>,
+    fault: &Fault,
+) -> Result<(), Fail> {
+    match is_written(&mut Out::new(text), font, waivers, fault) {
         Some(true) => Ok(()),
         _ => Err(Fail::from("a line")),
     }
@@ -136,9 +171,19 @@ fn lines_of(alloc: Global, texts: &Texts) -> Result<String, Fail> {
     if texts.private.len() < LONG {
         assert_walks(alloc, &font)?;
     }
+    reported(alloc, &font, &Waivers::none(), Edition::One)
+}
+
+/// The lines of a font's report.
+fn reported(
+    alloc: Global,
+    font: &Font<'_>,
+    waivers: &Waivers<'_>,
+    edition: Edition,
+) -> Result<String, Fail> {
     let mut text = Vec::new(alloc);
-    for fault in report(alloc, &font)?.iter() {
-        add_line(&mut text, &font, fault)?;
+    for fault in report(alloc, font, waivers, edition)?.iter() {
+        add_line(&mut text, font, waivers, fault)?;
     }
     Ok(String::from_utf8(text)?)
 }

@@ -3,32 +3,33 @@
 mod course;
 mod font_places;
 mod found;
-mod glyph_run;
+pub(crate) mod glyph_run;
 mod search;
 
-ghost use Rattle.std.specs.Prelude.{◌≡◌, ◌≤◌, ◌*◌, MatchOption, length};
+ghost use Rattle.std.specs.Prelude.{◌≡◌, ◌≤◌, ◌*◌, ◌+◌, MatchOption, length};
 ghost use Rattle.t1_report.specs.Faults.{fault_value};
-ghost use Rattle.t1_report.specs.Reports.{step_limit};
+ghost use Rattle.t1_report.specs.Checked.{checked, step_limit};
 ghost use Rattle.t1_report.specs.Walks.{HasNoneLater, IsNext, first_mark};
 ghost use Rattle.t1_report.specs.WalkViews.{WalkView, walked};
-ghost use Rattle.t1_rules.specs.Components.{components_of};
+ghost use Rattle.t1_rules.specs.Components.{AreOf};
 
 use crate::faults::Fault;
 use crate::marks::Mark;
+use crate::waivers::Waivers;
 use course::Course;
 use std::marker::Model;
 use t1_font::Font;
 use t1_rules::Sidebearings;
 
-/// A report that is given one fault at a time. It takes no memory and can't fail, and each glyph is
-/// executed once.
+/// A report that is given one fault at a time. It takes no memory and can't fail. Each glyph is executed once,
+/// and once more for each waiver of it, up to the first step that breaks the waiver's rule.
 ///
 /// ```
-/// let sidebearings = Sidebearings::prepare(alloc, &font)?;
-/// let mut walk = Walk::begin(&font, &sidebearings);
+/// let sidebearings = Sidebearings::prepare(alloc, &font, Edition::One)?;
+/// let mut walk = Walk::begin(&font, &sidebearings, &waivers);
 /// let first = walk.next();
 /// let mark = walk.mark();
-/// let rest = Walk::resume(&font, &sidebearings, mark);
+/// let rest = Walk::resume(&font, &sidebearings, &waivers, mark);
 /// ```
 #[derive(Drop)]
 pub struct Walk<'a> {
@@ -37,27 +38,35 @@ pub struct Walk<'a> {
 
 impl<'a> Model for Walk<'a> {
     ghost use Rattle.t1_report.specs.Courses.{IsCourse, turns_so_far};
+    ghost use Rattle.t1_report.specs.Searching.{checked_in};
     ghost use Rattle.t1_report.specs.WalkViews.{WalkView};
 
     ghost Value = { WalkView };
 
-    ghost view = { λ w. record { font = w.course.search.font.now; from = w.course.search.from; mark = w.course.mark; turns = turns_so_far w.course.search } };
+    ghost view = { λ w. record { font = checked_in w.course.search; waivers = w.course.search.waivers.now; from = w.course.search.from; first = w.course.search.first; mark = w.course.mark; turns = turns_so_far w.course.search } };
 
     ghost invariant = { λ w. IsCourse w.course };
 }
 
 impl<'a> Walk<'a> {
     /// From before the first fault on.
-    pub fn begin(font: &'a Font<'a>, sidebearings: &'a Sidebearings) -> Walk<'a>
-        requires { sidebearings.now ≡ components_of step_limit font.now }
-        ensures font { result.font ≡ font.now }
+    pub fn begin(
+        font: &'a Font<'a>,
+        sidebearings: &'a Sidebearings,
+        waivers: &'a Waivers<'a>,
+    ) -> Walk<'a>
+        requires { AreOf font.now sidebearings.now }
+        ensures font { result.font ≡ checked font.now sidebearings.now.edition }
+        ensures waivers { result.waivers ≡ waivers.now }
         ensures from { result.from ≡ 0 }
+        ensures first { result.first ≡ 0 }
         ensures mark { result.mark ≡ first_mark }
         ensures turns { result.turns ≡ 0 }
     {
         Walk::resume(
             font,
             sidebearings,
+            waivers,
             Mark {
                 number: 0,
                 unit: 0,
@@ -68,22 +77,29 @@ impl<'a> Walk<'a> {
     }
 
     /// From behind a mark on, whatever it is; the font's `Sidebearings` are asked for.
-    pub fn resume(font: &'a Font<'a>, sidebearings: &'a Sidebearings, mark: Mark) -> Walk<'a>
-        requires { sidebearings.now ≡ components_of step_limit font.now }
-        ensures font { result.font ≡ font.now }
+    pub fn resume(
+        font: &'a Font<'a>,
+        sidebearings: &'a Sidebearings,
+        waivers: &'a Waivers<'a>,
+        mark: Mark,
+    ) -> Walk<'a>
+        requires { AreOf font.now sidebearings.now }
+        ensures font { result.font ≡ checked font.now sidebearings.now.edition }
+        ensures waivers { result.waivers ≡ waivers.now }
         ensures from { result.from ≡ mark.unit }
+        ensures first { result.first ≡ mark.step }
         ensures mark { result.mark ≡ mark }
         ensures turns { result.turns ≡ 0 }
     {
         Walk {
-            course: Course::from(font, sidebearings, mark),
+            course: Course::from(font, sidebearings, waivers, mark),
         }
     }
 
     /// The least fault of the report behind the mark, with the number behind the mark's; then it is the mark.
     pub fn next(&mut self) -> Option<Fault>
-        ensures next { MatchOption result (HasNoneLater self.old.font self.old.mark)
-            (λ fault. IsNext self.old.font self.old.mark (fault_value fault)) }
+        ensures next { MatchOption result (HasNoneLater self.old.font self.old.waivers self.old.mark)
+            (λ fault. IsNext self.old.font self.old.waivers self.old.mark (fault_value fault)) }
         ensures state { self.new ≡ walked self.old result }
     {
         self.course.next()
@@ -96,10 +112,11 @@ impl<'a> Walk<'a> {
         self.course.mark()
     }
 
-    /// How often it has asked a machine for a step: never more often than 100,001 times a glyph.
+    /// How often it has asked a machine for a step: for each glyph, and for each waiver, once
+    /// more than the limit of steps at most.
     pub fn turns(&self) -> u64
         ensures turns { result ≡ self.now.turns }
-        ensures few { result ≤ 100001 * length self.now.font.glyphs }
+        ensures few { result ≤ (step_limit self.now.font + 1) * (length self.now.font.value.glyphs + length self.now.waivers) }
     {
         self.course.turns()
     }

@@ -5,6 +5,7 @@ pub mod Book
 pub mod ComponentLaws
 pub mod Components
 pub mod Divisions
+pub mod Editions
 pub mod Flex
 pub mod FlexPairs
 pub mod FontRules

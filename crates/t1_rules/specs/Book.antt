@@ -1,7 +1,8 @@
 -- The rule book: each rule with its number, its code and its text.
-use Rattle.std.specs.Prelude.{ℕ, List, codes}
+use Rattle.std.specs.Prelude.{ℕ, if◌then◌else◌, List, [], ◌∷◌, Option, Some, None, codes}
+use Rattle.t1_font.specs.Keys.{same_name}
 use Rattle.t1_rules.specs.declared.rule.Rule.{Rule}
-use Rattle.t1_rules.specs.declared.rule.Rule.TheVariants.{F01, F02, F03, F04, F05, F06, F07, F08, F09, F10, F11, F12, F13, F14, Z01, Z02, Z03, Z04, Z05, Z06, Z07, Z08, Z09, Z10, Z11, C01, C02, C03, C04, C05, C06, C07, C08, C09, S01, S02, S03, S04, GE01, GE02, W01, W02, P01, P02, P03, H01, H02, H03, H04, R01, R02, X01, X02, X03, X04, X05, X06, O01, O02, O03, O04, K01, K02, K03, K04, K05, K06, K07, L01}
+use Rattle.t1_rules.specs.declared.rule.Rule.TheVariants.{F01, F02, F03, F04, F05, F06, F07, F08, F09, F10, F11, F12, F13, F14, Z01, Z02, Z03, Z04, Z05, Z06, Z07, Z08, Z09, Z10, Z11, C01, C02, C03, C04, C05, C06, C07, C08, C09, S01, S02, S03, S04, GE01, GE02, W01, W02, P01, P02, P03, H01, H02, H03, H04, R01, R02, X01, X02, X03, X04, X05, X06, O01, O02, O03, O04, K01, K02, K03, K04, K05, K06, K07, L01, U01}
 
 -- An entry of the book: a rule's number, which is its place there, from 1 on; its code, as it stands in a
 -- line of the report; and what is told of a violation.
@@ -83,6 +84,7 @@ entry_of K05 = entry 66 (codes "K05") (codes "accent sidebearing differs")
 entry_of K06 = entry 67 (codes "K06") (codes "seac beside other commands")
 entry_of K07 = entry 68 (codes "K07") (codes "seac component without sidebearing")
 entry_of L01 = entry 69 (codes "L01") (codes "step limit")
+entry_of U01 = entry 70 (codes "U01") (codes "waiver not used")
 
 abbrev pub number_of : Rule → ℕ
 number_of rule = (entry_of rule).number
@@ -95,4 +97,22 @@ text_of rule = (entry_of rule).text
 
 -- The greatest number of a rule.
 abbrev pub last_number : ℕ
-last_number = 69
+last_number = 70
+
+-- All rules, in the order of their numbers.
+abbrev pub rules : List Rule
+rules =
+    F01 ∷ F02 ∷ F03 ∷ F04 ∷ F05 ∷ F06 ∷ F07 ∷ F08 ∷ F09 ∷ F10 ∷ F11 ∷ F12 ∷ F13 ∷ F14
+    ∷ Z01 ∷ Z02 ∷ Z03 ∷ Z04 ∷ Z05 ∷ Z06 ∷ Z07 ∷ Z08 ∷ Z09 ∷ Z10 ∷ Z11 ∷ C01 ∷ C02 ∷ C03
+    ∷ C04 ∷ C05 ∷ C06 ∷ C07 ∷ C08 ∷ C09 ∷ S01 ∷ S02 ∷ S03 ∷ S04 ∷ GE01 ∷ GE02 ∷ W01 ∷ W02
+    ∷ P01 ∷ P02 ∷ P03 ∷ H01 ∷ H02 ∷ H03 ∷ H04 ∷ R01 ∷ R02 ∷ X01 ∷ X02 ∷ X03 ∷ X04 ∷ X05
+    ∷ X06 ∷ O01 ∷ O02 ∷ O03 ∷ O04 ∷ K01 ∷ K02 ∷ K03 ∷ K04 ∷ K05 ∷ K06 ∷ K07 ∷ L01 ∷ U01 ∷ []
+
+-- The first of these rules that has a code.
+unfoldable pub coded_in : List ℕ → List Rule → Option Rule
+coded_in code [] = None
+coded_in code (rule ∷ rest) = if same_name (code_of rule) code then Some rule else coded_in code rest
+
+-- The rule of a code.
+abbrev pub rule_coded : List ℕ → Option Rule
+rule_coded code = coded_in code rules

@@ -1,7 +1,9 @@
 -- The components of accented characters: what seac's rules ask of the glyph that StandardEncoding names
 -- for a code. Type 1 Font Format 1.1, chapter 6 (seac, hsbw, sbw).
-use Rattle.std.specs.Prelude.{ℕ, ℤ, if◌then◌else◌, Bool, true, false, Option, Some, None, List, [], ◌∷◌, map, take}
+use Rattle.std.specs.Prelude.{◌≡◌, ℕ, ℤ, if◌then◌else◌, Bool, true, false, Option, Some, None, List, [], ◌∷◌, map, take}
 use Rattle.std.specs.List.{list_any, position, range_with_len}
+use Rattle.t1_char.specs.declared.edition.Edition.{Edition}
+use Rattle.t1_char.specs.Editions.{limit_of}
 use Rattle.t1_char.specs.Arguments.{argument}
 use Rattle.t1_char.specs.Steps.{StepView, steps_of}
 use Rattle.t1_font.specs.Fonts.{FontValue}
@@ -50,3 +52,12 @@ component_at limit font code = component_named limit font (standard_name code)
 -- The components of all codes.
 unfoldable pub components_of : ℕ → FontValue → List Component
 components_of limit font = map (component_at limit font) (range_with_len 0 256)
+
+-- The components of all codes of a font, and the edition by whose limit they were looked at.
+pub record ComponentsView : Type 0 where
+  pub edition : Edition
+  pub components : List Component
+
+-- They are those of this font.
+abbrev pub AreOf : FontValue → ComponentsView → Type 0
+AreOf font view = view.components ≡ components_of (limit_of view.edition) font

@@ -1,5 +1,6 @@
 -- Statements of laws, which the functions of src/laws.rt prove.
 pub mod Components
+pub mod Editions
 pub mod Flex
 pub mod FontRules
 pub mod Othersubrs

@@ -10,6 +10,7 @@ pub mod Stems
 pub mod Tokens
 use Rattle.std.specs.Prelude.{ℕ, ◌==◌, ◌&&◌, Bool, false, Option, Some, None, List, [], ◌∷◌, ◌++◌, slice_get, take}
 use Rattle.std.specs.List.{list_any}
+use Rattle.t1_char.specs.declared.edition.Edition.{Edition}
 use Rattle.t1_char.specs.Since.{Test}
 use Rattle.t1_char.specs.Steps.{StepView}
 use Rattle.t1_rules.specs.declared.rule.Rule.{Rule}
@@ -22,7 +23,7 @@ use Rattle.t1_rules.specs.StepRules.Flex.{starts_in_flex, goes_on_outside, comma
 use Rattle.t1_rules.specs.StepRules.Othersubrs.{calls_unknown, has_bad_count, has_wrong_count, pops_nothing}
 use Rattle.t1_rules.specs.StepRules.Paths.{starts_without_width, sets_width_later, draws_unmoved, leaves_open, closes_nothing}
 use Rattle.t1_rules.specs.StepRules.Seac.{has_no_code, has_unnamed_code, stands_beside_outline, lacks_component, nests, differs_in_sidebearing, lacks_sidebearing}
-use Rattle.t1_rules.specs.StepRules.Stems.{overlap, sets_stem_late, sets_overlapping, sets_without_width, sets_unequal, leaves_out_pop, leaves_out_call}
+use Rattle.t1_rules.specs.StepRules.Stems.{overlap_by, sets_stem_late, sets_overlapping, sets_without_width, sets_unequal, leaves_out_pop, leaves_out_call}
 use Rattle.t1_rules.specs.StepRules.Tokens.{is_short, is_cut, is_unknown}
 
 -- A row of the table: a rule, and where it is broken, given the steps before a step and the step.
@@ -93,12 +94,12 @@ path_rules =
     ∷ []
 
 -- Stem hints and their replacement.
-unfoldable pub stem_rules : List StepRule
-stem_rules =
+unfoldable pub stem_rules : Edition → List StepRule
+stem_rules edition =
     -- A stem behind what it is a hint for. Type 1 Font Format, chapter 6.
     row H01 sets_stem_late
     -- Two stems of a hint set overlap. Type 1 Font Format, chapter 6.
-    ∷ row H02 (sets_overlapping overlap)
+    ∷ row H02 (sets_overlapping (overlap_by edition))
     -- A stem has no width. Type 1 Font Format, chapter 6.
     ∷ of_step H03 sets_without_width
     -- The three stems of hstem3 or vstem3 aren't equal. Type 1 Font Format, chapter 6.
@@ -164,14 +165,14 @@ component_rules components =
     ∷ []
 
 -- The table of the rules that a glyph's own steps decide, in the order of the book.
-unfoldable pub step_rules : List StepRule
-step_rules =
+unfoldable pub step_rules : Edition → List StepRule
+step_rules edition =
     argument_rules
-    ++ (call_rules ++ (path_rules ++ (stem_rules ++ (flex_rules ++ (othersubr_rules ++ seac_rules)))))
+    ++ (call_rules ++ (path_rules ++ (stem_rules edition ++ (flex_rules ++ (othersubr_rules ++ seac_rules)))))
 
 -- All charstring rules, where the components of all codes are these.
-unfoldable pub charstring_rules : List Component → List StepRule
-charstring_rules components = step_rules ++ component_rules components
+unfoldable pub charstring_rules : Edition → List Component → List StepRule
+charstring_rules edition components = step_rules edition ++ component_rules components
 
 -- The rule of this number is one of these, and the step breaks it, given the steps before.
 abbrev pub breaks : List StepRule → ℕ → List StepView → StepView → Bool

@@ -1,5 +1,6 @@
 -- What watchers keep of the steps that they have seen.
 use Rattle.std.specs.Prelude.{◌≡◌, ⊤, false, ℕ, pos, ◌+ℤ◌, ◌*◌, ◌&&◌, ◌≤◌, ◌≤ℤ◌, List, length}
+use Rattle.t1_char.specs.declared.edition.Edition.{Edition}
 use Rattle.t1_char.specs.declared.token.CharToken.{CharToken}
 use Rattle.t1_char.specs.Arguments.{is_callothersubr, is_flex_end}
 use Rattle.t1_char.specs.Laws.Steps.{is_finishing}
@@ -17,7 +18,7 @@ use Rattle.t1_rules.specs.StepRules.Seac.{makes_outline}
 use Rattle.t1_rules.specs.StepRules.Stems.{lies_across, stands_upright, hint_set, is_drawn, is_replaced, is_replaced_and_popped, popping}
 use Rattle.t1_rules.specs.StepRules.Tokens.{clears, sets_width, is_move, is_line, is_setcurrentpoint, closes}
 
--- How many steps a watcher can see: more than the limit of steps of any glyph.
+-- How many steps a watcher can see: more than the limit of any edition.
 abbrev pub most_steps : ℕ
 most_steps = 16777216
 
@@ -42,7 +43,8 @@ pub record IsQuietForPaths (step : StepView) : Type 0 where
   pub ends : is_end step.token ≡ false
   pub othersubr : is_callothersubr step.token ≡ false
 
-pub record StemsStandFor (watcher : StemWatcher) (before : List StepView) : Type 0 where
+pub record StemsStandFor (edition : Edition) (watcher : StemWatcher) (before : List StepView) : Type 0 where
+  pub edition_is : watcher.edition ≡ edition
   pub across : watcher.across.items ≡ hint_set lies_across before
   pub upright : watcher.upright.items ≡ hint_set stands_upright before
   pub in_flex : watcher.in_flex ≡ in_flex before
@@ -79,7 +81,7 @@ pub record SeacStandsFor (watcher : SeacWatcher) (before : List StepView) : Type
   pub outlined : watcher.outlined ≡ any_so_far makes_outline before
 
 -- All watchers stand for the same steps; those of arguments, calls and OtherSubrs keep nothing.
-unfoldable pub WatchesStandFor : Watches → List StepView → Type 0
-WatchesStandFor watches before =
-    PathsStandFor watches.paths before × (StemsStandFor watches.stems before
+unfoldable pub WatchesStandFor : Edition → Watches → List StepView → Type 0
+WatchesStandFor edition watches before =
+    PathsStandFor watches.paths before × (StemsStandFor edition watches.stems before
     × (FlexStandsFor watches.flex before × SeacStandsFor watches.seac before))

@@ -1,7 +1,7 @@
 //! The rule book: each rule with its number, its code and its text.
 
 ghost use Rattle.std.specs.Prelude.{◌≡◌, ◌⊎◌, ◌<◌, IfNone, IfSome, map};
-ghost use Rattle.t1_rules.specs.Words.BookRows.{row_view, rows};
+ghost use Rattle.t1_rules.specs.Words.BookRows.{row_coded, row_view, rows};
 ghost use Rattle.t1_rules.specs.Book.{code_of, last_number, number_of, text_of};
 
 use crate::rule::Rule;
@@ -10,7 +10,7 @@ use crate::rule::Rule;
 type Row = (Rule, &'static str, &'static str);
 
 /// The book, in the order of the rules' numbers, of which the first is 1.
-static BOOK: [Row; 69] = [
+static BOOK: [Row; 70] = [
     (Rule::F01, "F01", "no end segment"),
     (Rule::F02, "F02", "bytes after the end segment"),
     (Rule::F03, "F03", "FontType is not 1"),
@@ -80,10 +80,11 @@ static BOOK: [Row; 69] = [
     (Rule::K06, "K06", "seac beside other commands"),
     (Rule::K07, "K07", "seac component without sidebearing"),
     (Rule::L01, "L01", "step limit"),
+    (Rule::U01, "U01", "waiver not used"),
 ];
 
 /// The rows of the book.
-fn rows() -> &'static [Row]
+pub(crate) fn rows() -> &'static [Row]
     ensures { map row_view result.now ≡ rows }
 {
     &BOOK
@@ -123,4 +124,16 @@ pub(crate) fn rule_of(number: u8) -> Option<Rule>
         Some(row) => Some(row.0),
         None => None,
     }
+}
+
+/// The rule of a code among rows, if there is one.
+pub(crate) fn rule_in(rows: &[Row], code: &[u8]) -> Option<Rule>
+    ensures { result ≡ row_coded code.now (map row_view rows.now) }
+{
+    for row in rows {
+        if row.1.as_bytes() == code {
+            return Some(row.0);
+        }
+    }
+    None
 }

@@ -2,6 +2,7 @@
 
 ghost use Rattle.t1_rules.specs.Laws.FontRules.{AbsentEntriesBreakNothing, BrokenIsInTheBook, NothingIsBrokenPastLast, NothingIsBrokenPastPlaces, RuleNumbersAreInOrder};
 ghost use Rattle.t1_rules.specs.Laws.Components.{CodesAreCounted, NamesAreCounted, NoNameStandsTwice, OwnEncodingHasNoSay, PlacesHaveNoSay};
+ghost use Rattle.t1_rules.specs.Laws.Editions.{EditionsAgreeOnOtherRules, EditionsAgreeOnShortComponents, EditionsAgreeOnUsualSteps, EditionsAgreeWithoutOneEdge, OneEdgeOverlapsNothing, OtherStemsOverlapAsBefore, OverlapByIsMutual, StemsAreKept};
 ghost use Rattle.t1_rules.specs.Laws.Flex.{ClosepathLeavesThePoint, EndsLeadOutOfFlex, SevenPairsAreAFlex, StartsLeadIntoFlex, StepsMoveThePoint, WidthsSetThePoint};
 ghost use Rattle.t1_rules.specs.Laws.Othersubrs.{CallsAreOneOfFive};
 ghost use Rattle.t1_rules.specs.Laws.StepRules.{ArgumentsCountFromTheBottom, BrokenStepsHaveTheseNumbers, ComponentRuleNumbersAreInOrder, EndsBreakOneRule, FlexIsByPlaces, LaterStepsHaveNoSay, MovedIsByPlaces, OneStepStartsWithoutWidth, OpenIsByPlaces, StepRuleNumbersAreInOrder, SurplusNumbersAreNotPast};
@@ -107,6 +108,26 @@ pub fn stems_overlap_where_they_share_a_place()
     ensures place { StemsOverlapWhereTheyShareAPlace }
     ensures mutual { OverlapIsMutual }
     ensures signs { SignsHaveNoSay }
+{}
+
+/// In the second edition a stem of one edge overlaps nothing, and other stems overlap as in the first. Both
+/// keep it, and both say the same of steps where there is none.
+#[tactic(auto, using(crate::proofs::Lemmas::Editions::overlap_by_is_mutual, crate::proofs::Lemmas::Editions::one_edge_overlaps_nothing, crate::proofs::Lemmas::Editions::other_stems_overlap_as_before, crate::proofs::Lemmas::Editions::stems_are_kept, crate::proofs::Lemmas::Editions::agree_without_one_edge))]
+pub fn editions_differ_in_stems_of_one_edge()
+    ensures mutual { OverlapByIsMutual }
+    ensures nothing { OneEdgeOverlapsNothing }
+    ensures others { OtherStemsOverlapAsBefore }
+    ensures kept { StemsAreKept }
+    ensures without { EditionsAgreeWithoutOneEdge }
+{}
+
+/// Both editions say the same of a step but by H02, K04, K05 and K07; where no component has more than
+/// 100,000 steps, but by H02 alone.
+#[tactic(auto, using(crate::proofs::Lemmas::Editions::agree_on_other_rules, crate::proofs::Lemmas::Editions::agree_on_short_components, crate::proofs::Lemmas::Editions::agree_on_usual_steps))]
+pub fn editions_agree_on_other_rules()
+    ensures others { EditionsAgreeOnOtherRules }
+    ensures short { EditionsAgreeOnShortComponents }
+    ensures usual { EditionsAgreeOnUsualSteps }
 {}
 
 /// A hint replacement empties the hint sets, which have 96 stems at most.

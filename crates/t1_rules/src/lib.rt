@@ -32,9 +32,9 @@
 //!     }
 //! }
 //!
-//! let sidebearings = Sidebearings::prepare(alloc, &font)?;
-//! let mut watches = Watches::start();
-//! for step in &t1_char::expand(alloc, &font, 0)? {
+//! let sidebearings = Sidebearings::prepare(alloc, &font, Edition::One)?;
+//! let mut watches = Watches::start(Edition::One);
+//! for step in &t1_char::expand(alloc, &font, 0, Edition::One)? {
 //!     if let Some(rule) = watches.see(step).join(sidebearings.see(step)).above(0) {
 //!         println!(rt; "{} {}", step.number, rule_code(rule))?;
 //!     }
@@ -59,12 +59,13 @@ pub use font_rules::font_faults;
 pub use keys::{key_text, places};
 pub use laws::{
     absent_entries_are_fine, arguments_count_from_the_bottom, components_are_found_by_their_names,
-    current_points_move_on, ends_break_one_rule, flex_goes_from_its_start_to_its_end,
-    hint_sets_begin_anew, later_steps_have_no_say, numbers_rise_where_none_falls,
-    one_step_starts_without_width, othersubr_calls_are_one_of_five, paths_are_by_places,
-    rules_are_on_zones, rules_have_their_numbers, rules_have_their_places,
-    standard_encoding_names_149_codes, stems_overlap_where_they_share_a_place,
-    step_rules_have_their_numbers, zones_are_pairs, zones_come_near_both_ways,
+    current_points_move_on, editions_agree_on_other_rules, editions_differ_in_stems_of_one_edge,
+    ends_break_one_rule, flex_goes_from_its_start_to_its_end, hint_sets_begin_anew,
+    later_steps_have_no_say, numbers_rise_where_none_falls, one_step_starts_without_width,
+    othersubr_calls_are_one_of_five, paths_are_by_places, rules_are_on_zones,
+    rules_have_their_numbers, rules_have_their_places, standard_encoding_names_149_codes,
+    stems_overlap_where_they_share_a_place, step_rules_have_their_numbers, zones_are_pairs,
+    zones_come_near_both_ways,
 };
 pub use mask::Mask;
 pub use rule::Rule;

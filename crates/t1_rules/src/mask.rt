@@ -1,6 +1,6 @@
 //! Sets of rules.
 
-ghost use Rattle.std.specs.Prelude.{◌≡◌, ℕ, ◌==◌, ◌&&◌, ◌||◌, MatchOption, false};
+ghost use Rattle.std.specs.Prelude.{◌≡◌, ℕ, ◌==◌, ◌&&◌, ◌||◌, not, MatchOption, false};
 ghost use Rattle.t1_rules.specs.Mask.{HasNoneAbove, IsLeastAbove, has};
 ghost use Rattle.t1_rules.specs.Book.{number_of};
 
@@ -38,6 +38,19 @@ impl Mask {
         }
     }
 
+    /// This set, with one rule less where that is waived.
+    pub fn without(self, rule: Rule, waived: bool) -> Mask
+        ensures { (n : ℕ) → has result n ≡ (has self n && not (waived && number_of rule == n)) }
+    {
+        if waived {
+            Mask {
+                bits: self.bits & !(1 << rule.number()),
+            }
+        } else {
+            self
+        }
+    }
+
     /// The rules that are in one of the two sets.
     pub fn join(self, other: Mask) -> Mask
         ensures { (n : ℕ) → has result n ≡ (has self n || has other n) }
@@ -45,6 +58,13 @@ impl Mask {
         Mask {
             bits: self.bits | other.bits,
         }
+    }
+
+    /// Whether a rule is in the set.
+    pub fn has(self, rule: Rule) -> bool
+        ensures { result ≡ has self (number_of rule) }
+    {
+        self.bits >> rule.number() & 1 == 1
     }
 
     /// The rule of the least number that is greater than this one.

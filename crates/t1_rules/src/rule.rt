@@ -1,10 +1,17 @@
 //! The rules and their numbers.
 
-ghost use Rattle.std.specs.Prelude.{◌≡◌, ◌≤◌};
-ghost use Rattle.t1_rules.specs.Book.{last_number, number_of};
+ghost use Rattle.std.specs.Prelude.{◌≡◌, ◌≤◌, nat_eq};
+ghost use Rattle.std.proofs.Common.{rules};
+ghost use Rattle.std.specs.Cmp.Rules.{comparing, hashing};
+ghost use Rattle.std.specs.Hash as fed;
+ghost use Rattle.std.specs.Ordering.{on};
+ghost use Rattle.t1_rules.specs.Book.{last_number, number_of, rule_coded};
+
+use crate::book::{rows, rule_in};
+use std::hash::{Hash, Hasher};
 
 /// A rule of the rule book. Its number is its place there, from 1 on.
-#[derive(Clone, Copy, Debug, PartialEq, Eq)]
+#[derive(Clone, Copy, Debug)]
 pub enum Rule {
     /// A PFB file ends with an end segment. Technical Note 5040, section 3.3.
     F01 = 1,
@@ -143,17 +150,50 @@ pub enum Rule {
     K06,
     /// A component of `seac` has a sidebearing. Type 1 Font Format, chapter 6.
     K07,
-    /// A glyph has at most 100,000 steps.
+    /// A glyph has at most 100,000 steps, or 1,000,000 by the second edition.
     L01,
+    /// A waiver waives a violation.
+    U01,
 }
 
 impl Rule {
-    /// The number of the rule, from 1 to 69.
+    /// The number of the rule, from 1 to 70.
     pub fn number(self) -> u8
         ensures number { result ≡ number_of self }
         ensures first { 1 ≤ result }
         ensures last { result ≤ last_number }
     {
         self as u8
+    }
+    /// The rule of a code, if there is one: `GE01`.
+    pub fn from_code(code: &[u8]) -> Option<Rule>
+        ensures { result ≡ rule_coded code.now }
+    {
+        rule_in(rows(), code)
+    }
+}
+
+// By its number: a set that has rules as members is written down by their numbers.
+impl PartialEq for Rule {
+    ghost eq = { on number_of nat_eq };
+
+    ghost laws = { Prim.search (comparing, rules) };
+
+    fn eq(&self, other: &Rule) -> bool {
+        self.number() == other.number()
+    }
+}
+
+impl Eq for Rule {
+    ghost laws = { Prim.search (comparing, rules) };
+}
+
+impl Hash for Rule {
+    ghost hash_input = { λ rule. fed.u8 (number_of rule) };
+
+    ghost respects_eq = { Prim.search (hashing, rules) };
+
+    fn hash<H: Hasher>(&self, state: &mut H) {
+        state.write_u8(self.number());
     }
 }

@@ -2,6 +2,7 @@
 //! 1.1, chapter 6 (seac).
 
 ghost use Rattle.std.specs.Prelude.{◌≡◌, ◌<◌, ◌&&◌, ◌||◌, ℕ, ℤ, List, IfOk, IfSome, OnOk, length, map, take};
+ghost use Rattle.t1_char.specs.Editions.{limit_of};
 ghost use Rattle.t1_char.specs.Steps.{StepView, steps_of};
 ghost use Rattle.t1_char.specs.StepValues.{step_view};
 ghost use Rattle.t1_rules.specs.Components.{component_at, component_in, component_named, component_of_glyph, components_of, glyph_named};
@@ -17,7 +18,7 @@ use crate::step_rules::seac::{accent_code, base_code, is_unnamed};
 use crate::step_rules::tokens::{is_seac, sets_width};
 use std::alloc::{AllocError, Global};
 use std::marker::Model;
-use t1_char::{Machine, STEP_LIMIT, Step, Turn};
+use t1_char::{Edition, Machine, Step, Turn};
 use t1_font::Font;
 
 /// How many codes there are.
@@ -37,36 +38,52 @@ pub(crate) struct Component {
 /// The components of accented characters, by their codes in StandardEncoding.
 #[derive(Drop)]
 pub struct Sidebearings {
+    edition: Edition,
     components: Vec<Component>,
 }
 
 impl Model for Sidebearings {
-    ghost use Rattle.std.specs.Prelude.{List};
-    ghost use Rattle.t1_rules.specs.declared.sidebearings.Component.{Component};
+    ghost use Rattle.t1_rules.specs.Components.{ComponentsView};
 
-    ghost Value = { List Component };
+    ghost Value = { ComponentsView };
 
-    ghost view = { λ s. s.components.items };
+    ghost view = { λ s. record { edition = s.edition; components = s.components.items } };
 }
 
 impl Sidebearings {
     /// The components of a font: each glyph that StandardEncoding names and the font has is executed
     /// once, up to the limit of steps.
-    pub fn prepare(alloc: Global, font: &Font<'_>) -> Result<Sidebearings, AllocError>
-        ensures { IfOk result (λ sidebearings. sidebearings ≡ components_of STEP_LIMIT font.now) }
+    pub fn prepare(
+        alloc: Global,
+        font: &Font<'_>,
+        edition: Edition,
+    ) -> Result<Sidebearings, AllocError>
+        ensures edition { IfOk result (λ sidebearings. sidebearings.edition ≡ edition) }
+        ensures components { IfOk result (λ sidebearings.
+            sidebearings.components ≡ components_of (limit_of edition) font.now) }
     {
         let mut components = Vec::new(alloc);
         for code in 0..CODES {
-            components.push(component_at(font, code as u8))?;
+            components.push(component_at(font, code as u8, edition))?;
         }
-        Ok(Sidebearings { components })
+        Ok(Sidebearings {
+            edition,
+            components,
+        })
+    }
+
+    /// The edition that they were prepared for.
+    pub fn edition(&self) -> Edition
+        ensures { result ≡ self.now.edition }
+    {
+        self.edition
     }
 
     /// Which of K03, K04, K05 and K07 a step breaks.
     #[tactic(auto, unfolding(crate::specs::StepRules::component_rules))]
     pub fn see(&self, step: &Step) -> Mask
         ensures { (before : List StepView) → (n : ℕ) →
-            has result n ≡ breaks (component_rules self.now) n before (step_view step.now) }
+            has result n ≡ breaks (component_rules self.now.components) n before (step_view step.now) }
     {
         if is_seac(step.token) {
             self.faults(step)
@@ -79,7 +96,7 @@ impl Sidebearings {
     #[tactic(auto, unfolding(crate::specs::StepRules::component_rules))]
     fn faults(&self, step: &Step) -> Mask
         ensures { (before : List StepView) → (n : ℕ) →
-            has result n ≡ breaks (component_rules self.now) n before (step_view step.now) }
+            has result n ≡ breaks (component_rules self.now.components) n before (step_view step.now) }
     {
         Mask::empty()
             .with(Rule::K07, self.lacks_sidebearing(step))
@@ -90,7 +107,7 @@ impl Sidebearings {
 
     /// Whether a component that a code names isn't there.
     fn lacks_component(&self, step: &Step) -> bool
-        ensures { result ≡ lacks_component self.now (step_view step.now) }
+        ensures { result ≡ lacks_component self.now.components (step_view step.now) }
     {
         is_seac(step.token)
             && (is_lacking(base_code(step), self.base(step))
@@ -99,21 +116,21 @@ impl Sidebearings {
 
     /// Whether a component is made by seac itself.
     fn nests(&self, step: &Step) -> bool
-        ensures { result ≡ nests self.now (step_view step.now) }
+        ensures { result ≡ nests self.now.components (step_view step.now) }
     {
         is_seac(step.token) && (self.base(step).has_seac || self.accent(step).has_seac)
     }
 
     /// Whether the accent's sidebearing is another than the step says.
     fn differs_in_sidebearing(&self, step: &Step) -> bool
-        ensures { result ≡ differs_in_sidebearing self.now (step_view step.now) }
+        ensures { result ≡ differs_in_sidebearing self.now.components (step_view step.now) }
     {
         is_seac(step.token) && is_another(self.accent(step).sidebearing, step.argument(0))
     }
 
     /// Whether a component has neither hsbw nor sbw.
     fn lacks_sidebearing(&self, step: &Step) -> bool
-        ensures { result ≡ lacks_sidebearing self.now (step_view step.now) }
+        ensures { result ≡ lacks_sidebearing self.now.components (step_view step.now) }
     {
         is_seac(step.token)
             && (self.base(step).is_without_sidebearing()
@@ -121,20 +138,20 @@ impl Sidebearings {
     }
 
     fn base(&self, step: &Step) -> Component
-        ensures { result ≡ base self.now (step_view step.now) }
+        ensures { result ≡ base self.now.components (step_view step.now) }
     {
         self.component(base_code(step))
     }
 
     fn accent(&self, step: &Step) -> Component
-        ensures { result ≡ accent self.now (step_view step.now) }
+        ensures { result ≡ accent self.now.components (step_view step.now) }
     {
         self.component(accent_code(step))
     }
 
     /// The component of a code.
     fn component(&self, code: Option<u8>) -> Component
-        ensures { result ≡ component_of_code self.now code }
+        ensures { result ≡ component_of_code self.now.components code }
     {
         match code {
             Some(code) => match self.components.get(code as usize) {
@@ -173,21 +190,21 @@ impl Component {
 }
 
 /// The component of a code.
-fn component_at(font: &Font<'_>, code: u8) -> Component
-    ensures { result ≡ component_at STEP_LIMIT font.now code }
+fn component_at(font: &Font<'_>, code: u8, edition: Edition) -> Component
+    ensures { result ≡ component_at (limit_of edition) font.now code }
 {
-    component_named(font, standard_name(code))
+    component_named(font, standard_name(code), edition)
 }
 
 /// The component of a name; none is there without one.
-fn component_named(font: &Font<'_>, name: &str) -> Component
-    ensures { result ≡ component_named STEP_LIMIT font.now name.now }
+fn component_named(font: &Font<'_>, name: &str, edition: Edition) -> Component
+    ensures { result ≡ component_named (limit_of edition) font.now name.now }
 {
     if name.is_empty() {
         return Component::MISSING;
     }
     match glyph_named(font, name.as_bytes()) {
-        Some(glyph) => component_of_glyph(&*font, glyph),
+        Some(glyph) => component_of_glyph(&*font, glyph, edition),
         None => Component::MISSING,
     }
 }
@@ -201,11 +218,11 @@ pub fn glyph_named(font: &Font<'_>, name: &[u8]) -> Option<usize>
 }
 
 /// What a glyph is as a component, by its steps up to the limit.
-fn component_of_glyph<'a>(font: &'a Font<'a>, glyph: usize) -> Component
+fn component_of_glyph<'a>(font: &'a Font<'a>, glyph: usize, edition: Edition) -> Component
     requires { glyph < length font.now.glyphs }
-    ensures { result ≡ component_in (take STEP_LIMIT (steps_of font.now glyph)) }
+    ensures { result ≡ component_in (take (limit_of edition) (steps_of font.now glyph)) }
 {
-    let mut machine = Machine::start(font, glyph);
+    let mut machine = Machine::start(font, glyph, edition);
     let mut component = Component {
         there: true,
         sidebearing: None,

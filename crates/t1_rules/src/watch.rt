@@ -1,6 +1,7 @@
 //! Watchers: each sees the steps of a glyph one after another, and tells which of its rules a step breaks.
 
 ghost use Rattle.std.specs.Prelude.{◌≡◌, ℕ, ◌<◌, List, [], ◌∷◌, ◌++◌, length};
+ghost use Rattle.t1_char.specs.declared.edition.Edition.{Edition as Editions};
 ghost use Rattle.t1_char.specs.Steps.{StepView};
 ghost use Rattle.t1_char.specs.StepValues.{step_view};
 ghost use Rattle.t1_rules.specs.Mask.{has};
@@ -8,26 +9,29 @@ ghost use Rattle.t1_rules.specs.StepRules.{StepRule, breaks};
 ghost use Rattle.t1_rules.specs.Watches.{most_steps};
 
 use crate::mask::Mask;
-use t1_char::Step;
+use t1_char::{Edition, Step};
 
 /// Sees the steps of a glyph in their order, from the first on, and answers of each which of its rules the
 /// step breaks. What it keeps of the steps before is of a fixed size.
 pub trait Watch {
-    // The watcher has seen these steps, and no others.
-    ghost stands_for: { Self → List StepView → Type 0 };
+    // In an edition: the watcher has seen these steps, and no others.
+    ghost stands_for: { Editions → Self → List StepView → Type 0 };
 
-    // The rules that it tells.
-    ghost rules: { List StepRule };
+    // The rules that it tells in an edition.
+    ghost rules: { Editions → List StepRule };
 
     /// A watcher that has seen no step.
-    fn start() -> Self
-        ensures { stands_for result [] };
+    fn start(edition: Edition) -> Self
+        ensures { stands_for edition result [] };
 
     /// The rules that the step breaks, given the steps that were seen before.
     fn see(&mut self, step: &Step) -> Mask
-        requires { (before : List StepView) × (stands_for self.old before × (length before < most_steps)) }
-        ensures stands { (before : List StepView) → stands_for self.old before → length before < most_steps →
-            stands_for self.new (before ++ step_view step.now ∷ []) }
-        ensures answer { (before : List StepView) → stands_for self.old before → length before < most_steps →
-            (n : ℕ) → has result n ≡ breaks rules n before (step_view step.now) };
+        requires { (edition : Editions) × ((before : List StepView) ×
+            (stands_for edition self.old before × (length before < most_steps))) }
+        ensures stands { (edition : Editions) (before : List StepView) →
+            stands_for edition self.old before → length before < most_steps →
+            stands_for edition self.new (before ++ step_view step.now ∷ []) }
+        ensures answer { (edition : Editions) (before : List StepView) →
+            stands_for edition self.old before → length before < most_steps →
+            (n : ℕ) → has result n ≡ breaks (rules edition) n before (step_view step.now) };
 }

@@ -11,7 +11,7 @@ use crate::step_rules::paths::PathWatcher;
 use crate::step_rules::seac::SeacWatcher;
 use crate::step_rules::stems::StemWatcher;
 use crate::watch::Watch;
-use t1_char::Step;
+use t1_char::{Edition, Step};
 
 /// Watches for the rules from C01 to O04, K01, K02 and K06, which a glyph's own steps decide.
 #[derive(Drop)]
@@ -33,15 +33,15 @@ impl Watch for Watches {
 
     ghost rules = { step_rules };
 
-    fn start() -> Watches {
+    fn start(edition: Edition) -> Watches {
         Watches {
-            arguments: ArgumentWatcher::start(),
-            calls: CallWatcher::start(),
-            paths: PathWatcher::start(),
-            stems: StemWatcher::start(),
-            flex: FlexWatcher::start(),
-            othersubrs: OthersubrWatcher::start(),
-            seac: SeacWatcher::start(),
+            arguments: ArgumentWatcher::start(edition),
+            calls: CallWatcher::start(edition),
+            paths: PathWatcher::start(edition),
+            stems: StemWatcher::start(edition),
+            flex: FlexWatcher::start(edition),
+            othersubrs: OthersubrWatcher::start(edition),
+            seac: SeacWatcher::start(edition),
         }
     }
 

@@ -3,7 +3,8 @@ use Rattle.std.proofs.Common.{option_map, string_bytes, codes, ◌≡◌, ℕ, �
 use Rattle.std.proofs.lemmas.Bool.Decides.{nat_tests}
 use Rattle.std.specs.Io.KnownBytes.{Consumes, IsAtEnd}
 use Rattle.t1_font.specs.Fonts.{FontValue}
-use Rattle.t1_io.specs.Devices.{SinkState}
+use Rattle.t1_io.specs.Devices.{SinkState, SourceState}
+use Rattle.t1_report.specs.Checked.{checked}
 use Rattle.t1_report.specs.Faults.{FaultValue}
 use Rattle.t1_report.proofs.OneReport.{no_other_report}
 use Rattle.t1check.specs.declared.asked.Options.{Options}
@@ -11,12 +12,14 @@ use Rattle.t1check.specs.declared.status.Status.{Status}
 use Rattle.t1check.specs.declared.status.Status.TheVariants.{Failed}
 use Rattle.t1check.specs.declared.unread.Unread.{Unread}
 use Rattle.t1check.specs.declared.unread.Unread.TheVariants.{TooLarge}
-use Rattle.t1check.specs.Answers.{Answer, IsAnswerTo, IsShown, selection, reported}
+use Rattle.t1check.specs.Answers.{Answer, IsAnswerTo, IsShown, selection, reported, IsReported, waived_by}
 use Rattle.t1check.specs.Laws.Answers.{HasNoOtherAnswer}
 use Rattle.t1check.specs.Ends.{AreRead, Checks, Ends, Tells, unread_status}
 use Rattle.t1check.specs.Ends.Ends.{no_memory, refused}
 use Rattle.t1check.specs.FontFiles.{font_in, font_of}
 use Rattle.t1check.specs.Refusals.{told_of}
+use Rattle.t1_report.specs.Waivers.{Waiver}
+use Rattle.t1check.specs.declared.unread.WaiverRefusal.{WaiverRefusal}
 
 pub font_of-small : (input : List ℕ) → length input ≤ 16777216 → font_of input ≡ font_in input
 unfolding font_of
@@ -46,25 +49,29 @@ too_large (Some input) None bytes consumed large = absurd consumed
 too_large (Some input) (Some rest) bytes consumed large = font_of-large input (omega (arith, ap length consumed, length-append bytes rest))
 
 -- A file that isn't read for a reason of its bytes, or for want of memory.
-pub unread_ends : (options : Options) (left : Option (List ℕ)) (failed : Bool) (out out' told told' errors' : SinkState) (reason : Unread) (read : Result FontValue Unread) (result : Status)
-    → AreRead left read → failed ≡ false → Checks options read out out' told told' (Err reason) → Tells (told_of reason) (unread_status reason) told' errors' result
-    → Ends options left failed out out' told errors' result
-unread_ends options left failed out out' told told' errors' reason read result are kept (inl memory, same, told_same) tells =
+pub unread_ends : (options : Options) (left : Option (List ℕ)) (failed : Bool) (v v' : SourceState) (out out' told told' errors' : SinkState) (reason : Unread) (read : Result FontValue Unread) (result : Status)
+    → AreRead left read → failed ≡ false → Checks options read v v' out out' told told' (Err reason) → Tells (told_of reason) (unread_status reason) told' errors' result
+    → Ends options left failed v v' out out' told errors' result
+unread_ends options left failed v v' out out' told told' errors' reason read result are kept (inl memory, spared, same, told_same) tells =
     let as_memory : Tells (codes "t1check: out of memory\n") Failed told' errors' result =
     subst (λ (u : Unread). Tells (told_of u) (unread_status u) told' errors' result) memory tells in
-    no_memory kept same (subst (λ (s : SinkState). Tells (codes "t1check: out of memory\n") Failed s errors' result) told_same as_memory)
-unread_ends options left failed out out' told told' errors' reason read result are kept (inr is, same, told_same) tells =
-    refused reason (subst (AreRead left) is are) kept same (subst (λ (s : SinkState). Tells (told_of reason) (unread_status reason) s errors' result) told_same tells)
+    no_memory kept spared same (subst (λ (s : SinkState). Tells (codes "t1check: out of memory\n") Failed s errors' result) told_same as_memory)
+unread_ends options left failed v v' out out' told told' errors' reason read result are kept (inr is, spared, same, told_same) tells =
+    refused reason (subst (AreRead left) is are) kept spared same (subst (λ (s : SinkState). Tells (told_of reason) (unread_status reason) s errors' result) told_same tells)
 
 -- the options and the bytes decide the answer
-one_shown : (options : Options) (font : FontValue) (name : Option (List ℕ)) (a b : Answer) → IsShown options font name a → IsShown options font name b → a ≡ b
-one_shown options font None a b (xs, (p, e)) (ys, (q, f)) =
-    e ∙ ap (λ (zs : List FaultValue). reported font (selection options zs)) (no_other_report font xs ys p q) ∙ sym f
-one_shown options font (Some name) a b p q = p ∙ sym q
+one_reported : (options : Options) (font : FontValue) (waived : Result (List Waiver) WaiverRefusal) (a b : Answer) → IsReported options font waived a → IsReported options font waived b → a ≡ b
+one_reported options font (Ok waivers) a b (xs, (p, e)) (ys, (q, f)) =
+    e ∙ ap (λ (zs : List FaultValue). reported font waivers (selection options zs)) (no_other_report (checked font options.edition) waivers xs ys p q) ∙ sym f
+one_reported options font (Err reason) a b p q = p ∙ sym q
 
-one_by_read : (options : Options) (read : Result FontValue Unread) (a b : Answer) → IsAnswerTo options read a → IsAnswerTo options read b → a ≡ b
-one_by_read options (Ok font) a b p q = one_shown options font (option_map string_bytes options.trace) a b p q
-one_by_read options (Err unread) a b p q = p ∙ sym q
+one_shown : (options : Options) (font : FontValue) (waived : Result (List Waiver) WaiverRefusal) (name : Option (List ℕ)) (a b : Answer) → IsShown options font waived name a → IsShown options font waived name b → a ≡ b
+one_shown options font waived None a b p q = one_reported options font waived a b p q
+one_shown options font waived (Some name) a b p q = p ∙ sym q
+
+one_by_read : (options : Options) (read : Result FontValue Unread) (waived : Result (List Waiver) WaiverRefusal) (a b : Answer) → IsAnswerTo options read waived a → IsAnswerTo options read waived b → a ≡ b
+one_by_read options (Ok font) waived a b p q = one_shown options font waived (option_map string_bytes options.trace) a b p q
+one_by_read options (Err unread) waived a b p q = p ∙ sym q
 
 pub one_answer : HasNoOtherAnswer
-one_answer options input a b p q = one_by_read options (font_of input) a b p q
+one_answer options input text a b p q = one_by_read options (font_of input) (waived_by options text) a b p q

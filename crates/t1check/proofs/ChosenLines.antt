@@ -5,6 +5,7 @@ use Rattle.std.proofs.lemmas.List.{drop_all, get_or-drop, get_or-take, length-dr
 use Rattle.std.proofs.lemmas.Option.{get_or_from_slice_get, slice_get_within}
 use Rattle.std.specs.Option.{unwrap_or}
 use Rattle.t1_font.specs.Fonts.{FontValue}
+use Rattle.t1_report.specs.Checked.{CheckedFont, checked}
 use Rattle.std.specs.Result.{IsErrAnd}
 use Rattle.t1_io.specs.Devices.{CallFailed, Delivered, Delivers, Flushed, PutFailed, SinkState, Wrote}
 use Rattle.t1_io.proofs.SinkLemmas.{Delivers-flush, PutFailed-part, Wrote-part}
@@ -21,15 +22,16 @@ use Rattle.t1check.specs.declared.status.Status.{Status}
 use Rattle.t1check.specs.declared.status.Status.TheVariants.{Faults}
 use Rattle.t1check.specs.Answers.{at_most, selection, status_of}
 use Rattle.t1check.specs.Lines.{lines_of}
+use Rattle.t1_report.specs.Waivers.{Waiver}
 
 -- Of the faults from k on at most so many.
 abbrev pub chosen : List FaultValue → ℕ → ℕ → List FaultValue
 chosen faults k most = take most (drop k faults)
 
 -- Of these the lines of the first i were written, and the mark is that of the last.
-pub record HaveGone (font : FontValue) (faults : List FaultValue) (k most i : ℕ) (mark : Mark) (old new : SinkState) (status : Status) : Type 0 where
+pub record HaveGone (font : FontValue) (waivers : List Waiver) (faults : List FaultValue) (k most i : ℕ) (mark : Mark) (old new : SinkState) (status : Status) : Type 0 where
   pub so_far : IsSoFar faults (k + i) mark
-  pub wrote : Wrote old new (lines_of font (take i (chosen faults k most)))
+  pub wrote : Wrote old new (lines_of font waivers (take i (chosen faults k most)))
   pub status_is : status ≡ status_of (take i (chosen faults k most))
 
 status_some : {A : Type 0} (xs : List A) (i : ℕ) → i < length xs → Faults ≡ status_of (take (suc i) xs)
@@ -45,52 +47,52 @@ chosen_at : (faults : List FaultValue) (k most i : ℕ) (fault : FaultValue) →
 chosen_at faults k most i fault less is =
     get_or-take most (drop k faults) i fault less ∙ get_or-drop k faults i fault ∙ get_or_from_slice_get faults (k + i) fault fault is
 
-pub none_gone : (font : FontValue) (faults : List FaultValue) (k most : ℕ) (mark : Mark) (sink : SinkState) (status : Status) → IsSoFar faults k mark
-    → Wrote sink sink [] → status ≡ status_of {A = FaultValue} [] → HaveGone font faults k most 0 mark sink sink status
-none_gone font faults k most mark sink status so_far wrote is =
+pub none_gone : (font : FontValue) (waivers : List Waiver) (faults : List FaultValue) (k most : ℕ) (mark : Mark) (sink : SinkState) (status : Status) → IsSoFar faults k mark
+    → Wrote sink sink [] → status ≡ status_of {A = FaultValue} [] → HaveGone font waivers faults k most 0 mark sink sink status
+none_gone font waivers faults k most mark sink status so_far wrote is =
     let first : k ≡ k + 0 = omega arith in
     record { so_far = subst (λ n. IsSoFar faults n mark) first so_far; wrote = wrote; status_is = is }
 
-pub one_gone : (font : FontValue) (faults : List FaultValue) (k most i : ℕ) (mark : Mark) (fault : FaultValue) (a b c : SinkState) (status : Status)
-    → length font.glyphs ≤ 65535 → i < most → IsReport font faults → IsNext font mark fault → HaveGone font faults k most i mark a b status → Wrote b c (line_of font fault)
-    → HaveGone font faults k most (i + 1) (mark_of fault) a c Faults
-one_gone font faults k most i mark fault a b c status few less report next gone more =
-    let is = (next_in_font font faults (k + i) mark fault few report gone.so_far next).1 in
+pub one_gone : (font : CheckedFont) (waivers : List Waiver) (faults : List FaultValue) (k most i : ℕ) (mark : Mark) (fault : FaultValue) (a b c : SinkState) (status : Status)
+    → length font.value.glyphs ≤ 65535 → length waivers ≤ 1048576 → i < most → IsReport font waivers faults → IsNext font waivers mark fault → HaveGone font.value waivers faults k most i mark a b status → Wrote b c (line_of font.value waivers fault)
+    → HaveGone font.value waivers faults k most (i + 1) (mark_of fault) a c Faults
+one_gone font waivers faults k most i mark fault a b c status few few_waivers less report next gone more =
+    let is = (next_in_font font waivers faults (k + i) mark fault few few_waivers report gone.so_far next).1 in
     let within = chosen_within faults k most i fault less is in
     let on : (k + i) + 1 ≡ k + (i + 1) = omega arith in
     let count : suc i ≡ i + 1 = omega arith in
     record {
-      so_far = subst (λ n. IsSoFar faults n (mark_of fault)) on (one_more_in_font font faults (k + i) mark fault few report gone.so_far next);
-      wrote = Wrote-part (line_of font) (chosen faults k most) i fault a b c within gone.wrote
-          (subst (λ f. Wrote b c (line_of font f)) (sym (chosen_at faults k most i fault less is)) more);
+      so_far = subst (λ n. IsSoFar faults n (mark_of fault)) on (one_more_in_font font waivers faults (k + i) mark fault few few_waivers report gone.so_far next);
+      wrote = Wrote-part (line_of font.value waivers) (chosen faults k most) i fault a b c within gone.wrote
+          (subst (λ f. Wrote b c (line_of font.value waivers f)) (sym (chosen_at faults k most i fault less is)) more);
       status_is = subst (λ n. Faults ≡ status_of (take n (chosen faults k most))) count (status_some (chosen faults k most) i within);
     }
 
-pub one_failed : (font : FontValue) (faults : List FaultValue) (k most i : ℕ) (mark : Mark) (fault : FaultValue) (a b c : SinkState) (status : Status)
-    → length font.glyphs ≤ 65535 → i < most → IsReport font faults → IsNext font mark fault → HaveGone font faults k most i mark a b status → PutFailed b c (line_of font fault)
-    → PutFailed a c (lines_of font (chosen faults k most))
-one_failed font faults k most i mark fault a b c status few less report next gone broke =
-    let is = (next_in_font font faults (k + i) mark fault few report gone.so_far next).1 in
-    PutFailed-part (line_of font) (chosen faults k most) i fault a b c (chosen_within faults k most i fault less is) gone.wrote
-    (subst (λ f. PutFailed b c (line_of font f)) (sym (chosen_at faults k most i fault less is)) broke)
+pub one_failed : (font : CheckedFont) (waivers : List Waiver) (faults : List FaultValue) (k most i : ℕ) (mark : Mark) (fault : FaultValue) (a b c : SinkState) (status : Status)
+    → length font.value.glyphs ≤ 65535 → length waivers ≤ 1048576 → i < most → IsReport font waivers faults → IsNext font waivers mark fault → HaveGone font.value waivers faults k most i mark a b status → PutFailed b c (line_of font.value waivers fault)
+    → PutFailed a c (lines_of font.value waivers (chosen faults k most))
+one_failed font waivers faults k most i mark fault a b c status few few_waivers less report next gone broke =
+    let is = (next_in_font font waivers faults (k + i) mark fault few few_waivers report gone.so_far next).1 in
+    PutFailed-part (line_of font.value waivers) (chosen faults k most) i fault a b c (chosen_within faults k most i fault less is) gone.wrote
+    (subst (λ f. PutFailed b c (line_of font.value waivers f)) (sym (chosen_at faults k most i fault less is)) broke)
 
 -- all of them
-whole : (font : FontValue) (faults : List FaultValue) (k most i : ℕ) (mark : Mark) (old new : SinkState) (status : Status) → HaveGone font faults k most i mark old new status
-    → length (chosen faults k most) ≤ i → Wrote old new (lines_of font (chosen faults k most)) × (status ≡ status_of (chosen faults k most))
-whole font faults k most i mark old new status gone all =
+whole : (font : CheckedFont) (waivers : List Waiver) (faults : List FaultValue) (k most i : ℕ) (mark : Mark) (old new : SinkState) (status : Status) → HaveGone font.value waivers faults k most i mark old new status
+    → length (chosen faults k most) ≤ i → Wrote old new (lines_of font.value waivers (chosen faults k most)) × (status ≡ status_of (chosen faults k most))
+whole font waivers faults k most i mark old new status gone all =
     let same = take_all i (chosen faults k most) all in
-    (subst (λ fs. Wrote old new (lines_of font fs)) same gone.wrote, subst (λ (fs : List FaultValue). status ≡ status_of fs) same gone.status_is)
+    (subst (λ fs. Wrote old new (lines_of font.value waivers fs)) same gone.wrote, subst (λ (fs : List FaultValue). status ≡ status_of fs) same gone.status_is)
 
-pub most_gone : (font : FontValue) (faults : List FaultValue) (k most i : ℕ) (mark : Mark) (old new : SinkState) (status : Status) → HaveGone font faults k most i mark old new status
-    → most ≤ i → Wrote old new (lines_of font (chosen faults k most)) × (status ≡ status_of (chosen faults k most))
-most_gone font faults k most i mark old new status gone all =
-    whole font faults k most i mark old new status gone (omega (arith, all, length-take most (drop k faults)))
+pub most_gone : (font : CheckedFont) (waivers : List Waiver) (faults : List FaultValue) (k most i : ℕ) (mark : Mark) (old new : SinkState) (status : Status) → HaveGone font.value waivers faults k most i mark old new status
+    → most ≤ i → Wrote old new (lines_of font.value waivers (chosen faults k most)) × (status ≡ status_of (chosen faults k most))
+most_gone font waivers faults k most i mark old new status gone all =
+    whole font waivers faults k most i mark old new status gone (omega (arith, all, length-take most (drop k faults)))
 
-pub all_gone : (font : FontValue) (faults : List FaultValue) (k most i : ℕ) (mark : Mark) (old new : SinkState) (status : Status) → IsReport font faults → HasNoneLater font mark
-    → HaveGone font faults k most i mark old new status → Wrote old new (lines_of font (chosen faults k most)) × (status ≡ status_of (chosen faults k most))
-all_gone font faults k most i mark old new status report none gone =
-    let last = none_left_in_font font faults (k + i) mark report gone.so_far none in
-    whole font faults k most i mark old new status gone (omega (arith, last, length-take most (drop k faults), length-drop k faults))
+pub all_gone : (font : CheckedFont) (waivers : List Waiver) (faults : List FaultValue) (k most i : ℕ) (mark : Mark) (old new : SinkState) (status : Status) → IsReport font waivers faults → HasNoneLater font waivers mark
+    → HaveGone font.value waivers faults k most i mark old new status → Wrote old new (lines_of font.value waivers (chosen faults k most)) × (status ≡ status_of (chosen faults k most))
+all_gone font waivers faults k most i mark old new status report none gone =
+    let last = none_left_in_font font waivers faults (k + i) mark report gone.so_far none in
+    whole font waivers faults k most i mark old new status gone (omega (arith, last, length-take most (drop k faults), length-drop k faults))
 
 -- ---- what the options choose
 
@@ -109,18 +111,18 @@ most_are : (max : Option ℕ) (faults : List FaultValue) → length faults < 2 ^
 most_are None faults few = take_all (2 ^ 64 - 1) faults (omega (arith, few))
 most_are (Some max) faults few = refl
 
-chosen_are : (font : FontValue) (faults : List FaultValue) (options : Options) → length font.glyphs ≤ 65535 → IsReport font faults
+chosen_are : (font : CheckedFont) (waivers : List Waiver) (faults : List FaultValue) (options : Options) → length font.value.glyphs ≤ 65535 → length waivers ≤ 1048576 → IsReport font waivers faults
     → chosen faults (min options.after (length faults)) (unwrap_or options.max (2 ^ 64 - 1)) ≡ selection options faults
-chosen_are font faults options few report =
-    let count = few_faults font faults few report in
+chosen_are font waivers faults options few few_waivers report =
+    let count = few_faults font waivers faults few few_waivers report in
     ap (take (unwrap_or options.max (2 ^ 64 - 1))) (drop_min options.after faults)
     ∙ most_are options.max (drop options.after faults) (omega (arith, count, length-drop options.after faults))
 
 -- ---- faults that are passed
 
-pub one_passed : (font : FontValue) (faults : List FaultValue) (i : ℕ) (mark : Mark) (fault : FaultValue) → length font.glyphs ≤ 65535 → IsReport font faults
-    → IsNext font mark fault → IsSoFar faults i mark → IsSoFar faults (i + 1) (mark_of fault)
-one_passed font faults i mark fault few report next so_far = one_more_in_font font faults i mark fault few report so_far next
+pub one_passed : (font : CheckedFont) (waivers : List Waiver) (faults : List FaultValue) (i : ℕ) (mark : Mark) (fault : FaultValue) → length font.value.glyphs ≤ 65535 → length waivers ≤ 1048576 → IsReport font waivers faults
+    → IsNext font waivers mark fault → IsSoFar faults i mark → IsSoFar faults (i + 1) (mark_of fault)
+one_passed font waivers faults i mark fault few few_waivers report next so_far = one_more_in_font font waivers faults i mark fault few few_waivers report so_far next
 
 pub count_passed : (faults : List FaultValue) (count i : ℕ) (mark : Mark) → count ≡ i → IsSoFar faults i mark → IsSoFar faults (min count (length faults)) mark
 count_passed faults count i mark is so_far =
@@ -128,23 +130,25 @@ count_passed faults count i mark is so_far =
     let same : i ≡ min count (length faults) = omega (arith, is, within) in
     subst (λ n. IsSoFar faults n mark) same so_far
 
-pub all_passed : (font : FontValue) (faults : List FaultValue) (count i : ℕ) (mark : Mark) → IsReport font faults → HasNoneLater font mark → i < count → IsSoFar faults i mark
+pub all_passed : (font : CheckedFont) (waivers : List Waiver) (faults : List FaultValue) (count i : ℕ) (mark : Mark) → IsReport font waivers faults → HasNoneLater font waivers mark → i < count → IsSoFar faults i mark
     → IsSoFar faults (min count (length faults)) mark
-all_passed font faults count i mark report none less so_far =
-    let last = none_left_in_font font faults i mark report so_far none in
+all_passed font waivers faults count i mark report none less so_far =
+    let last = none_left_in_font font waivers faults i mark report so_far none in
     let same : i ≡ min count (length faults) = omega (arith, last, less) in
     subst (λ n. IsSoFar faults n mark) same so_far
 
 -- from before the first fault on
-pub first_passed : (font : FontValue) (begun : WalkView) (count : ℕ) (mark : Mark) → begun.font ≡ font → begun.mark ≡ first_mark
-    → ((faults : List FaultValue) → IsReport begun.font faults → IsSoFar faults 0 begun.mark → IsSoFar faults (min count (length faults)) mark)
-    → (faults : List FaultValue) → IsReport font faults → IsSoFar faults (min count (length faults)) mark
-first_passed font begun count mark of_font first passed faults report =
-    passed faults (subst (λ (f : FontValue). IsReport f faults) (sym of_font) report) (subst (λ (m : Mark). IsSoFar faults 0 m) (sym first) (so_far_start faults))
+pub first_passed : (font : CheckedFont) (waivers : List Waiver) (begun : WalkView) (count : ℕ) (mark : Mark) → begun.font ≡ font → begun.waivers ≡ waivers → begun.mark ≡ first_mark
+    → ((faults : List FaultValue) → IsReport begun.font begun.waivers faults → IsSoFar faults 0 begun.mark → IsSoFar faults (min count (length faults)) mark)
+    → (faults : List FaultValue) → IsReport font waivers faults → IsSoFar faults (min count (length faults)) mark
+first_passed font waivers begun count mark of_font of_waivers first passed faults report =
+    passed faults
+    (subst (λ (f : CheckedFont). IsReport f begun.waivers faults) (sym of_font) (subst (λ (w : List Waiver). IsReport font w faults) (sym of_waivers) report))
+    (subst (λ (m : Mark). IsSoFar faults 0 m) (sym first) (so_far_start faults))
 
-pub chosen_by : (font : FontValue) (faults : List FaultValue) (options : Options) (most : ℕ) → most ≡ unwrap_or options.max (2 ^ 64 - 1) → length font.glyphs ≤ 65535
-    → IsReport font faults → chosen faults (min options.after (length faults)) most ≡ selection options faults
-chosen_by font faults options most is few report = ap (λ n. take n (drop (min options.after (length faults)) faults)) is ∙ chosen_are font faults options few report
+pub chosen_by : (font : CheckedFont) (waivers : List Waiver) (faults : List FaultValue) (options : Options) (most : ℕ) → most ≡ unwrap_or options.max (2 ^ 64 - 1) → length font.value.glyphs ≤ 65535 → length waivers ≤ 1048576
+    → IsReport font waivers faults → chosen faults (min options.after (length faults)) most ≡ selection options faults
+chosen_by font waivers faults options most is few few_waivers report = ap (λ n. take n (drop (min options.after (length faults)) faults)) is ∙ chosen_are font waivers faults options few few_waivers report
 
 -- ---- the flush behind the lines
 

@@ -13,19 +13,22 @@ use Rattle.clap.specs.declared.builder.command.Command.{Command}
 use Rattle.clap.specs.declared.builder.command.Command.TheViews.{out-Command}
 use Rattle.clap.specs.declared.builder.value_parser.ValueParser.TheVariants as parser
 use Rattle.clap.specs.declared.parser.matches.ArgMatches.{ArgMatches}
-use Rattle.t1check.specs.CommandLine.{t1check, after_rule, file_rule, max_rule, trace_rule, IsNumberArgument, IsTextOfNumber}
+use Rattle.t1check.specs.CommandLine.{t1check, after_rule, edition_rule, file_rule, max_rule, trace_rule, IsNumberArgument, IsTextOfNumber, waive_rule}
 use Rattle.t1check.proofs.ValueLemmas.{first_value-passes}
 
--- a command with the four arguments is the program's
-pub app_of-t1check : (start first second third fourth : Command) (after max trace file : Arg) → AddsArg start after first → AddsArg first max second → AddsArg second trace third
-    → AddsArg third file fourth → after.global ≡ false → max.global ≡ false → trace.global ≡ false → file.global ≡ false → app_of start ≡ new_app (codes "t1check")
-    → rule_of after ≡ after_rule → rule_of max ≡ max_rule → rule_of trace ≡ trace_rule → rule_of file ≡ file_rule → app_of fourth ≡ t1check
+-- a command with the six arguments is the program's
+pub app_of-t1check : (start first second third fourth fifth sixth : Command) (after max trace edition waive file : Arg) → AddsArg start after first → AddsArg first max second → AddsArg second trace third
+    → AddsArg third edition fourth → AddsArg fourth waive fifth → AddsArg fifth file sixth → after.global ≡ false → max.global ≡ false → trace.global ≡ false → edition.global ≡ false → waive.global ≡ false → file.global ≡ false
+    → app_of start ≡ new_app (codes "t1check") → rule_of after ≡ after_rule → rule_of max ≡ max_rule → rule_of trace ≡ trace_rule → rule_of edition ≡ edition_rule → rule_of waive ≡ waive_rule → rule_of file ≡ file_rule
+    → app_of sixth ≡ t1check
 unfolding t1check
-app_of-t1check start first second third fourth after max trace file one two three four after_local max_local trace_local file_local new is_after is_max is_trace is_file =
-    four.shape file_local ∙ ap (with_rule (app_of third)) is_file
-    ∙ ap (λ (a : App). with_rule a file_rule) (three.shape trace_local ∙ ap (with_rule (app_of second)) is_trace
+app_of-t1check start first second third fourth fifth sixth after max trace edition waive file one two three four five six after_local max_local trace_local edition_local waive_local file_local new is_after is_max is_trace is_edition is_waive is_file =
+    six.shape file_local ∙ ap (with_rule (app_of fifth)) is_file
+    ∙ ap (λ (a : App). with_rule a file_rule) (five.shape waive_local ∙ ap (with_rule (app_of fourth)) is_waive
+    ∙ ap (λ (a : App). with_rule a waive_rule) (four.shape edition_local ∙ ap (with_rule (app_of third)) is_edition
+    ∙ ap (λ (a : App). with_rule a edition_rule) (three.shape trace_local ∙ ap (with_rule (app_of second)) is_trace
     ∙ ap (λ (a : App). with_rule a trace_rule) (two.shape max_local ∙ ap (with_rule (app_of first)) is_max
-    ∙ ap (λ (a : App). with_rule a max_rule) (one.shape after_local ∙ ap (with_rule (app_of start)) is_after ∙ ap (λ (a : App). with_rule a after_rule) new)))
+    ∙ ap (λ (a : App). with_rule a max_rule) (one.shape after_local ∙ ap (with_rule (app_of start)) is_after ∙ ap (λ (a : App). with_rule a after_rule) new)))))
 
 -- a rule excludes nothing, and its id is neither empty nor that of an argument of clap's own
 abbrev is_own : Rule → Bool
@@ -125,27 +128,27 @@ any_of_map P f (x ∷ xs) (suc k, y, lt, at, holds) =
     (suc rest.0, rest.1, omega (arith, rest.2), rest.3, rest.4)
 
 -- what the rule of a number's argument says
-abbrev IsNumberRule : Text → Rule → Type 0
-IsNumberRule id r = (r.id ≡ id) × (r.parser ≡ Some (parser.Unsigned 0 18446744073709551615))
+abbrev IsNumberRule : ℕ → ℕ → Text → Rule → Type 0
+IsNumberRule low high id r = (r.id ≡ id) × (r.parser ≡ Some (parser.Unsigned low high))
 
--- the value that a parse gives to a number's argument is a number of 64 bits
-number_at : (c : Command) → IsOurs c → (m : ArgMatches) → IsParsedFrom c m → (id text : Text) → Any (λ a. IsNumberRule id (rule_of a)) (args_of c)
-    → first_value (found_of m) id ≡ Some text → IsUnsignedIn 0 18446744073709551615 text
-number_at c our m p id text (k, a, lt, at, (is_id, is_parser)) first =
+-- the value that a parse gives to a number's argument is a number between two others
+number_at : (c : Command) → IsOurs c → (m : ArgMatches) → IsParsedFrom c m → (low high : ℕ) (id text : Text) → Any (λ a. IsNumberRule low high id (rule_of a)) (args_of c)
+    → first_value (found_of m) id ≡ Some text → IsUnsignedIn low high text
+number_at c our m p low high id text (k, a, lt, at, (is_id, is_parser)) first =
     let own = own_args c our k a lt in
     let id_here : (slice_index_or (args_of c) k a).id.now ≡ id = ap (λ (b : Arg). b.id.now) at ∙ is_id in
-    let parser_here : (slice_index_or (args_of c) k a).value_parser ≡ Some (parser.Unsigned 0 18446744073709551615) = ap (λ (b : Arg). b.value_parser) at ∙ is_parser in
+    let parser_here : (slice_index_or (args_of c) k a).value_parser ≡ Some (parser.Unsigned low high) = ap (λ (b : Arg). b.value_parser) at ∙ is_parser in
     first_value-passes c m p ((λ j d below. (own_args c our j d below).plain), our.groups) our.globals k a lt
-    (λ j e below same. distinct_ids (args_of c) our.distinct j k a e below lt same) own.named own.not_auto (parser.Unsigned 0 18446744073709551615) parser_here text
+    (λ j e below same. distinct_ids (args_of c) our.distinct j k a e below lt same) own.named own.not_auto (parser.Unsigned low high) parser_here text
     (subst (λ (t : List ℕ). first_value (found_of m) t ≡ Some text) (sym id_here) first)
 
 -- In what a parse by the program's rules finds, the first value of a number's argument is the text of a number.
-pub is_number : {c : Command} → IsOurs c → (m : ArgMatches) → IsParsedFrom c m → (id : Text) → IsNumberArgument id → IsTextOfNumber (first_value (found_of m) id)
-is_number {c} our m p id number =
-    let argument = any_of_map (IsNumberRule id) rule_of (args_of c) (subst (Any (IsNumberRule id)) (sym our.rules) number) in
-    go (first_value (found_of m) id) (λ text. number_at c our m p id text argument)
+pub is_number : {c : Command} → IsOurs c → (m : ArgMatches) → IsParsedFrom c m → (low high : ℕ) (id : Text) → IsNumberArgument low high id → IsTextOfNumber low high (first_value (found_of m) id)
+is_number {c} our m p low high id number =
+    let argument = any_of_map (IsNumberRule low high id) rule_of (args_of c) (subst (Any (IsNumberRule low high id)) (sym our.rules) number) in
+    go (first_value (found_of m) id) (λ text. number_at c our m p low high id text argument)
   where
-    go : (value : Option (List ℕ)) → ((text : List ℕ) → value ≡ Some text → IsUnsignedIn 0 18446744073709551615 text) → IsTextOfNumber value
+    go : (value : Option (List ℕ)) → ((text : List ℕ) → value ≡ Some text → IsUnsignedIn low high text) → IsTextOfNumber low high value
     go None each = tt
     go (Some text) each = each text refl
 

@@ -14,7 +14,7 @@ use Rattle.t1_font.specs.Turns.{TextRead}
 use Rattle.t1_font.specs.declared.refusal.Refusal.{Refusal}
 use Rattle.t1_font.specs.declared.refusal.Refusal.TheVariants as refusal
 use Rattle.t1_font.proofs.LimitsKept.{fonts_within_limits}
-use Rattle.t1_io.specs.Devices.{SinkState}
+use Rattle.t1_io.specs.Devices.{SinkState, SourceState}
 use Rattle.t1check.specs.declared.asked.Options.{Options}
 use Rattle.t1check.specs.declared.status.Status.{Status}
 use Rattle.t1check.specs.declared.unread.Unread.{Unread}
@@ -117,8 +117,8 @@ module _ (bytes : List ℕ) (joined : JoinedText) (clear : ClearValue) (opened :
       → length font.glyphs ≤ 65535
   few_glyphs text font h = (fonts_within_limits (marks_in joined) joined.bytes text read.text font read.is (h (marks_in joined) read.text.stated read.font)).glyphs
 
--- A reason that is handed on, with nothing given or told.
-pub handed_on : (options : Options) (out out' errors errors' : SinkState) (r : Result Status Unread) (e : Unread) (there : Result FontValue Unread)
-    → out' ≡ out → errors' ≡ errors → IsErrAnd r (λ y. y ≡ e) → IsUnread e there → Checks options there out out' errors errors' r
-handed_on options out out' errors errors' (Ok status) e there same same' never is = absurd never
-handed_on options out out' errors errors' (Err y) e there same same' reason is = (subst (λ u. IsUnread u there) (sym reason) is, same, same')
+-- A reason that is handed on, with nothing read, given or told.
+pub handed_on : (options : Options) (v v' : SourceState) (out out' errors errors' : SinkState) (r : Result Status Unread) (e : Unread) (there : Result FontValue Unread)
+    → v' ≡ v → out' ≡ out → errors' ≡ errors → IsErrAnd r (λ y. y ≡ e) → IsUnread e there → Checks options there v v' out out' errors errors' r
+handed_on options v v' out out' errors errors' (Ok status) e there spared same same' never is = absurd never
+handed_on options v v' out out' errors errors' (Err y) e there spared same same' reason is = (subst (λ u. IsUnread u there) (sym reason) is, spared, same, same')

@@ -8,3 +8,4 @@ pub mod RunLaws
 pub mod SingleFault
 pub mod TraceLemmas
 pub mod ValueLemmas
+pub mod WaivedLemmas

@@ -3,7 +3,7 @@ use Rattle.std.proofs.Common.{option_map, string_bytes, ◌≡◌, ◌≢◌, �
 use Rattle.std.specs.Io.KnownBytes.{Appends, Keeps}
 use Rattle.std.proofs.KnownBytes.{Appends-nil, Keeps-refl}
 use Rattle.t1_font.specs.Fonts.{FontValue}
-use Rattle.t1_io.specs.Devices.{SinkState}
+use Rattle.t1_io.specs.Devices.{SinkState, SourceState}
 use Rattle.t1check.specs.declared.asked.Options.{Options}
 use Rattle.t1check.specs.declared.status.Status.{Status}
 use Rattle.t1check.specs.declared.status.Status.TheVariants.{Clean, Failed, Faults, Refused}
@@ -11,14 +11,18 @@ use Rattle.t1check.specs.declared.unread.Unread.{Unread}
 use Rattle.t1check.specs.declared.unread.Unread.TheVariants as unread
 use Rattle.t1check.specs.Answers.{Answer, IsAnswerTo, IsShown, selection, refused, reported, status_of, traced_at}
 use Rattle.t1check.specs.Ends.{AreRead, Gives, Shows, Tells, unread_status}
-use Rattle.t1check.specs.Ends.Shows.{no_glyph, reported as was_reported, traced as was_traced}
+use Rattle.t1check.specs.Ends.Shows.{no_glyph, reported as was_reported, traced as was_traced, no_room, waivers_refused, waivers_unread}
 use Rattle.t1check.specs.Traces.{no_glyph_line, trace_of}
 use Rattle.t1check.specs.Ends.Ends.{no_memory as was_no_memory, read_failed as was_read_failed, refused as was_refused, shown as was_shown}
 use Rattle.t1check.specs.Ends.Gives.{given, write_failed}
 use Rattle.t1check.specs.Ends.Tells.{told, untold}
 use Rattle.t1check.specs.FontFiles.{font_of}
-use Rattle.t1check.specs.Laws.Runs.{Answered, Promises, RunsKeepPromises, WentOut}
-use Rattle.t1check.specs.Refusals.{told_of}
+use Rattle.t1check.specs.Laws.Runs.{Answered, Promises, RunsKeepPromises, WentOut, IfKnown, IsSpared}
+use Rattle.t1check.specs.Refusals.{told_of, told_of_waivers}
+use Rattle.t1_report.specs.Waivers.{Waiver}
+use Rattle.t1check.specs.declared.unread.WaiverRefusal.{WaiverRefusal}
+use Rattle.t1check.specs.Waived.{AreWaived, IfWaived, asks_waivers}
+use Rattle.t1check.proofs.WaivedLemmas.{of-any, of-waived, waived-weaker}
 
 -- ---- statuses
 
@@ -88,35 +92,89 @@ of-read : (P : Result FontValue Unread → Type 0) (left : Option (List ℕ)) (r
 of-read P None read are holds = tt
 of-read P (Some input) read are holds = subst P (sym are) holds
 
+some-weaker : (P Q : List ℕ → Type 0) (left : Option (List ℕ)) → ((input : List ℕ) → P input → Q input) → IfSome left P → IfSome left Q
+some-weaker P Q None on holds = tt
+some-weaker P Q (Some input) on holds = on input holds
+
+some-any : (P : List ℕ → Type 0) (left : Option (List ℕ)) → ((input : List ℕ) → P input) → IfSome left P
+some-any P None all = tt
+some-any P (Some input) all = all input
+
 -- ---- a report or a trace
 
-module _ (options : Options) (left : Option (List ℕ)) (failed : Bool) (out out' errors errors' : SinkState) (result : Status) (sound : out.failed ≡ false) (errors_sound : errors.failed ≡ false) where
-  -- an answer of the font that was given whole, with a status other than 2 and 3
-  after_given : (read : Result FontValue Unread) (answer : Answer) → AreRead left read → failed ≡ false → IsAnswerTo options read answer → answer.told ≡ []
+module _ (options : Options) (left : Option (List ℕ)) (failed : Bool) (waivers waivers' : SourceState) (out out' errors errors' : SinkState) (result : Status) (waivers_sound : waivers.failed ≡ false) (sound : out.failed ≡ false) (errors_sound : errors.failed ≡ false) where
+  abbrev Answering : Answer → Type 0
+  Answering answer = IfKnown options left waivers.left (λ read waived. IsAnswerTo options read waived answer)
+
+  -- both were read so
+  of-both : (answer : Answer) (read : Result FontValue Unread) (waived : Result (List Waiver) WaiverRefusal) → AreRead left read → AreWaived (asks_waivers options) waivers.left waived → IsAnswerTo options read waived answer → Answering answer
+  of-both answer read waived are is holds =
+      of-read (λ r. IfWaived (asks_waivers options) waivers.left (λ w. IsAnswerTo options r w answer)) left read are
+      (of-waived (λ w. IsAnswerTo options read w answer) (asks_waivers options) waivers.left waived is holds)
+
+  -- whatever the waivers are
+  of-font : (answer : Answer) (read : Result FontValue Unread) → AreRead left read → ((waived : Result (List Waiver) WaiverRefusal) → IsAnswerTo options read waived answer) → Answering answer
+  of-font answer read are holds =
+      of-read (λ r. IfWaived (asks_waivers options) waivers.left (λ w. IsAnswerTo options r w answer)) left read are
+      (of-any (λ w. IsAnswerTo options read w answer) (asks_waivers options) waivers.left holds)
+
+  known-weaker : (answer : Answer) (Q : Result FontValue Unread → Result (List Waiver) WaiverRefusal → Type 0)
+      → ((read : Result FontValue Unread) (waived : Result (List Waiver) WaiverRefusal) → IsAnswerTo options read waived answer → Q read waived) → Answering answer → IfKnown options left waivers.left Q
+  known-weaker answer Q on holds =
+      some-weaker (λ input. IfWaived (asks_waivers options) waivers.left (λ w. IsAnswerTo options (font_of input) w answer)) (λ input. IfWaived (asks_waivers options) waivers.left (Q (font_of input))) left
+      (λ input h. waived-weaker (λ w. IsAnswerTo options (font_of input) w answer) (Q (font_of input)) (asks_waivers options) waivers.left (λ w is. on (font_of input) w is) h) holds
+
+  answered : (answer : Answer) → Answering answer → result ≡ answer.status → Appends out.written out'.written answer.output → Appends errors.written errors'.written answer.told
+      → IfKnown options left waivers.left (Answered options result out out' errors errors')
+  answered answer is status output line =
+      known-weaker answer (Answered options result out out' errors errors') (λ read waived so. (answer, (so, record { status = status; output = output; told = line }))) is
+
+  -- ---- the source of waivers
+
+  -- no read failed
+  fine : failed ≡ false → waivers'.failed ≡ waivers.failed → (failed ≡ true) ⊎ (waivers'.failed ≡ true) → ⊥
+  fine unfailed kept (inl source) = true≢false (sym source ∙ unfailed)
+  fine unfailed kept (inr other) = true≢false (sym other ∙ kept ∙ waivers_sound)
+
+  spared_whole : waivers' ≡ waivers → IsSpared options left failed waivers waivers'
+  spared_whole same = record { unasked = λ unasked. same; unread = λ source. same; refused = some-any (λ input. (reason : Unread) → font_of input ≡ Err reason → waivers' ≡ waivers) left (λ input reason is. same) }
+
+  never_refused : (font : FontValue) → AreRead left (Ok font) → IfSome left (λ input. (reason : Unread) → font_of input ≡ Err reason → waivers' ≡ waivers)
+  never_refused font are = of-read (λ r. (reason : Unread) → r ≡ Err reason → waivers' ≡ waivers) left (Ok font) are (λ reason is. cc)
+
+  spared_by : (font : FontValue) → AreRead left (Ok font) → failed ≡ false → (asks_waivers options ≡ false → waivers' ≡ waivers) → IsSpared options left failed waivers waivers'
+  spared_by font are unfailed unasked =
+      record { unasked = unasked; unread = λ source. absurd (true≢false (sym source ∙ unfailed)); refused = never_refused font are }
+
+  same_failed : waivers' ≡ waivers → waivers'.failed ≡ waivers.failed
+  same_failed same = ap (λ (s : SourceState). s.failed) same
+
+  -- an answer that was given whole, with a status other than 2 and 3
+  after_given : (answer : Answer) → Answering answer → failed ≡ false → waivers'.failed ≡ waivers.failed → IsSpared options left failed waivers waivers' → answer.told ≡ []
       → (answer.status ≡ Refused → ⊥) → (answer.status ≡ Failed → ⊥) → Gives answer.output answer.status out out' errors errors' result
-      → Promises options left failed out out' errors errors' result
-  after_given read answer are unfailed is_answer silent never_two never_three (given wrote kept is) =
+      → Promises options left failed waivers waivers' out out' errors errors' result
+  after_given answer is_answer unfailed kept_source spared silent never_two never_three (given wrote kept is) =
       let out_sound : out'.failed ≡ false = wrote.failed ∙ sound in
       record {
-        answer = λ went. of-read (λ (r : Result FontValue Unread). Answered options r result out out' errors errors') left read are
-            (answer, (is_answer, record { status = is; output = wrote.bytes; told = subst (Appends errors.written errors'.written) (sym silent) (nothing-same errors errors' kept) }));
+        answer = λ went. answered answer is_answer is wrote.bytes (subst (Appends errors.written errors'.written) (sym silent) (nothing-same errors errors' kept));
         flushed = λ either. (wrote.waits, wrote.flushes);
         untouched = λ two. absurd (never_two (sym is ∙ two));
         nothing_waits = λ went was. wrote.waits;
         broken = λ device. elim device [
-          | inl source ↦ absurd (true≢false (sym source ∙ unfailed))
+          | inl source ↦ absurd (fine unfailed kept_source source)
           | inr (inl output) ↦ absurd (true≢false (sym output ∙ out_sound))
           | inr (inr line) ↦ absurd (true≢false (sym line ∙ ap (λ (s : SinkState). s.failed) kept ∙ errors_sound))
         ];
-        read_failed = λ source. absurd (true≢false (sym source ∙ unfailed));
+        read_failed = λ source. absurd (fine unfailed kept_source source);
         write_failed = λ output. absurd (true≢false (sym output ∙ out_sound));
         no_memory = λ three. absurd (never_three (sym is ∙ three));
         unwritten = λ three. absurd (never_three (sym is ∙ three));
         unread = λ source. out_sound;
         front = λ output. absurd (true≢false (sym output ∙ out_sound));
         unflushed = λ three. absurd (never_three (sym is ∙ three));
+        spared = spared;
       }
-  after_given read answer are unfailed is_answer silent never_two never_three (write_failed broke tells) =
+  after_given answer is_answer unfailed kept_source spared silent never_two never_three (write_failed broke tells) =
       let three : result ≡ Failed = told-failed (codes "t1check: write failed\n") errors errors' result tells in
       record {
         answer = λ went. absurd (went three);
@@ -124,13 +182,14 @@ module _ (options : Options) (left : Option (List ℕ)) (failed : Bool) (out out
         untouched = λ two. absurd (refused-failed (sym two ∙ three));
         nothing_waits = λ went. absurd (went three);
         broken = λ device. three;
-        read_failed = λ source. absurd (true≢false (sym source ∙ unfailed));
+        read_failed = λ source. absurd (fine unfailed kept_source source);
         write_failed = λ output whole. told-text (codes "t1check: write failed\n") Failed errors errors' result tells whole;
-        no_memory = λ failure source output. absurd (true≢false (sym broke.failed ∙ output));
+        no_memory = λ failure source other output. absurd (true≢false (sym broke.failed ∙ output));
         unwritten = λ failure output. absurd (true≢false (sym broke.failed ∙ output));
-        unread = λ source. absurd (true≢false (sym source ∙ unfailed));
-        front = λ output. of-read (λ (r : Result FontValue Unread). WentOut options r out out') left read are (answer, (is_answer, broke.front));
+        unread = λ source. absurd (fine unfailed kept_source source);
+        front = λ output. known-weaker answer (WentOut options out out') (λ read waived so. (answer, (so, broke.front))) is_answer;
         unflushed = λ failure. broke.flushes;
+        spared = spared;
       }
 
   -- ---- neither
@@ -139,85 +198,46 @@ module _ (options : Options) (left : Option (List ℕ)) (failed : Bool) (out out
   out_same : out' ≡ out → out'.failed ≡ false
   out_same same = ap (λ (s : SinkState). s.failed) same ∙ sound
 
-  -- the font has no glyph of the name
-  after_no_glyph : (font : FontValue) (name : List ℕ) → AreRead left (Ok font) → failed ≡ false → IsAnswerTo options (Ok font) (record { output = []; told = no_glyph_line name; status = Failed })
-      → out' ≡ out → Tells (no_glyph_line name) Failed errors errors' result → Promises options left failed out out' errors errors' result
-  after_no_glyph font name are unfailed is_answer same tells =
-      let three : result ≡ Failed = told-failed (no_glyph_line name) errors errors' result tells in
-      let answer : Answer = record { output = []; told = no_glyph_line name; status = Failed } in
-      record {
-        answer = λ went. absurd (went three);
-        flushed = λ either. absurd (never-report result either (inr three));
-        untouched = λ two. same;
-        nothing_waits = λ went. absurd (went three);
-        broken = λ device. three;
-        read_failed = λ source. absurd (true≢false (sym source ∙ unfailed));
-        write_failed = λ output. absurd (true≢false (sym output ∙ out_same same));
-        no_memory = λ failure source output whole. inr (of-read (λ (r : Result FontValue Unread). Answered options r result out out' errors errors') left (Ok font) are
-            (answer, (is_answer, record { status = three; output = nothing-same out out' same; told = told-text (no_glyph_line name) Failed errors errors' result tells whole })));
-        unwritten = λ failure output. keeps-same out out' same;
-        unread = λ source. out_same same;
-        front = λ output. absurd (true≢false (sym output ∙ out_same same));
-        unflushed = λ failure. ap (λ (s : SinkState). s.flushes) same;
-      }
-
-  -- the name that the options have
-  shown_by : (font : FontValue) (answer : Answer) (trace name : Option (List ℕ)) → trace ≡ name → IsShown options font name answer → IsShown options font trace answer
-  shown_by font answer trace name same is = subst (λ (n : Option (List ℕ)). IsShown options font n answer) (sym same) is
-
-  after_shown : (font : FontValue) → AreRead left (Ok font) → failed ≡ false → Shows options font out out' errors errors' result
-      → Promises options left failed out out' errors errors' result
-  after_shown font are unfailed (was_reported none faults report gives) =
-      let answer = reported font (selection options faults) in
-      after_given (Ok font) answer are unfailed (shown_by font answer _ None (ap (option_map string_bytes) none) (faults, (report, refl))) refl
-      (list-not-refused (selection options faults)) (list-not-failed (selection options faults)) gives
-  after_shown font are unfailed (was_traced name is glyph there gives) =
-      let answer : Answer = record { output = trace_of font glyph; told = []; status = Clean } in
-      after_given (Ok font) answer are unfailed (shown_by font answer _ (Some name) is (sym (ap (traced_at font name) there))) refl
-      (λ two. cc) clean-failed gives
-  after_shown font are unfailed (no_glyph name is none same tells) =
-      let answer : Answer = record { output = []; told = no_glyph_line name; status = Failed } in
-      after_no_glyph font name are unfailed (shown_by font answer _ (Some name) is (sym (ap (traced_at font name) none))) same tells
-
-  after_refusal : (reason : Unread) → AreRead left (Err reason) → failed ≡ false → out' ≡ out → Tells (told_of reason) (unread_status reason) errors errors' result
-      → (unread_status reason ≡ Refused) ⊎ (reason ≡ unread.Memory) → Promises options left failed out out' errors errors' result
-  after_refusal reason are unfailed same tells kind =
-      let two_or_three : (result ≡ Refused) ⊎ (result ≡ Failed) = elim (told-status (told_of reason) (unread_status reason) errors errors' result tells) [
-        | inl is ↦ elim kind [ inl two ↦ inl (is ∙ two) | inr memory ↦ inr (is ∙ ap unread_status memory) ]
+  -- an answer with nothing on the output, status 2 or 3
+  after_told : (answer : Answer) → Answering answer → failed ≡ false → waivers'.failed ≡ waivers.failed → IsSpared options left failed waivers waivers' → answer.output ≡ []
+      → (answer.status ≡ Refused) ⊎ (answer.status ≡ Failed) → out' ≡ out → Tells answer.told answer.status errors errors' result
+      → Promises options left failed waivers waivers' out out' errors errors' result
+  after_told answer is_answer unfailed kept_source spared silent kind same tells =
+      let two_or_three : (result ≡ Refused) ⊎ (result ≡ Failed) = elim (told-status answer.told answer.status errors errors' result tells) [
+        | inl is ↦ elim kind [ inl two ↦ inl (is ∙ two) | inr three ↦ inr (is ∙ three) ]
         | inr three ↦ inr three
       ] in
+      let nothing : Appends out.written out'.written answer.output = subst (Appends out.written out'.written) (sym silent) (nothing-same out out' same) in
       record {
         answer = λ went.
-            let (text, status) = told-unfailed (told_of reason) (unread_status reason) errors errors' result tells went in
-            let is_two : result ≡ Refused = elim kind [ inl two ↦ status ∙ two | inr memory ↦ absurd (went (status ∙ ap unread_status memory)) ] in
-            of-read (λ (r : Result FontValue Unread). Answered options r result out out' errors errors') left (Err reason) are
-            (refused (told_of reason), (refl, record { status = is_two; output = nothing-same out out' same; told = text }));
+            let (text, status) = told-unfailed answer.told answer.status errors errors' result tells went in
+            answered answer is_answer status nothing text;
         flushed = λ either. absurd (never-report result either two_or_three);
         untouched = λ two. same;
         nothing_waits = λ went was. ap (λ (s : SinkState). s.flushed) same ∙ was;
         broken = λ device. elim device [
-          | inl source ↦ absurd (true≢false (sym source ∙ unfailed))
+          | inl source ↦ absurd (fine unfailed kept_source source)
           | inr (inl output) ↦ absurd (true≢false (sym output ∙ out_same same))
-          | inr (inr line) ↦ told-broken (told_of reason) (unread_status reason) errors errors' result errors_sound tells line
+          | inr (inr line) ↦ told-broken answer.told answer.status errors errors' result errors_sound tells line
         ];
-        read_failed = λ source. absurd (true≢false (sym source ∙ unfailed));
+        read_failed = λ source. absurd (fine unfailed kept_source source);
         write_failed = λ output. absurd (true≢false (sym output ∙ out_same same));
-        no_memory = λ three source output whole. elim kind [
-          | inl two ↦ absurd (refused-failed (sym two ∙ (status_where_whole whole tells) ∙ three))
-          | inr memory ↦ inl (subst (λ (u : Unread). Appends errors.written errors'.written (told_of u)) memory (told-text (told_of reason) (unread_status reason) errors errors' result tells whole))
-        ];
+        no_memory = λ three source other output whole. inr (answered answer is_answer (status_where_whole whole tells) nothing (told-text answer.told answer.status errors errors' result tells whole));
         unwritten = λ three output. keeps-same out out' same;
         unread = λ source. out_same same;
         front = λ output. absurd (true≢false (sym output ∙ out_same same));
         unflushed = λ three. ap (λ (s : SinkState). s.flushes) same;
+        spared = spared;
       }
     where
-      status_where_whole : {text : List ℕ} {status : Status} → errors'.failed ≡ false → Tells text status errors errors' result → status ≡ result
-      status_where_whole whole (told wrote is) = sym is
+      status_where_whole : {text : List ℕ} {status : Status} → errors'.failed ≡ false → Tells text status errors errors' result → result ≡ status
+      status_where_whole whole (told wrote is) = is
       status_where_whole whole (untold broke is) = absurd (true≢false (sym broke.failed ∙ whole))
 
-  after_failed_read : failed ≡ true → out' ≡ out → Tells (codes "t1check: read failed\n") Failed errors errors' result → Promises options left failed out out' errors errors' result
-  after_failed_read broken same tells =
+  -- a read failed, of the font or of the waivers
+  after_failed_read : (failed ≡ true) ⊎ (waivers'.failed ≡ true) → IsSpared options left failed waivers waivers' → out' ≡ out → Tells (codes "t1check: read failed\n") Failed errors errors' result
+      → Promises options left failed waivers waivers' out out' errors errors' result
+  after_failed_read broken spared same tells =
       let three : result ≡ Failed = told-failed (codes "t1check: read failed\n") errors errors' result tells in
       record {
         answer = λ went. absurd (went three);
@@ -227,15 +247,17 @@ module _ (options : Options) (left : Option (List ℕ)) (failed : Bool) (out out
         broken = λ device. three;
         read_failed = λ source whole. told-text (codes "t1check: read failed\n") Failed errors errors' result tells whole;
         write_failed = λ output. absurd (true≢false (sym output ∙ out_same same));
-        no_memory = λ failure source. absurd (true≢false (sym broken ∙ source));
+        no_memory = λ failure source other. absurd (elim broken [ inl is ↦ true≢false (sym is ∙ source) | inr is ↦ true≢false (sym is ∙ other) ]);
         unwritten = λ failure output. keeps-same out out' same;
         unread = λ source. out_same same;
         front = λ output. absurd (true≢false (sym output ∙ out_same same));
         unflushed = λ failure. ap (λ (s : SinkState). s.flushes) same;
+        spared = spared;
       }
 
-  after_no_memory : failed ≡ false → out' ≡ out → Tells (codes "t1check: out of memory\n") Failed errors errors' result → Promises options left failed out out' errors errors' result
-  after_no_memory unfailed same tells =
+  after_no_memory : failed ≡ false → waivers'.failed ≡ waivers.failed → IsSpared options left failed waivers waivers' → out' ≡ out → Tells (codes "t1check: out of memory\n") Failed errors errors' result
+      → Promises options left failed waivers waivers' out out' errors errors' result
+  after_no_memory unfailed kept_source spared same tells =
       let three : result ≡ Failed = told-failed (codes "t1check: out of memory\n") errors errors' result tells in
       record {
         answer = λ went. absurd (went three);
@@ -243,14 +265,52 @@ module _ (options : Options) (left : Option (List ℕ)) (failed : Bool) (out out
         untouched = λ two. same;
         nothing_waits = λ went. absurd (went three);
         broken = λ device. three;
-        read_failed = λ source. absurd (true≢false (sym source ∙ unfailed));
+        read_failed = λ source. absurd (fine unfailed kept_source source);
         write_failed = λ output. absurd (true≢false (sym output ∙ out_same same));
-        no_memory = λ failure source output whole. inl (told-text (codes "t1check: out of memory\n") Failed errors errors' result tells whole);
+        no_memory = λ failure source other output whole. inl (told-text (codes "t1check: out of memory\n") Failed errors errors' result tells whole);
         unwritten = λ failure output. keeps-same out out' same;
         unread = λ source. out_same same;
         front = λ output. absurd (true≢false (sym output ∙ out_same same));
         unflushed = λ failure. ap (λ (s : SinkState). s.flushes) same;
+        spared = spared;
       }
+
+  -- the name that the options have
+  shown_by : (font : FontValue) (waived : Result (List Waiver) WaiverRefusal) (answer : Answer) (trace name : Option (List ℕ)) → trace ≡ name → IsShown options font waived name answer → IsShown options font waived trace answer
+  shown_by font waived answer trace name same is = subst (λ (n : Option (List ℕ)). IsShown options font waived n answer) (sym same) is
+
+  after_shown : (font : FontValue) → AreRead left (Ok font) → failed ≡ false → Shows options font waivers waivers' out out' errors errors' result
+      → Promises options left failed waivers waivers' out out' errors errors' result
+  after_shown font are unfailed (was_reported none waived is heard faults report gives) =
+      let answer = reported font waived (selection options faults) in
+      after_given answer (of-both answer (Ok font) (Ok waived) are is (shown_by font (Ok waived) answer _ None (ap (option_map string_bytes) none) (faults, (report, refl)))) unfailed heard.failed
+      (spared_by font are unfailed heard.unasked) refl
+      (list-not-refused (selection options faults)) (list-not-failed (selection options faults)) gives
+  after_shown font are unfailed (was_traced name is glyph there untouched gives) =
+      let answer : Answer = record { output = trace_of options.edition font glyph; told = []; status = Clean } in
+      after_given answer (of-font answer (Ok font) are (λ waived. shown_by font waived answer _ (Some name) is (sym (ap (traced_at options.edition font name) there)))) unfailed (same_failed untouched) (spared_whole untouched) refl
+      (λ two. cc) clean-failed gives
+  after_shown font are unfailed (no_glyph name is none untouched same tells) =
+      let answer : Answer = record { output = []; told = no_glyph_line name; status = Failed } in
+      after_told answer (of-font answer (Ok font) are (λ waived. shown_by font waived answer _ (Some name) is (sym (ap (traced_at options.edition font name) none)))) unfailed (same_failed untouched) (spared_whole untouched) refl
+      (inr refl) same tells
+  after_shown font are unfailed (waivers_refused none reason is heard same tells) =
+      let answer = refused (told_of_waivers reason) in
+      after_told answer (of-both answer (Ok font) (Err reason) are is (shown_by font (Err reason) answer _ None (ap (option_map string_bytes) none) refl)) unfailed heard.failed
+      (spared_by font are unfailed heard.unasked) refl (inl refl) same tells
+  after_shown font are unfailed (waivers_unread asked broken same tells) =
+      after_failed_read (inr broken) (spared_by font are unfailed (λ unasked. absurd (true≢false (sym asked ∙ unasked)))) same tells
+  after_shown font are unfailed (no_room none heard same tells) =
+      after_no_memory unfailed heard.failed (spared_by font are unfailed heard.unasked) same tells
+
+  after_refusal : (reason : Unread) → AreRead left (Err reason) → failed ≡ false → waivers' ≡ waivers → out' ≡ out → Tells (told_of reason) (unread_status reason) errors errors' result
+      → (unread_status reason ≡ Refused) ⊎ (reason ≡ unread.Memory) → Promises options left failed waivers waivers' out out' errors errors' result
+  after_refusal reason are unfailed untouched same tells (inl two) =
+      after_told (refused (told_of reason)) (of-font (refused (told_of reason)) (Err reason) are (λ waived. refl)) unfailed (same_failed untouched) (spared_whole untouched) refl (inl refl) same
+      (subst (λ (s : Status). Tells (told_of reason) s errors errors' result) two tells)
+  after_refusal reason are unfailed untouched same tells (inr memory) =
+      after_no_memory unfailed (same_failed untouched) (spared_whole untouched) same
+      (subst (λ (u : Unread). Tells (told_of u) (unread_status u) errors errors' result) memory tells)
 
 -- a reason is a refusal, or want of memory
 kind_of_reason : (reason : Unread) → (unread_status reason ≡ Refused) ⊎ (reason ≡ unread.Memory)
@@ -259,11 +319,11 @@ kind_of_reason unread.NotAFont = inl refl
 kind_of_reason _ = inl refl
 
 pub kept : RunsKeepPromises
-kept options left failed out out' errors errors' result sound errors_sound (was_shown font are unfailed shows) =
-    after_shown options left failed out out' errors errors' result sound errors_sound font are unfailed shows
-kept options left failed out out' errors errors' result sound errors_sound (was_refused reason are unfailed same tells) =
-    after_refusal options left failed out out' errors errors' result sound errors_sound reason are unfailed same tells (kind_of_reason reason)
-kept options left failed out out' errors errors' result sound errors_sound (was_read_failed broken same tells) =
-    after_failed_read options left failed out out' errors errors' result sound errors_sound broken same tells
-kept options left failed out out' errors errors' result sound errors_sound (was_no_memory unfailed same tells) =
-    after_no_memory options left failed out out' errors errors' result sound errors_sound unfailed same tells
+kept options left failed v v' out out' errors errors' result v_sound sound errors_sound (was_shown font are unfailed shows) =
+    after_shown options left failed v v' out out' errors errors' result v_sound sound errors_sound font are unfailed shows
+kept options left failed v v' out out' errors errors' result v_sound sound errors_sound (was_refused reason are unfailed untouched same tells) =
+    after_refusal options left failed v v' out out' errors errors' result v_sound sound errors_sound reason are unfailed untouched same tells (kind_of_reason reason)
+kept options left failed v v' out out' errors errors' result v_sound sound errors_sound (was_read_failed broken untouched same tells) =
+    after_failed_read options left failed v v' out out' errors errors' result v_sound sound errors_sound (inl broken) (spared_whole options left failed v v' out out' errors errors' result v_sound sound errors_sound untouched) same tells
+kept options left failed v v' out out' errors errors' result v_sound sound errors_sound (was_no_memory unfailed untouched same tells) =
+    after_no_memory options left failed v v' out out' errors errors' result v_sound sound errors_sound unfailed (ap (λ (s : SourceState). s.failed) untouched) (spared_whole options left failed v v' out out' errors errors' result v_sound sound errors_sound untouched) same tells

@@ -7,12 +7,14 @@ use Rattle.std.proofs.lemmas.List.{take_all, take-take, take-append-drop}
 use Rattle.t1_font.specs.Fonts.{FontValue}
 use Rattle.t1_io.specs.Devices.{SinkState, Wrote, PutFailed}
 use Rattle.t1_io.proofs.SinkLemmas.{Wrote-trans, PutFailed-first, PutFailed-second}
+use Rattle.t1_char.specs.declared.edition.Edition.{Edition}
+use Rattle.t1_char.specs.Editions.{limit_of}
 use Rattle.t1_char.specs.Steps.{StepView, NumberedStep, first_steps, numbered, steps_of}
 use Rattle.t1_char.proofs.Numbering.{numbered_more, with_number}
 use Rattle.t1_char.specs.Turns.{MachineView, ended, limited, turn_at}
-use Rattle.t1_char.proofs.TurnsTaken.{IsStepped, IsOver, IsLimited, ended_is, limited_is}
+use Rattle.t1_char.proofs.TurnsTaken.{Executes, same_turn, IsStepped, IsOver, IsLimited, ended_is, limited_is}
 use Rattle.t1_report.specs.Traces.{step_line}
-use Rattle.t1check.specs.Traces.{trace_text}
+use Rattle.t1check.specs.Traces.{trace_of, trace_text}
 
 -- The lines of the first n steps.
 abbrev pub lines_to : ℕ → List StepView → ℕ → List ℕ
@@ -102,16 +104,12 @@ trace_limited limit font glyph n (more, past) =
     ∙ ap (λ (b : Bool). flat_map step_line (numbered 1 (take limit steps)) ++ (if b then codes "limit\n" else [])) (lt-ltb limit (length steps) more)
     ∙ ap (λ ss. flat_map step_line (numbered 1 ss) ++ codes "limit\n") (sym (take_all n (take limit steps) (omega (arith, past, length-take limit steps))))
 
--- The same of a machine that executes this glyph of this font.
-same_turn : (limit : ℕ) (m : MachineView) (font : FontValue) (glyph : ℕ) → m.font ≡ font → m.glyph ≡ glyph → turn_at limit (steps_of m.font m.glyph) m.counted ≡ turn_at limit (steps_of font glyph) m.counted
-same_turn limit m font glyph of_font of_glyph =
-    ap (λ f. turn_at limit (steps_of f m.glyph) m.counted) of_font ∙ ap (λ g. turn_at limit (steps_of font g) m.counted) of_glyph
+-- The same of a machine that executes this glyph of this font by this edition.
+pub trace_ended : (edition : Edition) (m : MachineView) (font : FontValue) (glyph : ℕ) → Executes edition font glyph m → ended ≡ turn_at (limit_of m.edition) (steps_of m.font m.glyph) m.counted → trace_of edition font glyph ≡ lines_to (limit_of edition) (steps_of font glyph) m.counted
+trace_ended edition m font glyph same is =
+    trace_over (limit_of edition) font glyph m.counted (ended_is (limit_of edition) (steps_of font glyph) m.counted (is ∙ same_turn edition m font glyph same))
 
-pub trace_ended : (limit : ℕ) (m : MachineView) (font : FontValue) (glyph : ℕ) → m.font ≡ font → m.glyph ≡ glyph → ended ≡ turn_at limit (steps_of m.font m.glyph) m.counted → trace_text limit (first_steps limit font glyph) ≡ lines_to limit (steps_of font glyph) m.counted
-trace_ended limit m font glyph of_font of_glyph is =
-    trace_over limit font glyph m.counted (ended_is limit (steps_of font glyph) m.counted (is ∙ same_turn limit m font glyph of_font of_glyph))
-
-pub trace_past : (limit : ℕ) (m : MachineView) (font : FontValue) (glyph : ℕ) (step : NumberedStep) → m.font ≡ font → m.glyph ≡ glyph → limited step ≡ turn_at limit (steps_of m.font m.glyph) m.counted → trace_text limit (first_steps limit font glyph) ≡ lines_to limit (steps_of font glyph) m.counted ++ codes "limit\n"
-trace_past limit m font glyph step of_font of_glyph is =
-    let at : IsLimited limit (steps_of font glyph) m.counted step = limited_is limit (steps_of font glyph) m.counted step (is ∙ same_turn limit m font glyph of_font of_glyph) in
-    trace_limited limit font glyph m.counted (at.within, at.past)
+pub trace_past : (edition : Edition) (m : MachineView) (font : FontValue) (glyph : ℕ) (step : NumberedStep) → Executes edition font glyph m → limited step ≡ turn_at (limit_of m.edition) (steps_of m.font m.glyph) m.counted → trace_of edition font glyph ≡ lines_to (limit_of edition) (steps_of font glyph) m.counted ++ codes "limit\n"
+trace_past edition m font glyph step same is =
+    let at : IsLimited (limit_of edition) (steps_of font glyph) m.counted step = limited_is (limit_of edition) (steps_of font glyph) m.counted step (is ∙ same_turn edition m font glyph same) in
+    trace_limited (limit_of edition) font glyph m.counted (at.within, at.past)

@@ -1,6 +1,8 @@
 -- What the program answers: text on standard output, text on standard error, and a status.
-use Rattle.std.specs.Prelude.{◌≡◌, ℕ, List, [], ◌∷◌, take, drop, Option, None, Some, option_map, string_bytes, Result, Ok, Err}
+use Rattle.std.specs.Prelude.{◌≡◌, ℕ, List, [], ◌∷◌, take, drop, Option, None, Some, option_map, string_bytes, Result, Ok, Err, if◌then◌else◌}
 use Rattle.t1_font.specs.Fonts.{FontValue}
+use Rattle.t1_char.specs.declared.edition.Edition.{Edition}
+use Rattle.t1_report.specs.Checked.{checked}
 use Rattle.t1_report.specs.Faults.{FaultValue}
 use Rattle.t1_report.specs.Reports.{IsReport}
 use Rattle.t1check.specs.declared.asked.Options.{Options}
@@ -9,9 +11,12 @@ use Rattle.t1check.specs.declared.status.Status.TheVariants.{Clean, Failed, Faul
 use Rattle.t1check.specs.declared.unread.Unread.{Unread}
 use Rattle.t1check.specs.FontFiles.{font_of}
 use Rattle.t1check.specs.Lines.{lines_of}
-use Rattle.t1check.specs.Refusals.{told_of}
+use Rattle.t1check.specs.Refusals.{told_of, told_of_waivers}
 use Rattle.t1_rules.specs.Components.{glyph_named}
 use Rattle.t1check.specs.Traces.{no_glyph_line, trace_of}
+use Rattle.t1_report.specs.Waivers.{Waiver}
+use Rattle.t1check.specs.declared.unread.WaiverRefusal.{WaiverRefusal}
+use Rattle.t1check.specs.Waived.{asks_waivers, waivers_in}
 
 pub record Answer : Type 0 where
   pub output : List ℕ
@@ -37,32 +42,42 @@ status_of [] = Clean
 status_of (f ∷ fs) = Faults
 
 -- These faults of a font: their lines on standard output.
-abbrev pub reported : FontValue → List FaultValue → Answer
-reported font faults = record { output = lines_of font faults; told = []; status = status_of faults }
+abbrev pub reported : FontValue → List Waiver → List FaultValue → Answer
+reported font waivers faults =
+    record { output = lines_of font waivers faults; told = []; status = status_of faults }
 
--- What the options choose of a font's report.
-abbrev pub IsReported : Options → FontValue → Answer → Type 0
-IsReported options font answer =
-    (faults : List FaultValue) × (IsReport font faults × (answer ≡ reported font (selection options faults)))
+-- What the options choose of a font's report, given waivers; where these aren't read, the reason is told.
+abbrev pub IsReported : Options → FontValue → Result (List Waiver) WaiverRefusal → Answer → Type 0
+IsReported options font (Ok waivers) answer =
+    (faults : List FaultValue)
+    × (IsReport (checked font options.edition) waivers faults × (answer ≡ reported font waivers (selection options faults)))
+IsReported options font (Err reason) answer = answer ≡ refused (told_of_waivers reason)
 
 -- The trace of a glyph, or that there is none of the name.
-abbrev pub traced_at : FontValue → List ℕ → Option ℕ → Answer
-traced_at font name None = record { output = []; told = no_glyph_line name; status = Failed }
-traced_at font name (Some glyph) = record { output = trace_of font glyph; told = []; status = Clean }
+abbrev pub traced_at : Edition → FontValue → List ℕ → Option ℕ → Answer
+traced_at edition font name None = record { output = []; told = no_glyph_line name; status = Failed }
+traced_at edition font name (Some glyph) = record { output = trace_of edition font glyph; told = []; status = Clean }
 
-abbrev pub traced : FontValue → List ℕ → Answer
-traced font name = traced_at font name (glyph_named font name)
+abbrev pub traced : Edition → FontValue → List ℕ → Answer
+traced edition font name = traced_at edition font name (glyph_named font name)
 
 -- Without a name the report is answered, with one the trace of that glyph.
-abbrev pub IsShown : Options → FontValue → Option (List ℕ) → Answer → Type 0
-IsShown options font None answer = IsReported options font answer
-IsShown options font (Some name) answer = answer ≡ traced font name
+abbrev pub IsShown : Options → FontValue → Result (List Waiver) WaiverRefusal → Option (List ℕ) → Answer
+    → Type 0
+IsShown options font waived None answer = IsReported options font waived answer
+IsShown options font waived (Some name) answer = answer ≡ traced options.edition font name
 
 -- The answer of a font that was read is what the options ask for; else the reason is told.
-abbrev pub IsAnswerTo : Options → Result FontValue Unread → Answer → Type 0
-IsAnswerTo options (Ok font) answer = IsShown options font (option_map string_bytes options.trace) answer
-IsAnswerTo options (Err unread) answer = answer ≡ refused (told_of unread)
+abbrev pub IsAnswerTo : Options → Result FontValue Unread → Result (List Waiver) WaiverRefusal → Answer
+    → Type 0
+IsAnswerTo options (Ok font) waived answer =
+    IsShown options font waived (option_map string_bytes options.trace) answer
+IsAnswerTo options (Err unread) waived answer = answer ≡ refused (told_of unread)
 
--- The program's answer to its options and the bytes of a file.
-abbrev pub IsAnswer : Options → List ℕ → Answer → Type 0
-IsAnswer options input answer = IsAnswerTo options (font_of input) answer
+-- The waivers of a text, where the options ask for them; else there are none.
+abbrev pub waived_by : Options → List ℕ → Result (List Waiver) WaiverRefusal
+waived_by options text = if asks_waivers options then waivers_in text else Ok []
+
+-- The program's answer to its options and the bytes of a font's file and of a file of waivers.
+abbrev pub IsAnswer : Options → List ℕ → List ℕ → Answer → Type 0
+IsAnswer options input text answer = IsAnswerTo options (font_of input) (waived_by options text) answer

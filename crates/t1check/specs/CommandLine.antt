@@ -5,6 +5,8 @@ use Rattle.std.specs.Str.Parse.{IsNumeral, without_leading_plus, digits_value}
 use Rattle.clap.specs.Words.{App, IsUnsignedIn, Rule, Text, fault_of, first_of, matches_of, new_app, new_rule, with_rule}
 use Rattle.clap.specs.declared.builder.value_parser.ValueParser.TheVariants as parser
 use Rattle.clap.specs.declared.error.kind.ErrorKind.TheVariants.{DisplayHelp}
+use Rattle.t1_char.specs.declared.edition.Edition.{Edition}
+use Rattle.t1_char.specs.declared.edition.Edition.TheVariants.{One, Two}
 use Rattle.t1check.specs.declared.asked.Options.{Options}
 use Rattle.t1check.specs.declared.asked.UsageError.{UsageError}
 use Rattle.t1check.specs.declared.asked.UsageError.TheVariants.{Help, Usage, Memory}
@@ -29,6 +31,18 @@ max_rule = record (new_rule (codes "max")) {
 abbrev pub trace_rule : Rule
 trace_rule = record (new_rule (codes "trace")) { long = Some (codes "trace"); value_names = 1 }
 
+-- --edition N, N 1 or 2
+abbrev pub edition_rule : Rule
+edition_rule = record (new_rule (codes "edition")) {
+  long = Some (codes "edition");
+  value_names = 1;
+  parser = Some (parser.Unsigned 1 2);
+}
+
+-- --waive FILE
+abbrev pub waive_rule : Rule
+waive_rule = record (new_rule (codes "waive")) { long = Some (codes "waive"); value_names = 1 }
+
 -- FILE
 abbrev pub file_rule : Rule
 file_rule = record (new_rule (codes "file")) { value_names = 1 }
@@ -36,18 +50,21 @@ file_rule = record (new_rule (codes "file")) { value_names = 1 }
 unfoldable pub t1check : App
 t1check =
     with_rule
-    (with_rule (with_rule (with_rule (new_app (codes "t1check")) after_rule) max_rule) trace_rule) file_rule
+    (with_rule
+    (with_rule
+    (with_rule (with_rule (with_rule (new_app (codes "t1check")) after_rule) max_rule) trace_rule) edition_rule)
+    waive_rule)
+    file_rule
 
--- The id of an argument whose value is a number of 64 bits.
-abbrev pub IsNumberArgument : Text → Type 0
-IsNumberArgument id =
-    Any (λ rule. (rule.id ≡ id) ×
-    (rule.parser ≡ Some (parser.Unsigned 0 18446744073709551615))) t1check.top.rules
+-- The id of an argument whose value is a number of 64 bits between two others.
+abbrev pub IsNumberArgument : ℕ → ℕ → Text → Type 0
+IsNumberArgument low high id =
+    Any (λ rule. (rule.id ≡ id) × (rule.parser ≡ Some (parser.Unsigned low high))) t1check.top.rules
 
--- What clap takes for a number of 64 bits.
-abbrev pub IsTextOfNumber : Option Text → Type 0
-IsTextOfNumber None = Unit {0}
-IsTextOfNumber (Some text) = IsUnsignedIn 0 18446744073709551615 text
+-- What clap takes for such a number.
+abbrev pub IsTextOfNumber : ℕ → ℕ → Option Text → Type 0
+IsTextOfNumber low high None = Unit {0}
+IsTextOfNumber low high (Some text) = IsUnsignedIn low high text
 
 -- A number as clap reads it: digits, with a plus before them or without.
 abbrev pub IsNumber : Text → ℕ → Type 0
@@ -63,11 +80,22 @@ abbrev pub IsNumberOrZero : Option Text → ℕ → Type 0
 IsNumberOrZero None n = n ≡ 0
 IsNumberOrZero (Some text) n = IsNumber text n
 
+-- A missing edition is the first.
+abbrev pub number_of_edition : Edition → ℕ
+number_of_edition One = 1
+number_of_edition Two = 2
+
+abbrev pub IsEditionOrFirst : Option Text → Edition → Type 0
+IsEditionOrFirst None edition = edition ≡ One
+IsEditionOrFirst (Some text) edition = IsNumber text (number_of_edition edition)
+
 -- The options are those that the words give.
 pub record AreGiven (words : List Text) (options : Options) : Type 0 where
   pub after : IsNumberOrZero (first_of (codes "after") (matches_of t1check words)) options.after
   pub max : AreNumber (first_of (codes "max") (matches_of t1check words)) options.max
   pub trace : option_map string_bytes options.trace ≡ first_of (codes "trace") (matches_of t1check words)
+  pub edition : IsEditionOrFirst (first_of (codes "edition") (matches_of t1check words)) options.edition
+  pub waive : option_map string_bytes options.waive ≡ first_of (codes "waive") (matches_of t1check words)
   pub file : option_map string_bytes options.file ≡ first_of (codes "file") (matches_of t1check words)
 
 -- The first fault that clap finds in the words is the request for help.

@@ -1,7 +1,8 @@
 -- How a run ends: what was given on the output, what was told on standard error, and the status.
 use Rattle.std.specs.Prelude.{◌≡◌, ℕ, Bool, true, false, List, Option, None, Some, option_map, Result, Ok, Err, IfSome, codes, string_bytes}
 use Rattle.t1_font.specs.Fonts.{FontValue}
-use Rattle.t1_io.specs.Devices.{Delivered, DeliveryFailed, PutFailed, SinkState, Wrote}
+use Rattle.t1_io.specs.Devices.{Delivered, DeliveryFailed, PutFailed, SinkState, Wrote, SourceState}
+use Rattle.t1_report.specs.Checked.{checked}
 use Rattle.t1_report.specs.Faults.{FaultValue}
 use Rattle.t1_report.specs.Reports.{IsReport}
 use Rattle.t1check.specs.declared.asked.Options.{Options}
@@ -14,9 +15,12 @@ use Rattle.t1check.specs.declared.unread.Unread.TheVariants as unread
 use Rattle.t1check.specs.Answers.{selection, status_of}
 use Rattle.t1check.specs.FontFiles.{IsUnread, font_of}
 use Rattle.t1check.specs.Lines.{lines_of}
-use Rattle.t1check.specs.Refusals.{told_of}
+use Rattle.t1check.specs.Refusals.{told_of, told_of_waivers}
 use Rattle.t1_rules.specs.Components.{glyph_named}
 use Rattle.t1check.specs.Traces.{no_glyph_line, trace_of}
+use Rattle.t1_report.specs.Waivers.{Waiver}
+use Rattle.t1check.specs.declared.unread.WaiverRefusal.{WaiverRefusal}
+use Rattle.t1check.specs.Waived.{AreWaived, IsHeard, asks_waivers}
 
 -- A text was to be told on standard error, and then a status to be answered; where that can't be told,
 -- Failed.
@@ -35,23 +39,59 @@ pub data Gives (text : List ℕ) (status : Status) (out out' errors errors' : Si
       → Gives text status out out' errors errors' result
 
 -- What the options ask for of a font: lines of its report, or the trace of a glyph, where there is one of
--- the name.
-pub data Shows (options : Options) (font : FontValue) (out out' errors errors' : SinkState)
-    (result : Status) : Type 0 where
+-- the name. The waivers that they ask for are read first, if their text can be had.
+pub data Shows (options : Options) (font : FontValue) (waivers waivers' : SourceState)
+    (out out' errors errors' : SinkState) (result : Status) : Type 0 where
   reported :
-      options.trace ≡ None → (faults : List FaultValue) → IsReport font faults
-      → Gives (lines_of font (selection options faults))
+      options.trace ≡ None → (waived : List Waiver)
+      → AreWaived (asks_waivers options) waivers.left (Ok waived)
+      → IsHeard (asks_waivers options) waivers waivers'
+      → (faults : List FaultValue) → IsReport (checked font options.edition) waived faults
+      → Gives (lines_of font waived (selection options faults))
       (status_of (selection options faults)) out out' errors errors' result
-      → Shows options font out out' errors errors' result
+      → Shows options font waivers waivers' out out' errors errors' result
   traced :
       (name : List ℕ) → option_map string_bytes options.trace ≡ Some name → (glyph : ℕ)
-      → glyph_named font name ≡ Some glyph
-      → Gives (trace_of font glyph) Clean out out' errors errors' result
-      → Shows options font out out' errors errors' result
+      → glyph_named font name ≡ Some glyph → waivers' ≡ waivers
+      → Gives (trace_of options.edition font glyph) Clean out out' errors errors' result
+      → Shows options font waivers waivers' out out' errors errors' result
   no_glyph :
       (name : List ℕ) → option_map string_bytes options.trace ≡ Some name → glyph_named font name ≡ None
-      → out' ≡ out → Tells (no_glyph_line name) Failed errors errors' result
-      → Shows options font out out' errors errors' result
+      → waivers' ≡ waivers → out' ≡ out → Tells (no_glyph_line name) Failed errors errors' result
+      → Shows options font waivers waivers' out out' errors errors' result
+  -- status 2
+  waivers_refused :
+      options.trace ≡ None → (reason : WaiverRefusal)
+      → AreWaived (asks_waivers options) waivers.left (Err reason)
+      → IsHeard (asks_waivers options) waivers waivers' → out' ≡ out
+      → Tells (told_of_waivers reason) Refused errors errors' result
+      → Shows options font waivers waivers' out out' errors errors' result
+  -- status 3
+  waivers_unread :
+      asks_waivers options ≡ true → waivers'.failed ≡ true → out' ≡ out
+      → Tells (codes "t1check: read failed\n") Failed errors errors' result
+      → Shows options font waivers waivers' out out' errors errors' result
+  -- status 3
+  no_room :
+      options.trace ≡ None → IsHeard (asks_waivers options) waivers waivers' → out' ≡ out
+      → Tells (codes "t1check: out of memory\n") Failed errors errors' result
+      → Shows options font waivers waivers' out out' errors errors' result
+
+-- How writing the report ends, given what the waivers are read as.
+pub data Reports (options : Options) (font : FontValue) (waived : Result (List Waiver) WaiverRefusal)
+    (out out' errors errors' : SinkState) (result : Status) : Type 0 where
+  lines :
+      (waivers : List Waiver) → waived ≡ Ok waivers → (faults : List FaultValue) → IsReport (checked font options.edition) waivers faults
+      → Gives (lines_of font waivers (selection options faults))
+      (status_of (selection options faults)) out out' errors errors' result
+      → Reports options font waived out out' errors errors' result
+  malformed :
+      (reason : WaiverRefusal) → waived ≡ Err reason → out' ≡ out
+      → Tells (told_of_waivers reason) Refused errors errors' result
+      → Reports options font waived out out' errors errors' result
+  no_memory :
+      out' ≡ out → Tells (codes "t1check: out of memory\n") Failed errors errors' result
+      → Reports options font waived out out' errors errors' result
 
 -- The status where a file isn't read.
 abbrev pub unread_status : Unread → Status
@@ -62,43 +102,40 @@ unread_status _ = Refused
 abbrev pub AreRead : Option (List ℕ) → Result FontValue Unread → Type 0
 AreRead left read = IfSome left (λ input. font_of input ≡ read)
 
--- How a run ends: these bytes were left in the source, and a read of it failed or didn't.
-pub data Ends (options : Options) (left : Option (List ℕ)) (failed : Bool)
+-- How a run ends: these bytes were left in the source, and a read of it failed or didn't; and the source of
+-- waivers before it and behind it.
+pub data Ends (options : Options) (left : Option (List ℕ)) (failed : Bool) (waivers waivers' : SourceState)
     (out out' errors errors' : SinkState) (result : Status) : Type 0 where
-  -- status 0 or 1, or 3 where a write or the flush failed or there is no such glyph
+  -- status 0 or 1; 2 where waivers are refused; or 3 where a write, the flush or a read of the waivers
+  -- failed, there is no such glyph, or memory ran out
   shown :
       (font : FontValue) → AreRead left (Ok font) → failed ≡ false
-      → Shows options font out out' errors errors' result
-      → Ends options left failed out out' errors errors' result
+      → Shows options font waivers waivers' out out' errors errors' result
+      → Ends options left failed waivers waivers' out out' errors errors' result
   -- status 2
   refused :
-      (reason : Unread) → AreRead left (Err reason) → failed ≡ false → out' ≡ out
+      (reason : Unread) → AreRead left (Err reason) → failed ≡ false → waivers' ≡ waivers → out' ≡ out
       → Tells (told_of reason) (unread_status reason) errors errors' result
-      → Ends options left failed out out' errors errors' result
+      → Ends options left failed waivers waivers' out out' errors errors' result
   -- status 3
   read_failed :
-      failed ≡ true → out' ≡ out → Tells (codes "t1check: read failed\n") Failed errors errors' result
-      → Ends options left failed out out' errors errors' result
+      failed ≡ true → waivers' ≡ waivers → out' ≡ out
+      → Tells (codes "t1check: read failed\n") Failed errors errors' result
+      → Ends options left failed waivers waivers' out out' errors errors' result
   -- status 3
   no_memory :
-      failed ≡ false → out' ≡ out → Tells (codes "t1check: out of memory\n") Failed errors errors' result
-      → Ends options left failed out out' errors errors' result
-
--- How showing a font ends, where memory can be refused: then nothing was given or told.
-abbrev pub ShowsOrNot : {E : Type 0} → Options → FontValue → SinkState → SinkState → SinkState
-    → SinkState → Result Status E → Type 0
-ShowsOrNot options font out out' errors errors' (Ok status) =
-    Shows options font out out' errors errors' status
-ShowsOrNot options font out out' errors errors' (Err e) = (out' ≡ out) × (errors' ≡ errors)
+      failed ≡ false → waivers' ≡ waivers → out' ≡ out
+      → Tells (codes "t1check: out of memory\n") Failed errors errors' result
+      → Ends options left failed waivers waivers' out out' errors errors' result
 
 -- How reading these bytes ends: the font is shown, or there is a reason why they aren't read, and nothing
--- given or told.
-abbrev pub Checks : Options → Result FontValue Unread → SinkState → SinkState → SinkState → SinkState
-    → Result Status Unread → Type 0
-Checks options read out out' errors errors' (Ok status) =
-    (font : FontValue) × (read ≡ Ok font) × Shows options font out out' errors errors' status
-Checks options read out out' errors errors' (Err reason) =
-    IsUnread reason read × (out' ≡ out) × (errors' ≡ errors)
+-- read, given or told.
+abbrev pub Checks : Options → Result FontValue Unread → SourceState → SourceState → SinkState → SinkState
+    → SinkState → SinkState → Result Status Unread → Type 0
+Checks options read waivers waivers' out out' errors errors' (Ok status) =
+    (font : FontValue) × (read ≡ Ok font) × Shows options font waivers waivers' out out' errors errors' status
+Checks options read waivers waivers' out out' errors errors' (Err reason) =
+    IsUnread reason read × (waivers' ≡ waivers) × (out' ≡ out) × (errors' ≡ errors)
 
 -- What is answered to words of the command line that give no options: help on the output, all else on
 -- standard error.

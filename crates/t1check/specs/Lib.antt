@@ -8,4 +8,5 @@ pub mod Laws
 pub mod Lines
 pub mod Refusals
 pub mod Traces
+pub mod Waived
 pub mod Words

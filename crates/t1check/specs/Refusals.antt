@@ -2,6 +2,8 @@
 use Rattle.std.specs.Prelude.{ℕ, List, codes}
 use Rattle.t1check.specs.declared.unread.Unread.{Unread}
 use Rattle.t1check.specs.declared.unread.Unread.TheVariants.{NotAFont, BadHeader, CutShort, NoEexec, TooLarge, TooShort, Unclosed, BadSubrs, BadCharStrings, BadLenIv, PastLimit, SecondSubrs, MultipleMaster, Memory}
+use Rattle.t1check.specs.declared.unread.WaiverRefusal.{WaiverRefusal}
+use Rattle.t1check.specs.declared.unread.WaiverRefusal.TheVariants as waivers
 
 -- The line of each refusal, by its number; want of memory is none.
 abbrev pub told_of : Unread → List ℕ
@@ -19,3 +21,8 @@ told_of PastLimit = codes "refused: E11 count past its limit\n"
 told_of SecondSubrs = codes "refused: E12 second Subrs\n"
 told_of MultipleMaster = codes "refused: E13 multiple master font\n"
 told_of Memory = codes "t1check: out of memory\n"
+
+-- The line of each refusal of waivers, by its number.
+abbrev pub told_of_waivers : WaiverRefusal → List ℕ
+told_of_waivers waivers.Malformed = codes "refused: E14 waivers malformed\n"
+told_of_waivers waivers.PastLimit = codes "refused: E15 waivers past their limit\n"

@@ -3,7 +3,8 @@ use Rattle.std.specs.Prelude.{ℕ, nat_lt, if◌then◌else◌, List, [], ◌∷
 use Rattle.std.specs.List.{concat, flat_map}
 use Rattle.t1_font.specs.Fonts.{FontValue}
 use Rattle.t1_char.specs.Steps.{NumberedStep, first_steps}
-use Rattle.t1_char.specs.declared.expansion.TheConstants.{STEP_LIMIT}
+use Rattle.t1_char.specs.declared.edition.Edition.{Edition}
+use Rattle.t1_char.specs.Editions.{limit_of}
 use Rattle.t1_report.specs.Traces.{step_line}
 
 -- The lines of steps up to the limit, and a line that tells of more.
@@ -12,8 +13,8 @@ trace_text limit steps =
     flat_map step_line (take limit steps) ++ (if nat_lt limit (length steps) then codes "limit\n" else [])
 
 -- The trace of a glyph, by its place.
-abbrev pub trace_of : FontValue → ℕ → List ℕ
-trace_of font glyph = trace_text STEP_LIMIT (first_steps STEP_LIMIT font glyph)
+abbrev pub trace_of : Edition → FontValue → ℕ → List ℕ
+trace_of edition font glyph = trace_text (limit_of edition) (first_steps (limit_of edition) font glyph)
 
 -- What is told where a font has no glyph of the name.
 abbrev pub no_glyph_line : List ℕ → List ℕ

@@ -2,6 +2,7 @@ ghost use Rattle.std.specs.Prelude.{◌≡◌};
 ghost use Rattle.t1check.specs.declared.asked.UsageError.TheVariants.{Memory};
 
 use std::alloc::AllocError;
+use t1_char::Edition;
 use thiserror::Error;
 
 /// What the words of the command line ask for.
@@ -13,6 +14,10 @@ pub struct Options {
     pub max: Option<u64>,
     /// The name of a glyph whose steps are written in place of the report.
     pub trace: Option<String>,
+    /// The name of the file of waivers, if there is one.
+    pub waive: Option<String>,
+    /// By which edition of the rule book the font is checked, or the glyph traced.
+    pub edition: Edition,
     /// The name of the font's file; without it standard input is read.
     pub file: Option<String>,
 }

@@ -4,7 +4,7 @@ ghost use Rattle.t1check.specs.Laws.Answers.{HasNoOtherAnswer};
 ghost use Rattle.t1check.specs.Laws.Refusals.{NeverForMemory, RefusedByPart};
 ghost use Rattle.t1check.specs.Laws.Runs.{RunsKeepPromises};
 
-/// The options and the bytes of a file decide the answer.
+/// The options, the bytes of a file and those of the waivers decide the answer.
 pub fn a_file_has_one_answer()
     ensures { HasNoOtherAnswer }
 {}

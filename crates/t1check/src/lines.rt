@@ -1,19 +1,19 @@
-ghost use Rattle.std.specs.Prelude.{◌≡◌, ◌≤◌, ℕ, List, IfOk, drop, length, min, take};
-ghost use Rattle.t1_font.specs.Fonts.{FontValue};
+ghost use Rattle.std.specs.Prelude.{◌≡◌, ◌≤◌, ◌^◌, ◌-◌, ℕ, List, IfOk, drop, length, min, take};
+ghost use Rattle.std.specs.Option.{unwrap_or};
 ghost use Rattle.t1_io.specs.Devices.{Delivers, Writes};
+ghost use Rattle.t1_report.specs.Checked.{checked};
 ghost use Rattle.t1_report.specs.Faults.{FaultValue};
 ghost use Rattle.t1_report.specs.Reports.{IsReport};
 ghost use Rattle.t1_report.specs.Walks.{IsSoFar};
-ghost use Rattle.t1_rules.specs.Components.{components_of};
+ghost use Rattle.t1_rules.specs.Components.{AreOf};
 ghost use Rattle.t1check.specs.Answers.{selection, status_of};
 ghost use Rattle.t1check.specs.Lines.{lines_of};
 
 use crate::asked::Options;
 use crate::status::Status;
-use t1_char::STEP_LIMIT;
 use t1_font::Font;
 use t1_io::{Broken, Sink};
-use t1_report::{Walk, write_fault};
+use t1_report::{Waivers, Walk, write_fault};
 use t1_rules::Sidebearings;
 
 /// Writes the lines of a font's report that the options choose, each before the next fault is sought, and
@@ -22,28 +22,33 @@ pub fn write_report<'a, W: Sink>(
     sink: &mut W,
     font: &'a Font<'a>,
     sidebearings: &'a Sidebearings,
+    waivers: &'a Waivers<'a>,
     options: &Options,
 ) -> Result<Status, Broken>
     requires few { length font.now.glyphs ≤ 65535 }
-    requires sidebearings { sidebearings.now ≡ components_of STEP_LIMIT font.now }
-    ensures delivers { (faults : List FaultValue) → IsReport font.now faults →
+    requires few_waivers { length waivers.now ≤ 1048576 }
+    requires sidebearings { AreOf font.now sidebearings.now }
+    requires edition { sidebearings.now.edition ≡ options.now.edition }
+    ensures delivers { (faults : List FaultValue) → IsReport (checked font.now options.now.edition) waivers.now faults →
         Delivers (W.state sink.old) (W.state sink.new)
-        (lines_of font.now (selection options.now faults)) result }
-    ensures status { (faults : List FaultValue) → IsReport font.now faults →
+        (lines_of font.now waivers.now (selection options.now faults)) result }
+    ensures status { (faults : List FaultValue) → IsReport (checked font.now options.now.edition) waivers.now faults →
         IfOk result (λ status. status ≡ status_of (selection options.now faults)) }
 {
-    let mut walk = Walk::begin(font, sidebearings);
+    let mut walk = Walk::begin(font, sidebearings, waivers);
     pass(&mut walk, options.after);
-    let status = write_lines(sink, font, walk, options.max.unwrap_or(u64::MAX))?;
+    let status = write_lines(sink, font, waivers, walk, options)?;
     sink.flush()?;
     Ok(status)
 }
 
 /// Goes past so many faults, or past all.
 fn pass(walk: &mut Walk<'_>, count: u64)
-    requires few { length walk.old.font.glyphs ≤ 65535 }
+    requires few { length walk.old.font.value.glyphs ≤ 65535 }
+    requires few_waivers { length walk.old.waivers ≤ 1048576 }
     ensures font { walk.new.font ≡ walk.old.font }
-    ensures passed { (faults : List FaultValue) → IsReport walk.old.font faults →
+    ensures waivers { walk.new.waivers ≡ walk.old.waivers }
+    ensures passed { (faults : List FaultValue) → IsReport walk.old.font walk.old.waivers faults →
         IsSoFar faults 0 walk.old.mark → IsSoFar faults (min count (length faults)) walk.new.mark }
 {
     for _fault in 0..count {
@@ -53,28 +58,31 @@ fn pass(walk: &mut Walk<'_>, count: u64)
     }
 }
 
-/// Writes the lines of the faults behind the mark of a walk, at most so many of them.
+/// Writes the lines of the faults behind the mark of a walk, at most as many as the options ask for.
 fn write_lines<W: Sink>(
     sink: &mut W,
     font: &Font<'_>,
+    waivers: &Waivers<'_>,
     mut walk: Walk<'_>,
-    most: u64,
+    options: &Options,
 ) -> Result<Status, Broken>
-    requires font { walk.font ≡ font.now }
+    requires font { walk.font ≡ checked font.now options.now.edition }
+    requires waivers { walk.waivers ≡ waivers.now }
     requires few { length font.now.glyphs ≤ 65535 }
-    ensures writes { (faults : List FaultValue) (k : ℕ) → IsReport font.now faults →
+    requires few_waivers { length waivers.now ≤ 1048576 }
+    ensures writes { (faults : List FaultValue) (k : ℕ) → IsReport (checked font.now options.now.edition) waivers.now faults →
         IsSoFar faults k walk.entry.mark → Writes (W.state sink.old) (W.state sink.new)
-        (lines_of font.now (take most (drop k faults))) result }
-    ensures status { (faults : List FaultValue) (k : ℕ) → IsReport font.now faults →
+        (lines_of font.now waivers.now (take (unwrap_or options.now.max (2 ^ 64 - 1)) (drop k faults))) result }
+    ensures status { (faults : List FaultValue) (k : ℕ) → IsReport (checked font.now options.now.edition) waivers.now faults →
         IsSoFar faults k walk.entry.mark →
-        IfOk result (λ status. status ≡ status_of (take most (drop k faults))) }
+        IfOk result (λ status. status ≡ status_of (take (unwrap_or options.now.max (2 ^ 64 - 1)) (drop k faults))) }
 {
     let mut status = Status::Clean;
-    for _line in 0..most {
+    for _line in 0..options.max.unwrap_or(u64::MAX) {
         let Some(fault) = walk.next() else {
             break;
         };
-        write_fault(sink, font, &fault)?;
+        write_fault(sink, font, waivers, &fault)?;
         status = Status::Faults;
     }
     Ok(status)

@@ -13,9 +13,9 @@ const ROOM: usize = 65_536;
 /// What a source gave until its end.
 #[derive(Drop)]
 pub enum Input {
-    /// All its bytes, no more than a font's file may have.
+    /// All its bytes, no more than were to be read at most.
     Bytes(Vec<u8>),
-    /// More bytes than a font's file may have.
+    /// More bytes than that.
     TooLarge,
     /// A read failed.
     Broken,
@@ -23,19 +23,20 @@ pub enum Input {
     NoMemory,
 }
 
-/// Reads to the end of the source, in as few calls as it allows, and no further than one byte past
-/// the size of a font's file.
-pub fn read_all<R: Source>(alloc: Global, source: &mut R) -> Input
-    ensures gathers { Gathers (R.state source.old) (R.state source.new) result }
-    ensures takes { (R.state source.new).takes ≤ (R.state source.old).takes + 16777217 }
-    ensures taken { TakesAtMost 16777217 (R.state source.old).left (R.state source.new).left }
+/// Reads to the end of the source, in as few calls as it allows, and no further than one byte past the most
+/// that it may have.
+pub fn read_all<R: Source>(alloc: Global, source: &mut R, most: usize) -> Input
+    requires most { most ≤ 16777216 }
+    ensures gathers { Gathers most (R.state source.old) (R.state source.new) result }
+    ensures takes { (R.state source.new).takes ≤ (R.state source.old).takes + (most + 1) }
+    ensures taken { TakesAtMost (most + 1) (R.state source.old).left (R.state source.new).left }
     ensures stops { (R.state source.old).failed ≡ false
         → (R.state source.new).late_takes ≡ (R.state source.old).late_takes }
 {
     let mut bytes = Vec::new(alloc);
     let mut buffer = [0u8; ROOM];
-    for _turn in 0..LARGEST_FILE + 1 {
-        let room = (LARGEST_FILE + 1 - bytes.len()).min(ROOM);
+    for _turn in 0..most + 1 {
+        let room = (most + 1 - bytes.len()).min(ROOM);
         match source.take(&mut buffer[..room]) {
             Err(_) => return Input::Broken,
             Ok(0) => return Input::Bytes(bytes),
@@ -43,7 +44,7 @@ pub fn read_all<R: Source>(alloc: Global, source: &mut R) -> Input
                 if bytes.extend_from_slice(&buffer[..count]).is_err() {
                     return Input::NoMemory;
                 }
-                if bytes.len() > LARGEST_FILE {
+                if bytes.len() > most {
                     return Input::TooLarge;
                 }
             }

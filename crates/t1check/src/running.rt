@@ -1,46 +1,52 @@
-ghost use Rattle.std.specs.Prelude.{◌≡◌, ◌≤◌, ◌<◌, ◌+◌, List, false, length};
+ghost use Rattle.std.specs.Prelude.{◌≡◌, ◌≤◌, ◌<◌, ◌+◌, List, false, length, None};
+ghost use Rattle.t1_report.specs.Checked.{checked};
 ghost use Rattle.t1_report.specs.Faults.{FaultValue};
 ghost use Rattle.t1_report.specs.Reports.{IsReport};
-ghost use Rattle.t1_rules.specs.Components.{components_of};
+ghost use Rattle.t1_rules.specs.Components.{AreOf};
 ghost use Rattle.t1check.specs.Answers.{selection, status_of};
-ghost use Rattle.t1check.specs.Ends.{Checks, Ends, Gives, ShowsOrNot, Tells, unread_status};
+ghost use Rattle.t1check.specs.Ends.{Checks, Ends, Gives, Tells, unread_status, Reports, Shows};
 ghost use Rattle.t1check.specs.FontFiles.{font_in};
-ghost use Rattle.t1check.specs.Input.{TakesAtMost};
+ghost use Rattle.t1check.specs.Input.{TakesAtMost, ReadsAtMost};
 ghost use Rattle.t1check.specs.Lines.{lines_of};
 ghost use Rattle.t1check.specs.Refusals.{told_of};
 ghost use Rattle.t1check.specs.Traces.{trace_of};
+ghost use Rattle.t1_report.specs.Waivers.{waivers_of};
+ghost use Rattle.t1check.specs.Waived.{HasText, as_waivers};
 
 use crate::asked::Options;
 use crate::lines::write_report;
-use crate::reading::{Input, read_all};
+use crate::reading::{Input, LARGEST_FILE, read_all};
 use crate::status::Status;
-use crate::telling::{READ_FAILED, WRITE_FAILED, tell, tell_no_glyph};
+use crate::telling::{OUT_OF_MEMORY, READ_FAILED, WRITE_FAILED, tell, tell_no_glyph};
 use crate::tracing::write_trace;
-use crate::unread::Unread;
-use std::alloc::{AllocError, Global};
-use t1_char::STEP_LIMIT;
+use crate::unread::{Unread, WaiverRefusal};
+use std::alloc::Global;
+use t1_char::Edition;
 use t1_font::{Clear, Font, read_clear, read_font};
 use t1_io::{Sink, Source};
+use t1_report::{LARGEST_WAIVERS, WaiverError, Waivers};
 use t1_rules::{Sidebearings, glyph_named};
 use t1_seal::{join, open_eexec};
 
-/// Reads a font to its end and writes its report.
-pub fn run<R: Source, W: Sink, E: Sink>(
+/// Reads a font to its end and writes its report. The waivers that the options ask for are read once the font is.
+pub fn run<R: Source, V: Source, W: Sink, E: Sink>(
     alloc: Global,
     source: &mut R,
+    waivers: &mut V,
     options: &Options,
     out: &mut W,
     errors: &mut E,
 ) -> Status
     requires source { (R.state source.old).failed ≡ false }
-    ensures ends { Ends options.now (R.state source.old).left (R.state source.new).failed
+    ensures ends { Ends options.now (R.state source.old).left (R.state source.new).failed (V.state waivers.old) (V.state waivers.new)
         (W.state out.old) (W.state out.new) (E.state errors.old) (E.state errors.new) result }
     ensures reads { (R.state source.new).takes ≤ (R.state source.old).takes + 16777217 }
     ensures taken { TakesAtMost 16777217 (R.state source.old).left (R.state source.new).left }
     ensures stops { (R.state source.new).late_takes ≡ (R.state source.old).late_takes }
+    ensures waivers { ReadsAtMost 1048577 (V.state waivers.old) (V.state waivers.new) }
 {
-    match read_all(alloc, source) {
-        Input::Bytes(bytes) => match check(alloc, bytes.as_slice(), options, out, errors) {
+    match read_all(alloc, source, LARGEST_FILE) {
+        Input::Bytes(bytes) => match check(alloc, bytes.as_slice(), waivers, options, out, errors) {
             Ok(status) => status,
             Err(unread) => tell_unread(unread, errors),
         },
@@ -51,15 +57,17 @@ pub fn run<R: Source, W: Sink, E: Sink>(
 }
 
 /// Reads a font and writes what the options choose of its report.
-fn check<W: Sink, E: Sink>(
+fn check<V: Source, W: Sink, E: Sink>(
     alloc: Global,
     bytes: &[u8],
+    waivers: &mut V,
     options: &Options,
     out: &mut W,
     errors: &mut E,
 ) -> Result<Status, Unread>
-    ensures { Checks options.now (font_in bytes.now)
+    ensures checks { Checks options.now (font_in bytes.now) (V.state waivers.old) (V.state waivers.new)
         (W.state out.old) (W.state out.new) (E.state errors.old) (E.state errors.new) result }
+    ensures waivers { ReadsAtMost 1048577 (V.state waivers.old) (V.state waivers.new) }
 {
     let joined = join(alloc, bytes)?;
     let clear = read_clear(alloc, &joined)?;
@@ -72,9 +80,9 @@ fn check<W: Sink, E: Sink>(
         }
     };
     let font = read_font(alloc, clear, private.as_slice())?;
-    let shown = show(alloc, &font, options, out, errors);
+    let status = show(alloc, &font, waivers, options, out, errors);
     let_go(font);
-    Ok(shown?)
+    Ok(status)
 }
 
 /// Lets a font go.
@@ -84,25 +92,88 @@ fn let_go(_font: Font<'_>) {}
 fn give_up(_clear: Clear<'_>) {}
 
 /// Writes what the options ask for of a font: lines of its report, or the trace of a glyph.
-fn show<W: Sink, E: Sink>(
+fn show<V: Source, W: Sink, E: Sink>(
     alloc: Global,
     font: &Font<'_>,
+    waivers: &mut V,
     options: &Options,
     out: &mut W,
     errors: &mut E,
-) -> Result<Status, AllocError>
+) -> Status
     requires { length font.now.glyphs ≤ 65535 }
-    ensures { ShowsOrNot options.now font.now
+    ensures shows { Shows options.now font.now (V.state waivers.old) (V.state waivers.new)
         (W.state out.old) (W.state out.new) (E.state errors.old) (E.state errors.new) result }
+    ensures waivers { ReadsAtMost 1048577 (V.state waivers.old) (V.state waivers.new) }
 {
     let Some(name) = &options.trace else {
-        let sidebearings = Sidebearings::prepare(alloc, font)?;
-        return Ok(give_report(&*font, &sidebearings, options, out, errors));
+        return show_report(alloc, font, waivers, options, out, errors);
     };
     let Some(glyph) = glyph_named(font, name.as_bytes()) else {
-        return Ok(tell_no_glyph(name.as_str(), errors));
+        return tell_no_glyph(name.as_str(), errors);
     };
-    Ok(give_trace(&*font, glyph, out, errors))
+    give_trace(&*font, glyph, options.edition, out, errors)
+}
+
+/// Reads the waivers that are asked for, and writes the report.
+fn show_report<V: Source, W: Sink, E: Sink>(
+    alloc: Global,
+    font: &Font<'_>,
+    waivers: &mut V,
+    options: &Options,
+    out: &mut W,
+    errors: &mut E,
+) -> Status
+    requires few { length font.now.glyphs ≤ 65535 }
+    requires no_trace { options.now.trace ≡ None }
+    ensures shows { Shows options.now font.now (V.state waivers.old) (V.state waivers.new)
+        (W.state out.old) (W.state out.new) (E.state errors.old) (E.state errors.new) result }
+    ensures waivers { ReadsAtMost 1048577 (V.state waivers.old) (V.state waivers.new) }
+{
+    match waiver_text(alloc, waivers, options.waive.is_some()) {
+        Input::Bytes(text) => report_waived(alloc, font, text.as_slice(), options, out, errors),
+        Input::TooLarge => tell(errors, WaiverRefusal::PastLimit.told(), Status::Refused),
+        Input::Broken => tell(errors, READ_FAILED, Status::Failed),
+        Input::NoMemory => tell(errors, OUT_OF_MEMORY, Status::Failed),
+    }
+}
+
+/// The text of the waivers, where they are asked for; none is read without.
+fn waiver_text<V: Source>(alloc: Global, source: &mut V, asked: bool) -> Input
+    ensures text { HasText asked (V.state source.old) (V.state source.new) result }
+    ensures waivers { ReadsAtMost 1048577 (V.state source.old) (V.state source.new) }
+{
+    if asked {
+        read_all(alloc, source, LARGEST_WAIVERS)
+    } else {
+        Input::Bytes(Vec::new(alloc))
+    }
+}
+
+/// Writes the report, given the text of waivers.
+fn report_waived<W: Sink, E: Sink>(
+    alloc: Global,
+    font: &Font<'_>,
+    text: &[u8],
+    options: &Options,
+    out: &mut W,
+    errors: &mut E,
+) -> Status
+    requires few { length font.now.glyphs ≤ 65535 }
+    requires text { length text.now ≤ 1048576 }
+    ensures { Reports options.now font.now (as_waivers (waivers_of text.now))
+        (W.state out.old) (W.state out.new) (E.state errors.old) (E.state errors.new) result }
+{
+    let waivers = match Waivers::read(alloc, text) {
+        Ok(waivers) => waivers,
+        Err(WaiverError::Malformed) => {
+            return tell(errors, WaiverRefusal::Malformed.told(), Status::Refused);
+        }
+        Err(WaiverError::Memory) => return tell(errors, OUT_OF_MEMORY, Status::Failed),
+    };
+    match Sidebearings::prepare(alloc, font, options.edition) {
+        Ok(sidebearings) => give_report(font, &sidebearings, &waivers, options, out, errors),
+        Err(_) => tell(errors, OUT_OF_MEMORY, Status::Failed),
+    }
 }
 
 /// Tells why a file isn't read.
@@ -120,17 +191,20 @@ fn tell_unread<E: Sink>(unread: Unread, errors: &mut E) -> Status
 fn give_report<'a, W: Sink, E: Sink>(
     font: &'a Font<'a>,
     sidebearings: &'a Sidebearings,
+    waivers: &'a Waivers<'a>,
     options: &Options,
     out: &mut W,
     errors: &mut E,
 ) -> Status
     requires few { length font.now.glyphs ≤ 65535 }
-    requires sidebearings { sidebearings.now ≡ components_of STEP_LIMIT font.now }
-    ensures { (faults : List FaultValue) → IsReport font.now faults →
-        Gives (lines_of font.now (selection options.now faults)) (status_of (selection options.now faults))
+    requires few_waivers { length waivers.now ≤ 1048576 }
+    requires sidebearings { AreOf font.now sidebearings.now }
+    requires edition { sidebearings.now.edition ≡ options.now.edition }
+    ensures { (faults : List FaultValue) → IsReport (checked font.now options.now.edition) waivers.now faults →
+        Gives (lines_of font.now waivers.now (selection options.now faults)) (status_of (selection options.now faults))
         (W.state out.old) (W.state out.new) (E.state errors.old) (E.state errors.new) result }
 {
-    match write_report(out, font, sidebearings, options) {
+    match write_report(out, font, sidebearings, waivers, options) {
         Ok(status) => status,
         Err(_) => tell(errors, WRITE_FAILED, Status::Failed),
     }
@@ -140,14 +214,15 @@ fn give_report<'a, W: Sink, E: Sink>(
 fn give_trace<'a, W: Sink, E: Sink>(
     font: &'a Font<'a>,
     glyph: usize,
+    edition: Edition,
     out: &mut W,
     errors: &mut E,
 ) -> Status
     requires { glyph < length font.now.glyphs }
-    ensures { Gives (trace_of font.now glyph) Status.Clean
+    ensures { Gives (trace_of edition font.now glyph) Status.Clean
         (W.state out.old) (W.state out.new) (E.state errors.old) (E.state errors.new) result }
 {
-    match write_trace(out, font, glyph) {
+    match write_trace(out, font, glyph, edition) {
         Ok(()) => Status::Clean,
         Err(_) => tell(errors, WRITE_FAILED, Status::Failed),
     }

@@ -8,12 +8,15 @@ mod refusals;
 mod runs;
 mod scale;
 mod segments;
+mod waivers;
 
 use crate::asked::Options;
 use crate::running::run;
 use crate::status::Status;
 use std::alloc::{AllocError, Global};
+use std::io;
 use std::process::Abort;
+use t1_char::Edition;
 use t1_io::{In, Out};
 use t1_samples::{Charstrings, FontFile, Sample, TRAILER};
 
@@ -40,6 +43,8 @@ const ALL: Options = Options {
     after: 0,
     max: None,
     trace: None,
+    waive: None,
+    edition: Edition::One,
     file: None,
 };
 
@@ -63,6 +68,7 @@ fn answer_to(alloc: Global, bytes: &[u8]) -> Answer {
     let status = run(
         alloc,
         &mut In::new(bytes),
+        &mut In::new(io::empty()),
         &ALL,
         &mut Out::new(&mut output),
         &mut Out::new(&mut told),

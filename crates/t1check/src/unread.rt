@@ -2,7 +2,7 @@
 
 ghost use Rattle.std.specs.Prelude.{◌≡◌};
 ghost use Rattle.t1check.specs.FontFiles.{of_refusal, of_seal_error};
-ghost use Rattle.t1check.specs.Refusals.{told_of};
+ghost use Rattle.t1check.specs.Refusals.{told_of, told_of_waivers};
 ghost use Rattle.t1check.specs.declared.unread.Unread.TheVariants.{Memory};
 
 use crate::telling::OUT_OF_MEMORY;
@@ -64,6 +64,27 @@ impl Unread {
             Unread::SecondSubrs => "refused: E12 second Subrs\n",
             Unread::MultipleMaster => "refused: E13 multiple master font\n",
             Unread::Memory => OUT_OF_MEMORY,
+        }
+    }
+}
+
+/// Why a text isn't read as waivers.
+#[derive(Clone, Copy, Debug, PartialEq, Eq)]
+pub enum WaiverRefusal {
+    /// E14: a line isn't a name, a blank and the code of a rule on charstrings.
+    Malformed,
+    /// E15: the text has more than 1,048,576 bytes.
+    PastLimit,
+}
+
+impl WaiverRefusal {
+    /// The line on standard error.
+    pub fn told(self) -> &'static str
+        ensures { result.now ≡ told_of_waivers self }
+    {
+        match self {
+            WaiverRefusal::Malformed => "refused: E14 waivers malformed\n",
+            WaiverRefusal::PastLimit => "refused: E15 waivers past their limit\n",
         }
     }
 }

@@ -1,9 +1,7 @@
-//! A glyph that is executed one step a call: its steps are those of the list, and the end and the limit are
-//! answered again.
+//! A glyph that is executed one step a call: its steps are those of the list, and the end is answered again.
 
-use super::steps::{AT_THE_LIMIT, long_glyph};
 use super::{clear_of, font, glyph_count, push_line, push_state, with_subrs};
-use crate::{Machine, STEP_LIMIT, Step, Turn};
+use crate::{Edition, Machine, Step, Turn};
 use std::alloc::{AllocError, Global};
 use std::test::Fail;
 use t1_font::{Font, Refusal};
@@ -61,20 +59,25 @@ fn told_of_texts(
     lines: Lines,
 ) -> Result<String, Refusal> {
     let font = font(alloc, text, private)?;
-    Ok(told_in(alloc, &font, lines)?)
+    Ok(told_in(alloc, &font, Edition::One, lines)?)
 }
 
 /// What is told of the second glyph.
-fn told_in(alloc: Global, font: &Font<'_>, lines: Lines) -> Result<String, AllocError> {
+pub(super) fn told_in(
+    alloc: Global,
+    font: &Font<'_>,
+    edition: Edition,
+    lines: Lines,
+) -> Result<String, AllocError> {
     if glyph_count(font) < 2 {
         return Ok(String::new(alloc));
     }
-    told_by(alloc, Machine::start(&*font, 1), lines)
+    told_by(alloc, Machine::start(&*font, 1, edition), lines)
 }
 
 fn told_by(alloc: Global, mut machine: Machine<'_>, lines: Lines) -> Result<String, AllocError> {
     let mut text = String::new(alloc);
-    for _call in 0..=STEP_LIMIT {
+    for _call in 0..=Edition::Two.step_limit() {
         match machine.step() {
             Turn::Step(step) => push_as(alloc, &mut text, step, lines)?,
             Turn::Ended | Turn::Limit(_) => break,
@@ -127,24 +130,6 @@ fn the_end_is_told_again(rt: HostRuntime) -> Result<(), Fail> {
     for (subrs, glyph, want) in ENDS {
         let told = told_with(rt.alloc(), subrs, glyph, Lines::Ends)?;
         assert_eq!(rt; told.as_str(), *want, "of {glyph:?}");
-    }
-    Ok(())
-}
-
-/// What is answered behind the limit of a glyph with 100,000 steps, with one more, and with two more.
-const BEHIND_THE_LIMIT: &[&str] = &[
-    "ended 100001\nended 100001\nended 100001\n",
-    "limit 100001 - endchar\n100001\nlimit 100001 - endchar\n100001\nlimit 100001 - endchar\n100001\n",
-    "limit 100001 - dotsection\n100001\nlimit 100001 - dotsection\n100001\nlimit 100001 - dotsection\n100001\n",
-];
-
-#[test]
-fn the_limit_is_told_again(rt: HostRuntime) -> Result<(), Fail> {
-    for ((more, _, _), want) in AT_THE_LIMIT.iter().zip(BEHIND_THE_LIMIT) {
-        let (subr, glyph) = long_glyph(rt.alloc(), *more)?;
-        let subrs: &[(u32, &[u8])] = &[(5, subr.as_slice())];
-        let told = told_with(rt.alloc(), subrs, glyph.as_slice(), Lines::Ends)?;
-        assert_eq!(rt; told.as_str(), *want);
     }
     Ok(())
 }

@@ -5,7 +5,6 @@ use super::{Case, HSBW, assert_states, assert_traces, states_of, steps_of, steps
 use std::alloc::{AllocError, Global};
 use std::process::Abort;
 use std::test::Fail;
-use t1_font::Refusal;
 use t1_samples::{Charstrings, Sample};
 
 /// A Subr that calls itself.
@@ -175,51 +174,6 @@ const CUT: &[Case<'static>] = &[
 #[test]
 fn a_glyph_that_breaks_off(rt: HostRuntime) -> Result<(), Fail> {
     assert_states(&rt, rt.alloc(), CUT)
-}
-
-/// Subr 5 of 8,330 times dotsection and return; the glyph `0 500 hsbw`, twelve calls, so many times
-/// dotsection, and endchar.
-pub(super) fn long_glyph(alloc: Global, more: usize) -> Result<(Vec<u8>, Vec<u8>), AllocError> {
-    let mut subr = Vec::new(alloc);
-    for _ in 0..8330 {
-        subr.extend_from_slice(b"\x0c\x00")?;
-    }
-    subr.extend_from_slice(b"\x0b")?;
-    let mut glyph = Vec::from_slice(alloc, HSBW)?;
-    for _ in 0..12 {
-        glyph.extend_from_slice(b"\x90\x0a")?;
-    }
-    for _ in 0..more {
-        glyph.extend_from_slice(b"\x0c\x00")?;
-    }
-    glyph.extend_from_slice(b"\x0e")?;
-    Ok((subr, glyph))
-}
-
-/// How many steps a long glyph has, and the line of the last.
-fn end_of(alloc: Global, more: usize) -> Result<(usize, String), Refusal> {
-    let (subr, glyph) = long_glyph(alloc, more)?;
-    let steps = steps_with(alloc, &[(5, subr.as_slice())], glyph.as_slice())?;
-    let count = steps.len();
-    let (_, last) = steps.as_slice().split_at(count.saturating_sub(1));
-    Ok((count, trace_of(alloc, last)?))
-}
-
-/// How many times more dotsection, and how many steps are listed, and the last.
-pub(super) const AT_THE_LIMIT: &[(usize, usize, &str)] = &[
-    (0, 100_000, "100000 - endchar\n"),
-    (1, 100_001, "100001 - endchar\n"),
-    (2, 100_001, "100001 - dotsection\n"),
-];
-
-/// The first 100,001 steps are listed.
-#[test]
-fn glyphs_at_the_limit(rt: HostRuntime) -> Result<(), Fail> {
-    for (more, count, last) in AT_THE_LIMIT {
-        let (steps, end) = end_of(rt.alloc(), *more)?;
-        assert_eq!(rt; (steps, end.as_str()), (*count, *last));
-    }
-    Ok(())
 }
 
 /// The glyph ends at endchar and seac, in a Subr too; a return outside a Subr does nothing.

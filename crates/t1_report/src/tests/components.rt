@@ -405,7 +405,7 @@ fn encodings_name_no_components(rt: HostRuntime) -> Result<(), Fail> {
 
 /// Subr 0 is 99,987 steps and a return: Subr 5 is ten times dotsection, and Subrs 4, 3 and 2 call the next one
 /// ten times.
-const LONG: &str = "\
+pub(super) const LONG: &str = "\
 0: 2 callsubr 2 callsubr 2 callsubr 2 callsubr 2 callsubr 2 callsubr 2 callsubr \
 3 callsubr 3 callsubr 3 callsubr 3 callsubr 4 callsubr 4 callsubr 4 callsubr 4 callsubr 4 callsubr \
 4 callsubr 4 callsubr 4 callsubr 4 callsubr 5 callsubr 5 callsubr 5 callsubr 5 callsubr 5 callsubr \

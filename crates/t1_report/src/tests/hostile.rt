@@ -1,70 +1,20 @@
 //! Fonts that are made to take long, to nest deep, or to be great: `report` and a walk tell the same of each.
 
-ghost use Rattle.std.specs.Prelude.{◌≡◌};
-ghost use Rattle.t1_report.specs.Reports.{step_limit};
-ghost use Rattle.t1_rules.specs.Components.{components_of};
-
-use super::walks::{FIRST, told_in};
-use super::{Texts, add_line};
-use crate::{Mark, Walk, report};
+use super::walks::{FIRST, told_in, walked};
+use super::{Texts, reported};
+use crate::{Mark, Waivers};
 use std::alloc::{AllocError, Global};
 use std::process::Abort;
 use std::test::Fail;
+use t1_char::Edition;
 use t1_font::{Font, Refusal};
-use t1_rules::Sidebearings;
 use t1_samples::{CLEAR, Charstrings, FontFile, Sample, TRAILER};
 
 /// How many glyphs a font has at most.
 const MOST_GLYPHS: u32 = 65_535;
 
-/// How many faults these fonts have at most.
-const MOST_FAULTS: u32 = 65_536;
-
 /// How often a machine is asked for a step of a glyph at most.
 const MOST_TURNS: u64 = 100_001;
-
-/// The lines of a font's report.
-fn reported(alloc: Global, font: &Font<'_>) -> Result<String, Fail> {
-    let mut text = Vec::new(alloc);
-    for fault in report(alloc, font)?.iter() {
-        add_line(&mut text, font, fault)?;
-    }
-    Ok(String::from_utf8(text)?)
-}
-
-/// The lines of the faults that a walk gives.
-fn walked(alloc: Global, font: &Font<'_>) -> Result<String, Fail> {
-    let sidebearings = Sidebearings::prepare(alloc, font)?;
-    lines_given(alloc, &*font, &sidebearings)
-}
-
-/// The lines of the faults up to the answer that there is none more, which is given again.
-fn lines_given<'a>(
-    alloc: Global,
-    font: &'a Font<'a>,
-    sidebearings: &'a Sidebearings,
-) -> Result<String, Fail>
-    requires { sidebearings.now ≡ components_of step_limit font.now }
-{
-    let mut walk = Walk::begin(font, sidebearings);
-    if walk.mark() != FIRST || walk.turns() != 0 {
-        return Err(Fail::from("a walk doesn't begin in front of all faults"));
-    }
-    let mut text = Vec::new(alloc);
-    for _call in 0..=MOST_FAULTS {
-        match walk.next() {
-            Some(fault) => add_line(&mut text, font, &fault)?,
-            None => break,
-        }
-    }
-    if walk.next().is_some() {
-        return Err(Fail::from("a walk gives more faults, or one behind the last"));
-    }
-    if walk.turns() > MOST_TURNS.saturating_mul(font.glyphs().len() as u64) {
-        return Err(Fail::from("a walk asks machines too often"));
-    }
-    Ok(String::from_utf8(text)?)
-}
 
 /// A token a hundred times, and return.
 fn hundred_times(alloc: Global, token: [u8; 2]) -> Result<Vec<u8>, AllocError> {
@@ -141,8 +91,12 @@ fn of_a_deep_procedure(alloc: Global, depth: usize) -> Result<Texts, Fail> {
 /// A font has these lines, by its report and by a walk.
 fn assert_both(rt: &impl Abort, alloc: Global, texts: &Texts, lines: &str) -> Result<(), Fail> {
     let font = texts.font(alloc)?;
-    assert_eq!(rt; reported(alloc, &font)?.as_str(), lines);
-    assert_eq!(rt; walked(alloc, &font)?.as_str(), lines, "by a walk");
+    let none = Waivers::none();
+    let found = reported(alloc, &font, &none, Edition::One)?;
+    assert_eq!(rt; found.as_str(), lines);
+    let (given, turns) = walked(alloc, &font, &none, Edition::One)?;
+    assert_eq!(rt; given.as_str(), lines, "by a walk");
+    assert!(rt; turns <= MOST_TURNS.saturating_mul(font.glyphs().len() as u64));
     Ok(())
 }
 
@@ -274,7 +228,7 @@ fn are_all_lines(alloc: Global, lines: &str) -> Result<bool, AllocError> {
 fn the_most_glyphs_are_reported(rt: HostRuntime) -> Result<(), Fail> {
     let texts = of_empty_glyphs(rt.alloc(), MOST_GLYPHS)?;
     let font = texts.font(rt.alloc())?;
-    let lines = reported(rt.alloc(), &font)?;
+    let lines = reported(rt.alloc(), &font, &Waivers::none(), Edition::One)?;
     assert!(rt; are_all_lines(rt.alloc(), lines.as_str())?);
     Ok(())
 }
@@ -283,7 +237,7 @@ fn the_most_glyphs_are_reported(rt: HostRuntime) -> Result<(), Fail> {
 fn the_most_glyphs_are_walked(rt: HostRuntime) -> Result<(), Fail> {
     let texts = of_empty_glyphs(rt.alloc(), MOST_GLYPHS)?;
     let font = texts.font(rt.alloc())?;
-    let lines = walked(rt.alloc(), &font)?;
+    let (lines, _turns) = walked(rt.alloc(), &font, &Waivers::none(), Edition::One)?;
     assert!(rt; are_all_lines(rt.alloc(), lines.as_str())?);
     Ok(())
 }

@@ -3,15 +3,18 @@
 use super::Texts;
 use std::alloc::{AllocError, Global};
 use std::test::Fail;
-use t1_char::{Machine, STEP_LIMIT, Step, Turn, expand};
+use t1_char::{Edition, Machine, Step, Turn, expand};
 use t1_font::Font;
 use t1_samples::{Charstrings, FontFile, Sample, TRAILER};
 
 /// For each glyph of a font: the machine's steps are those of the list, and then it ends, or tells the limit.
 pub(super) fn assert_same_steps(alloc: Global, font: &Font<'_>) -> Result<(), Fail> {
     for glyph in 0..font.glyphs().len() {
-        let steps = expand(alloc, font, glyph)?;
-        if !has_steps(Machine::start(&*font, glyph), steps.as_slice()) {
+        let steps = expand(alloc, font, glyph, Edition::One)?;
+        if !has_steps(
+            Machine::start(&*font, glyph, Edition::One),
+            steps.as_slice(),
+        ) {
             return Err(Fail::from("a machine's step isn't that of the list"));
         }
     }
@@ -25,14 +28,14 @@ fn has_steps(mut machine: Machine<'_>, steps: &[Step]) -> bool {
             return false;
         }
     }
-    steps.len() > STEP_LIMIT as usize || matches!(machine.step(), Turn::Ended)
+    steps.len() > Edition::One.step_limit() as usize || matches!(machine.step(), Turn::Ended)
 }
 
 /// Whether a step is answered, as a step up to the limit, and as the limit past it.
 fn is_answered(turn: Turn<'_>, listed: &Step) -> bool {
     match turn {
-        Turn::Step(step) => is_same(step, listed) && step.number <= STEP_LIMIT,
-        Turn::Limit(step) => is_same(step, listed) && step.number == STEP_LIMIT + 1,
+        Turn::Step(step) => is_same(step, listed) && step.number <= Edition::One.step_limit(),
+        Turn::Limit(step) => is_same(step, listed) && step.number == Edition::One.step_limit() + 1,
         Turn::Ended => false,
     }
 }

@@ -1,14 +1,13 @@
 //! Marks at a fault, between places where none stands, and past every unit, step and rule.
 
-ghost use Rattle.std.specs.Prelude.{◌≡◌};
-ghost use Rattle.t1_report.specs.Reports.{step_limit};
-ghost use Rattle.t1_rules.specs.Components.{components_of};
+ghost use Rattle.t1_rules.specs.Components.{AreOf};
 
 use super::Texts;
 use super::walks::GLYPH;
-use crate::{Mark, Walk};
+use crate::{Mark, Waivers, Walk};
 use std::alloc::{AllocError, Global};
 use std::test::Fail;
+use t1_char::Edition;
 use t1_font::Font;
 use t1_rules::{Sidebearings, rule_code};
 use t1_samples::Sample;
@@ -60,9 +59,10 @@ fn told<'a>(
     sidebearings: &'a Sidebearings,
     mark: Mark,
 ) -> Result<String, AllocError>
-    requires { sidebearings.now ≡ components_of step_limit font.now }
+    requires { AreOf font.now sidebearings.now }
 {
-    let mut walk = Walk::resume(font, sidebearings, mark);
+    let waivers = Waivers::none();
+    let mut walk = Walk::resume(&*font, &*sidebearings, &waivers, mark);
     let mut text = String::new(alloc);
     push_answer(alloc, &mut text, &mut walk)?;
     push_answer(alloc, &mut text, &mut walk)?;
@@ -71,15 +71,16 @@ fn told<'a>(
 
 /// Two answers behind a mark.
 fn told_behind(alloc: Global, font: &Font<'_>, mark: Mark) -> Result<String, AllocError> {
-    let sidebearings = Sidebearings::prepare(alloc, font)?;
+    let sidebearings = Sidebearings::prepare(alloc, font, Edition::One)?;
     told(alloc, &*font, &sidebearings, mark)
 }
 
 /// Whether a walk gives no fault, asked three times, and keeps its mark.
 fn gives_nothing<'a>(font: &'a Font<'a>, sidebearings: &'a Sidebearings, mark: Mark) -> bool
-    requires { sidebearings.now ≡ components_of step_limit font.now }
+    requires { AreOf font.now sidebearings.now }
 {
-    let mut walk = Walk::resume(font, sidebearings, mark);
+    let waivers = Waivers::none();
+    let mut walk = Walk::resume(&*font, &*sidebearings, &waivers, mark);
     let mut nothing = walk.mark() == mark;
     for _call in 0..3 {
         nothing = nothing && walk.next().is_none() && walk.mark() == mark;
@@ -89,7 +90,7 @@ fn gives_nothing<'a>(font: &'a Font<'a>, sidebearings: &'a Sidebearings, mark: M
 
 /// Whether no fault stands behind a mark.
 fn is_last(alloc: Global, font: &Font<'_>, mark: Mark) -> Result<bool, AllocError> {
-    let sidebearings = Sidebearings::prepare(alloc, font)?;
+    let sidebearings = Sidebearings::prepare(alloc, font, Edition::One)?;
     Ok(gives_nothing(&*font, &sidebearings, mark))
 }
 

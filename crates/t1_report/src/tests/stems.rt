@@ -404,7 +404,7 @@ const STEPS_BEHIND_A_REPLACEMENT: &[(&str, &str, &str)] = &[
 ];
 
 /// Subrs 4 and 5 have 94 stems each, from 0 to 94, each of them a unit wide and right above the one before.
-const MANY_STEMS: &str = "\
+pub(super) const MANY_STEMS: &str = "\
 3: return |\
 4: 0 1 hstem 1 1 hstem 2 1 hstem 3 1 hstem 4 1 hstem 5 1 hstem 6 1 hstem 7 1 hstem 8 1 hstem \
 9 1 hstem 10 1 hstem 11 1 hstem 12 1 hstem 13 1 hstem 14 1 hstem 15 1 hstem 16 1 hstem 17 1 hstem \

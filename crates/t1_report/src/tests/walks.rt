@@ -1,21 +1,20 @@
 //! A report that is given one fault at a time: the whole of it, and what is left behind a mark.
 
-ghost use Rattle.std.specs.Prelude.{◌≡◌};
-ghost use Rattle.t1_report.specs.Reports.{step_limit};
-ghost use Rattle.t1_rules.specs.Components.{components_of};
+ghost use Rattle.t1_rules.specs.Components.{AreOf};
 
-use super::Texts;
-use crate::{Fault, Mark, Walk, report};
+use super::{Texts, add_line};
+use crate::{Fault, Mark, Waivers, Walk, report};
 use std::alloc::{AllocError, Global};
 use std::test::Fail;
+use t1_char::Edition;
 use t1_font::Font;
 use t1_rules::{Sidebearings, rule_code};
 use t1_samples::Sample;
 
 /// A walk of this font gives its report, and one that is resumed behind each of its faults gives the rest.
 pub(super) fn assert_walks(alloc: Global, font: &Font<'_>) -> Result<(), Fail> {
-    let faults = report(alloc, font)?;
-    let sidebearings = Sidebearings::prepare(alloc, font)?;
+    let faults = report(alloc, font, &Waivers::none(), Edition::One)?;
+    let sidebearings = Sidebearings::prepare(alloc, font, Edition::One)?;
     if !gives(&*font, &sidebearings, FIRST, faults.as_slice()) {
         return Err(Fail::from("a walk isn't the report"));
     }
@@ -43,7 +42,7 @@ fn goes_on<'a>(
     given: &[Fault],
     rest: &[Fault],
 ) -> bool
-    requires { sidebearings.now ≡ components_of step_limit font.now }
+    requires { AreOf font.now sidebearings.now }
 {
     match given.last() {
         Some(fault) => {
@@ -59,6 +58,49 @@ fn goes_on<'a>(
     }
 }
 
+/// How many faults a font of these tests has at most.
+const MOST_FAULTS: u32 = 65_536;
+
+/// The lines of the faults that a walk gives, and how often it asked machines.
+pub(super) fn walked(
+    alloc: Global,
+    font: &Font<'_>,
+    waivers: &Waivers<'_>,
+    edition: Edition,
+) -> Result<(String, u64), Fail> {
+    let sidebearings = Sidebearings::prepare(alloc, font, edition)?;
+    if sidebearings.edition() != edition {
+        return Err(Fail::from("another edition"));
+    }
+    lines_given(alloc, &*font, &sidebearings, &*waivers)
+}
+
+/// The lines of the faults up to the answer that there is none more, which is given again.
+fn lines_given<'a>(
+    alloc: Global,
+    font: &'a Font<'a>,
+    sidebearings: &'a Sidebearings,
+    waivers: &'a Waivers<'a>,
+) -> Result<(String, u64), Fail>
+    requires { AreOf font.now sidebearings.now }
+{
+    let mut walk = Walk::begin(font, sidebearings, waivers);
+    if walk.mark() != FIRST || walk.turns() != 0 {
+        return Err(Fail::from("a walk doesn't begin in front of all faults"));
+    }
+    let mut text = Vec::new(alloc);
+    for _call in 0..=MOST_FAULTS {
+        match walk.next() {
+            Some(fault) => add_line(&mut text, font, waivers, &fault)?,
+            None => break,
+        }
+    }
+    if walk.next().is_some() {
+        return Err(Fail::from("a walk gives more faults, or one behind the last"));
+    }
+    Ok((String::from_utf8(text)?, walk.turns()))
+}
+
 /// Whether just these faults stand behind a mark.
 fn gives<'a>(
     font: &'a Font<'a>,
@@ -66,9 +108,10 @@ fn gives<'a>(
     mark: Mark,
     faults: &[Fault],
 ) -> bool
-    requires { sidebearings.now ≡ components_of step_limit font.now }
+    requires { AreOf font.now sidebearings.now }
 {
-    let mut walk = Walk::resume(font, sidebearings, mark);
+    let waivers = Waivers::none();
+    let mut walk = Walk::resume(&*font, &*sidebearings, &waivers, mark);
     for fault in faults {
         if walk.next().as_ref() != Some(fault) {
             return false;
@@ -143,15 +186,16 @@ const MARKS: &[(Mark, &str)] = &[
 ];
 
 /// Six answers of a walk, each with how often machines were asked.
-fn told<'a>(
+pub(super) fn told<'a>(
     alloc: Global,
     font: &'a Font<'a>,
     sidebearings: &'a Sidebearings,
+    waivers: &'a Waivers<'a>,
     mark: Mark,
 ) -> Result<String, AllocError>
-    requires { sidebearings.now ≡ components_of step_limit font.now }
+    requires { AreOf font.now sidebearings.now }
 {
-    let mut walk = Walk::resume(font, sidebearings, mark);
+    let mut walk = Walk::resume(font, sidebearings, waivers, mark);
     let mut text = String::new(alloc);
     for _call in 0..6 {
         match walk.next() {
@@ -176,8 +220,8 @@ fn told_of(alloc: Global, texts: &Texts, mark: Mark) -> Result<String, Fail> {
 
 /// Six answers behind a mark, each with how often machines were asked.
 pub(super) fn told_in(alloc: Global, font: &Font<'_>, mark: Mark) -> Result<String, AllocError> {
-    let sidebearings = Sidebearings::prepare(alloc, font)?;
-    told(alloc, &*font, &sidebearings, mark)
+    let sidebearings = Sidebearings::prepare(alloc, font, Edition::One)?;
+    told(alloc, &*font, &sidebearings, &Waivers::none(), mark)
 }
 
 #[test]

@@ -1,15 +1,17 @@
 //! How a walk goes on from its mark: the rules of the place in hand, and then the next place.
 
-ghost use Rattle.std.specs.Prelude.{◌≡◌, ◌≤◌, ◌*◌, MatchOption, length};
+ghost use Rattle.std.specs.Prelude.{◌≡◌, ◌≤◌, ◌*◌, ◌+◌, MatchOption, length};
 ghost use Rattle.t1_report.specs.Courses.{IsCourse, IsFloor, mark_after, turns_after, turns_so_far};
 ghost use Rattle.t1_report.specs.Faults.{fault_value};
-ghost use Rattle.t1_report.specs.Reports.{step_limit};
+ghost use Rattle.t1_report.specs.Checked.{checked, step_limit};
+ghost use Rattle.t1_report.specs.Searching.{checked_in};
 ghost use Rattle.t1_report.specs.Walks.{HasNoneLater, IsNext, mark_of, number_behind};
-ghost use Rattle.t1_rules.specs.Components.{components_of};
+ghost use Rattle.t1_rules.specs.Components.{AreOf};
 
 use crate::faults::Fault;
 use crate::marks::Mark;
 use crate::reporting::copy_of;
+use crate::waivers::Waivers;
 use crate::walk::found::Found;
 use crate::walk::search::Search;
 use arrayvec::ArrayVec;
@@ -26,16 +28,23 @@ pub(crate) struct Course<'a> {
 
 impl<'a> Course<'a> {
     /// From behind a mark on.
-    pub(crate) fn from(font: &'a Font<'a>, sidebearings: &'a Sidebearings, mark: Mark) -> Course<'a>
-        requires { sidebearings.now ≡ components_of step_limit font.now }
+    pub(crate) fn from(
+        font: &'a Font<'a>,
+        sidebearings: &'a Sidebearings,
+        waivers: &'a Waivers<'a>,
+        mark: Mark,
+    ) -> Course<'a>
+        requires { AreOf font.now sidebearings.now }
         ensures course { IsCourse result }
-        ensures font { result.search.font.now ≡ font.now }
+        ensures font { checked_in result.search ≡ checked font.now sidebearings.now.edition }
+        ensures waivers { result.search.waivers.now ≡ waivers.now }
         ensures from { result.search.from ≡ mark.unit }
+        ensures first { result.search.first ≡ mark.step }
         ensures mark { result.mark ≡ mark }
         ensures turns { turns_so_far result.search ≡ 0 }
     {
         Course {
-            search: Search::from(font, sidebearings, mark.unit, mark.step),
+            search: Search::from(font, sidebearings, waivers, mark.unit, mark.step),
             found: Found {
                 unit: mark.unit,
                 step: mark.step,
@@ -56,7 +65,7 @@ impl<'a> Course<'a> {
     pub(crate) fn turns(&self) -> u64
         requires { IsCourse self.now }
         ensures turns { result ≡ turns_so_far self.now.search }
-        ensures few { result ≤ 100001 * length self.now.search.font.now.glyphs }
+        ensures few { result ≤ (step_limit (checked_in self.now.search) + 1) * (length self.now.search.font.now.glyphs + length self.now.search.waivers.now) }
     {
         self.search.turns()
     }
@@ -64,14 +73,16 @@ impl<'a> Course<'a> {
     /// The next fault behind the mark.
     pub(crate) fn next(&mut self) -> Option<Fault>
         requires { IsCourse self.old }
-        ensures next { MatchOption result (HasNoneLater self.old.search.font.now self.old.mark)
-            (λ fault. IsNext self.old.search.font.now self.old.mark (fault_value fault)) }
+        ensures next { MatchOption result (HasNoneLater (checked_in self.old.search) self.old.search.waivers.now self.old.mark)
+            (λ fault. IsNext (checked_in self.old.search) self.old.search.waivers.now self.old.mark (fault_value fault)) }
         ensures mark { self.new.mark ≡ mark_after self.old.mark result }
         ensures turns { turns_so_far self.new.search
-            ≡ turns_after self.old.search.font.now self.old.search.from result }
+            ≡ turns_after (checked_in self.old.search) self.old.search.waivers.now self.old.search.from self.old.search.first result }
         ensures course { IsCourse self.new }
-        ensures font { self.new.search.font.now ≡ self.old.search.font.now }
+        ensures font { checked_in self.new.search ≡ checked_in self.old.search }
+        ensures waivers { self.new.search.waivers.now ≡ self.old.search.waivers.now }
         ensures from { self.new.search.from ≡ self.old.search.from }
+        ensures first { self.new.search.first ≡ self.old.search.first }
     {
         loop {
             let floor = floor(self.mark, self.found.unit, self.found.step);

@@ -1,6 +1,8 @@
 //! The places of the font, asked one after another.
 
 ghost use Rattle.std.specs.Prelude.{◌≡◌, ◌≤◌, ◌+◌, ◌*◌, MatchOption};
+ghost use Rattle.t1_char.specs.declared.edition.Edition.{Edition as Editions};
+ghost use Rattle.t1_report.specs.Checked.{checked};
 ghost use Rattle.t1_report.specs.Searches.{IsFirst, IsFontPlaces, IsQuietFrom, font_step};
 
 use crate::reporting::STEPS_OF_A_KEY;
@@ -46,8 +48,9 @@ impl FontPlaces {
     /// The next place where a rule is broken; places that can have no fault aren't asked.
     pub(crate) fn next(&mut self, font: &Font<'_>) -> Option<Found>
         requires places { IsFontPlaces font.now self.old }
-        ensures found { MatchOption result (IsQuietFrom font.now 0 (font_step self.old))
-            (λ found. IsFirst font.now 0 (font_step self.old) found) }
+        ensures found { (edition : Editions) →
+            MatchOption result (IsQuietFrom (checked font.now edition) 0 (font_step self.old))
+            (λ found. IsFirst (checked font.now edition) 0 (font_step self.old) found) }
         ensures step { MatchOption result (self.new.key ≡ 22) (λ found. font_step self.new ≡ found.step + 1) }
         ensures places { IsFontPlaces font.now self.new }
     {

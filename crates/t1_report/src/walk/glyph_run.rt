@@ -1,15 +1,15 @@
 //! A glyph, executed up to the next step that breaks a rule.
 
 ghost use Rattle.std.specs.Prelude.{◌≡◌, ◌<◌, ◌≤◌, ◌+◌, false, MatchOption, length};
-ghost use Rattle.t1_report.specs.Reports.{step_limit};
+ghost use Rattle.t1_report.specs.Checked.{checked, executed};
 ghost use Rattle.t1_report.specs.Searches.{IsFirst, IsQuietFrom, IsRun};
 ghost use Rattle.t1_report.specs.Walks.{turns_of_glyph};
-ghost use Rattle.t1_rules.specs.Components.{components_of};
+ghost use Rattle.t1_rules.specs.Components.{AreOf};
 ghost use Rattle.t1_rules.specs.Mask.{HasNoneAbove};
 
 use crate::reporting::{broken_at, copy_of};
 use crate::walk::found::Found;
-use t1_char::{Machine, STEP_LIMIT, Turn};
+use t1_char::{Edition, Machine, Turn};
 use t1_font::Font;
 use t1_rules::{Mask, Sidebearings, Watch, Watches};
 
@@ -22,23 +22,23 @@ pub(crate) struct GlyphRun<'a> {
 
 impl<'a> GlyphRun<'a> {
     /// A glyph before its first step.
-    pub(crate) fn start(font: &'a Font<'a>, glyph: usize) -> GlyphRun<'a>
+    pub(crate) fn start(font: &'a Font<'a>, glyph: usize, edition: Edition) -> GlyphRun<'a>
         requires { glyph < length font.now.glyphs }
         ensures run { IsRun result.machine result.watches }
-        ensures font { result.machine.font ≡ font.now }
+        ensures font { executed result.machine ≡ checked font.now edition }
         ensures glyph { result.machine.glyph ≡ glyph }
         ensures counted { result.machine.counted ≡ 0 }
     {
         GlyphRun {
-            machine: Machine::start(font, glyph),
-            watches: Watches::start(),
+            machine: Machine::start(font, glyph, edition),
+            watches: Watches::start(edition),
         }
     }
 
     /// How many steps were asked for.
     pub(crate) fn counted(&self) -> u32
         ensures counted { result ≡ self.now.machine.counted }
-        ensures most { result ≤ 100001 }
+        ensures most { result ≤ 1000001 }
     {
         self.machine.counted()
     }
@@ -46,16 +46,17 @@ impl<'a> GlyphRun<'a> {
     /// The next step that breaks a rule; the rest of the glyph breaks none where there is none.
     pub(crate) fn next(&mut self, sidebearings: &Sidebearings, unit: u32) -> Option<Found>
         requires run { IsRun self.old.machine self.old.watches }
-        requires sidebearings { sidebearings.now ≡ components_of step_limit self.old.machine.font }
+        requires sidebearings { AreOf self.old.machine.font sidebearings.now }
+        requires edition { sidebearings.now.edition ≡ self.old.machine.edition }
         requires unit { unit ≡ self.old.machine.glyph + 1 }
         ensures found { MatchOption result
-            (IsQuietFrom self.old.machine.font unit (self.old.machine.counted + 1))
-            (λ found. IsFirst self.old.machine.font unit (self.old.machine.counted + 1) found) }
+            (IsQuietFrom (executed self.old.machine) unit (self.old.machine.counted + 1))
+            (λ found. IsFirst (executed self.old.machine) unit (self.old.machine.counted + 1) found) }
         ensures counted { MatchOption result
-            (self.new.machine.counted ≡ turns_of_glyph self.old.machine.font self.old.machine.glyph)
+            (self.new.machine.counted ≡ turns_of_glyph (executed self.old.machine) self.old.machine.glyph)
             (λ found. self.new.machine.counted ≡ found.step) }
         ensures run { IsRun self.new.machine self.new.watches }
-        ensures font { self.new.machine.font ≡ self.old.machine.font }
+        ensures font { executed self.new.machine ≡ executed self.old.machine }
         ensures glyph { self.new.machine.glyph ≡ self.old.machine.glyph }
     {
         next_broken(&mut self.machine, &mut self.watches, sidebearings, unit)
@@ -70,24 +71,26 @@ fn next_broken(
     unit: u32,
 ) -> Option<Found>
     requires run { IsRun machine.old watches.old }
-    requires sidebearings { sidebearings.now ≡ components_of step_limit machine.old.font }
+    requires sidebearings { AreOf machine.old.font sidebearings.now }
+    requires edition { sidebearings.now.edition ≡ machine.old.edition }
     requires unit { unit ≡ machine.old.glyph + 1 }
     ensures found { MatchOption result
-        (IsQuietFrom machine.old.font unit (machine.old.counted + 1))
-        (λ found. IsFirst machine.old.font unit (machine.old.counted + 1) found) }
+        (IsQuietFrom (executed machine.old) unit (machine.old.counted + 1))
+        (λ found. IsFirst (executed machine.old) unit (machine.old.counted + 1) found) }
     ensures counted { MatchOption result
-        (machine.new.counted ≡ turns_of_glyph machine.old.font machine.old.glyph)
+        (machine.new.counted ≡ turns_of_glyph (executed machine.old) machine.old.glyph)
         (λ found. machine.new.counted ≡ found.step) }
     ensures run { IsRun machine.new watches.new }
-    ensures font { machine.new.font ≡ machine.old.font }
+    ensures font { executed machine.new ≡ executed machine.old }
     ensures glyph { machine.new.glyph ≡ machine.old.glyph }
 {
-    while machine.counted() <= STEP_LIMIT {
+    let limit = sidebearings.edition().step_limit();
+    while machine.counted() <= limit {
         let step = match machine.step() {
             Turn::Step(step) | Turn::Limit(step) => step,
             Turn::Ended => return None,
         };
-        let rules = broken_at(watches, sidebearings, step);
+        let rules = broken_at(watches, sidebearings, limit, step);
         if has_rules(rules) {
             return Some(Found {
                 unit,

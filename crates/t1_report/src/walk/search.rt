@@ -1,15 +1,22 @@
 //! The places where rules are broken, one after another: those of the font, then those of each glyph.
 
-ghost use Rattle.std.specs.Prelude.{◌≡◌, ◌≤◌, ◌<◌, ◌+◌, ◌*◌, false, MatchOption, length};
-ghost use Rattle.t1_report.specs.Reports.{IsViolated, Place, step_limit};
-ghost use Rattle.t1_report.specs.Searches.{IsFirst, IsQuietFrom};
-ghost use Rattle.t1_report.specs.Searching.{HasNoneFrom, IsFirstPlace, IsGlyphBegun, IsSearch, is_over, step_of_part, turns_in};
-ghost use Rattle.t1_report.specs.Walks.{turns_of_unit};
-ghost use Rattle.t1_rules.specs.Components.{components_of};
+ghost use Rattle.std.specs.Prelude.{◌≡◌, ◌≤◌, ◌<◌, ◌+◌, ◌*◌, false, MatchOption, length, ◌-◌, ◌&&◌, ℕ, not};
+ghost use Rattle.t1_report.specs.Checked.{checked, step_limit};
+ghost use Rattle.t1_report.specs.Reports.{Place, IsTold};
+ghost use Rattle.t1_report.specs.Searching.{checked_in, HasNoneFrom, IsFirstPlace, IsSearch, is_over, step_of_part, turns_in, IsDone, IsFirstTold, IsPartBegun, TellsNoneFrom};
+ghost use Rattle.t1_rules.specs.Components.{AreOf};
+ghost use Rattle.t1_report.specs.Lines.{glyph_name};
+ghost use Rattle.t1_report.specs.Waivers.{is_waived};
+ghost use Rattle.t1_rules.specs.Mask.{has};
 
+use crate::lines::glyph_name;
+use crate::usage::check_waiver;
+use crate::waivers::Waivers;
 use crate::walk::font_places::FontPlaces;
 use crate::walk::found::Found;
 use crate::walk::glyph_run::GlyphRun;
+use arrayvec::ArrayVec;
+use t1_char::Edition;
 use t1_font::Font;
 use t1_rules::Sidebearings;
 
@@ -18,6 +25,8 @@ use t1_rules::Sidebearings;
 pub(crate) enum Part<'a> {
     Font(FontPlaces),
     Glyph(GlyphRun<'a>),
+    /// The waivers behind the glyphs, and the step of the next one.
+    Waivers(u32),
     Over,
 }
 
@@ -26,11 +35,15 @@ pub(crate) enum Part<'a> {
 pub(crate) struct Search<'a> {
     font: &'a Font<'a>,
     sidebearings: &'a Sidebearings,
-    /// The unit that it began with.
+    waivers: &'a Waivers<'a>,
+    /// The unit and the step that it began with.
     from: u32,
+    first: u32,
     unit: u32,
     /// How often machines were asked in the units before.
     passed: u64,
+    /// How often they were asked for the waivers.
+    checked: u64,
     part: Part<'a>,
 }
 
@@ -39,29 +52,41 @@ impl<'a> Search<'a> {
     pub(crate) fn from(
         font: &'a Font<'a>,
         sidebearings: &'a Sidebearings,
+        waivers: &'a Waivers<'a>,
         unit: u32,
         step: u32,
     ) -> Search<'a>
-        requires { sidebearings.now ≡ components_of step_limit font.now }
+        requires { AreOf font.now sidebearings.now }
         ensures search { IsSearch result }
-        ensures font { result.font.now ≡ font.now }
+        ensures font { checked_in result ≡ checked font.now sidebearings.now.edition }
+        ensures waivers { result.waivers.now ≡ waivers.now }
         ensures from { result.from ≡ unit }
+        ensures first { result.first ≡ step }
         ensures unit { result.unit ≡ unit }
-        ensures turns { result.passed + turns_in result.part ≡ 0 }
-        ensures behind { (p : Place) → IsViolated font.now p → p.unit ≡ unit → step ≤ p.step →
+        ensures turns { result.passed + turns_in result.part + result.checked ≡ 0 }
+        ensures behind { (p : Place) → IsTold (checked font.now sidebearings.now.edition) waivers.now p → p.unit ≡ unit → step ≤ p.step →
             step_of_part result.part ≤ p.step }
     {
         let part = if unit == 0 {
             Part::Font(FontPlaces::from(font, step))
         } else {
-            glyph_part(font, unit as usize - 1)
+            unit_part(
+                font,
+                waivers,
+                unit as usize - 1,
+                step,
+                sidebearings.edition(),
+            )
         };
         Search {
             font,
             sidebearings,
+            waivers,
             from: unit,
+            first: step,
             unit,
             passed: 0,
+            checked: 0,
             part,
         }
     }
@@ -70,13 +95,15 @@ impl<'a> Search<'a> {
     pub(crate) fn next(&mut self) -> Option<Found>
         requires { IsSearch self.old }
         ensures found { MatchOption result
-            (HasNoneFrom self.old.font.now self.old.unit (step_of_part self.old.part))
-            (λ found. IsFirstPlace self.old.font.now self.old.unit (step_of_part self.old.part) found) }
-        ensures behind { MatchOption result (length self.old.font.now.glyphs < self.new.unit)
+            (HasNoneFrom (checked_in self.old) self.old.waivers.now self.old.unit (step_of_part self.old.part))
+            (λ found. IsFirstPlace (checked_in self.old) self.old.waivers.now self.old.unit (step_of_part self.old.part) found) }
+        ensures behind { MatchOption result (length self.old.font.now.glyphs + 1 < self.new.unit)
             (λ found. (self.new.unit ≡ found.unit) × (step_of_part self.new.part ≡ found.step + 1)) }
         ensures search { IsSearch self.new }
-        ensures font { self.new.font.now ≡ self.old.font.now }
+        ensures font { checked_in self.new ≡ checked_in self.old }
+        ensures waivers { self.new.waivers.now ≡ self.old.waivers.now }
         ensures from { self.new.from ≡ self.old.from }
+        ensures first { self.new.first ≡ self.old.first }
     {
         while !self.is_over() {
             if let Some(found) = self.next_in_unit() {
@@ -90,10 +117,10 @@ impl<'a> Search<'a> {
     /// How often machines were asked, in the units before and in this one.
     pub(crate) fn turns(&self) -> u64
         requires { IsSearch self.now }
-        ensures turns { result ≡ self.now.passed + turns_in self.now.part }
-        ensures few { result ≤ 100001 * length self.now.font.now.glyphs }
+        ensures turns { result ≡ self.now.passed + turns_in self.now.part + self.now.checked }
+        ensures few { result ≤ (step_limit (checked_in self.now) + 1) * (length self.now.font.now.glyphs + length self.now.waivers.now) }
     {
-        self.passed + self.turns_in_part()
+        self.passed + self.turns_in_part() + self.checked
     }
 
     fn is_over(&self) -> bool
@@ -107,20 +134,45 @@ impl<'a> Search<'a> {
         requires search { IsSearch self.old }
         requires under_way { is_over self.old.part ≡ false }
         ensures found { MatchOption result
-            (IsQuietFrom self.old.font.now self.old.unit (step_of_part self.old.part))
-            (λ found. IsFirst self.old.font.now self.old.unit (step_of_part self.old.part) found) }
+            (TellsNoneFrom (checked_in self.old) self.old.waivers.now self.old.unit (step_of_part self.old.part))
+            (λ found. IsFirstTold (checked_in self.old) self.old.waivers.now self.old.unit (step_of_part self.old.part) found) }
         ensures step { MatchOption result
-            (turns_in self.new.part ≡ turns_of_unit self.old.font.now self.old.unit)
+            (IsDone (checked_in self.old) self.old.waivers.now self.old.unit self.new.part)
             (λ found. step_of_part self.new.part ≡ found.step + 1) }
         ensures search { IsSearch self.new }
         ensures under_way { is_over self.new.part ≡ false }
         ensures unit { self.new.unit ≡ self.old.unit }
-        ensures font { self.new.font.now ≡ self.old.font.now }
+        ensures font { checked_in self.new ≡ checked_in self.old }
+        ensures waivers { self.new.waivers.now ≡ self.old.waivers.now }
         ensures from { self.new.from ≡ self.old.from }
+        ensures first { self.new.first ≡ self.old.first }
     {
         match &mut self.part {
             Part::Font(places) => places.next(self.font),
-            Part::Glyph(run) => run.next(self.sidebearings, self.unit),
+            Part::Glyph(run) => match run.next(self.sidebearings, self.unit) {
+                Some(found) => Some(told_of(found, self.font, self.waivers)),
+                None => None,
+            },
+            Part::Waivers(next) => {
+                if *next as usize > self.waivers.len() {
+                    return None;
+                }
+                let step = *next;
+                let check = check_waiver(
+                    self.font,
+                    self.sidebearings,
+                    self.waivers,
+                    step as usize - 1,
+                );
+                *next += 1;
+                self.checked += u64::from(check.turns);
+                Some(Found {
+                    unit: self.unit,
+                    step,
+                    path: ArrayVec::new(),
+                    rules: check.rules,
+                })
+            }
             Part::Over => None,
         }
     }
@@ -129,38 +181,75 @@ impl<'a> Search<'a> {
     fn next_unit(&mut self)
         requires search { IsSearch self.old }
         requires under_way { is_over self.old.part ≡ false }
-        requires done { turns_in self.old.part ≡ turns_of_unit self.old.font.now self.old.unit }
+        requires done { IsDone (checked_in self.old) self.old.waivers.now self.old.unit self.old.part }
         ensures search { IsSearch self.new }
         ensures unit { self.new.unit ≡ self.old.unit + 1 }
         ensures start { step_of_part self.new.part ≤ 1 }
-        ensures font { self.new.font.now ≡ self.old.font.now }
+        ensures font { checked_in self.new ≡ checked_in self.old }
+        ensures waivers { self.new.waivers.now ≡ self.old.waivers.now }
         ensures from { self.new.from ≡ self.old.from }
+        ensures first { self.new.first ≡ self.old.first }
     {
         let glyph = self.unit as usize;
         self.passed += self.turns_in_part();
         self.unit += 1;
-        self.part = glyph_part(self.font, glyph);
+        self.part = unit_part(
+            self.font,
+            self.waivers,
+            glyph,
+            0,
+            self.sidebearings.edition(),
+        );
     }
 
     fn turns_in_part(&self) -> u64
         ensures turns { result ≡ turns_in self.now.part }
-        ensures most { result ≤ 100001 }
+        ensures most { result ≤ 1000001 }
     {
         match &self.part {
             Part::Glyph(run) => u64::from(run.counted()),
-            Part::Font(_) | Part::Over => 0,
+            Part::Font(_) | Part::Waivers(_) | Part::Over => 0,
         }
     }
 }
 
-/// A glyph before its first step; past the last glyph all is over.
-fn glyph_part<'a>(font: &'a Font<'a>, glyph: usize) -> Part<'a>
-    ensures part { IsGlyphBegun font.now glyph result }
+/// A glyph before its first step; behind the last glyph the waivers from a step on; then all is over.
+fn unit_part<'a>(
+    font: &'a Font<'a>,
+    waivers: &Waivers<'_>,
+    glyph: usize,
+    step: u32,
+    edition: Edition,
+) -> Part<'a>
+    ensures part { IsPartBegun (checked font.now edition) waivers.now glyph step result }
     ensures few { length font.now.glyphs ≤ 65535 }
+    ensures few_waivers { length waivers.now ≤ 1048576 }
 {
-    if glyph < font.glyphs().len() {
-        Part::Glyph(GlyphRun::start(font, glyph))
+    let count = font.glyphs().len();
+    let last = waivers.len() as u32 + 1;
+    if glyph < count {
+        Part::Glyph(GlyphRun::start(font, glyph, edition))
+    } else if glyph == count {
+        Part::Waivers(step.max(1).min(last))
     } else {
         Part::Over
+    }
+}
+
+/// What is told of a step of a glyph where rules are broken: those that aren't waived of it.
+fn told_of(found: Found, font: &Font<'_>, waivers: &Waivers<'_>) -> Found
+    requires { 1 ≤ found.unit }
+    ensures unit { result.unit ≡ found.unit }
+    ensures step { result.step ≡ found.step }
+    ensures path { result.path.items ≡ found.path.items }
+    ensures rules { (n : ℕ) → has result.rules n
+        ≡ (has found.rules n && not (is_waived waivers.now (glyph_name font.now (found.unit - 1)) n)) }
+{
+    let name = glyph_name(font, found.unit - 1);
+    Found {
+        unit: found.unit,
+        step: found.step,
+        path: found.path,
+        rules: waivers.left(name, found.rules),
     }
 }

@@ -1,13 +1,15 @@
 -- The rules, their numbers and the rows of the book.
-use Rattle.std.proofs.Common.{◌≡◌, ◌<◌, ◌≤◌, ◌-◌, ℕ, refl, sym, ap, ◌∙◌, arith, slice_index_or, zero, suc, ◌+◌, ◌&&◌, ◌==◌, Bool, true, false, List, [], ◌∷◌, map, length, subst}
+use Rattle.std.proofs.Common.{◌≡◌, ◌<◌, ◌≤◌, ◌-◌, ℕ, refl, sym, ap, ◌∙◌, arith, slice_index_or, zero, suc, ◌+◌, ◌&&◌, ◌==◌, Bool, true, false, List, [], ◌∷◌, map, length, subst, Option, None, Some, cond, drop}
 use Rattle.t1_rules.specs.declared.rule.Rule.{Rule}
 use Rattle.t1_rules.specs.declared.rule.Rule.TheVariants.{F01, L01}
-use Rattle.t1_rules.specs.Words.BookRows.{rules, row_view, rows}
-use Rattle.t1_rules.specs.Book.{number_of, last_number, code_of, text_of}
+use Rattle.t1_rules.specs.Words.BookRows.{row_coded, row_view, rows}
+use Rattle.t1_rules.specs.Book.{coded_in, number_of, last_number, code_of, rules, text_of}
 use Rattle.std.specs.Borrow.{Bor}
+use Rattle.t1_font.specs.Keys.{same_name}
 use Rattle.std.proofs.lemmas.Bool.{eqb-true}
-use Rattle.std.proofs.lemmas.List.{length-map}
+use Rattle.std.proofs.lemmas.List.{drop_all, length-map}
 use Rattle.std.proofs.Math.ListN.{get_or-map}
+use Rattle.std.proofs.Math.Seq.{drop-cons}
 
 pub both : (a b : Bool) → (a && b) ≡ true → (a ≡ true) × (b ≡ true)
 both true b e = (refl, e)
@@ -59,3 +61,27 @@ number_at table told i d less =
     let within : i < length rows = subst (λ rs. i < length rs) told (omega (arith, length-map table row_view)) in
     ap (λ r. number_of r.0) (sym (get_or-map row_view table i d)) ∙ ap (λ rs. number_of (slice_index_or rs i (row_view d)).0) told
     ∙ number_in 1 rows in_order i (row_view d) within
+
+-- The rule of a code among rows is that among their rules.
+pub coded : (code : List ℕ) (rs : List Rule) → row_coded code (map (λ r. (r, code_of r, text_of r)) rs) ≡ coded_in code rs
+unfolding row_coded coded_in
+coded code [] = refl
+coded code (r ∷ rs) = ap (λ (found : Option Rule). cond (same_name (code_of r) code) (Some r) found) (coded code rs)
+
+-- The rule of a code from one row on.
+pub row_next : (code : List ℕ) (table : List (Rule × Bor (List ℕ) × Bor (List ℕ))) (i : ℕ) (d : Rule × Bor (List ℕ) × Bor (List ℕ)) → i < length table →
+    row_coded code (map row_view (drop i table))
+    ≡ cond (same_name (slice_index_or table i d).1.now code) (Some (slice_index_or table i d).0) (row_coded code (map row_view (drop (i + 1) table)))
+unfolding row_coded
+row_next code table i d less =
+    let next : suc i ≡ i + 1 = omega arith in
+    ap (λ (t : List (Rule × Bor (List ℕ) × Bor (List ℕ))). row_coded code (map row_view t)) (drop-cons table i d less)
+    ∙ ap (λ (n : ℕ). cond (same_name (slice_index_or table i d).1.now code) (Some (slice_index_or table i d).0) (row_coded code (map row_view (drop n table)))) next
+
+pub no_row : (code : List ℕ) (table : List (Rule × Bor (List ℕ) × Bor (List ℕ))) (i : ℕ) → length table ≤ i → row_coded code (map row_view (drop i table)) ≡ None
+unfolding row_coded
+no_row code table i past = ap (λ (t : List (Rule × Bor (List ℕ) × Bor (List ℕ))). row_coded code (map row_view t)) (drop_all i table past)
+
+-- What stands for a row where there is none.
+abbrev pub empty_row : Rule × Bor (List ℕ) × Bor (List ℕ)
+empty_row = (F01, record { ref_ptr = (0, 0); now = [] }, record { ref_ptr = (0, 0); now = [] })

@@ -116,7 +116,7 @@ same_component limit font encoding codes bad_code code = by_name (standard_name 
     by_name [] = refl
     by_name (c ∷ cs) = by_glyph (glyph_named font (c ∷ cs))
 
-map_same : {A B : Type 0} (f g : A → B) (xs : List A) → ((x : A) → f x ≡ g x) → map f xs ≡ map g xs
+pub map_same : {A B : Type 0} (f g : A → B) (xs : List A) → ((x : A) → f x ≡ g x) → map f xs ≡ map g xs
 map_same f g [] same = refl
 map_same f g (x ∷ xs) same = rw (same x, map_same f g xs same) refl
 

@@ -4,6 +4,7 @@ use Rattle.std.proofs.Math.Bool.{and-false}
 use Rattle.std.proofs.Math.Seq.{take-append_seam}
 use Rattle.std.proofs.lemmas.Bool.{ltb-true, ltb-false}
 use Rattle.t1_char.specs.declared.command.Command.TheVariants.{Callothersubr}
+use Rattle.t1_char.specs.declared.edition.Edition.{Edition}
 use Rattle.t1_char.specs.declared.token.CharToken.{CharToken}
 use Rattle.t1_char.specs.declared.token.CharToken.TheVariants.{Command}
 use Rattle.t1_char.specs.Arguments.{calls_othersubr, is_callothersubr, is_flex_end, is_flex_point, is_flex_start, is_whole}
@@ -113,61 +114,61 @@ counts_of before start starts _ _ _ (and_point n steps t pairs point) =
     rw (sym (append_assoc (before ++ start ∷ []) steps (t ∷ [])))
     (counts_on _ t _ _ _ _ false true (counts_of before start starts n true steps pairs) (point_is_no_start t point) (point_is_no_end t point) (call_is_no_move t.token (call_of 2 0 t point)) point (omega arith) (omega arith))
 
-x04_row : (before : List StepView) (step : StepView) → breaks step_rules 55 before step ≡ counts_no_pairs before step
+x04_row : (edition : Edition) (before : List StepView) (step : StepView) → breaks (step_rules edition) 55 before step ≡ counts_no_pairs before step
 unfolding step_rules argument_rules call_rules path_rules stem_rules flex_rules othersubr_rules seac_rules
-x04_row before step = row_decides 55 step_rules 29 _ refl refl refl refl before step
+x04_row edition before step = row_decides 55 (step_rules edition) 29 _ refl refl refl refl before step
 
 -- No step behind the start breaks X04.
-abbrev AreFine : List StepView → List StepView → Type 0
-AreFine front steps = (place : ℕ) → length front < place → place < length steps → breaks_at step_rules 55 steps place ≡ false
+abbrev AreFine : Edition → List StepView → List StepView → Type 0
+AreFine edition front steps = (place : ℕ) → length front < place → place < length steps → breaks_at (step_rules edition) 55 steps place ≡ false
 
 get_seam : (xs : List StepView) (t : StepView) → slice_get (xs ++ t ∷ []) (length xs) ≡ Some t
 get_seam [] t = refl
 get_seam (x ∷ xs) t = get_seam xs t
 
-fine_on : (front steps : List StepView) (t : StepView) → AreFine front steps → breaks step_rules 55 steps t ≡ false → AreFine front (steps ++ t ∷ [])
-fine_on front steps t fine last place above below = go (nat_lt place (length steps)) refl
+fine_on : (edition : Edition) (front steps : List StepView) (t : StepView) → AreFine edition front steps → breaks (step_rules edition) 55 steps t ≡ false → AreFine edition front (steps ++ t ∷ [])
+fine_on edition front steps t fine last place above below = go (nat_lt place (length steps)) refl
   where
-    go : (b : Bool) → nat_lt place (length steps) ≡ b → breaks_at step_rules 55 (steps ++ t ∷ []) place ≡ false
+    go : (b : Bool) → nat_lt place (length steps) ≡ b → breaks_at (step_rules edition) 55 (steps ++ t ∷ []) place ≡ false
     go true less =
         let before : place < length steps = ltb-true place (length steps) less in
-        later_steps_have_no_say step_rules 55 steps (t ∷ []) place before ∙ fine place above before
+        later_steps_have_no_say (step_rules edition) 55 steps (t ∷ []) place before ∙ fine place above before
     go false not_less =
         let at : place ≡ length steps = omega (arith, ltb-false place (length steps) not_less, below, length-append steps (t ∷ [])) in
         rw (at, take-append_seam steps (t ∷ []), get_seam steps t) last
 
-quiet_is_fine : (before : List StepView) (t : StepView) → is_callothersubr t.token ≡ false → breaks step_rules 55 before t ≡ false
-quiet_is_fine before t none =
+quiet_is_fine : (edition : Edition) (before : List StepView) (t : StepView) → is_callothersubr t.token ≡ false → breaks (step_rules edition) 55 before t ≡ false
+quiet_is_fine edition before t none =
     let others = no_call_no_flex t none in
-    x04_row before t ∙ rw (others.1.0, others.1.1) refl
+    x04_row edition before t ∙ rw (others.1.0, others.1.1) refl
 
 same_count : (n : ℕ) → (n == n) ≡ true
 same_count n = grind arith
 
-point_is_fine : (before : List StepView) (t : StepView) (n : ℕ) → Counts before (n + 1) n → is_flex_point t ≡ true → breaks step_rules 55 before t ≡ false
-point_is_fine before t n counts point =
-    x04_row before t ∙ rw (counts.moved, counts.pointed, point, point_is_no_end t point, same_count (n + 1)) refl
+point_is_fine : (edition : Edition) (before : List StepView) (t : StepView) (n : ℕ) → Counts before (n + 1) n → is_flex_point t ≡ true → breaks (step_rules edition) 55 before t ≡ false
+point_is_fine edition before t n counts point =
+    x04_row edition before t ∙ rw (counts.moved, counts.pointed, point, point_is_no_end t point, same_count (n + 1)) refl
 
-end_is_fine : (before : List StepView) (t : StepView) → Counts before 7 7 → is_flex_end t ≡ true → breaks step_rules 55 before t ≡ false
-end_is_fine before t counts end =
-    x04_row before t ∙ rw (counts.moved, counts.pointed, end, end_is_no_point t end) refl
+end_is_fine : (edition : Edition) (before : List StepView) (t : StepView) → Counts before 7 7 → is_flex_end t ≡ true → breaks (step_rules edition) 55 before t ≡ false
+end_is_fine edition before t counts end =
+    x04_row edition before t ∙ rw (counts.moved, counts.pointed, end, end_is_no_point t end) refl
 
-fine_pairs : (before : List StepView) (start : StepView) → is_flex_start start ≡ true → (n : ℕ) (is_half : Bool) (steps : List StepView)
-    → ArePairs n is_half steps → AreFine before ((before ++ start ∷ []) ++ steps)
-fine_pairs before start starts _ _ _ nothing = λ place above below. absurd (omega (arith, above, below, length-append before (start ∷ []), length-append (before ++ start ∷ []) []))
-fine_pairs before start starts _ _ _ (and_beside n is_half steps t pairs beside) =
+fine_pairs : (edition : Edition) (before : List StepView) (start : StepView) → is_flex_start start ≡ true → (n : ℕ) (is_half : Bool) (steps : List StepView)
+    → ArePairs n is_half steps → AreFine edition before ((before ++ start ∷ []) ++ steps)
+fine_pairs edition before start starts _ _ _ nothing = λ place above below. absurd (omega (arith, above, below, length-append before (start ∷ []), length-append (before ++ start ∷ []) []))
+fine_pairs edition before start starts _ _ _ (and_beside n is_half steps t pairs beside) =
     rw (sym (append_assoc (before ++ start ∷ []) steps (t ∷ [])))
-    (fine_on before _ t (fine_pairs before start starts n is_half steps pairs) (quiet_is_fine _ t beside.no_call))
-fine_pairs before start starts _ _ _ (and_move n steps t pairs move) =
+    (fine_on edition before _ t (fine_pairs edition before start starts n is_half steps pairs) (quiet_is_fine edition _ t beside.no_call))
+fine_pairs edition before start starts _ _ _ (and_move n steps t pairs move) =
     rw (sym (append_assoc (before ++ start ∷ []) steps (t ∷ [])))
-    (fine_on before _ t (fine_pairs before start starts n false steps pairs) (quiet_is_fine _ t (move_is_no_call t.token move)))
-fine_pairs before start starts _ _ _ (and_point n steps t pairs point) =
+    (fine_on edition before _ t (fine_pairs edition before start starts n false steps pairs) (quiet_is_fine edition _ t (move_is_no_call t.token move)))
+fine_pairs edition before start starts _ _ _ (and_point n steps t pairs point) =
     rw (sym (append_assoc (before ++ start ∷ []) steps (t ∷ [])))
-    (fine_on before _ t (fine_pairs before start starts n true steps pairs) (point_is_fine _ t n (counts_of before start starts n true steps pairs) point))
+    (fine_on edition before _ t (fine_pairs edition before start starts n true steps pairs) (point_is_fine edition _ t n (counts_of before start starts n true steps pairs) point))
 
 pub seven_pairs_are_a_flex : SevenPairsAreAFlex
-seven_pairs_are_a_flex before pairs start end starts are_pairs ends place above below =
+seven_pairs_are_a_flex edition before pairs start end starts are_pairs ends place above below =
     let steps = (before ++ start ∷ []) ++ pairs in
     let whole : length (steps ++ end ∷ []) ≡ length before + length pairs + 2 = omega (arith, length-append steps (end ∷ []), length-append (before ++ start ∷ []) pairs, length-append before (start ∷ [])) in
     let inside : place < length (steps ++ end ∷ []) = omega (arith, below, whole) in
-    fine_on before steps end (fine_pairs before start starts 7 false pairs are_pairs) (end_is_fine steps end (counts_of before start starts 7 false pairs are_pairs) ends) place above inside
+    fine_on edition before steps end (fine_pairs edition before start starts 7 false pairs are_pairs) (end_is_fine edition steps end (counts_of before start starts 7 false pairs are_pairs) ends) place above inside

@@ -1,10 +1,12 @@
 -- Sets of rules: the bits that the operations on a number change, and the least member above a number.
-use Rattle.std.proofs.Common.{◌≡◌, ℕ, zero, suc, ◌+◌, ◌*◌, ◌/◌, ◌%◌, ◌^◌, ◌<◌, ◌≤◌, ◌-◌, true, false, ◌||◌, nat_eq, refl, sym, ◌∙◌, ap, inl, inr, bit_or, max, arith, ◌⊎◌, Option, Some, None, IfSome, IfNone, MatchOption}
-use Rattle.std.specs.Int.{bit_at, trailing_zeros, w128}
+use Rattle.std.proofs.Common.{◌≡◌, ℕ, zero, suc, ◌+◌, ◌*◌, ◌/◌, ◌%◌, ◌^◌, ◌<◌, ◌≤◌, ◌-◌, true, false, ◌||◌, ◌&&◌, not, nat_eq, refl, sym, ◌∙◌, ap, inl, inr, bit_or, bit_and, min, max, arith, ◌⊎◌, Option, Some, None, IfSome, IfNone, MatchOption}
+use Rattle.std.specs.Int.{bit_at, bit_not, trailing_zeros, w128}
 use Rattle.std.proofs.lemmas.Nat.{pow-add}
-use Rattle.std.proofs.lemmas.Nat.Bits.{bit_at_or, bit_at-lt, bit_at-zero, bit_at_set_same, bit_at_set_other, bit_at-trailing_zeros}
-use Rattle.std.proofs.Math.Nat.{div-div-eq-div-mul, div-le_self}
+use Rattle.std.proofs.lemmas.Nat.Bits.{bit_at_above, bit_at_and, bit_at_clear_other, bit_at_clear_same, bit_at_or, bit_at-lt, bit_at-zero, bit_at_set_same, bit_at_set_other, bit_at-trailing_zeros}
+use Rattle.std.proofs.Math.Nat.{div-div-eq-div-mul, div-le_self, zero-min}
 use Rattle.std.proofs.lemmas.Bool.Decides.{eqb_tells}
+use Rattle.std.proofs.lemmas.Bool.{cases_lt}
+use Rattle.std.proofs.Math.Bool.{and-false, and-true}
 use Rattle.t1_rules.specs.declared.mask.Mask.{Mask}
 use Rattle.t1_rules.specs.declared.rule.Rule.{Rule}
 use Rattle.t1_rules.specs.Book.{number_of, last_number}
@@ -28,6 +30,17 @@ pub set_bits : (b k : ℕ) → k < 128 → (n : ℕ) →
 set_bits b k within n = elim (eqb_tells k n) [
   | inl same ↦ rw (same.0, sym same.1, bit_at_set_same w128 b k within) refl
   | inr other ↦ rw (other.0, bit_at_set_other w128 b k within n (λ e. other.1 (sym e))) refl
+]
+
+-- One member less.
+pub cleared_bits : (b k : ℕ) → b < 2 ^ 128 → k < 128 → (n : ℕ) →
+    nat_eq (bit_at (bit_and b (bit_not w128 (1 * 2 ^ k % 340282366920938463463374607431768211456))) n) 1 ≡ (nat_eq (bit_at b n) 1 && not (nat_eq k n))
+cleared_bits b k fits within n = elim (eqb_tells k n) [
+  | inl same ↦ rw (same.0, sym same.1, bit_at_clear_same w128 b k within, and-false (nat_eq (bit_at b k) 1)) refl
+  | inr other ↦ elim (cases_lt n 128) [
+    | inl low ↦ rw (other.0, bit_at_clear_other w128 b k within n low (λ e. other.1 (sym e)), and-true (nat_eq (bit_at b n) 1)) refl
+    | inr high ↦ rw (other.0, bit_at_and b (bit_not w128 (1 * 2 ^ k % 340282366920938463463374607431768211456)) n, bit_at_above b 128 n fits high, zero-min (bit_at (bit_not w128 (1 * 2 ^ k % 340282366920938463463374607431768211456)) n)) refl
+  ]
 ]
 
 -- The bits from one place on, counted from there.

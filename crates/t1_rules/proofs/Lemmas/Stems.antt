@@ -3,6 +3,7 @@ use Rattle.std.proofs.Common.{◌≡◌, ◌&&◌, ◌||◌, not, if◌then◌el
 use Rattle.std.proofs.Math.Bool.{and-true}
 use Rattle.std.proofs.lemmas.Grind.{flat_map-append}
 use Rattle.t1_char.specs.declared.command.Command.{Command as Commands}
+use Rattle.t1_char.specs.declared.edition.Edition.{Edition}
 use Rattle.t1_char.specs.Arguments.{is_flex_start, is_flex_end, is_hint_replacement}
 use Rattle.t1_char.specs.Since.{after_last}
 use Rattle.t1_char.specs.Steps.{StepView}
@@ -33,15 +34,17 @@ hint_set_goes_on direction before t =
     go false = ap (λ stems. take 96 stems) (flat_map-append (stems_in direction) kept (t ∷ [])) ∙ more (is_command direction t.token)
 
 -- What is kept after a step, by what was kept before it.
-pub one_more_stem : (old new : StemWatcher) (before : List StepView) (t : StepView) → StemsStandFor old before
+pub one_more_stem : (edition : Edition) (old new : StemWatcher) (before : List StepView) (t : StepView) → StemsStandFor edition old before
+    → new.edition ≡ old.edition
     → new.across.items ≡ kept_after lies_across old.across.items t
     → new.upright.items ≡ kept_after stands_upright old.upright.items t
     → new.in_flex ≡ (is_flex_start t || (old.in_flex && not (is_flex_end t)))
     → new.drawn ≡ ((is_line t.token || (is_flex_end t && old.in_flex)) || (old.drawn && not (is_hint_replacement t)))
     → new.replaced ≡ is_hint_replacement t
     → new.popped ≡ (is_pop t.token && old.replaced)
-    → StemsStandFor new (before ++ t ∷ [])
-one_more_stem old new before t st across upright in_flex drawn replaced popped = record {
+    → StemsStandFor edition new (before ++ t ∷ [])
+one_more_stem edition old new before t st same across upright in_flex drawn replaced popped = record {
+  edition_is = same ∙ st.edition_is;
   across = across ∙ rw (st.across) (sym (hint_set_goes_on lies_across before t));
   upright = upright ∙ rw (st.upright) (sym (hint_set_goes_on stands_upright before t));
   in_flex = in_flex ∙ rw (st.in_flex, since_goes_on flex_start flex_end before t);
@@ -57,12 +60,12 @@ one_more_stem old new before t st across upright in_flex drawn replaced popped =
     turned false false = refl
 
 -- A quiet step leaves the hint sets and what was drawn as they are.
-pub stays_for_stems : (old new : StemWatcher) (before : List StepView) (t : StepView) → IsQuietForStems t.token → StemsStandFor old before
-    → new.across ≡ old.across → new.upright ≡ old.upright → new.in_flex ≡ old.in_flex → new.drawn ≡ old.drawn
+pub stays_for_stems : (edition : Edition) (old new : StemWatcher) (before : List StepView) (t : StepView) → IsQuietForStems t.token → StemsStandFor edition old before
+    → new.edition ≡ old.edition → new.across ≡ old.across → new.upright ≡ old.upright → new.in_flex ≡ old.in_flex → new.drawn ≡ old.drawn
     → new.replaced ≡ is_hint_replacement t → new.popped ≡ (is_pop t.token && old.replaced)
-    → StemsStandFor new (before ++ t ∷ [])
-stays_for_stems old new before t quiet st across upright in_flex drawn replaced popped =
-    one_more_stem old new before t st
+    → StemsStandFor edition new (before ++ t ∷ [])
+stays_for_stems edition old new before t quiet st same across upright in_flex drawn replaced popped =
+    one_more_stem edition old new before t st same
     (ap (λ stems. stems.items) across ∙ rw (quiet.othersubr, neither.0) refl)
     (ap (λ stems. stems.items) upright ∙ rw (quiet.othersubr, neither.1) refl)
     (in_flex ∙ rw (quiet.othersubr) (sym (and-true old.in_flex)))

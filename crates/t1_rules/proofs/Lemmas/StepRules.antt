@@ -4,6 +4,7 @@ use Rattle.std.proofs.Common.{◌≡◌, ℕ, zero, suc, ◌<◌, ◌≤◌, ◌
 use Rattle.std.specs.List.{list_all, list_any}
 use Rattle.std.proofs.Math.Bool.{and-false}
 use Rattle.std.proofs.lemmas.Bool.{eqb-true, leb-true}
+use Rattle.t1_char.specs.declared.edition.Edition.{Edition}
 use Rattle.t1_char.specs.Numbers.{clamped}
 use Rattle.t1_char.specs.Since.{any_from, any_so_far}
 use Rattle.t1_char.specs.Steps.{StepView}
@@ -19,7 +20,7 @@ use Rattle.t1_rules.proofs.Lemmas.Book.{both}
 
 pub numbers_in_order : StepRuleNumbersAreInOrder
 unfolding step_rules argument_rules call_rules path_rules stem_rules flex_rules othersubr_rules seac_rules
-numbers_in_order = refl
+numbers_in_order edition = refl
 
 pub component_numbers_in_order : ComponentRuleNumbersAreInOrder
 unfolding component_rules
@@ -46,18 +47,18 @@ number_between least greatest (r ∷ rs) within n before step broken =
         let found : (least ≤ number_of r.rule) × (number_of r.rule ≤ greatest) = (leb-true least (number_of r.rule) here.0, leb-true (number_of r.rule) greatest here.1) in
         rw same at found
 
-table_between : numbers_between 26 67 step_rules ≡ true
+table_between : (edition : Edition) → numbers_between 26 67 (step_rules edition) ≡ true
 unfolding step_rules argument_rules call_rules path_rules stem_rules flex_rules othersubr_rules seac_rules
-table_between = refl
+table_between edition = refl
 
 pub broken_have_these_numbers : BrokenStepsHaveTheseNumbers
-broken_have_these_numbers = number_between 26 67 step_rules table_between
+broken_have_these_numbers edition = number_between 26 67 (step_rules edition) (table_between edition)
 
 -- No rule of a table has this number.
-abbrev without_number : ℕ → List StepRule → Bool
+abbrev pub without_number : ℕ → List StepRule → Bool
 without_number n rules = list_all (λ r. not (number_of r.rule == n)) rules
 
-none_broken : (n : ℕ) (rules : List StepRule) → without_number n rules ≡ true → (before : List StepView) (step : StepView) → breaks rules n before step ≡ false
+pub none_broken : (n : ℕ) (rules : List StepRule) → without_number n rules ≡ true → (before : List StepView) (step : StepView) → breaks rules n before step ≡ false
 none_broken n [] other before step = refl
 none_broken n (r ∷ rs) other before step =
     let parts = both (not (number_of r.rule == n)) (without_number n rs) other in
@@ -87,20 +88,20 @@ row_decides n (q ∷ qs) (suc place) r there own front rest before step =
     go true e later = let no : false ≡ true = e in cc
     go false e later = rw (and-false (q.is_broken before step)) later
 
-width_row : (before : List StepView) (step : StepView) → breaks step_rules 41 before step ≡ starts_without_width before step
+width_row : (edition : Edition) (before : List StepView) (step : StepView) → breaks (step_rules edition) 41 before step ≡ starts_without_width before step
 unfolding step_rules argument_rules call_rules path_rules stem_rules flex_rules othersubr_rules seac_rules
-width_row before step = row_decides 41 step_rules 15 _ refl refl refl refl before step
+width_row edition before step = row_decides 41 (step_rules edition) 15 _ refl refl refl refl before step
 
-subr_row : (before : List StepView) (step : StepView) → breaks step_rules 38 before step ≡ ends_in_subr step
+subr_row : (edition : Edition) (before : List StepView) (step : StepView) → breaks (step_rules edition) 38 before step ≡ ends_in_subr step
 unfolding step_rules argument_rules call_rules path_rules stem_rules flex_rules othersubr_rules seac_rules
-subr_row before step = row_decides 38 step_rules 12 _ refl refl refl refl before step
+subr_row edition before step = row_decides 38 (step_rules edition) 12 _ refl refl refl refl before step
 
-glyph_row : (before : List StepView) (step : StepView) → breaks step_rules 39 before step ≡ ends_in_glyph step
+glyph_row : (edition : Edition) (before : List StepView) (step : StepView) → breaks (step_rules edition) 39 before step ≡ ends_in_glyph step
 unfolding step_rules argument_rules call_rules path_rules stem_rules flex_rules othersubr_rules seac_rules
-glyph_row before step = row_decides 39 step_rules 13 _ refl refl refl refl before step
+glyph_row edition before step = row_decides 39 (step_rules edition) 13 _ refl refl refl refl before step
 
 pub ends_break_one_rule : EndsBreakOneRule
-ends_break_one_rule before step ends = rw (subr_row before step, glyph_row before step, ends) refl
+ends_break_one_rule edition before step ends = rw (subr_row edition before step, glyph_row edition before step, ends) refl
 
 -- What stands in front of more.
 take_front : {A : Type 0} (xs more : List A) (n : ℕ) → n ≤ length xs → take n (xs ++ more) ≡ take n xs
@@ -159,8 +160,8 @@ record Starts (steps : List StepView) (place : ℕ) : Type 0 where
   clears : clears step.token ≡ true
   first : any_so_far clearing_step (take place steps) ≡ false
 
-starts : (steps : List StepView) (place : ℕ) → breaks_at step_rules 41 steps place ≡ true → Starts steps place
-starts steps place broken = go (slice_get steps place) refl broken
+starts : (edition : Edition) (steps : List StepView) (place : ℕ) → breaks_at (step_rules edition) 41 steps place ≡ true → Starts steps place
+starts edition steps place broken = go (slice_get steps place) refl broken
   where
     parts : (a b c : Bool) → (a && b && not c) ≡ true → (a ≡ true) × (c ≡ false)
     parts true true false e = (refl, refl)
@@ -168,10 +169,10 @@ starts steps place broken = go (slice_get steps place) refl broken
     parts true false c e = let no : false ≡ true = e in cc
     parts false b c e = let no : false ≡ true = e in cc
 
-    go : (found : Option StepView) → slice_get steps place ≡ found → breaks_next step_rules 41 (take place steps) found ≡ true → Starts steps place
+    go : (found : Option StepView) → slice_get steps place ≡ found → breaks_next (step_rules edition) 41 (take place steps) found ≡ true → Starts steps place
     go None at e = let no : false ≡ true = e in cc
     go (Some s) at e =
-        let both_parts = parts _ _ _ (sym (width_row (take place steps) s) ∙ e) in
+        let both_parts = parts _ _ _ (sym (width_row edition (take place steps) s) ∙ e) in
         record { step = s; there = at; clears = both_parts.0; first = both_parts.1 }
 
 not_later : (steps : List StepView) (one other : ℕ) → Starts steps one → Starts steps other → one < other → ⊥
@@ -181,9 +182,9 @@ not_later steps one other a b less =
     cc
 
 pub one_step_starts_without_width : OneStepStartsWithoutWidth
-one_step_starts_without_width steps one other first second =
-    let a = starts steps one first in
-    let b = starts steps other second in
+one_step_starts_without_width edition steps one other first second =
+    let a = starts edition steps one first in
+    let b = starts edition steps other second in
     go (not_later steps one other a b) (not_later steps other one b a)
   where
     go : (one < other → ⊥) → (other < one → ⊥) → one ≡ other

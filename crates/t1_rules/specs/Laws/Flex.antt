@@ -2,6 +2,7 @@
 use Rattle.std.specs.Prelude.{◌≡◌, ℕ, ◌+◌, ◌<◌, pos, Bool, true, false, List, [], ◌∷◌, ◌++◌, length}
 use Rattle.t1_char.specs.declared.command.Command.TheVariants.{Closepath, Hsbw}
 use Rattle.t1_char.specs.Arguments.{argument, is_callothersubr, is_flex_end, is_flex_point, is_flex_start}
+use Rattle.t1_char.specs.declared.edition.Edition.{Edition}
 use Rattle.t1_char.specs.Steps.{StepView}
 use Rattle.t1_rules.specs.declared.rule.Rule.TheVariants.{X04}
 use Rattle.t1_rules.specs.Book.{number_of}
@@ -58,7 +59,7 @@ pub data ArePairs : ℕ → Bool → List StepView → Type 0 where
 -- Seven pairs behind a start, and then an end, break no X04, whatever came before.
 abbrev pub SevenPairsAreAFlex : Type 0
 SevenPairsAreAFlex =
-    (before pairs : List StepView) (start end : StepView) →
+    (edition : Edition) (before pairs : List StepView) (start end : StepView) →
     is_flex_start start ≡ true → ArePairs 7 false pairs → is_flex_end end ≡ true →
     (place : ℕ) → length before < place → place < length before + length pairs + 2 →
-    breaks_at step_rules (number_of X04) (((before ++ start ∷ []) ++ pairs) ++ end ∷ []) place ≡ false
+    breaks_at (step_rules edition) (number_of X04) (((before ++ start ∷ []) ++ pairs) ++ end ∷ []) place ≡ false

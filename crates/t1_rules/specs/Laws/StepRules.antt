@@ -2,6 +2,7 @@
 use Rattle.std.specs.Prelude.{◌≡◌, ℕ, ℤ, ◌<◌, ◌≤◌, ◌↔◌, not, Bool, true, Some, List, [], ◌∷◌, ◌++◌, length, map}
 use Rattle.std.specs.List.{range_with_len}
 use Rattle.t1_char.specs.Arguments.{argument}
+use Rattle.t1_char.specs.declared.edition.Edition.{Edition}
 use Rattle.t1_char.specs.Laws.Since.{IsSince}
 use Rattle.t1_char.specs.Steps.{StepView, is_end}
 use Rattle.t1_rules.specs.declared.rule.Rule.TheVariants.{S04, GE01, W01}
@@ -14,7 +15,8 @@ use Rattle.t1_rules.specs.StepRules.Paths.{flex_start, flex_end, in_flex, outer_
 -- The rows have the numbers from 26 to 63, and 67, in order and each once; those on components 64 to 66,
 -- and 68.
 abbrev pub StepRuleNumbersAreInOrder : Type 0
-StepRuleNumbersAreInOrder = map (λ r. number_of r.rule) step_rules ≡ range_with_len 26 38 ++ 67 ∷ []
+StepRuleNumbersAreInOrder =
+    (edition : Edition) → map (λ r. number_of r.rule) (step_rules edition) ≡ range_with_len 26 38 ++ 67 ∷ []
 
 abbrev pub ComponentRuleNumbersAreInOrder : Type 0
 ComponentRuleNumbersAreInOrder =
@@ -24,7 +26,8 @@ ComponentRuleNumbersAreInOrder =
 -- What a step breaks has one of these numbers.
 abbrev pub BrokenStepsHaveTheseNumbers : Type 0
 BrokenStepsHaveTheseNumbers =
-    (n : ℕ) (before : List StepView) (step : StepView) → breaks step_rules n before step ≡ true →
+    (edition : Edition) (n : ℕ) (before : List StepView) (step : StepView) →
+    breaks (step_rules edition) n before step ≡ true →
     (26 ≤ n) × (n ≤ 67)
 
 -- What is broken at a place of a list depends on the steps up to there alone, whatever the rules.
@@ -48,17 +51,18 @@ SurplusNumbersAreNotPast =
 -- At the end of a charstring exactly one of the two is broken: it is a Subr's, or the glyph's.
 abbrev pub EndsBreakOneRule : Type 0
 EndsBreakOneRule =
-    (before : List StepView) (step : StepView) → is_end step.token ≡ true →
-    breaks step_rules (number_of S04) before step ≡ not (breaks step_rules (number_of GE01) before step)
+    (edition : Edition) (before : List StepView) (step : StepView) → is_end step.token ≡ true →
+    breaks (step_rules edition) (number_of S04) before step
+    ≡ not (breaks (step_rules edition) (number_of GE01) before step)
 
 -- The step at a place is the first command, and doesn't set the width; this is so of one step at most.
-abbrev pub starts_at : List StepView → ℕ → Bool
-starts_at steps place = breaks_at step_rules (number_of W01) steps place
+abbrev pub starts_at : Edition → List StepView → ℕ → Bool
+starts_at edition steps place = breaks_at (step_rules edition) (number_of W01) steps place
 
 abbrev pub OneStepStartsWithoutWidth : Type 0
 OneStepStartsWithoutWidth =
-    (steps : List StepView) (one other : ℕ) →
-    starts_at steps one ≡ true → starts_at steps other ≡ true → one ≡ other
+    (edition : Edition) (steps : List StepView) (one other : ℕ) →
+    starts_at edition steps one ≡ true → starts_at edition steps other ≡ true → one ≡ other
 
 -- In flex: a start stands at some place, and no end at a later one; moved, and the path open, the same
 -- with a closepath.

@@ -1,11 +1,13 @@
 -- Stem hints and their replacement: where a step breaks H01 to H04, R01 and R02. Type 1 Font Format 1.1,
 -- chapters 6 and 8. A hint set of 96 stems a direction is this project's own.
-use Rattle.std.specs.Prelude.{ℕ, ℤ, pos, ◌+◌, ◌+ℤ◌, ◌*ℤ◌, ◌&&◌, ◌||◌, not, int_lt, if◌then◌else◌, Bool, true, false, List, [], ◌∷◌, take}
+use Rattle.std.specs.Prelude.{ℕ, ℤ, pos, neg_ℤ, ◌*◌, ◌+◌, ◌+ℤ◌, ◌*ℤ◌, ◌&&◌, ◌||◌, not, int_lt, if◌then◌else◌, Bool, true, false, List, [], ◌∷◌, take}
 use Rattle.std.specs.Int.{int_max, int_min}
 use Rattle.std.specs.List.{flat_map, list_any}
 use Rattle.std.specs.Ordering.{int_eq}
 use Rattle.t1_char.specs.declared.command.Command.{Command as Commands}
 use Rattle.t1_char.specs.declared.command.Command.TheVariants.{Hstem, Vstem, Hstem3, Vstem3}
+use Rattle.t1_char.specs.declared.edition.Edition.{Edition}
+use Rattle.t1_char.specs.declared.edition.Edition.TheVariants.{One, Two}
 use Rattle.t1_char.specs.declared.token.CharToken.{CharToken}
 use Rattle.t1_char.specs.Arguments.{argument, is_hint_replacement}
 use Rattle.t1_char.specs.Since.{since, after_last, was}
@@ -61,6 +63,16 @@ upper stem = int_max stem.position (stem.position +ℤ stem.width)
 
 abbrev pub overlap : Stem → Stem → Bool
 overlap one other = int_lt (int_max (lower one) (lower other)) (int_min (upper one) (upper other))
+
+-- A stem of width -20 or -21, in units of 1/65536, is the hint of one edge, at the top or at the bottom: in the
+-- second edition it overlaps nothing.
+abbrev pub has_one_edge : Stem → Bool
+has_one_edge stem =
+    int_eq stem.width (neg_ℤ (pos (20 * 65536))) || int_eq stem.width (neg_ℤ (pos (21 * 65536)))
+
+abbrev pub overlap_by : Edition → Stem → Stem → Bool
+overlap_by One one other = overlap one other
+overlap_by Two one other = not (has_one_edge one || has_one_edge other) && overlap one other
 
 -- What it is that two stems overlap is given: one of the stems overlaps one that is kept; two of the
 -- stems overlap.

@@ -14,7 +14,7 @@ ghost use Rattle.t1_rules.specs.Words.StepTests.{IsCommand, breaks_by_count, bre
 use crate::mask::Mask;
 use crate::rule::Rule;
 use crate::watch::Watch;
-use t1_char::{CharToken, Command, Step, cut_quotient};
+use t1_char::{CharToken, Command, Edition, Step, cut_quotient};
 
 /// The greatest absolute value of an argument and of a quotient, 32000, in units of 1/65536.
 const GREATEST: i64 = 32000 * 65536;
@@ -30,11 +30,11 @@ impl Watch for ArgumentWatcher {
     ghost use Rattle.t1_rules.specs.StepRules.{argument_rules};
     ghost use Rattle.t1_rules.specs.Watches.{StandsForAny};
 
-    ghost stands_for = { StandsForAny };
+    ghost stands_for = { λ edition. StandsForAny };
 
-    ghost rules = { argument_rules };
+    ghost rules = { λ edition. argument_rules };
 
-    fn start() -> ArgumentWatcher {
+    fn start(_edition: Edition) -> ArgumentWatcher {
         ArgumentWatcher
     }
 

@@ -13,7 +13,7 @@ use crate::mask::Mask;
 use crate::rule::Rule;
 use crate::step_rules::tokens::{is_callsubr, is_end, is_finishing, is_return};
 use crate::watch::Watch;
-use t1_char::{CharToken, Step};
+use t1_char::{CharToken, Edition, Step};
 
 /// How many calls are open at most.
 const MOST_CALLS: usize = 10;
@@ -26,11 +26,11 @@ impl Watch for CallWatcher {
     ghost use Rattle.t1_rules.specs.StepRules.{call_rules};
     ghost use Rattle.t1_rules.specs.Watches.{StandsForAny};
 
-    ghost stands_for = { StandsForAny };
+    ghost stands_for = { λ edition. StandsForAny };
 
-    ghost rules = { call_rules };
+    ghost rules = { λ edition. call_rules };
 
-    fn start() -> CallWatcher {
+    fn start(_edition: Edition) -> CallWatcher {
         CallWatcher
     }
 

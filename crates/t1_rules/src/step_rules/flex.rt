@@ -19,7 +19,7 @@ use crate::step_rules::tokens::{
     clears, is_callothersubr, is_command, is_hsbw, is_move, is_pop, is_setcurrentpoint, sets_point,
 };
 use crate::watch::Watch;
-use t1_char::{CharToken, Command, Step};
+use t1_char::{CharToken, Command, Edition, Step};
 
 /// A point, in units of 1/65536.
 #[derive(Clone, Copy, Debug, PartialEq, Eq)]
@@ -51,11 +51,11 @@ impl Watch for FlexWatcher {
     ghost use Rattle.t1_rules.specs.StepRules.{flex_rules};
     ghost use Rattle.t1_rules.specs.Watches.{FlexStandsFor};
 
-    ghost stands_for = { FlexStandsFor };
+    ghost stands_for = { λ edition. FlexStandsFor };
 
-    ghost rules = { flex_rules };
+    ghost rules = { λ edition. flex_rules };
 
-    fn start() -> FlexWatcher {
+    fn start(_edition: Edition) -> FlexWatcher {
         FlexWatcher {
             in_flex: false,
             moves: 0,

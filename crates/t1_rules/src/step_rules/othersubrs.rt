@@ -12,7 +12,7 @@ ghost use Rattle.t1_rules.specs.Words.StepTests.{IsCommand, breaks_by_call};
 use crate::mask::Mask;
 use crate::rule::Rule;
 use crate::watch::Watch;
-use t1_char::{CharToken, Command, Step, natural};
+use t1_char::{CharToken, Command, Edition, Step, natural};
 
 /// Watches for O01 to O04, which a step alone decides.
 #[derive(Clone, Copy, Debug, PartialEq, Eq)]
@@ -22,11 +22,11 @@ impl Watch for OthersubrWatcher {
     ghost use Rattle.t1_rules.specs.StepRules.{othersubr_rules};
     ghost use Rattle.t1_rules.specs.Watches.{StandsForAny};
 
-    ghost stands_for = { StandsForAny };
+    ghost stands_for = { λ edition. StandsForAny };
 
-    ghost rules = { othersubr_rules };
+    ghost rules = { λ edition. othersubr_rules };
 
-    fn start() -> OthersubrWatcher {
+    fn start(_edition: Edition) -> OthersubrWatcher {
         OthersubrWatcher
     }
 

@@ -16,7 +16,7 @@ use crate::step_rules::tokens::{
     clears, closes, is_callothersubr, is_end, is_finishing, is_line, is_move, sets_width,
 };
 use crate::watch::Watch;
-use t1_char::{CharToken, Step};
+use t1_char::{CharToken, Edition, Step};
 
 /// Watches for W01, W02 and P01 to P03.
 #[derive(Clone, Copy, Debug, PartialEq, Eq)]
@@ -35,11 +35,11 @@ impl Watch for PathWatcher {
     ghost use Rattle.t1_rules.specs.StepRules.{path_rules};
     ghost use Rattle.t1_rules.specs.Watches.{PathsStandFor};
 
-    ghost stands_for = { PathsStandFor };
+    ghost stands_for = { λ edition. PathsStandFor };
 
-    ghost rules = { path_rules };
+    ghost rules = { λ edition. path_rules };
 
-    fn start() -> PathWatcher {
+    fn start(_edition: Edition) -> PathWatcher {
         PathWatcher {
             begun: false,
             in_flex: false,

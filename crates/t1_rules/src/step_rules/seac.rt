@@ -19,7 +19,7 @@ use crate::step_rules::paths::draws;
 use crate::step_rules::stems::is_stem;
 use crate::step_rules::tokens::{closes, is_command, is_move, is_seac};
 use crate::watch::Watch;
-use t1_char::{Step, natural};
+use t1_char::{Edition, Step, natural};
 
 /// Watches for K01, K02 and K06.
 #[derive(Clone, Copy, Debug, PartialEq, Eq)]
@@ -34,11 +34,11 @@ impl Watch for SeacWatcher {
     ghost use Rattle.t1_rules.specs.StepRules.{seac_rules};
     ghost use Rattle.t1_rules.specs.Watches.{SeacStandsFor};
 
-    ghost stands_for = { SeacStandsFor };
+    ghost stands_for = { λ edition. SeacStandsFor };
 
-    ghost rules = { seac_rules };
+    ghost rules = { λ edition. seac_rules };
 
-    fn start() -> SeacWatcher {
+    fn start(_edition: Edition) -> SeacWatcher {
         SeacWatcher {
             in_flex: false,
             outlined: false,

@@ -1,16 +1,17 @@
 //! The rules on stem hints and their replacement, H01 to H04, R01 and R02: Type 1 Font Format 1.1,
 //! chapters 6 and 8.
 
-ghost use Rattle.std.specs.Prelude.{◌≡◌, ◌<◌, ◌+ℤ◌, ◌*ℤ◌, int_lt, pos, ◌&&◌, ◌||◌, not, ℕ, List, [], ◌∷◌, ◌++◌, true, false, if◌then◌else◌, take};
+ghost use Rattle.std.specs.Prelude.{◌≡◌, ◌<◌, ◌+ℤ◌, ◌*ℤ◌, int_lt, pos, neg_ℤ, ◌&&◌, ◌||◌, not, ℕ, List, [], ◌∷◌, ◌++◌, true, false, if◌then◌else◌, take};
 ghost use Rattle.std.specs.Int.{int_max, int_min};
 ghost use Rattle.std.specs.List.{list_any};
 ghost use Rattle.std.specs.Ordering.{int_eq};
+ghost use Rattle.t1_char.specs.declared.edition.Edition.{Edition as Editions};
 ghost use Rattle.t1_char.specs.Arguments.{is_callothersubr, is_hint_replacement};
 ghost use Rattle.t1_char.specs.Steps.{StepView};
 ghost use Rattle.t1_char.specs.StepValues.{step_view};
 ghost use Rattle.t1_rules.specs.Mask.{has};
 ghost use Rattle.t1_rules.specs.StepRules.{breaks, stem_rules};
-ghost use Rattle.t1_rules.specs.StepRules.Stems.{are_unequal, has_no_width, is_off_middle, is_stem, is_triple, lies_across, lower, one_overlaps, overlap, sets_unequal, stands_upright, stem_at, stems_meet, stems_of, two_overlap, twice_middle, upper};
+ghost use Rattle.t1_rules.specs.StepRules.Stems.{are_unequal, has_no_width, has_one_edge, is_off_middle, is_stem, is_triple, lies_across, lower, one_overlaps, overlap, overlap_by, sets_unequal, stands_upright, stem_at, stems_meet, stems_of, two_overlap, twice_middle, upper};
 ghost use Rattle.t1_rules.specs.StepRules.Tokens.{is_command, is_line};
 ghost use Rattle.t1_rules.specs.Watches.{StemsStandFor};
 ghost use Rattle.t1_rules.specs.Words.Sums.{IsWithin};
@@ -23,10 +24,15 @@ use crate::step_rules::paths::draws;
 use crate::step_rules::tokens::{is_callothersubr, is_callsubr, is_line, is_pop};
 use crate::watch::Watch;
 use arrayvec::ArrayVec;
-use t1_char::{CharToken, Command, Step};
+use t1_char::{CharToken, Command, Edition, Step};
 
 /// How many stems a hint set has at most, in each direction.
 const MOST_STEMS: usize = 96;
+
+/// The widths that stand for one edge, in units of 1/65536.
+const TOP_EDGE: i32 = -20 * 65_536;
+
+const BOTTOM_EDGE: i32 = -21 * 65_536;
 
 /// A stem hint: where it begins, and how far it reaches from there, up or down, in units of 1/65536.
 #[derive(Clone, Copy, Debug, Default, PartialEq, Eq)]
@@ -41,6 +47,7 @@ type Stems = ArrayVec<Stem, MOST_STEMS>;
 /// Watches for H01 to H04, R01 and R02.
 #[derive(Drop)]
 pub struct StemWatcher {
+    edition: Edition,
     /// The hint set of hstem and hstem3.
     across: Stems,
     /// The hint set of vstem and vstem3.
@@ -63,8 +70,9 @@ impl Watch for StemWatcher {
 
     ghost rules = { stem_rules };
 
-    fn start() -> StemWatcher {
+    fn start(edition: Edition) -> StemWatcher {
         StemWatcher {
+            edition,
             across: ArrayVec::new(),
             upright: ArrayVec::new(),
             in_flex: false,
@@ -85,8 +93,8 @@ impl StemWatcher {
     /// What a step breaks.
     #[tactic(auto, unfolding(crate::specs::StepRules::stem_rules))]
     fn faults(&self, step: &Step) -> Mask
-        ensures { (before : List StepView) → StemsStandFor self.now before →
-            (n : ℕ) → has result n ≡ breaks stem_rules n before (step_view step.now) }
+        ensures { (edition : Editions) (before : List StepView) → StemsStandFor edition self.now before →
+            (n : ℕ) → has result n ≡ breaks (stem_rules edition) n before (step_view step.now) }
     {
         let token = step.token;
         let late = Mask::empty()
@@ -105,13 +113,21 @@ impl StemWatcher {
     /// Whether a stem of the step overlaps one of the hint set, or two of its own overlap.
     fn meets(&self, step: &Step) -> bool
         ensures { result ≡ (
-            (is_command lies_across step.now.token && stems_meet overlap (stems_of (step_view step.now)) self.now.across.items)
-            || (is_command stands_upright step.now.token && stems_meet overlap (stems_of (step_view step.now)) self.now.upright.items)) }
+            (is_command lies_across step.now.token && stems_meet (overlap_by self.now.edition) (stems_of (step_view step.now)) self.now.across.items)
+            || (is_command stands_upright step.now.token && stems_meet (overlap_by self.now.edition) (stems_of (step_view step.now)) self.now.upright.items)) }
     {
         if lies_across(step.token) {
-            stems_meet(stems_of(step).as_slice(), self.across.as_slice())
+            stems_meet(
+                self.edition,
+                stems_of(step).as_slice(),
+                self.across.as_slice(),
+            )
         } else if stands_upright(step.token) {
-            stems_meet(stems_of(step).as_slice(), self.upright.as_slice())
+            stems_meet(
+                self.edition,
+                stems_of(step).as_slice(),
+                self.upright.as_slice(),
+            )
         } else {
             false
         }
@@ -119,8 +135,8 @@ impl StemWatcher {
 
     /// Keeps what the step changes.
     fn go_on(&mut self, step: &Step)
-        ensures { (before : List StepView) → StemsStandFor self.old before →
-            StemsStandFor self.new (before ++ step_view step.now ∷ []) }
+        ensures { (edition : Editions) (before : List StepView) → StemsStandFor edition self.old before →
+            StemsStandFor edition self.new (before ++ step_view step.now ∷ []) }
     {
         self.popped = is_pop(step.token) & self.replaced;
         self.replaced = step.replaces_hints();
@@ -136,6 +152,7 @@ impl StemWatcher {
     fn keep_stems(&mut self, step: &Step)
         ensures across { self.new.across.items ≡ kept_after lies_across self.old.across.items (step_view step.now) }
         ensures upright { self.new.upright.items ≡ kept_after stands_upright self.old.upright.items (step_view step.now) }
+        ensures edition { self.new.edition ≡ self.old.edition }
         ensures in_flex { self.new.in_flex ≡ self.old.in_flex }
         ensures drawn { self.new.drawn ≡ self.old.drawn }
         ensures replaced { self.new.replaced ≡ self.old.replaced }
@@ -167,11 +184,29 @@ impl Stem {
         greater(position, position + i64::from(self.width))
     }
 
-    /// Whether two stems share more than an edge.
-    fn overlaps(self, other: Stem) -> bool
+    /// Whether two stems share more than an edge; in the second edition one of one edge shares nothing.
+    fn overlaps(self, other: Stem, edition: Edition) -> bool
+        ensures { result ≡ overlap_by edition self other }
+    {
+        match edition {
+            Edition::One => self.shares_more(other),
+            Edition::Two => {
+                !(self.has_one_edge() | other.has_one_edge()) && self.shares_more(other)
+            }
+        }
+    }
+
+    fn shares_more(self, other: Stem) -> bool
         ensures { result ≡ overlap self other }
     {
         spans_meet(self.lower(), self.upper(), other.lower(), other.upper())
+    }
+
+    /// Whether its width is exactly -20 or -21, which stands for one edge.
+    fn has_one_edge(self) -> bool
+        ensures { result ≡ has_one_edge self }
+    {
+        (self.width == TOP_EDGE) | (self.width == BOTTOM_EDGE)
     }
 
     /// Twice the place of its middle.
@@ -274,33 +309,33 @@ fn first(count: usize, stems: &[Stem]) -> &[Stem]
 }
 
 /// Whether one of the stems overlaps one that is kept, or two of them overlap.
-fn stems_meet(stems: &[Stem], kept: &[Stem]) -> bool
-    ensures { result ≡ stems_meet overlap stems.now kept.now }
+fn stems_meet(edition: Edition, stems: &[Stem], kept: &[Stem]) -> bool
+    ensures { result ≡ stems_meet (overlap_by edition) stems.now kept.now }
 {
-    one_overlaps(stems, kept) || two_overlap(stems)
+    one_overlaps(edition, stems, kept) || two_overlap(edition, stems)
 }
 
 /// Whether one of the stems overlaps one that is kept.
-fn one_overlaps(stems: &[Stem], kept: &[Stem]) -> bool
-    ensures { result ≡ one_overlaps overlap stems.now kept.now }
+fn one_overlaps(edition: Edition, stems: &[Stem], kept: &[Stem]) -> bool
+    ensures { result ≡ one_overlaps (overlap_by edition) stems.now kept.now }
 {
-    stems.iter().any(|stem| overlaps_any(*stem, kept))
+    stems.iter().any(|stem| overlaps_any(edition, *stem, kept))
 }
 
 /// Whether the stem overlaps one of these.
-fn overlaps_any(stem: Stem, others: &[Stem]) -> bool
-    ensures { result ≡ list_any (overlap stem) others.now }
+fn overlaps_any(edition: Edition, stem: Stem, others: &[Stem]) -> bool
+    ensures { result ≡ list_any (overlap_by edition stem) others.now }
 {
-    others.iter().any(|other| stem.overlaps(*other))
+    others.iter().any(|other| stem.overlaps(*other, edition))
 }
 
 /// Whether two of the stems overlap.
-fn two_overlap(stems: &[Stem]) -> bool
-    ensures { result ≡ two_overlap overlap stems.now }
+fn two_overlap(edition: Edition, stems: &[Stem]) -> bool
+    ensures { result ≡ two_overlap (overlap_by edition) stems.now }
 {
     let mut rest = stems;
     while let [stem, others @ ..] = rest {
-        if overlaps_any(*stem, others) {
+        if overlaps_any(edition, *stem, others) {
             return true;
         }
         rest = others;

@@ -1,4 +1,4 @@
--- The options and the bytes of a file decide the answer.
+-- The options and the bytes of both files decide the answer.
 use Rattle.std.specs.Prelude.{◌≡◌, ℕ, List}
 use Rattle.t1check.specs.declared.asked.Options.{Options}
 use Rattle.t1check.specs.Answers.{Answer, IsAnswer}
@@ -6,5 +6,5 @@ use Rattle.t1check.specs.Answers.{Answer, IsAnswer}
 -- There is no other answer.
 abbrev pub HasNoOtherAnswer : Type 0
 HasNoOtherAnswer =
-    (options : Options) (input : List ℕ) (a b : Answer) → IsAnswer options input a
-    → IsAnswer options input b → a ≡ b
+    (options : Options) (input text : List ℕ) (a b : Answer) → IsAnswer options input text a
+    → IsAnswer options input text b → a ≡ b

@@ -3,11 +3,12 @@ use crate::command_line::options;
 use std::alloc::Global;
 use std::process::Abort;
 use std::test::Fail;
+use t1_char::Edition;
 
 pub(super) const HELP: &str = "\
 Lists every rule of the book that an Adobe Type 1 font (PFA or PFB) breaks. The book
-has 69 rules: on the file, on the font's dictionaries, and on charstrings, of which
-the first 100,000 steps are checked.
+has 70 rules: on the file, on the font's dictionaries, on charstrings, of which the first
+100,000 steps are checked, in edition 2 the first 1,000,000, and on waivers.
 
 Usage: t1check [OPTIONS] [FILE]
 
@@ -18,23 +19,27 @@ Options:
       --after <K>     Leaves the first K lines of the report out [default: 0]
       --max <M>       Writes at most M of the other lines
       --trace <NAME>  Writes the steps of the glyph NAME in place of the report, STEP PATH TOKEN a line
+      --edition <N>   Checks by edition 1 or 2 of the rule book [default: 1]
+      --waive <FILE>  Leaves the faults out that FILE waives by its lines, NAME RULE each
   -h, --help          Print help
 
 A line of the report:
   NUMBER: font KEY INDEX RULE text          as in 1: font BlueValues 6 Z04 zone numbers fall
   NUMBER: glyph NAME PATH STEP RULE text    as in 2: glyph A 5>6 8 P01 drawing without a move
-  docs/RULES.md explains each RULE and each refusal (Enn), with an example and the cure
+  NUMBER: waiver NAME RULE U01 text         as in 3: waiver A P01 U01 waiver not used
+  docs/RULES.md explains each RULE and each refusal (Enn), with an example and the cure, and waivers
 
 Exit status:
   0  no line of a report was written, or a trace was
   1  at least one line of a report was written
-  2  the font was refused; standard error says why, with a number
+  2  the font or the waivers were refused; standard error says why, with a number
   3  usage error, no glyph NAME, a file or device failed, or memory ran out
 
 Examples:
   t1check font.pfb                        writes the whole report
   t1check --after 20 --max 10 font.pfb    writes its lines 21 to 30
   t1check --trace A font.pfb              writes the steps of glyph A
+  t1check --waive font.waivers font.pfb   leaves out what is meant
 ";
 
 /// What words give, as texts that are lent: after, max, trace, file.
@@ -132,6 +137,36 @@ const NAMES_AND_NUMBERS: &[(&[&str], Given<'static>)] = &[
 #[test]
 fn takes_names_of_glyphs_and_greatest_numbers(rt: HostRuntime) {
     assert_given(&rt, rt.alloc(), NAMES_AND_NUMBERS);
+}
+
+/// Whether words ask for this edition and this file of waivers.
+fn asks(alloc: Global, words: &[&str], edition: Edition, waive: Option<&str>) -> bool {
+    match options(alloc, words) {
+        Ok(taken) => taken.edition == edition && text(&taken.waive) == waive,
+        Err(_) => false,
+    }
+}
+
+/// The edition, 1 without the option, and the name of the file of waivers.
+const EDITIONS_AND_WAIVERS: &[(&[&str], Edition, Option<&str>)] = &[
+    (&["t1check"], Edition::One, None),
+    (&["t1check", "--edition", "1"], Edition::One, None),
+    (&["t1check", "--edition=2", "font.pfb"], Edition::Two, None),
+    (&["t1check", "--edition", "01"], Edition::One, None),
+    (&["t1check", "--edition", "+2"], Edition::Two, None),
+    (&["t1check", "--waive", "w"], Edition::One, Some("w")),
+    (
+        &["t1check", "--waive=", "--edition", "2"],
+        Edition::Two,
+        Some(""),
+    ),
+];
+
+#[test]
+fn takes_editions_and_waivers(rt: HostRuntime) {
+    for (words, edition, waive) in EDITIONS_AND_WAIVERS {
+        assert!(rt; asks(rt.alloc(), words, *edition, *waive), "of {words:?}");
+    }
 }
 
 /// The text of help that words ask for.

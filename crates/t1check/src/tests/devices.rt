@@ -49,6 +49,7 @@ fn answer_within(
     let status = run(
         alloc,
         &mut Fuse::source(In::new(file), input),
+        &mut In::new(io::empty()),
         options,
         &mut Fuse::sink(Out::new(&mut text), output),
         &mut Fuse::sink(Out::new(&mut told), errors),
@@ -61,7 +62,7 @@ fn answer_within(
 }
 
 /// A limit that no run of a test reaches.
-pub(super) const FAR: Limit = Limit::Bytes(1_000_000);
+pub(super) const FAR: Limit = Limit::Bytes(2_000_000);
 
 /// Makes a run over devices with these limits.
 fn answer_of(alloc: Global, run: &Run, input: Limit, output: Limit) -> Answer
@@ -78,6 +79,7 @@ fn answer_to_endless(alloc: Global, reader: &mut Endless) -> Answer {
     let status = run(
         alloc,
         &mut In::new(reader),
+        &mut In::new(io::empty()),
         &ALL,
         &mut Out::new(&mut output),
         &mut Out::new(&mut told),

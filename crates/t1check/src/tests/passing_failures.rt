@@ -94,6 +94,7 @@ fn answer_from(alloc: Global, options: &Options, reader: &mut Reads<'_>) -> Answ
     let status = run(
         alloc,
         &mut In::new(reader),
+        &mut In::new(io::empty()),
         options,
         &mut Out::new(&mut output),
         &mut Out::new(&mut told),
@@ -116,6 +117,7 @@ fn run_into(
     let status = run(
         alloc,
         &mut In::new(file),
+        &mut In::new(io::empty()),
         options,
         &mut Out::new(writer),
         &mut Out::new(&mut told),

@@ -4,6 +4,7 @@ use super::{NO_END_REPORT, ended_by};
 use crate::asked::Options;
 use crate::status::Status;
 use std::alloc::{AllocError, Global};
+use t1_char::Edition;
 use t1_samples::{NOTDEF, Sample};
 
 /// What the program is given, and what it answers.
@@ -41,6 +42,8 @@ fn options(trace: Option<String>) -> Options {
         after: 0,
         max: None,
         trace,
+        waive: None,
+        edition: Edition::One,
         file: None,
     }
 }

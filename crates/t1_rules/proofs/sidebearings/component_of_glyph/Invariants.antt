@@ -1,13 +1,15 @@
 use Rattle.std.proofs.Common.{◌≡◌, take, ◌+◌, ◌-◌}
-use Rattle.t1_char.specs.declared.expansion.TheConstants.{STEP_LIMIT}
+use Rattle.t1_char.specs.Editions.{limit_of}
 use Rattle.t1_char.specs.Steps.{steps_of}
+use Rattle.t1_char.proofs.TurnsTaken.{Executes}
 use Rattle.t1_rules.specs.Components.{component_in}
 use Rattle.t1_rules.proofs.sidebearings.component_of_glyph.Given as goal
 
 abbrev pub invariant-loop-step : goal.invariant-loop-step
-invariant-loop-step l =
-    (l.machine.font ≡ l.font) × (l.machine.glyph ≡ l.glyph)
-    × (l.component ≡ component_in (take l.machine.counted (take STEP_LIMIT (steps_of l.font l.glyph))))
+invariant-loop-step l = record {
+  same : Executes l.fn.edition l.font l.glyph l.machine;
+  component : l.component ≡ component_in (take l.machine.counted (take (limit_of l.fn.edition) (steps_of l.font l.glyph)));
+}
 
 abbrev pub decreases-loop-step : goal.decreases-loop-step
-decreases-loop-step l = STEP_LIMIT + 1 - l.machine.counted
+decreases-loop-step l = limit_of l.fn.edition + 1 - l.machine.counted

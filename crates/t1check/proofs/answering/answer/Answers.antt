@@ -9,16 +9,16 @@ returns-in-Err g c =
     (record { taken = c.in-Err.ensures.taken; text = c.in-Err.ensures.text; help = c.in-Err.ensures.help; only_help = c.in-Err.ensures.only_help })
     c.explain.ensures
 
-pub returns-in_default : goal.returns-in_default
-returns-in_default g c =
-    read_input c.in-Ok.options (record { given = c.in-Ok.ensures.given; sound = c.in-Ok.ensures.sound }) c.in_default.is _ _
-    (c.input.result, c.input.ensures, sym (ap (λ (s : SourceState). s.left) c.new.ensures)) c.run.ensures.ends
+pub returns-in-None : goal.returns-in-None
+returns-in-None g c =
+    read_input c.in-Ok.options (record { given = c.in-Ok.ensures.given; sound = c.in-Ok.ensures.sound }) c.in-None.is _
+    (c.input.result, c.input.ensures, sym (ap (λ (s : SourceState). s.left) c.new.ensures)) c.run_on.ensures
 
 pub returns-in-Ok-open_file : goal.returns-in-Ok-open_file
 returns-in-Ok-open_file g c =
-    read_file c.in-Ok.options (string_bytes c.in-Some.name) (record { given = c.in-Ok.ensures.given; sound = c.in-Ok.ensures.sound }) (ap (option_map string_bytes) c.in-Some.is) _ _
+    read_file c.in-Ok.options (string_bytes c.in-Some.name) (record { given = c.in-Ok.ensures.given; sound = c.in-Ok.ensures.sound }) (ap (option_map string_bytes) c.in-Some.is) _
     (c.in-Ok-open_file.file, (c.as_str.result, c.in-Ok-open_file.ensures, c.as_str.ensures.value), sym (ap (λ (s : SourceState). s.left) c.new-in-Ok-open_file.ensures))
-    c.run-in-Ok-open_file.ensures.ends
+    c.run_on-in-Ok-open_file.ensures
 
 pub returns : goal.returns
 returns g c =

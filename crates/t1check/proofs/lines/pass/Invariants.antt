@@ -7,5 +7,6 @@ use Rattle.t1check.proofs.lines.pass.Given as goal
 abbrev pub invariant-loop-fault : goal.invariant-loop-fault
 invariant-loop-fault l = record {
   font : l.walk.font ≡ l.fn.walk.font;
-  passed : (faults : List FaultValue) → IsReport l.fn.walk.font faults → IsSoFar faults 0 l.fn.walk.mark → IsSoFar faults l._fault l.walk.mark;
+  waivers : l.walk.waivers ≡ l.fn.walk.waivers;
+  passed : (faults : List FaultValue) → IsReport l.fn.walk.font l.fn.walk.waivers faults → IsSoFar faults 0 l.fn.walk.mark → IsSoFar faults l._fault l.walk.mark;
 }

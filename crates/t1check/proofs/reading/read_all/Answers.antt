@@ -1,11 +1,11 @@
-use Rattle.std.proofs.Common.{arith, ◌≡◌, ◌++◌, ◌∙◌, ℕ, length, take, drop, ap, vec_len, length-append}
+use Rattle.std.proofs.Common.{arith, ◌≡◌, ◌++◌, ◌∙◌, ℕ, length, take, drop, ap, vec_len, length-append, ◌+◌}
 use Rattle.std.proofs.lemmas.List.{length-take}
 use Rattle.t1check.proofs.InputLemmas.{TakesAtMost-more, Consumes-more, items-extended, not_late}
 use Rattle.t1check.proofs.reading.read_all.Goals as goal
 
 pub returns-then-is_err-clause-taken : goal.returns-then-is_err-clause-taken
 returns-then-is_err-clause-taken g c =
-    TakesAtMost-more 16777217 _ _ _ c.loop-turn.bytes.items _ c.loop-turn.invariant.consumed c.in-Ok.ensures.takes.bytes
+    TakesAtMost-more (c.args.most + 1) _ _ _ c.loop-turn.bytes.items _ c.loop-turn.invariant.consumed c.in-Ok.ensures.takes.bytes
     (let held = c.loop-turn.bytes.ok.0 in omega (arith, c.in-Ok.ensures.takes.bound, length-take {A = ℕ}))
 
 pub loop-turn-preserved : goal.loop-turn-preserved

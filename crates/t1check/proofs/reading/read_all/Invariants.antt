@@ -11,5 +11,5 @@ invariant-loop-turn g l = record {
       (g.R.Source.state l.fn.source).failed ≡ false
       → (g.R.Source.state l.source).late_takes ≡ (g.R.Source.state l.fn.source).late_takes;
   long : l._turn ≤ vec_len l.bytes;
-  short : vec_len l.bytes ≤ 16777216;
+  short : vec_len l.bytes ≤ l.most;
 }

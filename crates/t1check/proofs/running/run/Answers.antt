@@ -6,18 +6,18 @@ use Rattle.t1check.proofs.running.run.Goals as goal
 
 pub returns-in-Ok-clause-ends : goal.returns-in-Ok-clause-ends
 returns-in-Ok-clause-ends g c =
-    let checks = rw c.as_slice.ensures.value at c.in-Ok.ensures in
+    let checks = rw c.as_slice.ensures.value at c.in-Ok.ensures.checks in
     shown checks.0
     (are_read _ _ c.in-Bytes.bytes.items _ c.in-Bytes.ensures.gathers.0 c.in-Bytes.ensures.gathers.1 c.in-Bytes.ensures.gathers.2 checks.1)
     (c.in-Bytes.ensures.gathers.3 ∙ c.requires.source) checks.2
 
 pub returns-in-Bytes-clause-ends : goal.returns-in-Bytes-clause-ends
 returns-in-Bytes-clause-ends g c =
-    unread_ends c.args.options.now _ _ _ _ _ _ _ c.in-Err.unread _ _
+    unread_ends c.args.options.now _ _ _ _ _ _ _ _ _ c.in-Err.unread _ _
     (are_read _ _ c.in-Bytes.bytes.items _ c.in-Bytes.ensures.gathers.0 c.in-Bytes.ensures.gathers.1 c.in-Bytes.ensures.gathers.2 refl)
-    (c.in-Bytes.ensures.gathers.3 ∙ c.requires.source) (rw c.as_slice.ensures.value at c.in-Err.ensures) c.tell_unread.ensures
+    (c.in-Bytes.ensures.gathers.3 ∙ c.requires.source) (rw c.as_slice.ensures.value at c.in-Err.ensures.checks) c.tell_unread.ensures
 
 pub returns-in-TooLarge-clause-ends : goal.returns-in-TooLarge-clause-ends
 returns-in-TooLarge-clause-ends g c =
     refused TooLarge (too_large _ _ c.in-TooLarge.ensures.gathers.0.0 c.in-TooLarge.ensures.gathers.0.1 c.in-TooLarge.ensures.gathers.0.2)
-    (c.in-TooLarge.ensures.gathers.1 ∙ c.requires.source) refl c.tell_unread-in-TooLarge.ensures
+    (c.in-TooLarge.ensures.gathers.1 ∙ c.requires.source) refl refl c.tell_unread-in-TooLarge.ensures

@@ -1,16 +1,16 @@
 use Rattle.std.proofs.Common.{◌≡◌, ◌≤◌, ◌+◌, ◌-◌}
-use Rattle.t1_char.specs.declared.expansion.TheConstants.{STEP_LIMIT}
+use Rattle.t1_report.specs.Checked.{executed, step_limit}
 use Rattle.t1_report.specs.Searches.{IsQuiet, IsRun}
 use Rattle.t1_report.proofs.walk.glyph_run.next_broken.Given as goal
 
 abbrev pub invariant-loop-machine : goal.invariant-loop-machine
 invariant-loop-machine l = record {
   run : IsRun l.machine l.watches;
-  font : l.machine.font ≡ l.fn.machine.font;
+  font : executed l.machine ≡ executed l.fn.machine;
   glyph : l.machine.glyph ≡ l.fn.machine.glyph;
-  quiet : IsQuiet l.fn.machine.font l.unit (l.fn.machine.counted + 1) (l.machine.counted + 1);
+  quiet : IsQuiet (executed l.fn.machine) l.unit (l.fn.machine.counted + 1) (l.machine.counted + 1);
   least : l.fn.machine.counted ≤ l.machine.counted;
 }
 
 abbrev pub decreases-loop-machine : goal.decreases-loop-machine
-decreases-loop-machine l = STEP_LIMIT + 1 - l.machine.counted
+decreases-loop-machine l = step_limit (executed l.fn.machine) + 1 - l.machine.counted

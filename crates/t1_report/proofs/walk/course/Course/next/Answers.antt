@@ -1,7 +1,9 @@
 use Rattle.std.proofs.Common.{◌+◌, ◌<◌, length, ap, sym, subst, ◌∙◌}
+use Rattle.t1_report.specs.Checked.{CheckedFont}
+use Rattle.t1_report.specs.Searching.{checked_in}
 use Rattle.t1_report.specs.Courses.{HasInHand}
 use Rattle.t1_report.specs.Faults.{fault_value}
-use Rattle.t1_report.specs.Walks.{HasNoneLater, IsNext, turns_at, turns_before}
+use Rattle.t1_report.specs.Walks.{HasNoneLater, IsNext, turns_at, turns_in_all}
 use Rattle.t1_report.proofs.Hands.{fewer_places, hand_empty, hand_found, hand_marked, hand_none, next_fault, turns_found, turns_over}
 use Rattle.t1_report.proofs.walk.course.Course.next.Goals as goal
 
@@ -9,10 +11,11 @@ pub returns-in-Some-clause-next : goal.returns-in-Some-clause-next
 returns-in-Some-clause-next c =
     let now = c.loop-rule.self in
     let fault = c.fault_in-fault.result in
-    subst (λ font. IsNext font c.args.self.now.mark (fault_value fault)) c.loop-rule.invariant.font
-    (subst (λ mark. IsNext now.search.font.now mark (fault_value fault)) c.loop-rule.invariant.mark
+    subst (λ waivers. IsNext (checked_in c.args.self.now.search) waivers c.args.self.now.mark (fault_value fault)) c.loop-rule.invariant.waivers
+    (subst (λ font. IsNext font now.search.waivers.now c.args.self.now.mark (fault_value fault)) c.loop-rule.invariant.font
+    (subst (λ mark. IsNext (checked_in now.search) now.search.waivers.now mark (fault_value fault)) c.loop-rule.invariant.mark
     (next_fault now.search now.found now.mark c.floor-floor.result c.in-Some.rule fault c.loop-rule.invariant.course.hand c.floor-floor.ensures c.in-Some.ensures
-    (record { number_is = c.fault_in-fault.ensures.number; unit_is = c.fault_in-fault.ensures.unit; step_is = c.fault_in-fault.ensures.step; rule_is = c.fault_in-fault.ensures.rule; path_is = c.fault_in-fault.ensures.path })))
+    (record { number_is = c.fault_in-fault.ensures.number; unit_is = c.fault_in-fault.ensures.unit; step_is = c.fault_in-fault.ensures.step; rule_is = c.fault_in-fault.ensures.rule; path_is = c.fault_in-fault.ensures.path }))))
 
 pub returns-in-Some-clause-turns : goal.returns-in-Some-clause-turns
 returns-in-Some-clause-turns c =
@@ -20,8 +23,10 @@ returns-in-Some-clause-turns c =
     let fault = c.fault_in-fault.result in
     turns_found now.search now.found now.mark c.in-Some.rule fault c.loop-rule.invariant.course.searches c.loop-rule.invariant.course.hand c.in-Some.ensures.is_in
     (record { number_is = c.fault_in-fault.ensures.number; unit_is = c.fault_in-fault.ensures.unit; step_is = c.fault_in-fault.ensures.step; rule_is = c.fault_in-fault.ensures.rule; path_is = c.fault_in-fault.ensures.path })
-    ∙ ap (λ font. turns_at font now.search.from fault.unit fault.step) c.loop-rule.invariant.font
-    ∙ ap (λ from. turns_at c.args.self.now.search.font.now from fault.unit fault.step) c.loop-rule.invariant.from
+    ∙ ap (λ font. turns_at font now.search.waivers.now now.search.from now.search.first fault.unit fault.step) c.loop-rule.invariant.font
+    ∙ ap (λ waivers. turns_at (checked_in c.args.self.now.search) waivers now.search.from now.search.first fault.unit fault.step) c.loop-rule.invariant.waivers
+    ∙ ap (λ from. turns_at (checked_in c.args.self.now.search) c.args.self.now.search.waivers.now from now.search.first fault.unit fault.step) c.loop-rule.invariant.from
+    ∙ ap (λ first. turns_at (checked_in c.args.self.now.search) c.args.self.now.search.waivers.now c.args.self.now.search.from first fault.unit fault.step) c.loop-rule.invariant.first
 
 pub returns-in-Some-clause-course : goal.returns-in-Some-clause-course
 returns-in-Some-clause-course c =
@@ -47,26 +52,31 @@ loop-rule-preserved c =
       course = record {
         searches = c.next.ensures.search;
         hand = hand_found now.search c.next.new.self now.found c.in-Some-next.found now.mark c.floor-floor.result c.loop-rule.invariant.course.hand c.floor-floor.ensures c.in_default.ensures
-            c.next.ensures.font c.in-Some-next.ensures.found c.in-Some-next.ensures.behind;
+            c.next.ensures.font c.next.ensures.waivers c.in-Some-next.ensures.found c.in-Some-next.ensures.behind;
       };
       font = c.next.ensures.font ∙ c.loop-rule.invariant.font;
+      waivers = c.next.ensures.waivers ∙ c.loop-rule.invariant.waivers;
       from = c.next.ensures.from ∙ c.loop-rule.invariant.from;
+      first = c.next.ensures.first ∙ c.loop-rule.invariant.first;
       mark = c.loop-rule.invariant.mark;
     }
 
 pub returns-in-None-clause-next : goal.returns-in-None-clause-next
 returns-in-None-clause-next c =
     let now = c.loop-rule.self in
-    subst (λ font. HasNoneLater font c.args.self.now.mark) c.loop-rule.invariant.font
-    (subst (λ mark. HasNoneLater now.search.font.now mark) c.loop-rule.invariant.mark
-    (hand_none now.search now.found now.mark c.floor-floor.result c.loop-rule.invariant.course.hand c.floor-floor.ensures c.in_default.ensures c.in-None.ensures.found))
+    subst (λ waivers. HasNoneLater (checked_in c.args.self.now.search) waivers c.args.self.now.mark) c.loop-rule.invariant.waivers
+    (subst (λ font. HasNoneLater font now.search.waivers.now c.args.self.now.mark) c.loop-rule.invariant.font
+    (subst (λ mark. HasNoneLater (checked_in now.search) now.search.waivers.now mark) c.loop-rule.invariant.mark
+    (hand_none now.search now.found now.mark c.floor-floor.result c.loop-rule.invariant.course.hand c.floor-floor.ensures c.in_default.ensures c.in-None.ensures.found)))
 
 pub returns-in-None-clause-turns : goal.returns-in-None-clause-turns
 returns-in-None-clause-turns c =
     let new = c.next.new.self in
-    turns_over new c.next.ensures.search (subst (λ font. length font.glyphs < new.unit) (sym c.next.ensures.font) c.in-None.ensures.behind)
-    ∙ ap (λ font. turns_before font new.from (length font.glyphs + 1)) (c.next.ensures.font ∙ c.loop-rule.invariant.font)
-    ∙ ap (λ from. turns_before c.args.self.now.search.font.now from (length c.args.self.now.search.font.now.glyphs + 1)) (c.next.ensures.from ∙ c.loop-rule.invariant.from)
+    turns_over new c.next.ensures.search (subst (λ (font : CheckedFont). length font.value.glyphs + 1 < new.unit) (sym c.next.ensures.font) c.in-None.ensures.behind)
+    ∙ ap (λ (font : CheckedFont). turns_in_all font new.waivers.now new.from new.first) (c.next.ensures.font ∙ c.loop-rule.invariant.font)
+    ∙ ap (λ waivers. turns_in_all (checked_in c.args.self.now.search) waivers new.from new.first) (c.next.ensures.waivers ∙ c.loop-rule.invariant.waivers)
+    ∙ ap (λ from. turns_in_all (checked_in c.args.self.now.search) c.args.self.now.search.waivers.now from new.first) (c.next.ensures.from ∙ c.loop-rule.invariant.from)
+    ∙ ap (λ first. turns_in_all (checked_in c.args.self.now.search) c.args.self.now.search.waivers.now c.args.self.now.search.from first) (c.next.ensures.first ∙ c.loop-rule.invariant.first)
 
 pub returns-in-None-clause-course : goal.returns-in-None-clause-course
 returns-in-None-clause-course c =
@@ -75,6 +85,7 @@ returns-in-None-clause-course c =
     record {
       searches = c.next.ensures.search;
       hand = hand_empty new _ now.mark c.empty-self.ensures
-          (subst (λ font. HasNoneLater font now.mark) (sym c.next.ensures.font)
-          (hand_none now.search now.found now.mark c.floor-floor.result c.loop-rule.invariant.course.hand c.floor-floor.ensures c.in_default.ensures c.in-None.ensures.found));
+          (subst (λ waivers. HasNoneLater (checked_in new) waivers now.mark) (sym c.next.ensures.waivers)
+          (subst (λ font. HasNoneLater font now.search.waivers.now now.mark) (sym c.next.ensures.font)
+          (hand_none now.search now.found now.mark c.floor-floor.result c.loop-rule.invariant.course.hand c.floor-floor.ensures c.in_default.ensures c.in-None.ensures.found)));
     }

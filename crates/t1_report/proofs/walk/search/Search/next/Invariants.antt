@@ -1,15 +1,17 @@
 use Rattle.std.proofs.Common.{◌≡◌, ◌+◌, ◌-◌, length}
-use Rattle.t1_report.specs.Searching.{IsSearch, step_of_part}
+use Rattle.t1_report.specs.Searching.{IsSearch, checked_in, step_of_part}
 use Rattle.t1_report.proofs.Units.{IsPassed}
 use Rattle.t1_report.proofs.walk.search.Search.next.Given as goal
 
 abbrev pub invariant-loop-self : goal.invariant-loop-self
 invariant-loop-self l = record {
   search : IsSearch l.self;
-  font : l.self.font.now ≡ l.fn.self.font.now;
+  font : checked_in l.self ≡ checked_in l.fn.self;
+  waivers : l.self.waivers.now ≡ l.fn.self.waivers.now;
   from : l.self.from ≡ l.fn.self.from;
-  passed : IsPassed l.fn.self.font.now l.fn.self.unit (step_of_part l.fn.self.part) l.self.unit (step_of_part l.self.part);
+  first : l.self.first ≡ l.fn.self.first;
+  passed : IsPassed (checked_in l.fn.self) l.fn.self.waivers.now l.fn.self.unit (step_of_part l.fn.self.part) l.self.unit (step_of_part l.self.part);
 }
 
 abbrev pub decreases-loop-self : goal.decreases-loop-self
-decreases-loop-self l = length l.self.font.now.glyphs + 1 - l.self.unit
+decreases-loop-self l = length l.self.font.now.glyphs + 2 - l.self.unit

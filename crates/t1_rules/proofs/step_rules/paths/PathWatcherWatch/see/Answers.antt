@@ -4,9 +4,9 @@ use Rattle.t1_rules.proofs.Lemmas.Paths.{stays, no_fault}
 use Rattle.t1_rules.proofs.step_rules.paths.PathWatcherWatch.see.Goals as goal
 
 pub returns-then-is_quiet-clause-stands : goal.returns-then-is_quiet-clause-stands
-returns-then-is_quiet-clause-stands c = λ before st short.
+returns-then-is_quiet-clause-stands c = λ edition before st short.
     stays c.args.self.now before (step_view c.args.step.now) (c.is_quiet.ensures c.if-is_quiet.true) st
 
 pub returns-then-is_quiet-clause-answer : goal.returns-then-is_quiet-clause-answer
-returns-then-is_quiet-clause-answer c = λ before st short n.
+returns-then-is_quiet-clause-answer c = λ edition before st short n.
     c.empty.ensures n ∙ sym (no_fault n before (step_view c.args.step.now) (c.is_quiet.ensures c.if-is_quiet.true))

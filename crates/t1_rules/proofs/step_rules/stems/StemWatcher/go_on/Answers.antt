@@ -4,13 +4,14 @@ use Rattle.t1_rules.proofs.Lemmas.Stems.{one_more_stem, stays_for_stems}
 use Rattle.t1_rules.proofs.step_rules.stems.StemWatcher.go_on.Goals as goal
 
 pub returns-then-is_quiet : goal.returns-then-is_quiet
-returns-then-is_quiet c = λ before st.
-    stays_for_stems c.args.self.now _ before (step_view c.args.step.now) (c.is_quiet.ensures c.if-is_quiet.true) st
-    refl refl refl refl c.replaces_hints-self.ensures (rw (c.is_pop.ensures))
+returns-then-is_quiet c = λ edition before st.
+    stays_for_stems edition c.args.self.now _ before (step_view c.args.step.now) (c.is_quiet.ensures c.if-is_quiet.true) st
+    refl refl refl refl refl c.replaces_hints-self.ensures (rw (c.is_pop.ensures))
 
 pub returns : goal.returns
-returns c = λ before st.
-    one_more_stem c.args.self.now _ before (step_view c.args.step.now) st
+returns c = λ edition before st.
+    one_more_stem edition c.args.self.now _ before (step_view c.args.step.now) st
+    c.keep_stems.ensures.edition
     c.keep_stems.ensures.across
     c.keep_stems.ensures.upright
     (c.keep_stems.ensures.in_flex ∙ rw (c.starts_flex.ensures, c.ends_flex.ensures))

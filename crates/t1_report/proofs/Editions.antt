@@ -1,0 +1,175 @@
+-- Where a font has the same report in both editions.
+use Rattle.std.proofs.Common.{◌≡◌, ℕ, zero, suc, ◌+◌, ◌<◌, ◌≤◌, ◌==◌, ◌&&◌, ◌||◌, not, nat_lt, if◌then◌else◌, Bool, true, false, Option, Some, None, List, [], ◌∷◌, length, map, take, slice_get, refl, sym, subst, ap, ◌∙◌, arith}
+use Rattle.std.specs.List.{list_any, position, slice_index_or}
+use Rattle.std.proofs.Math.Bool.{and-false}
+use Rattle.std.proofs.lemmas.Bool.{ltb-true, lt-ltb}
+use Rattle.std.proofs.lemmas.List.{length-take-le}
+use Rattle.std.proofs.lemmas.List.Quantifiers.{position-Some}
+use Rattle.std.proofs.lemmas.Option.{slice_get_past, slice_get_within}
+use Rattle.t1_char.specs.declared.edition.Edition.TheVariants.{One, Two}
+use Rattle.t1_char.specs.Editions.{limit_of}
+use Rattle.t1_char.specs.Steps.{StepView, steps_of}
+use Rattle.t1_font.specs.Fonts.{FontValue}
+use Rattle.t1_font.specs.Keys.{same_name}
+use Rattle.t1_rules.specs.declared.rule.Rule.TheVariants.{L01, U01}
+use Rattle.t1_rules.specs.Book.{number_of}
+use Rattle.t1_rules.specs.Components.{components_of, glyph_named}
+use Rattle.t1_rules.specs.Laws.Editions.{HasShortComponents, rules_in, sets_one_edge}
+use Rattle.t1_rules.specs.StandardEncoding.{standard_name}
+use Rattle.t1_rules.specs.StepRules.{breaks}
+use Rattle.t1_rules.proofs.Lemmas.Editions.{agree_on_usual_steps, none_taken}
+use Rattle.t1_report.specs.Checked.{CheckedFont, checked}
+use Rattle.t1_report.specs.Faults.{FaultValue}
+use Rattle.t1_report.specs.Laws.Editions.{IsUsual, UsualFontsHaveOneReport}
+use Rattle.t1_report.specs.Lines.{glyph_name}
+use Rattle.t1_report.specs.Reports.{IsReport, IsTold, Place, is_broken, is_broken_below, is_told, is_unused, is_used, is_used_by, path_at, place_of, rules_of, step_breaks, tells_unused}
+use Rattle.t1_report.specs.Waivers.{Waiver, is_waived}
+
+-- A glyph that has a name is there.
+named_is_there : (font : FontValue) (name : List ℕ) (glyph : ℕ) → glyph_named font name ≡ Some glyph → glyph < length font.glyphs
+named_is_there font name glyph is =
+    let found : glyph < length (map (λ (g : List ℕ × List ℕ). g.0) font.glyphs) = (position-Some (same_name name) (map (λ g. g.0) font.glyphs) glyph [] is).0 in
+    omega (arith, found, names font.glyphs)
+  where
+    names : (glyphs : List (List ℕ × List ℕ)) → length (map (λ (g : List ℕ × List ℕ). g.0) glyphs) ≡ length glyphs
+    names [] = refl
+    names (g ∷ gs) = ap (λ (n : ℕ). suc n) (names gs)
+
+short_components : (font : FontValue) → IsUsual font → HasShortComponents font
+short_components font usual code glyph letters is = usual.short glyph (named_is_there font (standard_name code) glyph is)
+
+-- ---- a step
+
+-- The step there sets no stem of one edge, where none does.
+none_there : (f : StepView → Bool) (steps : List StepView) (place : ℕ) (step : StepView) → list_any f steps ≡ false → slice_get steps place ≡ Some step → f step ≡ false
+none_there f [] place step none is = let no : None ≡ Some step = is in cc
+none_there f (s ∷ ss) zero step none is =
+    let same : s ≡ step = cc in
+    subst (λ t. f t ≡ false) same (left (f s) (list_any f ss) none)
+  where
+    left : (a b : Bool) → (a || b) ≡ false → a ≡ false
+    left false b e = refl
+    left true b e = let no : true ≡ false = e in cc
+none_there f (s ∷ ss) (suc place) step none is = none_there f ss place step (right (f s) (list_any f ss) none) is
+  where
+    right : (a b : Bool) → (a || b) ≡ false → b ≡ false
+    right false b e = e
+    right true b e = let no : true ≡ false = e in cc
+
+-- Up to the limit a step breaks what the rules say.
+by_rules : (font : CheckedFont) (n : ℕ) (before : List StepView) (step : StepView) → length before < limit_of font.edition
+    → step_breaks (limit_of font.edition) (rules_of font) n before (Some step) ≡ breaks (rules_in font.edition font.value) n before step
+unfolding rules_of
+by_rules font n before step within = rw (lt-ltb (length before) (limit_of font.edition) within) refl
+
+step_same : (font : FontValue) → IsUsual font → (glyph : ℕ) → glyph < length font.glyphs → (i n : ℕ) (found : Option StepView) → slice_get (steps_of font glyph) i ≡ found
+    → step_breaks (limit_of Two) (rules_of (checked font Two)) n (take i (steps_of font glyph)) found ≡ step_breaks (limit_of One) (rules_of (checked font One)) n (take i (steps_of font glyph)) found
+step_same font usual glyph there i n None is = refl
+step_same font usual glyph there i n (Some step) is =
+    let steps : List StepView = steps_of font glyph in
+    let less : i < length steps = slice_get_within steps i step is in
+    let few : length steps ≤ 100000 = usual.short glyph there in
+    let count : length (take i steps) ≡ i = length-take-le i steps (omega (arith, less)) in
+    by_rules (checked font Two) n (take i steps) step (omega (arith, count, less, few))
+    ∙ agree_on_usual_steps font (short_components font usual) n (take i steps) step (none_taken sets_one_edge steps i (usual.wide glyph there)) (none_there sets_one_edge steps i step (usual.wide glyph there) is)
+    ∙ sym (by_rules (checked font One) n (take i steps) step (omega (arith, count, less, few)))
+
+broken_same : (font : FontValue) → IsUsual font → (unit step n : ℕ) → is_broken (checked font Two) unit step n ≡ is_broken (checked font One) unit step n
+unfolding is_broken
+broken_same font usual zero step n = refl
+broken_same font usual (suc glyph) zero n = refl
+broken_same font usual (suc glyph) (suc i) n = go (nat_lt glyph (length font.glyphs)) refl
+  where
+    steps : List StepView
+    steps = steps_of font glyph
+
+    go : (b : Bool) → nat_lt glyph (length font.glyphs) ≡ b
+        → (b && step_breaks (limit_of Two) (rules_of (checked font Two)) n (take i steps) (slice_get steps i))
+        ≡ (b && step_breaks (limit_of One) (rules_of (checked font One)) n (take i steps) (slice_get steps i))
+    go true there = step_same font usual glyph (ltb-true glyph (length font.glyphs) there) i n (slice_get steps i) refl
+    go false none = refl
+
+-- ---- a waiver
+
+-- Behind a glyph's last step nothing is broken.
+past_steps : (font : CheckedFont) (glyph i n : ℕ) → length (steps_of font.value glyph) ≤ i → is_broken font (suc glyph) (suc i) n ≡ false
+unfolding is_broken
+past_steps font glyph i n past =
+    ap (λ found. nat_lt glyph (length font.value.glyphs) && step_breaks (limit_of font.edition) (rules_of font) n (take i (steps_of font.value glyph)) found) (slice_get_past (steps_of font.value glyph) i past)
+    ∙ and-false (nat_lt glyph (length font.value.glyphs))
+
+past_last : (font : CheckedFont) (glyph s n : ℕ) → length (steps_of font.value glyph) < s → is_broken font (suc glyph) s n ≡ false
+past_last font glyph zero n past = absurd (omega (arith, past))
+past_last font glyph (suc i) n past = past_steps font glyph i n (omega (arith, past))
+
+below_same : (font other : CheckedFont) (unit n : ℕ) → ((s : ℕ) → is_broken font unit s n ≡ is_broken other unit s n) → (count : ℕ) → is_broken_below font unit count n ≡ is_broken_below other unit count n
+unfolding is_broken_below
+below_same font other unit n same zero = refl
+below_same font other unit n same (suc s) = rw (same s, below_same font other unit n same s) refl
+
+below_past : (font : CheckedFont) (unit n count : ℕ) → ((s : ℕ) → count ≤ s → is_broken font unit s n ≡ false) → (more : ℕ) → is_broken_below font unit (more + count) n ≡ is_broken_below font unit count n
+unfolding is_broken_below
+below_past font unit n count none zero = ap (λ s. is_broken_below font unit s n) (let same : 0 + count ≡ count = omega arith in same)
+below_past font unit n count none (suc more) =
+    let next : suc more + count ≡ suc (more + count) = omega arith in
+    let quiet : is_broken font unit (more + count) n ≡ false = none (more + count) (omega arith) in
+    ap (λ s. is_broken_below font unit s n) next
+    ∙ ap (λ b. b || is_broken_below font unit (more + count) n) quiet
+    ∙ below_past font unit n count none more
+
+used_same : (font : FontValue) → IsUsual font → (w : Waiver) → is_used (checked font Two) w ≡ is_used (checked font One) w
+used_same font usual w = go (glyph_named font w.0) (λ glyph is. named_is_there font w.0 glyph is)
+  where
+    n : ℕ
+    n = number_of w.1
+
+    go : (found : Option ℕ) → ((glyph : ℕ) → found ≡ Some glyph → glyph < length font.glyphs) → is_used_by (checked font Two) n found ≡ is_used_by (checked font One) n found
+    go None there = refl
+    go (Some glyph) there =
+        let few : length (steps_of font glyph) ≤ 100000 = usual.short glyph (there glyph refl) in
+        let split : 1000002 ≡ 900000 + 100002 = omega arith in
+        ap (λ count. is_broken_below (checked font Two) (suc glyph) count n) split
+        ∙ below_past (checked font Two) (suc glyph) n 100002 (λ s past. past_last (checked font Two) glyph s n (omega (arith, few, past))) 900000
+        ∙ below_same (checked font Two) (checked font One) (suc glyph) n (λ s. broken_same font usual (suc glyph) s n) 100002
+
+unused_same : (font : FontValue) → IsUsual font → (waivers : List Waiver) (step n : ℕ) → tells_unused (checked font Two) waivers step n ≡ tells_unused (checked font One) waivers step n
+unused_same font usual waivers zero n = refl
+unused_same font usual waivers (suc i) n = ap (λ b. number_of U01 == n && b) (go (slice_get waivers i))
+  where
+    go : (w : Option Waiver) → is_unused (checked font Two) w ≡ is_unused (checked font One) w
+    go None = refl
+    go (Some w) = ap not (used_same font usual w)
+
+-- ---- the report
+
+told_same : (font : FontValue) → IsUsual font → (waivers : List Waiver) (unit step n : ℕ) → is_told (checked font Two) waivers unit step n ≡ is_told (checked font One) waivers unit step n
+unfolding is_told
+told_same font usual waivers zero step n = broken_same font usual 0 step n
+told_same font usual waivers (suc glyph) step n = go (glyph == length font.glyphs)
+  where
+    told : Bool
+    told = not (is_waived waivers (glyph_name font glyph) n)
+
+    go : (b : Bool) → (if b then tells_unused (checked font Two) waivers step n else is_broken (checked font Two) (suc glyph) step n && told)
+        ≡ (if b then tells_unused (checked font One) waivers step n else is_broken (checked font One) (suc glyph) step n && told)
+    go true = unused_same font usual waivers step n
+    go false = ap (λ b. b && told) (broken_same font usual (suc glyph) step n)
+
+-- What is told alike is reported alike.
+pub reported_alike : (font other : CheckedFont) (waivers others : List Waiver) (faults : List FaultValue) → font.value ≡ other.value
+    → ((unit step n : ℕ) → is_told font waivers unit step n ≡ is_told other others unit step n) → IsReport font waivers faults → IsReport other others faults
+reported_alike font other waivers others faults value same r = record {
+  rising = r.rising;
+  violations = λ i d less. record {
+    violated = sym (same _ _ _) ∙ (r.violations i d less).violated;
+    path = (r.violations i d less).path ∙ ap (λ v. path_at (checked v font.edition) (place_of (slice_index_or faults i d))) value;
+  };
+  complete = λ p told. r.complete p (same p.unit p.step (number_of p.rule) ∙ told);
+  numbered = r.numbered;
+}
+
+pub usual_fonts_have_one_report : UsualFontsHaveOneReport
+usual_fonts_have_one_report font usual waivers faults = (
+  reported_alike (checked font One) (checked font Two) waivers waivers faults refl (λ unit step n. sym (told_same font usual waivers unit step n)),
+  reported_alike (checked font Two) (checked font One) waivers waivers faults refl (told_same font usual waivers),
+)

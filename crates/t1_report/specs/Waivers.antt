@@ -1,0 +1,63 @@
+-- Waivers: a glyph's name and a rule that isn't told of that glyph; and the text that they are read from.
+use Rattle.std.specs.Prelude.{ℕ, ◌-◌, ◌==◌, ◌&&◌, nat_le, if◌then◌else◌, Bool, Option, None, Some, List, [], ◌∷◌, ◌++◌, drop, length, option_and_then, option_map, take}
+use Rattle.std.specs.List.{list_any, prefix_len}
+use Rattle.t1_font.specs.Keys.{same_name}
+use Rattle.t1_scan.specs.Bytes.{is_regular}
+use Rattle.t1_rules.specs.declared.rule.Rule.{Rule}
+use Rattle.t1_rules.specs.declared.rule.Rule.TheVariants.{C01, L01}
+use Rattle.t1_rules.specs.Book.{number_of, rule_coded}
+
+abbrev pub Waiver : Type 0
+Waiver = List ℕ × Rule
+
+-- The rule of this number is waived of the glyphs of this name.
+abbrev pub is_waived : List Waiver → List ℕ → ℕ → Bool
+is_waived waivers name n = list_any (λ w. same_name name w.0 && n == number_of w.1) waivers
+
+-- One waiver more, unless it is there.
+abbrev pub with_waiver : List Waiver → Waiver → List Waiver
+with_waiver waivers w = if is_waived waivers w.0 (number_of w.1) then waivers else waivers ++ w ∷ []
+
+-- ---- the text
+
+-- The lines of a text, of which this is the front of the first: each is ended by byte 10, or by the end.
+unfoldable pub lines_from : List ℕ → List ℕ → List (List ℕ)
+lines_from front [] = front ∷ []
+lines_from front (b ∷ bytes) = if b == 10 then front ∷ lines_from [] bytes else lines_from (front ++ b ∷ []) bytes
+
+-- A line without byte 13, where it ends with it.
+abbrev pub without_return : List ℕ → List ℕ
+without_return line =
+    if same_name (drop (length line - 1) line) (13 ∷ []) then take (length line - 1) line else line
+
+-- A rule on charstrings, or the one on their steps.
+abbrev pub is_waivable : Rule → Bool
+is_waivable rule = nat_le (number_of C01) (number_of rule) && nat_le (number_of rule) (number_of L01)
+
+abbrev pub waiver_by : List ℕ → Option Rule → Option Waiver
+waiver_by name None = None
+waiver_by name (Some rule) = if is_waivable rule then Some (name, rule) else None
+
+abbrev pub waiver_at : List ℕ → List ℕ → Option Waiver
+waiver_at name [] = None
+waiver_at name (b ∷ code) = if b == 32 then waiver_by name (rule_coded code) else None
+
+-- A name of regular bytes, byte 32, and the code of a rule.
+abbrev pub waiver_of : List ℕ → Option Waiver
+waiver_of text = waiver_at (take (prefix_len is_regular text) text) (drop (prefix_len is_regular text) text)
+
+-- The waivers behind a line, without byte 13 at its end; an empty one says nothing.
+abbrev pub text_read : List Waiver → List ℕ → Option (List Waiver)
+text_read waivers [] = Some waivers
+text_read waivers (b ∷ text) = option_map (with_waiver waivers) (waiver_of (b ∷ text))
+
+abbrev pub line_read : List Waiver → List ℕ → Option (List Waiver)
+line_read waivers line = text_read waivers (without_return line)
+
+unfoldable pub lines_read : List Waiver → List (List ℕ) → Option (List Waiver)
+lines_read waivers [] = Some waivers
+lines_read waivers (line ∷ lines) = option_and_then (λ more. lines_read more lines) (line_read waivers line)
+
+-- The waivers of a text, each once, where it first stands; none where a line is malformed.
+abbrev pub waivers_of : List ℕ → Option (List Waiver)
+waivers_of text = lines_read [] (lines_from [] text)
