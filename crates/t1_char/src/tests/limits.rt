@@ -100,7 +100,12 @@ const ENDED: &[(Edition, usize, usize, &str)] = &[
     (Edition::Two, 120, 35, "ended 1000000\n"),
     (Edition::Two, 120, 36, "ended 1000001\n"),
     (Edition::Two, 120, 37, "limit 1000001 - endchar\n1000001\n"),
-    (Edition::Two, 120, 38, "limit 1000001 - dotsection\n1000001\n"),
+    (
+        Edition::Two,
+        120,
+        38,
+        "limit 1000001 - dotsection\n1000001\n",
+    ),
 ];
 
 #[test]
