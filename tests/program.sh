@@ -8,6 +8,7 @@
 #                   Where more than one such line stands, each is tried in a run of its own
 #   empty: N        N empty lines stand in front of that text
 #   same: WORDS     one more run, in which these words stand behind all others, is wanted to answer the same
+#   unused: N       one more run, with a waiver of a glyph that no font has, gives one more line, numbered N
 #   input: NAME     standard input: a file, or `closed`; without this line nothing stands on it
 #   output: WHERE   standard output: `full` (a device that takes no byte) or `closed`; else it is compared
 #   errors: WHERE   the same of standard error
@@ -127,6 +128,21 @@ answers_the_same() {
     done <"$scratch/same"
 }
 
+# Whether a run with a waiver that isn't used gives that line behind the others, where the case says its number.
+tells_unused() {
+    number=$(lines unused "$1")
+    [ -n "$number" ] || return 0
+    printf 'no.glyph C05\n' >"$scratch/unused"
+    run_program "$1" --waive "$scratch/unused"
+    status=$?
+    lines out "$1" >"$scratch/wanted"
+    printf '%s: waiver no.glyph C05 U01 waiver not used\n' "$number" >>"$scratch/wanted"
+    [ "$status" = 1 ] && cmp -s "$scratch/wanted" "$scratch/out" && return 0
+    echo "failed: $(basename "$1" .case): status $status, wanted 1, or other lines where a waiver isn't used (< wanted)"
+    diff "$scratch/wanted" "$scratch/out"
+    return 1
+}
+
 # Writes a file of waivers: empty lines, then a text.
 write_waivers() {
     head -c "$1" /dev/zero | tr '\0' '\n'
@@ -137,7 +153,7 @@ write_waivers() {
 passes() {
     lines waivers "$1" >"$scratch/texts"
     if [ ! -s "$scratch/texts" ]; then
-        answers_the_same "$1"
+        answers_the_same "$1" && tells_unused "$1"
         return
     fi
     empty=$(lines empty "$1")
