@@ -146,36 +146,28 @@ fn leaves_waivers_alone(rt: HostRuntime) -> Result<(), Fail> {
     Ok(())
 }
 
+/// What is answered to so many empty lines of waivers, within a limit, where glyph A is empty.
+fn answer_to_lines(alloc: Global, count: usize, limit: Limit) -> Result<Answer, AllocError>
+    requires { lets_some_through limit ≡ true }
+{
+    let options = waived(alloc, None)?;
+    let file = with_glyph(alloc, b"")?;
+    let text = vec![in alloc; b'\n'; count]?;
+    Ok(answer_with(alloc, file.as_slice(), &options, text.as_slice(), limit))
+}
+
 /// Empty lines to the limit, and one more, a byte a read too.
 #[test]
 fn takes_waivers_to_their_limit(rt: HostRuntime) -> Result<(), Fail> {
-    let options = waived(rt.alloc(), None)?;
-    let file = with_glyph(rt.alloc(), b"")?;
-    let most = vec![in rt.alloc(); b'\n'; 1_048_576]?;
-    let more = vec![in rt.alloc(); b'\n'; 1_048_577]?;
-    for limit in [FAR, Limit::BytesPerCall(1)] {
-        let answer = answer_with(
-            rt.alloc(),
-            file.as_slice(),
-            &options,
-            most.as_slice(),
-            limit,
-        );
-        assert!(rt; answer.is(Status::Faults, b"1: glyph A - 1 GE01 no endchar\n", b""));
-        let answer = answer_with(
-            rt.alloc(),
-            file.as_slice(),
-            &options,
-            more.as_slice(),
-            limit,
-        );
-        assert!(rt;
-            answer.is(
-                Status::Refused,
-                b"",
-                b"refused: E15 waivers past their limit\n"
-            )
-        );
-    }
+    let report = b"1: glyph A - 1 GE01 no endchar\n";
+    let answer = answer_to_lines(rt.alloc(), 1_048_576, FAR)?;
+    assert!(rt; answer.is(Status::Faults, report, b""));
+    let answer = answer_to_lines(rt.alloc(), 1_048_576, Limit::BytesPerCall(1))?;
+    assert!(rt; answer.is(Status::Faults, report, b""));
+    let refusal = b"refused: E15 waivers past their limit\n";
+    let answer = answer_to_lines(rt.alloc(), 1_048_577, FAR)?;
+    assert!(rt; answer.is(Status::Refused, b"", refusal));
+    let answer = answer_to_lines(rt.alloc(), 1_048_577, Limit::BytesPerCall(1))?;
+    assert!(rt; answer.is(Status::Refused, b"", refusal));
     Ok(())
 }
