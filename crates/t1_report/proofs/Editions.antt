@@ -1,6 +1,6 @@
 -- Where a font has the same report in both editions.
 use Rattle.std.proofs.Common.{◌≡◌, ℕ, zero, suc, ◌+◌, ◌<◌, ◌≤◌, ◌==◌, ◌&&◌, ◌||◌, not, nat_lt, if◌then◌else◌, Bool, true, false, Option, Some, None, List, [], ◌∷◌, length, map, take, slice_get, refl, sym, subst, ap, ◌∙◌, arith}
-use Rattle.std.specs.List.{list_any, position, slice_index_or}
+use Rattle.std.specs.List.{list_any, slice_index_or}
 use Rattle.std.proofs.Math.Bool.{and-false}
 use Rattle.std.proofs.lemmas.Bool.{ltb-true, lt-ltb}
 use Rattle.std.proofs.lemmas.List.{length-take-le}
@@ -11,9 +11,9 @@ use Rattle.t1_char.specs.Editions.{limit_of}
 use Rattle.t1_char.specs.Steps.{StepView, steps_of}
 use Rattle.t1_font.specs.Fonts.{FontValue}
 use Rattle.t1_font.specs.Keys.{same_name}
-use Rattle.t1_rules.specs.declared.rule.Rule.TheVariants.{L01, U01}
+use Rattle.t1_rules.specs.declared.rule.Rule.TheVariants.{U01}
 use Rattle.t1_rules.specs.Book.{number_of}
-use Rattle.t1_rules.specs.Components.{components_of, glyph_named}
+use Rattle.t1_rules.specs.Components.{glyph_named}
 use Rattle.t1_rules.specs.Laws.Editions.{HasShortComponents, rules_in, sets_one_edge}
 use Rattle.t1_rules.specs.StandardEncoding.{standard_name}
 use Rattle.t1_rules.specs.StepRules.{breaks}
@@ -22,7 +22,7 @@ use Rattle.t1_report.specs.Checked.{CheckedFont, checked}
 use Rattle.t1_report.specs.Faults.{FaultValue}
 use Rattle.t1_report.specs.Laws.Editions.{IsUsual, UsualFontsHaveOneReport}
 use Rattle.t1_report.specs.Lines.{glyph_name}
-use Rattle.t1_report.specs.Reports.{IsReport, IsTold, Place, is_broken, is_broken_below, is_told, is_unused, is_used, is_used_by, path_at, place_of, rules_of, step_breaks, tells_unused}
+use Rattle.t1_report.specs.Reports.{IsReport, is_broken, is_broken_below, is_told, is_unused, is_used, is_used_by, path_at, place_of, rules_of, step_breaks, tells_unused}
 use Rattle.t1_report.specs.Waivers.{Waiver, is_waived}
 
 -- A glyph that has a name is there.

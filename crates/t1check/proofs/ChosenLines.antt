@@ -5,7 +5,7 @@ use Rattle.std.proofs.lemmas.List.{drop_all, get_or-drop, get_or-take, length-dr
 use Rattle.std.proofs.lemmas.Option.{get_or_from_slice_get, slice_get_within}
 use Rattle.std.specs.Option.{unwrap_or}
 use Rattle.t1_font.specs.Fonts.{FontValue}
-use Rattle.t1_report.specs.Checked.{CheckedFont, checked}
+use Rattle.t1_report.specs.Checked.{CheckedFont}
 use Rattle.std.specs.Result.{IsErrAnd}
 use Rattle.t1_io.specs.Devices.{CallFailed, Delivered, Delivers, Flushed, PutFailed, SinkState, Wrote}
 use Rattle.t1_io.proofs.SinkLemmas.{Delivers-flush, PutFailed-part, Wrote-part}

@@ -1,4 +1,4 @@
-use Rattle.std.proofs.Common.{◌≡◌, ◌+◌, ◌-◌}
+use Rattle.std.proofs.Common.{◌+◌, ◌-◌}
 use Rattle.t1_char.specs.Editions.{limit_of}
 use Rattle.t1_char.proofs.TurnsTaken.{Executes}
 use Rattle.t1_char.specs.Steps.{steps_of}
