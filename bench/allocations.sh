@@ -119,6 +119,12 @@ refuse_in_case() {
     echo "t1check, $(basename "$case" .case): $((number - 1)) refusals, each told"
 }
 
+# The same with the waivers of the case.
+refuse_in_waived_case() {
+    printf '%b' "$(sed -n 's/^waivers: //p' "$cases/$1.case")" >"$work/waivers"
+    refuse_in_case "$@" --waive "$work/waivers"
+}
+
 # t1check on a font in which it finds nothing.
 refuse_in_clean() {
     : >"$work/wanted"
@@ -159,6 +165,8 @@ refuse_in_program() {
     refuse_in_case standard_encoding "$fonts/standard_encoding.pfb" "$checker"
     refuse_in_case glyph_lines_after_one_at_most_one "$fonts/four_faults.pfb" "$checker" --after 1 --max 1
     refuse_in_case trace "$fonts/clean.pfb" "$checker" --trace A
+    refuse_in_waived_case waived_one_rule_of_three "$fonts/four_faults.pfb" "$checker"
+    refuse_in_waived_case waivers_not_used "$fonts/empty_glyph.pfb" "$checker"
     refuse_in_words --bogus
     refuse_in_words --help
 }
