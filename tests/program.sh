@@ -2,7 +2,7 @@
 # Runs the built program on the cases of tests/program, and compares each run's status, standard output
 # and standard error with what the case wants. Names the cases that fail; the last line counts both.
 #
-# A case is a file of lines `KEY: VALUE`, and runs in tests/program/fonts:
+# A case is a file of lines `KEY: VALUE`, and runs in tests/program/fonts, for 60 seconds at most:
 #   word: WORD      one more word of the command line; \0NNN in it is a byte, in octal
 #   waivers: TEXT   the last words are --waive and a file of this text; \n, \r, \t and \0NNN in it are bytes.
 #                   Where more than one such line stands, each is tried in a run of its own
@@ -10,6 +10,7 @@
 #   same: WORDS     one more run, in which these words stand behind all others, is wanted to answer the same
 #   unused: N       one more run, with a waiver of a glyph that no font has, gives one more line, numbered N
 #   input: NAME     standard input: a file, or `closed`; without this line nothing stands on it
+#   rest: LINE      one more line that has to be left on standard input behind the run
 #   output: WHERE   standard output: `full` (a device that takes no byte) or `closed`; else it is compared
 #   errors: WHERE   the same of standard error
 #   memory: N       the run gets N kilobytes of address space
@@ -36,9 +37,11 @@ lines() {
 # Runs the program as the case says, and answers its status: CASE [WORD..], words behind the case's own.
 run_program() {
     input=$(lines input "$1") output=$(lines output "$1") errors=$(lines errors "$1") memory=$(lines memory "$1")
-    rm -f "$scratch/out" "$scratch/err"
+    rm -f "$scratch/out" "$scratch/err" "$scratch/rest"
     : >"$scratch/out"
     : >"$scratch/err"
+    : >"$scratch/rest"
+    rest=$(lines rest "$1")
     lines word "$1" >"$scratch/words"
     shift
     [ $# -eq 0 ] || printf '%s\n' "$@" >>"$scratch/words"
@@ -65,7 +68,11 @@ run_program() {
             full) [ -c /dev/full ] && exec 2>/dev/full || exit 99 ;;
             *) exec 2>"$scratch/err" ;;
         esac
-        exec "$program" "$@"
+        [ -n "$rest" ] || exec timeout 60 "$program" "$@"
+        timeout 60 "$program" "$@"
+        status=$?
+        cat >"$scratch/rest"
+        exit "$status"
     )
 }
 
@@ -103,6 +110,10 @@ answers() {
     run_program "$@"
     status=$?
     wanted=$(lines status "$1")
+    if [ "$status" = 124 ]; then
+        echo "failed: $(basename "$1" .case): it hangs"
+        return 1
+    fi
     if [ "$status" != "$wanted" ]; then
         echo "failed: $(basename "$1" .case): status $status, wanted $wanted"
         cat "$scratch/err"
@@ -113,6 +124,7 @@ answers() {
     else
         is_wanted out "$scratch/out" "$1" || return 1
     fi
+    is_wanted rest "$scratch/rest" "$1" || return 1
     is_wanted err "$scratch/err" "$1"
 }
 
