@@ -1,33 +1,40 @@
 //! The two editions of the rule book: stems of one edge, and how many steps are checked.
 
+use super::Texts;
 use super::components::LONG;
 use super::seac::with_glyphs;
 use super::stems::MANY_STEMS;
-use super::walks::walked;
-use super::{Texts, reported};
+use super::walks::{both, walked};
 use crate::Waivers;
-use std::alloc::Global;
+use std::alloc::{AllocError, Global};
 use std::process::Abort;
 use std::test::Fail;
 use t1_char::Edition;
 use t1_samples::Sample;
 
-/// The file of a sample has these lines by each edition, in its report and by a walk.
-fn assert_editions(
-    rt: &impl Abort,
-    alloc: Global,
-    sample: &Sample,
-    first: &str,
-    second: &str,
-) -> Result<(), Fail> {
-    let texts = Texts::of(alloc, sample.pfb()?.as_slice())?;
+/// The lines of a font by an edition, in its report and by a walk, and how often the walk asks machines.
+fn told_by(alloc: Global, texts: &Texts, edition: Edition) -> Result<(String, u64), Fail> {
     let font = texts.font(alloc)?;
-    let none = Waivers::none();
-    for (edition, lines) in [(Edition::One, first), (Edition::Two, second)] {
-        let found = reported(alloc, &font, &none, edition)?;
-        assert_eq!(rt; found.as_str(), lines, "{edition:?}");
-        let (given, _turns) = walked(alloc, &font, &none, edition)?;
-        assert_eq!(rt; given.as_str(), lines, "{edition:?}, by a walk");
+    both(alloc, &font, &Waivers::none(), edition)
+}
+
+/// A font with Subrs and glyphs.
+fn texts_with(alloc: Global, subrs: &str, glyphs: &str) -> Result<Texts, Fail> {
+    let file = with_glyphs(alloc, subrs, glyphs)?.pfb()?;
+    Texts::of(alloc, file.as_slice())
+}
+
+/// Subrs and glyphs, and the lines by the first edition and by the second.
+type InEditions = (&'static str, &'static str, &'static str, &'static str);
+
+/// A font with Subrs and glyphs gives the lines beside them.
+fn assert_editions(rt: &impl Abort, alloc: Global, cases: &[InEditions]) -> Result<(), Fail> {
+    for (subrs, glyphs, first, second) in cases {
+        let texts = texts_with(alloc, subrs, glyphs)?;
+        let (found, _turns) = told_by(alloc, &texts, Edition::One)?;
+        assert_eq!(rt; found.as_str(), *first, "{glyphs}, edition 1");
+        let (found, _turns) = told_by(alloc, &texts, Edition::Two)?;
+        assert_eq!(rt; found.as_str(), *second, "{glyphs}, edition 2");
     }
     Ok(())
 }
@@ -35,10 +42,9 @@ fn assert_editions(
 /// What two stems that overlap are told as.
 const OVERLAP: &str = "1: glyph A - 9 H02 stems overlap\n";
 
-/// Subrs and glyphs, and the lines by the first edition and by the second. A stem of one edge overlaps none
-/// before it, none behind it and none of its own step; it counts among the 96, and is compared with none where
-/// it is the 97th.
-const STEMS: &[(&str, &str, &str, &str)] = &[
+/// A stem of one edge overlaps none before it, none behind it and none of its own step; it counts among the
+/// 96, and is compared with none where it is the 97th.
+const STEMS: &[InEditions] = &[
     (
         "",
         "A: 0 500 hsbw 0 20 hstem 10 -20 hstem endchar",
@@ -109,15 +115,11 @@ const STEMS: &[(&str, &str, &str, &str)] = &[
 
 #[test]
 fn stems_of_one_edge(rt: HostRuntime) -> Result<(), Fail> {
-    for (subrs, glyphs, first, second) in STEMS {
-        let sample = with_glyphs(rt.alloc(), subrs, glyphs)?;
-        assert_editions(&rt, rt.alloc(), &sample, first, second)?;
-    }
-    Ok(())
+    assert_editions(&rt, rt.alloc(), STEMS)
 }
 
 /// A component whose seac, or whose hsbw, is step 100,001.
-const COMPONENTS: &[(&str, &str, &str, &str)] = &[
+const COMPONENTS: &[InEditions] = &[
     (
         LONG,
         "A: 0 500 hsbw endchar | B: 0 500 hsbw 0 callsubr dotsection dotsection 0 0 0 65 0 seac |\
@@ -141,31 +143,59 @@ C: 0 500 hsbw 0 0 0 65 66 seac",
 
 #[test]
 fn long_components(rt: HostRuntime) -> Result<(), Fail> {
-    for (subrs, glyphs, first, second) in COMPONENTS {
-        let sample = with_glyphs(rt.alloc(), subrs, glyphs)?;
-        assert_editions(&rt, rt.alloc(), &sample, first, second)?;
-    }
-    Ok(())
+    assert_editions(&rt, rt.alloc(), COMPONENTS)
 }
 
-/// A font whose glyph A is `0 500 hsbw`, so many calls of a Subr of 8,333 steps with its call, so many times
-/// dotsection, and endchar.
-fn with_long_glyph(alloc: Global, calls: usize, more: usize) -> Result<Sample, Fail> {
-    let mut subr = Vec::new(alloc);
-    for _ in 0..8_330 {
-        subr.extend_from_slice(b"\x0c\x00")?;
+/// So many times dotsection behind a front, and an end.
+fn with_dotsections(
+    alloc: Global,
+    front: &[u8],
+    count: usize,
+    end: u8,
+) -> Result<Vec<u8>, AllocError> {
+    let mut bytes = Vec::from_slice(alloc, front)?;
+    for _ in 0..count {
+        bytes.extend_from_slice(b"\x0c\x00")?;
     }
-    subr.extend_from_slice(b"\x0b")?;
-    let mut glyph = Vec::from_slice(alloc, b"\x8b\xf8\x88\x0d")?;
+    bytes.push(end)?;
+    Ok(bytes)
+}
+
+/// `0 500 hsbw` and so many calls of Subr 5.
+fn with_calls(alloc: Global, calls: usize) -> Result<Vec<u8>, AllocError> {
+    let mut bytes = Vec::from_slice(alloc, b"\x8b\xf8\x88\x0d")?;
     for _ in 0..calls {
-        glyph.extend_from_slice(b"\x90\x0a")?;
+        bytes.extend_from_slice(b"\x90\x0a")?;
     }
-    for _ in 0..more {
-        glyph.extend_from_slice(b"\x0c\x00")?;
-    }
-    glyph.extend_from_slice(b"\x0e")?;
-    let sample = Sample::new(alloc)?.subr(5, subr.as_slice())?;
-    Ok(sample.glyph(b"A", glyph.as_slice())?)
+    Ok(bytes)
+}
+
+/// `0 500 hsbw`, so many calls of Subr 5, so many times dotsection, and endchar.
+fn long_glyph(alloc: Global, calls: usize, more: usize) -> Result<Vec<u8>, AllocError> {
+    let front = with_calls(alloc, calls)?;
+    with_dotsections(alloc, front.as_slice(), more, 0x0e)
+}
+
+/// A font whose Subr 5 takes 8,333 steps with its call, and with this glyph A.
+fn with_long_subr(alloc: Global, glyph: &[u8]) -> Result<Vec<u8>, AllocError> {
+    let subr = with_dotsections(alloc, b"", 8_330, 0x0b)?;
+    Sample::new(alloc)?
+        .subr(5, subr.as_slice())?
+        .glyph(b"A", glyph)?
+        .pfb()
+}
+
+/// A font whose glyph A calls that Subr so often.
+fn with_long_glyph(alloc: Global, calls: usize, more: usize) -> Result<Texts, Fail> {
+    let glyph = long_glyph(alloc, calls, more)?;
+    let file = with_long_subr(alloc, glyph.as_slice())?;
+    Texts::of(alloc, file.as_slice())
+}
+
+/// The lines that a walk by the second edition gives, and how often it asks machines.
+fn walked_by_the_second(alloc: Global, texts: &Texts) -> Result<(String, u64), Fail> {
+    let font = texts.font(alloc)?;
+    walked(alloc, &font, &Waivers::none(), Edition::Two)
 }
 
 /// What is told of the limits.
@@ -187,21 +217,15 @@ const LENGTHS: &[(usize, usize, &str, &str, u64)] = &[
 /// The report of the first edition lists the steps of a glyph; by the second a walk alone is asked.
 #[test]
 fn long_glyphs(rt: HostRuntime) -> Result<(), Fail> {
-    let alloc = rt.alloc();
-    let none = Waivers::none();
     for (calls, more, first, second, turns) in LENGTHS {
-        let sample = with_long_glyph(alloc, *calls, *more)?;
-        let texts = Texts::of(alloc, sample.pfb()?.as_slice())?;
-        let font = texts.font(alloc)?;
-        let found = reported(alloc, &font, &none, Edition::One)?;
-        assert_eq!(rt; found.as_str(), *first, "{calls} {more}");
-        let (given, _turns) = walked(alloc, &font, &none, Edition::One)?;
-        assert_eq!(rt; given.as_str(), *first, "{calls} {more}");
-        let (given, asked) = walked(alloc, &font, &none, Edition::Two)?;
+        let texts = with_long_glyph(rt.alloc(), *calls, *more)?;
+        let (found, _turns) = told_by(rt.alloc(), &texts, Edition::One)?;
+        assert_eq!(rt; found.as_str(), *first, "{calls} {more}, edition 1");
+        let (found, asked) = walked_by_the_second(rt.alloc(), &texts)?;
         assert_eq!(rt;
-            (given.as_str(), asked),
+            (found.as_str(), asked),
             (*second, *turns),
-            "{calls} {more}"
+            "{calls} {more}, edition 2"
         );
     }
     Ok(())

@@ -1,7 +1,7 @@
 //! Fonts that are made to take long, to nest deep, or to be great: `report` and a walk tell the same of each.
 
-use super::walks::{FIRST, told_in, walked};
-use super::{Texts, reported};
+use super::Texts;
+use super::walks::{FIRST, both, told_in};
 use crate::{Mark, Waivers};
 use std::alloc::{AllocError, Global};
 use std::process::Abort;
@@ -88,15 +88,20 @@ fn of_a_deep_procedure(alloc: Global, depth: usize) -> Result<Texts, Fail> {
     Texts::of(alloc, sample.pfb()?.as_slice())
 }
 
+/// The lines of a font's report, which a walk gives too.
+fn lines_in(alloc: Global, texts: &Texts) -> Result<String, Fail> {
+    let font = texts.font(alloc)?;
+    let (lines, turns) = both(alloc, &font, &Waivers::none(), Edition::One)?;
+    if turns > MOST_TURNS.saturating_mul(font.glyphs().len() as u64) {
+        return Err(Fail::from("a walk asks machines too often"));
+    }
+    Ok(lines)
+}
+
 /// A font has these lines, by its report and by a walk.
 fn assert_both(rt: &impl Abort, alloc: Global, texts: &Texts, lines: &str) -> Result<(), Fail> {
-    let font = texts.font(alloc)?;
-    let none = Waivers::none();
-    let found = reported(alloc, &font, &none, Edition::One)?;
+    let found = lines_in(alloc, texts)?;
     assert_eq!(rt; found.as_str(), lines);
-    let (given, turns) = walked(alloc, &font, &none, Edition::One)?;
-    assert_eq!(rt; given.as_str(), lines, "by a walk");
-    assert!(rt; turns <= MOST_TURNS.saturating_mul(font.glyphs().len() as u64));
     Ok(())
 }
 
@@ -181,12 +186,20 @@ fn refusal_of(alloc: Global, texts: &Texts) -> Option<Refusal> {
 }
 
 #[test]
-fn procedures_nested_32_deep_and_deeper(rt: HostRuntime) -> Result<(), Fail> {
-    let deep = of_a_deep_procedure(rt.alloc(), 32)?;
-    let line = "1: font MinFeature 0 F08 MinFeature is not {16 16}\n";
-    assert_both(&rt, rt.alloc(), &deep, line)?;
-    let deeper = of_a_deep_procedure(rt.alloc(), 33)?;
-    assert_eq!(rt; refusal_of(rt.alloc(), &deeper), Some(Refusal::Unclosed));
+fn a_procedure_nested_32_deep(rt: HostRuntime) -> Result<(), Fail> {
+    let texts = of_a_deep_procedure(rt.alloc(), 32)?;
+    assert_both(
+        &rt,
+        rt.alloc(),
+        &texts,
+        "1: font MinFeature 0 F08 MinFeature is not {16 16}\n",
+    )
+}
+
+#[test]
+fn a_procedure_nested_deeper(rt: HostRuntime) -> Result<(), Fail> {
+    let texts = of_a_deep_procedure(rt.alloc(), 33)?;
+    assert_eq!(rt; refusal_of(rt.alloc(), &texts), Some(Refusal::Unclosed));
     Ok(())
 }
 
@@ -224,20 +237,11 @@ fn are_all_lines(alloc: Global, lines: &str) -> Result<bool, AllocError> {
     Ok(ends && lines == lines_of_empty_glyphs(alloc)?.as_str())
 }
 
+/// They are reported, and a walk gives them.
 #[test]
-fn the_most_glyphs_are_reported(rt: HostRuntime) -> Result<(), Fail> {
+fn the_most_glyphs(rt: HostRuntime) -> Result<(), Fail> {
     let texts = of_empty_glyphs(rt.alloc(), MOST_GLYPHS)?;
-    let font = texts.font(rt.alloc())?;
-    let lines = reported(rt.alloc(), &font, &Waivers::none(), Edition::One)?;
-    assert!(rt; are_all_lines(rt.alloc(), lines.as_str())?);
-    Ok(())
-}
-
-#[test]
-fn the_most_glyphs_are_walked(rt: HostRuntime) -> Result<(), Fail> {
-    let texts = of_empty_glyphs(rt.alloc(), MOST_GLYPHS)?;
-    let font = texts.font(rt.alloc())?;
-    let (lines, _turns) = walked(rt.alloc(), &font, &Waivers::none(), Edition::One)?;
+    let lines = lines_in(rt.alloc(), &texts)?;
     assert!(rt; are_all_lines(rt.alloc(), lines.as_str())?);
     Ok(())
 }

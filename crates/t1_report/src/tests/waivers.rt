@@ -1,10 +1,11 @@
 //! Waivers: how they are read, what they leave of a report, and walks among those that aren't used.
 
-use super::walks::{FIRST, told, walked};
-use super::{Texts, reported};
+ghost use Rattle.t1_rules.specs.Components.{AreOf};
+
+use super::Texts;
+use super::walks::{FIRST, both, told};
 use crate::{Mark, WaiverError, Waivers};
 use std::alloc::{AllocError, Global};
-use std::process::Abort;
 use std::test::Fail;
 use t1_char::Edition;
 use t1_font::Font;
@@ -130,36 +131,38 @@ const TOLD: &[(&[u8], &[u8], &str, u64)] = &[
     ),
 ];
 
-fn assert_told(
-    rt: &impl Abort,
-    alloc: Global,
-    font: &Font<'_>,
-    text: &[u8],
-    lines: &str,
-    turns: u64,
-) -> Result<(), Fail> {
+/// A font with this glyph A.
+fn with_glyph(alloc: Global, glyph: &[u8]) -> Result<Texts, Fail> {
+    let file = Sample::new(alloc)?.glyph(b"A", glyph)?.pfb()?;
+    Texts::of(alloc, file.as_slice())
+}
+
+/// The waivers of a text.
+fn waivers_in(alloc: Global, text: &[u8]) -> Result<Waivers<'_>, Fail> {
     if text.len() > 1_048_576 {
         return Err(Fail::from("a long text"));
     }
-    let waivers = Waivers::read(alloc, text).map_err(|_| Fail::from("waivers"))?;
-    let found = reported(alloc, font, &waivers, Edition::One)?;
-    assert_eq!(rt; found.as_str(), lines, "{text:?}");
-    let (given, asked) = walked(alloc, font, &waivers, Edition::One)?;
-    assert_eq!(rt;
-        (given.as_str(), asked),
-        (lines, turns),
-        "{text:?}, by a walk"
-    );
-    Ok(())
+    Waivers::read(alloc, text).map_err(|_| Fail::from("waivers"))
+}
+
+/// The lines with waivers, and how often a walk asks machines.
+fn told_with(alloc: Global, font: &Font<'_>, text: &[u8]) -> Result<(String, u64), Fail> {
+    let waivers = waivers_in(alloc, text)?;
+    both(alloc, font, &waivers, Edition::One)
+}
+
+/// The same of the texts of a font.
+fn told_of(alloc: Global, texts: &Texts, text: &[u8]) -> Result<(String, u64), Fail> {
+    let font = texts.font(alloc)?;
+    told_with(alloc, &font, text)
 }
 
 #[test]
 fn reports_with_waivers(rt: HostRuntime) -> Result<(), Fail> {
     for (glyph, text, lines, turns) in TOLD {
-        let sample = Sample::new(rt.alloc())?.glyph(b"A", glyph)?;
-        let texts = Texts::of(rt.alloc(), sample.pfb()?.as_slice())?;
-        let font = texts.font(rt.alloc())?;
-        assert_told(&rt, rt.alloc(), &font, text, lines, *turns)?;
+        let texts = with_glyph(rt.alloc(), glyph)?;
+        let (found, asked) = told_of(rt.alloc(), &texts, text)?;
+        assert_eq!(rt; (found.as_str(), asked), (*lines, *turns), "{text:?}");
     }
     Ok(())
 }
@@ -234,19 +237,28 @@ const RESUMED: &[(&[u8], Mark, &str)] = &[
     ),
 ];
 
+/// The six answers, of the sidebearings of a font.
+fn resumed_by<'a>(
+    alloc: Global,
+    font: &'a Font<'a>,
+    sidebearings: &'a Sidebearings,
+    text: &[u8],
+    mark: Mark,
+) -> Result<String, Fail>
+    requires { AreOf font.now sidebearings.now }
+{
+    let waivers = waivers_in(alloc, text)?;
+    Ok(told(alloc, &*font, &*sidebearings, &waivers, mark)?)
+}
+
 fn resumed(alloc: Global, font: &Font<'_>, text: &[u8], mark: Mark) -> Result<String, Fail> {
-    if text.len() > 1_048_576 {
-        return Err(Fail::from("a long text"));
-    }
-    let waivers = Waivers::read(alloc, text).map_err(|_| Fail::from("waivers"))?;
     let sidebearings = Sidebearings::prepare(alloc, font, Edition::One)?;
-    Ok(told(alloc, &*font, &sidebearings, &waivers, mark)?)
+    resumed_by(alloc, &*font, &sidebearings, text, mark)
 }
 
 #[test]
 fn walks_among_waivers(rt: HostRuntime) -> Result<(), Fail> {
-    let sample = Sample::new(rt.alloc())?.glyph(b"A", b"")?;
-    let texts = Texts::of(rt.alloc(), sample.pfb()?.as_slice())?;
+    let texts = with_glyph(rt.alloc(), b"")?;
     let font = texts.font(rt.alloc())?;
     for (text, mark, want) in RESUMED {
         let found = resumed(rt.alloc(), &font, text, *mark)?;

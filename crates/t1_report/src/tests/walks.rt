@@ -2,7 +2,7 @@
 
 ghost use Rattle.t1_rules.specs.Components.{AreOf};
 
-use super::{Texts, add_line};
+use super::{Texts, add_line, reported};
 use crate::{Fault, Mark, Waivers, Walk, report};
 use std::alloc::{AllocError, Global};
 use std::test::Fail;
@@ -73,6 +73,21 @@ pub(super) fn walked(
         return Err(Fail::from("another edition"));
     }
     lines_given(alloc, &*font, &sidebearings, &*waivers)
+}
+
+/// The lines of a font's report, which a walk gives too, and how often the walk asked machines.
+pub(super) fn both(
+    alloc: Global,
+    font: &Font<'_>,
+    waivers: &Waivers<'_>,
+    edition: Edition,
+) -> Result<(String, u64), Fail> {
+    let found = reported(alloc, font, waivers, edition)?;
+    let (given, turns) = walked(alloc, font, waivers, edition)?;
+    if given.as_str() != found.as_str() {
+        return Err(Fail::from("a walk isn't the report"));
+    }
+    Ok((found, turns))
 }
 
 /// The lines of the faults up to the answer that there is none more, which is given again.

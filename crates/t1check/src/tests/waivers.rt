@@ -125,17 +125,27 @@ fn tells_a_failed_read_of_waivers(rt: HostRuntime) -> Result<(), Fail> {
     Ok(())
 }
 
-/// Waivers whose first read fails are left alone where the font is refused, and where a trace is asked for.
+/// What is answered to a file with waivers whose first read fails.
+fn answer_without(alloc: Global, file: &[u8], trace: Option<String>) -> Result<Answer, AllocError> {
+    let options = waived(alloc, trace)?;
+    Ok(answer_with(alloc, file, &options, b"A", Limit::Calls(0)))
+}
+
+/// Waivers are left alone where the font is refused.
 #[test]
-fn leaves_waivers_alone(rt: HostRuntime) -> Result<(), Fail> {
-    let none = Limit::Calls(0);
+fn leaves_waivers_alone_at_a_refusal(rt: HostRuntime) -> Result<(), Fail> {
     let cut: &[u8] = &[0x80, 1, 5, 0, 0, 0, 0x25, 0x21, 0x0a, 0x0a];
-    let options = waived(rt.alloc(), None)?;
-    let answer = answer_with(rt.alloc(), cut, &options, b"A", none);
+    let answer = answer_without(rt.alloc(), cut, None)?;
     assert!(rt; answer.is(Status::Refused, b"", b"refused: E03 segment cut short\n"));
-    let options = waived(rt.alloc(), Some(String::from_str(rt.alloc(), "A")?))?;
+    Ok(())
+}
+
+/// And where a trace is asked for.
+#[test]
+fn leaves_waivers_alone_at_a_trace(rt: HostRuntime) -> Result<(), Fail> {
     let file = with_glyph(rt.alloc(), NOTDEF)?;
-    let answer = answer_with(rt.alloc(), file.as_slice(), &options, b"A", none);
+    let name = String::from_str(rt.alloc(), "A")?;
+    let answer = answer_without(rt.alloc(), file.as_slice(), Some(name))?;
     assert!(rt;
         answer.is(
             Status::Clean,
@@ -156,18 +166,33 @@ fn answer_to_lines(alloc: Global, count: usize, limit: Limit) -> Result<Answer, 
     Ok(answer_with(alloc, file.as_slice(), &options, text.as_slice(), limit))
 }
 
+/// How many empty lines, the status, and what is written and told.
+const AT_THE_LIMIT: &[(usize, Status, &str, &str)] = &[
+    (
+        1_048_576,
+        Status::Faults,
+        "1: glyph A - 1 GE01 no endchar\n",
+        "",
+    ),
+    (
+        1_048_577,
+        Status::Refused,
+        "",
+        "refused: E15 waivers past their limit\n",
+    ),
+];
+
 /// Empty lines to the limit, and one more, a byte a read too.
 #[test]
 fn takes_waivers_to_their_limit(rt: HostRuntime) -> Result<(), Fail> {
-    let report = b"1: glyph A - 1 GE01 no endchar\n";
-    let answer = answer_to_lines(rt.alloc(), 1_048_576, FAR)?;
-    assert!(rt; answer.is(Status::Faults, report, b""));
-    let answer = answer_to_lines(rt.alloc(), 1_048_576, Limit::BytesPerCall(1))?;
-    assert!(rt; answer.is(Status::Faults, report, b""));
-    let refusal = b"refused: E15 waivers past their limit\n";
-    let answer = answer_to_lines(rt.alloc(), 1_048_577, FAR)?;
-    assert!(rt; answer.is(Status::Refused, b"", refusal));
-    let answer = answer_to_lines(rt.alloc(), 1_048_577, Limit::BytesPerCall(1))?;
-    assert!(rt; answer.is(Status::Refused, b"", refusal));
+    for (count, status, output, told) in AT_THE_LIMIT {
+        for limit in [FAR, Limit::BytesPerCall(1)] {
+            let answer = answer_to_lines(rt.alloc(), *count, limit)?;
+            assert!(rt;
+                answer.is(*status, output.as_bytes(), told.as_bytes()),
+                "{count}"
+            );
+        }
+    }
     Ok(())
 }
