@@ -17,8 +17,10 @@ pub mod Othersubrs
 pub mod PlainGlyphs
 pub mod ReadBack
 pub mod Rests
+pub mod SeacBytes
 pub mod SincePlaces
 pub mod Skipping
 pub mod Spelling
+pub mod StepsLackSeac
 pub mod TextsReadBack
 pub mod TurnsTaken

@@ -11,7 +11,9 @@ use Rattle.t1_char.specs.Steps.{StepView, Run, and_then, expansion, step_at, eff
 use Rattle.t1_char.specs.StepValues.{step_view, step_value}
 use Rattle.t1_char.specs.Turns.{ended, limited, stepped, step_of_number, step_or_end, limit_or_end, turn_at, counted_after}
 use Rattle.t1_char.specs.Workings.Frames.{Frame, IsReady, frame, rest_of, callers_of, state_in, left_behind, step_here, steps_from}
+use Rattle.t1_char.specs.Passing.{IsPassed, is_kept_number}
 use Rattle.t1_char.specs.Workings.Machines.{GoesOnFrom, IsAt, answer_view}
+use Rattle.t1_char.specs.Workings.Plain.{GoesOver}
 use Rattle.t1_char.proofs.Additions.{and_then_front}
 
 -- The step of the first token stands first, whatever it does.
@@ -167,4 +169,32 @@ answers_limit limit steps font n f new h next past =
       };
       turn = sym (turn_above limit steps n (omega (arith, at)) ∙ found);
       count = count_on limit steps n (omega (arith, at, h.within, length-take limit steps));
+    }
+
+-- A number was gone over.
+pub record GoneOver (limit : ℕ) (steps : List StepView) (font : FontValue) (n : ℕ) (new : Frames) : Type 0 where
+  pub stands : GoesOnFrom limit steps font (n + 1) new
+  pub passed : IsPassed limit steps n
+
+kept_here : (font : FontValue) (f new : Frames) → GoesOver font f new → is_kept_number (step_here font new) ≡ true
+kept_here font f new over = rw (over.number, lt-ltb (length new.step.stack) 24 over.room) refl
+
+pub gone_over : (limit : ℕ) (steps : List StepView) (font : FontValue) (n : ℕ) (f new : Frames) → GoesOnFrom limit steps font n f → GoesOver font f new → n < limit → GoneOver limit steps font n new
+gone_over limit steps font n f new h over near =
+    let rest : List StepView = (leads font new).0 in
+    let there : drop n steps ≡ step_here font new ∷ rest = ap tail_of (sym h.steps_are ∙ over.behind) ∙ (leads font new).1 in
+    let one_more : n + 1 ≡ suc n = omega arith in
+    record {
+      stands = record {
+        ready = over.ready;
+        steps_are = (leads font new).1 ∙ ap (λ l. step_here font new ∷ l) (sym (ap (λ k. drop k steps) one_more ∙ drop_next n steps rest (step_here font new) there));
+        near = omega (arith, near);
+        within = is_within n steps rest (step_here font new) there;
+      };
+      passed = record {
+        step = step_here font new;
+        there = get_there n steps rest (step_here font new) there;
+        kept = kept_here font f new over;
+        near = near;
+      };
     }

@@ -6,6 +6,8 @@ pub mod Effects
 pub mod Laws
 pub mod Lending
 pub mod Numbers
+pub mod Passing
+pub mod Seacs
 pub mod Since
 pub mod Stacks
 pub mod StepValues

@@ -35,6 +35,7 @@ pub(crate) enum Work {
 }
 
 /// What a command does.
+#[inline(always)]
 pub(crate) fn work_of(command: Command) -> Work
     ensures { work_view result ≡ work_of command }
 {

@@ -73,6 +73,7 @@ struct Row {
 }
 
 impl Row {
+    #[inline(always)]
     fn of(name: &'static str, arguments: Option<u8>) -> Row
         ensures name { result.name.now ≡ name.now }
         ensures arguments { result.arguments ≡ arguments }
@@ -84,6 +85,7 @@ impl Row {
 impl Command {
     /// How many arguments the command takes from the bottom of the stack, which it then empties; none
     /// where it takes what it needs from the top.
+    #[inline(always)]
     pub fn arguments(self) -> Option<u8>
         ensures { result ≡ arguments_of self }
     {
@@ -91,6 +93,7 @@ impl Command {
     }
 
     /// The command's row.
+    #[inline(always)]
     fn row(self) -> Row
         ensures name { result.name.now ≡ name_of self }
         ensures arguments { result.arguments ≡ arguments_of self }
@@ -125,6 +128,7 @@ impl Command {
     }
 
     /// The command of a byte below 32 other than 12.
+    #[inline(always)]
     pub(crate) fn plain(byte: u8) -> Option<Command>
         ensures { result ≡ command_of byte }
     {
@@ -150,6 +154,7 @@ impl Command {
     }
 
     /// The command of 12 and this byte.
+    #[inline(always)]
     pub(crate) fn escaped(byte: u8) -> Option<Command>
         ensures { result ≡ escaped_of byte }
     {

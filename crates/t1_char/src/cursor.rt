@@ -1,11 +1,16 @@
 //! A place in a charstring, at which it is deciphered as it is read.
 
-ghost use Rattle.std.specs.Prelude.{◌≡◌, false, ◌/◌, bit_xor, MatchOption, [], ◌∷◌, drop, length};
+ghost use Rattle.std.specs.Prelude.{◌≡◌, false, true, ◌/◌, bit_xor, IfSome, MatchOption, [], ◌∷◌, drop, length};
 ghost use Rattle.t1_seal.specs.Laws.Cipher.{next_state};
 ghost use Rattle.t1_char.specs.Tokens.{charstring_tokens, long_number, more_of, random_of, token_at};
 ghost use Rattle.t1_seal.specs.Cipher.{charstring_start, decrypted};
 ghost use Rattle.t1_char.specs.Steps.{is_end};
 ghost use Rattle.t1_char.specs.Workings.Cursors.{behind_token, bytes_left, key_after, key_of, plain_by, tokens_left};
+ghost use Rattle.t1_char.specs.Passing.{is_number};
+ghost use Rattle.std.specs.List.{list_any};
+ghost use Rattle.t1_char.specs.Seacs.{is_seac};
+ghost use Rattle.t1_char.specs.Workings.Seacs.{has_pair};
+ghost use Rattle.t1_char.specs.declared.token.CharToken.TheVariants.{Cut, Number};
 
 use crate::token::{CharToken, escaped_token, joined, pair, plain_token, signed};
 use t1_seal::Cipher;
@@ -80,6 +85,44 @@ impl<'a> Cursor<'a> {
         }
     }
 
+    /// The next token, where it is a number of one or two bytes.
+    #[inline(always)]
+    #[tactic(auto, using(crate::proofs::Skipping::tokens_behind_is), unfolding(crate::specs::Tokens::tokens_behind))]
+    pub(crate) fn next_number(&mut self) -> Option<CharToken>
+        ensures token { IfSome result (λ token. tokens_left self.old ≡ token ∷ tokens_left self.new) }
+        ensures number { IfSome result (λ token. is_number token ≡ true) }
+    {
+        if self.short {
+            return None;
+        }
+        match self.next_byte() {
+            None => None,
+            Some(first) => self.number_behind(first),
+        }
+    }
+
+    /// The number of its first byte and the byte behind it.
+    #[inline(always)]
+    fn number_behind(&mut self, first: u8) -> Option<CharToken>
+        ensures token { IfSome result (λ token. token_at first (bytes_left self.old) ≡ token) }
+        ensures number { IfSome result (λ token. is_number token ≡ true) }
+        ensures left { IfSome result (λ token. bytes_left self.new ≡ drop (more_of first) (bytes_left self.old)) }
+        ensures short { self.new.short ≡ self.old.short }
+    {
+        match first {
+            32..=246 => Some(CharToken::Number(i32::from(first) - 139)),
+            247..=250 => match self.next_byte() {
+                Some(second) => Some(CharToken::Number(i32::from(pair(first - 247, second)))),
+                None => None,
+            },
+            251..=254 => match self.next_byte() {
+                Some(second) => Some(CharToken::Number(-i32::from(pair(first - 251, second)))),
+                None => None,
+            },
+            _ => None,
+        }
+    }
+
     /// The token of its first byte and the bytes behind it.
     #[inline(always)]
     fn token_behind(&mut self, first: u8) -> CharToken
@@ -103,26 +146,53 @@ impl<'a> Cursor<'a> {
                 Some(second) => CharToken::Number(-i32::from(pair(first - 251, second))),
                 None => CharToken::Cut,
             },
-            255 => self.long_number(),
+            255 => match self.long_number() {
+                Some(number) => CharToken::Number(number),
+                None => CharToken::Cut,
+            },
         }
     }
 
     /// The number of the next four bytes.
-    #[inline(always)]
-    fn long_number(&mut self) -> CharToken
-        ensures token { result ≡ long_number (bytes_left self.old) }
+    #[inline(never)]
+    fn long_number(&mut self) -> Option<i32>
+        ensures token { MatchOption result (long_number (bytes_left self.old) ≡ Cut)
+            (λ number. long_number (bytes_left self.old) ≡ Number number) }
         ensures left { bytes_left self.new ≡ drop 4 (bytes_left self.old) }
         ensures short { self.new.short ≡ self.old.short }
-        ensures goes_on { is_end result ≡ false }
     {
         let a = self.next_byte();
         let b = self.next_byte();
         let c = self.next_byte();
         let d = self.next_byte();
         match (a, b, c, d) {
-            (Some(a), Some(b), Some(c), Some(d)) => CharToken::Number(signed(joined(a, b, c, d))),
-            _ => CharToken::Cut,
+            (Some(a), Some(b), Some(c), Some(d)) => Some(signed(joined(a, b, c, d))),
+            _ => None,
         }
+    }
+
+    /// Whether bytes that are left may write seac: 12 and 6 side by side.
+    #[inline(always)]
+    pub(crate) fn may_have_seac(&self) -> bool
+        ensures { result ≡ false → list_any is_seac (tokens_left self.now) ≡ false }
+    {
+        self.has_pair()
+    }
+
+    /// Whether 12 and 6 stand side by side in what is left.
+    #[inline(always)]
+    fn has_pair(&self) -> bool
+        ensures { result ≡ has_pair 0 (bytes_left self.now) }
+    {
+        let mut ahead = *self;
+        let mut before = 0;
+        while let Some(byte) = ahead.next_byte() {
+            if byte == 6 && before == 12 {
+                return true;
+            }
+            before = byte;
+        }
+        false
     }
 
     fn discard(&mut self, count: usize)
@@ -160,13 +230,9 @@ impl<'a> Cursor<'a> {
         ensures left { self.new.left.now ≡ self.old.left.now }
         ensures short { self.new.short ≡ self.old.short }
     {
-        match self.cipher {
+        match &mut self.cipher {
             None => byte,
-            Some(mut cipher) => {
-                let plain = next_plain(&mut cipher, byte);
-                self.cipher = Some(cipher);
-                plain
-            }
+            Some(cipher) => next_plain(cipher, byte),
         }
     }
 }

@@ -1,12 +1,14 @@
 //! The effect of a token on the stack, on the results that wait, and on the run: Type 1 Font Format
 //! 1.1, chapters 6 and 8.
 
-ghost use Rattle.std.specs.Prelude.{◌≡◌, ◌≤◌, length};
-ghost use Rattle.t1_char.specs.Effects.{after_othersubr, call_of, divided, effect, effect_of, popped, results, working};
+ghost use Rattle.std.specs.Prelude.{◌≡◌, ◌≤◌, ◌+◌, false, length, true};
+ghost use Rattle.t1_char.specs.Effects.{after_othersubr, call_of, divided, effect, effect_of, popped, results, work_of, working};
 ghost use Rattle.t1_char.specs.Stacks.{topmost, without};
 ghost use Rattle.t1_char.specs.Workings.Actions.{IsNested, action_of, named_of, state_of, work_view};
+ghost use Rattle.t1_char.specs.Workings.Plain.{IsPlainEffect, is_clearing};
 
 use crate::action::{Action, Work, work_of};
+use crate::command::Command;
 use crate::numbers::{natural, quotient, units};
 use crate::stack::Stack;
 use crate::subr::Subr;
@@ -48,6 +50,37 @@ pub(crate) fn apply<'a>(
             }
         }
     }
+}
+
+/// Executes a number or a command that empties the stack and does no more; tells whether it did.
+#[inline(always)]
+pub(crate) fn apply_plain(stack: &mut Stack, token: CharToken) -> bool
+    ensures plain { result ≡ true → IsPlainEffect token stack.old stack.new }
+    ensures stays { result ≡ false → stack.new ≡ stack.old }
+    ensures most { length stack.new ≤ length stack.old + 1 }
+{
+    match token {
+        CharToken::Number(number) => {
+            stack.put(units(number));
+            true
+        }
+        CharToken::Command(command) => {
+            if !only_clears(command) {
+                return false;
+            }
+            stack.clear();
+            true
+        }
+        _ => false,
+    }
+}
+
+/// Whether a command empties the stack and does no more.
+#[inline(always)]
+fn only_clears(command: Command) -> bool
+    ensures { result ≡ is_clearing (work_of command) }
+{
+    matches!(work_of(command), Work::Clears)
 }
 
 /// Executes a command.
@@ -94,6 +127,7 @@ fn work<'a>(
     }
 }
 
+#[inline(never)]
 fn divide(stack: &mut Stack)
     ensures { stack.new ≡ divided stack.old }
 {
@@ -120,6 +154,7 @@ fn call<'a>(stack: &mut Stack, named: Option<Subr<'a>>, depth: usize) -> Action<
     }
 }
 
+#[inline(never)]
 fn call_othersubr(stack: &mut Stack, waiting: &mut Waiting)
     ensures { state_of stack.new waiting.new.items ≡ after_othersubr (state_of stack.old waiting.old.items) }
 {
@@ -162,6 +197,7 @@ fn results(number: Option<u32>, arguments: &[i64]) -> &[i64]
     }
 }
 
+#[inline(never)]
 fn pop(stack: &mut Stack, waiting: &mut Waiting)
     ensures { state_of stack.new waiting.new.items ≡ popped stack.old waiting.old.items }
 {

@@ -155,7 +155,7 @@ impl<'a> Listing<'a> {
             stack: self.stack.copy(),
             waiting: self.waiting.len(),
             found: named.is_some(),
-            last: is_last(token, cursor, depth),
+            last: is_last(&token, &cursor, depth),
         };
         self.steps.push(step)?;
         let action = apply(&mut self.stack, &mut self.waiting, token, named, depth);

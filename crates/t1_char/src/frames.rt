@@ -1,17 +1,19 @@
 //! The charstrings that are being executed: a glyph's, and those of the Subrs that it calls.
 
-ghost use Rattle.std.specs.Prelude.{◌≡◌, ◌<◌, ◌-◌, ◌++◌, ◌∷◌, [], if◌then◌else◌, length, take};
+ghost use Rattle.std.specs.Prelude.{◌≡◌, ◌<◌, ◌-◌, ◌++◌, ◌∷◌, [], if◌then◌else◌, false, is_some, length, take, true};
 ghost use Rattle.t1_char.specs.Charstrings.{tokens_in};
 ghost use Rattle.t1_char.specs.Effects.{most_calls};
-ghost use Rattle.t1_char.specs.Steps.{steps_of};
+ghost use Rattle.t1_char.specs.Steps.{named_at, steps_of};
+ghost use Rattle.t1_char.specs.Workings.Actions.{named_of};
 ghost use Rattle.t1_char.specs.StepValues.{step_view};
 ghost use Rattle.t1_char.specs.Workings.Cursors.{tokens_left};
 ghost use Rattle.t1_char.specs.Workings.Frames.{IsReady, state_in, step_here, steps_behind, steps_from};
+ghost use Rattle.t1_char.specs.Workings.Plain.{GoesOver};
 
 use crate::action::Action;
 use crate::charstrings::{code_at, cursor_at};
 use crate::cursor::Cursor;
-use crate::effect::{Waiting, apply};
+use crate::effect::{Waiting, apply, apply_plain};
 use crate::stack::Stack;
 use crate::step::{Step, is_callsubr, is_last, named_at};
 use crate::subr::Subr;
@@ -56,8 +58,37 @@ impl<'a> Frames<'a> {
         }
     }
 
+    /// The same of another glyph, in place: what the arrays hold isn't overwritten.
+    pub(crate) fn start_again(&mut self, font: &'a Font<'a>, glyph: usize)
+        ensures ready { IsReady font.now self.new }
+        ensures steps { steps_from font.now self.new ≡ step_here font.now self.new ∷ steps_of font.now glyph }
+    {
+        self.current = cursor_at(font, code_at(font, glyph));
+        self.callers.clear();
+        self.named = None;
+        self.waiting.clear();
+        self.step.token = CharToken::Cut;
+        self.step.path.clear();
+        self.step.stack.clear();
+    }
+
     /// Executes the step, and tells whether the run goes on.
+    #[inline(always)]
     pub(crate) fn execute(&mut self, font: &'a Font<'a>) -> bool
+        requires { IsReady font.now self.old }
+        ensures steps { steps_from font.now self.old
+            ≡ step_here font.now self.old ∷ (if result then steps_behind font.now self.new else []) }
+        ensures even { length self.new.step.path.items ≡ length self.new.callers.items }
+    {
+        if apply_plain(&mut self.step.stack, self.step.token) {
+            return true;
+        }
+        self.execute_other(font)
+    }
+
+    /// The same of any step.
+    #[inline(never)]
+    fn execute_other(&mut self, font: &'a Font<'a>) -> bool
         requires { IsReady font.now self.old }
         ensures steps { steps_from font.now self.old
             ≡ step_here font.now self.old ∷ (if result then steps_behind font.now self.new else []) }
@@ -85,6 +116,7 @@ impl<'a> Frames<'a> {
     }
 
     /// Goes into a Subr.
+    #[inline(never)]
     fn enter(&mut self, font: &'a Font<'a>, subr: Subr<'a>)
         requires room { length self.old.step.path.items < most_calls }
         requires even { length self.old.step.path.items ≡ length self.old.callers.items }
@@ -99,6 +131,7 @@ impl<'a> Frames<'a> {
     }
 
     /// Goes back into the charstring that called.
+    #[inline(never)]
     fn leave(&mut self)
         requires called { 0 < length self.old.callers.items }
         ensures path { self.new.step.path.items
@@ -112,6 +145,31 @@ impl<'a> Frames<'a> {
         }
     }
 
+    /// Executes the step and reads the next one, where it is a number that the stack has room for, and the
+    /// step a number or a command that only empties the stack; else nothing is done.
+    #[inline(always)]
+    pub(crate) fn pass_number(&mut self, _font: &'a Font<'a>) -> bool
+        requires { IsReady _font.now self.old }
+        ensures over { result ≡ true → GoesOver _font.now self.old self.new }
+        ensures stays { result ≡ false → self.new ≡ self.old }
+    {
+        if self.step.stack.len() > 22 {
+            return false;
+        }
+        let mut ahead = self.current;
+        match ahead.next_number() {
+            None => false,
+            Some(token) => {
+                if !apply_plain(&mut self.step.stack, self.step.token) {
+                    return false;
+                }
+                self.current = ahead;
+                self.step.token = token;
+                true
+            }
+        }
+    }
+
     /// Reads the next step.
     #[inline(always)]
     pub(crate) fn read(&mut self, font: &'a Font<'a>, number: u32)
@@ -121,15 +179,23 @@ impl<'a> Frames<'a> {
         ensures step { step_view self.new.step ≡ step_here font.now self.new }
         ensures number { self.new.step.number ≡ number }
     {
-        let token = self.current.next_token();
+        self.step.token = self.current.next_token();
         self.step.number = number;
-        self.step.token = token;
         self.step.waiting = self.waiting.len();
         self.step.found = false;
-        if is_callsubr(token) {
-            self.named = named_at(font, token, &self.step.stack);
-            self.step.found = self.named.is_some();
+        if is_callsubr(self.step.token) {
+            self.name(font);
         }
-        self.step.last = is_last(token, self.current, self.step.path.len());
+        self.step.last = is_last(&self.step.token, &self.current, self.step.path.len());
+    }
+    /// Looks for the Subr that the step calls.
+    #[inline(never)]
+    fn name(&mut self, font: &'a Font<'a>)
+        ensures named { named_of self.new.named ≡ named_at font.now self.old.step.token self.old.step.stack }
+        ensures found { self.new.step.found ≡ is_some (named_at font.now self.old.step.token self.old.step.stack) }
+        ensures kept { self.new ≡ record self.old { named = self.new.named; step = record self.old.step { found = self.new.step.found } } }
+    {
+        self.named = named_at(font, self.step.token, &self.step.stack);
+        self.step.found = self.named.is_some();
     }
 }

@@ -44,6 +44,7 @@ mod frames;
 mod laws;
 mod machine;
 mod numbers;
+mod seacs;
 mod stack;
 mod step;
 mod subr;
@@ -61,6 +62,7 @@ pub use laws::{
 };
 pub use machine::{Machine, Turn};
 pub use numbers::{cut_quotient, natural};
+pub use seacs::{steps_lack_seac, subrs_lack_seac};
 pub use stack::Stack;
 pub use step::{Path, Step};
 pub use token::CharToken;

@@ -1,7 +1,8 @@
 //! The steps of a glyph one at a time: Type 1 Font Format 1.1, chapters 6 and 8.
 
-ghost use Rattle.std.specs.Prelude.{◌≡◌, ◌<◌, ◌≤◌, ◌+◌, length};
+ghost use Rattle.std.specs.Prelude.{◌≡◌, ◌<◌, ◌≤◌, ◌+◌, if◌then◌else◌, length, true};
 ghost use Rattle.t1_char.specs.Editions.{limit_of};
+ghost use Rattle.t1_char.specs.Passing.{ArePassed, IsPassed};
 ghost use Rattle.t1_char.specs.Steps.{steps_of};
 ghost use Rattle.t1_char.specs.StepValues.{step_value};
 ghost use Rattle.t1_char.specs.Turns.{counted_after, turn_at};
@@ -92,7 +93,24 @@ impl<'a> Machine<'a> {
         }
     }
 
+    /// Goes before the first step of another glyph of the font: [`Machine::start`] in place.
+    pub fn start_again(&mut self, glyph: usize, edition: Edition)
+        requires { glyph < length self.old.font.glyphs }
+        ensures font { self.new.font ≡ self.old.font }
+        ensures glyph { self.new.glyph ≡ glyph }
+        ensures edition { self.new.edition ≡ edition }
+        ensures counted { self.new.counted ≡ 0 }
+    {
+        self.glyph = glyph;
+        self.edition = edition;
+        self.limit = edition.step_limit();
+        self.counted = 0;
+        self.answer = Answer::Step;
+        self.frames.start_again(self.font, glyph);
+    }
+
     /// The next step, up to the limit of the edition; the end and the limit are told again.
+    #[inline(always)]
     pub fn step(&mut self) -> Turn<'_>
         ensures* moves_on { sem 𝓛 (MovesOn self.entry) }
         ensures turn { turn_view result ≡ turn_at (limit_of self.old.edition) (steps_of self.old.font self.old.glyph) self.old.counted }
@@ -104,7 +122,44 @@ impl<'a> Machine<'a> {
         }
     }
 
-    /// How often it was asked for a step, up to the first end or limit.
+    /// Goes over the numbers that follow and that the stack has room for, up to the limit: each counts as a step
+    /// that was asked for.
+    #[inline(always)]
+    pub fn pass_numbers(&mut self)
+        ensures passed { ArePassed (limit_of self.old.edition) (steps_of self.old.font self.old.glyph) self.old.counted self.new.counted }
+        ensures counted { self.old.counted ≤ self.new.counted }
+        ensures font { self.new.font ≡ self.old.font }
+        ensures glyph { self.new.glyph ≡ self.old.glyph }
+        ensures edition { self.new.edition ≡ self.old.edition }
+    {
+        while self.pass_number() {}
+    }
+
+    /// Goes over one such number, if there is one.
+    #[inline(always)]
+    fn pass_number(&mut self) -> bool
+        ensures passed { result ≡ true → IsPassed (limit_of self.old.edition) (steps_of self.old.font self.old.glyph) self.old.counted }
+        ensures counted { self.new.counted ≡ (if result then self.old.counted + 1 else self.old.counted) }
+        ensures font { self.new.font ≡ self.old.font }
+        ensures glyph { self.new.glyph ≡ self.old.glyph }
+        ensures edition { self.new.edition ≡ self.old.edition }
+    {
+        match self.answer {
+            Answer::Step => {
+                if self.counted >= self.limit {
+                    return false;
+                }
+                let passed = self.frames.pass_number(self.font);
+                if passed {
+                    self.counted += 1;
+                }
+                passed
+            }
+            Answer::Ended | Answer::Limit => false,
+        }
+    }
+
+    /// How often it was asked for a step, up to the first end or limit; a number that was passed counts as asked for.
     pub fn counted(&self) -> u32
         ensures counted { result ≡ self.now.counted }
         ensures most { result ≤ limit_of self.now.edition + 1 }
@@ -113,6 +168,7 @@ impl<'a> Machine<'a> {
     }
 
     /// Executes the step that was answered last, and reads the next.
+    #[inline(always)]
     fn go_on(&mut self) -> Answer
         ensures answer { answer_view result self.new.step
             ≡ turn_at (limit_of self.old.edition) (steps_of self.old.font self.old.glyph) self.old.counted }
@@ -136,8 +192,7 @@ impl<'a> Machine<'a> {
                 }
                 Answer::Step
             }
-            Answer::Ended => Answer::Ended,
-            Answer::Limit => Answer::Limit,
+            other => other,
         }
     }
 

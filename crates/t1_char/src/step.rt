@@ -36,6 +36,7 @@ pub struct Step {
 }
 
 /// The Subr that the top of the stack names, where the token calls it.
+#[inline(never)]
 pub(crate) fn named_at<'a>(font: &'a Font<'a>, token: CharToken, stack: &Stack) -> Option<Subr<'a>>
     ensures { named_of result ≡ named_at font.now token stack.now }
 {
@@ -68,8 +69,8 @@ pub(crate) fn is_callsubr(token: CharToken) -> bool
 
 /// Whether what follows a token is End alone, or, in a Subr, return and End.
 #[inline(always)]
-pub(crate) fn is_last(token: CharToken, behind: Cursor<'_>, depth: usize) -> bool
-    ensures { result ≡ is_last depth (behind_token token (tokens_left behind.entry)) }
+pub(crate) fn is_last(token: &CharToken, behind: &Cursor<'_>, depth: usize) -> bool
+    ensures { result ≡ is_last depth (behind_token token.now (tokens_left behind.now)) }
 {
     // A return is a byte, and End none: where more bytes are left, more follows.
     if behind.left_len() > 1 {
@@ -80,12 +81,13 @@ pub(crate) fn is_last(token: CharToken, behind: Cursor<'_>, depth: usize) -> boo
 
 /// The same by the tokens that follow.
 #[inline(never)]
-fn ends(token: CharToken, mut behind: Cursor<'_>, depth: usize) -> bool
-    ensures { result ≡ is_last depth (behind_token token (tokens_left behind.entry)) }
+fn ends(token: &CharToken, behind: &Cursor<'_>, depth: usize) -> bool
+    ensures { result ≡ is_last depth (behind_token token.now (tokens_left behind.now)) }
 {
-    if is_end(token) {
+    if is_end(*token) {
         return false;
     }
+    let mut behind = *behind;
     let next = behind.next_token();
     if is_end(next) {
         return true;

@@ -27,6 +27,7 @@ pub enum CharToken {
 }
 
 /// The token of a byte below 32 other than 12.
+#[inline(always)]
 pub(crate) fn plain_token(byte: u8) -> CharToken
     ensures { result ≡ plain_code byte (command_of byte) }
 {
@@ -37,6 +38,7 @@ pub(crate) fn plain_token(byte: u8) -> CharToken
 }
 
 /// The token of 12 and this byte.
+#[inline(always)]
 pub(crate) fn escaped_token(byte: u8) -> CharToken
     ensures { result ≡ escaped_code byte (escaped_of byte) }
 {

@@ -11,6 +11,7 @@ pub mod HasReport
 pub mod InFont
 pub mod LaterFaults
 pub mod OneReport
+pub mod PassedNumbers
 pub mod PlaceSearch
 pub mod Pushed
 pub mod RunSteps

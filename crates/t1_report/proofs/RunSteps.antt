@@ -1,5 +1,5 @@
 -- A glyph whose steps a machine tells: what is broken at each, and that nothing is behind the last.
-use Rattle.std.proofs.Common.{◌≡◌, ℕ, ◌+◌, ◌-◌, ◌<◌, ◌≤◌, inl, inr, if◌then◌else◌, nat_lt, Bool, true, false, Option, Some, List, [], ◌∷◌, ◌++◌, slice_get, length, length-take, take, refl, sym, ap, subst, ◌∙◌, le-ltb, arith}
+use Rattle.std.proofs.Common.{◌≡◌, ℕ, ◌+◌, ◌<◌, ◌≤◌, inl, inr, if◌then◌else◌, nat_lt, Bool, true, false, Option, Some, List, [], ◌∷◌, ◌++◌, slice_get, length, length-take, take, refl, sym, ap, subst, ◌∙◌, le-ltb, arith}
 use Rattle.std.proofs.lemmas.Bool.{cases_lt, ltb-true, ltb-false}
 use Rattle.std.proofs.lemmas.List.{take_all}
 use Rattle.t1_char.specs.Editions.{limit_of}
@@ -224,7 +224,3 @@ run_over font glyph n counted watches over count run =
   where
     whole : (limit : ℕ) (all : List StepView) (n counted : ℕ) → IsOver limit all n → counted ≡ length (take limit all) + 1 → length all ≤ counted
     whole limit all n counted over is = omega (arith, over.few, is, length-take limit all)
-
--- How many more times the machine can be asked.
-pub fewer_turns : (limit n counted : ℕ) → counted ≡ n + 1 → n ≤ limit → limit + 1 - counted < limit + 1 - n
-fewer_turns limit n counted is near = omega (arith, is, near)

@@ -12,7 +12,7 @@ use Rattle.t1_report.specs.declared.walk.font_places.FontPlaces.{FontPlaces}
 use Rattle.t1_report.specs.declared.walk.search.Part.{Part}
 use Rattle.t1_report.specs.declared.walk.search.Part.TheVariants.{Font, Glyph, Over, Waivers}
 use Rattle.t1_report.specs.declared.walk.search.Search.{Search}
-use Rattle.t1_report.specs.Searching.{HasNoneFrom, checked_in, IsFirstPlace, IsFrom, IsPart, IsSearch, is_over, step_of_part, turns_in, AreBegun, IsDone, IsFirstTold, IsPartBegun, TellsNoneFrom}
+use Rattle.t1_report.specs.Searching.{HasNoneFrom, checked_in, IsFirstPlace, IsFrom, IsOfFont, IsPart, IsSearch, is_over, step_of_part, turns_in, AreBegun, IsDone, IsFirstTold, IsPartBegun, TellsNoneFrom}
 use Rattle.t1_report.specs.Walks.{turns_of_glyph, turns_of_unit, turns_of, turns_before, first_asked, turns_asked}
 use Rattle.t1_report.specs.Waivers.{Waiver}
 use Rattle.t1_char.specs.Turns.{MachineView}
@@ -360,3 +360,10 @@ search_begun s glyph step components begins first unit passed checked is few few
           (subst (λ n. IsPart (checked_in s) s.waivers.now (glyph + 1) step (glyph + 1) 0 n s.part) (sym checked) (part_begun (checked_in s) s.waivers.now glyph step s.part is few few_waivers)))));
       components_are = components;
     }
+
+-- What is under way is of the font.
+pub part_of_font : (font : CheckedFont) (waivers : List Waiver) (from first unit passed checked : ℕ) (part : Part) → IsPart font waivers from first unit passed checked part → IsOfFont font.value part
+part_of_font font waivers from first unit passed checked (Font places) is = tt
+part_of_font font waivers from first unit passed checked (Glyph run) (is, none) = ap (λ f. f.value) is.font_is
+part_of_font font waivers from first unit passed checked (Waivers next) is = tt
+part_of_font font waivers from first unit passed checked Over is = tt

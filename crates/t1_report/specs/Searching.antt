@@ -1,5 +1,6 @@
 -- What a search stands for.
-use Rattle.std.specs.Prelude.{◌≡◌, ℕ, ◌+◌, ◌<◌, ◌≤◌, ◌⊎◌, Bool, true, false, length, ◌-◌, List}
+use Rattle.std.specs.Prelude.{◌≡◌, ⊤, ℕ, ◌+◌, ◌<◌, ◌≤◌, ◌⊎◌, Bool, true, false, length, ◌-◌, List}
+use Rattle.t1_font.specs.Fonts.{FontValue}
 use Rattle.t1_rules.specs.Components.{AreOf}
 use Rattle.t1_rules.specs.Mask.{has}
 use Rattle.t1_report.specs.declared.walk.found.Found.{Found}
@@ -91,6 +92,13 @@ IsDone font waivers unit (Font places) = Unit {0}
 IsDone font waivers unit (Glyph run) = run.machine.counted ≡ turns_of_unit font unit
 IsDone font waivers unit (Waivers next) = length waivers < next
 IsDone font waivers unit Over = Unit {0}
+
+-- A glyph that is under way is of this font.
+abbrev pub IsOfFont : FontValue → Part → Type 0
+IsOfFont font (Font places) = ⊤
+IsOfFont font (Glyph run) = run.machine.font ≡ font
+IsOfFont font (Waivers next) = ⊤
+IsOfFont font Over = ⊤
 
 -- The part is that of the unit, and the turns are those of the units before.
 pub record IsFontPart (font : CheckedFont) (from unit passed : ℕ) (places : FontPlaces) : Type 0 where

@@ -4,7 +4,7 @@
 /// mark; that of four zeros stands before all faults.
 #[derive(Clone, Copy, Debug, PartialEq, Eq, Default)]
 pub struct Mark {
-    /// How many faults were given, if it comes from a walk.
+    /// How many faults were given up to it, if it comes from a walk that began at the first mark, or at such a one.
     pub number: u64,
     pub unit: u32,
     pub step: u32,

@@ -149,6 +149,7 @@ fn add_waiver(
 
 /// The rules that the next step of a glyph breaks: the first step past the limit of the edition breaks the
 /// rule on the limit, and no other.
+#[inline(always)]
 pub(crate) fn broken_at(
     watches: &mut Watches,
     sidebearings: &Sidebearings,
@@ -167,7 +168,10 @@ pub(crate) fn broken_at(
     if limit < step.number {
         return Mask::empty().with(Rule::L01, true);
     }
-    watches.see(step).join(sidebearings.see(step))
+    let token = step.token;
+    watches
+        .see_as(token, step)
+        .join(sidebearings.see_as(token, step))
 }
 
 /// Adds the faults of a place, by the numbers of their rules.

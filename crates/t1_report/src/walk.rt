@@ -112,8 +112,8 @@ impl<'a> Walk<'a> {
         self.course.mark()
     }
 
-    /// How often it has asked a machine for a step: for each glyph, and for each waiver, once
-    /// more than the limit of steps at most.
+    /// How often it has asked a machine for a step: for each glyph, and for each waiver, once more than the limit of
+    /// steps at most. A number that a machine passes counts as a step that was asked for.
     pub fn turns(&self) -> u64
         ensures turns { result ≡ self.now.turns }
         ensures few { result ≤ (step_limit self.now.font + 1) * (length self.now.font.value.glyphs + length self.now.waivers) }

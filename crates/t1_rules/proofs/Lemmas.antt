@@ -15,6 +15,7 @@ pub mod Mask
 pub mod OthersubrCalls
 pub mod Othersubrs
 pub mod Overlaps
+pub mod PassedNumbers
 pub mod Paths
 pub mod Products
 pub mod Seac

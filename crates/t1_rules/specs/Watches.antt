@@ -32,16 +32,16 @@ pub record PathsStandFor (watcher : PathWatcher) (before : List StepView) : Type
   pub moved : watcher.moved ≡ is_moved before
   pub drawn : watcher.drawn ≡ is_open before
 
--- A step that changes nothing of it, and breaks no rule on widths and paths.
-pub record IsQuietForPaths (step : StepView) : Type 0 where
-  pub clears : clears step.token ≡ false
-  pub sets_width : sets_width step.token ≡ false
-  pub moves : is_move step.token ≡ false
-  pub draws : is_line step.token ≡ false
-  pub closes : closes step.token ≡ false
-  pub finishes : is_finishing step.token ≡ false
-  pub ends : is_end step.token ≡ false
-  pub othersubr : is_callothersubr step.token ≡ false
+-- A token that changes nothing of it, and breaks no rule on widths and paths.
+pub record IsQuietForPaths (token : CharToken) : Type 0 where
+  pub clears : clears token ≡ false
+  pub sets_width : sets_width token ≡ false
+  pub moves : is_move token ≡ false
+  pub draws : is_line token ≡ false
+  pub closes : closes token ≡ false
+  pub finishes : is_finishing token ≡ false
+  pub ends : is_end token ≡ false
+  pub othersubr : is_callothersubr token ≡ false
 
 pub record StemsStandFor (edition : Edition) (watcher : StemWatcher) (before : List StepView) : Type 0 where
   pub edition_is : watcher.edition ≡ edition
@@ -85,3 +85,11 @@ unfoldable pub WatchesStandFor : Edition → Watches → List StepView → Type 
 WatchesStandFor edition watches before =
     PathsStandFor watches.paths before × (StemsStandFor edition watches.stems before
     × (FlexStandsFor watches.flex before × SeacStandsFor watches.seac before))
+
+-- The last steps neither replaced the hints nor ended a flex, and no pop stands behind such a step.
+pub record IsCalm (watches : Watches) : Type 0 where
+  pub replaced : watches.stems.replaced ≡ false
+  pub hints_popped : watches.stems.popped ≡ false
+  pub ended : watches.flex.ended ≡ false
+  pub popped : watches.flex.popped ≡ false
+  pub popped_twice : watches.flex.popped_twice ≡ false

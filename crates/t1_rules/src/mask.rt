@@ -1,6 +1,6 @@
 //! Sets of rules.
 
-ghost use Rattle.std.specs.Prelude.{◌≡◌, ℕ, ◌==◌, ◌&&◌, ◌||◌, not, MatchOption, false};
+ghost use Rattle.std.specs.Prelude.{◌≡◌, ℕ, ◌==◌, ◌&&◌, ◌||◌, not, MatchOption, true, false};
 ghost use Rattle.t1_rules.specs.Mask.{HasNoneAbove, IsLeastAbove, has};
 ghost use Rattle.t1_rules.specs.Book.{number_of};
 
@@ -65,6 +65,13 @@ impl Mask {
         ensures { result ≡ has self (number_of rule) }
     {
         self.bits >> rule.number() & 1 == 1
+    }
+
+    /// Whether there is no rule in the set.
+    pub fn is_empty(self) -> bool
+        ensures { result ≡ true → (n : ℕ) → has self n ≡ false }
+    {
+        self.bits == 0
     }
 
     /// The rule of the least number that is greater than this one.

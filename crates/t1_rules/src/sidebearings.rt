@@ -1,8 +1,9 @@
 //! The rules on accented characters that speak of their components, K03 to K05 and K07: Type 1 Font Format
 //! 1.1, chapter 6 (seac).
 
-ghost use Rattle.std.specs.Prelude.{◌≡◌, ◌<◌, ◌&&◌, ◌||◌, ℕ, ℤ, List, IfOk, IfSome, OnOk, length, map, take};
+ghost use Rattle.std.specs.Prelude.{◌≡◌, ◌<◌, ◌&&◌, ◌||◌, ℕ, ℤ, List, IfOk, IfSome, OnOk, length, map, take, true, false};
 ghost use Rattle.t1_char.specs.Editions.{limit_of};
+ghost use Rattle.t1_char.specs.Seacs.{subrs_have_seac};
 ghost use Rattle.t1_char.specs.Steps.{StepView, steps_of};
 ghost use Rattle.t1_char.specs.StepValues.{step_view};
 ghost use Rattle.t1_rules.specs.Components.{component_at, component_in, component_named, component_of_glyph, components_of, glyph_named};
@@ -18,7 +19,7 @@ use crate::step_rules::seac::{accent_code, base_code, is_unnamed};
 use crate::step_rules::tokens::{is_seac, sets_width};
 use std::alloc::{AllocError, Global};
 use std::marker::Model;
-use t1_char::{Edition, Machine, Step, Turn};
+use t1_char::{CharToken, Edition, Machine, Step, Turn, steps_lack_seac, subrs_lack_seac};
 use t1_font::Font;
 
 /// How many codes there are.
@@ -62,9 +63,10 @@ impl Sidebearings {
         ensures components { IfOk result (λ sidebearings.
             sidebearings.components ≡ components_of (limit_of edition) font.now) }
     {
+        let plain_subrs = subrs_lack_seac(font);
         let mut components = Vec::new(alloc);
         for code in 0..CODES {
-            components.push(component_at(font, code as u8, edition))?;
+            components.push(component_at(font, code as u8, edition, plain_subrs))?;
         }
         Ok(Sidebearings {
             edition,
@@ -80,12 +82,24 @@ impl Sidebearings {
     }
 
     /// Which of K03, K04, K05 and K07 a step breaks.
+    #[inline(always)]
     #[tactic(auto, unfolding(crate::specs::StepRules::component_rules))]
     pub fn see(&self, step: &Step) -> Mask
         ensures { (before : List StepView) → (n : ℕ) →
             has result n ≡ breaks (component_rules self.now.components) n before (step_view step.now) }
     {
-        if is_seac(step.token) {
+        self.see_as(step.token, step)
+    }
+
+    /// The same as [`Sidebearings::see`], where the step's token is told.
+    #[inline(always)]
+    #[tactic(auto, unfolding(crate::specs::StepRules::component_rules))]
+    pub fn see_as(&self, token: CharToken, step: &Step) -> Mask
+        requires token { step.now.token ≡ token }
+        ensures { (before : List StepView) → (n : ℕ) →
+            has result n ≡ breaks (component_rules self.now.components) n before (step_view step.now) }
+    {
+        if is_seac(token) {
             self.faults(step)
         } else {
             Mask::empty()
@@ -93,6 +107,7 @@ impl Sidebearings {
     }
 
     /// What a seac breaks.
+    #[inline(never)]
     #[tactic(auto, unfolding(crate::specs::StepRules::component_rules))]
     fn faults(&self, step: &Step) -> Mask
         ensures { (before : List StepView) → (n : ℕ) →
@@ -190,21 +205,23 @@ impl Component {
 }
 
 /// The component of a code.
-fn component_at(font: &Font<'_>, code: u8, edition: Edition) -> Component
+fn component_at(font: &Font<'_>, code: u8, edition: Edition, plain_subrs: bool) -> Component
+    requires { plain_subrs ≡ true → subrs_have_seac font.now ≡ false }
     ensures { result ≡ component_at (limit_of edition) font.now code }
 {
-    component_named(font, standard_name(code), edition)
+    component_named(font, standard_name(code), edition, plain_subrs)
 }
 
 /// The component of a name; none is there without one.
-fn component_named(font: &Font<'_>, name: &str, edition: Edition) -> Component
+fn component_named(font: &Font<'_>, name: &str, edition: Edition, plain_subrs: bool) -> Component
+    requires { plain_subrs ≡ true → subrs_have_seac font.now ≡ false }
     ensures { result ≡ component_named (limit_of edition) font.now name.now }
 {
     if name.is_empty() {
         return Component::MISSING;
     }
     match glyph_named(font, name.as_bytes()) {
-        Some(glyph) => component_of_glyph(&*font, glyph, edition),
+        Some(glyph) => component_of_glyph(&*font, glyph, edition, plain_subrs),
         None => Component::MISSING,
     }
 }
@@ -217,11 +234,19 @@ pub fn glyph_named(font: &Font<'_>, name: &[u8]) -> Option<usize>
     font.glyphs().get_index_of(&name)
 }
 
-/// What a glyph is as a component, by its steps up to the limit.
-fn component_of_glyph<'a>(font: &'a Font<'a>, glyph: usize, edition: Edition) -> Component
-    requires { glyph < length font.now.glyphs }
+/// What a glyph is as a component, by its steps up to the limit. Where surely none is a seac, the first
+/// sidebearing is all that is looked for.
+fn component_of_glyph<'a>(
+    font: &'a Font<'a>,
+    glyph: usize,
+    edition: Edition,
+    plain_subrs: bool,
+) -> Component
+    requires glyph { glyph < length font.now.glyphs }
+    requires subrs { plain_subrs ≡ true → subrs_have_seac font.now ≡ false }
     ensures { result ≡ component_in (take (limit_of edition) (steps_of font.now glyph)) }
 {
+    let lacks_seac = steps_lack_seac(font, glyph, plain_subrs);
     let mut machine = Machine::start(font, glyph, edition);
     let mut component = Component {
         there: true,
@@ -230,6 +255,10 @@ fn component_of_glyph<'a>(font: &'a Font<'a>, glyph: usize, edition: Edition) ->
     };
     while let Turn::Step(step) = machine.step() {
         component.take_in(step);
+        if lacks_seac && component.sidebearing.is_some() {
+            return component;
+        }
+        machine.pass_numbers();
     }
     component
 }

@@ -9,7 +9,7 @@ ghost use Rattle.t1_rules.specs.StepRules.{StepRule, breaks};
 ghost use Rattle.t1_rules.specs.Watches.{most_steps};
 
 use crate::mask::Mask;
-use t1_char::{Edition, Step};
+use t1_char::{CharToken, Edition, Step};
 
 /// Sees the steps of a glyph in their order, from the first on, and answers of each which of its rules the
 /// step breaks. What it keeps of the steps before is of a fixed size.
@@ -23,6 +23,19 @@ pub trait Watch {
     /// A watcher that has seen no step.
     fn start(edition: Edition) -> Self
         ensures { stands_for edition result [] };
+
+    /// The same as [`Watch::see`], where the step's token is told: where that is known when the program is
+    /// built, no test of it is left.
+    fn see_as(&mut self, token: CharToken, step: &Step) -> Mask
+        requires token { step.now.token ≡ token }
+        requires steps { (edition : Editions) × ((before : List StepView) ×
+            (stands_for edition self.old before × (length before < most_steps))) }
+        ensures stands { (edition : Editions) (before : List StepView) →
+            stands_for edition self.old before → length before < most_steps →
+            stands_for edition self.new (before ++ step_view step.now ∷ []) }
+        ensures answer { (edition : Editions) (before : List StepView) →
+            stands_for edition self.old before → length before < most_steps →
+            (n : ℕ) → has result n ≡ breaks (rules edition) n before (step_view step.now) };
 
     /// The rules that the step breaks, given the steps that were seen before.
     fn see(&mut self, step: &Step) -> Mask

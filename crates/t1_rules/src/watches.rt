@@ -1,9 +1,17 @@
 //! All watchers as one.
 
-ghost use Rattle.std.specs.Prelude.{◌≡◌};
+ghost use Rattle.std.specs.Prelude.{◌≡◌, true, ℕ, ◌<◌, List, [], ◌∷◌, ◌++◌, length};
+ghost use Rattle.t1_char.specs.declared.edition.Edition.{Edition as Editions};
+ghost use Rattle.t1_char.specs.declared.token.CharToken.TheVariants.{Number};
+ghost use Rattle.t1_char.specs.Steps.{StepView};
+ghost use Rattle.t1_char.specs.StepValues.{step_view};
+ghost use Rattle.t1_rules.specs.Mask.{has};
+ghost use Rattle.t1_rules.specs.StepRules.{breaks, step_rules};
+ghost use Rattle.t1_rules.specs.Watches.{IsCalm, WatchesStandFor, most_steps};
+ghost use Rattle.t1_rules.specs.Words.StepTests.{IsCommand};
 
 use crate::mask::Mask;
-use crate::step_rules::arguments::ArgumentWatcher;
+use crate::step_rules::arguments::{ArgumentWatcher, has_its_arguments};
 use crate::step_rules::calls::CallWatcher;
 use crate::step_rules::flex::FlexWatcher;
 use crate::step_rules::othersubrs::OthersubrWatcher;
@@ -11,7 +19,10 @@ use crate::step_rules::paths::PathWatcher;
 use crate::step_rules::seac::SeacWatcher;
 use crate::step_rules::stems::StemWatcher;
 use crate::watch::Watch;
-use t1_char::{Edition, Step};
+use t1_char::{CharToken, Command, Edition, Step};
+
+/// How many numbers a stack holds.
+const FULL: usize = 24;
 
 /// Watches for the rules from C01 to O04, K01, K02 and K06, which a glyph's own steps decide.
 #[derive(Drop)]
@@ -45,14 +56,174 @@ impl Watch for Watches {
         }
     }
 
+    /// There is a copy of the watchers for each token that is frequent, in which no test of the token is left.
+    #[inline(always)]
+    fn see_as(&mut self, token: CharToken, step: &Step) -> Mask {
+        match token {
+            CharToken::Number(number) => self.see_number(number, step),
+            CharToken::Command(command) => self.see_command(command, step),
+            _ => self.see_rare(step),
+        }
+    }
+
+    #[inline(always)]
     fn see(&mut self, step: &Step) -> Mask {
-        let arguments = self.arguments.see(step);
-        let calls = self.calls.see(step);
-        let paths = self.paths.see(step);
-        let stems = self.stems.see(step);
-        let flex = self.flex.see(step);
-        let othersubrs = self.othersubrs.see(step);
-        let seac = self.seac.see(step);
+        self.see_as(step.token, step)
+    }
+}
+
+impl Watches {
+    /// What all watchers say of a number: most steps are numbers, and most of these change nothing.
+    #[inline(always)]
+    fn see_number(&mut self, number: i32, step: &Step) -> Mask
+        requires token { step.now.token ≡ Number number }
+        requires steps { (edition : Editions) × ((before : List StepView) ×
+            (WatchesStandFor edition self.old before × (length before < most_steps))) }
+        ensures stands { (edition : Editions) (before : List StepView) →
+            WatchesStandFor edition self.old before → length before < most_steps →
+            WatchesStandFor edition self.new (before ++ step_view step.now ∷ []) }
+        ensures answer { (edition : Editions) (before : List StepView) →
+            WatchesStandFor edition self.old before → length before < most_steps →
+            (n : ℕ) → has result n ≡ breaks (step_rules edition) n before (step_view step.now) }
+    {
+        if self.is_calm() {
+            if step.stack.len() < FULL {
+                return Mask::empty();
+            }
+        }
+        self.see_rare(step)
+    }
+
+    /// Before the first step again, in place: what the hint sets hold isn't overwritten.
+    pub fn start_again(&mut self, edition: Edition)
+        ensures { WatchesStandFor edition self.new [] }
+    {
+        self.paths = PathWatcher::start(edition);
+        self.stems.start_again(edition);
+        self.flex = FlexWatcher::start(edition);
+        self.seac = SeacWatcher::start(edition);
+    }
+
+    /// Whether no rule speaks of a number behind the last steps, unless the stack is full.
+    #[inline(always)]
+    pub fn is_calm(&self) -> bool
+        ensures { result ≡ true → IsCalm self.now }
+    {
+        self.stems.is_calm() & self.flex.is_calm()
+    }
+
+    /// What all watchers say of a step of this command.
+    #[inline(never)]
+    fn see_command(&mut self, command: Command, step: &Step) -> Mask
+        requires token { IsCommand (step_view step.now) command }
+        requires steps { (edition : Editions) × ((before : List StepView) ×
+            (WatchesStandFor edition self.old before × (length before < most_steps))) }
+        ensures stands { (edition : Editions) (before : List StepView) →
+            WatchesStandFor edition self.old before → length before < most_steps →
+            WatchesStandFor edition self.new (before ++ step_view step.now ∷ []) }
+        ensures answer { (edition : Editions) (before : List StepView) →
+            WatchesStandFor edition self.old before → length before < most_steps →
+            (n : ℕ) → has result n ≡ breaks (step_rules edition) n before (step_view step.now) }
+    {
+        match command {
+            Command::Rlineto if self.is_usual(Command::Rlineto, step) => self.see_each(
+                CharToken::Command(Command::Rlineto),
+                step,
+            ),
+            Command::Hlineto if self.is_usual(Command::Hlineto, step) => self.see_each(
+                CharToken::Command(Command::Hlineto),
+                step,
+            ),
+            Command::Vlineto if self.is_usual(Command::Vlineto, step) => self.see_each(
+                CharToken::Command(Command::Vlineto),
+                step,
+            ),
+            Command::Rrcurveto if self.is_usual(Command::Rrcurveto, step) => self.see_each(
+                CharToken::Command(Command::Rrcurveto),
+                step,
+            ),
+            Command::Vhcurveto if self.is_usual(Command::Vhcurveto, step) => self.see_each(
+                CharToken::Command(Command::Vhcurveto),
+                step,
+            ),
+            Command::Hvcurveto if self.is_usual(Command::Hvcurveto, step) => self.see_each(
+                CharToken::Command(Command::Hvcurveto),
+                step,
+            ),
+            Command::Rmoveto if self.is_usual(Command::Rmoveto, step) => self.see_each(
+                CharToken::Command(Command::Rmoveto),
+                step,
+            ),
+            Command::Hmoveto if self.is_usual(Command::Hmoveto, step) => self.see_each(
+                CharToken::Command(Command::Hmoveto),
+                step,
+            ),
+            Command::Vmoveto if self.is_usual(Command::Vmoveto, step) => self.see_each(
+                CharToken::Command(Command::Vmoveto),
+                step,
+            ),
+            Command::Closepath => self.see_each(CharToken::Command(Command::Closepath), step),
+            Command::Hstem => self.see_each(CharToken::Command(Command::Hstem), step),
+            Command::Vstem => self.see_each(CharToken::Command(Command::Vstem), step),
+            Command::Callsubr => self.see_each(CharToken::Command(Command::Callsubr), step),
+            Command::Return => self.see_each(CharToken::Command(Command::Return), step),
+            Command::Hsbw => self.see_each(CharToken::Command(Command::Hsbw), step),
+            Command::Endchar => self.see_each(CharToken::Command(Command::Endchar), step),
+            Command::Callothersubr => self.see_each(
+                CharToken::Command(Command::Callothersubr),
+                step,
+            ),
+            Command::Pop => self.see_each(CharToken::Command(Command::Pop), step),
+            Command::Setcurrentpoint => self.see_each(
+                CharToken::Command(Command::Setcurrentpoint),
+                step,
+            ),
+            _ => self.see_rare(step),
+        }
+    }
+
+    /// Whether a move, a line or a curve is as most are. That is asked first, so that in the copy of the
+    /// watchers for such a step hardly a test is left.
+    #[inline(always)]
+    fn is_usual(&self, command: Command, step: &Step) -> bool {
+        self.is_calm() && has_its_arguments(command, step.stack.as_slice())
+    }
+
+    /// What all watchers say of a step of a token that is rare.
+    #[inline(never)]
+    fn see_rare(&mut self, step: &Step) -> Mask
+        requires { (edition : Editions) × ((before : List StepView) ×
+            (WatchesStandFor edition self.old before × (length before < most_steps))) }
+        ensures stands { (edition : Editions) (before : List StepView) →
+            WatchesStandFor edition self.old before → length before < most_steps →
+            WatchesStandFor edition self.new (before ++ step_view step.now ∷ []) }
+        ensures answer { (edition : Editions) (before : List StepView) →
+            WatchesStandFor edition self.old before → length before < most_steps →
+            (n : ℕ) → has result n ≡ breaks (step_rules edition) n before (step_view step.now) }
+    {
+        self.see_each(step.token, step)
+    }
+
+    /// What all watchers say of a step of this token.
+    #[inline(always)]
+    fn see_each(&mut self, token: CharToken, step: &Step) -> Mask
+        requires token { step.now.token ≡ token }
+        requires steps { (edition : Editions) × ((before : List StepView) ×
+            (WatchesStandFor edition self.old before × (length before < most_steps))) }
+        ensures stands { (edition : Editions) (before : List StepView) →
+            WatchesStandFor edition self.old before → length before < most_steps →
+            WatchesStandFor edition self.new (before ++ step_view step.now ∷ []) }
+        ensures answer { (edition : Editions) (before : List StepView) →
+            WatchesStandFor edition self.old before → length before < most_steps →
+            (n : ℕ) → has result n ≡ breaks (step_rules edition) n before (step_view step.now) }
+    {
+        let arguments = self.arguments.see_as(token, step);
+        let flex = self.flex.see_as(token, step);
+        let calls = self.calls.see_as(token, step);
+        let paths = self.paths.see_as(token, step);
+        let stems = self.stems.see_as(token, step);
+        let othersubrs = self.othersubrs.see_as(token, step);
+        let seac = self.seac.see_as(token, step);
         arguments.join(calls.join(paths.join(stems.join(flex.join(othersubrs.join(seac))))))
     }
 }

@@ -2,7 +2,7 @@
 
 ghost use Rattle.std.specs.Prelude.{◌≡◌, ◌<◌, ◌≤◌, ◌+◌, false, MatchOption, length};
 ghost use Rattle.t1_report.specs.Checked.{checked, executed};
-ghost use Rattle.t1_report.specs.Searches.{IsFirst, IsQuietFrom, IsRun};
+ghost use Rattle.t1_report.specs.Searches.{IsFirst, IsQuiet, IsQuietFrom, IsRun};
 ghost use Rattle.t1_report.specs.Walks.{turns_of_glyph};
 ghost use Rattle.t1_rules.specs.Components.{AreOf};
 ghost use Rattle.t1_rules.specs.Mask.{HasNoneAbove};
@@ -33,6 +33,18 @@ impl<'a> GlyphRun<'a> {
             machine: Machine::start(font, glyph, edition),
             watches: Watches::start(edition),
         }
+    }
+
+    /// The same of another glyph of the font, in place.
+    pub(crate) fn start_again(&mut self, glyph: usize, edition: Edition)
+        requires { glyph < length self.old.machine.font.glyphs }
+        ensures run { IsRun self.new.machine self.new.watches }
+        ensures font { executed self.new.machine ≡ checked self.old.machine.font edition }
+        ensures glyph { self.new.machine.glyph ≡ glyph }
+        ensures counted { self.new.machine.counted ≡ 0 }
+    {
+        self.machine.start_again(glyph, edition);
+        self.watches.start_again(edition);
     }
 
     /// How many steps were asked for.
@@ -99,16 +111,30 @@ fn next_broken(
                 rules,
             });
         }
+        pass_quiet_numbers(machine, watches);
     }
     None
 }
 
+/// Goes over the numbers that follow, unless a rule speaks of them.
+#[inline(always)]
+fn pass_quiet_numbers(machine: &mut Machine<'_>, watches: &Watches)
+    requires { IsRun machine.old watches.now }
+    ensures quiet { IsQuiet (executed machine.old) (machine.old.glyph + 1) (machine.old.counted + 1) (machine.new.counted + 1) }
+    ensures counted { machine.old.counted ≤ machine.new.counted }
+    ensures run { IsRun machine.new watches.now }
+    ensures font { executed machine.new ≡ executed machine.old }
+    ensures glyph { machine.new.glyph ≡ machine.old.glyph }
+{
+    if watches.is_calm() {
+        machine.pass_numbers();
+    }
+}
+
 /// Whether a set has a rule.
+#[inline(always)]
 pub(crate) fn has_rules(rules: Mask) -> bool
     ensures { result ≡ false → HasNoneAbove rules 0 }
 {
-    match rules.above(0) {
-        Some(_) => true,
-        None => false,
-    }
+    !rules.is_empty()
 }

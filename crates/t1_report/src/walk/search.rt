@@ -3,7 +3,7 @@
 ghost use Rattle.std.specs.Prelude.{◌≡◌, ◌≤◌, ◌<◌, ◌+◌, ◌*◌, false, MatchOption, length, ◌-◌, ◌&&◌, ℕ, not};
 ghost use Rattle.t1_report.specs.Checked.{checked, step_limit};
 ghost use Rattle.t1_report.specs.Reports.{Place, IsTold};
-ghost use Rattle.t1_report.specs.Searching.{checked_in, HasNoneFrom, IsFirstPlace, IsSearch, is_over, step_of_part, turns_in, IsDone, IsFirstTold, IsPartBegun, TellsNoneFrom};
+ghost use Rattle.t1_report.specs.Searching.{checked_in, HasNoneFrom, IsFirstPlace, IsOfFont, IsSearch, is_over, step_of_part, turns_in, IsDone, IsFirstTold, IsPartBegun, TellsNoneFrom};
 ghost use Rattle.t1_rules.specs.Components.{AreOf};
 ghost use Rattle.t1_report.specs.Lines.{glyph_name};
 ghost use Rattle.t1_report.specs.Waivers.{is_waived};
@@ -193,13 +193,8 @@ impl<'a> Search<'a> {
         let glyph = self.unit as usize;
         self.passed += self.turns_in_part();
         self.unit += 1;
-        self.part = unit_part(
-            self.font,
-            self.waivers,
-            glyph,
-            0,
-            self.sidebearings.edition(),
-        );
+        let edition = self.sidebearings.edition();
+        begin(&mut self.part, self.font, self.waivers, glyph, 0, edition);
     }
 
     fn turns_in_part(&self) -> u64
@@ -225,14 +220,36 @@ fn unit_part<'a>(
     ensures few { length font.now.glyphs ≤ 65535 }
     ensures few_waivers { length waivers.now ≤ 1048576 }
 {
+    let mut part = Part::Over;
+    begin(&mut part, font, waivers, glyph, step, edition);
+    part
+}
+
+/// The same in the place of a part: a glyph stands where the one before it stood.
+fn begin<'a>(
+    part: &mut Part<'a>,
+    font: &'a Font<'a>,
+    waivers: &Waivers<'_>,
+    glyph: usize,
+    step: u32,
+    edition: Edition,
+)
+    requires { IsOfFont font.now part.old }
+    ensures part { IsPartBegun (checked font.now edition) waivers.now glyph step part.new }
+    ensures few { length font.now.glyphs ≤ 65535 }
+    ensures few_waivers { length waivers.now ≤ 1048576 }
+{
     let count = font.glyphs().len();
     let last = waivers.len() as u32 + 1;
     if glyph < count {
-        Part::Glyph(GlyphRun::start(font, glyph, edition))
+        match part {
+            Part::Glyph(run) => run.start_again(glyph, edition),
+            _ => *part = Part::Glyph(GlyphRun::start(font, glyph, edition)),
+        }
     } else if glyph == count {
-        Part::Waivers(step.max(1).min(last))
+        *part = Part::Waivers(step.max(1).min(last));
     } else {
-        Part::Over
+        *part = Part::Over;
     }
 }
 

@@ -18,7 +18,7 @@ use Rattle.t1_rules.specs.declared.sidebearings.Component.{Component}
 use Rattle.t1_rules.specs.declared.step_rules.stems.Stem.{Stem}
 use Rattle.t1_rules.specs.Book.{number_of}
 use Rattle.t1_rules.specs.Components.{component_at, component_in, component_named, component_of_glyph, components_of, glyph_named, missing}
-use Rattle.t1_rules.specs.Laws.Editions.{EditionsAgreeOnOtherRules, EditionsAgreeOnShortComponents, EditionsAgreeOnUsualSteps, EditionsAgreeWithoutOneEdge, HasShortComponents, OneEdgeOverlapsNothing, OtherStemsOverlapAsBefore, OverlapByIsMutual, StemsAreKept, rules_in, sets_one_edge}
+use Rattle.t1_rules.specs.Laws.Editions.{EditionsAgreeOnOtherRules, EditionsAgreeOnShortComponents, EditionsAgreeOnUsualSteps, EditionsAgreeWithoutOneEdge, HasShortComponents, OneEdgeOverlapsNothing, OtherStemsOverlapAsBefore, OverlapByIsMutual, StemsAreKept, sets_one_edge}
 use Rattle.t1_rules.specs.StandardEncoding.{standard_name}
 use Rattle.t1_rules.specs.StepRules.{StepRule, row, argument_rules, call_rules, charstring_rules, component_rules, flex_rules, othersubr_rules, path_rules, seac_rules, stem_rules, step_rules, breaks}
 use Rattle.t1_rules.specs.StepRules.Seac.{accent_code, base_code, component_of_code, is_lacking, is_named, lacks_component}

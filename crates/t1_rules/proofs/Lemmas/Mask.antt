@@ -1,5 +1,5 @@
 -- Sets of rules: the bits that the operations on a number change, and the least member above a number.
-use Rattle.std.proofs.Common.{◌≡◌, ℕ, zero, suc, ◌+◌, ◌*◌, ◌/◌, ◌%◌, ◌^◌, ◌<◌, ◌≤◌, ◌-◌, true, false, ◌||◌, ◌&&◌, not, nat_eq, refl, sym, ◌∙◌, ap, inl, inr, bit_or, bit_and, min, max, arith, ◌⊎◌, Option, Some, None, IfSome, IfNone, MatchOption}
+use Rattle.std.proofs.Common.{◌≡◌, ℕ, zero, suc, ◌+◌, ◌*◌, ◌/◌, ◌%◌, ◌^◌, ◌<◌, ◌≤◌, ◌-◌, true, false, ◌||◌, ◌&&◌, not, nat_eq, refl, sym, ◌∙◌, ap, inl, inr, bit_or, bit_and, max, arith, ◌⊎◌, Option, Some, None, IfSome, IfNone, MatchOption}
 use Rattle.std.specs.Int.{bit_at, bit_not, trailing_zeros, w128}
 use Rattle.std.proofs.lemmas.Nat.{pow-add}
 use Rattle.std.proofs.lemmas.Nat.Bits.{bit_at_above, bit_at_and, bit_at_clear_other, bit_at_clear_same, bit_at_or, bit_at-lt, bit_at-zero, bit_at_set_same, bit_at_set_other, bit_at-trailing_zeros}

@@ -24,7 +24,7 @@ one_more old new before t st begun in_flex moved drawn = record {
   drawn = drawn ∙ rw (st.drawn, st.in_flex, since_goes_on drawing closing_step before t);
 }
 
-pub stays : (w : PathWatcher) (before : List StepView) (t : StepView) → IsQuietForPaths t → PathsStandFor w before → PathsStandFor w (before ++ t ∷ [])
+pub stays : (w : PathWatcher) (before : List StepView) (t : StepView) → IsQuietForPaths t.token → PathsStandFor w before → PathsStandFor w (before ++ t ∷ [])
 stays w before t quiet st =
     one_more w w before t st
     (rw quiet.clears (sym (or-false w.begun)))
@@ -32,6 +32,6 @@ stays w before t quiet st =
     (rw (quiet.moves, quiet.closes) (sym (and-true w.moved)))
     (rw (quiet.draws, quiet.othersubr, quiet.closes) (sym (and-true w.drawn)))
 
-pub no_fault : (n : ℕ) (before : List StepView) (t : StepView) → IsQuietForPaths t → breaks path_rules n before t ≡ false
+pub no_fault : (n : ℕ) (before : List StepView) (t : StepView) → IsQuietForPaths t.token → breaks path_rules n before t ≡ false
 unfolding path_rules
 no_fault n before t quiet = rw (quiet.clears, quiet.sets_width, quiet.moves, quiet.draws, quiet.closes, quiet.finishes, quiet.ends, quiet.othersubr) refl

@@ -38,18 +38,25 @@ impl Watch for ArgumentWatcher {
         ArgumentWatcher
     }
 
+    #[inline(always)]
+    fn see_as(&mut self, token: CharToken, step: &Step) -> Mask {
+        faults(token, step)
+    }
+
     fn see(&mut self, step: &Step) -> Mask {
-        faults(step)
+        self.see_as(step.token, step)
     }
 }
 
 /// What a step breaks. Numbers, which most steps are, are asked one test.
+#[inline(always)]
 #[tactic(auto, unfolding(crate::specs::StepRules::argument_rules))]
-fn faults(step: &Step) -> Mask
+fn faults(token: CharToken, step: &Step) -> Mask
+    requires token { step.now.token ≡ token }
     ensures { (before : List StepView) → (n : ℕ) →
         has result n ≡ breaks argument_rules n before (step_view step.now) }
 {
-    match step.token {
+    match token {
         CharToken::Number(_) => Mask::empty().with(Rule::C06, step.stack.len() == FULL),
         CharToken::Command(command) => command_faults(command, step),
         CharToken::Unknown(_) | CharToken::Unknown12(_) => Mask::empty().with(Rule::C03, true),
@@ -60,6 +67,7 @@ fn faults(step: &Step) -> Mask
 }
 
 /// What a step of this command breaks.
+#[inline(always)]
 #[tactic(auto, unfolding(crate::specs::StepRules::argument_rules))]
 fn command_faults(command: Command, step: &Step) -> Mask
     requires { IsCommand (step_view step.now) command }
@@ -79,6 +87,7 @@ fn command_faults(command: Command, step: &Step) -> Mask
 }
 
 /// What a division breaks.
+#[inline(never)]
 #[tactic(auto, using(crate::proofs::Lemmas::Divisions::of_two), unfolding(crate::specs::StepRules::argument_rules))]
 fn division_faults(step: &Step) -> Mask
     requires { IsCommand (step_view step.now) Div }
@@ -101,6 +110,7 @@ fn quotient_faults(dividend: i64, divisor: i64) -> Mask
 }
 
 /// What a command breaks by how many numbers there are for its arguments, and by how great they are.
+#[inline(always)]
 fn count_faults(command: Command, numbers: &[i64]) -> Mask
     ensures { (n : ℕ) → has result n ≡ breaks_by_count (arguments_of command) numbers.now n }
 {
@@ -124,6 +134,7 @@ fn is_past(number: i64) -> bool
 }
 
 /// Whether one of the numbers is.
+#[inline(always)]
 fn any_is_past(numbers: &[i64]) -> bool
     ensures { result ≡ list_any is_past numbers.now }
 {
@@ -131,13 +142,25 @@ fn any_is_past(numbers: &[i64]) -> bool
 }
 
 /// Whether one of the first numbers is, of so many that a command takes.
+#[inline(always)]
 fn one_is_past(count: usize, numbers: &[i64]) -> bool
     ensures { result ≡ one_is_past (Some count) numbers.now }
 {
-    if count < numbers.len() {
+    if count == numbers.len() {
+        any_is_past(numbers)
+    } else if count < numbers.len() {
         any_is_past(&numbers[..count])
     } else {
         any_is_past(numbers)
+    }
+}
+
+/// Whether the numbers are as many as a command takes, and none is past 32000.
+#[inline(always)]
+pub(crate) fn has_its_arguments(command: Command, numbers: &[i64]) -> bool {
+    match command.arguments() {
+        Some(count) => usize::from(count) == numbers.len() && !any_is_past(numbers),
+        None => false,
     }
 }
 

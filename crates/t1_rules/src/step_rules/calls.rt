@@ -34,33 +34,41 @@ impl Watch for CallWatcher {
         CallWatcher
     }
 
+    #[inline(always)]
+    fn see_as(&mut self, token: CharToken, step: &Step) -> Mask {
+        faults(token, step)
+    }
+
     fn see(&mut self, step: &Step) -> Mask {
-        faults(step)
+        self.see_as(step.token, step)
     }
 }
 
 /// What a step breaks.
+#[inline(always)]
 #[tactic(auto, unfolding(crate::specs::StepRules::call_rules))]
-fn faults(step: &Step) -> Mask
+fn faults(token: CharToken, step: &Step) -> Mask
+    requires token { step.now.token ≡ token }
     ensures { (before : List StepView) → (n : ℕ) →
         has result n ≡ breaks call_rules n before (step_view step.now) }
 {
-    if is_quiet(step.token) {
+    if is_quiet(token) {
         return Mask::empty();
     }
     Mask::empty()
-        .with(Rule::GE02, is_finishing(step.token) & !step.last)
-        .with(Rule::GE01, ends_in_glyph(step))
-        .with(Rule::S04, is_end(step.token) & !is_in_glyph(step))
-        .with(Rule::S03, is_return(step.token) & is_in_glyph(step))
+        .with(Rule::GE02, is_finishing(token) & !step.last)
+        .with(Rule::GE01, ends_in_glyph(token, step))
+        .with(Rule::S04, is_end(token) & !is_in_glyph(step))
+        .with(Rule::S03, is_return(token) & is_in_glyph(step))
         .with(
             Rule::S02,
-            calls_by_number(step) & (step.path.len() == MOST_CALLS),
+            calls_by_number(token, step) & (step.path.len() == MOST_CALLS),
         )
-        .with(Rule::S01, calls_by_number(step) & !step.found)
+        .with(Rule::S01, calls_by_number(token, step) & !step.found)
 }
 
 /// Whether none of these rules speaks of a token.
+#[inline(always)]
 fn is_quiet(token: CharToken) -> bool
     ensures call { result ≡ true → is_callsubr token ≡ false }
     ensures back { result ≡ true → is_return token ≡ false }
@@ -71,10 +79,11 @@ fn is_quiet(token: CharToken) -> bool
 }
 
 /// Whether the step calls by a number.
-fn calls_by_number(step: &Step) -> bool
+fn calls_by_number(token: CharToken, step: &Step) -> bool
+    requires token { step.now.token ≡ token }
     ensures { result ≡ calls_by_number (step_view step.now) }
 {
-    is_callsubr(step.token) & (0 < step.stack.len())
+    is_callsubr(token) & (0 < step.stack.len())
 }
 
 /// Whether the step stands in the glyph's own charstring.
@@ -85,8 +94,9 @@ pub(crate) fn is_in_glyph(step: &Step) -> bool
 }
 
 /// Whether the glyph ends with its bytes.
-pub(crate) fn ends_in_glyph(step: &Step) -> bool
+pub(crate) fn ends_in_glyph(token: CharToken, step: &Step) -> bool
+    requires token { step.now.token ≡ token }
     ensures { result ≡ ends_in_glyph (step_view step.now) }
 {
-    is_end(step.token) & is_in_glyph(step)
+    is_end(token) & is_in_glyph(step)
 }

@@ -16,7 +16,8 @@ use crate::mask::Mask;
 use crate::rule::Rule;
 use crate::step_rules::numbers::sum;
 use crate::step_rules::tokens::{
-    clears, is_callothersubr, is_command, is_hsbw, is_move, is_pop, is_setcurrentpoint, sets_point,
+    clears, ends_flex, gives_flex_point, is_callothersubr, is_command, is_hsbw, is_move, is_pop,
+    is_setcurrentpoint, sets_point, starts_flex,
 };
 use crate::watch::Watch;
 use t1_char::{CharToken, Command, Edition, Step};
@@ -67,64 +68,87 @@ impl Watch for FlexWatcher {
         }
     }
 
-    fn see(&mut self, step: &Step) -> Mask {
-        let broken = self.faults(step);
-        self.go_on(step);
+    #[inline(always)]
+    fn see_as(&mut self, token: CharToken, step: &Step) -> Mask {
+        let broken = self.faults(token, step);
+        self.go_on(token, step);
         broken
+    }
+
+    fn see(&mut self, step: &Step) -> Mask {
+        self.see_as(step.token, step)
     }
 }
 
 impl FlexWatcher {
+    /// Whether the last steps neither ended a flex nor took a pop behind that.
+    #[inline(always)]
+    pub(crate) fn is_calm(&self) -> bool
+        ensures ended { result ≡ true → self.now.ended ≡ false }
+        ensures popped { result ≡ true → self.now.popped ≡ false }
+        ensures popped_twice { result ≡ true → self.now.popped_twice ≡ false }
+    {
+        !(self.ended | (self.popped | self.popped_twice))
+    }
+
     /// What a step breaks.
+    #[inline(always)]
     #[tactic(auto, unfolding(crate::specs::StepRules::flex_rules))]
-    fn faults(&self, step: &Step) -> Mask
-        requires { (before : List StepView) × (FlexStandsFor self.now before × (length before < most_steps)) }
+    fn faults(&self, token: CharToken, step: &Step) -> Mask
+        requires token { step.now.token ≡ token }
+        requires steps { (before : List StepView) × (FlexStandsFor self.now before × (length before < most_steps)) }
         ensures { (before : List StepView) → FlexStandsFor self.now before →
             (n : ℕ) → has result n ≡ breaks flex_rules n before (step_view step.now) }
     {
-        let token = step.token;
         if is_quiet(token) && !self.in_flex {
             return Mask::empty();
         }
         Mask::empty()
             .with(Rule::X06, is_setcurrentpoint(token) & !self.popped_twice)
-            .with(Rule::X05, ends_away_from(self.point, step) & self.in_flex)
+            .with(
+                Rule::X05,
+                ends_away_from(self.point, token, step) & self.in_flex,
+            )
             .with(
                 Rule::X04,
-                miscounts(self.moves, self.points, step) & self.in_flex,
+                miscounts(self.moves, self.points, token, step) & self.in_flex,
             )
             .with(Rule::X03, clears(token) & !is_move(token) & self.in_flex)
             .with(
                 Rule::X02,
-                (step.gives_flex_point() | step.ends_flex()) & !self.in_flex,
+                (gives_flex_point(token, step) | ends_flex(token, step)) & !self.in_flex,
             )
-            .with(Rule::X01, step.starts_flex() & self.in_flex)
+            .with(Rule::X01, starts_flex(token, step) & self.in_flex)
     }
 
     /// Keeps what the step changes.
-    fn go_on(&mut self, step: &Step)
-        requires { (before : List StepView) × (FlexStandsFor self.old before × (length before < most_steps)) }
+    #[inline(always)]
+    fn go_on(&mut self, token: CharToken, step: &Step)
+        requires token { step.now.token ≡ token }
+        requires steps { (before : List StepView) × (FlexStandsFor self.old before × (length before < most_steps)) }
         ensures { (before : List StepView) → FlexStandsFor self.old before → length before < most_steps →
             FlexStandsFor self.new (before ++ step_view step.now ∷ []) }
     {
-        if !is_command(step.token) {
+        if !is_command(token) {
             self.ended = false;
             self.popped = false;
             self.popped_twice = false;
             return;
         }
-        let pops = is_pop(step.token);
+        let point = next_point(self.point, token, step);
+        let pops = is_pop(token);
         self.popped_twice = pops & self.popped;
         self.popped = pops & self.ended;
-        self.ended = step.ends_flex();
-        self.moves = counted(step, self.moves, is_move(step.token));
-        self.points = counted(step, self.points, step.gives_flex_point());
-        self.in_flex = step.starts_flex() | (self.in_flex & !self.ended);
-        self.point = next_point(self.point, step);
+        self.ended = ends_flex(token, step);
+        self.moves = counted(token, step, self.moves, is_move(token));
+        self.points = counted(token, step, self.points, gives_flex_point(token, step));
+        self.in_flex = starts_flex(token, step) | (self.in_flex & !self.ended);
+        self.point = point;
     }
 }
 
 /// Whether outside flex none of these rules speaks of a token.
+#[inline(always)]
 fn is_quiet(token: CharToken) -> bool
     ensures { result ≡ true → IsQuietForFlex token }
 {
@@ -132,11 +156,13 @@ fn is_quiet(token: CharToken) -> bool
 }
 
 /// A count since the last start of a flex, with one more where the step is counted.
-fn counted(step: &Step, count: u32, is_one: bool) -> u32
-    requires { count < most_steps }
+#[inline(always)]
+fn counted(token: CharToken, step: &Step, count: u32, is_one: bool) -> u32
+    requires token { step.now.token ≡ token }
+    requires count { count < most_steps }
     ensures { result ≡ (if is_flex_start (step_view step.now) then 0 else (if is_one then suc count else count)) }
 {
-    if step.starts_flex() {
+    if starts_flex(token, step) {
         0
     } else if is_one {
         count + 1
@@ -146,16 +172,19 @@ fn counted(step: &Step, count: u32, is_one: bool) -> u32
 }
 
 /// Whether a point doesn't come behind its move, or the end behind seven of each.
-fn miscounts(moves: u32, points: u32, step: &Step) -> bool
-    requires { points < most_steps }
+#[inline(always)]
+fn miscounts(moves: u32, points: u32, token: CharToken, step: &Step) -> bool
+    requires token { step.now.token ≡ token }
+    requires points { points < most_steps }
     ensures { result ≡ miscounts moves points (step_view step.now) }
 {
-    (step.gives_flex_point() & (moves != points + 1))
-        | (step.ends_flex() & !((moves == 7) & (points == 7)))
+    (gives_flex_point(token, step) & (moves != points + 1))
+        | (ends_flex(token, step) & !((moves == 7) & (points == 7)))
 }
 
 /// Whether the step ends a flex, and not at this point.
-fn ends_away_from(point: Point, step: &Step) -> bool
+fn ends_away_from(point: Point, token: CharToken, step: &Step) -> bool
+    requires token { step.now.token ≡ token }
     ensures { result ≡ ends_away_from point (step_view step.now) }
 {
     if step.stack.len() < 5 {
@@ -165,7 +194,7 @@ fn ends_away_from(point: Point, step: &Step) -> bool
         x: step.stack.from_top(3),
         y: step.stack.from_top(2),
     };
-    step.ends_flex() & is_elsewhere(end, point)
+    ends_flex(token, step) & is_elsewhere(end, point)
 }
 
 fn is_elsewhere(one: Point, other: Point) -> bool
@@ -175,41 +204,47 @@ fn is_elsewhere(one: Point, other: Point) -> bool
 }
 
 /// The current point behind a step.
-fn next_point(point: Point, step: &Step) -> Point
-    requires { (n : ℕ) × (IsNear n point × (n < most_steps)) }
+#[inline(always)]
+fn next_point(point: Point, token: CharToken, step: &Step) -> Point
+    requires token { step.now.token ≡ token }
+    requires near { (n : ℕ) × (IsNear n point × (n < most_steps)) }
     ensures value { result ≡ (if sets_point step.now.token then point_set (step_view step.now)
         else plus point (displacement (step_view step.now))) }
     ensures near { (n : ℕ) → IsNear n point → IsNear (n + 1) result }
 {
-    if sets_point(step.token) {
-        return point_set(step);
+    if sets_point(token) {
+        return point_set(token, step);
     }
-    plus(point, displacement(step))
+    plus(point, displacement(token, step))
 }
 
 /// Where a command sets the current point.
-fn point_set(step: &Step) -> Point
+fn point_set(token: CharToken, step: &Step) -> Point
+    requires token { step.now.token ≡ token }
     ensures value { result ≡ point_set (step_view step.now) }
     ensures near { IsNear 1 result }
 {
-    if is_hsbw(step.token) {
+    if is_hsbw(token) {
         return at(step.argument(0), 0);
     }
     at(step.argument(0), step.argument(1))
 }
 
 /// How far a step moves the current point.
-fn displacement(step: &Step) -> Point
+#[inline(always)]
+fn displacement(token: CharToken, step: &Step) -> Point
+    requires token { step.now.token ≡ token }
     ensures value { result ≡ displacement (step_view step.now) }
     ensures near { IsNear 1 result }
 {
-    match step.token {
+    match token {
         CharToken::Command(command) => moved_by(command, step),
         _ => at(0, 0),
     }
 }
 
 /// How far a command moves the current point.
+#[inline(always)]
 fn moved_by(command: Command, step: &Step) -> Point
     ensures value { result ≡ moved_by command step.now.stack }
     ensures near { IsNear 1 result }

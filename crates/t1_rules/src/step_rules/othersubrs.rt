@@ -30,18 +30,25 @@ impl Watch for OthersubrWatcher {
         OthersubrWatcher
     }
 
+    #[inline(always)]
+    fn see_as(&mut self, token: CharToken, step: &Step) -> Mask {
+        faults(token, step)
+    }
+
     fn see(&mut self, step: &Step) -> Mask {
-        faults(step)
+        self.see_as(step.token, step)
     }
 }
 
 /// What a step breaks.
+#[inline(always)]
 #[tactic(auto, unfolding(crate::specs::StepRules::othersubr_rules))]
-fn faults(step: &Step) -> Mask
+fn faults(token: CharToken, step: &Step) -> Mask
+    requires token { step.now.token ≡ token }
     ensures { (before : List StepView) → (n : ℕ) →
         has result n ≡ breaks othersubr_rules n before (step_view step.now) }
 {
-    match step.token {
+    match token {
         CharToken::Command(Command::Callothersubr) => call_faults(step),
         CharToken::Command(Command::Pop) => Mask::empty().with(Rule::O04, step.waiting == 0),
         _ => Mask::empty(),
@@ -49,6 +56,7 @@ fn faults(step: &Step) -> Mask
 }
 
 /// What a call of an OtherSubr breaks.
+#[inline(never)]
 #[tactic(auto, using(crate::proofs::Lemmas::Othersubrs::of_call, crate::proofs::Lemmas::Othersubrs::of_few))]
 fn call_faults(step: &Step) -> Mask
     requires { IsCommand (step_view step.now) Callothersubr }

@@ -13,7 +13,8 @@ use crate::mask::Mask;
 use crate::rule::Rule;
 use crate::step_rules::calls::ends_in_glyph;
 use crate::step_rules::tokens::{
-    clears, closes, is_callothersubr, is_end, is_finishing, is_line, is_move, sets_width,
+    clears, closes, ends_flex, is_callothersubr, is_end, is_finishing, is_line, is_move,
+    sets_width, starts_flex,
 };
 use crate::watch::Watch;
 use t1_char::{CharToken, Edition, Step};
@@ -48,43 +49,51 @@ impl Watch for PathWatcher {
         }
     }
 
-    fn see(&mut self, step: &Step) -> Mask {
-        if is_quiet(step) {
+    #[inline(always)]
+    fn see_as(&mut self, token: CharToken, step: &Step) -> Mask {
+        if is_quiet(token) {
             return Mask::empty();
         }
-        let broken = self.faults(step);
-        self.go_on(step);
+        let broken = self.faults(token, step);
+        self.go_on(token, step);
         broken
+    }
+
+    fn see(&mut self, step: &Step) -> Mask {
+        self.see_as(step.token, step)
     }
 }
 
 impl PathWatcher {
     /// What a step breaks.
+    #[inline(always)]
     #[tactic(auto, unfolding(crate::specs::StepRules::path_rules))]
-    fn faults(&self, step: &Step) -> Mask
+    fn faults(&self, token: CharToken, step: &Step) -> Mask
+        requires token { step.now.token ≡ token }
         ensures { (before : List StepView) → PathsStandFor self.now before →
             (n : ℕ) → has result n ≡ breaks path_rules n before (step_view step.now) }
     {
-        let token = step.token;
-        let finishes = is_finishing(token) | ends_in_glyph(step);
+        let finishes = is_finishing(token) | ends_in_glyph(token, step);
         Mask::empty()
             .with(Rule::P03, closes(token) & !self.drawn)
             .with(Rule::P02, (self.moves(token) | finishes) & self.drawn)
-            .with(Rule::P01, draws(step, self.in_flex) & !self.moved)
+            .with(Rule::P01, draws(token, step, self.in_flex) & !self.moved)
             .with(Rule::W02, sets_width(token) & self.begun)
             .with(Rule::W01, clears(token) & !sets_width(token) & !self.begun)
     }
 
     /// Keeps what the step changes.
-    fn go_on(&mut self, step: &Step)
+    #[inline(always)]
+    fn go_on(&mut self, token: CharToken, step: &Step)
+        requires token { step.now.token ≡ token }
         ensures { (before : List StepView) → PathsStandFor self.old before →
             PathsStandFor self.new (before ++ step_view step.now ∷ []) }
     {
-        let stays = !closes(step.token);
-        self.drawn = draws(step, self.in_flex) | (self.drawn & stays);
-        self.moved = self.moves(step.token) | (self.moved & stays);
-        self.begun = self.begun | clears(step.token);
-        self.in_flex = step.starts_flex() | (self.in_flex & !step.ends_flex());
+        let stays = !closes(token);
+        self.drawn = draws(token, step, self.in_flex) | (self.drawn & stays);
+        self.moved = self.moves(token) | (self.moved & stays);
+        self.begun = self.begun | clears(token);
+        self.in_flex = starts_flex(token, step) | (self.in_flex & !ends_flex(token, step));
     }
 
     /// Whether it is a move outside flex.
@@ -96,15 +105,18 @@ impl PathWatcher {
 }
 
 /// Whether the step draws a line, a curve, or the curves of a flex, being in it.
-pub(crate) fn draws(step: &Step, in_flex: bool) -> bool
+#[inline(always)]
+pub(crate) fn draws(token: CharToken, step: &Step, in_flex: bool) -> bool
+    requires token { step.now.token ≡ token }
     ensures { result ≡ (is_line step.now.token || (is_flex_end (step_view step.now) && in_flex)) }
 {
-    is_line(step.token) | (step.ends_flex() & in_flex)
+    is_line(token) | (ends_flex(token, step) & in_flex)
 }
 
 /// Whether none of these rules speaks of a token, and it changes nothing that is kept.
-fn is_quiet(step: &Step) -> bool
-    ensures { result ≡ true → IsQuietForPaths (step_view step.now) }
+#[inline(always)]
+fn is_quiet(token: CharToken) -> bool
+    ensures { result ≡ true → IsQuietForPaths token }
 {
-    !(clears(step.token) | is_callothersubr(step.token) | is_end(step.token))
+    !(clears(token) | is_callothersubr(token) | is_end(token))
 }

@@ -17,9 +17,9 @@ use crate::rule::Rule;
 use crate::standard_encoding::standard_name;
 use crate::step_rules::paths::draws;
 use crate::step_rules::stems::is_stem;
-use crate::step_rules::tokens::{closes, is_command, is_move, is_seac};
+use crate::step_rules::tokens::{closes, ends_flex, is_command, is_move, is_seac, starts_flex};
 use crate::watch::Watch;
-use t1_char::{Edition, Step, natural};
+use t1_char::{CharToken, Edition, Step, natural};
 
 /// Watches for K01, K02 and K06.
 #[derive(Clone, Copy, Debug, PartialEq, Eq)]
@@ -45,21 +45,28 @@ impl Watch for SeacWatcher {
         }
     }
 
-    fn see(&mut self, step: &Step) -> Mask {
-        let broken = self.faults(step);
-        self.go_on(step);
+    #[inline(always)]
+    fn see_as(&mut self, token: CharToken, step: &Step) -> Mask {
+        let broken = self.faults(token, step);
+        self.go_on(token, step);
         broken
+    }
+
+    fn see(&mut self, step: &Step) -> Mask {
+        self.see_as(step.token, step)
     }
 }
 
 impl SeacWatcher {
     /// What a step breaks.
+    #[inline(always)]
     #[tactic(auto, unfolding(crate::specs::StepRules::seac_rules))]
-    fn faults(&self, step: &Step) -> Mask
+    fn faults(&self, token: CharToken, step: &Step) -> Mask
+        requires token { step.now.token ≡ token }
         ensures { (before : List StepView) → SeacStandsFor self.now before →
             (n : ℕ) → has result n ≡ breaks seac_rules n before (step_view step.now) }
     {
-        if !is_seac(step.token) {
+        if !is_seac(token) {
             return Mask::empty();
         }
         Mask::empty()
@@ -69,28 +76,33 @@ impl SeacWatcher {
     }
 
     /// Keeps what the step changes.
-    fn go_on(&mut self, step: &Step)
+    #[inline(always)]
+    fn go_on(&mut self, token: CharToken, step: &Step)
+        requires token { step.now.token ≡ token }
         ensures { (before : List StepView) → SeacStandsFor self.old before →
             SeacStandsFor self.new (before ++ step_view step.now ∷ []) }
     {
-        if !is_command(step.token) {
+        if !is_command(token) {
             return;
         }
-        self.outlined = self.outlined | makes_outline(step, self.in_flex);
-        self.in_flex = step.starts_flex() | (self.in_flex & !step.ends_flex());
+        self.outlined = self.outlined | makes_outline(token, step, self.in_flex);
+        self.in_flex = starts_flex(token, step) | (self.in_flex & !ends_flex(token, step));
     }
 }
 
 /// Whether the step makes a part of an outline, being in flex or not.
-fn makes_outline(step: &Step, in_flex: bool) -> bool
+#[inline(always)]
+fn makes_outline(token: CharToken, step: &Step, in_flex: bool) -> bool
+    requires token { step.now.token ≡ token }
     ensures { result ≡ (is_move step.now.token
         || ((is_line step.now.token || (is_flex_end (step_view step.now) && in_flex))
         || (is_stem step.now.token || closes step.now.token))) }
 {
-    is_move(step.token) | (draws(step, in_flex) | (is_stem(step.token) | closes(step.token)))
+    is_move(token) | (draws(token, step, in_flex) | (is_stem(token) | closes(token)))
 }
 
 /// Whether a code of seac isn't whole from 0 to 255.
+#[inline(never)]
 fn has_no_code(step: &Step) -> bool
     ensures { result ≡ has_no_code (step_view step.now) }
 {
@@ -98,6 +110,7 @@ fn has_no_code(step: &Step) -> bool
 }
 
 /// Whether a code of seac has no name in StandardEncoding.
+#[inline(never)]
 fn has_unnamed_code(step: &Step) -> bool
     ensures { result ≡ has_unnamed_code (step_view step.now) }
 {

@@ -21,7 +21,9 @@ use crate::mask::Mask;
 use crate::rule::Rule;
 use crate::step_rules::numbers::{differ, greater, is_below, lesser, sum, twice};
 use crate::step_rules::paths::draws;
-use crate::step_rules::tokens::{is_callothersubr, is_callsubr, is_line, is_pop};
+use crate::step_rules::tokens::{
+    ends_flex, is_callothersubr, is_callsubr, is_line, is_pop, replaces_hints, starts_flex,
+};
 use crate::watch::Watch;
 use arrayvec::ArrayVec;
 use t1_char::{CharToken, Command, Edition, Step};
@@ -82,28 +84,56 @@ impl Watch for StemWatcher {
         }
     }
 
-    fn see(&mut self, step: &Step) -> Mask {
-        let broken = self.faults(step);
-        self.go_on(step);
+    #[inline(always)]
+    fn see_as(&mut self, token: CharToken, step: &Step) -> Mask {
+        let broken = self.faults(token, step);
+        self.go_on(token, step);
         broken
+    }
+
+    fn see(&mut self, step: &Step) -> Mask {
+        self.see_as(step.token, step)
     }
 }
 
 impl StemWatcher {
+    /// Before the first step again, in place.
+    pub(crate) fn start_again(&mut self, edition: Edition)
+        ensures { StemsStandFor edition self.new [] }
+    {
+        self.edition = edition;
+        self.across.clear();
+        self.upright.clear();
+        self.in_flex = false;
+        self.drawn = false;
+        self.replaced = false;
+        self.popped = false;
+    }
+
+    /// Whether the last steps neither replaced the hints nor took a pop behind that.
+    #[inline(always)]
+    pub(crate) fn is_calm(&self) -> bool
+        ensures replaced { result ≡ true → self.now.replaced ≡ false }
+        ensures popped { result ≡ true → self.now.popped ≡ false }
+    {
+        !(self.replaced | self.popped)
+    }
+
     /// What a step breaks.
+    #[inline(always)]
     #[tactic(auto, unfolding(crate::specs::StepRules::stem_rules))]
-    fn faults(&self, step: &Step) -> Mask
+    fn faults(&self, token: CharToken, step: &Step) -> Mask
+        requires token { step.now.token ≡ token }
         ensures { (edition : Editions) (before : List StepView) → StemsStandFor edition self.now before →
             (n : ℕ) → has result n ≡ breaks (stem_rules edition) n before (step_view step.now) }
     {
-        let token = step.token;
         let late = Mask::empty()
             .with(Rule::R02, !is_callsubr(token) & self.popped)
             .with(Rule::R01, !is_pop(token) & self.replaced);
         if is_stem(token) {
-            late.with(Rule::H04, is_unequal(step))
-                .with(Rule::H03, is_without_width(step))
-                .with(Rule::H02, self.meets(step))
+            late.with(Rule::H04, is_unequal(token, step))
+                .with(Rule::H03, is_without_width(token, step))
+                .with(Rule::H02, self.meets(token, step))
                 .with(Rule::H01, self.drawn)
         } else {
             late
@@ -111,45 +141,43 @@ impl StemWatcher {
     }
 
     /// Whether a stem of the step overlaps one of the hint set, or two of its own overlap.
-    fn meets(&self, step: &Step) -> bool
+    #[inline(always)]
+    fn meets(&self, token: CharToken, step: &Step) -> bool
+        requires token { step.now.token ≡ token }
         ensures { result ≡ (
             (is_command lies_across step.now.token && stems_meet (overlap_by self.now.edition) (stems_of (step_view step.now)) self.now.across.items)
             || (is_command stands_upright step.now.token && stems_meet (overlap_by self.now.edition) (stems_of (step_view step.now)) self.now.upright.items)) }
     {
-        if lies_across(step.token) {
-            stems_meet(
-                self.edition,
-                stems_of(step).as_slice(),
-                self.across.as_slice(),
-            )
-        } else if stands_upright(step.token) {
-            stems_meet(
-                self.edition,
-                stems_of(step).as_slice(),
-                self.upright.as_slice(),
-            )
+        if lies_across(token) {
+            own_stems_meet(self.edition, token, step, self.across.as_slice())
+        } else if stands_upright(token) {
+            own_stems_meet(self.edition, token, step, self.upright.as_slice())
         } else {
             false
         }
     }
 
     /// Keeps what the step changes.
-    fn go_on(&mut self, step: &Step)
+    #[inline(always)]
+    fn go_on(&mut self, token: CharToken, step: &Step)
+        requires token { step.now.token ≡ token }
         ensures { (edition : Editions) (before : List StepView) → StemsStandFor edition self.old before →
             StemsStandFor edition self.new (before ++ step_view step.now ∷ []) }
     {
-        self.popped = is_pop(step.token) & self.replaced;
-        self.replaced = step.replaces_hints();
-        if is_quiet(step.token) {
+        self.popped = is_pop(token) & self.replaced;
+        self.replaced = replaces_hints(token, step);
+        if is_quiet(token) {
             return;
         }
-        self.drawn = draws(step, self.in_flex) | (self.drawn & !self.replaced);
-        self.in_flex = step.starts_flex() | (self.in_flex & !step.ends_flex());
-        self.keep_stems(step);
+        self.drawn = draws(token, step, self.in_flex) | (self.drawn & !self.replaced);
+        self.in_flex = starts_flex(token, step) | (self.in_flex & !ends_flex(token, step));
+        self.keep_stems(token, step);
     }
 
     /// Keeps the stems of the step, or none after a hint replacement.
-    fn keep_stems(&mut self, step: &Step)
+    #[inline(always)]
+    fn keep_stems(&mut self, token: CharToken, step: &Step)
+        requires token { step.now.token ≡ token }
         ensures across { self.new.across.items ≡ kept_after lies_across self.old.across.items (step_view step.now) }
         ensures upright { self.new.upright.items ≡ kept_after stands_upright self.old.upright.items (step_view step.now) }
         ensures edition { self.new.edition ≡ self.old.edition }
@@ -158,13 +186,13 @@ impl StemWatcher {
         ensures replaced { self.new.replaced ≡ self.old.replaced }
         ensures popped { self.new.popped ≡ self.old.popped }
     {
-        if step.replaces_hints() {
+        if replaces_hints(token, step) {
             self.across.clear();
             self.upright.clear();
-        } else if lies_across(step.token) {
-            keep(&mut self.across, stems_of(step).as_slice());
-        } else if stands_upright(step.token) {
-            keep(&mut self.upright, stems_of(step).as_slice());
+        } else if lies_across(token) {
+            keep_own(&mut self.across, token, step);
+        } else if stands_upright(token) {
+            keep_own(&mut self.upright, token, step);
         }
     }
 }
@@ -235,6 +263,7 @@ fn spans_meet(one_lower: i64, one_upper: i64, other_lower: i64, other_upper: i64
 }
 
 /// Whether none of these rules speaks of a token, and it changes neither a hint set nor what was drawn.
+#[inline(always)]
 fn is_quiet(token: CharToken) -> bool
     ensures { result ≡ true → IsQuietForStems token }
 {
@@ -277,20 +306,42 @@ fn stem_at(step: &Step, place: usize) -> Stem
     }
 }
 
-/// The stems of a command.
-fn stems_of(step: &Step) -> ArrayVec<Stem, 3>
-    ensures { result.items ≡ stems_of (step_view step.now) }
+/// The three stems of a command.
+#[inline(never)]
+fn three_stems(step: &Step) -> [Stem; 3]
+    ensures { result ≡ stem_at step.now.stack 0 ∷ stem_at step.now.stack 2 ∷ stem_at step.now.stack 4 ∷ [] }
 {
-    let mut stems = ArrayVec::new();
-    stems.push(stem_at(step, 0));
-    if is_triple(step.token) {
-        stems.push(stem_at(step, 2));
-        stems.push(stem_at(step, 4));
+    [stem_at(step, 0), stem_at(step, 2), stem_at(step, 4)]
+}
+
+/// Whether a stem of the step overlaps one that is kept, or two of its own overlap.
+#[inline(always)]
+fn own_stems_meet(edition: Edition, token: CharToken, step: &Step, kept: &[Stem]) -> bool
+    requires token { step.now.token ≡ token }
+    ensures { result ≡ stems_meet (overlap_by edition) (stems_of (step_view step.now)) kept.now }
+{
+    if is_triple(token) {
+        stems_meet(edition, &three_stems(step), kept)
+    } else {
+        stems_meet(edition, &[stem_at(step, 0)], kept)
     }
-    stems
+}
+
+/// Keeps the stems of the step, as long as there are fewer than 96.
+#[inline(always)]
+fn keep_own(kept: &mut Stems, token: CharToken, step: &Step)
+    requires token { step.now.token ≡ token }
+    ensures { kept.new.items ≡ take 96 (kept.old.items ++ stems_of (step_view step.now)) }
+{
+    if is_triple(token) {
+        keep(kept, &three_stems(step));
+    } else {
+        keep(kept, &[stem_at(step, 0)]);
+    }
 }
 
 /// Keeps stems, as long as there are fewer than 96.
+#[inline(never)]
 fn keep(kept: &mut Stems, stems: &[Stem])
     ensures { kept.new.items ≡ take 96 (kept.old.items ++ stems.now) }
 {
@@ -344,10 +395,16 @@ fn two_overlap(edition: Edition, stems: &[Stem]) -> bool
 }
 
 /// Whether one of the command's stems has no width.
-fn is_without_width(step: &Step) -> bool
+#[inline(always)]
+fn is_without_width(token: CharToken, step: &Step) -> bool
+    requires token { step.now.token ≡ token }
     ensures { result ≡ list_any has_no_width (stems_of (step_view step.now)) }
 {
-    any_has_no_width(stems_of(step).as_slice())
+    if is_triple(token) {
+        any_has_no_width(&three_stems(step))
+    } else {
+        any_has_no_width(&[stem_at(step, 0)])
+    }
 }
 
 fn any_has_no_width(stems: &[Stem]) -> bool
@@ -357,13 +414,16 @@ fn any_has_no_width(stems: &[Stem]) -> bool
 }
 
 /// Whether the three stems of a command aren't equal, where it has three.
-fn is_unequal(step: &Step) -> bool
+#[inline(always)]
+fn is_unequal(token: CharToken, step: &Step) -> bool
+    requires token { step.now.token ≡ token }
     ensures { result ≡ sets_unequal (step_view step.now) }
 {
-    is_triple(step.token) && are_unequal(stem_at(step, 0), stem_at(step, 2), stem_at(step, 4))
+    is_triple(token) && are_unequal(stem_at(step, 0), stem_at(step, 2), stem_at(step, 4))
 }
 
 /// Whether the outer two stems aren't equally wide, or the middles not equally far apart.
+#[inline(never)]
 fn are_unequal(one: Stem, two: Stem, three: Stem) -> bool
     ensures { result ≡ are_unequal one two three }
 {

@@ -1,12 +1,13 @@
 //! The kinds of tokens that charstring rules speak of: Type 1 Font Format 1.1, chapter 6.
 
 ghost use Rattle.std.specs.Prelude.{◌≡◌, true};
-ghost use Rattle.t1_char.specs.Arguments.{is_callothersubr};
+ghost use Rattle.t1_char.specs.Arguments.{is_callothersubr, is_flex_end, is_flex_point, is_flex_start, is_hint_replacement};
 ghost use Rattle.t1_char.specs.Laws.Steps.{is_finishing};
 ghost use Rattle.t1_char.specs.Steps.{is_callsubr, is_end, is_return};
+ghost use Rattle.t1_char.specs.StepValues.{step_view};
 ghost use Rattle.t1_rules.specs.StepRules.Tokens.{clears, closes, is_command, is_hsbw, is_line, is_move, is_pop, is_seac, is_setcurrentpoint, sets_point, sets_width};
 
-use t1_char::{CharToken, Command};
+use t1_char::{CharToken, Command, Step};
 
 pub(crate) fn is_end(token: CharToken) -> bool
     ensures { result ≡ is_end token }
@@ -15,6 +16,7 @@ pub(crate) fn is_end(token: CharToken) -> bool
 }
 
 /// Whether it is a command. Most tokens are numbers, at which little changes.
+#[inline(always)]
 pub(crate) fn is_command(token: CharToken) -> bool
     ensures { result ≡ is_command (λ command. true) token }
 {
@@ -27,6 +29,7 @@ pub(crate) fn is_callsubr(token: CharToken) -> bool
     matches!(token, CharToken::Command(Command::Callsubr))
 }
 
+#[inline(always)]
 pub(crate) fn is_callothersubr(token: CharToken) -> bool
     ensures { result ≡ is_callothersubr token }
 {
@@ -125,4 +128,40 @@ pub(crate) fn is_seac(token: CharToken) -> bool
     ensures { result ≡ is_seac token }
 {
     matches!(token, CharToken::Command(Command::Seac))
+}
+
+/// Whether a step of this token starts a flex.
+#[inline(always)]
+pub(crate) fn starts_flex(token: CharToken, step: &Step) -> bool
+    requires token { step.now.token ≡ token }
+    ensures { result ≡ is_flex_start (step_view step.now) }
+{
+    is_callothersubr(token) && step.starts_flex()
+}
+
+/// Whether a step of this token gives a flex its next point.
+#[inline(always)]
+pub(crate) fn gives_flex_point(token: CharToken, step: &Step) -> bool
+    requires token { step.now.token ≡ token }
+    ensures { result ≡ is_flex_point (step_view step.now) }
+{
+    is_callothersubr(token) && step.gives_flex_point()
+}
+
+/// Whether a step of this token ends a flex.
+#[inline(always)]
+pub(crate) fn ends_flex(token: CharToken, step: &Step) -> bool
+    requires token { step.now.token ≡ token }
+    ensures { result ≡ is_flex_end (step_view step.now) }
+{
+    is_callothersubr(token) && step.ends_flex()
+}
+
+/// Whether a step of this token replaces hints.
+#[inline(always)]
+pub(crate) fn replaces_hints(token: CharToken, step: &Step) -> bool
+    requires token { step.now.token ≡ token }
+    ensures { result ≡ is_hint_replacement (step_view step.now) }
+{
+    is_callothersubr(token) && step.replaces_hints()
 }

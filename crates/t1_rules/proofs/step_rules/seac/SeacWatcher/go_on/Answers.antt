@@ -7,7 +7,7 @@ use Rattle.t1_rules.proofs.step_rules.seac.SeacWatcher.go_on.Goals as goal
 pub returns-then-not-is_command : goal.returns-then-not-is_command
 returns-then-not-is_command c = λ before st.
     outline_stays c.args.self.now before (step_view c.args.step.now)
-    (no_command _ (sym c.is_command.ensures ∙ c.if-not-is_command.true)) st
+    (rw c.requires.token (no_command _ (sym c.is_command.ensures ∙ c.if-not-is_command.true))) st
 
 pub returns : goal.returns
 returns c = λ before st.

@@ -1,0 +1,126 @@
+-- Numbers that a machine goes over, while the watchers are calm.
+use Rattle.std.proofs.Common.{◌≡◌, ℕ, ℤ, zero, suc, ◌+◌, ◌-◌, ◌<◌, ◌≤◌, inl, inr, false, Some, List, length, length-take, take, refl, sym, ap, subst, ◌∙◌, arith}
+use Rattle.std.proofs.lemmas.Bool.{cases_lt}
+use Rattle.std.proofs.lemmas.Option.{slice_get_within}
+use Rattle.t1_char.specs.declared.edition.Edition.{Edition}
+use Rattle.t1_char.specs.declared.token.CharToken.TheVariants.{Number}
+use Rattle.t1_char.specs.Editions.{limit_of}
+use Rattle.t1_char.specs.Passing.{ArePassed, IsPassed}
+use Rattle.t1_char.specs.Steps.{StepView, steps_of}
+use Rattle.t1_char.specs.Turns.{MachineView}
+use Rattle.t1_rules.specs.declared.sidebearings.Component.{Component}
+use Rattle.t1_rules.specs.declared.watches.Watches.{Watches}
+use Rattle.t1_rules.specs.Book.{number_of}
+use Rattle.t1_rules.specs.Components.{components_of}
+use Rattle.t1_rules.specs.StepRules.{StepRule, breaks, charstring_rules, component_rules}
+use Rattle.t1_rules.specs.Watches.{IsCalm, WatchesStandFor}
+use Rattle.t1_rules.proofs.Lemmas.PassedNumbers.{kept}
+use Rattle.t1_rules.proofs.Lemmas.Watches.{no_fault_at_number, stays_at_number}
+use Rattle.t1_report.specs.Checked.{CheckedFont, executed, step_limit}
+use Rattle.t1_report.specs.Reports.{is_broken, rules_of, step_breaks}
+use Rattle.t1_report.specs.Searches.{IsQuiet, IsRun}
+use Rattle.t1_report.specs.Walks.{turns_of_glyph}
+use Rattle.t1_report.proofs.Broken.{at_step, both_kinds, rules_by, within_limit}
+use Rattle.t1_report.proofs.GlyphSteps.{take_next}
+use Rattle.t1_report.proofs.RunSteps.{run_of}
+
+-- Calm watchers stand for what is behind such numbers.
+stands_more : (edition : Edition) (w : Watches) (limit : ℕ) (all : List StepView) (k : ℕ) → IsCalm w → IsPassed limit all k → WatchesStandFor edition w (take k all) → WatchesStandFor edition w (take (k + 1) all)
+stands_more edition w limit all k calm passed st =
+    let is = kept limit all k passed in
+    subst (WatchesStandFor edition w) (sym (take_next all k passed.step passed.there)) (stays_at_number edition w (take k all) passed.step is.number is.token calm st)
+
+stands_behind : (edition : Edition) (w : Watches) (limit : ℕ) (all : List StepView) (n d : ℕ) → IsCalm w → ArePassed limit all n (n + d) → WatchesStandFor edition w (take n all) → WatchesStandFor edition w (take (n + d) all)
+stands_behind edition w limit all n zero calm passed st =
+    let same : n ≡ n + 0 = omega arith in
+    subst (λ k. WatchesStandFor edition w (take k all)) same st
+stands_behind edition w limit all n (suc d) calm passed st =
+    let same : n + d + 1 ≡ n + suc d = omega arith in
+    subst (λ k. WatchesStandFor edition w (take k all)) same
+    (stands_more edition w limit all (n + d) calm (passed (n + d) (omega arith) (omega arith))
+    (stands_behind edition w limit all n d calm (λ k from to. passed k from (omega (arith, to))) st))
+
+-- The same up to any of them.
+stands_at : (edition : Edition) (w : Watches) (limit : ℕ) (all : List StepView) (n m k : ℕ) → IsCalm w → ArePassed limit all n m → n ≤ k → k ≤ m → WatchesStandFor edition w (take n all) → WatchesStandFor edition w (take k all)
+stands_at edition w limit all n m k calm passed from to st =
+    let same : n + (k - n) ≡ k = omega (arith, from) in
+    subst (λ i. WatchesStandFor edition w (take i all)) same
+    (stands_behind edition w limit all n (k - n) calm (λ i past less. passed i past (omega (arith, past, less, from, to))) st)
+
+-- No rule is broken at such a number.
+no_component_fault : (components : List Component) (n : ℕ) (before : List StepView) (t : StepView) (z : ℤ) → t.token ≡ Number z → breaks (component_rules components) n before t ≡ false
+unfolding component_rules
+no_component_fault components n before t z is = rw is refl
+
+none_at : (w : Watches) (font : CheckedFont) (unit glyph k n : ℕ) → unit ≡ glyph + 1 → glyph < length font.value.glyphs → IsCalm w → IsPassed (step_limit font) (steps_of font.value glyph) k
+    → WatchesStandFor font.edition w (take k (steps_of font.value glyph)) → is_broken font unit (k + 1) n ≡ false
+unfolding WatchesStandFor
+none_at w font unit glyph k n at there calm passed st =
+    let all : List StepView = steps_of font.value glyph in
+    let is = kept (step_limit font) all k passed in
+    let components = components_of (step_limit font) font.value in
+    let short : length (take k all) < step_limit font = omega (arith, passed.near, length-take k all) in
+    at_step font unit (k + 1) glyph k n at refl there
+    ∙ ap (λ s. step_breaks (step_limit font) (rules_of font) n (take k all) s) passed.there
+    ∙ ap (λ (rules : List StepRule). step_breaks (step_limit font) rules n (take k all) (Some passed.step)) (sym (rules_by font components refl))
+    ∙ sym (within_limit (step_limit font) (charstring_rules font.edition components) n (take k all) passed.step short)
+    ∙ sym (both_kinds font.edition components n (take k all) passed.step false false false refl
+    (sym (no_fault_at_number font.edition n (take k all) passed.step is.number is.token is.room (sym st.1.0.replaced ∙ calm.replaced) (sym st.1.0.popped ∙ calm.hints_popped)))
+    (sym (no_component_fault components n (take k all) passed.step is.number is.token)))
+
+-- How many were told with them.
+within : (limit : ℕ) (all : List StepView) (n m : ℕ) → n ≤ m → ArePassed limit all n m → n ≤ length (take limit all) + 1 → m ≤ length (take limit all) + 1
+within limit all n m more passed few =
+    elim (cases_lt n m) [
+      | inl less ↦
+          let last = passed (m - 1) (omega (arith, less)) (omega (arith, less)) in
+          omega (arith, less, last.near, slice_get_within all (m - 1) last.step last.there, length-take limit all)
+      | inr none ↦ omega (arith, none, few)
+    ]
+
+turns_within : (font : CheckedFont) (glyph n m : ℕ) → n ≤ m → ArePassed (step_limit font) (steps_of font.value glyph) n m → n ≤ turns_of_glyph font glyph → m ≤ turns_of_glyph font glyph
+unfolding turns_of_glyph
+turns_within font glyph n m more passed few = within (step_limit font) (steps_of font.value glyph) n m more passed few
+
+-- The run behind them.
+pub passed_run : (old new : MachineView) (w : Watches) → executed new ≡ executed old → new.glyph ≡ old.glyph → old.counted ≤ new.counted → IsCalm w
+    → ArePassed (limit_of old.edition) (steps_of old.font old.glyph) old.counted new.counted → IsRun old w → IsRun new w
+passed_run old new w of_font of_glyph more calm passed run =
+    let limit : ℕ = limit_of old.edition in
+    let all : List StepView = steps_of old.font old.glyph in
+    run_of (executed old) old.glyph new w of_font of_glyph run.there
+    (record {
+      counted_few = turns_within (executed old) old.glyph old.counted new.counted more passed run.counted;
+      seen_are = λ few. stands_at old.edition w limit all old.counted new.counted new.counted calm passed more (omega arith)
+          (run.seen (omega (arith, few, more, length-take old.counted all, length-take new.counted all)));
+    })
+
+-- And no rule is broken at them.
+pub passed_quiet : (m : MachineView) (w : Watches) (counted : ℕ) → IsCalm w → ArePassed (limit_of m.edition) (steps_of m.font m.glyph) m.counted counted → IsRun m w
+    → IsQuiet (executed m) (m.glyph + 1) (m.counted + 1) (counted + 1)
+passed_quiet m w counted calm passed run = λ s rule from to.
+    let limit : ℕ = limit_of m.edition in
+    let all : List StepView = steps_of m.font m.glyph in
+    let k : ℕ = s - 1 in
+    let this = passed k (omega (arith, from)) (omega (arith, from, to)) in
+    let first = passed m.counted (omega arith) (omega (arith, from, to)) in
+    let place : k + 1 ≡ s = omega (arith, from) in
+    subst (λ i. is_broken (executed m) (m.glyph + 1) i (number_of rule) ≡ false) place
+    (none_at w (executed m) (m.glyph + 1) m.glyph k (number_of rule) refl run.there calm this
+    (stands_at m.edition w limit all m.counted counted k calm passed (omega (arith, from)) (omega (arith, to))
+    (run.seen (omega (arith, first.near, length-take m.counted all)))))
+
+-- One quiet stretch behind another, of a machine that executes this glyph of this font.
+pub quiet_on : (m : MachineView) (font : CheckedFont) (glyph unit from to : ℕ) → executed m ≡ font → m.glyph ≡ glyph → unit ≡ glyph + 1
+    → IsQuiet font unit from (m.counted + 1) → IsQuiet (executed m) (m.glyph + 1) (m.counted + 1) to → IsQuiet font unit from to
+quiet_on m font glyph unit from to of_font of_glyph at front back = λ s rule past less.
+    elim (cases_lt s (m.counted + 1)) [
+      | inl before ↦ front s rule past before
+      | inr behind ↦
+          subst (λ (f : CheckedFont). is_broken f unit s (number_of rule) ≡ false) of_font
+          (subst (λ u. is_broken (executed m) u s (number_of rule) ≡ false) (ap (λ g. g + 1) of_glyph ∙ sym at) (back s rule behind less))
+    ]
+
+-- How many more times the machine can be asked then.
+pub fewer_turns_left : (limit n counted behind : ℕ) → counted ≡ n + 1 → counted ≤ behind → n ≤ limit → limit + 1 - behind < limit + 1 - n
+fewer_turns_left limit n counted behind is more near = omega (arith, is, more, near)

@@ -1,0 +1,6 @@
+use Rattle.t1_rules.specs.Watches.{WatchesStandFor}
+use Rattle.t1_rules.proofs.watches.Watches.start_again.Goals as goal
+
+pub returns : goal.returns
+unfolding WatchesStandFor
+returns c = (c.start-self.ensures, (c.start_again.ensures, (c.start-self-2.ensures, c.start-self-3.ensures)))
