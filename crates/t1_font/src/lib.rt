@@ -12,7 +12,7 @@
 //! - Each reader of [`Font`] gives what was stated last: the last value of a key, the last charstring
 //!   of a glyph or a Subr, the codes of the last Encoding. Glyphs stand in the order of their first
 //!   appearance.
-//! - No index, sum or cast goes wrong, and each call returns; each text is read once.
+//! - No index, sum or cast goes wrong, and each call returns.
 //!
 //! ```
 //! let joined = t1_seal::join(alloc, file)?;

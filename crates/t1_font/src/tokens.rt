@@ -16,6 +16,7 @@ pub(crate) const BILLION: i64 = 1_000_000_000;
 const LONGEST_CHARSTRING: u32 = 65_535;
 
 /// The first token, if one is left.
+#[inline(always)]
 pub(crate) fn first<'a>(text: &'a [u8]) -> Result<Option<(Token<'a>, &'a [u8])>, ScanError>
     ensures { IsFirst text.now result }
 {

@@ -1,16 +1,17 @@
 -- The value of digits: of some in front of others, and of decimals in billionths.
-use Rattle.std.proofs.Common.{◌≡◌, ◌+◌, ◌*◌, ◌/◌, ◌^◌, ◌<◌, ◌≤◌, ℕ, zero, suc, true, false, nat_lt, None, List, [], ◌∷◌, ◌++◌, length, drop, take, get_or, refl, sym, ap, ◌∙◌, inl, inr, arith}
+use Rattle.std.proofs.Common.{◌≡◌, ◌+◌, ◌*◌, ◌/◌, ◌^◌, ◌<◌, ◌≤◌, ◌==◌, ℕ, zero, suc, true, false, nat_lt, None, List, [], ◌∷◌, ◌++◌, length, drop, take, get_or, refl, sym, ap, ◌∙◌, inl, inr, arith}
+use Rattle.std.proofs.Math.Bool.{and-false}
 use Rattle.std.proofs.Math.Nat.{pow-succ', pow-zero, add-mul, mul_assoc, zero-div, mul-div-mul_right, mul-add-div, mul-le-mul_right, div-eq_of_lt, pow-le-pow_right}
-use Rattle.std.proofs.lemmas.Bool.{and_parts, cases_lt}
+use Rattle.std.proofs.lemmas.Bool.{and_parts, cases_lt, or_parts}
 use Rattle.std.proofs.lemmas.Bool.Decides.{nat_tests}
 use Rattle.std.proofs.lemmas.List.{at_drop_more, at_drop_all}
 use Rattle.std.proofs.lemmas.Int.Digits.{digits_value-lt}
 use Rattle.std.proofs.lemmas.Str.Parse.{digits_value-take-le}
-use Rattle.std.specs.List.{list_all}
+use Rattle.std.specs.List.{list_all, slice_index_or}
 use Rattle.std.specs.Char.{digit_value}
 use Rattle.std.specs.Str.Parse.{AllDigits, digits_value, digits_value_after}
 use Rattle.t1_scan.specs.Bytes.{is_decimal_digit}
-use Rattle.t1_scan.specs.Numbers.{below_billion, scaled}
+use Rattle.t1_scan.specs.Numbers.{begins_number, below_billion, decimal_of, magnitude_of, number_of, radix_of, scaled}
 use Rattle.t1_scan.specs.Laws.{NineDigits}
 
 spread : (n base d t v : ℕ) → (n * base + d) * t + v ≡ n * (base * t) + ((0 * base + d) * t + v)
@@ -150,3 +151,13 @@ many_digits d ds some below =
 
 pub nine_digits : NineDigits
 nine_digits = (leading_zero, λ d ds h some. (λ below. many_digits d ds some below, λ few. few_digits d ds h few))
+
+-- a run that begins with any other byte is no number
+pub no_number : (run : List ℕ) → 1 ≤ length run → begins_number (slice_index_or run 0 0) ≡ false → number_of run ≡ None
+unfolding decimal_of magnitude_of radix_of
+no_number [] long none = absurd (omega (arith, long))
+no_number (b ∷ s) long none =
+    let last = or_parts _ (b == 46) none in
+    let sign = or_parts _ (b == 45) last.0 in
+    let digit = or_parts (is_decimal_digit b) (b == 43) sign.0 in
+    rw (digit.0, digit.1, sign.1, last.1, and-false (b == 35)) refl

@@ -15,28 +15,29 @@ pub fn is_blank(b: u8) -> bool
     matches!(b, 0 | b'\t' | b'\n' | 12 | b'\r' | b' ')
 }
 
-/// Whether a byte is neither a blank nor a delimiter.
+/// Whether a byte is neither a blank nor a delimiter. Most are letters and digits: these are asked for first.
 pub fn is_regular(b: u8) -> bool
     ensures { result ≡ is_regular b }
 {
-    !matches!(
-        b,
-        0 | b'\t'
-            | b'\n'
-            | 12
-            | b'\r'
-            | b' '
-            | b'('
-            | b')'
-            | b'<'
-            | b'>'
-            | b'['
-            | b']'
-            | b'{'
-            | b'}'
-            | b'/'
-            | b'%'
-    )
+    b.is_ascii_alphanumeric()
+        || !matches!(
+            b,
+            0 | b'\t'
+                | b'\n'
+                | 12
+                | b'\r'
+                | b' '
+                | b'('
+                | b')'
+                | b'<'
+                | b'>'
+                | b'['
+                | b']'
+                | b'{'
+                | b'}'
+                | b'/'
+                | b'%'
+        )
 }
 
 /// Whether a byte is one of 0 to 9.

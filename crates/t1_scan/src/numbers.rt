@@ -1,8 +1,9 @@
 ghost use Rattle.std.specs.Prelude.{◌≡◌, ◌<◌, ◌^◌, IfSome, IsTrue};
 ghost use Rattle.std.specs.List.{list_all};
 ghost use Rattle.t1_scan.specs.Bytes.{is_decimal_digit};
-ghost use Rattle.t1_scan.specs.Numbers.{value_of, magnitude_of, decimal_of, in_base, radix_of, number_of};
+ghost use Rattle.t1_scan.specs.Numbers.{begins_number, value_of, magnitude_of, decimal_of, in_base, radix_of, number_of};
 
+use crate::bytes::is_decimal_digit;
 use crate::digits::{BILLION, are_digits, are_in_base, billionths, small_value};
 use crate::runs::digits_len;
 
@@ -73,12 +74,22 @@ fn radix(run: &[u8]) -> Option<i64>
     in_base(small_value(10, base)?, digits)
 }
 
-/// The number that a run of regular bytes spells, in billionths.
+/// Whether a number may begin with this byte: a digit, a sign or a point.
+fn begins_number(b: u8) -> bool
+    ensures { result ≡ begins_number b }
+{
+    is_decimal_digit(b) || matches!(b, b'+' | b'-' | b'.')
+}
+
+/// The number that a run of regular bytes spells, in billionths. Most words are told by their first byte.
 pub fn number(run: &[u8]) -> Option<i64>
     ensures { result ≡ number_of run.now }
 {
-    match decimal(run) {
-        Some(value) => Some(value),
-        None => radix(run),
+    match run {
+        [first, ..] if !begins_number(*first) => None,
+        _ => match decimal(run) {
+            Some(value) => Some(value),
+            None => radix(run),
+        },
     }
 }

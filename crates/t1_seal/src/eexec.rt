@@ -6,7 +6,7 @@ ghost use Rattle.t1_seal.specs.Eexec.{bytes_of_digits, digit_value, digits_of, i
 ghost use Rattle.t1_seal.specs.SealError.{Reads};
 
 use crate::errors::SealError;
-use crate::opening::Opening;
+use crate::opening::{DISCARDED, Opening};
 use hex::FromHex;
 use std::alloc::Global;
 
@@ -62,8 +62,12 @@ fn open_binary(alloc: Global, section: &[u8]) -> Result<Vec<u8>, SealError>
     ensures { Reads vec_items result (opened section.now) }
 {
     let mut text = Opening::of(alloc, section.len())?;
-    for byte in section {
+    let (random, rest) = section.split_at(section.len().min(DISCARDED));
+    for byte in random {
         text.take(*byte);
+    }
+    for byte in rest {
+        text.take_text(*byte);
     }
     text.finish()
 }

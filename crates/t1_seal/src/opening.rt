@@ -1,6 +1,6 @@
 //! The private text while its cipher bytes come one by one.
 
-ghost use Rattle.std.specs.Prelude.{◌≡◌, ◌++◌, ◌∷◌, [], ℕ, List, IfOk, MatchResult, Ok, Err};
+ghost use Rattle.std.specs.Prelude.{◌≡◌, ◌≤◌, ◌++◌, ◌∷◌, [], ℕ, List, IfOk, MatchResult, Ok, Err};
 ghost use Rattle.t1_seal.specs.Eexec.{opened};
 ghost use Rattle.t1_seal.specs.Opening.{HasRoom, HasTaken, IsFor};
 
@@ -9,7 +9,7 @@ use crate::errors::SealError;
 use std::alloc::{AllocError, Global};
 
 /// How many plain bytes stand in front of the private text.
-const DISCARDED: usize = 4;
+pub(crate) const DISCARDED: usize = 4;
 
 /// The private text as far as its cipher bytes have come.
 #[derive(Drop)]
@@ -35,17 +35,31 @@ impl Opening {
     }
 
     /// Takes the next cipher byte.
+    #[inline(always)]
     pub(crate) fn take(&mut self, byte: u8)
         requires { HasRoom self.old }
         ensures taken { (front : List ℕ) → HasTaken self.old front → HasTaken self.new (front ++ byte ∷ []) }
         ensures room { (bytes : ℕ) → IsFor bytes self.old → IsFor bytes self.new }
     {
-        let plain = self.cipher.next(byte);
         if self.discarded < DISCARDED {
+            self.cipher.next(byte);
             self.discarded += 1;
         } else {
-            self.text.push_reserved(plain);
+            self.take_text(byte);
         }
+    }
+
+    /// The same of a byte that isn't among the first four.
+    #[inline(always)]
+    pub(crate) fn take_text(&mut self, byte: u8)
+        requires behind { 4 ≤ self.old.discarded }
+        requires room { HasRoom self.old }
+        ensures taken { (front : List ℕ) → HasTaken self.old front → HasTaken self.new (front ++ byte ∷ []) }
+        ensures room { (bytes : ℕ) → IsFor bytes self.old → IsFor bytes self.new }
+        ensures behind { self.new.discarded ≡ self.old.discarded }
+    {
+        let plain = self.cipher.next(byte);
+        self.text.push_reserved(plain);
     }
 
     /// The private text, once all cipher bytes were taken.

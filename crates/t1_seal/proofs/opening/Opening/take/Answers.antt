@@ -1,5 +1,5 @@
-use Rattle.std.proofs.Common.{◌<◌, ◌≤◌, ◌∷◌, ◌∙◌, sym, [], length, length-append, arith}
-use Rattle.t1_seal.proofs.Openings.{text_discarded, text_pushed}
+use Rattle.std.proofs.Common.{◌<◌, ◌∷◌, ◌∙◌, sym, [], length, length-append, arith}
+use Rattle.t1_seal.proofs.Openings.{text_discarded}
 use Rattle.t1_seal.specs.Cipher.{eexec_start}
 use Rattle.t1_seal.proofs.opening.Opening.take.Goals as goal
 
@@ -7,17 +7,7 @@ pub returns-then-self-lt-DISCARDED-clause-taken : goal.returns-then-self-lt-DISC
 returns-then-self-lt-DISCARDED-clause-taken c front taken =
     let short : length front < 4 = omega (arith, taken.discarded) in
     record {
-      cipher = c.next-plain.ensures.state eexec_start front (sym taken.cipher);
+      cipher = c.next.ensures.state eexec_start front (sym taken.cipher);
       discarded = omega (arith, taken.discarded, length-append front (c.args.byte ∷ []));
       text = taken.text ∙ text_discarded front c.args.byte short;
-    }
-
-pub returns-else-self-lt-DISCARDED-clause-taken : goal.returns-else-self-lt-DISCARDED-clause-taken
-returns-else-self-lt-DISCARDED-clause-taken c front taken =
-    let long : 4 ≤ length front = omega (arith, taken.discarded) in
-    record {
-      cipher = c.next-plain.ensures.state eexec_start front (sym taken.cipher);
-      discarded = omega (arith, taken.discarded, length-append front (c.args.byte ∷ []));
-      text = rw (c.push_reserved.ensures.items, taken.text, c.next-plain.ensures.plain eexec_start front (sym taken.cipher))
-          (text_pushed front c.args.byte long);
     }
