@@ -3,7 +3,9 @@
 # folder: ./bench/compare.sh FOLDER [N]
 # Each font gets a process of its own. A first round, which isn't timed, reads every font once, looks at the
 # statuses and, where GNU time is there, at the memory; then N rounds (3 where none is said) run both programs in
-# turn. The least time of a program's rounds counts. 1 MB is 1,000,000 bytes.
+# turn, on the fonts and as often on a file that isn't there. The least times of a program's rounds count. 1 MB is
+# 1,000,000 bytes. Processor time is that of a process and of its start; the runs on a missing file tell what the
+# start alone costs.
 set -u
 export LC_ALL=C
 
@@ -67,18 +69,45 @@ look() {
     done
 }
 
-# Runs a program on every font. Sets `took`, in microseconds.
+# Sets `used`, the processor time of all processes that ended, in milliseconds.
+read_used() {
+    local minutes part
+    times >"$work/times"
+    used=0
+    # The second line is of the children: 0m1.234s for the user, and the same for the system.
+    while read -r part; do
+        minutes=${part%%m*}
+        part=${part#*m}
+        part=${part%s}
+        used=$((used + minutes * 60000 + 10#${part/./}))
+    done < <(sed -n 2p "$work/times" | tr ' ' '\n')
+}
+
+# Runs a program once for each font, on the font itself or on a file that isn't there. Sets `took`, in
+# microseconds, and `spent`, the processor time in milliseconds.
 time_round() {
-    local program=$1 font begun=${EPOCHREALTIME/./}
+    local program=$1 missing=$2 font begun before
+    read_used
+    before=$used
+    begun=${EPOCHREALTIME/./}
     for font in "${fonts[@]}"; do
-        "$program" "$font" >/dev/null 2>&1
+        "$program" "${missing:-$font}" >/dev/null 2>&1
     done
     took=$((${EPOCHREALTIME/./} - begun))
+    read_used
+    spent=$((used - before))
 }
 
 # Shows thousandths as a number with three decimals.
 thousandths() {
     printf '%d.%03d' $(($1 / 1000)) $(($1 % 1000))
+}
+
+# Prints a program's processor time a font, given its least times in milliseconds on the fonts and on a missing file.
+print_spent() {
+    local name=$1 whole=$2 start=$3
+    printf '%-8s processor time %s ms a font, of which a start takes %s ms\n' "$name" \
+        "$(thousandths $((whole * 1000 / ${#fonts[@]})))" "$(thousandths $((start * 1000 / ${#fonts[@]})))"
 }
 
 # Prints a program's line: its name, its least time in microseconds, its greatest memory in KiB.
@@ -114,16 +143,23 @@ fi
 
 peaks=()
 leasts=()
+wholes=()
+starts=()
 for program in "${programs[@]}"; do
     look "$program"
     peaks+=("$peak")
     leasts+=(0)
+    wholes+=(0)
+    starts+=(0)
     [[ $program == "$built" ]] && answers=("${statuses[@]}")
 done
 for ((round = 1; round <= rounds; round += 1)); do
     for turn in "${!programs[@]}"; do
-        time_round "${programs[turn]}"
+        time_round "${programs[turn]}" ''
         ((leasts[turn] != 0 && leasts[turn] <= took)) || leasts[turn]=$took
+        ((wholes[turn] != 0 && wholes[turn] <= spent)) || wholes[turn]=$spent
+        time_round "${programs[turn]}" "$work/missing"
+        ((starts[turn] != 0 && starts[turn] <= spent)) || starts[turn]=$spent
     done
 done
 
@@ -131,9 +167,15 @@ printf '%d fonts, %s MB, rounds timed: %d\n' "${#fonts[@]}" "$(thousandths $((by
 printf 't1check  answers: %d without a line, %d with a report, %d refused\n' "${answers[@]}"
 for turn in "${!programs[@]}"; do
     print_line "${names[turn]}" "${leasts[turn]}" "${peaks[turn]}"
+    print_spent "${names[turn]}" "${wholes[turn]}" "${starts[turn]}"
 done
 if ((${#programs[@]} == 2)); then
-    printf 'ratio    t1check takes %s times the time of t1lint\n' "$(thousandths $((leasts[0] * 1000 / leasts[1])))"
+    printf 'ratio    t1check takes %s times the time of t1lint' "$(thousandths $((leasts[0] * 1000 / leasts[1])))"
+    printf ', and %s times its processor time' "$(thousandths $((wholes[0] * 1000 / wholes[1])))"
+    if ((wholes[1] > starts[1])); then
+        printf '; less the starts %s times' "$(thousandths $(((wholes[0] - starts[0]) * 1000 / (wholes[1] - starts[1]))))"
+    fi
+    printf '\n'
 else
     printf 't1lint   not installed\n'
 fi
