@@ -28,7 +28,7 @@ use t1_report::{LARGEST_WAIVERS, WaiverError, Waivers};
 use t1_rules::{Sidebearings, glyph_named};
 use t1_seal::{join, open_eexec};
 
-/// Reads a font to its end and writes its report. The waivers that the options ask for are read once the font is.
+/// Reads a font to its end and writes its report, or the trace of a glyph. The waivers that the options ask for are read once the font is.
 pub fn run<R: Source, V: Source, W: Sink, E: Sink>(
     alloc: Global,
     source: &mut R,

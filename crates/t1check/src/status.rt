@@ -13,7 +13,7 @@ pub enum Status {
     Faults = 1,
     /// The bytes were refused.
     Refused = 2,
-    /// A device failed, memory ran out, or the words weren't taken.
+    /// A device failed, memory ran out, the font has no glyph of the name, or the words weren't taken.
     Failed = 3,
 }
 

@@ -34,7 +34,7 @@ pub enum Unread {
     BadCharStrings,
     /// E10: `/lenIV` is no whole number from -1 to 64.
     BadLenIv,
-    /// E11: too many Subrs or glyphs are counted, or a charstring is too long.
+    /// E11: too many Subrs or glyphs are counted, a Subr's number is too great, or a charstring is too long.
     PastLimit,
     /// E12: the private text has a second `/Subrs`.
     SecondSubrs,
