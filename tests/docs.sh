@@ -21,6 +21,11 @@ rules=$top/docs/RULES.md
 unread='F01 F02 F03 F04 F05 F06 F07 F08 F09 F10 F11 F12 F13 F14 Z01 Z02 Z03 Z04 Z05 Z06 Z07 Z08 Z09 Z10 Z11
 C01 C02 C06 L01 U01'
 
+if ! "$top/bin/t1check" --help >/dev/null; then
+    echo "failed: bin/t1check --help, which builds the program"
+    echo "0 passed, 1 failed"
+    exit 1
+fi
 scratch=$(mktemp -d) || exit 1
 trap 'rm -rf "$scratch"' EXIT
 trap 'exit 1' HUP INT TERM
