@@ -1,5 +1,5 @@
 -- How the words of the command line are answered.
-use Rattle.std.specs.Prelude.{◌≡◌, ℕ, true, Bool, List, [], Option, None, Some, codes, option_map, string_bytes, false}
+use Rattle.std.specs.Prelude.{◌≡◌, ℕ, true, List, [], Option, None, Some, codes, option_map, string_bytes, false}
 use Rattle.clap.specs.Words.{Text, fault_of, takes}
 use Rattle.t1_io.specs.Devices.{SinkState, SourceState}
 use Rattle.t1check.specs.declared.asked.Options.{Options}
@@ -23,51 +23,69 @@ pub record AreRefused (words : List Text) (error : UsageError) : Type 0 where
   pub help : AsksHelp words → IsHelpOrMemory error
   pub only_help : IsHelp error → AsksHelp words
 
--- The source of waivers, before a run: of the file that the options name, where they ask for waivers.
-pub record IsOpened (options : Options) (IsWaivers : Text → Option (List ℕ) → Type 0)
-    (waivers : SourceState) : Type 0 where
+-- A way to open files by their names: one of the name is opened and these bytes are left in it, where they
+-- are known, or it can't be opened.
+pub record Opening : Type 1 where
+  pub Opens : Text → Option (List ℕ) → Type 0
+  pub CannotOpen : Text → Type 0
+
+-- The output and standard error.
+pub record Sinks : Type 0 where
+  pub out : SinkState
+  pub errors : SinkState
+
+-- The files that were opened, as they are left.
+pub record Files : Type 0 where
+  pub font : Option SourceState
+  pub waivers : Option SourceState
+
+-- The source of waivers, before a run and behind it: of the file that the options name, where they ask for
+-- waivers; that file is handed back.
+pub record IsOpened (options : Options) (opening : Opening) (waivers waivers' : SourceState)
+    (file : Option SourceState) : Type 0 where
   pub named : asks_waivers options ≡ true
-      → (name : Text) × ((option_map string_bytes options.waive ≡ Some name) × IsWaivers name waivers.left)
+      → (name : Text) × ((option_map string_bytes options.waive ≡ Some name)
+      × (opening.Opens name waivers.left × (file ≡ Some waivers')))
+  pub unnamed : asks_waivers options ≡ false → file ≡ None
   pub sound : waivers.failed ≡ false
 
--- A run on a source of which these bytes were left, with the waivers that the options ask for; or their file
--- can't be opened.
-pub data RunsOn (options : Options) (left : Option (List ℕ)) (IsWaivers : Text → Option (List ℕ)
-    → Type 0) (CannotOpen : Text → Type 0)
-    (out out' errors errors' : SinkState) (result : Status) : Type 0 where
+-- A run on a source with the waivers that the options ask for; or their file can't be opened, and the source
+-- is left alone.
+pub data RunsOn (options : Options) (opening : Opening) (source source' : SourceState)
+    (file : Option SourceState) (sinks sinks' : Sinks) (result : Status) : Type 0 where
   ran :
-      (waivers waivers' : SourceState) (failed : Bool) → IsOpened options IsWaivers waivers
-      → Ends options left failed waivers waivers' out out' errors errors' result
-      → RunsOn options left IsWaivers CannotOpen out out' errors errors' result
+      (waivers waivers' : SourceState) → IsOpened options opening waivers waivers' file
+      → Ends options source.left source'.failed waivers waivers'
+      sinks.out sinks'.out sinks.errors sinks'.errors result
+      → RunsOn options opening source source' file sinks sinks' result
   no_waivers :
       (name : Text) → asks_waivers options ≡ true → option_map string_bytes options.waive ≡ Some name
-      → CannotOpen name → out' ≡ out → Tells (codes "t1check: read failed\n") Failed errors errors' result
-      → RunsOn options left IsWaivers CannotOpen out out' errors errors' result
+      → opening.CannotOpen name → source' ≡ source → file ≡ None → sinks'.out ≡ sinks.out
+      → Tells (codes "t1check: read failed\n") Failed sinks.errors sinks'.errors result
+      → RunsOn options opening source source' file sinks sinks' result
 
--- The words are answered: explained, or by a run on the input or on the file that they name, where that can
--- be opened.
--- The input and a file that is opened are told by their bytes, where these are known.
-pub data Answers
-    (words : List Text) (IsInput : Option (List ℕ) → Type 0) (IsFile : Text → Option (List ℕ)
-    → Type 0) (CannotOpen : Text → Type 0) (IsWaivers : Text → Option (List ℕ)
-    → Type 0) (CannotOpenWaivers : Text → Type 0)
-    (out out' errors errors' : SinkState) (result : Status) : Type 0 where
+-- The words are answered: explained, or by a run on standard input or on the file that they name, where that
+-- can be opened. What is told of a read is tied to the source that was read: standard input before and
+-- behind, and the files as they are left. Standard input is left alone but where no file is named.
+pub data Answers (words : List Text) (fonts waivers : Opening) (input input' : SourceState)
+    (files : Files) (sinks sinks' : Sinks) (result : Status) : Type 0 where
   explained :
-      (error : UsageError) → AreRefused words error → Explains error out out' errors errors' result
-      → Answers words IsInput IsFile CannotOpen IsWaivers CannotOpenWaivers out out' errors errors' result
+      (error : UsageError) → AreRefused words error → input' ≡ input
+      → Explains error sinks.out sinks'.out sinks.errors sinks'.errors result
+      → Answers words fonts waivers input input' files sinks sinks' result
   read_input :
       (options : Options) → AreTaken words options → options.file ≡ None
-      → (left : Option (List ℕ)) → IsInput left
-      → RunsOn options left IsWaivers CannotOpenWaivers out out' errors errors' result
-      → Answers words IsInput IsFile CannotOpen IsWaivers CannotOpenWaivers out out' errors errors' result
+      → RunsOn options waivers input input' files.waivers sinks sinks' result
+      → Answers words fonts waivers input input' files sinks sinks' result
   read_file :
       (options : Options) (name : Text) → AreTaken words options
       → option_map string_bytes options.file ≡ Some name
-      → (left : Option (List ℕ)) → IsFile name left
-      → RunsOn options left IsWaivers CannotOpenWaivers out out' errors errors' result
-      → Answers words IsInput IsFile CannotOpen IsWaivers CannotOpenWaivers out out' errors errors' result
+      → input' ≡ input → (source source' : SourceState) → source.failed ≡ false → fonts.Opens name source.left
+      → files.font ≡ Some source' → RunsOn options waivers source source' files.waivers sinks sinks' result
+      → Answers words fonts waivers input input' files sinks sinks' result
   not_opened :
       (options : Options) (name : Text) → AreTaken words options
       → option_map string_bytes options.file ≡ Some name
-      → CannotOpen name → out' ≡ out → Tells (codes "t1check: read failed\n") Failed errors errors' result
-      → Answers words IsInput IsFile CannotOpen IsWaivers CannotOpenWaivers out out' errors errors' result
+      → input' ≡ input → fonts.CannotOpen name → sinks'.out ≡ sinks.out
+      → Tells (codes "t1check: read failed\n") Failed sinks.errors sinks'.errors result
+      → Answers words fonts waivers input input' files sinks sinks' result

@@ -1,4 +1,4 @@
-ghost use Rattle.std.specs.Prelude.{◌≡◌, map, Ok, Err, false};
+ghost use Rattle.std.specs.Prelude.{◌≡◌, map, Ok, Err, false, option_map};
 ghost use Rattle.std.specs.Fn.{FnOnceReturnsAt};
 ghost use Rattle.t1check.specs.Words.{Answers, RunsOn};
 
@@ -14,69 +14,98 @@ use std::io;
 use std::io::Read;
 use t1_io::{In, Sink, Source};
 
+/// What was answered: the status, and the files that were opened, as they were left.
+#[derive(Drop)]
+pub struct Answered<F: Read + Drop, G: Read + Drop> {
+    /// How the run ended.
+    pub status: Status,
+    /// The font's file, if one was opened.
+    pub font: Option<In<F>>,
+    /// The file of waivers, if one was opened.
+    pub waivers: Option<In<G>>,
+}
+
 /// Answers the words of the command line, the program's name first: explains them, or runs on the file
-/// that they name, which `open_file` opens, or on what `input` gives where they name none; with the
-/// waivers of the file that `open_waivers` opens, where they ask for these.
-pub fn answer<S, I, N, F, O, G, P, W, E>(
+/// that they name, which `open_file` opens, or on `input` where they name none; with the waivers of the
+/// file that `open_waivers` opens, where they ask for these. The files are handed back, so that what is
+/// told of a read is tied to what was read.
+pub fn answer<S, I, F, O, G, P, W, E>(
     alloc: Global,
     words: &[S],
-    input: N,
+    input: &mut I,
     open_file: O,
     open_waivers: P,
     out: &mut W,
     errors: &mut E,
-) -> Status
+) -> Answered<F, G>
 where
     S: AsStr,
-    I: Read + Drop,
-    N: FnOnce() -> I,
+    I: Source,
     F: Read + Drop,
     O: FnOnce(&str) -> io::Result<F>,
     G: Read + Drop,
     P: FnOnce(&str) -> io::Result<G>,
     W: Sink,
     E: Sink,
-    requires input { N.IsAlwaysCallable input }
+    requires input { (I.state input.old).failed ≡ false }
     requires open_file { O.IsAlwaysCallable open_file }
     requires open_waivers { P.IsAlwaysCallable open_waivers }
     ensures { Answers (map S.text words.now)
-        (λ left. (reader : I) × N.post input reader × (I.remaining reader ≡ left))
-        (λ name left. (file : F) × FnOnceReturnsAt O.FnOnce open_file name (Ok file)
-        × (F.remaining file ≡ left))
-        (λ name. (error : _) × FnOnceReturnsAt O.FnOnce open_file name (Err error))
-        (λ name left. (file : G) × FnOnceReturnsAt P.FnOnce open_waivers name (Ok file)
-        × (G.remaining file ≡ left))
-        (λ name. (error : _) × FnOnceReturnsAt P.FnOnce open_waivers name (Err error))
-        (W.state out.old) (W.state out.new) (E.state errors.old) (E.state errors.new) result }
+        (record {
+          Opens = λ name left. (file : F) × FnOnceReturnsAt O.FnOnce open_file name (Ok file)
+              × (F.remaining file ≡ left);
+          CannotOpen = λ name. (error : _) × FnOnceReturnsAt O.FnOnce open_file name (Err error);
+        })
+        (record {
+          Opens = λ name left. (file : G) × FnOnceReturnsAt P.FnOnce open_waivers name (Ok file)
+              × (G.remaining file ≡ left);
+          CannotOpen = λ name. (error : _) × FnOnceReturnsAt P.FnOnce open_waivers name (Err error);
+        })
+        (I.state input.old) (I.state input.new)
+        (record {
+          font = option_map (λ s. ⟦<In<F> as Source>⟧.state s) result.font;
+          waivers = option_map (λ s. ⟦<In<G> as Source>⟧.state s) result.waivers;
+        })
+        (record { out = W.state out.old; errors = E.state errors.old })
+        (record { out = W.state out.new; errors = E.state errors.new }) result.status }
 {
     let options = match options(alloc, words) {
         Ok(options) => options,
-        Err(error) => return explain(&error, out, errors),
+        Err(error) => {
+            return Answered {
+                status: explain(&error, out, errors),
+                font: None,
+                waivers: None,
+            };
+        }
     };
-    match &options.file {
-        None => run_on(
-            alloc,
-            &mut In::new(input()),
-            open_waivers,
-            &options,
-            out,
-            errors,
-        ),
-        Some(name) => match open_file(name.as_str()) {
-            Ok(file) => run_on(
-                alloc,
-                &mut In::new(file),
-                open_waivers,
-                &options,
-                out,
-                errors,
-            ),
-            Err(_) => tell(errors, READ_FAILED, Status::Failed),
+    let Some(name) = &options.file else {
+        let (status, waivers) = run_on(alloc, input, open_waivers, &options, out, errors);
+        return Answered {
+            status,
+            font: None,
+            waivers,
+        };
+    };
+    match open_file(name.as_str()) {
+        Ok(file) => {
+            let mut source = In::new(file);
+            let (status, waivers) = run_on(alloc, &mut source, open_waivers, &options, out, errors);
+            Answered {
+                status,
+                font: Some(source),
+                waivers,
+            }
+        }
+        Err(_) => Answered {
+            status: tell(errors, READ_FAILED, Status::Failed),
+            font: None,
+            waivers: None,
         },
     }
 }
 
-/// Runs on a source, with the waivers of the file that the options name.
+/// Runs on a source, with the waivers of the file that the options name, which is handed back.
 fn run_on<R, G, P, W, E>(
     alloc: Global,
     source: &mut R,
@@ -84,7 +113,7 @@ fn run_on<R, G, P, W, E>(
     options: &Options,
     out: &mut W,
     errors: &mut E,
-) -> Status
+) -> (Status, Option<In<G>>)
 where
     R: Source,
     G: Read + Drop,
@@ -93,14 +122,19 @@ where
     E: Sink,
     requires source { (R.state source.old).failed ≡ false }
     requires open_waivers { P.IsAlwaysCallable open_waivers }
-    ensures { RunsOn options.now (R.state source.old).left
-        (λ name left. (file : G) × FnOnceReturnsAt P.FnOnce open_waivers name (Ok file)
-        × (G.remaining file ≡ left))
-        (λ name. (error : _) × FnOnceReturnsAt P.FnOnce open_waivers name (Err error))
-        (W.state out.old) (W.state out.new) (E.state errors.old) (E.state errors.new) result }
+    ensures { RunsOn options.now
+        (record {
+          Opens = λ name left. (file : G) × FnOnceReturnsAt P.FnOnce open_waivers name (Ok file)
+              × (G.remaining file ≡ left);
+          CannotOpen = λ name. (error : _) × FnOnceReturnsAt P.FnOnce open_waivers name (Err error);
+        })
+        (R.state source.old) (R.state source.new)
+        (option_map (λ s. ⟦<In<G> as Source>⟧.state s) result.1)
+        (record { out = W.state out.old; errors = E.state errors.old })
+        (record { out = W.state out.new; errors = E.state errors.new }) result.0 }
 {
     if options.trace.is_some() {
-        return run(
+        let status = run(
             alloc,
             source,
             &mut In::new(io::empty()),
@@ -108,19 +142,25 @@ where
             out,
             errors,
         );
+        return (status, None);
     }
-    match &options.waive {
-        None => run(
+    let Some(name) = &options.waive else {
+        let status = run(
             alloc,
             source,
             &mut In::new(io::empty()),
             options,
             out,
             errors,
-        ),
-        Some(name) => match open_waivers(name.as_str()) {
-            Ok(file) => run(alloc, source, &mut In::new(file), options, out, errors),
-            Err(_) => tell(errors, READ_FAILED, Status::Failed),
-        },
+        );
+        return (status, None);
+    };
+    match open_waivers(name.as_str()) {
+        Ok(file) => {
+            let mut waivers = In::new(file);
+            let status = run(alloc, source, &mut waivers, options, out, errors);
+            (status, Some(waivers))
+        }
+        Err(_) => (tell(errors, READ_FAILED, Status::Failed), None),
     }
 }

@@ -6,21 +6,22 @@ use Rattle.t1check.proofs.answering.answer.Goals as goal
 pub returns-in-Err : goal.returns-in-Err
 returns-in-Err g c =
     explained c.in-Err.error
-    (record { taken = c.in-Err.ensures.taken; text = c.in-Err.ensures.text; help = c.in-Err.ensures.help; only_help = c.in-Err.ensures.only_help })
+    (record { taken = c.in-Err.ensures.taken; text = c.in-Err.ensures.text; help = c.in-Err.ensures.help; only_help = c.in-Err.ensures.only_help }) refl
     c.explain.ensures
 
-pub returns-in-None : goal.returns-in-None
-returns-in-None g c =
-    read_input c.in-Ok.options (record { given = c.in-Ok.ensures.given; sound = c.in-Ok.ensures.sound }) c.in-None.is _
-    (c.input.result, c.input.ensures, sym (ap (λ (s : SourceState). s.left) c.new.ensures)) c.run_on.ensures
+pub returns-in_default : goal.returns-in_default
+returns-in_default g c =
+    read_input c.in-Ok.options (record { given = c.in-Ok.ensures.given; sound = c.in-Ok.ensures.sound }) c.in_default.is
+    c.run_on-status.ensures
 
 pub returns-in-Ok-open_file : goal.returns-in-Ok-open_file
 returns-in-Ok-open_file g c =
-    read_file c.in-Ok.options (string_bytes c.in-Some.name) (record { given = c.in-Ok.ensures.given; sound = c.in-Ok.ensures.sound }) (ap (option_map string_bytes) c.in-Some.is) _
-    (c.in-Ok-open_file.file, (c.as_str.result, c.in-Ok-open_file.ensures, c.as_str.ensures.value), sym (ap (λ (s : SourceState). s.left) c.new-in-Ok-open_file.ensures))
-    c.run_on-in-Ok-open_file.ensures
+    read_file c.in-Ok.options (string_bytes c.in-Some.name) (record { given = c.in-Ok.ensures.given; sound = c.in-Ok.ensures.sound }) (ap (option_map string_bytes) c.in-Some.is) refl _ _
+    (ap (λ (s : SourceState). s.failed) c.new-source.ensures)
+    (c.in-Ok-open_file.file, (c.as_str.result, c.in-Ok-open_file.ensures, c.as_str.ensures.value), sym (ap (λ (s : SourceState). s.left) c.new-source.ensures))
+    refl c.run_on-status-in-Ok-open_file.ensures
 
-pub returns : goal.returns
-returns g c =
-    not_opened c.in-Ok.options (string_bytes c.in-Some.name) (record { given = c.in-Ok.ensures.given; sound = c.in-Ok.ensures.sound }) (ap (option_map string_bytes) c.in-Some.is)
+pub returns-in-Err-open_file : goal.returns-in-Err-open_file
+returns-in-Err-open_file g c =
+    not_opened c.in-Ok.options (string_bytes c.in-Some.name) (record { given = c.in-Ok.ensures.given; sound = c.in-Ok.ensures.sound }) (ap (option_map string_bytes) c.in-Some.is) refl
     (c.in-Err-open_file.field-0, (c.as_str.result, c.in-Err-open_file.ensures, c.as_str.ensures.value)) refl c.tell.ensures
