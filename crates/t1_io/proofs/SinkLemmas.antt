@@ -1,5 +1,5 @@
 -- Texts that go out one after another, and what stands where a call failed.
-use Rattle.std.proofs.Common.{refl, append-nil, ◌≡◌, ℕ, ◌+◌, ◌-◌, ◌==◌, ◌&&◌, ◌<◌, arith, Bool, true, false, List, ◌++◌, [], length, take, drop, suc, get_or, Result, Ok, Err, ap, sym, subst, ◌∙◌, append_assoc, length-append}
+use Rattle.std.proofs.Common.{refl, inl, inr, append-nil, ◌≡◌, ℕ, ◌+◌, ◌-◌, ◌==◌, ◌&&◌, ◌<◌, arith, Bool, true, false, List, ◌++◌, [], length, take, drop, suc, get_or, Result, Ok, Err, ap, sym, subst, ◌∙◌, append_assoc, length-append}
 use Rattle.std.proofs.lemmas.Bool.Decides.{nat_tests}
 use Rattle.std.proofs.lemmas.List.{take_rest}
 use Rattle.std.proofs.Math.Seq.{take-add}
@@ -106,9 +106,10 @@ Delivers-flush a b c x (Err e) before (failed, kept) = record {
   front = (x, ([], (sym (append-nil x), Appends-kept a.written b.written c.written x before.bytes failed.bytes)));
   flushes = failed.flushes ∙ before.flushes;
   failed = failed.failed;
+  call = inr (kept ∙ before.failed_puts, Appends-kept a.written b.written c.written x before.bytes failed.bytes);
 }
 
 -- the exit of a `?` where a put of the text failed
 pub Delivers-failed : {X E : Type 0} (a b : SinkState) (x : List ℕ) (r : Result X E) (P : E → Type 0) → IsErrAnd r P → PutFailed a b x → Delivers a b x r
 Delivers-failed a b x (Ok v) P never broke = absurd never
-Delivers-failed a b x (Err e) P is broke = record { front = broke.front; flushes = broke.flushes; failed = broke.failed }
+Delivers-failed a b x (Err e) P is broke = record { front = broke.front; flushes = broke.flushes; failed = broke.failed; call = inl broke.failed_puts }

@@ -1,5 +1,5 @@
 -- What is known of a device, and what a call does to it.
-use Rattle.std.specs.Prelude.{◌≡◌, if◌then◌else◌, ℕ, ◌+◌, ◌-◌, ◌^◌, ◌==◌, ◌≤◌, ◌<◌, min, length, take, List, ◌++◌, Bool, true, ◌&&◌, Option, Result, Ok, Err}
+use Rattle.std.specs.Prelude.{◌≡◌, ◌⊎◌, if◌then◌else◌, ℕ, ◌+◌, ◌-◌, ◌^◌, ◌==◌, ◌≤◌, ◌<◌, min, length, take, List, ◌++◌, Bool, true, ◌&&◌, Option, Result, Ok, Err}
 use Rattle.std.specs.Borrow.{Bor}
 use Rattle.std.specs.List.{flat_map}
 use Rattle.std.specs.Io.KnownBytes.{Appends, Consumes, IsAtEnd, Keeps}
@@ -126,6 +126,9 @@ pub record DeliveryFailed (old new : SinkState) (text : List ℕ) : Type 0 where
   pub front : AppendsFront old.written new.written text
   pub flushes : new.flushes ≡ old.flushes
   pub failed : new.failed ≡ true
+  -- A put failed; or none did, and so the flush failed, behind the whole text.
+  pub call : (new.failed_puts ≡ one_more old.failed_puts)
+      ⊎ ((new.failed_puts ≡ old.failed_puts) × Appends old.written new.written text)
 
 -- The text was written and flushed, or a call failed.
 abbrev pub Delivers : {X E : Type 0} → SinkState → SinkState → List ℕ → Result X E → Type 0

@@ -6,18 +6,19 @@ use Rattle.t1_font.specs.Fonts.{FontValue}
 use Rattle.t1_io.specs.Devices.{SinkState, SourceState}
 use Rattle.t1_report.specs.Checked.{checked}
 use Rattle.t1_report.specs.Faults.{FaultValue}
+use Rattle.t1_report.proofs.HasReport.{has_report}
 use Rattle.t1_report.proofs.OneReport.{no_other_report}
 use Rattle.t1check.specs.declared.asked.Options.{Options}
 use Rattle.t1check.specs.declared.status.Status.{Status}
 use Rattle.t1check.specs.declared.status.Status.TheVariants.{Failed}
 use Rattle.t1check.specs.declared.unread.Unread.{Unread}
 use Rattle.t1check.specs.declared.unread.Unread.TheVariants.{TooLarge}
-use Rattle.t1check.specs.Answers.{Answer, IsAnswerTo, IsShown, selection, reported, IsReported, waived_by}
-use Rattle.t1check.specs.Laws.Answers.{HasNoOtherAnswer}
+use Rattle.t1check.specs.Answers.{Answer, IsAnswerTo, IsShown, selection, refused as refusal, reported, IsReported, traced, waived_by}
+use Rattle.t1check.specs.Laws.Answers.{HasAnAnswer, HasNoOtherAnswer}
 use Rattle.t1check.specs.Ends.{AreRead, Checks, Ends, Tells, unread_status}
 use Rattle.t1check.specs.Ends.Ends.{no_memory, refused}
 use Rattle.t1check.specs.FontFiles.{font_in, font_of}
-use Rattle.t1check.specs.Refusals.{told_of}
+use Rattle.t1check.specs.Refusals.{told_of, told_of_waivers}
 use Rattle.t1_report.specs.Waivers.{Waiver}
 use Rattle.t1check.specs.declared.unread.WaiverRefusal.{WaiverRefusal}
 
@@ -58,6 +59,24 @@ unread_ends options left failed v v' out out' told told' errors' reason read res
     no_memory kept spared same (subst (λ (s : SinkState). Tells (codes "t1check: out of memory\n") Failed s errors' result) told_same as_memory)
 unread_ends options left failed v v' out out' told told' errors' reason read result are kept (inr is, spared, same, told_same) tells =
     refused reason (subst (AreRead left) is are) kept spared same (subst (λ (s : SinkState). Tells (told_of reason) (unread_status reason) s errors' result) told_same tells)
+
+-- there is an answer
+has_reported : (options : Options) (font : FontValue) (waived : Result (List Waiver) WaiverRefusal) → (answer : Answer) × IsReported options font waived answer
+has_reported options font (Ok waivers) =
+    let (faults, is) = has_report (checked font options.edition) waivers in
+    (reported font waivers (selection options faults), (faults, (is, refl)))
+has_reported options font (Err reason) = (refusal (told_of_waivers reason), refl)
+
+has_shown : (options : Options) (font : FontValue) (waived : Result (List Waiver) WaiverRefusal) (name : Option (List ℕ)) → (answer : Answer) × IsShown options font waived name answer
+has_shown options font waived None = has_reported options font waived
+has_shown options font waived (Some name) = (traced options.edition font name, refl)
+
+has_by_read : (options : Options) (read : Result FontValue Unread) (waived : Result (List Waiver) WaiverRefusal) → (answer : Answer) × IsAnswerTo options read waived answer
+has_by_read options (Ok font) waived = has_shown options font waived (option_map string_bytes options.trace)
+has_by_read options (Err unread) waived = (refusal (told_of unread), refl)
+
+pub has_answer : HasAnAnswer
+has_answer options input text = has_by_read options (font_of input) (waived_by options text)
 
 -- the options and the bytes decide the answer
 one_reported : (options : Options) (font : FontValue) (waived : Result (List Waiver) WaiverRefusal) (a b : Answer) → IsReported options font waived a → IsReported options font waived b → a ≡ b

@@ -14,7 +14,8 @@ use Rattle.t1check.specs.declared.unread.WaiverRefusal.{WaiverRefusal}
 use Rattle.t1check.specs.Ends.{Reports, Shows}
 use Rattle.t1check.specs.Ends.Reports.{lines, malformed, no_memory}
 use Rattle.t1check.specs.Ends.Shows.{no_room, reported, waivers_refused}
-use Rattle.t1check.specs.Input.{Gathers}
+use Rattle.t1check.specs.Input.{Gathers, StopsAt}
+use Rattle.t1check.specs.Input.StopsAt.{past_limit, the_end}
 use Rattle.t1check.specs.declared.unread.WaiverRefusal.TheVariants.{PastLimit}
 use Rattle.t1check.specs.Waived.{AreWaived, HasText, IfWaived, IsHeard, IsText, as_waivers, asks_waivers, is_asked, waivers_in}
 
@@ -50,11 +51,11 @@ unfolding lines_from lines_read
 no_text = refl
 
 -- A source that is asked.
-pub was_asked : (old new : SourceState) → new.failed ≡ old.failed → IsHeard true old new
-was_asked old new kept = record { unasked = λ unasked. absurd (true≢false unasked); failed = kept }
+pub was_asked : (old new : SourceState) → new.failed ≡ old.failed → StopsAt 1048576 old new ⊥ → IsHeard true old new
+was_asked old new kept whole = record { unasked = λ unasked. absurd (true≢false unasked); failed = kept; whole = λ asked. whole }
 
 pub not_asked : (old : SourceState) → IsHeard false old old
-not_asked old = record { unasked = λ unasked. refl; failed = refl }
+not_asked old = record { unasked = λ unasked. refl; failed = refl; whole = λ asked. absurd (true≢false (sym asked)) }
 
 -- What is so of a reading is so of the text that is read so; and what is so of any is.
 pub of-waived : (P : Result (List Waiver) WaiverRefusal → Type 0) (asked : Bool) (text : Option (List ℕ)) (waived : Result (List Waiver) WaiverRefusal) → AreWaived asked text waived → P waived → IfWaived asked text P
@@ -75,10 +76,10 @@ waived-weaker P Q true (Some text) on holds = on (waivers_in text) holds
 -- ---- the text that was had
 
 pub gathered : (old new : SourceState) (r : Input) → Gathers 1048576 old new r → HasText true old new r
-gathered old new (Bytes bytes) (consumed, end, small, kept) = ((small, text_is old.left new.left bytes.items consumed end small), was_asked old new kept)
-gathered old new TooLarge ((bytes, consumed, large), kept) = (text_past old.left new.left bytes consumed large, was_asked old new kept)
+gathered old new (Bytes bytes) (consumed, end, small, kept) = ((small, text_is old.left new.left bytes.items consumed end small), was_asked old new kept (the_end end))
+gathered old new TooLarge ((bytes, consumed, large), kept) = (text_past old.left new.left bytes consumed large, was_asked old new kept (past_limit bytes consumed large))
 gathered old new Broken broken = (refl, broken)
-gathered old new NoMemory kept = was_asked old new kept
+gathered old new NoMemory kept = record { unasked = λ unasked. absurd (true≢false unasked); failed = kept }
 
 pub none_read : (asked : Bool) (old : SourceState) (bytes : List ℕ) → asked ≡ false → bytes ≡ [] → IsText asked old.left bytes × IsHeard asked old old
 none_read asked old bytes unasked none =
@@ -116,4 +117,4 @@ shown_waived options font v v' out out' errors errors' result bytes none text he
 shown_waived options font v v' out out' errors errors' result bytes none text heard (malformed reason is same tells) =
     waivers_refused none reason (subst (λ w. AreWaived (asks_waivers options) v.left w) is text.1) heard same tells
 shown_waived options font v v' out out' errors errors' result bytes none text heard (no_memory same tells) =
-    no_room none heard same tells
+    no_room none (record { unasked = heard.unasked; failed = heard.failed }) same tells

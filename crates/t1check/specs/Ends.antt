@@ -20,13 +20,17 @@ use Rattle.t1_rules.specs.Components.{glyph_named}
 use Rattle.t1check.specs.Traces.{no_glyph_line, trace_of}
 use Rattle.t1_report.specs.Waivers.{Waiver}
 use Rattle.t1check.specs.declared.unread.WaiverRefusal.{WaiverRefusal}
-use Rattle.t1check.specs.Waived.{AreWaived, IsHeard, asks_waivers}
+use Rattle.t1check.specs.Waived.{AreWaived, IsHeard, IsUnbroken, asks_waivers}
 
 -- A text was to be told on standard error, and then a status to be answered; where that can't be told,
 -- Failed.
 pub data Tells (text : List ℕ) (status : Status) (errors errors' : SinkState) (result : Status) : Type 0 where
   told : Wrote errors errors' text → result ≡ status → Tells text status errors errors' result
   untold : PutFailed errors errors' text → result ≡ Failed → Tells text status errors errors' result
+
+-- Memory ran out: this is told, and the status is Failed.
+abbrev pub EndsForMemory : SinkState → SinkState → Status → Type 0
+EndsForMemory errors errors' result = Tells (codes "t1check: out of memory\n") Failed errors errors' result
 
 -- A text was to be given on the output and flushed once, and then a status to be answered; where that
 -- fails, this is told.
@@ -73,7 +77,7 @@ pub data Shows (options : Options) (font : FontValue) (waivers waivers' : Source
       → Shows options font waivers waivers' out out' errors errors' result
   -- status 3
   no_room :
-      options.trace ≡ None → IsHeard (asks_waivers options) waivers waivers' → out' ≡ out
+      options.trace ≡ None → IsUnbroken (asks_waivers options) waivers waivers' → out' ≡ out
       → Tells (codes "t1check: out of memory\n") Failed errors errors' result
       → Shows options font waivers waivers' out out' errors errors' result
 

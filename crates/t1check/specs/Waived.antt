@@ -5,6 +5,7 @@ use Rattle.t1_report.specs.Waivers.{Waiver, waivers_of}
 use Rattle.t1check.specs.declared.asked.Options.{Options}
 use Rattle.t1check.specs.declared.unread.WaiverRefusal.{WaiverRefusal}
 use Rattle.t1check.specs.declared.unread.WaiverRefusal.TheVariants.{Malformed, PastLimit}
+use Rattle.t1check.specs.Input.{StopsAt}
 use Rattle.t1check.specs.declared.reading.Input.{Input}
 use Rattle.t1check.specs.declared.reading.Input.TheVariants.{Bytes, TooLarge, Broken, NoMemory}
 
@@ -37,9 +38,15 @@ abbrev pub AreWaived : Bool → Option (List ℕ) → Result (List Waiver) Waive
 AreWaived asked text waived = IfWaived asked text (λ read. read ≡ waived)
 
 -- No read of the source of waivers failed, and it is as it was unless they are asked for.
+pub record IsUnbroken (asked : Bool) (old new : SourceState) : Type 0 where
+  pub unasked : asked ≡ false → new ≡ old
+  pub failed : new.failed ≡ old.failed
+
+-- And where they are asked for it was read to its end, or past the limit of their text.
 pub record IsHeard (asked : Bool) (old new : SourceState) : Type 0 where
   pub unasked : asked ≡ false → new ≡ old
   pub failed : new.failed ≡ old.failed
+  pub whole : asked ≡ true → StopsAt 1048576 old new ⊥
 
 -- The text of waivers, few enough bytes, or none where none are asked for; or why there is none.
 abbrev pub IsText : Bool → Option (List ℕ) → List ℕ → Type 0
@@ -49,4 +56,4 @@ abbrev pub HasText : Bool → SourceState → SourceState → Input → Type 0
 HasText asked old new (Bytes bytes) = IsText asked old.left bytes.items × IsHeard asked old new
 HasText asked old new TooLarge = AreWaived asked old.left (Err PastLimit) × IsHeard asked old new
 HasText asked old new Broken = (asked ≡ true) × (new.failed ≡ true)
-HasText asked old new NoMemory = IsHeard asked old new
+HasText asked old new NoMemory = IsUnbroken asked old new

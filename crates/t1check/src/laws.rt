@@ -1,12 +1,13 @@
 //! Laws above the definitions: each is the contract of a function without a body.
 
-ghost use Rattle.t1check.specs.Laws.Answers.{HasNoOtherAnswer};
+ghost use Rattle.t1check.specs.Laws.Answers.{HasAnAnswer, HasNoOtherAnswer};
 ghost use Rattle.t1check.specs.Laws.Refusals.{NeverForMemory, RefusedByPart};
 ghost use Rattle.t1check.specs.Laws.Runs.{RunsKeepPromises};
 
 /// The options, the bytes of a file and those of the waivers decide the answer.
 pub fn a_file_has_one_answer()
-    ensures { HasNoOtherAnswer }
+    ensures some { HasAnAnswer }
+    ensures no_other { HasNoOtherAnswer }
 {}
 
 /// A file is refused for its size by E05; for its segments by E01, E02 or E03; for its clear text by E04,

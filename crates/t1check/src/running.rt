@@ -4,9 +4,9 @@ ghost use Rattle.t1_report.specs.Faults.{FaultValue};
 ghost use Rattle.t1_report.specs.Reports.{IsReport};
 ghost use Rattle.t1_rules.specs.Components.{AreOf};
 ghost use Rattle.t1check.specs.Answers.{selection, status_of};
-ghost use Rattle.t1check.specs.Ends.{Checks, Ends, Gives, Tells, unread_status, Reports, Shows};
+ghost use Rattle.t1check.specs.Ends.{Checks, Ends, EndsForMemory, Gives, Tells, unread_status, Reports, Shows};
 ghost use Rattle.t1check.specs.FontFiles.{font_in};
-ghost use Rattle.t1check.specs.Input.{TakesAtMost, ReadsAtMost};
+ghost use Rattle.t1check.specs.Input.{TakesAtMost, ReadsAtMost, StopsAt};
 ghost use Rattle.t1check.specs.Lines.{lines_of};
 ghost use Rattle.t1check.specs.Refusals.{told_of};
 ghost use Rattle.t1check.specs.Traces.{trace_of};
@@ -43,6 +43,8 @@ pub fn run<R: Source, V: Source, W: Sink, E: Sink>(
     ensures reads { (R.state source.new).takes ≤ (R.state source.old).takes + 16777217 }
     ensures taken { TakesAtMost 16777217 (R.state source.old).left (R.state source.new).left }
     ensures stops { (R.state source.new).late_takes ≡ (R.state source.old).late_takes }
+    ensures whole { StopsAt 16777216 (R.state source.old) (R.state source.new)
+        (EndsForMemory (E.state errors.old) (E.state errors.new) result) }
     ensures waivers { ReadsAtMost 1048577 (V.state waivers.old) (V.state waivers.new) }
 {
     match read_all(alloc, source, LARGEST_FILE) {

@@ -3,6 +3,10 @@ use Rattle.std.specs.Prelude.{◌≡◌, ℕ, List}
 use Rattle.t1check.specs.declared.asked.Options.{Options}
 use Rattle.t1check.specs.Answers.{Answer, IsAnswer}
 
+-- There is an answer.
+abbrev pub HasAnAnswer : Type 0
+HasAnAnswer = (options : Options) (input text : List ℕ) → (answer : Answer) × IsAnswer options input text answer
+
 -- There is no other answer.
 abbrev pub HasNoOtherAnswer : Type 0
 HasNoOtherAnswer =

@@ -1,5 +1,8 @@
-use Rattle.t1check.proofs.AnswerLemmas.{one_answer}
+use Rattle.t1check.proofs.AnswerLemmas.{has_answer, one_answer}
 use Rattle.t1check.proofs.laws.a_file_has_one_answer.Goals as goal
 
-pub returns : goal.returns
-returns c = one_answer
+pub returns-clause-some : goal.returns-clause-some
+returns-clause-some c = has_answer
+
+pub returns-clause-no_other : goal.returns-clause-no_other
+returns-clause-no_other c = one_answer

@@ -1,5 +1,6 @@
 use Rattle.std.proofs.Common.{◌∙◌, refl}
 use Rattle.t1check.specs.Ends.Ends.{refused, shown}
+use Rattle.t1check.specs.Input.StopsAt.{failure, no_memory, past_limit, the_end}
 use Rattle.t1check.specs.declared.unread.Unread.TheVariants.{TooLarge}
 use Rattle.t1check.proofs.AnswerLemmas.{are_read, too_large, unread_ends}
 use Rattle.t1check.proofs.running.run.Goals as goal
@@ -21,3 +22,19 @@ pub returns-in-TooLarge-clause-ends : goal.returns-in-TooLarge-clause-ends
 returns-in-TooLarge-clause-ends g c =
     refused TooLarge (too_large _ _ c.in-TooLarge.ensures.gathers.0.0 c.in-TooLarge.ensures.gathers.0.1 c.in-TooLarge.ensures.gathers.0.2)
     (c.in-TooLarge.ensures.gathers.1 ∙ c.requires.source) refl refl c.tell_unread-in-TooLarge.ensures
+
+pub returns-in-Ok-clause-whole : goal.returns-in-Ok-clause-whole
+returns-in-Ok-clause-whole g c = the_end c.in-Bytes.ensures.gathers.1
+
+pub returns-in-Bytes-clause-whole : goal.returns-in-Bytes-clause-whole
+returns-in-Bytes-clause-whole g c = the_end c.in-Bytes.ensures.gathers.1
+
+pub returns-in-TooLarge-clause-whole : goal.returns-in-TooLarge-clause-whole
+returns-in-TooLarge-clause-whole g c =
+    past_limit c.in-TooLarge.ensures.gathers.0.0 c.in-TooLarge.ensures.gathers.0.1 c.in-TooLarge.ensures.gathers.0.2
+
+pub returns-in-Broken-clause-whole : goal.returns-in-Broken-clause-whole
+returns-in-Broken-clause-whole g c = failure c.in-Broken.ensures.gathers
+
+pub returns-clause-whole : goal.returns-clause-whole
+returns-clause-whole g c = no_memory c.tell_unread-in-NoMemory.ensures

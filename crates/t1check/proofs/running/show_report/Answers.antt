@@ -1,6 +1,6 @@
 use Rattle.std.proofs.Common.{◌≡◌, Err, refl, subst}
 use Rattle.t1check.specs.Ends.Shows.{no_room, waivers_refused}
-use Rattle.t1check.specs.Waived.{AreWaived, IsHeard, IsText, asks_waivers}
+use Rattle.t1check.specs.Waived.{AreWaived, IsHeard, IsText, IsUnbroken, asks_waivers}
 use Rattle.t1check.specs.declared.unread.WaiverRefusal.TheVariants.{PastLimit}
 use Rattle.t1check.proofs.WaivedLemmas.{asked_is, shown_waived}
 use Rattle.t1check.proofs.running.show_report.Goals as goal
@@ -26,4 +26,4 @@ returns-in-NoMemory-clause-shows g c =
     let asked : c.is_some.result ≡ asks_waivers c.args.options.now = asked_is c.args.options.now.trace c.args.options.now.waive c.is_some.result c.requires.no_trace c.is_some.ensures in
     let v = g.V.Source.state c.args.waivers.now in
     let v' = g.V.Source.state c.waiver_text.new.source in
-    no_room c.requires.no_trace (subst (λ b. IsHeard b v v') asked c.in-NoMemory.ensures.text) refl c.tell-in-NoMemory.ensures
+    no_room c.requires.no_trace (subst (λ b. IsUnbroken b v v') asked c.in-NoMemory.ensures.text) refl c.tell-in-NoMemory.ensures
