@@ -6,6 +6,10 @@
 #   tokens that are written out are those that the program traces in the case's font: `A: ..` and `Subr 5: ..`. A line
 #   `X … (seven times) Y` stands for seven X and one Y.
 # - Each rule and each refusal has its text in the table of its kind, and each rule in its heading too.
+# - Each word of the definitions that a clause of a public function cites stands, between backquotes, in the first column of a row of
+#   docs/DEFINITIONS.md, or beside the rule in a row that begins with a rule's code. Left out is what that page leaves out: words of laws and
+#   of private functions, and types that the code declares. Public are all functions of the program, and of a library those of the modules
+#   whose items it hands on.
 # - Each link between the pages leads to a file, and to a heading where it names one.
 set -u
 LC_ALL=C
@@ -163,6 +167,71 @@ while read -r code text; do
 done <"$scratch/refusals"
 [ "$(wc -l <"$scratch/book")" -eq 70 ] || fail "the book's rows aren't read: $(wc -l <"$scratch/book")"
 [ "$(wc -l <"$scratch/refusals")" -eq 15 ] || fail "the refusals' texts aren't read: $(wc -l <"$scratch/refusals")"
+
+# The files whose public functions others call.
+list_public() {
+    for crate in "$top"/crates/*; do
+        if [ -f "$crate/src/main.rt" ]; then
+            ls "$crate"/src/*.rt | grep -v '/laws.rt$\|/tests.rt$'
+            continue
+        fi
+        sed -n 's/^pub use \([a-z_0-9:]*\)::.*/\1/p' "$crate/src/lib.rt" | sed 's/::/\//g' | grep -v laws | sort -u | while read -r module; do
+            [ -f "$crate/src/$module.rt" ] && printf '%s\n' "$crate/src/$module.rt"
+        done
+    done
+}
+
+# The words that clauses of public functions cite: those that the file brings in from definitions, but for a function's own
+# parameters and for fields.
+list_cited() {
+    awk '
+        FNR == 1 { delete words; within = 0 }
+        /^ghost use / { using = ""; bringing = 1 }
+        bringing {
+            using = using " " $0
+            if ($0 !~ /;$/) next
+            bringing = 0
+            if (using !~ /use Rattle\.t1[a-z_]*\.specs\./ ||
+                using ~ /specs\.(declared|Laws|Words|Inner|Workings|Opening|Searches|Searching)\./) next
+            sub(/^.*specs\.[A-Za-z.]*[{]?/, "", using)
+            sub(/[}]?;$/, "", using)
+            count = split(using, names, /, */)
+            for (i = 1; i <= count; i++) words[names[i]] = 1
+            next
+        }
+        /^pub trait / { trait = 1 }
+        /^}/ { trait = 0 }
+        /^ *pub fn / || trait && /^ *fn / { within = 1; clause = 0; delete own }
+        within && /^ *(requires|ensures)/ { clause = 1 }
+        within && (/^ *[{]$/ || !clause && /[{]$/ || /^$/) { within = 0 }
+        !within { next }
+        !clause {
+            count = split($0, names, /[^a-z0-9_:]+/)
+            for (i = 1; i <= count; i++) if (sub(/:$/, "", names[i])) own[names[i]] = 1
+            next
+        }
+        {
+            gsub(/[.][A-Za-z_]+/, "")
+            count = split($0, names, /[^A-Za-z0-9_]+/)
+            for (i = 1; i <= count; i++) if (names[i] in words && !(names[i] in own)) print names[i]
+        }
+    ' "$@" | sort -u
+}
+
+# `Gathers` is a word of reading.rt alone, which docs/DEFINITIONS.md names as private.
+awk -F '|' '/^\| *[A-Z]+[0-9]+ *\|/ { print $4; next } /^\|/ { print $2 }' "$top/docs/DEFINITIONS.md" |
+    grep -o '`[^`]*`' | tr -d '`' | tr ' ' '\n' | sort -u >"$scratch/listed"
+list_public >"$scratch/public"
+# shellcheck disable=SC2046
+list_cited $(cat "$scratch/public") | grep -vx Gathers >"$scratch/cited"
+while read -r word; do
+    if grep -qxF -e "$word" "$scratch/listed"; then
+        pass
+    else
+        fail "docs/DEFINITIONS.md: no row begins with $word, which a contract cites"
+    fi
+done <"$scratch/cited"
+[ "$(wc -l <"$scratch/cited")" -gt 100 ] || fail "the words of contracts aren't read: $(wc -l <"$scratch/cited")"
 
 # A page's headings as their anchors.
 anchors() {
