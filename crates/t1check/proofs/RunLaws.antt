@@ -3,14 +3,14 @@ use Rattle.std.proofs.Common.{option_map, string_bytes, ◌≡◌, ◌≢◌, �
 use Rattle.std.specs.Io.KnownBytes.{Appends, Keeps}
 use Rattle.std.proofs.KnownBytes.{Appends-nil, Keeps-refl}
 use Rattle.t1_font.specs.Fonts.{FontValue}
-use Rattle.t1_io.specs.Devices.{SinkState, SourceState}
+use Rattle.t1_io.specs.Devices.{SinkState, SourceState, one_more}
 use Rattle.t1check.specs.declared.asked.Options.{Options}
 use Rattle.t1check.specs.declared.status.Status.{Status}
 use Rattle.t1check.specs.declared.status.Status.TheVariants.{Clean, Failed, Faults, Refused}
 use Rattle.t1check.specs.declared.unread.Unread.{Unread}
 use Rattle.t1check.specs.declared.unread.Unread.TheVariants as unread
 use Rattle.t1check.specs.Answers.{Answer, IsAnswerTo, IsShown, selection, refused, reported, status_of, traced_at}
-use Rattle.t1check.specs.Ends.{AreRead, Gives, Shows, Tells, unread_status}
+use Rattle.t1check.specs.Ends.{AreRead, Ends, Gives, Shows, Tells, unread_status}
 use Rattle.t1check.specs.Ends.Shows.{no_glyph, reported as was_reported, traced as was_traced, no_room, waivers_refused, waivers_unread}
 use Rattle.t1check.specs.Traces.{no_glyph_line, trace_of}
 use Rattle.t1check.specs.Ends.Ends.{no_memory as was_no_memory, read_failed as was_read_failed, refused as was_refused, shown as was_shown}
@@ -23,6 +23,33 @@ use Rattle.t1_report.specs.Waivers.{Waiver}
 use Rattle.t1check.specs.declared.unread.WaiverRefusal.{WaiverRefusal}
 use Rattle.t1check.specs.Waived.{AreWaived, IfWaived, asks_waivers}
 use Rattle.t1check.proofs.WaivedLemmas.{of-any, of-waived, waived-weaker}
+
+-- The facts one by one, before they are grouped by the status.
+record Facts (options : Options) (left : Option (List ℕ)) (failed : Bool)
+    (waivers waivers' : SourceState) (out out' errors errors' : SinkState) (result : Status) : Type 0 where
+  answer : result ≢ Failed → IfKnown options left waivers.left
+      (Answered options result out out' errors errors')
+  flushed : (result ≡ Clean) ⊎ (result ≡ Faults) → (out'.flushed ≡ true)
+      × (out'.flushes ≡ one_more out.flushes)
+  untouched : result ≡ Refused → out' ≡ out
+  nothing_waits : result ≢ Failed → out.flushed ≡ true → out'.flushed ≡ true
+  broken :
+      ((failed ≡ true) ⊎ (waivers'.failed ≡ true)) ⊎ ((out'.failed ≡ true) ⊎ (errors'.failed ≡ true))
+      → result ≡ Failed
+  read_failed : (failed ≡ true) ⊎ (waivers'.failed ≡ true) → errors'.failed ≡ false
+      → Appends errors.written errors'.written (codes "t1check: read failed\n")
+  write_failed : out'.failed ≡ true → errors'.failed ≡ false
+      → Appends errors.written errors'.written (codes "t1check: write failed\n")
+  no_memory :
+      result ≡ Failed → failed ≡ false → waivers'.failed ≡ false → out'.failed ≡ false
+      → errors'.failed ≡ false
+      → Appends errors.written errors'.written (codes "t1check: out of memory\n")
+      ⊎ IfKnown options left waivers.left (Answered options result out out' errors errors')
+  unwritten : result ≡ Failed → out'.failed ≡ false → Keeps out.written out'.written
+  unread : (failed ≡ true) ⊎ (waivers'.failed ≡ true) → out'.failed ≡ false
+  front : out'.failed ≡ true → IfKnown options left waivers.left (WentOut options out out')
+  unflushed : result ≡ Failed → out'.flushes ≡ out.flushes
+  spared : IsSpared options left failed waivers waivers'
 
 -- ---- statuses
 
@@ -152,7 +179,7 @@ module _ (options : Options) (left : Option (List ℕ)) (failed : Bool) (waivers
   -- an answer that was given whole, with a status other than 2 and 3
   after_given : (answer : Answer) → Answering answer → failed ≡ false → waivers'.failed ≡ waivers.failed → IsSpared options left failed waivers waivers' → answer.told ≡ []
       → (answer.status ≡ Refused → ⊥) → (answer.status ≡ Failed → ⊥) → Gives answer.output answer.status out out' errors errors' result
-      → Promises options left failed waivers waivers' out out' errors errors' result
+      → Facts options left failed waivers waivers' out out' errors errors' result
   after_given answer is_answer unfailed kept_source spared silent never_two never_three (given wrote kept is) =
       let out_sound : out'.failed ≡ false = wrote.failed ∙ sound in
       record {
@@ -201,7 +228,7 @@ module _ (options : Options) (left : Option (List ℕ)) (failed : Bool) (waivers
   -- an answer with nothing on the output, status 2 or 3
   after_told : (answer : Answer) → Answering answer → failed ≡ false → waivers'.failed ≡ waivers.failed → IsSpared options left failed waivers waivers' → answer.output ≡ []
       → (answer.status ≡ Refused) ⊎ (answer.status ≡ Failed) → out' ≡ out → Tells answer.told answer.status errors errors' result
-      → Promises options left failed waivers waivers' out out' errors errors' result
+      → Facts options left failed waivers waivers' out out' errors errors' result
   after_told answer is_answer unfailed kept_source spared silent kind same tells =
       let two_or_three : (result ≡ Refused) ⊎ (result ≡ Failed) = elim (told-status answer.told answer.status errors errors' result tells) [
         | inl is ↦ elim kind [ inl two ↦ inl (is ∙ two) | inr three ↦ inr (is ∙ three) ]
@@ -236,7 +263,7 @@ module _ (options : Options) (left : Option (List ℕ)) (failed : Bool) (waivers
 
   -- a read failed, of the font or of the waivers
   after_failed_read : (failed ≡ true) ⊎ (waivers'.failed ≡ true) → IsSpared options left failed waivers waivers' → out' ≡ out → Tells (codes "t1check: read failed\n") Failed errors errors' result
-      → Promises options left failed waivers waivers' out out' errors errors' result
+      → Facts options left failed waivers waivers' out out' errors errors' result
   after_failed_read broken spared same tells =
       let three : result ≡ Failed = told-failed (codes "t1check: read failed\n") errors errors' result tells in
       record {
@@ -256,7 +283,7 @@ module _ (options : Options) (left : Option (List ℕ)) (failed : Bool) (waivers
       }
 
   after_no_memory : failed ≡ false → waivers'.failed ≡ waivers.failed → IsSpared options left failed waivers waivers' → out' ≡ out → Tells (codes "t1check: out of memory\n") Failed errors errors' result
-      → Promises options left failed waivers waivers' out out' errors errors' result
+      → Facts options left failed waivers waivers' out out' errors errors' result
   after_no_memory unfailed kept_source spared same tells =
       let three : result ≡ Failed = told-failed (codes "t1check: out of memory\n") errors errors' result tells in
       record {
@@ -280,7 +307,7 @@ module _ (options : Options) (left : Option (List ℕ)) (failed : Bool) (waivers
   shown_by font waived answer trace name same is = subst (λ (n : Option (List ℕ)). IsShown options font waived n answer) (sym same) is
 
   after_shown : (font : FontValue) → AreRead left (Ok font) → failed ≡ false → Shows options font waivers waivers' out out' errors errors' result
-      → Promises options left failed waivers waivers' out out' errors errors' result
+      → Facts options left failed waivers waivers' out out' errors errors' result
   after_shown font are unfailed (was_reported none waived is heard faults report gives) =
       let answer = reported font waived (selection options faults) in
       after_given answer (of-both answer (Ok font) (Ok waived) are is (shown_by font (Ok waived) answer _ None (ap (option_map string_bytes) none) (faults, (report, refl)))) unfailed heard.failed
@@ -304,7 +331,7 @@ module _ (options : Options) (left : Option (List ℕ)) (failed : Bool) (waivers
       after_no_memory unfailed heard.failed (spared_by font are unfailed heard.unasked) same tells
 
   after_refusal : (reason : Unread) → AreRead left (Err reason) → failed ≡ false → waivers' ≡ waivers → out' ≡ out → Tells (told_of reason) (unread_status reason) errors errors' result
-      → (unread_status reason ≡ Refused) ⊎ (reason ≡ unread.Memory) → Promises options left failed waivers waivers' out out' errors errors' result
+      → (unread_status reason ≡ Refused) ⊎ (reason ≡ unread.Memory) → Facts options left failed waivers waivers' out out' errors errors' result
   after_refusal reason are unfailed untouched same tells (inl two) =
       after_told (refused (told_of reason)) (of-font (refused (told_of reason)) (Err reason) are (λ waived. refl)) unfailed (same_failed untouched) (spared_whole untouched) refl (inl refl) same
       (subst (λ (s : Status). Tells (told_of reason) s errors errors' result) two tells)
@@ -318,12 +345,37 @@ kind_of_reason unread.Memory = inr refl
 kind_of_reason unread.NotAFont = inl refl
 kind_of_reason _ = inl refl
 
-pub kept : RunsKeepPromises
-kept options left failed v v' out out' errors errors' result v_sound sound errors_sound (was_shown font are unfailed shows) =
+facts : (options : Options) (left : Option (List ℕ)) (failed : Bool) (v v' : SourceState) (out out' errors errors' : SinkState) (result : Status)
+    → v.failed ≡ false → out.failed ≡ false → errors.failed ≡ false → Ends options left failed v v' out out' errors errors' result
+    → Facts options left failed v v' out out' errors errors' result
+facts options left failed v v' out out' errors errors' result v_sound sound errors_sound (was_shown font are unfailed shows) =
     after_shown options left failed v v' out out' errors errors' result v_sound sound errors_sound font are unfailed shows
-kept options left failed v v' out out' errors errors' result v_sound sound errors_sound (was_refused reason are unfailed untouched same tells) =
+facts options left failed v v' out out' errors errors' result v_sound sound errors_sound (was_refused reason are unfailed untouched same tells) =
     after_refusal options left failed v v' out out' errors errors' result v_sound sound errors_sound reason are unfailed untouched same tells (kind_of_reason reason)
-kept options left failed v v' out out' errors errors' result v_sound sound errors_sound (was_read_failed broken untouched same tells) =
+facts options left failed v v' out out' errors errors' result v_sound sound errors_sound (was_read_failed broken untouched same tells) =
     after_failed_read options left failed v v' out out' errors errors' result v_sound sound errors_sound (inl broken) (spared_whole options left failed v v' out out' errors errors' result v_sound sound errors_sound untouched) same tells
-kept options left failed v v' out out' errors errors' result v_sound sound errors_sound (was_no_memory unfailed untouched same tells) =
+facts options left failed v v' out out' errors errors' result v_sound sound errors_sound (was_no_memory unfailed untouched same tells) =
     after_no_memory options left failed v v' out out' errors errors' result v_sound sound errors_sound unfailed (ap (λ (s : SourceState). s.failed) untouched) (spared_whole options left failed v v' out out' errors errors' result v_sound sound errors_sound untouched) same tells
+
+grouped : (options : Options) (left : Option (List ℕ)) (failed : Bool) (v v' : SourceState) (out out' errors errors' : SinkState) (result : Status)
+    → Facts options left failed v v' out out' errors errors' result → Promises options left failed v v' out out' errors errors' result
+grouped options left failed v v' out out' errors errors' result f = record {
+  broken = f.broken;
+  decided = λ went. record { answer = f.answer went; nothing_waits = f.nothing_waits went };
+  reported = λ either. record { flushed = (f.flushed either).0; flushes = (f.flushed either).1 };
+  untouched = f.untouched;
+  failure = λ three. record {
+    read_failed = f.read_failed;
+    write_failed = f.write_failed;
+    no_memory = f.no_memory three;
+    unwritten = f.unwritten three;
+    unread = f.unread;
+    front = f.front;
+    unflushed = f.unflushed three;
+  };
+  spared = f.spared;
+}
+
+pub kept : RunsKeepPromises
+kept options left failed v v' out out' errors errors' result v_sound sound errors_sound ends =
+    grouped options left failed v v' out out' errors errors' result (facts options left failed v v' out out' errors errors' result v_sound sound errors_sound ends)

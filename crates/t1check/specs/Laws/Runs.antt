@@ -45,36 +45,50 @@ pub record IsSpared (options : Options) (left : Option (List ℕ)) (failed : Boo
   pub unread : failed ≡ true → waivers' ≡ waivers
   pub refused : IfSome left (λ input. (reason : Unread) → font_of input ≡ Err reason → waivers' ≡ waivers)
 
--- The facts. A run that begins with sources and sinks of which no call has failed keeps each of them.
-pub record Promises (options : Options) (left : Option (List ℕ)) (failed : Bool)
+-- A read failed, of the font or of the waivers.
+abbrev pub ReadFailed : Bool → SourceState → Type 0
+ReadFailed failed waivers' = (failed ≡ true) ⊎ (waivers'.failed ≡ true)
+
+-- Status 0, 1 or 2: the bytes and the options decide what went out and was told, and nothing waits on the output.
+pub record IsDecided (options : Options) (left : Option (List ℕ)) (waivers : SourceState)
+    (out out' errors errors' : SinkState) (result : Status) : Type 0 where
+  pub answer : IfKnown options left waivers.left (Answered options result out out' errors errors')
+  pub nothing_waits : out.flushed ≡ true → out'.flushed ≡ true
+
+-- Status 0 or 1: a report or a trace was flushed, once.
+pub record IsFlushed (out out' : SinkState) : Type 0 where
+  pub flushed : out'.flushed ≡ true
+  pub flushes : out'.flushes ≡ one_more out.flushes
+
+-- Status 3: why it is that is told, where it can be (that no glyph has the name is an answer). What went out is a
+-- front of the answer's text, and nothing did where the output didn't fail.
+pub record HasFailed (options : Options) (left : Option (List ℕ)) (failed : Bool)
     (waivers waivers' : SourceState) (out out' errors errors' : SinkState) (result : Status) : Type 0 where
-  -- Where the status isn't 3 the bytes and the options decide what went out and was told.
-  pub answer : result ≢ Failed → IfKnown options left waivers.left
-      (Answered options result out out' errors errors')
-  -- A report was flushed, once; on a refusal nothing was done to the output.
-  pub flushed : (result ≡ Clean) ⊎ (result ≡ Faults) → (out'.flushed ≡ true)
-      × (out'.flushes ≡ one_more out.flushes)
-  pub untouched : result ≡ Refused → out' ≡ out
-  pub nothing_waits : result ≢ Failed → out.flushed ≡ true → out'.flushed ≡ true
-  -- The status is 3 wherever a device failed.
-  pub broken :
-      ((failed ≡ true) ⊎ (waivers'.failed ≡ true)) ⊎ ((out'.failed ≡ true) ⊎ (errors'.failed ≡ true))
-      → result ≡ Failed
-  -- Why it is 3 is told, where it can be: that no glyph has the name is an answer.
-  pub read_failed : (failed ≡ true) ⊎ (waivers'.failed ≡ true) → errors'.failed ≡ false
+  pub read_failed : ReadFailed failed waivers' → errors'.failed ≡ false
       → Appends errors.written errors'.written (codes "t1check: read failed\n")
   pub write_failed : out'.failed ≡ true → errors'.failed ≡ false
       → Appends errors.written errors'.written (codes "t1check: write failed\n")
   pub no_memory :
-      result ≡ Failed → failed ≡ false → waivers'.failed ≡ false → out'.failed ≡ false
-      → errors'.failed ≡ false
+      failed ≡ false → waivers'.failed ≡ false → out'.failed ≡ false → errors'.failed ≡ false
       → Appends errors.written errors'.written (codes "t1check: out of memory\n")
       ⊎ IfKnown options left waivers.left (Answered options result out out' errors errors')
-  -- What went out is a front of the answer's text, and nothing did where the output didn't fail.
-  pub unwritten : result ≡ Failed → out'.failed ≡ false → Keeps out.written out'.written
-  pub unread : (failed ≡ true) ⊎ (waivers'.failed ≡ true) → out'.failed ≡ false
+  pub unwritten : out'.failed ≡ false → Keeps out.written out'.written
+  pub unread : ReadFailed failed waivers' → out'.failed ≡ false
   pub front : out'.failed ≡ true → IfKnown options left waivers.left (WentOut options out out')
-  pub unflushed : result ≡ Failed → out'.flushes ≡ out.flushes
+  pub unflushed : out'.flushes ≡ out.flushes
+
+-- The facts, by the status. A run that begins with sources and sinks of which no call has failed keeps each of them.
+pub record Promises (options : Options) (left : Option (List ℕ)) (failed : Bool)
+    (waivers waivers' : SourceState) (out out' errors errors' : SinkState) (result : Status) : Type 0 where
+  -- The status is 3 wherever a device failed.
+  pub broken : ReadFailed failed waivers' ⊎ ((out'.failed ≡ true) ⊎ (errors'.failed ≡ true))
+      → result ≡ Failed
+  pub decided : result ≢ Failed → IsDecided options left waivers out out' errors errors' result
+  pub reported : (result ≡ Clean) ⊎ (result ≡ Faults) → IsFlushed out out'
+  -- On a refusal nothing was done to the output.
+  pub untouched : result ≡ Refused → out' ≡ out
+  pub failure : result ≡ Failed
+      → HasFailed options left failed waivers waivers' out out' errors errors' result
   -- The waivers are read where they are asked for, once the font is read.
   pub spared : IsSpared options left failed waivers waivers'
 
