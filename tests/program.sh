@@ -13,7 +13,7 @@
 #   rest: LINE      one more line that has to be left on standard input behind the run
 #   output: WHERE   standard output: `full` (a device that takes no byte) or `closed`; else it is compared
 #   errors: WHERE   the same of standard error
-#   memory: N       the run gets N kilobytes of address space
+#   memory: N       the run gets N kilobytes of address space; `least`: as many as the program needs to begin at all
 #   status: N       the wanted status
 #   out: LINE       one more wanted line of standard output
 #   has: LINE       a line that standard output has to have; it may have others
@@ -34,6 +34,19 @@ lines() {
     sed -n "s/^$1: \{0,1\}//p" "$2"
 }
 
+# The kilobytes of address space with which the program begins: with fewer the system can't load it.
+least_memory() {
+    kilobytes=1024
+    while [ "$kilobytes" -lt 65536 ]; do
+        (
+            ulimit -v "$kilobytes" && exec "$program" --help
+        ) >/dev/null 2>&1
+        [ $? -lt 126 ] && break
+        kilobytes=$((kilobytes + 16))
+    done
+    echo "$kilobytes"
+}
+
 # Runs the program as the case says, and answers its status: CASE [WORD..], words behind the case's own.
 run_program() {
     input=$(lines input "$1") output=$(lines output "$1") errors=$(lines errors "$1") memory=$(lines memory "$1")
@@ -45,6 +58,7 @@ run_program() {
     lines word "$1" >"$scratch/words"
     shift
     [ $# -eq 0 ] || printf '%s\n' "$@" >>"$scratch/words"
+    [ "$memory" != least ] || memory=$(least_memory)
     set --
     while IFS= read -r word; do
         set -- "$@" "$(printf '%b' "$word")"
