@@ -1,12 +1,16 @@
 -- Lemmas by what they are about.
 pub mod AbsentEntries
+pub mod ArgumentLaws
 pub mod Before
+pub mod Behind
 pub mod Book
+pub mod CallLaws
 pub mod ComponentLaws
 pub mod Components
 pub mod Divisions
 pub mod Editions
 pub mod Flex
+pub mod FlexCounts
 pub mod FlexPairs
 pub mod FontRules
 pub mod GlyphPlaces
@@ -18,8 +22,11 @@ pub mod Overlaps
 pub mod PassedNumbers
 pub mod Paths
 pub mod Products
+pub mod Rows
 pub mod Seac
+pub mod SeacLaws
 pub mod StandardNames
+pub mod StemLaws
 pub mod Stems
 pub mod StepRules
 pub mod Tokens

@@ -1,12 +1,16 @@
 //! Laws of the definitions, each on a call that does nothing.
 
+ghost use Rattle.t1_rules.specs.Laws.Arguments.{KeptIsNotPast, NoneAreTooManyAtTheTop, NumbersOverflowAt24, OthersHaveNoArguments, TooFewAreFewerThanWanted, TooManyAreMoreThanArguments};
+ghost use Rattle.t1_rules.specs.Laws.Calls.{SoundCallsGoIn};
 ghost use Rattle.t1_rules.specs.Laws.FontRules.{AbsentEntriesBreakNothing, BrokenIsInTheBook, NothingIsBrokenPastLast, NothingIsBrokenPastPlaces, RuleNumbersAreInOrder};
-ghost use Rattle.t1_rules.specs.Laws.Components.{CodesAreCounted, NamesAreCounted, NoNameStandsTwice, OwnEncodingHasNoSay, PlacesHaveNoSay};
+ghost use Rattle.t1_rules.specs.Laws.Components.{CapitalsNameThemselves, CodesAreCounted, NamesAreCounted, NoNameStandsTwice, OwnEncodingHasNoSay, PlacesHaveNoSay, SmallLettersNameThemselves};
 ghost use Rattle.t1_rules.specs.Laws.Editions.{EditionsAgreeOnOtherRules, EditionsAgreeOnShortComponents, EditionsAgreeOnUsualSteps, EditionsAgreeWithoutOneEdge, OneEdgeOverlapsNothing, OtherStemsOverlapAsBefore, OverlapByIsMutual, StemsAreKept};
-ghost use Rattle.t1_rules.specs.Laws.Flex.{ClosepathLeavesThePoint, EndsLeadOutOfFlex, SevenPairsAreAFlex, StartsLeadIntoFlex, StepsMoveThePoint, WidthsSetThePoint};
-ghost use Rattle.t1_rules.specs.Laws.Othersubrs.{CallsAreOneOfFive};
+ghost use Rattle.t1_rules.specs.Laws.Flex.{ClosepathLeavesThePoint, EndsLeadOutOfFlex, GlyphsBeginAtTheOrigin, OtherCountsAreNoFlex, SetcurrentpointAloneFollows, SetcurrentpointFollowsFlex, SetcurrentpointPutsThePoint, SevenPairsAreAFlex, ShortFormsLeadAsFar, StartsLeadIntoFlex, StepsMoveThePoint, VectorsPutThePoint, WidthsSetThePoint};
+ghost use Rattle.t1_rules.specs.Laws.Othersubrs.{CallsAreOneOfFive, PopsAlonePopNothing, PopsOfNothingChangeNothing};
+ghost use Rattle.t1_rules.specs.Laws.Replacements.{ReplacementsWantCallsubr, ReplacementsWantPop, StemsAloneAreLate, StemsAreLateBehindDrawing};
+ghost use Rattle.t1_rules.specs.Laws.Seac.{CodesAreOneOfThree, CodesAreWholeTo255};
 ghost use Rattle.t1_rules.specs.Laws.StepRules.{ArgumentsCountFromTheBottom, BrokenStepsHaveTheseNumbers, ComponentRuleNumbersAreInOrder, EndsBreakOneRule, FlexIsByPlaces, LaterStepsHaveNoSay, MovedIsByPlaces, OneStepStartsWithoutWidth, OpenIsByPlaces, StepRuleNumbersAreInOrder, SurplusNumbersAreNotPast};
-ghost use Rattle.t1_rules.specs.Laws.Stems.{HintSetsAreBounded, OverlapIsMutual, ReplacementsEmptyHintSets, SignsHaveNoSay, StemsOverlapWhereTheyShareAPlace};
+ghost use Rattle.t1_rules.specs.Laws.Stems.{HintSetsAreBounded, OneStemIsKept, OthersAreNotUneven, OthersLeaveHintSets, OverlapIsMutual, ReplacementsEmptyHintSets, SignsHaveNoSay, StemsOverlapWhereTheyShareAPlace, ThreeStemsAreEven, ThreeStemsAreKept};
 ghost use Rattle.t1_rules.specs.Laws.Zones.{ZonesAreApartWhereOneIsAbove, ZonesMeetOneOfTheOthers, ZonesAreNearBothWays, ZonesAreNearTheOneBefore, NoZoneIsPastPairs, ZonesReachOne, ListsRiseWhereNoneFalls, ZonesArePairs};
 
 /// The font rules have the numbers from 1 to 25, and what is broken is a rule of the book.
@@ -175,4 +179,98 @@ pub fn standard_encoding_names_149_codes()
 pub fn components_are_found_by_their_names()
     ensures encoding { OwnEncodingHasNoSay }
     ensures places { PlacesHaveNoSay }
+{}
+
+/// Behind another number of pairs than seven, or with a move whose point hasn't come, the end of a flex breaks
+/// X04.
+#[tactic(auto, using(crate::proofs::Lemmas::FlexCounts::other_counts_are_no_flex))]
+pub fn other_counts_are_no_flex()
+    ensures { OtherCountsAreNoFlex }
+{}
+
+/// The current point begins at (0, 0); sbw and setcurrentpoint put it where they say.
+#[tactic(auto, using(crate::proofs::Lemmas::FlexCounts::glyphs_begin_at_the_origin, crate::proofs::Lemmas::FlexCounts::vectors_put_the_point, crate::proofs::Lemmas::FlexCounts::setcurrentpoint_puts_the_point))]
+pub fn points_are_put()
+    ensures start { GlyphsBeginAtTheOrigin }
+    ensures vector { VectorsPutThePoint }
+    ensures point { SetcurrentpointPutsThePoint }
+{}
+
+/// Short forms of moves, lines and curves lead as far as the full ones.
+pub fn short_forms_lead_as_far()
+    ensures { ShortFormsLeadAsFar }
+{}
+
+/// The codes of letters in StandardEncoding have the letters as their names.
+#[tactic(auto, using(crate::proofs::Lemmas::FlexCounts::capitals_name_themselves, crate::proofs::Lemmas::FlexCounts::small_letters_name_themselves))]
+pub fn letters_name_themselves()
+    ensures capitals { CapitalsNameThemselves }
+    ensures small { SmallLettersNameThemselves }
+{}
+
+/// callsubr with a number goes into a Subr exactly where it breaks neither S01 nor S02.
+#[tactic(auto, using(crate::proofs::Lemmas::CallLaws::sound_calls_go_in))]
+pub fn sound_calls_go_in()
+    ensures { SoundCallsGoIn }
+{}
+
+/// A number is past the range of 32000 exactly where it isn't kept as it is.
+pub fn kept_numbers_are_not_past()
+    ensures { KeptIsNotPast }
+{}
+
+/// A hint set grows by the stems of its direction's commands, up to 96, and by nothing else.
+#[tactic(auto, using(crate::proofs::Lemmas::StemLaws::one_stem_is_kept, crate::proofs::Lemmas::StemLaws::three_stems_are_kept, crate::proofs::Lemmas::StemLaws::others_leave_hint_sets))]
+pub fn hint_sets_grow()
+    ensures one { OneStemIsKept }
+    ensures three { ThreeStemsAreKept }
+    ensures others { OthersLeaveHintSets }
+{}
+
+/// hstem3 and vstem3 break H04 unless the outer stems are equally wide and the gaps between the three too.
+pub fn three_stems_are_even()
+    ensures even { ThreeStemsAreEven }
+    ensures others { OthersAreNotUneven }
+{}
+
+/// The codes of seac are the whole numbers from 0 to 255; an argument is no code, one without a name, or one
+/// with a name, and never two of these.
+pub fn codes_are_whole_to_255()
+    ensures whole { CodesAreWholeTo255 }
+    ensures three { CodesAreOneOfThree }
+{}
+
+/// A command breaks C04 where fewer numbers are on the stack than it wants, C05 where more are there than its
+/// arguments; and a number that comes to 24 breaks C06.
+pub fn numbers_are_counted()
+    ensures few { TooFewAreFewerThanWanted }
+    ensures many { TooManyAreMoreThanArguments }
+    ensures top { NoneAreTooManyAtTheTop }
+    ensures others { OthersHaveNoArguments }
+    ensures overflow { NumbersOverflowAt24 }
+{}
+
+/// A stem breaks H01 where something was drawn at some place before it, and no hints were replaced since.
+pub fn stems_are_late_behind_drawing()
+    ensures late { StemsAreLateBehindDrawing }
+    ensures others { StemsAloneAreLate }
+{}
+
+/// What follows a hint replacement breaks R01 unless it is pop; what follows that pop breaks R02 unless it is
+/// callsubr; and nothing else breaks them.
+pub fn replacements_are_followed()
+    ensures pop { ReplacementsWantPop }
+    ensures call { ReplacementsWantCallsubr }
+{}
+
+/// setcurrentpoint breaks X06 unless the end of a flex and two pops stand just before it.
+pub fn setcurrentpoint_follows_flex()
+    ensures follows { SetcurrentpointFollowsFlex }
+    ensures others { SetcurrentpointAloneFollows }
+{}
+
+/// pop breaks O04 exactly where it changes nothing.
+pub fn pops_of_nothing_change_nothing()
+    ensures nothing { PopsOfNothingChangeNothing }
+    ensures others { PopsAlonePopNothing }
 {}

@@ -12,14 +12,15 @@ use Rattle.t1_char.specs.Stacks.{from_top}
 use Rattle.t1_char.specs.Steps.{StepView}
 use Rattle.t1_char.proofs.LookingBack.{since_goes_on}
 use Rattle.t1_rules.specs.Laws.Flex.{StartsLeadIntoFlex, EndsLeadOutOfFlex, WidthsSetThePoint, StepsMoveThePoint, ClosepathLeavesThePoint, ArePairs, nothing, and_beside, and_move, and_point, SevenPairsAreAFlex}
-use Rattle.t1_rules.specs.StepRules.{argument_rules, call_rules, path_rules, stem_rules, flex_rules, othersubr_rules, seac_rules, step_rules, breaks, breaks_at}
-use Rattle.t1_rules.specs.StepRules.Flex.{counts_no_pairs, current_point, flex_moves, flex_points, moving}
+use Rattle.t1_rules.specs.StepRules.{step_rules, breaks, breaks_at}
+use Rattle.t1_rules.specs.StepRules.Flex.{current_point, flex_moves, flex_points, moving}
 use Rattle.t1_rules.specs.StepRules.Paths.{flex_start, flex_end, in_flex}
 use Rattle.t1_rules.specs.StepRules.Tokens.{is_move}
 use Rattle.t1_rules.proofs.Lemmas.Before.{counted_on}
 use Rattle.t1_rules.proofs.Lemmas.Flex.{plus_origin, point_goes_on}
 use Rattle.t1_rules.proofs.Lemmas.OthersubrCalls.{and_both, is_called}
-use Rattle.t1_rules.proofs.Lemmas.StepRules.{later_steps_have_no_say, row_decides}
+use Rattle.t1_rules.proofs.Lemmas.Rows.{x04_row}
+use Rattle.t1_rules.proofs.Lemmas.StepRules.{later_steps_have_no_say}
 
 pub widths_set_the_point : WidthsSetThePoint
 widths_set_the_point before step is = point_goes_on before step ∙ rw is refl
@@ -42,7 +43,7 @@ is_other number count t top is apart =
 end_is_no_start : (t : StepView) → is_flex_end t ≡ true → is_flex_start t ≡ false
 end_is_no_start t e = is_other 1 0 t _ (is_called 0 3 t e).top refl
 
-end_is_no_point : (t : StepView) → is_flex_end t ≡ true → is_flex_point t ≡ false
+pub end_is_no_point : (t : StepView) → is_flex_end t ≡ true → is_flex_point t ≡ false
 end_is_no_point t e = is_other 2 0 t _ (is_called 0 3 t e).top refl
 
 point_is_no_start : (t : StepView) → is_flex_point t ≡ true → is_flex_start t ≡ false
@@ -68,10 +69,10 @@ ends_lead_out_of_flex before t ends =
     ∙ rw (end_is_no_start t ends, ends) (and-false (in_flex before))
 
 -- The counts of moves and points since the last start, one step further.
-record Counts (before : List StepView) (moves points : ℕ) : Type 0 where
-  inside : in_flex before ≡ true
-  moved : flex_moves before ≡ moves
-  pointed : flex_points before ≡ points
+pub record Counts (before : List StepView) (moves points : ℕ) : Type 0 where
+  pub inside : in_flex before ≡ true
+  pub moved : flex_moves before ≡ moves
+  pub pointed : flex_points before ≡ points
 
 counts_on : (before : List StepView) (t : StepView) (moves points more_moves more_points : ℕ) (is_one_move is_one_point : Bool) → Counts before moves points
     → is_flex_start t ≡ false → is_flex_end t ≡ false → is_move t.token ≡ is_one_move → is_flex_point t ≡ is_one_point
@@ -83,7 +84,7 @@ counts_on before t moves points more_moves more_points is_one_move is_one_point 
   pointed = counted_on is_flex_point is_flex_start before t ∙ rw (no_start, point, counts.pointed) more_pointed;
 }
 
-abbrev half : Bool → ℕ
+abbrev pub half : Bool → ℕ
 half true = 1
 half false = 0
 
@@ -95,7 +96,7 @@ call_of : (number count : ℕ) (t : StepView) → calls_othersubr number count t
 call_of number count t e = (and_both _ _ (and_both _ _ (and_both _ _ e).0).0).0
 
 -- Behind a start and pairs one is in flex, with so many moves and points since.
-counts_of : (before : List StepView) (start : StepView) → is_flex_start start ≡ true → (n : ℕ) (is_half : Bool) (steps : List StepView)
+pub counts_of : (before : List StepView) (start : StepView) → is_flex_start start ≡ true → (n : ℕ) (is_half : Bool) (steps : List StepView)
     → ArePairs n is_half steps → Counts ((before ++ start ∷ []) ++ steps) (n + half is_half) n
 counts_of before start starts _ _ _ nothing = rw (append-nil (before ++ start ∷ [])) (record {
   inside = starts_lead_into_flex before start starts;
@@ -113,10 +114,6 @@ counts_of before start starts _ _ _ (and_move n steps t pairs move) =
 counts_of before start starts _ _ _ (and_point n steps t pairs point) =
     rw (sym (append_assoc (before ++ start ∷ []) steps (t ∷ [])))
     (counts_on _ t _ _ _ _ false true (counts_of before start starts n true steps pairs) (point_is_no_start t point) (point_is_no_end t point) (call_is_no_move t.token (call_of 2 0 t point)) point (omega arith) (omega arith))
-
-x04_row : (edition : Edition) (before : List StepView) (step : StepView) → breaks (step_rules edition) 55 before step ≡ counts_no_pairs before step
-unfolding step_rules argument_rules call_rules path_rules stem_rules flex_rules othersubr_rules seac_rules
-x04_row edition before step = row_decides 55 (step_rules edition) 29 _ refl refl refl refl before step
 
 -- No step behind the start breaks X04.
 abbrev AreFine : Edition → List StepView → List StepView → Type 0

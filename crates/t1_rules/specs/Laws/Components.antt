@@ -1,6 +1,6 @@
 -- Laws of StandardEncoding and the components of accented characters.
-use Rattle.std.specs.Prelude.{◌≡◌, ℕ, ◌<◌, ◌==◌, not, Bool, List, [], ◌∷◌, ◌++◌, length, take}
-use Rattle.std.specs.List.{AllPass, count_by}
+use Rattle.std.specs.Prelude.{◌≡◌, ℕ, ◌<◌, ◌==◌, not, Bool, List, [], ◌∷◌, ◌++◌, length, map, take}
+use Rattle.std.specs.List.{AllPass, count_by, range_with_len}
 use Rattle.t1_char.specs.Charstrings.{tokens_in}
 use Rattle.t1_char.specs.Effects.{most_calls}
 use Rattle.t1_char.specs.Steps.{StepView, at_start, expansion}
@@ -23,6 +23,16 @@ NamesAreCounted = count_by has_letters standard_encoding ≡ 149
 abbrev pub NoNameStandsTwice : Type 0
 NoNameStandsTwice =
     (one other : ℕ) → standard_name one ≡ standard_name other → 0 < length (standard_name one) → one ≡ other
+
+-- The name of a letter's code, from A to Z and from a to z, is the letter.
+abbrev pub letter : ℕ → List ℕ
+letter c = c ∷ []
+
+abbrev pub CapitalsNameThemselves : Type 0
+CapitalsNameThemselves = map standard_name (range_with_len 65 26) ≡ map letter (range_with_len 65 26)
+
+abbrev pub SmallLettersNameThemselves : Type 0
+SmallLettersNameThemselves = map standard_name (range_with_len 97 26) ≡ map letter (range_with_len 97 26)
 
 -- The font with another Encoding, and other codes in it.
 abbrev pub encoded_anew : FontValue → Encoding → List (ℕ × List ℕ) → Bool → FontValue

@@ -5,12 +5,17 @@ use Rattle.t1_char.specs.Arguments.{argument}
 use Rattle.t1_char.specs.declared.edition.Edition.{Edition}
 use Rattle.t1_char.specs.Laws.Since.{IsSince}
 use Rattle.t1_char.specs.Steps.{StepView, is_end}
+use Rattle.t1_rules.specs.declared.rule.Rule.{Rule}
 use Rattle.t1_rules.specs.declared.rule.Rule.TheVariants.{S04, GE01, W01}
 use Rattle.t1_rules.specs.declared.sidebearings.Component.{Component}
 use Rattle.t1_rules.specs.Book.{number_of}
 use Rattle.t1_rules.specs.StepRules.{StepRule, component_rules, step_rules, breaks, breaks_at}
 use Rattle.t1_rules.specs.StepRules.Arguments.{one_is_past}
 use Rattle.t1_rules.specs.StepRules.Paths.{flex_start, flex_end, in_flex, outer_move, drawing, closing_step, is_moved, is_open}
+
+-- The step breaks the rule, given the steps before it.
+abbrev pub violates : Edition → Rule → List StepView → StepView → Bool
+violates edition rule before step = breaks (step_rules edition) (number_of rule) before step
 
 -- The rows have the numbers from 26 to 63, and 67, in order and each once; those on components 64 to 66,
 -- and 68.
