@@ -24,6 +24,7 @@ pub mod Paths
 pub mod Products
 pub mod Rows
 pub mod Seac
+pub mod SeacComponents
 pub mod SeacLaws
 pub mod StandardNames
 pub mod StemLaws

@@ -8,7 +8,7 @@ ghost use Rattle.t1_rules.specs.Laws.Editions.{EditionsAgreeOnOtherRules, Editio
 ghost use Rattle.t1_rules.specs.Laws.Flex.{ClosepathLeavesThePoint, EndsLeadOutOfFlex, GlyphsBeginAtTheOrigin, OtherCountsAreNoFlex, SetcurrentpointAloneFollows, SetcurrentpointFollowsFlex, SetcurrentpointPutsThePoint, SevenPairsAreAFlex, ShortFormsLeadAsFar, StartsLeadIntoFlex, StepsMoveThePoint, VectorsPutThePoint, WidthsSetThePoint};
 ghost use Rattle.t1_rules.specs.Laws.Othersubrs.{CallsAreOneOfFive, PopsAlonePopNothing, PopsOfNothingChangeNothing};
 ghost use Rattle.t1_rules.specs.Laws.Replacements.{ReplacementsWantCallsubr, ReplacementsWantPop, StemsAloneAreLate, StemsAreLateBehindDrawing};
-ghost use Rattle.t1_rules.specs.Laws.Seac.{CodesAreOneOfThree, CodesAreWholeTo255};
+ghost use Rattle.t1_rules.specs.Laws.Seac.{CodesAreOneOfThree, CodesAreWholeTo255, MissingGlyphsAreTold, MissingSidebearingsAreTold, NestedSeacsAreTold, OtherSidebearingsAreTold, SeacAloneHasComponents};
 ghost use Rattle.t1_rules.specs.Laws.StepRules.{ArgumentsCountFromTheBottom, BrokenStepsHaveTheseNumbers, ComponentRuleNumbersAreInOrder, EndsBreakOneRule, FlexIsByPlaces, LaterStepsHaveNoSay, MovedIsByPlaces, OneStepStartsWithoutWidth, OpenIsByPlaces, StepRuleNumbersAreInOrder, SurplusNumbersAreNotPast};
 ghost use Rattle.t1_rules.specs.Laws.Stems.{HintSetsAreBounded, OneStemIsKept, OthersAreNotUneven, OthersLeaveHintSets, OverlapIsMutual, ReplacementsEmptyHintSets, SignsHaveNoSay, StemsOverlapWhereTheyShareAPlace, ThreeStemsAreEven, ThreeStemsAreKept};
 ghost use Rattle.t1_rules.specs.Laws.Zones.{ZonesAreApartWhereOneIsAbove, ZonesMeetOneOfTheOthers, ZonesAreNearBothWays, ZonesAreNearTheOneBefore, NoZoneIsPastPairs, ZonesReachOne, ListsRiseWhereNoneFalls, ZonesArePairs};
@@ -273,4 +273,14 @@ pub fn setcurrentpoint_follows_flex()
 pub fn pops_of_nothing_change_nothing()
     ensures nothing { PopsOfNothingChangeNothing }
     ensures others { PopsAlonePopNothing }
+{}
+
+/// seac breaks K03 where the font lacks a glyph that it names, K04 where such a glyph has a seac of its own, K05
+/// where the accent's first sidebearing is another than seac's, and K07 where such a glyph has none.
+pub fn components_are_judged_by_their_steps()
+    ensures missing { MissingGlyphsAreTold }
+    ensures nested { NestedSeacsAreTold }
+    ensures other { OtherSidebearingsAreTold }
+    ensures none { MissingSidebearingsAreTold }
+    ensures seac { SeacAloneHasComponents }
 {}
