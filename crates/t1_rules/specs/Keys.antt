@@ -1,7 +1,7 @@
 -- The keys that a font's faults stand at: their numbers, what they are called, and how many indexes each has.
 -- Key 0 is the file, 4, 20 and 21 are entries of a form of their own, and the others are plain keys (Type 1
 -- Font Format, chapters 2 and 5).
-use Rattle.std.specs.Prelude.{ℕ, ◌+◌, min, max, List, [], ◌∷◌, codes, length, slice_index_or}
+use Rattle.std.specs.Prelude.{ℕ, ◌+◌, min, max, List, [], ◌∷◌, codes, length, map, slice_index_or}
 use Rattle.t1_font.specs.declared.key.Key.{Key}
 use Rattle.t1_font.specs.declared.key.Key.TheVariants.{FontType, PaintType, UniqueId, PrivateUniqueId, Password, MinFeature, LenIv, BlueValues, OtherBlues, FamilyBlues, FamilyOtherBlues, BlueScale, BlueShift, BlueFuzz, StdHw, StdVw, StemSnapH, StemSnapV}
 use Rattle.t1_font.specs.Keys.{index_of}
@@ -49,36 +49,15 @@ key_number StemSnapV = 19
 abbrev pub value_at : FontValue → Key → Value
 value_at font key = slice_index_or font.plain (index_of key) absent
 
--- What the keys are called, in the order of their numbers, from 0 on.
-abbrev pub key_texts : List (List ℕ)
-key_texts =
-    codes "file"
-    ∷ codes "FontType"
-    ∷ codes "PaintType"
-    ∷ codes "UniqueID"
-    ∷ codes "Encoding"
-    ∷ codes "PrivateUniqueID"
-    ∷ codes "password"
-    ∷ codes "MinFeature"
-    ∷ codes "lenIV"
-    ∷ codes "BlueValues"
-    ∷ codes "OtherBlues"
-    ∷ codes "FamilyBlues"
-    ∷ codes "FamilyOtherBlues"
-    ∷ codes "BlueScale"
-    ∷ codes "BlueShift"
-    ∷ codes "BlueFuzz"
-    ∷ codes "StdHW"
-    ∷ codes "StdVW"
-    ∷ codes "StemSnapH"
-    ∷ codes "StemSnapV"
-    ∷ codes "Subrs"
-    ∷ codes "CharStrings"
-    ∷ []
-
--- What a key is called; it is empty past the last one.
-abbrev pub key_text_of : ℕ → List ℕ
-key_text_of key = slice_index_or key_texts key []
+-- How many numbers a list of zones or stem snaps has at most.
+abbrev pub limit_of : Key → ℕ
+limit_of BlueValues = 14
+limit_of OtherBlues = 10
+limit_of FamilyBlues = 14
+limit_of FamilyOtherBlues = 10
+limit_of StemSnapH = 12
+limit_of StemSnapV = 12
+limit_of _ = 0
 
 -- How many indexes the Subrs have: past the greatest number of one, and at most 65,536.
 abbrev pub subr_places : List (ℕ × List ℕ) → ℕ
@@ -89,14 +68,59 @@ subr_places (subr ∷ subrs) = max (min (subr.0 + 1) 65536) (subr_places subrs)
 abbrev pub glyph_places : FontValue → ℕ
 glyph_places font = max 1 (min (length font.glyphs) 65536)
 
--- How many indexes each key has, in the order of the keys: one index for what is said of an entry, the codes
--- of an Encoding, a place for each number of a list and one more, the Subrs and the glyphs.
-abbrev pub places_by_key : FontValue → List ℕ
-places_by_key font =
-    1 ∷ 1 ∷ 1 ∷ 1 ∷ 256 ∷ 1 ∷ 1 ∷ 1 ∷ 0
-    ∷ 15 ∷ 11 ∷ 15 ∷ 11 ∷ 1 ∷ 1 ∷ 1 ∷ 1 ∷ 1 ∷ 13 ∷ 13
-    ∷ subr_places font.subrs ∷ glyph_places font ∷ []
+-- A key: what it is called, and how many indexes it has, from 0 on, at which a font can have a fault.
+pub record KeyRow : Type 0 where
+  pub text : List ℕ
+  pub places : FontValue → ℕ
 
--- How many indexes a key can have a fault at, from 0 on.
+abbrev pub row : List ℕ → (FontValue → ℕ) → KeyRow
+row text places = record { text = text; places = places }
+
+-- One index, for what is said of an entry as a whole.
+abbrev pub of_entry : FontValue → ℕ
+of_entry font = 1
+
+-- One for each number that a list can have, and one more, for the first that is too much.
+abbrev pub of_list : Key → FontValue → ℕ
+of_list key font = limit_of key + 1
+
+-- The keys in the order of their numbers, from 0 on. No rule speaks of lenIV; an Encoding's indexes are its codes.
+abbrev pub key_rows : List KeyRow
+key_rows =
+    row (codes "file") of_entry
+    ∷ row (codes "FontType") of_entry
+    ∷ row (codes "PaintType") of_entry
+    ∷ row (codes "UniqueID") of_entry
+    ∷ row (codes "Encoding") (λ font. 256)
+    ∷ row (codes "PrivateUniqueID") of_entry
+    ∷ row (codes "password") of_entry
+    ∷ row (codes "MinFeature") of_entry
+    ∷ row (codes "lenIV") (λ font. 0)
+    ∷ row (codes "BlueValues") (of_list BlueValues)
+    ∷ row (codes "OtherBlues") (of_list OtherBlues)
+    ∷ row (codes "FamilyBlues") (of_list FamilyBlues)
+    ∷ row (codes "FamilyOtherBlues") (of_list FamilyOtherBlues)
+    ∷ row (codes "BlueScale") of_entry
+    ∷ row (codes "BlueShift") of_entry
+    ∷ row (codes "BlueFuzz") of_entry
+    ∷ row (codes "StdHW") of_entry
+    ∷ row (codes "StdVW") of_entry
+    ∷ row (codes "StemSnapH") (of_list StemSnapH)
+    ∷ row (codes "StemSnapV") (of_list StemSnapV)
+    ∷ row (codes "Subrs") (λ font. subr_places font.subrs)
+    ∷ row (codes "CharStrings") glyph_places
+    ∷ []
+
+abbrev pub key_texts : List (List ℕ)
+key_texts = map (λ key. key.text) key_rows
+
+-- What a key is called; it is empty past the last one.
+abbrev pub key_text_of : ℕ → List ℕ
+key_text_of key = slice_index_or key_texts key []
+
+abbrev pub places_by_key : FontValue → List ℕ
+places_by_key font = map (λ key. key.places font) key_rows
+
+-- How many indexes a key can have a fault at, from 0 on; none past the last key.
 abbrev pub places_of : FontValue → ℕ → ℕ
 places_of font key = slice_index_or (places_by_key font) key 0

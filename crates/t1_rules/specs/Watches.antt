@@ -1,5 +1,5 @@
 -- What watchers keep of the steps that they have seen.
-use Rattle.std.specs.Prelude.{◌≡◌, ⊤, false, ℕ, pos, ◌+ℤ◌, ◌*◌, ◌&&◌, ◌≤◌, ◌≤ℤ◌, List, length}
+use Rattle.std.specs.Prelude.{◌≡◌, ⊤, false, ℕ, ℤ, pos, ◌+ℤ◌, ◌*◌, ◌^◌, ◌&&◌, ◌≤◌, ◌≤ℤ◌, List, length}
 use Rattle.t1_char.specs.declared.edition.Edition.{Edition}
 use Rattle.t1_char.specs.declared.token.CharToken.{CharToken}
 use Rattle.t1_char.specs.Arguments.{is_callothersubr, is_flex_end}
@@ -52,12 +52,19 @@ pub record StemsStandFor (edition : Edition) (watcher : StemWatcher) (before : L
   pub replaced : watcher.replaced ≡ is_replaced before
   pub popped : watcher.popped ≡ is_replaced_and_popped before
 
--- So many steps can bring a point there: each moves it by three numbers of 32 bits at most.
+-- The number is at most so far from 0.
+pub record IsWithin (bound : ℕ) (z : ℤ) : Type 0 where
+  pub low : pos 0 ≤ℤ (z +ℤ pos bound)
+  pub high : z ≤ℤ pos bound
+
+-- How far one step can move a coordinate: by the sum of three numbers of 32 bits.
+abbrev pub reach : ℕ
+reach = 3 * 2 ^ 31
+
+-- So many steps can bring a point there.
 pub record IsNear (n : ℕ) (point : Point) : Type 0 where
-  pub left : pos 0 ≤ℤ (point.x +ℤ pos (n * 6442450944))
-  pub right : point.x ≤ℤ pos (n * 6442450944)
-  pub low : pos 0 ≤ℤ (point.y +ℤ pos (n * 6442450944))
-  pub high : point.y ≤ℤ pos (n * 6442450944)
+  pub x : IsWithin (n * reach) point.x
+  pub y : IsWithin (n * reach) point.y
 
 pub record FlexStandsFor (watcher : FlexWatcher) (before : List StepView) : Type 0 where
   pub in_flex : watcher.in_flex ≡ in_flex before

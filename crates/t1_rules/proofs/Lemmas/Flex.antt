@@ -89,10 +89,8 @@ one_more_in_flex old new before t st in_flex moves points point ended popped pop
 -- A point stays as near behind one step more.
 near_on : (n : ℕ) (p : Point) → IsNear n p → IsNear (n + 1) p
 near_on n p near = record {
-  left = omega (arith, ints, near.left);
-  right = omega (arith, ints, near.right);
-  low = omega (arith, ints, near.low);
-  high = omega (arith, ints, near.high);
+  x = record { low = omega (arith, ints, near.x.low); high = omega (arith, ints, near.x.high) };
+  y = record { low = omega (arith, ints, near.y.low); high = omega (arith, ints, near.y.high) };
 }
 
 -- What is no command changes what the last steps were alone.

@@ -4,7 +4,7 @@ use Rattle.t1_font.specs.declared.key.Key.{Key}
 use Rattle.t1_font.specs.declared.key.Key.TheVariants.{BlueValues, OtherBlues, FamilyBlues, FamilyOtherBlues, BlueScale, BlueShift, BlueFuzz, StdHw, StdVw, StemSnapH, StemSnapV}
 use Rattle.t1_font.specs.Fonts.{FontValue}
 use Rattle.t1_font.specs.Values.{Value}
-use Rattle.t1_rules.specs.Keys.{value_at}
+use Rattle.t1_rules.specs.Keys.{limit_of, value_at}
 use Rattle.t1_rules.specs.FontRules.Values.{is_absent, is_number, is_numbers, count_in, first_in}
 
 -- All entries whose kind is asked.
@@ -23,16 +23,6 @@ is_of_kind _ value = is_numbers value
 -- The entry is there, and of another kind.
 abbrev pub is_of_another_kind : Key → Value → ℕ → Bool
 is_of_another_kind k value index = index == 0 && not (is_absent value) && not (is_of_kind k value)
-
--- How many numbers a list of zones or stem snaps has at most.
-abbrev pub limit_of : Key → ℕ
-limit_of BlueValues = 14
-limit_of OtherBlues = 10
-limit_of FamilyBlues = 14
-limit_of FamilyOtherBlues = 10
-limit_of StemSnapH = 12
-limit_of StemSnapV = 12
-limit_of _ = 0
 
 -- There are more numbers than the limit; this stands at the first place that is too much.
 abbrev pub has_too_many : Key → Value → ℕ → Bool

@@ -74,21 +74,21 @@ abbrev pub overlap_by : Edition → Stem → Stem → Bool
 overlap_by One one other = overlap one other
 overlap_by Two one other = not (has_one_edge one || has_one_edge other) && overlap one other
 
--- What it is that two stems overlap is given: one of the stems overlaps one that is kept; two of the
--- stems overlap.
+-- Which two stems clash is given, since each edition has its own word on it: one of the stems clashes with one
+-- that is kept; two of the stems clash.
 abbrev pub one_overlaps : (Stem → Stem → Bool) → List Stem → List Stem → Bool
-one_overlaps overlap stems kept = list_any (λ stem. list_any (overlap stem) kept) stems
+one_overlaps clash stems kept = list_any (λ stem. list_any (clash stem) kept) stems
 
 abbrev pub two_overlap : (Stem → Stem → Bool) → List Stem → Bool
-two_overlap overlap [] = false
-two_overlap overlap (stem ∷ stems) = list_any (overlap stem) stems || two_overlap overlap stems
+two_overlap clash [] = false
+two_overlap clash (stem ∷ stems) = list_any (clash stem) stems || two_overlap clash stems
 
 abbrev pub stems_meet : (Stem → Stem → Bool) → List Stem → List Stem → Bool
-stems_meet overlap stems kept = one_overlaps overlap stems kept || two_overlap overlap stems
+stems_meet clash stems kept = one_overlaps clash stems kept || two_overlap clash stems
 
 abbrev pub overlap_in : (Stem → Stem → Bool) → (Commands → Bool) → List StepView → StepView → Bool
-overlap_in overlap direction before step =
-    is_command direction step.token && stems_meet overlap (stems_of step) (hint_set direction before)
+overlap_in clash direction before step =
+    is_command direction step.token && stems_meet clash (stems_of step) (hint_set direction before)
 
 -- A step of a kind, whatever came before it.
 abbrev pub replacing_step : List StepView → StepView → Bool
@@ -102,8 +102,8 @@ abbrev pub sets_stem_late : List StepView → StepView → Bool
 sets_stem_late before step = is_stem step.token && is_drawn before
 
 abbrev pub sets_overlapping : (Stem → Stem → Bool) → List StepView → StepView → Bool
-sets_overlapping overlap before step =
-    overlap_in overlap lies_across before step || overlap_in overlap stands_upright before step
+sets_overlapping clash before step =
+    overlap_in clash lies_across before step || overlap_in clash stands_upright before step
 
 abbrev pub has_no_width : Stem → Bool
 has_no_width stem = int_eq stem.width (pos 0)

@@ -2,7 +2,8 @@
 
 ghost use Rattle.std.specs.Prelude.{◌≡◌, ℕ};
 ghost use Rattle.t1_font.specs.Entries.{entry_view};
-ghost use Rattle.t1_rules.specs.FontRules.Hints.{falls_at, has_too_many, is_of_another_kind, is_of_kind, limit_of};
+ghost use Rattle.t1_rules.specs.FontRules.Hints.{falls_at, has_too_many, is_of_another_kind, is_of_kind};
+ghost use Rattle.t1_rules.specs.Keys.{limit_of};
 ghost use Rattle.t1_rules.specs.Mask.{has};
 ghost use Rattle.t1_rules.specs.Words.KeyTests.{broken_among, number_tests};
 

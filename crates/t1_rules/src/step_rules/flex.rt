@@ -9,8 +9,7 @@ ghost use Rattle.t1_rules.specs.Mask.{has};
 ghost use Rattle.t1_rules.specs.StepRules.{breaks, flex_rules};
 ghost use Rattle.t1_rules.specs.StepRules.Flex.{at, displacement, ends_away_from, is_elsewhere, miscounts, moved_by, origin, plus, point_set};
 ghost use Rattle.t1_rules.specs.StepRules.Tokens.{clears, is_move, is_pop, sets_point};
-ghost use Rattle.t1_rules.specs.Watches.{FlexStandsFor, IsNear, IsQuietForFlex, most_steps};
-ghost use Rattle.t1_rules.specs.Words.Sums.{IsWithin};
+ghost use Rattle.t1_rules.specs.Watches.{FlexStandsFor, IsNear, IsQuietForFlex, IsWithin, most_steps, reach};
 
 use crate::mask::Mask;
 use crate::rule::Rule;
@@ -292,14 +291,14 @@ fn plus(point: Point, way: Point) -> Point
 
 fn sum_of_two(one: i32, other: i32) -> i64
     ensures value { result ≡ one +ℤ other }
-    ensures within { IsWithin 6442450944 result }
+    ensures within { IsWithin reach result }
 {
     sum(i64::from(one), i64::from(other))
 }
 
 fn sum_of_three(one: i32, two: i32, three: i32) -> i64
     ensures value { result ≡ one +ℤ two +ℤ three }
-    ensures within { IsWithin 6442450944 result }
+    ensures within { IsWithin reach result }
 {
     sum(sum_of_two(one, two), i64::from(three))
 }

@@ -3,7 +3,8 @@
 ghost use Rattle.std.specs.Prelude.{◌≡◌, ◌+ℤ◌, ◌*ℤ◌, int_lt, not, pos};
 ghost use Rattle.std.specs.Int.{int_max, int_min};
 ghost use Rattle.std.specs.Ordering.{int_eq};
-ghost use Rattle.t1_rules.specs.Words.Sums.{IsWithin, SumFits};
+ghost use Rattle.t1_rules.specs.Watches.{IsWithin, reach};
+ghost use Rattle.t1_rules.specs.Words.Sums.{SumFits};
 
 pub(crate) fn sum(one: i64, other: i64) -> i64
     requires { SumFits one other }
@@ -13,7 +14,7 @@ pub(crate) fn sum(one: i64, other: i64) -> i64
 }
 
 pub(crate) fn twice(number: i64) -> i64
-    requires { IsWithin 6442450944 number }
+    requires { IsWithin reach number }
     ensures { result ≡ pos 2 *ℤ number }
 {
     2 * number

@@ -13,8 +13,7 @@ ghost use Rattle.t1_rules.specs.Mask.{has};
 ghost use Rattle.t1_rules.specs.StepRules.{breaks, stem_rules};
 ghost use Rattle.t1_rules.specs.StepRules.Stems.{are_unequal, has_no_width, has_one_edge, is_off_middle, is_stem, is_triple, lies_across, lower, one_overlaps, overlap, overlap_by, sets_unequal, stands_upright, stem_at, stems_meet, stems_of, two_overlap, twice_middle, upper};
 ghost use Rattle.t1_rules.specs.StepRules.Tokens.{is_command, is_line};
-ghost use Rattle.t1_rules.specs.Watches.{StemsStandFor};
-ghost use Rattle.t1_rules.specs.Words.Sums.{IsWithin};
+ghost use Rattle.t1_rules.specs.Watches.{IsWithin, StemsStandFor, reach};
 ghost use Rattle.t1_rules.specs.Words.Stems.{IsQuietForStems, kept_after};
 
 use crate::mask::Mask;
@@ -66,7 +65,7 @@ pub struct StemWatcher {
 
 impl Watch for StemWatcher {
     ghost use Rattle.t1_rules.specs.StepRules.{stem_rules};
-    ghost use Rattle.t1_rules.specs.Watches.{StemsStandFor};
+    ghost use Rattle.t1_rules.specs.Watches.{IsWithin, StemsStandFor, reach};
 
     ghost stands_for = { StemsStandFor };
 
@@ -240,7 +239,7 @@ impl Stem {
     /// Twice the place of its middle.
     fn twice_middle(self) -> i64
         ensures value { result ≡ twice_middle self }
-        ensures within { IsWithin 6442450944 result }
+        ensures within { IsWithin reach result }
     {
         2 * i64::from(self.position) + i64::from(self.width)
     }
@@ -438,9 +437,9 @@ fn is_off_middle(one: Stem, two: Stem, three: Stem) -> bool
 
 /// Whether the second number isn't in the middle of the others.
 fn are_apart(one: i64, two: i64, three: i64) -> bool
-    requires one { IsWithin 6442450944 one }
-    requires two { IsWithin 6442450944 two }
-    requires three { IsWithin 6442450944 three }
+    requires one { IsWithin reach one }
+    requires two { IsWithin reach two }
+    requires three { IsWithin reach three }
     ensures { result ≡ not (int_eq (pos 2 *ℤ two) (one +ℤ three)) }
 {
     differ(twice(two), sum(one, three))
