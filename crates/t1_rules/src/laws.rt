@@ -8,7 +8,7 @@ ghost use Rattle.t1_rules.specs.Laws.Editions.{EditionsAgreeOnOtherRules, Editio
 ghost use Rattle.t1_rules.specs.Laws.Flex.{ClosepathLeavesThePoint, EndsLeadOutOfFlex, GlyphsBeginAtTheOrigin, OtherCountsAreNoFlex, SetcurrentpointAloneFollows, SetcurrentpointFollowsFlex, SetcurrentpointPutsThePoint, SevenPairsAreAFlex, ShortFormsLeadAsFar, StartsLeadIntoFlex, StepsMoveThePoint, VectorsPutThePoint, WidthsSetThePoint};
 ghost use Rattle.t1_rules.specs.Laws.Othersubrs.{CallsAreOneOfFive, PopsAlonePopNothing, PopsOfNothingChangeNothing};
 ghost use Rattle.t1_rules.specs.Laws.Replacements.{ReplacementsWantCallsubr, ReplacementsWantPop, StemsAloneAreLate, StemsAreLateBehindDrawing};
-ghost use Rattle.t1_rules.specs.Laws.Seac.{CodesAreOneOfThree, CodesAreWholeTo255, MissingGlyphsAreTold, MissingSidebearingsAreTold, NestedSeacsAreTold, OtherSidebearingsAreTold, SeacAloneHasComponents};
+ghost use Rattle.t1_rules.specs.Laws.Seac.{CodesAreOneOfThree, CodesAreWholeTo255, MissingGlyphsAreTold, MissingSidebearingsAreTold, NestedSeacsAreTold, OtherSidebearingsAreTold, SeacAloneHasCodes, SeacAloneHasComponents, UnnamedCodesAreTold, WrongCodesAreTold};
 ghost use Rattle.t1_rules.specs.Laws.StepRules.{ArgumentsCountFromTheBottom, BrokenStepsHaveTheseNumbers, ComponentRuleNumbersAreInOrder, EndsBreakOneRule, FlexIsByPlaces, LaterStepsHaveNoSay, MovedIsByPlaces, OneStepStartsWithoutWidth, OpenIsByPlaces, StepRuleNumbersAreInOrder, SurplusNumbersAreNotPast};
 ghost use Rattle.t1_rules.specs.Laws.Stems.{HintSetsAreBounded, OneStemIsKept, OthersAreNotUneven, OthersLeaveHintSets, OverlapIsMutual, ReplacementsEmptyHintSets, SignsHaveNoSay, StemsOverlapWhereTheyShareAPlace, ThreeStemsAreEven, ThreeStemsAreKept};
 ghost use Rattle.t1_rules.specs.Laws.Zones.{ZonesAreApartWhereOneIsAbove, ZonesMeetOneOfTheOthers, ZonesAreNearBothWays, ZonesAreNearTheOneBefore, NoZoneIsPastPairs, ZonesReachOne, ListsRiseWhereNoneFalls, ZonesArePairs};
@@ -283,4 +283,11 @@ pub fn components_are_judged_by_their_steps()
     ensures other { OtherSidebearingsAreTold }
     ensures none { MissingSidebearingsAreTold }
     ensures seac { SeacAloneHasComponents }
+{}
+
+/// seac breaks K01 where the base's or the accent's argument is no code, and K02 where it is a code without a name.
+pub fn codes_are_judged_by_their_names()
+    ensures wrong { WrongCodesAreTold }
+    ensures unnamed { UnnamedCodesAreTold }
+    ensures seac { SeacAloneHasCodes }
 {}

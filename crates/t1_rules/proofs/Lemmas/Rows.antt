@@ -2,13 +2,14 @@
 use Rattle.std.proofs.Common.{◌≡◌, List, refl}
 use Rattle.t1_char.specs.declared.edition.Edition.{Edition}
 use Rattle.t1_char.specs.Steps.{StepView}
-use Rattle.t1_rules.specs.declared.rule.Rule.TheVariants.{C04, C05, C06, S01, S02, H01, H04, R01, R02, X04, X06, O04}
+use Rattle.t1_rules.specs.declared.rule.Rule.TheVariants.{C04, C05, C06, S01, S02, H01, H04, R01, R02, X04, X06, O04, K01, K02}
 use Rattle.t1_rules.specs.Laws.StepRules.{violates}
 use Rattle.t1_rules.specs.StepRules.{argument_rules, call_rules, path_rules, stem_rules, flex_rules, othersubr_rules, seac_rules, step_rules}
 use Rattle.t1_rules.specs.StepRules.Arguments.{has_too_few, has_too_many, overflows}
 use Rattle.t1_rules.specs.StepRules.Calls.{calls_missing, calls_too_deep}
 use Rattle.t1_rules.specs.StepRules.Flex.{counts_no_pairs, sets_point_alone}
 use Rattle.t1_rules.specs.StepRules.Othersubrs.{pops_nothing}
+use Rattle.t1_rules.specs.StepRules.Seac.{has_no_code, has_unnamed_code}
 use Rattle.t1_rules.specs.StepRules.Stems.{leaves_out_call, leaves_out_pop, sets_stem_late, sets_unequal}
 use Rattle.t1_rules.proofs.Lemmas.StepRules.{row_decides}
 
@@ -59,3 +60,11 @@ x06_row edition before step = row_decides 57 (step_rules edition) 31 _ refl refl
 pub o04_row : (edition : Edition) (before : List StepView) (step : StepView) → violates edition O04 before step ≡ pops_nothing step
 unfolding step_rules argument_rules call_rules path_rules stem_rules flex_rules othersubr_rules seac_rules
 o04_row edition before step = row_decides 61 (step_rules edition) 35 _ refl refl refl refl before step
+
+pub k01_row : (edition : Edition) (before : List StepView) (step : StepView) → violates edition K01 before step ≡ has_no_code step
+unfolding step_rules argument_rules call_rules path_rules stem_rules flex_rules othersubr_rules seac_rules
+k01_row edition before step = row_decides 62 (step_rules edition) 36 _ refl refl refl refl before step
+
+pub k02_row : (edition : Edition) (before : List StepView) (step : StepView) → violates edition K02 before step ≡ has_unnamed_code step
+unfolding step_rules argument_rules call_rules path_rules stem_rules flex_rules othersubr_rules seac_rules
+k02_row edition before step = row_decides 63 (step_rules edition) 37 _ refl refl refl refl before step

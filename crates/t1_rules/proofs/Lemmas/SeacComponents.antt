@@ -1,7 +1,8 @@
--- Where the rules on components are broken, by the glyphs that seac names.
+-- Where the rules on the codes and the components of seac are broken, by its arguments and the glyphs that it names.
 use Rattle.std.proofs.Common.{◌≡◌, ◌≢◌, ℕ, zero, suc, ℤ, ◌<◌, ◌==◌, ◌&&◌, ◌||◌, not, is_none, if◌then◌else◌, Bool, true, false, Option, Some, None, List, [], ◌∷◌, ◌++◌, length, slice_get, refl, sym, ap, ◌∙◌, arith}
 use Rattle.std.specs.List.{list_any}
 use Rattle.std.specs.Ordering.{int_eq}
+use Rattle.std.proofs.lemmas.Bool.{eqb-true}
 use Rattle.std.proofs.lemmas.Int.{ints}
 use Rattle.std.proofs.lemmas.List.FromFn.{get_or-map-range_with_len}
 use Rattle.t1_char.specs.declared.command.Command.TheVariants.{Seac}
@@ -10,17 +11,19 @@ use Rattle.t1_char.specs.declared.token.CharToken.TheVariants.{Command}
 use Rattle.t1_char.specs.Arguments.{argument}
 use Rattle.t1_char.specs.Steps.{StepView}
 use Rattle.t1_font.specs.Fonts.{FontValue}
-use Rattle.t1_rules.specs.declared.rule.Rule.TheVariants.{K03, K04, K05, K07}
+use Rattle.t1_rules.specs.declared.rule.Rule.TheVariants.{K01, K02, K03, K04, K05, K07}
 use Rattle.t1_rules.specs.declared.sidebearings.Component.{Component}
 use Rattle.t1_rules.specs.Components.{component_at, component_in, component_named, component_of_glyph, components_of, first_sidebearing, glyph_named, is_seac_step, missing}
-use Rattle.t1_rules.specs.Laws.Seac.{DiffersInSidebearing, IsCodePlace, LacksComponent, LacksSidebearing, MissingGlyphsAreTold, MissingSidebearingsAreTold, Names, NamesGlyph, NestedSeacsAreTold, Nests, OtherSidebearingsAreTold, SeacAloneHasComponents, accent, base, breaks_by_component, is_width, looked_at}
+use Rattle.t1_rules.specs.Laws.Seac.{DiffersInSidebearing, IsCode, IsCodePlace, LacksComponent, LacksSidebearing, MissingGlyphsAreTold, MissingSidebearingsAreTold, Names, NamesGlyph, NestedSeacsAreTold, Nests, OtherSidebearingsAreTold, SeacAloneHasCodes, SeacAloneHasComponents, UnnamedCodesAreTold, WrongCodesAreTold, HasNoCode, HasUnnamedCode, accent, base, breaks_by_component, is_width, looked_at}
+use Rattle.t1_rules.specs.Laws.StepRules.{violates}
 use Rattle.t1_rules.specs.StandardEncoding.{standard_name}
 use Rattle.t1_rules.specs.StepRules.{component_rules}
-use Rattle.t1_rules.specs.StepRules.Seac.{code_of, component_of_code, differs_in_sidebearing, is_another, is_lacking, is_named, is_without_sidebearing, lacks_component, lacks_sidebearing, nests}
+use Rattle.t1_rules.specs.StepRules.Seac.{code_of, component_of_code, differs_in_sidebearing, is_another, is_lacking, is_named, is_unnamed, is_without_sidebearing, lacks_component, lacks_sidebearing, nests}
 use Rattle.t1_rules.specs.StepRules.Tokens.{is_seac, sets_width}
 use Rattle.t1_rules.specs.Words.StepTests.{IsCommand}
 use Rattle.t1_rules.proofs.Lemmas.Book.{both}
 use Rattle.t1_rules.proofs.Lemmas.Components.{named_by_letters}
+use Rattle.t1_rules.proofs.Lemmas.Rows.{k01_row, k02_row}
 use Rattle.t1_rules.proofs.Lemmas.SeacLaws.{codes_are_whole_to_255}
 use Rattle.t1_rules.proofs.Lemmas.StepRules.{row_decides}
 
@@ -310,6 +313,56 @@ other_sidebearings_are_told limit font before step is =
       λ r. broken ∙ had (λ c. is_another c.sidebearing (argument step.stack 0)) limit font step 4 r.glyph r.names
           (ap (λ sidebearing. is_another sidebearing (argument step.stack 0)) (ap first_sidebearing r.steps ∙ width_first r.front r.rest r.width r.first r.sets) ∙ is_other (argument r.width.stack 0) (argument step.stack 0) r.differs),
     )
+
+-- ---- K01 and K02
+
+no_code_at : (step : StepView) (place : ℕ) → IsCodePlace place → is_none (code_at step place) ≡ true → HasNoCode step
+no_code_at step place is_place e = record {
+  place = place;
+  is_place = is_place;
+  none = λ code is. let no : false ≡ true = sym (ap is_none ((codes_are_whole_to_255 (argument step.stack place) code).1 is)) ∙ e in cc;
+}
+
+none_at : (step : StepView) (place : ℕ) → ((code : ℕ) → IsCode (argument step.stack place) code → ⊥) → is_none (code_at step place) ≡ true
+none_at step place none = go (code_at step place) refl
+  where
+    go : (found : Option ℕ) → code_at step place ≡ found → is_none (code_at step place) ≡ true
+    go None is = ap is_none is
+    go (Some code) is = absurd (none code ((codes_are_whole_to_255 (argument step.stack place) code).0 is))
+
+pub wrong_codes_are_told : WrongCodesAreTold
+wrong_codes_are_told edition before step is =
+    let at = λ (place : ℕ). is_none (code_at step place) in
+    let broken : violates edition K01 before step ≡ (at 3 || at 4) = k01_row edition before step ∙ ap (λ token. is_seac token && (at 3 || at 4)) is in (
+      λ e. one_of (at 3) (at 4) (HasNoCode step) (no_code_at step 3 base) (no_code_at step 4 accent) (sym broken ∙ e),
+      λ r. broken ∙ told at r.place r.is_place (none_at step r.place r.none),
+    )
+
+unnamed_at : (step : StepView) (place : ℕ) → IsCodePlace place → is_unnamed (code_at step place) ≡ true → HasUnnamedCode step
+unnamed_at step place is_place e = go (code_at step place) refl e
+  where
+    no_letters : (name : List ℕ) → (length name == 0) ≡ true → name ≡ []
+    no_letters [] none = refl
+    no_letters (c ∷ cs) none = absurd (omega (arith, eqb-true (length (c ∷ cs)) 0 none))
+
+    go : (found : Option ℕ) → code_at step place ≡ found → is_unnamed found ≡ true → HasUnnamedCode step
+    go None is e = let no : false ≡ true = e in cc
+    go (Some code) is e =
+        record { place = place; is_place = is_place; code = code; is_code = (codes_are_whole_to_255 (argument step.stack place) code).0 is; unnamed = no_letters (standard_name code) e }
+
+pub unnamed_codes_are_told : UnnamedCodesAreTold
+unnamed_codes_are_told edition before step is =
+    let at = λ (place : ℕ). is_unnamed (code_at step place) in
+    let broken : violates edition K02 before step ≡ (at 3 || at 4) = k02_row edition before step ∙ ap (λ token. is_seac token && (at 3 || at 4)) is in (
+      λ e. one_of (at 3) (at 4) (HasUnnamedCode step) (unnamed_at step 3 base) (unnamed_at step 4 accent) (sym broken ∙ e),
+      λ r. broken ∙ told at r.place r.is_place (ap is_unnamed ((codes_are_whole_to_255 (argument step.stack r.place) r.code).1 r.is_code) ∙ ap (λ (name : List ℕ). length name == 0) r.unnamed),
+    )
+
+pub seac_alone_has_codes : SeacAloneHasCodes
+seac_alone_has_codes edition before step other = record {
+  wrong = k01_row edition before step ∙ rw (no_seac step.token other) refl;
+  unnamed = k02_row edition before step ∙ rw (no_seac step.token other) refl;
+}
 
 -- ---- others
 

@@ -3,14 +3,16 @@ use Rattle.std.specs.Prelude.{◌≡◌, ◌≢◌, ℕ, ℤ, pos, ◌<◌, ◌�
 use Rattle.std.specs.List.{list_any}
 use Rattle.t1_font.specs.Fonts.{FontValue}
 use Rattle.t1_char.specs.declared.command.Command.TheVariants.{Seac}
+use Rattle.t1_char.specs.declared.edition.Edition.{Edition}
 use Rattle.t1_char.specs.Arguments.{argument}
 use Rattle.t1_char.specs.Numbers.{units}
 use Rattle.t1_char.specs.Steps.{StepView, steps_of}
 use Rattle.t1_rules.specs.declared.rule.Rule.{Rule}
-use Rattle.t1_rules.specs.declared.rule.Rule.TheVariants.{K03, K04, K05, K07}
+use Rattle.t1_rules.specs.declared.rule.Rule.TheVariants.{K01, K02, K03, K04, K05, K07}
 use Rattle.t1_rules.specs.Book.{number_of}
 use Rattle.t1_rules.specs.Components.{components_of, glyph_named}
 use Rattle.t1_rules.specs.Laws.Othersubrs.{how_many}
+use Rattle.t1_rules.specs.Laws.StepRules.{violates}
 use Rattle.t1_rules.specs.StandardEncoding.{standard_name}
 use Rattle.t1_rules.specs.StepRules.{breaks, component_rules}
 use Rattle.t1_rules.specs.StepRules.Seac.{code_of, is_named, is_unnamed}
@@ -32,12 +34,46 @@ abbrev pub CodesAreOneOfThree : Type 0
 CodesAreOneOfThree = (z : ℤ) →
     how_many (is_none (code_of z) ∷ is_unnamed (code_of z) ∷ is_named (code_of z) ∷ []) ≡ 1
 
--- ---- components
-
 -- The arguments of seac that are codes, counted from 0: the base's and the accent's.
 pub data IsCodePlace : ℕ → Type 0 where
   base : IsCodePlace 3
   accent : IsCodePlace 4
+
+-- One of them is no code.
+pub record HasNoCode (step : StepView) : Type 0 where
+  pub place : ℕ
+  pub is_place : IsCodePlace place
+  pub none : (code : ℕ) → IsCode (argument step.stack place) code → ⊥
+
+-- One of them is a code that has no name in StandardEncoding.
+pub record HasUnnamedCode (step : StepView) : Type 0 where
+  pub place : ℕ
+  pub is_place : IsCodePlace place
+  pub code : ℕ
+  pub is_code : IsCode (argument step.stack place) code
+  pub unnamed : standard_name code ≡ []
+
+-- seac breaks K01 and K02 exactly there, and no other command breaks one of them.
+abbrev pub WrongCodesAreTold : Type 0
+WrongCodesAreTold =
+    (edition : Edition) (before : List StepView) (step : StepView) → IsCommand step Seac →
+    (violates edition K01 before step ≡ true) ↔ HasNoCode step
+
+abbrev pub UnnamedCodesAreTold : Type 0
+UnnamedCodesAreTold =
+    (edition : Edition) (before : List StepView) (step : StepView) → IsCommand step Seac →
+    (violates edition K02 before step ≡ true) ↔ HasUnnamedCode step
+
+pub record HasNoWrongCodes (edition : Edition) (before : List StepView) (step : StepView) : Type 0 where
+  pub wrong : violates edition K01 before step ≡ false
+  pub unnamed : violates edition K02 before step ≡ false
+
+abbrev pub SeacAloneHasCodes : Type 0
+SeacAloneHasCodes =
+    (edition : Edition) (before : List StepView) (step : StepView) →
+    (IsCommand step Seac → ⊥) → HasNoWrongCodes edition before step
+
+-- ---- components
 
 -- The argument at a place is the code of this name in StandardEncoding.
 pub record Names (step : StepView) (place : ℕ) (name : List ℕ) : Type 0 where
