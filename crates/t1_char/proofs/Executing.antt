@@ -12,7 +12,8 @@ use Rattle.t1_char.specs.Steps.{StepView, at_start, is_callsubr, named_at, effec
 use Rattle.t1_char.specs.Workings.Actions.{named_of, state_of}
 use Rattle.t1_char.specs.Passing.{is_number}
 use Rattle.t1_char.specs.Workings.Cursors.{behind_token, tokens_left}
-use Rattle.t1_char.specs.Workings.Frames.{IsReady, frame, frames_with, left_behind, rest_of, callers_of, state_in, step_here, steps_from, steps_behind}
+use Rattle.t1_char.specs.Rests.{frame, rest_of}
+use Rattle.t1_char.specs.Workings.Frames.{IsReady, frames_with, left_behind, callers_of, state_in, step_here, steps_from, steps_behind}
 use Rattle.t1_char.specs.Workings.Plain.{GoesOver, IsPlainEffect}
 use Rattle.t1_char.proofs.Expanding.{IsInner, open_by, behind_open}
 use Rattle.t1_char.proofs.Rests.{rest_of_one, rest_goes, rest_calls, rest_returns, rest_finishes, caller_on_top}

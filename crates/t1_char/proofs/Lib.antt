@@ -1,5 +1,6 @@
 pub mod Additions
 pub mod Bounds
+pub mod Chains
 pub mod Deciphering
 pub mod EditionLemmas
 pub mod Enciphered
@@ -21,6 +22,7 @@ pub mod SeacBytes
 pub mod SincePlaces
 pub mod Skipping
 pub mod Spelling
+pub mod StepByStep
 pub mod StepsLackSeac
 pub mod TextsReadBack
 pub mod TurnsTaken

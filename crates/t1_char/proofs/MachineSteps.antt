@@ -10,7 +10,8 @@ use Rattle.t1_char.specs.Effects.{State, Action, goes, calls, returns, finishes,
 use Rattle.t1_char.specs.Steps.{StepView, Run, and_then, expansion, step_at, effect_at, led_to}
 use Rattle.t1_char.specs.StepValues.{step_view, step_value}
 use Rattle.t1_char.specs.Turns.{ended, limited, stepped, step_of_number, step_or_end, limit_or_end, turn_at, counted_after}
-use Rattle.t1_char.specs.Workings.Frames.{Frame, IsReady, frame, rest_of, callers_of, state_in, left_behind, step_here, steps_from}
+use Rattle.t1_char.specs.Rests.{Frame, frame, rest_of}
+use Rattle.t1_char.specs.Workings.Frames.{IsReady, callers_of, state_in, left_behind, step_here, steps_from}
 use Rattle.t1_char.specs.Passing.{IsPassed, is_kept_number}
 use Rattle.t1_char.specs.Workings.Machines.{GoesOnFrom, IsAt, answer_view}
 use Rattle.t1_char.specs.Workings.Plain.{GoesOver}

@@ -1,4 +1,5 @@
 pub mod Effects
+pub mod Frames
 pub mod Since
 pub mod Steps
 pub mod Written

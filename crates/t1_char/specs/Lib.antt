@@ -7,6 +7,7 @@ pub mod Laws
 pub mod Lending
 pub mod Numbers
 pub mod Passing
+pub mod Rests
 pub mod Seacs
 pub mod Since
 pub mod Stacks

@@ -1,8 +1,9 @@
 //! Laws of the definitions, as contracts of calls that do nothing.
 
 ghost use Rattle.t1_char.specs.Laws.Effects.{DivDivides, OthersubrsAreCalled, WholeNumbersAreRead};
+ghost use Rattle.t1_char.specs.Laws.Frames.{CallsGoIn, EndsStop, GlyphsBegin, ReturnsGoBack, TokensGoOn};
 ghost use Rattle.t1_char.specs.Laws.Since.{AfterLastGoesOn, AnyGoesOn, LastGoesOn, SinceGoesOn, SinceIsByPlaces};
-ghost use Rattle.t1_char.specs.Laws.Steps.{NothingFollows, PlainGlyphsGoOn, StepsAreBounded};
+ghost use Rattle.t1_char.specs.Laws.Steps.{NothingFollows, PlainGlyphsGoOn, StepsAreBounded, StepsGoOn};
 ghost use Rattle.t1_char.specs.Laws.Written.{EachNumberIsWritten, EncipheredIsRead, ReadIsWritten, WrittenIsRead};
 
 /// Numbers are written in three forms, and each number of 32 bits in one of them; what is written from
@@ -38,4 +39,20 @@ pub fn steps_are_looked_back_on()
     ensures after_last { AfterLastGoesOn }
     ensures last { LastGoesOn }
     ensures places { SinceIsByPlaces }
+{}
+
+/// The path, the stack and the count of results that wait at each step are what the effects of the steps before
+/// have led to, through calls of Subrs and back.
+pub fn steps_go_on()
+    ensures { StepsGoOn }
+{}
+
+/// A glyph goes step by step: each token is a step, and behind it comes, by its effect, the next token, a Subr and
+/// then the next token, the caller's next token, or nothing.
+pub fn runs_go_step_by_step()
+    ensures begin { GlyphsBegin }
+    ensures goes_on { TokensGoOn }
+    ensures goes_in { CallsGoIn }
+    ensures goes_back { ReturnsGoBack }
+    ensures stops { EndsStop }
 {}

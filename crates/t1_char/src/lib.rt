@@ -57,8 +57,8 @@ pub use command::{Command, command_name};
 pub use edition::Edition;
 pub use expansion::expand;
 pub use laws::{
-    stacks_are_taken_from_the_top, steps_are_looked_back_on, steps_follow_the_tokens,
-    written_charstrings_are_read,
+    runs_go_step_by_step, stacks_are_taken_from_the_top, steps_are_looked_back_on,
+    steps_follow_the_tokens, steps_go_on, written_charstrings_are_read,
 };
 pub use machine::{Machine, Turn};
 pub use numbers::{cut_quotient, natural};

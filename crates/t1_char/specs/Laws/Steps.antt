@@ -1,12 +1,13 @@
 -- Laws of the expansion. Type 1 Font Format 1.1, chapters 6 and 8.
-use Rattle.std.specs.Prelude.{◌≡◌, ℕ, ◌≤◌, ◌||◌, not, if◌then◌else◌, Bool, true, false, List, [], ◌∷◌, ◌++◌, length, map}
+use Rattle.std.specs.Prelude.{◌≡◌, ℕ, ◌-◌, ◌≤◌, ◌||◌, not, if◌then◌else◌, Bool, true, false, List, [], ◌∷◌, ◌++◌, length, map, take}
 use Rattle.std.specs.List.{All, AllPass}
 use Rattle.t1_font.specs.Fonts.{FontValue}
 use Rattle.t1_char.specs.declared.command.Command.TheVariants.{Endchar, Seac}
 use Rattle.t1_char.specs.declared.token.CharToken.{CharToken}
 use Rattle.t1_char.specs.declared.token.CharToken.TheVariants.{Command}
 use Rattle.t1_char.specs.Charstrings.{code_at, tokens_in}
-use Rattle.t1_char.specs.Steps.{StepView, is_callsubr, is_end, steps_of}
+use Rattle.t1_char.specs.Effects.{State, Action, goes, calls, returns, finishes}
+use Rattle.t1_char.specs.Steps.{StepView, at_start, effect_at, is_callsubr, is_end, steps_of}
 
 -- endchar and seac finish the glyph at any depth, and End outside Subrs.
 abbrev pub is_finishing : CharToken → Bool
@@ -50,3 +51,29 @@ pub record IsBounded (step : StepView) : Type 0 where
 
 abbrev pub StepsAreBounded : Type 0
 StepsAreBounded = (font : FontValue) (glyph : ℕ) → All IsBounded (steps_of font glyph)
+
+-- The path behind a step: a call adds its Subr, and a return takes the last one off.
+abbrev pub path_behind : List ℕ → Action → List ℕ
+path_behind path goes = path
+path_behind path (calls number code) = path ++ number ∷ []
+path_behind path returns = take (length path - 1) path
+path_behind path finishes = path
+
+-- The step has this path, this stack, and so many results that wait.
+pub record StandsIn (step : StepView) (path : List ℕ) (s : State) : Type 0 where
+  pub path_is : step.path ≡ path
+  pub stack_is : step.stack ≡ s.stack
+  pub waiting_is : step.waiting ≡ length s.waiting
+
+-- Each of the steps stands where the effect of the one before has led, and the first one here.
+abbrev pub GoOnFrom : FontValue → List ℕ → State → List StepView → Type 0
+GoOnFrom font path s [] = Unit {0}
+GoOnFrom font path s (step ∷ steps) =
+    StandsIn step path s
+    × GoOnFrom font (path_behind path (effect_at font path step.token s).action)
+    (effect_at font path step.token s).state steps
+
+-- A glyph starts with no Subr, no number and no result; each further step stands where the effects of those
+-- before it have led, through calls and back.
+abbrev pub StepsGoOn : Type 0
+StepsGoOn = (font : FontValue) (glyph : ℕ) → GoOnFrom font [] at_start (steps_of font glyph)

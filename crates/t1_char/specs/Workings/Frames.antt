@@ -1,28 +1,14 @@
--- What stopped frames stand for: the rest of the expansion, by recursion on the frames.
-use Rattle.std.specs.Prelude.{◌≡◌, ℕ, ◌+◌, ◌-◌, true, List, [], ◌∷◌, ◌++◌, length, take}
+-- The frames that the code's own stand for.
+use Rattle.std.specs.Prelude.{◌≡◌, ℕ, ◌+◌, true, List, [], ◌∷◌, ◌++◌, length, take}
 use Rattle.t1_font.specs.Fonts.{FontValue}
 use Rattle.t1_char.specs.declared.cursor.Cursor.{Cursor}
 use Rattle.t1_char.specs.declared.frames.Frames.{Frames}
 use Rattle.t1_char.specs.declared.token.CharToken.{CharToken}
-use Rattle.t1_char.specs.Effects.{State, most_calls}
-use Rattle.t1_char.specs.Steps.{StepView, Run, nothing, and_then, expansion, step_at, is_callsubr, named_at}
+use Rattle.t1_char.specs.Effects.{State}
+use Rattle.t1_char.specs.Rests.{Frame, frame, rest_of}
+use Rattle.t1_char.specs.Steps.{StepView, step_at, is_callsubr, named_at}
 use Rattle.t1_char.specs.Workings.Actions.{named_of, state_of}
 use Rattle.t1_char.specs.Workings.Cursors.{tokens_left, behind_token}
-
--- A charstring that is being executed: its path, and the tokens that it has left.
-pub record Frame : Type 0 where
-  pub path : List ℕ
-  pub left : List CharToken
-
-abbrev pub frame : List ℕ → List CharToken → Frame
-frame path left = record { path = path; left = left }
-
--- The run of frames, the innermost first: that of the tokens that are left, then, unless they finish the
--- glyph, that of the frames below, with the state that they left.
-unfoldable pub rest_of : FontValue → List Frame → State → Run
-rest_of font [] s = nothing s
-rest_of font (f ∷ frames) s =
-    and_then (expansion font (most_calls - length f.path) f.path f.left s) (λ left. rest_of font frames left)
 
 -- The frames of callers, the innermost first, where n frames lie below; the path of each is the front of
 -- the path as long as there are frames below it.
