@@ -1,16 +1,18 @@
 -- The faults of a report stand in the font.
-use Rattle.std.proofs.Common.{◌≡◌, ◌≤◌, ℕ, ◌*◌, ◌/◌, ◌∙◌, zero, suc, inl, inr, true, true≢false, List, [], ◌∷◌, map, length, slice_index_or, refl, sym, ap, subst, arith, ◌==◌, slice_get}
+use Rattle.std.proofs.Common.{◌≡◌, ◌≤◌, IfSome, MatchOption, Option, None, Some, ℕ, ◌*◌, ◌/◌, ◌∙◌, zero, suc, inl, inr, true, true≢false, List, [], ◌∷◌, map, length, slice_index_or, refl, sym, ap, subst, arith, ◌==◌, slice_get}
 use Rattle.std.proofs.lemmas.Bool.{cases_lt, eqb-true}
 use Rattle.std.proofs.lemmas.List.{length-map}
 use Rattle.std.specs.List.{All}
 use Rattle.t1_report.specs.Checked.{CheckedFont}
 use Rattle.t1_rules.specs.Book.{number_of}
 use Rattle.t1_report.specs.declared.faults.Fault.{Fault}
+use Rattle.t1_report.specs.declared.marks.Mark.{Mark}
 use Rattle.t1_report.specs.Faults.{FaultValue, fault_value, faults_of}
 use Rattle.t1_report.specs.Lines.{IsInFont}
 use Rattle.t1_report.specs.Reports.{IsReport, IsViolationOf, path_at, IsTold, is_told, is_unused, tells_unused}
 use Rattle.t1_report.proofs.Broken.{past_keys}
 use Rattle.t1_report.specs.Waivers.{Waiver}
+use Rattle.t1_report.specs.Walks.{HasNoneLater, IsNext}
 use Rattle.t1_rules.specs.declared.rule.Rule.{Rule}
 use Rattle.t1_rules.specs.declared.rule.Rule.TheVariants.{U01}
 use Rattle.t1_rules.proofs.Lemmas.Book.{both, one_rule}
@@ -51,6 +53,13 @@ in_font font waivers fault is = record {
   key = λ first. key_within font waivers fault.unit fault.step (number_of fault.rule) first is.violated;
   waiver = λ behind. waiver_told font waivers fault.step fault.rule (sym (told_of_waiver font waivers fault.unit fault.step (number_of fault.rule) behind) ∙ is.violated);
 }
+
+-- So does the fault that comes next after a mark.
+pub next_stands_in_font : (font : CheckedFont) (waivers : List Waiver) (mark : Mark) (next : Option Fault)
+    → MatchOption next (HasNoneLater font waivers mark) (λ fault. IsNext font waivers mark (fault_value fault))
+    → IfSome next (λ fault. IsInFont font.value waivers (fault_value fault))
+next_stands_in_font font waivers mark None none = tt
+next_stands_in_font font waivers mark (Some fault) is = in_font font waivers (fault_value fault) is.violation
 
 value_at : (xs : List Fault) (k : ℕ) (d : Fault) → slice_index_or (map fault_value xs) k (fault_value d) ≡ fault_value (slice_index_or xs k d)
 value_at [] k d = refl

@@ -1,17 +1,17 @@
 -- The faults after a mark are those of the report that weren't given.
-use Rattle.std.proofs.Common.{◌≡◌, ◌↔◌, ℕ, zero, suc, ◌+◌, ◌-◌, ◌^◌, ◌<◌, ◌≤◌, inl, inr, List, [], ◌∷◌, drop, length, slice_get, Some, refl, sym, ap, subst, ◌∙◌, arith}
+use Rattle.std.proofs.Common.{◌≡◌, ◌↔◌, ℕ, zero, suc, ◌+◌, ◌-◌, ◌^◌, ◌<◌, ◌≤◌, inl, inr, List, [], ◌∷◌, drop, length, slice_get, take, Some, refl, sym, ap, subst, ◌∙◌, arith}
 use Rattle.std.proofs.lemmas.List.{drop_all}
 use Rattle.std.proofs.lemmas.Option.{get_or_from_slice_get, slice_get_cases, slice_get_within}
 use Rattle.std.proofs.Math.Seq.{drop-cons}
 use Rattle.t1_report.specs.Checked.{CheckedFont}
 use Rattle.t1_report.specs.declared.marks.Mark.{Mark}
 use Rattle.t1_report.specs.Faults.{FaultValue}
-use Rattle.t1_report.specs.Laws.Walks.{AreTheReport, AreTheRest}
+use Rattle.t1_report.specs.Laws.Walks.{AreBehindTheCount, AreTheReport, AreTheRest, GivenAreTheFront, MarksGoOnCounting}
 use Rattle.t1_report.specs.Reports.{IsReport, IsReportOf, Place, path_at, IsTold}
 use Rattle.t1_report.specs.Walks.{AreLater, AreLaterOf, IsSoFar, first_mark, mark_of}
 use Rattle.t1_report.proofs.FewFaults.{few_faults}
 use Rattle.t1_report.proofs.HasReport.{has_report}
-use Rattle.t1_report.proofs.SoFar.{has_none_later, is_next, next_is, none_left, one_more, so_far_at, so_far_start}
+use Rattle.t1_report.proofs.SoFar.{has_none_later, is_next, next_in_font, next_is, none_left, one_more, one_more_in_font, so_far_at, so_far_start}
 use Rattle.t1_report.specs.Waivers.{Waiver}
 
 drop_next : (faults : List FaultValue) (k : ℕ) (fault : FaultValue) → slice_get faults k ≡ Some fault → drop k faults ≡ fault ∷ drop (k + 1) faults
@@ -57,7 +57,7 @@ module _ (Violated : Place → Type 0) (path_of : Place → List ℕ) where
 
 -- ---- in a font
 
-rest_in_font : (font : CheckedFont) (waivers : List Waiver) (faults : List FaultValue) (k : ℕ) (mark : Mark) (later : List FaultValue) → length font.value.glyphs ≤ 65535 → length waivers ≤ 1048576 → IsReport font waivers faults
+pub rest_in_font : (font : CheckedFont) (waivers : List Waiver) (faults : List FaultValue) (k : ℕ) (mark : Mark) (later : List FaultValue) → length font.value.glyphs ≤ 65535 → length waivers ≤ 1048576 → IsReport font waivers faults
     → IsSoFar faults k mark → AreLater font waivers mark later ↔ (later ≡ drop k faults)
 rest_in_font font waivers faults k mark later few few_waivers report = rest_is (IsTold font waivers) (path_at font) faults k mark later (few_faults font waivers faults few few_waivers report) report
 
@@ -73,3 +73,21 @@ the_report font waivers faults few few_waivers =
 
 pub the_rest : AreTheRest
 the_rest font waivers faults k fault rest few few_waivers report is = rest_in_font font waivers faults (k + 1) (mark_of fault) rest few few_waivers report (so_far_at faults k fault report.rising report.numbered is)
+
+-- ---- marks that count
+
+pub marks_go_on_counting : MarksGoOnCounting
+marks_go_on_counting font waivers faults k mark fault few few_waivers report so_far next =
+    ((next_in_font font waivers faults k mark fault few few_waivers report so_far next).1, one_more_in_font font waivers faults k mark fault few few_waivers report so_far next)
+
+pub are_behind_the_count : AreBehindTheCount
+are_behind_the_count font waivers faults k mark rest few few_waivers report so_far = rest_in_font font waivers faults k mark rest few few_waivers report so_far
+
+pub given_are_the_front : GivenAreTheFront
+given_are_the_front font waivers faults k mark [] last few few_waivers report so_far led =
+    (refl, subst (IsSoFar faults (k + 0)) led (subst (λ n. IsSoFar faults n mark) (omega arith) so_far))
+given_are_the_front font waivers faults k mark (fault ∷ given) last few few_waivers report so_far led =
+    let one = marks_go_on_counting font waivers faults k mark fault few few_waivers report so_far led.0 in
+    let more = given_are_the_front font waivers faults (k + 1) (mark_of fault) given last few few_waivers report one.1 led.1 in
+    (ap (λ (fs : List FaultValue). fault ∷ fs) more.0 ∙ ap (λ (fs : List FaultValue). take (suc (length given)) fs) (sym (drop_next faults k fault one.0)),
+    subst (λ n. IsSoFar faults n last) (omega arith) more.1)

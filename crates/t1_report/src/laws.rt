@@ -3,7 +3,7 @@
 ghost use Rattle.t1_report.specs.Laws.Editions.{UsualFontsHaveOneReport};
 ghost use Rattle.t1_report.specs.Laws.Reports.{HasNoOtherReport, HasReport};
 ghost use Rattle.t1_report.specs.Laws.WaivedFaults.{OrderLeavesFaults, OrderLeavesUses, RepeatedLinesSayNothing, UnusedWaiversChangeNothing, WaivedFaultsAreLeftOut};
-ghost use Rattle.t1_report.specs.Laws.Walks.{AreTheReport, AreTheRest};
+ghost use Rattle.t1_report.specs.Laws.Walks.{AllAreGivenAtLast, AreBehindTheCount, AreTheReport, AreTheRest, GivenAreTheFront, MarksGoOnCounting, NoneIsGivenAtFirst};
 ghost use Rattle.t1_report.specs.Laws.WithWaivers.{AskedToTheEnd, AskedToTheFirst, NoneIsAsked, ToldIsBroken};
 
 /// Each font has a report.
@@ -25,6 +25,17 @@ pub fn faults_after_the_first_mark_are_the_report()
 /// After the mark of a fault they are those behind it in the report, with the numbers they have there.
 pub fn faults_after_a_mark_are_the_rest()
     ensures { AreTheRest }
+{}
+
+/// Where a mark's number counts the faults of the report up to it, as that of four zeros does, the next fault is the
+/// one behind them, and its mark counts on; where there is none, all were given. So what was given since the mark of
+/// four zeros is the front of the report, as long as the mark's number says, and what is to come is the rest.
+pub fn marks_count_the_faults_given()
+    ensures start { NoneIsGivenAtFirst }
+    ensures next { MarksGoOnCounting }
+    ensures end { AllAreGivenAtLast }
+    ensures given { GivenAreTheFront }
+    ensures rest { AreBehindTheCount }
 {}
 
 /// A font has the same report in both editions where no glyph has more than 100,000 steps, and none of its

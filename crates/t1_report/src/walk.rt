@@ -6,9 +6,10 @@ mod found;
 pub(crate) mod glyph_run;
 mod search;
 
-ghost use Rattle.std.specs.Prelude.{◌≡◌, ◌≤◌, ◌*◌, ◌+◌, MatchOption, length};
+ghost use Rattle.std.specs.Prelude.{◌≡◌, ◌≤◌, ◌*◌, ◌+◌, IfSome, MatchOption, length};
 ghost use Rattle.t1_report.specs.Faults.{fault_value};
 ghost use Rattle.t1_report.specs.Checked.{checked, step_limit};
+ghost use Rattle.t1_report.specs.Lines.{IsInFont};
 ghost use Rattle.t1_report.specs.Walks.{HasNoneLater, IsNext, first_mark};
 ghost use Rattle.t1_report.specs.WalkViews.{WalkView, walked};
 ghost use Rattle.t1_rules.specs.Components.{AreOf};
@@ -96,11 +97,14 @@ impl<'a> Walk<'a> {
         }
     }
 
-    /// The least fault of the report behind the mark, with the number behind the mark's; then it is the mark.
+    /// The least fault of the report behind the mark, with the number behind the mark's; then it is the mark. It stands in
+    /// the font, as [`write_fault`](crate::write_fault) wants.
     pub fn next(&mut self) -> Option<Fault>
         ensures next { MatchOption result (HasNoneLater self.old.font self.old.waivers self.old.mark)
             (λ fault. IsNext self.old.font self.old.waivers self.old.mark (fault_value fault)) }
         ensures state { self.new ≡ walked self.old result }
+        ensures in_font { IfSome result
+            (λ fault. IsInFont self.old.font.value self.old.waivers (fault_value fault)) }
     {
         self.course.next()
     }

@@ -1,9 +1,10 @@
--- The faults after a mark are the report, or the rest of it.
-use Rattle.std.specs.Prelude.{◌≡◌, ◌↔◌, ℕ, ◌+◌, ◌≤◌, List, drop, length, slice_get, Some}
+-- The faults after a mark are the report, or the rest of it; and the numbers of marks count the faults.
+use Rattle.std.specs.Prelude.{◌≡◌, ◌↔◌, ℕ, ◌+◌, ◌≤◌, List, [], ◌∷◌, drop, length, slice_get, Some, take}
+use Rattle.t1_report.specs.declared.marks.Mark.{Mark}
 use Rattle.t1_report.specs.Checked.{CheckedFont}
 use Rattle.t1_report.specs.Faults.{FaultValue}
 use Rattle.t1_report.specs.Reports.{IsReport}
-use Rattle.t1_report.specs.Walks.{AreLater, first_mark, mark_of}
+use Rattle.t1_report.specs.Walks.{AreLater, HasNoneLater, IsNext, IsSoFar, first_mark, mark_of}
 use Rattle.t1_report.specs.Waivers.{Waiver}
 
 -- After the first mark they are the report.
@@ -16,3 +17,40 @@ abbrev pub AreTheRest : Type 0
 AreTheRest = (font : CheckedFont) (waivers : List Waiver) (faults : List FaultValue) (k : ℕ) (fault : FaultValue) (rest : List FaultValue) →
     length font.value.glyphs ≤ 65535 → length waivers ≤ 1048576 → IsReport font waivers faults → slice_get faults k ≡ Some fault →
     AreLater font waivers (mark_of fault) rest ↔ (rest ≡ drop (k + 1) faults)
+
+-- At the first mark no fault of the report was given so far.
+abbrev pub NoneIsGivenAtFirst : Type 0
+NoneIsGivenAtFirst = (faults : List FaultValue) → IsSoFar faults 0 first_mark
+
+-- Where k faults were given so far, and k is the mark's number, the next fault is the one behind them in the
+-- report; then k + 1 were given, and that is the number of its mark.
+abbrev pub MarksGoOnCounting : Type 0
+MarksGoOnCounting = (font : CheckedFont) (waivers : List Waiver) (faults : List FaultValue) (k : ℕ) (mark : Mark) (fault : FaultValue) →
+    length font.value.glyphs ≤ 65535 → length waivers ≤ 1048576 → IsReport font waivers faults → IsSoFar faults k mark →
+    IsNext font waivers mark fault → (slice_get faults k ≡ Some fault) × IsSoFar faults (k + 1) (mark_of fault)
+
+-- Where none is next, all were given.
+abbrev pub AllAreGivenAtLast : Type 0
+AllAreGivenAtLast = (font : CheckedFont) (waivers : List Waiver) (faults : List FaultValue) (k : ℕ) (mark : Mark) →
+    IsReport font waivers faults → IsSoFar faults k mark → HasNoneLater font waivers mark → k ≡ length faults
+
+-- These faults follow a mark, each the next one behind the one before, and lead to another mark.
+abbrev pub LeadTo : CheckedFont → List Waiver → Mark → List FaultValue → Mark → Type 0
+LeadTo font waivers mark [] last = mark ≡ last
+LeadTo font waivers mark (fault ∷ given) last =
+    IsNext font waivers mark fault × LeadTo font waivers (mark_of fault) given last
+
+-- What is given from such a mark on is the front of what the report has behind the k, and the mark that it leads to
+-- counts on: from the first mark on it is the front of the report.
+abbrev pub GivenAreTheFront : Type 0
+GivenAreTheFront = (font : CheckedFont) (waivers : List Waiver) (faults : List FaultValue) (k : ℕ) (mark : Mark)
+    (given : List FaultValue) (last : Mark) →
+    length font.value.glyphs ≤ 65535 → length waivers ≤ 1048576 → IsReport font waivers faults → IsSoFar faults k mark →
+    LeadTo font waivers mark given last →
+    (given ≡ take (length given) (drop k faults)) × IsSoFar faults (k + length given) last
+
+-- The faults after such a mark are the report without the first k.
+abbrev pub AreBehindTheCount : Type 0
+AreBehindTheCount = (font : CheckedFont) (waivers : List Waiver) (faults : List FaultValue) (k : ℕ) (mark : Mark) (rest : List FaultValue) →
+    length font.value.glyphs ≤ 65535 → length waivers ≤ 1048576 → IsReport font waivers faults → IsSoFar faults k mark →
+    AreLater font waivers mark rest ↔ (rest ≡ drop k faults)
