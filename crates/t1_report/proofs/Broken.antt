@@ -1,9 +1,10 @@
 -- What is broken at a unit and a step: in the font, at the steps of a glyph, and where nothing is.
-use Rattle.std.proofs.Common.{◌≡◌, ℕ, zero, suc, ◌+◌, ◌*◌, ◌/◌, ◌%◌, ◌<◌, ◌≤◌, ◌&&◌, ◌||◌, nat_lt, Bool, true, false, List, [], length, take, slice_get, Option, Some, None, inl, inr, refl, ap, ◌∙◌, arith, rules}
+use Rattle.std.proofs.Common.{◌≡◌, ℕ, zero, suc, ◌+◌, ◌*◌, ◌/◌, ◌%◌, ◌<◌, ◌≤◌, ◌&&◌, ◌||◌, ◌==◌, nat_lt, Bool, true, false, cond, List, [], ◌∷◌, ◌++◌, length, length-append, take, slice_get, Some, inl, inr, refl, ap, sym, ◌∙◌, arith, rules}
 use Rattle.std.proofs.Math.Bool.{and-false}
-use Rattle.std.proofs.lemmas.Bool.{cases_lt, ne_eqb}
+use Rattle.std.proofs.Math.Seq.{take-append_seam}
+use Rattle.std.proofs.lemmas.Bool.{cases_lt, eq-eqb, ne_eqb}
 use Rattle.std.proofs.lemmas.List.{length-take}
-use Rattle.std.proofs.lemmas.Option.{slice_get_past}
+use Rattle.std.proofs.lemmas.Option.{slice_get_past, slice_get_within}
 use Rattle.t1_char.specs.declared.edition.Edition.{Edition}
 use Rattle.t1_char.specs.Steps.{StepView, steps_of}
 use Rattle.t1_font.specs.Fonts.{FontValue}
@@ -12,7 +13,9 @@ use Rattle.t1_rules.specs.FontRules.{font_rules, violated}
 use Rattle.t1_rules.specs.Keys.{places_of}
 use Rattle.t1_rules.specs.declared.sidebearings.Component.{Component}
 use Rattle.t1_rules.specs.Components.{components_of}
-use Rattle.t1_rules.specs.StepRules.{StepRule, breaks, charstring_rules, component_rules, step_rules}
+use Rattle.t1_rules.specs.declared.rule.Rule.TheVariants.{L01}
+use Rattle.t1_rules.specs.Book.{number_of}
+use Rattle.t1_rules.specs.StepRules.{StepRule, breaks, breaks_at, breaks_next, charstring_rules, component_rules, step_rules}
 use Rattle.t1_rules.proofs.Lemmas.Keys.{past_places}
 use Rattle.t1_rules.proofs.Lemmas.Watches.{joined}
 use Rattle.t1_rules.proofs.Lemmas.FontRules.{past_last}
@@ -53,13 +56,13 @@ not_less : (a b : ℕ) → b ≤ a → nat_lt a b ≡ false
 not_less a b more = search rules
 
 by_place : (font : CheckedFont) (glyph i n : ℕ) → glyph < length font.value.glyphs
-    → is_broken font (suc glyph) (suc i) n ≡ step_breaks (step_limit font) (rules_of font) n (take i (steps_of font.value glyph)) (slice_get (steps_of font.value glyph) i)
+    → is_broken font (suc glyph) (suc i) n ≡ step_breaks (step_limit font) (rules_of font) n (steps_of font.value glyph) i
 unfolding is_broken
 by_place font glyph i n there = rw (less_is glyph (length font.value.glyphs) there) refl
 
 -- at a step of a glyph
 pub at_step : (font : CheckedFont) (unit step glyph i n : ℕ) → unit ≡ glyph + 1 → step ≡ i + 1 → glyph < length font.value.glyphs
-    → is_broken font unit step n ≡ step_breaks (step_limit font) (rules_of font) n (take i (steps_of font.value glyph)) (slice_get (steps_of font.value glyph) i)
+    → is_broken font unit step n ≡ step_breaks (step_limit font) (rules_of font) n (steps_of font.value glyph) i
 at_step font unit step glyph i n at place there =
     let unit_is : unit ≡ suc glyph = omega arith in
     let step_is : step ≡ suc i = omega arith in
@@ -96,21 +99,29 @@ at_no_step font (suc glyph) step n first none =
     let step_is : step ≡ 0 = omega arith in
     ap (λ (s : ℕ). is_broken font (suc glyph) s n) step_is ∙ no_step font glyph n
 
--- past the first step past the limit nothing is broken
-past_limit : (limit : ℕ) (table : List StepRule) (n : ℕ) (before : List StepView) (s : Option StepView) → limit < length before → step_breaks limit table n before s ≡ false
-past_limit limit table n before None past = refl
-past_limit limit table n before (Some s) past = rw (not_less (length before) limit (omega arith), ne_eqb (length before) limit (λ e. omega arith)) refl
+-- nothing is broken past the first step past the limit
+past_limit : (limit : ℕ) (table : List StepRule) (n : ℕ) (steps : List StepView) (i : ℕ) → limit < i → step_breaks limit table n steps i ≡ false
+past_limit limit table n steps i past = rw (not_less i limit (omega (arith, past)), ne_eqb i limit (λ e. omega (arith, past, e))) refl
+
+-- nor past the last step
+pub past_last_step : (limit : ℕ) (table : List StepRule) (n : ℕ) (steps : List StepView) (i : ℕ) → length steps ≤ i → step_breaks limit table n steps i ≡ false
+past_last_step limit table n steps i past = rw (slice_get_past steps i past, not_less i (length steps) past) (by_place (nat_lt i limit) (i == limit) (number_of L01 == n))
+  where
+    by_place : (before at is : Bool) → cond before false ((at && false) && is) ≡ false
+    by_place true at is = refl
+    by_place false true is = refl
+    by_place false false is = refl
 
 by_limit : (font : CheckedFont) (glyph i n : ℕ) → length (take (step_limit font + 1) (steps_of font.value glyph)) ≤ i
-    → (nat_lt glyph (length font.value.glyphs) && step_breaks (step_limit font) (rules_of font) n (take i (steps_of font.value glyph)) (slice_get (steps_of font.value glyph) i)) ≡ false
+    → (nat_lt glyph (length font.value.glyphs) && step_breaks (step_limit font) (rules_of font) n (steps_of font.value glyph) i) ≡ false
 by_limit font glyph i n past =
     let steps : List StepView = steps_of font.value glyph in
     let count = length-take (step_limit font + 1) steps in
-    let before = length-take i steps in
-    elim (cases_lt i (length steps)) [
-      | inr beyond ↦ ap (λ (s : Option StepView). nat_lt glyph (length font.value.glyphs) && step_breaks (step_limit font) (rules_of font) n (take i steps) s) (slice_get_past steps i beyond) ∙ and-false _
-      | inl within ↦ ap (λ (b : Bool). nat_lt glyph (length font.value.glyphs) && b) (past_limit (step_limit font) (rules_of font) n (take i steps) (slice_get steps i) (omega (arith, count, before))) ∙ and-false _
-    ]
+    ap (λ (b : Bool). nat_lt glyph (length font.value.glyphs) && b) (elim (cases_lt i (length steps)) [
+      | inr beyond ↦ past_last_step (step_limit font) (rules_of font) n steps i beyond
+      | inl within ↦ past_limit (step_limit font) (rules_of font) n steps i (omega (arith, count, past, within))
+    ])
+    ∙ and-false _
 
 behind : (font : CheckedFont) (glyph step n : ℕ) → length (take (step_limit font + 1) (steps_of font.value glyph)) < step → is_broken font (suc glyph) step n ≡ false
 unfolding is_broken
@@ -135,9 +146,31 @@ pub rules_by : (font : CheckedFont) (components : List Component) → components
 unfolding rules_of
 rules_by font components are = ap (charstring_rules font.edition) are
 
--- Up to the limit a step breaks one of the rules.
-pub within_limit : (limit : ℕ) (table : List StepRule) (n : ℕ) (before : List StepView) (step : StepView) → length before < limit → breaks table n before step ≡ step_breaks limit table n before (Some step)
-within_limit limit table n before step less = rw (less_is (length before) limit less) refl
+-- Up to the limit a step breaks what the rules say of it.
+pub within_limit : (limit : ℕ) (table : List StepRule) (n : ℕ) (steps : List StepView) (i : ℕ) → i < limit → step_breaks limit table n steps i ≡ breaks_at table n steps i
+within_limit limit table n steps i less = rw (less_is i limit less) refl
+
+-- At the limit it breaks the rule on that alone, where there is a step.
+pub at_limit : (limit : ℕ) (table : List StepRule) (n : ℕ) (steps : List StepView) (i : ℕ) → i ≡ limit → step_breaks limit table n steps i ≡ (nat_lt limit (length steps) && number_of L01 == n)
+at_limit limit table n steps i at = ap (step_breaks limit table n steps) at ∙ rw (not_less limit limit (omega arith), eq-eqb limit limit refl) refl
+
+-- What the last of some steps breaks is what it breaks among all of them: those behind it have no say.
+last_there : (before : List StepView) (step : StepView) → slice_get (before ++ step ∷ []) (length before) ≡ Some step
+last_there [] step = refl
+last_there (s ∷ before) step = last_there before step
+
+pub breaks_last : (table : List StepRule) (n : ℕ) (before : List StepView) (step : StepView) → breaks_at table n (before ++ step ∷ []) (length before) ≡ breaks table n before step
+breaks_last table n before step = rw (take-append_seam before (step ∷ []), last_there before step) refl
+
+pub so_far_decides : (limit : ℕ) (table : List StepRule) (n : ℕ) (all : List StepView) (i : ℕ) (step : StepView) → slice_get all i ≡ Some step
+    → step_breaks limit table n (take i all ++ step ∷ []) (length (take i all)) ≡ step_breaks limit table n all i
+so_far_decides limit table n all i step there =
+    let within : i < length all = slice_get_within all i step there in
+    let long : length (take i all) ≡ i = omega (arith, within, length-take i all) in
+    let more = length-append (take i all) (step ∷ []) in
+    let at : breaks_at table n (take i all ++ step ∷ []) (length (take i all)) ≡ breaks_at table n all i =
+    breaks_last table n (take i all) step ∙ sym (ap (breaks_next table n (take i all)) there) in
+    rw (at, less_is (length (take i all)) (length (take i all ++ step ∷ [])) (omega (arith, more)), long, less_is i (length all) within) refl
 
 -- The rules of a glyph's own steps and those on components, joined.
 pub both_kinds : (edition : Edition) (components : List Component) (n : ℕ) (before : List StepView) (step : StepView) (both left right : Bool) → both ≡ (left || right)

@@ -1,11 +1,10 @@
 -- Where a font has the same report in both editions.
-use Rattle.std.proofs.Common.{◌≡◌, ℕ, zero, suc, ◌+◌, ◌<◌, ◌≤◌, ◌==◌, ◌&&◌, ◌||◌, not, nat_lt, if◌then◌else◌, Bool, true, false, Option, Some, None, List, [], ◌∷◌, length, map, take, slice_get, refl, sym, subst, ap, ◌∙◌, arith}
+use Rattle.std.proofs.Common.{◌≡◌, ℕ, zero, suc, ◌+◌, ◌<◌, ◌≤◌, ◌==◌, ◌&&◌, ◌||◌, not, nat_lt, if◌then◌else◌, Bool, true, false, Option, Some, None, List, [], ◌∷◌, length, map, take, slice_get, refl, sym, subst, ap, ◌∙◌, inl, inr, arith}
 use Rattle.std.specs.List.{list_any, slice_index_or}
 use Rattle.std.proofs.Math.Bool.{and-false}
-use Rattle.std.proofs.lemmas.Bool.{ltb-true, lt-ltb}
-use Rattle.std.proofs.lemmas.List.{length-take-le}
+use Rattle.std.proofs.lemmas.Bool.{ltb-true}
 use Rattle.std.proofs.lemmas.List.Quantifiers.{position-Some}
-use Rattle.std.proofs.lemmas.Option.{slice_get_past, slice_get_within}
+use Rattle.std.proofs.lemmas.Option.{slice_get_cases}
 use Rattle.t1_char.specs.declared.edition.Edition.TheVariants.{One, Two}
 use Rattle.t1_char.specs.Editions.{limit_of}
 use Rattle.t1_char.specs.Steps.{StepView, steps_of}
@@ -16,7 +15,7 @@ use Rattle.t1_rules.specs.Book.{number_of}
 use Rattle.t1_rules.specs.Components.{glyph_named}
 use Rattle.t1_rules.specs.Laws.Editions.{HasShortComponents, rules_in, sets_one_edge}
 use Rattle.t1_rules.specs.StandardEncoding.{standard_name}
-use Rattle.t1_rules.specs.StepRules.{breaks}
+use Rattle.t1_rules.specs.StepRules.{breaks, breaks_next}
 use Rattle.t1_rules.proofs.Lemmas.Editions.{agree_on_usual_steps, none_taken}
 use Rattle.t1_report.specs.Checked.{CheckedFont, checked}
 use Rattle.t1_report.specs.Faults.{FaultValue}
@@ -24,6 +23,7 @@ use Rattle.t1_report.specs.Laws.Editions.{IsUsual, UsualFontsHaveOneReport}
 use Rattle.t1_report.specs.Lines.{glyph_name}
 use Rattle.t1_report.specs.Reports.{IsReport, is_broken, is_broken_below, is_told, is_unused, is_used, is_used_by, path_at, place_of, rules_of, step_breaks, tells_unused}
 use Rattle.t1_report.specs.Waivers.{Waiver, is_waived}
+use Rattle.t1_report.proofs.Broken.{past_last_step, within_limit}
 
 -- A glyph that has a name is there.
 named_is_there : (font : FontValue) (name : List ℕ) (glyph : ℕ) → glyph_named font name ≡ Some glyph → glyph < length font.glyphs
@@ -57,22 +57,25 @@ none_there f (s ∷ ss) (suc place) step none is = none_there f ss place step (r
     right true b e = let no : true ≡ false = e in cc
 
 -- Up to the limit a step breaks what the rules say.
-by_rules : (font : CheckedFont) (n : ℕ) (before : List StepView) (step : StepView) → length before < limit_of font.edition
-    → step_breaks (limit_of font.edition) (rules_of font) n before (Some step) ≡ breaks (rules_in font.edition font.value) n before step
+by_rules : (font : CheckedFont) (n : ℕ) (steps : List StepView) (i : ℕ) (step : StepView) → i < limit_of font.edition → slice_get steps i ≡ Some step
+    → step_breaks (limit_of font.edition) (rules_of font) n steps i ≡ breaks (rules_in font.edition font.value) n (take i steps) step
 unfolding rules_of
-by_rules font n before step within = rw (lt-ltb (length before) (limit_of font.edition) within) refl
+by_rules font n steps i step within is =
+    within_limit (limit_of font.edition) (rules_in font.edition font.value) n steps i within
+    ∙ ap (breaks_next (rules_in font.edition font.value) n (take i steps)) is
 
-step_same : (font : FontValue) → IsUsual font → (glyph : ℕ) → glyph < length font.glyphs → (i n : ℕ) (found : Option StepView) → slice_get (steps_of font glyph) i ≡ found
-    → step_breaks (limit_of Two) (rules_of (checked font Two)) n (take i (steps_of font glyph)) found ≡ step_breaks (limit_of One) (rules_of (checked font One)) n (take i (steps_of font glyph)) found
-step_same font usual glyph there i n None is = refl
-step_same font usual glyph there i n (Some step) is =
+step_same : (font : FontValue) → IsUsual font → (glyph : ℕ) → glyph < length font.glyphs → (i n : ℕ)
+    → step_breaks (limit_of Two) (rules_of (checked font Two)) n (steps_of font glyph) i ≡ step_breaks (limit_of One) (rules_of (checked font One)) n (steps_of font glyph) i
+step_same font usual glyph there i n =
     let steps : List StepView = steps_of font glyph in
-    let less : i < length steps = slice_get_within steps i step is in
-    let few : length steps ≤ 100000 = usual.short glyph there in
-    let count : length (take i steps) ≡ i = length-take-le i steps (omega (arith, less)) in
-    by_rules (checked font Two) n (take i steps) step (omega (arith, count, less, few))
-    ∙ agree_on_usual_steps font (short_components font usual) n (take i steps) step (none_taken sets_one_edge steps i (usual.wide glyph there)) (none_there sets_one_edge steps i step (usual.wide glyph there) is)
-    ∙ sym (by_rules (checked font One) n (take i steps) step (omega (arith, count, less, few)))
+    elim (slice_get_cases steps i).1 [
+      | inr (past, none) ↦ past_last_step (limit_of Two) (rules_of (checked font Two)) n steps i past ∙ sym (past_last_step (limit_of One) (rules_of (checked font One)) n steps i past)
+      | inl (step, less, is, at) ↦
+          let few : length steps ≤ 100000 = usual.short glyph there in
+          by_rules (checked font Two) n steps i step (omega (arith, less, few)) is
+          ∙ agree_on_usual_steps font (short_components font usual) n (take i steps) step (none_taken sets_one_edge steps i (usual.wide glyph there)) (none_there sets_one_edge steps i step (usual.wide glyph there) is)
+          ∙ sym (by_rules (checked font One) n steps i step (omega (arith, less, few)) is)
+    ]
 
 broken_same : (font : FontValue) → IsUsual font → (unit step n : ℕ) → is_broken (checked font Two) unit step n ≡ is_broken (checked font One) unit step n
 unfolding is_broken
@@ -84,9 +87,9 @@ broken_same font usual (suc glyph) (suc i) n = go (nat_lt glyph (length font.gly
     steps = steps_of font glyph
 
     go : (b : Bool) → nat_lt glyph (length font.glyphs) ≡ b
-        → (b && step_breaks (limit_of Two) (rules_of (checked font Two)) n (take i steps) (slice_get steps i))
-        ≡ (b && step_breaks (limit_of One) (rules_of (checked font One)) n (take i steps) (slice_get steps i))
-    go true there = step_same font usual glyph (ltb-true glyph (length font.glyphs) there) i n (slice_get steps i) refl
+        → (b && step_breaks (limit_of Two) (rules_of (checked font Two)) n steps i)
+        ≡ (b && step_breaks (limit_of One) (rules_of (checked font One)) n steps i)
+    go true there = step_same font usual glyph (ltb-true glyph (length font.glyphs) there) i n
     go false none = refl
 
 -- ---- a waiver
@@ -95,7 +98,7 @@ broken_same font usual (suc glyph) (suc i) n = go (nat_lt glyph (length font.gly
 past_steps : (font : CheckedFont) (glyph i n : ℕ) → length (steps_of font.value glyph) ≤ i → is_broken font (suc glyph) (suc i) n ≡ false
 unfolding is_broken
 past_steps font glyph i n past =
-    ap (λ found. nat_lt glyph (length font.value.glyphs) && step_breaks (limit_of font.edition) (rules_of font) n (take i (steps_of font.value glyph)) found) (slice_get_past (steps_of font.value glyph) i past)
+    ap (λ (b : Bool). nat_lt glyph (length font.value.glyphs) && b) (past_last_step (limit_of font.edition) (rules_of font) n (steps_of font.value glyph) i past)
     ∙ and-false (nat_lt glyph (length font.value.glyphs))
 
 past_last : (font : CheckedFont) (glyph s n : ℕ) → length (steps_of font.value glyph) < s → is_broken font (suc glyph) s n ≡ false

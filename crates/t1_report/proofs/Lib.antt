@@ -17,6 +17,7 @@ pub mod Pushed
 pub mod RunSteps
 pub mod SecondRuns
 pub mod SoFar
+pub mod StepLimit
 pub mod Told
 pub mod ToldInUnit
 pub mod UnitFronts

@@ -1,5 +1,5 @@
 -- Numbers that a machine goes over, while the watchers are calm.
-use Rattle.std.proofs.Common.{◌≡◌, ℕ, ℤ, zero, suc, ◌+◌, ◌-◌, ◌<◌, ◌≤◌, inl, inr, false, Some, List, length, length-take, take, refl, sym, ap, subst, ◌∙◌, arith}
+use Rattle.std.proofs.Common.{◌≡◌, ℕ, ℤ, zero, suc, ◌+◌, ◌-◌, ◌<◌, ◌≤◌, inl, inr, false, List, length, length-take, take, refl, sym, ap, subst, ◌∙◌, arith}
 use Rattle.std.proofs.lemmas.Bool.{cases_lt}
 use Rattle.std.proofs.lemmas.Option.{slice_get_within}
 use Rattle.t1_char.specs.declared.edition.Edition.{Edition}
@@ -12,12 +12,12 @@ use Rattle.t1_rules.specs.declared.sidebearings.Component.{Component}
 use Rattle.t1_rules.specs.declared.watches.Watches.{Watches}
 use Rattle.t1_rules.specs.Book.{number_of}
 use Rattle.t1_rules.specs.Components.{components_of}
-use Rattle.t1_rules.specs.StepRules.{StepRule, breaks, charstring_rules, component_rules}
+use Rattle.t1_rules.specs.StepRules.{StepRule, breaks, breaks_next, component_rules}
 use Rattle.t1_rules.specs.Watches.{IsCalm, WatchesStandFor}
 use Rattle.t1_rules.proofs.Lemmas.PassedNumbers.{kept}
 use Rattle.t1_rules.proofs.Lemmas.Watches.{no_fault_at_number, stays_at_number}
 use Rattle.t1_report.specs.Checked.{CheckedFont, executed, step_limit}
-use Rattle.t1_report.specs.Reports.{is_broken, rules_of, step_breaks}
+use Rattle.t1_report.specs.Reports.{is_broken, rules_of}
 use Rattle.t1_report.specs.Searches.{IsQuiet, IsRun}
 use Rattle.t1_report.specs.Walks.{turns_of_glyph}
 use Rattle.t1_report.proofs.Broken.{at_step, both_kinds, rules_by, within_limit}
@@ -59,11 +59,10 @@ none_at w font unit glyph k n at there calm passed st =
     let all : List StepView = steps_of font.value glyph in
     let is = kept (step_limit font) all k passed in
     let components = components_of (step_limit font) font.value in
-    let short : length (take k all) < step_limit font = omega (arith, passed.near, length-take k all) in
     at_step font unit (k + 1) glyph k n at refl there
-    ∙ ap (λ s. step_breaks (step_limit font) (rules_of font) n (take k all) s) passed.there
-    ∙ ap (λ (rules : List StepRule). step_breaks (step_limit font) rules n (take k all) (Some passed.step)) (sym (rules_by font components refl))
-    ∙ sym (within_limit (step_limit font) (charstring_rules font.edition components) n (take k all) passed.step short)
+    ∙ within_limit (step_limit font) (rules_of font) n all k passed.near
+    ∙ ap (breaks_next (rules_of font) n (take k all)) passed.there
+    ∙ ap (λ (rules : List StepRule). breaks rules n (take k all) passed.step) (sym (rules_by font components refl))
     ∙ sym (both_kinds font.edition components n (take k all) passed.step false false false refl
     (sym (no_fault_at_number font.edition n (take k all) passed.step is.number is.token is.room (sym st.1.0.replaced ∙ calm.replaced) (sym st.1.0.popped ∙ calm.hints_popped)))
     (sym (no_component_fault components n (take k all) passed.step is.number is.token)))

@@ -1,5 +1,5 @@
 -- A glyph whose steps a machine tells: what is broken at each, and that nothing is behind the last.
-use Rattle.std.proofs.Common.{◌≡◌, ℕ, ◌+◌, ◌<◌, ◌≤◌, inl, inr, if◌then◌else◌, nat_lt, Bool, true, false, Option, Some, List, [], ◌∷◌, ◌++◌, slice_get, length, length-take, take, refl, sym, ap, subst, ◌∙◌, le-ltb, arith}
+use Rattle.std.proofs.Common.{◌≡◌, ℕ, ◌+◌, ◌<◌, ◌≤◌, inl, inr, if◌then◌else◌, nat_lt, Bool, true, false, Some, List, [], ◌∷◌, ◌++◌, slice_get, length, length-take, take, refl, sym, ap, subst, ◌∙◌, le-ltb, arith}
 use Rattle.std.proofs.lemmas.Bool.{cases_lt, ltb-true, ltb-false}
 use Rattle.std.proofs.lemmas.List.{take_all}
 use Rattle.t1_char.specs.Editions.{limit_of}
@@ -22,7 +22,7 @@ use Rattle.t1_report.specs.Reports.{is_broken, path_in, path_of_step, rules_of, 
 use Rattle.t1_report.specs.Searches.{IsFirst, IsQuiet, IsRun}
 use Rattle.t1_report.specs.Workings.{HaveSeen}
 use Rattle.t1_report.specs.Walks.{turns_of_glyph}
-use Rattle.t1_report.proofs.Broken.{at_step, past_steps, path_at_step, rules_by}
+use Rattle.t1_report.proofs.Broken.{at_step, past_steps, path_at_step, rules_by, so_far_decides}
 use Rattle.t1_report.proofs.GlyphSteps.{IsListed, take_next}
 
 -- The step that a machine told is that of the list, up to the limit and just past it.
@@ -53,15 +53,15 @@ turns_limited font glyph n step near is = turns_past (step_limit font) (steps_of
 
 -- What watchers and components answer at a listed step is what is broken there.
 pub step_agrees : (font : CheckedFont) (unit glyph place : ℕ) (step : Step) (components : ComponentsView) (mask : Mask) → unit ≡ glyph + 1 → glyph < length font.value.glyphs → IsListed (step_limit font) (steps_of font.value glyph) place step → AreOf font.value components → components.edition ≡ font.edition
-    → ((n : ℕ) → has mask n ≡ step_breaks (limit_of components.edition) (charstring_rules components.edition components.components) n (take place (steps_of font.value glyph)) (Some (step_view step)))
+    → ((n : ℕ) → has mask n ≡ step_breaks (limit_of components.edition) (charstring_rules components.edition components.components) n (take place (steps_of font.value glyph) ++ step_view step ∷ []) (length (take place (steps_of font.value glyph))))
     → (n : ℕ) → has mask n ≡ is_broken font unit step.number n
 step_agrees font unit glyph place step components mask at there is are same answers n =
     let all : List StepView = steps_of font.value glyph in
     let those : components.components ≡ components_of (step_limit font) font.value = are ∙ ap (λ e. components_of (limit_of e) font.value) same in
     answers n
-    ∙ ap (λ e. step_breaks (limit_of e) (charstring_rules e components.components) n (take place all) (Some (step_view step))) same
-    ∙ ap (λ (rules : List StepRule). step_breaks (step_limit font) rules n (take place all) (Some (step_view step))) (rules_by font components.components those)
-    ∙ ap (λ (s : Option StepView). step_breaks (step_limit font) (rules_of font) n (take place all) s) (sym is.there)
+    ∙ ap (λ e. step_breaks (limit_of e) (charstring_rules e components.components) n (take place all ++ step_view step ∷ []) (length (take place all))) same
+    ∙ ap (λ (rules : List StepRule). step_breaks (step_limit font) rules n (take place all ++ step_view step ∷ []) (length (take place all))) (rules_by font components.components those)
+    ∙ so_far_decides (step_limit font) (rules_of font) n all place (step_view step) is.there
     ∙ sym (at_step font unit step.number glyph place n at is.number there)
 
 -- One quiet step more.

@@ -1,5 +1,6 @@
 -- The statements of laws.
 pub mod Editions
+pub mod Limits
 pub mod Reports
 pub mod WaivedFaults
 pub mod Walks

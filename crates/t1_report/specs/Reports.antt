@@ -1,5 +1,5 @@
 -- The report of a font: its violations by place, each once, numbered from 1.
-use Rattle.std.specs.Prelude.{◌≡◌, ℕ, zero, suc, ◌+◌, ◌/◌, ◌%◌, ◌<◌, ◌⊎◌, ◌==◌, ◌&&◌, nat_lt, if◌then◌else◌, Bool, true, false, Option, Some, None, List, [], length, slice_get, take, ◌||◌, not}
+use Rattle.std.specs.Prelude.{◌≡◌, ℕ, zero, suc, ◌+◌, ◌/◌, ◌%◌, ◌<◌, ◌⊎◌, ◌==◌, ◌&&◌, nat_lt, if◌then◌else◌, Bool, true, false, Option, Some, None, List, [], length, slice_get, ◌||◌, not}
 use Rattle.std.specs.List.{All, AllPairs, Any, slice_index_or}
 use Rattle.t1_char.specs.Steps.{StepView, steps_of}
 use Rattle.t1_font.specs.Fonts.{FontValue}
@@ -7,7 +7,7 @@ use Rattle.t1_rules.specs.declared.rule.Rule.{Rule}
 use Rattle.t1_rules.specs.FontRules.{font_rules, violated}
 use Rattle.t1_rules.specs.declared.rule.Rule.TheVariants.{L01, U01}
 use Rattle.t1_rules.specs.Components.{components_of, glyph_named}
-use Rattle.t1_rules.specs.StepRules.{StepRule, breaks, charstring_rules}
+use Rattle.t1_rules.specs.StepRules.{StepRule, breaks_at, charstring_rules}
 use Rattle.t1_rules.specs.Book.{number_of}
 use Rattle.t1_report.specs.Checked.{CheckedFont, step_limit}
 use Rattle.t1_report.specs.Faults.{FaultValue}
@@ -29,13 +29,12 @@ Comes unit step rule unit' step' rule' =
 abbrev pub IsBefore : Place → Place → Type 0
 IsBefore p q = Comes p.unit p.step (number_of p.rule) q.unit q.step (number_of q.rule)
 
--- What a step breaks, given the rules and the steps before it: up to the limit one of the rules, and the
--- first step past the limit the rule on the limit alone.
-abbrev pub step_breaks : ℕ → List StepRule → ℕ → List StepView → Option StepView → Bool
-step_breaks limit rules n before None = false
-step_breaks limit rules n before (Some step) =
-    if nat_lt (length before) limit then breaks rules n before step
-    else length before == limit && number_of L01 == n
+-- What the step at a place of a glyph breaks, where places count from 0: up to the limit what the rules say of it;
+-- at the limit, which is the first step past it, the rule on the limit alone.
+abbrev pub step_breaks : ℕ → List StepRule → ℕ → List StepView → ℕ → Bool
+step_breaks limit rules n steps place =
+    if nat_lt place limit then breaks_at rules n steps place
+    else (place == limit && nat_lt place (length steps)) && number_of L01 == n
 
 -- The charstring rules of a font, whose components of accented characters are looked at up to the limit.
 unfoldable pub rules_of : CheckedFont → List StepRule
@@ -48,8 +47,7 @@ is_broken font zero step n = violated font_rules n font.value (step / 65536) (st
 is_broken font (suc glyph) zero n = false
 is_broken font (suc glyph) (suc i) n =
     nat_lt glyph (length font.value.glyphs)
-    && step_breaks (step_limit font) (rules_of font) n (take i (steps_of font.value glyph))
-    (slice_get (steps_of font.value glyph) i)
+    && step_breaks (step_limit font) (rules_of font) n (steps_of font.value glyph) i
 
 -- The rule of a number is broken in a unit at a step below this one.
 unfoldable pub is_broken_below : CheckedFont → ℕ → ℕ → ℕ → Bool

@@ -1,6 +1,8 @@
 //! Laws above the definitions: each is the contract of a function without a body.
 
 ghost use Rattle.t1_report.specs.Laws.Editions.{UsualFontsHaveOneReport};
+ghost use Rattle.t1_char.specs.declared.edition.Edition.TheVariants.{One, Two};
+ghost use Rattle.t1_report.specs.Laws.Limits.{AreCheckedTo};
 ghost use Rattle.t1_report.specs.Laws.Reports.{HasNoOtherReport, HasReport};
 ghost use Rattle.t1_report.specs.Laws.WaivedFaults.{OrderLeavesFaults, OrderLeavesUses, RepeatedLinesSayNothing, UnusedWaiversChangeNothing, WaivedFaultsAreLeftOut};
 ghost use Rattle.t1_report.specs.Laws.Walks.{AllAreGivenAtLast, AreBehindTheCount, AreTheReport, AreTheRest, GivenAreTheFront, MarksGoOnCounting, NoneIsGivenAtFirst};
@@ -36,6 +38,13 @@ pub fn marks_count_the_faults_given()
     ensures end { AllAreGivenAtLast }
     ensures given { GivenAreTheFront }
     ensures rest { AreBehindTheCount }
+{}
+
+/// The first edition asks the table of rules of each of a glyph's first 100,000 steps, the second of the first
+/// 1,000,000; at the step behind these L01 alone is broken, exactly where there is one; further on nothing is.
+pub fn the_limit_is_one_step()
+    ensures first { AreCheckedTo 100000 One }
+    ensures second { AreCheckedTo 1000000 Two }
 {}
 
 /// A font has the same report in both editions where no glyph has more than 100,000 steps, and none of its

@@ -1,6 +1,6 @@
 //! The report of a font, made place by place.
 
-ghost use Rattle.std.specs.Prelude.{◌≡◌, ◌<◌, ◌≤◌, ◌+◌, ◌*◌, ℕ, List, [], ◌∷◌, ◌++◌, Some, IfOk, OnOk, length};
+ghost use Rattle.std.specs.Prelude.{◌≡◌, ◌<◌, ◌≤◌, ◌+◌, ◌*◌, ℕ, List, [], ◌∷◌, ◌++◌, IfOk, OnOk, length};
 ghost use Rattle.std.specs.List.{All};
 ghost use Rattle.t1_char.specs.declared.edition.Edition.{Edition as Editions};
 ghost use Rattle.t1_char.specs.Editions.{limit_of};
@@ -161,7 +161,8 @@ pub(crate) fn broken_at(
     ensures broken { (before : List StepView) → IsNext sidebearings.now.edition watches.old before step.now →
         (n : ℕ) → has result n
         ≡ step_breaks (limit_of sidebearings.now.edition)
-        (charstring_rules sidebearings.now.edition sidebearings.now.components) n before (Some (step_view step.now)) }
+        (charstring_rules sidebearings.now.edition sidebearings.now.components) n
+        (before ++ step_view step.now ∷ []) (length before) }
     ensures seen { (before : List StepView) → IsNext sidebearings.now.edition watches.old before step.now →
         HaveSeen sidebearings.now.edition watches.new (before ++ step_view step.now ∷ []) }
 {

@@ -1,4 +1,4 @@
-use Rattle.std.proofs.Common.{ℕ, ◌≡◌, ◌+◌, ◌∙◌, List, [], Option, Some, length, map, take, ap, refl, subst, sym, arith, ◌&&◌, not}
+use Rattle.std.proofs.Common.{ℕ, ◌≡◌, ◌+◌, ◌∙◌, List, [], ◌∷◌, ◌++◌, length, map, take, ap, refl, subst, sym, arith, ◌&&◌, not}
 use Rattle.t1_char.specs.declared.step.Step.{Step}
 use Rattle.t1_char.specs.Steps.{StepView, steps_of, first_steps}
 use Rattle.t1_char.specs.StepValues.{step_view, step_value}
@@ -10,7 +10,7 @@ use Rattle.t1_report.specs.Checked.{checked, step_limit}
 use Rattle.t1_report.specs.Faults.{faults_of}
 use Rattle.t1_report.specs.Reports.{IsFront, is_broken, path_at, path_of_step, rules_of, step_breaks, is_told}
 use Rattle.t1_report.specs.Workings.{HaveSeen}
-use Rattle.t1_report.proofs.Broken.{at_step, path_at_step, rules_by}
+use Rattle.t1_report.proofs.Broken.{at_step, path_at_step, rules_by, so_far_decides}
 use Rattle.t1_report.proofs.GlyphSteps.{is_next, listed_at, none_behind, take_next}
 use Rattle.t1_report.proofs.UnitFronts.{quiet_on, unit_ends}
 use Rattle.t1_report.proofs.reporting.add_glyph.Goals as goal
@@ -56,8 +56,8 @@ loop-step-preserved c =
           (c.in_ok-add_faults.ensures font c.args.waivers.now
           (record {
             rules = λ n. c.left.ensures n ∙ ap (λ b. b && not (is_waived c.args.waivers.now c.glyph_name-name.result.now n)) (c.broken_at-broken.ensures.broken (take place all) next n
-                ∙ ap (λ (rules : List StepRule). step_breaks (step_limit font) rules n (take place all) (Some (step_view step))) (rules_by font c.args.sidebearings.now.components c.requires.sidebearings)
-                ∙ ap (λ (s : Option StepView). step_breaks (step_limit font) (rules_of font) n (take place all) s) (sym is.there)
+                ∙ ap (λ (rules : List StepRule). step_breaks (step_limit font) rules n (take place all ++ step_view step ∷ []) (length (take place all))) (rules_by font c.args.sidebearings.now.components c.requires.sidebearings)
+                ∙ so_far_decides (step_limit font) (rules_of font) n all place (step_view step) is.there
                 ∙ sym (at_step font (glyph + 1) step.number glyph place n refl is.number c.requires.glyph))
                 ∙ ap (λ name. is_broken font (glyph + 1) step.number n && not (is_waived c.args.waivers.now name n)) c.glyph_name-name.ensures
                 ∙ sym (told_in_glyph font c.args.waivers.now (glyph + 1) glyph step.number n refl c.requires.glyph);

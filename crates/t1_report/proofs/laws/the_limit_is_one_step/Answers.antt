@@ -1,0 +1,9 @@
+use Rattle.t1_char.specs.declared.edition.Edition.TheVariants.{One, Two}
+use Rattle.t1_report.proofs.StepLimit.{are_checked}
+use Rattle.t1_report.proofs.laws.the_limit_is_one_step.Goals as goal
+
+pub returns-clause-first : goal.returns-clause-first
+returns-clause-first c = are_checked One
+
+pub returns-clause-second : goal.returns-clause-second
+returns-clause-second c = are_checked Two
