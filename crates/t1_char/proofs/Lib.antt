@@ -1,6 +1,7 @@
 pub mod Additions
 pub mod Bounds
 pub mod Chains
+pub mod Answering
 pub mod Deciphering
 pub mod EditionLemmas
 pub mod Enciphered
@@ -16,6 +17,7 @@ pub mod MachineSteps
 pub mod Numbering
 pub mod Othersubrs
 pub mod PlainGlyphs
+pub mod Quotients
 pub mod ReadBack
 pub mod Rests
 pub mod SeacBytes
@@ -24,5 +26,6 @@ pub mod Skipping
 pub mod Spelling
 pub mod StepByStep
 pub mod StepsLackSeac
+pub mod Telling
 pub mod TextsReadBack
 pub mod TurnsTaken

@@ -81,24 +81,24 @@ is_within (suc n) [] rest step is = absurd (empty_is step rest is)
 is_within (suc n) (_ ∷ steps) rest step is = omega (arith, is_within n steps rest step is)
 
 -- Answers and counts.
-turn_below : (limit : ℕ) (steps : List StepView) (n : ℕ) → n < limit → turn_at limit steps n ≡ step_or_end n (slice_get steps n)
+pub turn_below : (limit : ℕ) (steps : List StepView) (n : ℕ) → n < limit → turn_at limit steps n ≡ step_or_end n (slice_get steps n)
 turn_below limit steps n below = ap (λ b. cond b (step_or_end n (slice_get steps n)) (limit_or_end limit (slice_get steps limit))) (lt-ltb n limit below)
 
-turn_above : (limit : ℕ) (steps : List StepView) (n : ℕ) → limit ≤ n → turn_at limit steps n ≡ limit_or_end limit (slice_get steps limit)
+pub turn_above : (limit : ℕ) (steps : List StepView) (n : ℕ) → limit ≤ n → turn_at limit steps n ≡ limit_or_end limit (slice_get steps limit)
 turn_above limit steps n above = ap (λ b. cond b (step_or_end n (slice_get steps n)) (limit_or_end limit (slice_get steps limit))) (le-ltb n limit above)
 
 -- Past all steps the end is answered.
-turn_past : (limit : ℕ) (steps : List StepView) (n : ℕ) → length steps ≤ limit → length steps ≤ n → turn_at limit steps n ≡ ended
+pub turn_past : (limit : ℕ) (steps : List StepView) (n : ℕ) → length steps ≤ limit → length steps ≤ n → turn_at limit steps n ≡ ended
 turn_past limit steps n few past = by_place (nat_lt n limit)
   where
     by_place : (b : Bool) → cond b (step_or_end n (slice_get steps n)) (limit_or_end limit (slice_get steps limit)) ≡ ended
     by_place true = ap (step_or_end n) (get_past steps n past)
     by_place false = ap (limit_or_end limit) (get_past steps limit few)
 
-count_on : (limit : ℕ) (steps : List StepView) (n : ℕ) → n ≤ length (take limit steps) → n + 1 ≡ counted_after limit steps n
+pub count_on : (limit : ℕ) (steps : List StepView) (n : ℕ) → n ≤ length (take limit steps) → n + 1 ≡ counted_after limit steps n
 count_on limit steps n near = sym (ap (λ b. cond b n (n + 1)) (le-ltb (length (take limit steps)) n near))
 
-count_stays : (limit : ℕ) (steps : List StepView) (n : ℕ) → length (take limit steps) < n → counted_after limit steps n ≡ n
+pub count_stays : (limit : ℕ) (steps : List StepView) (n : ℕ) → length (take limit steps) < n → counted_after limit steps n ≡ n
 count_stays limit steps n past = ap (λ b. cond b n (n + 1)) (lt-ltb (length (take limit steps)) n past)
 
 -- What a call leaves of a machine that stood behind n steps.

@@ -8,7 +8,7 @@ use Rattle.t1_char.specs.Effects.{effect, goes, results, handed_over, after_othe
 use Rattle.t1_char.specs.Laws.Effects.{state, OthersubrsAreCalled, WholeNumbersAreRead}
 
 -- A whole number that isn't negative.
-natural_of : (n : ℕ) → n < 2 ^ 32 → natural (units (pos n)) ≡ Some n
+pub natural_of : (n : ℕ) → n < 2 ^ 32 → natural (units (pos n)) ≡ Some n
 natural_of n small =
     let whole : n * 65536 % 65536 ≡ 0 = omega arith in
     let below : n * 65536 < 2 ^ 48 = omega arith in

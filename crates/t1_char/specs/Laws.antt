@@ -1,5 +1,7 @@
 pub mod Effects
 pub mod Frames
+pub mod Numbers
 pub mod Since
 pub mod Steps
+pub mod Turns
 pub mod Written

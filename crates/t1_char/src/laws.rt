@@ -2,8 +2,10 @@
 
 ghost use Rattle.t1_char.specs.Laws.Effects.{DivDivides, OthersubrsAreCalled, WholeNumbersAreRead};
 ghost use Rattle.t1_char.specs.Laws.Frames.{CallsGoIn, EndsStop, GlyphsBegin, ReturnsGoBack, TokensGoOn};
+ghost use Rattle.t1_char.specs.Laws.Numbers.{NoQuotientIsZero, QuotientsAreCut, QuotientsAreKept};
 ghost use Rattle.t1_char.specs.Laws.Since.{AfterLastGoesOn, AnyGoesOn, LastGoesOn, SinceGoesOn, SinceIsByPlaces};
-ghost use Rattle.t1_char.specs.Laws.Steps.{NothingFollows, PlainGlyphsGoOn, StepsAreBounded, StepsGoOn};
+ghost use Rattle.t1_char.specs.Laws.Steps.{CalledSubrsAreFound, FoundSubrsAreCalled, LastsAreByWhatFollows, NothingFollows, PlainGlyphsGoOn, StepsAreBounded, StepsGoOn};
+ghost use Rattle.t1_char.specs.Laws.Turns.{EndsAreTold, LastAnswersAreToldAgain, LimitsAreTold, StepsAreTold};
 ghost use Rattle.t1_char.specs.Laws.Written.{EachNumberIsWritten, EncipheredIsRead, ReadIsWritten, WrittenIsRead};
 
 /// Numbers are written in three forms, and each number of 32 bits in one of them; what is written from
@@ -55,4 +57,28 @@ pub fn runs_go_step_by_step()
     ensures goes_in { CallsGoIn }
     ensures goes_back { ReturnsGoBack }
     ensures stops { EndsStop }
+{}
+
+/// A step tells that it is the last of its charstring by what follows it there, and that it finds its Subr by the
+/// number on top of the stack.
+pub fn steps_tell_calls_and_ends()
+    ensures last { LastsAreByWhatFollows }
+    ensures found { FoundSubrsAreCalled }
+    ensures called { CalledSubrsAreFound }
+{}
+
+/// A machine answers the steps up to the limit one after another, then the end, or the first step past the limit as
+/// the limit; and then the same again, and its count stays.
+pub fn machines_answer_in_order()
+    ensures steps { StepsAreTold }
+    ensures end { EndsAreTold }
+    ensures limit { LimitsAreTold }
+    ensures again { LastAnswersAreToldAgain }
+{}
+
+/// div gives the true quotient, cut towards zero and kept within -32000 to 32000, and 0 where the divisor is 0.
+pub fn quotients_are_cut_towards_zero()
+    ensures cut { QuotientsAreCut }
+    ensures kept { QuotientsAreKept }
+    ensures zero { NoQuotientIsZero }
 {}

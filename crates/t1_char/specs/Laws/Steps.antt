@@ -1,13 +1,14 @@
 -- Laws of the expansion. Type 1 Font Format 1.1, chapters 6 and 8.
-use Rattle.std.specs.Prelude.{◌≡◌, ℕ, ◌-◌, ◌≤◌, ◌||◌, not, if◌then◌else◌, Bool, true, false, List, [], ◌∷◌, ◌++◌, length, map, take}
+use Rattle.std.specs.Prelude.{◌≡◌, ℕ, ◌-◌, ◌≤◌, ◌||◌, not, if◌then◌else◌, Bool, true, false, List, [], ◌∷◌, ◌++◌, length, map, take, ◌↔◌, ◌⊎◌, ◌≢◌, ◌^◌, ◌<◌, ℤ, pos, Some}
 use Rattle.std.specs.List.{All, AllPass}
 use Rattle.t1_font.specs.Fonts.{FontValue}
-use Rattle.t1_char.specs.declared.command.Command.TheVariants.{Endchar, Seac}
+use Rattle.t1_char.specs.declared.command.Command.TheVariants.{Callsubr, Endchar, Return, Seac}
 use Rattle.t1_char.specs.declared.token.CharToken.{CharToken}
-use Rattle.t1_char.specs.declared.token.CharToken.TheVariants.{Command}
-use Rattle.t1_char.specs.Charstrings.{code_at, tokens_in}
+use Rattle.t1_char.specs.declared.token.CharToken.TheVariants.{Command, End}
+use Rattle.t1_char.specs.Charstrings.{code_at, subr_in, tokens_in}
 use Rattle.t1_char.specs.Effects.{State, Action, goes, calls, returns, finishes}
-use Rattle.t1_char.specs.Steps.{StepView, at_start, effect_at, is_callsubr, is_end, steps_of}
+use Rattle.t1_char.specs.Numbers.{units}
+use Rattle.t1_char.specs.Steps.{StepView, at_start, effect_at, is_callsubr, is_end, step_at, steps_of}
 
 -- endchar and seac finish the glyph at any depth, and End outside Subrs.
 abbrev pub is_finishing : CharToken → Bool
@@ -77,3 +78,28 @@ GoOnFrom font path s (step ∷ steps) =
 -- before it have led, through calls and back.
 abbrev pub StepsGoOn : Type 0
 StepsGoOn = (font : FontValue) (glyph : ℕ) → GoOnFrom font [] at_start (steps_of font glyph)
+
+-- A step tells that it is its charstring's last where nothing follows it there but the end, or, in a Subr, return
+-- and the end.
+abbrev pub LastsAreByWhatFollows : Type 0
+LastsAreByWhatFollows = (font : FontValue) (path : List ℕ) (t : CharToken) (behind : List CharToken) (s : State) →
+    ((step_at font path t behind s).last ≡ true)
+    ↔ ((behind ≡ End ∷ []) ⊎ ((path ≢ []) × (behind ≡ Command Return ∷ End ∷ [])))
+
+-- It is a callsubr, with the number of a Subr that is there on top of the stack.
+pub record CallsASubr (font : FontValue) (t : CharToken) (stack : List ℤ) (number : ℕ) : Type 0 where
+  pub code : List ℕ
+  pub below : List ℤ
+  pub token : t ≡ Command Callsubr
+  pub stack_is : stack ≡ below ++ units (pos number) ∷ []
+  pub there : subr_in font number ≡ Some code
+
+-- A step that tells that it finds its Subr calls one, and one that calls a Subr tells it. (Numbers of 32 bits are
+-- more than the stack can hold.)
+abbrev pub FoundSubrsAreCalled : Type 0
+FoundSubrsAreCalled = (font : FontValue) (path : List ℕ) (t : CharToken) (behind : List CharToken) (s : State) →
+    (step_at font path t behind s).found ≡ true → (number : ℕ) × CallsASubr font t s.stack number
+
+abbrev pub CalledSubrsAreFound : Type 0
+CalledSubrsAreFound = (font : FontValue) (path : List ℕ) (t : CharToken) (behind : List CharToken) (s : State) (number : ℕ) →
+    number < 2 ^ 32 → CallsASubr font t s.stack number → (step_at font path t behind s).found ≡ true
