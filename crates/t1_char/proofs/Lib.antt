@@ -1,6 +1,7 @@
 pub mod Additions
 pub mod Bounds
 pub mod Chains
+pub mod CutTokens
 pub mod Answering
 pub mod Deciphering
 pub mod EditionLemmas

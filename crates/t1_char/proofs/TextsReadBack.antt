@@ -9,36 +9,36 @@ use Rattle.t1_char.proofs.ReadBack.{IsSpelled, plain_back, escape_back, small_ba
 use Rattle.t1_char.proofs.Skipping.{tokens_behind_is}
 use Rattle.t1_char.proofs.Spelling.{form_small, form_positive, form_negative}
 
-below : (a b : ℕ) → (a < b) ⊎ (b ≤ a)
+pub below : (a b : ℕ) → (a < b) ⊎ (b ≤ a)
 below a b = by_test (ltb a b) refl
   where
     by_test : (x : Bool) → ltb a b ≡ x → (a < b) ⊎ (b ≤ a)
     by_test true h = inl (grind arith)
     by_test false h = inr (grind arith)
 
-abbrev AreFit : List ℕ → Type 0
+abbrev pub AreFit : List ℕ → Type 0
 AreFit [] = Unit {0}
 AreFit (b ∷ bytes) = (b < 256) × AreFit bytes
 
-fit_of : (bytes : List ℕ) → AreBytes bytes → AreFit bytes
+pub fit_of : (bytes : List ℕ) → AreBytes bytes → AreFit bytes
 fit_of [] all = tt
 fit_of (b ∷ bytes) all = (all 0 b (omega arith), fit_of bytes (λ k d lt. all (suc k) d (omega arith)))
 
-fit_drop : (n : ℕ) (bytes : List ℕ) → AreFit bytes → AreFit (drop n bytes)
+pub fit_drop : (n : ℕ) (bytes : List ℕ) → AreFit bytes → AreFit (drop n bytes)
 fit_drop zero bytes fit = fit
 fit_drop (suc n) [] fit = tt
 fit_drop (suc n) (b ∷ bytes) fit = fit_drop n bytes fit.1
 
-abbrev AreUncut : List CharToken → Type 0
+abbrev pub AreUncut : List CharToken → Type 0
 AreUncut [] = Unit {0}
 AreUncut (t ∷ ts) = (t ≢ Cut) × AreUncut ts
 
-uncut_of : (ts : List CharToken) → AreWhole ts → AreUncut ts
+pub uncut_of : (ts : List CharToken) → AreWhole ts → AreUncut ts
 uncut_of [] all = tt
 uncut_of (t ∷ ts) all = (all 0 t (omega arith), uncut_of ts (λ k d lt. all (suc k) d (omega arith)))
 
 -- By the form of the first byte.
-abbrev Spells : ℕ → List ℕ → Type 0
+abbrev pub Spells : ℕ → List ℕ → Type 0
 Spells v rest = IsSpelled v rest (token_at v rest) (drop (more_of v) rest)
 
 by_form : (v : ℕ) (rest : List ℕ) (f : Form) → form_of v ≡ f → IsSpelled v rest (completed f rest) (drop (more_in f) rest) → Spells v rest
@@ -76,7 +76,7 @@ spelled_long (a ∷ b ∷ []) fit uncut = absurd (uncut refl)
 spelled_long (a ∷ b ∷ c ∷ []) fit uncut = absurd (uncut refl)
 spelled_long (a ∷ b ∷ c ∷ d ∷ rest) fit uncut = long_back a b c d rest fit.0 fit.1.0 fit.1.1.0 fit.1.1.1.0
 
-spelled_at : (v : ℕ) (rest : List ℕ) → v < 256 → AreFit rest → token_at v rest ≢ Cut → Spells v rest
+pub spelled_at : (v : ℕ) (rest : List ℕ) → v < 256 → AreFit rest → token_at v rest ≢ Cut → Spells v rest
 spelled_at v rest byte fit uncut =
     elim (below v 32) [
       | inl low ↦ spelled_low v rest low uncut
@@ -101,10 +101,10 @@ tokens_some n [] h = cc
 tokens_some (suc n) (b ∷ s) h = tokens_some n s h
 tokens_some zero (v ∷ s) h = cc
 
-head_same : (t u : CharToken) (ts us : List CharToken) → t ∷ ts ≡ u ∷ us → t ≡ u
+pub head_same : (t u : CharToken) (ts us : List CharToken) → t ∷ ts ≡ u ∷ us → t ≡ u
 head_same t u ts us h = cc
 
-tail_same : (t u : CharToken) (ts us : List CharToken) → t ∷ ts ≡ u ∷ us → ts ≡ us
+pub tail_same : (t u : CharToken) (ts us : List CharToken) → t ∷ ts ≡ u ∷ us → ts ≡ us
 tail_same t u ts us h = cc
 
 not_more : (ts : List CharToken) → [] ≡ ts ++ End ∷ [] → ⊥

@@ -1,3 +1,4 @@
+pub mod BrokenOff
 pub mod Effects
 pub mod Frames
 pub mod Numbers

@@ -1,5 +1,6 @@
 //! Laws of the definitions, as contracts of calls that do nothing.
 
+ghost use Rattle.t1_char.specs.Laws.BrokenOff.{BrokenOffAreCut, CutsAreBrokenOff, EnoughAreLong, PlainAreLong, TooFewAreShort};
 ghost use Rattle.t1_char.specs.Laws.Effects.{DivDivides, OthersubrsAreCalled, WholeNumbersAreRead};
 ghost use Rattle.t1_char.specs.Laws.Frames.{CallsGoIn, EndsStop, GlyphsBegin, ReturnsGoBack, TokensGoOn};
 ghost use Rattle.t1_char.specs.Laws.Numbers.{NoQuotientIsZero, QuotientsAreCut, QuotientsAreKept};
@@ -81,4 +82,14 @@ pub fn quotients_are_cut_towards_zero()
     ensures cut { QuotientsAreCut }
     ensures kept { QuotientsAreKept }
     ensures zero { NoQuotientIsZero }
+{}
+
+/// A charstring is told to be short exactly where it has fewer bytes than lenIV says, and to be cut exactly where its
+/// bytes break off inside a token, which is then its last.
+pub fn short_and_cut_charstrings_are_told()
+    ensures short { TooFewAreShort }
+    ensures long { EnoughAreLong }
+    ensures plain { PlainAreLong }
+    ensures cut { BrokenOffAreCut }
+    ensures back { CutsAreBrokenOff }
 {}
