@@ -29,4 +29,5 @@ pub mod StepByStep
 pub mod StepsLackSeac
 pub mod Telling
 pub mod TextsReadBack
+pub mod TurnTests
 pub mod TurnsTaken

@@ -16,6 +16,7 @@ use Rattle.t1_char.specs.Passing.{IsPassed, is_kept_number}
 use Rattle.t1_char.specs.Workings.Machines.{GoesOnFrom, IsAt, answer_view}
 use Rattle.t1_char.specs.Workings.Plain.{GoesOver}
 use Rattle.t1_char.proofs.Additions.{and_then_front}
+use Rattle.t1_char.proofs.TurnTests.{turn_by_limit}
 
 -- The step of the first token stands first, whatever it does.
 led_by : (step : StepView) (s : State) (action : Action) (behind : State → Run) (called : ℕ → List ℕ → State → Run) → (rest : List StepView) × ((led_to step s action behind called).steps ≡ step ∷ rest)
@@ -82,14 +83,14 @@ is_within (suc n) (_ ∷ steps) rest step is = omega (arith, is_within n steps r
 
 -- Answers and counts.
 pub turn_below : (limit : ℕ) (steps : List StepView) (n : ℕ) → n < limit → turn_at limit steps n ≡ step_or_end n (slice_get steps n)
-turn_below limit steps n below = ap (λ b. cond b (step_or_end n (slice_get steps n)) (limit_or_end limit (slice_get steps limit))) (lt-ltb n limit below)
+turn_below limit steps n below = turn_by_limit limit steps n ∙ ap (λ b. cond b (step_or_end n (slice_get steps n)) (limit_or_end limit (slice_get steps limit))) (lt-ltb n limit below)
 
 pub turn_above : (limit : ℕ) (steps : List StepView) (n : ℕ) → limit ≤ n → turn_at limit steps n ≡ limit_or_end limit (slice_get steps limit)
-turn_above limit steps n above = ap (λ b. cond b (step_or_end n (slice_get steps n)) (limit_or_end limit (slice_get steps limit))) (le-ltb n limit above)
+turn_above limit steps n above = turn_by_limit limit steps n ∙ ap (λ b. cond b (step_or_end n (slice_get steps n)) (limit_or_end limit (slice_get steps limit))) (le-ltb n limit above)
 
 -- Past all steps the end is answered.
 pub turn_past : (limit : ℕ) (steps : List StepView) (n : ℕ) → length steps ≤ limit → length steps ≤ n → turn_at limit steps n ≡ ended
-turn_past limit steps n few past = by_place (nat_lt n limit)
+turn_past limit steps n few past = turn_by_limit limit steps n ∙ by_place (nat_lt n limit)
   where
     by_place : (b : Bool) → cond b (step_or_end n (slice_get steps n)) (limit_or_end limit (slice_get steps limit)) ≡ ended
     by_place true = ap (step_or_end n) (get_past steps n past)

@@ -13,6 +13,7 @@ use Rattle.t1_char.specs.declared.machine.Turn.TheVariants.{Step, Ended, Limit}
 use Rattle.t1_char.specs.declared.step.Step.{Step as Steps}
 use Rattle.t1_char.specs.TurnViews.{turn_view}
 use Rattle.t1_char.specs.Turns.{MachineView, TurnValue, stepped, ended, limited, step_of_number, step_or_end, limit_or_end, turn_at, counted_after}
+use Rattle.t1_char.proofs.TurnTests.{turn_by_limit}
 
 -- The next step was answered.
 pub record IsStepped (limit : ℕ) (steps : List StepView) (n : ℕ) (answer : NumberedStep) : Type 0 where
@@ -37,7 +38,7 @@ no_limit limit None = refl
 no_limit limit (Some step) = refl
 
 pub stepped_is : (limit : ℕ) (steps : List StepView) (n : ℕ) (answer : NumberedStep) → stepped answer ≡ turn_at limit steps n → IsStepped limit steps n answer
-stepped_is limit steps n answer is = by_place (nat_lt n limit) (slice_get steps n) refl refl is
+stepped_is limit steps n answer is = by_place (nat_lt n limit) (slice_get steps n) refl refl (is ∙ turn_by_limit limit steps n)
   where
     of_step : (step : StepView) → n < limit → slice_get steps n ≡ Some step → answer ≡ step_of_number (n + 1) step → IsStepped limit steps n answer
     of_step step below get same =
@@ -64,7 +65,8 @@ some_there n (x ∷ xs) (suc k) less = some_there n xs k (omega (arith, less))
 
 stepped_there : (limit : ℕ) (steps : List StepView) (n : ℕ) → n < limit → n < length steps → is_step (turn_at limit steps n) ≡ true
 stepped_there limit steps n below there =
-    ap (λ b. is_step (cond b (step_or_end n (slice_get steps n)) (limit_or_end limit (slice_get steps limit)))) (lt-ltb n limit below)
+    ap is_step (turn_by_limit limit steps n)
+    ∙ ap (λ b. is_step (cond b (step_or_end n (slice_get steps n)) (limit_or_end limit (slice_get steps limit)))) (lt-ltb n limit below)
     ∙ some_there n steps n there
 
 -- No step was answered: all up to the limit were.
@@ -139,7 +141,7 @@ is_limit (limited _) = true
 
 pub ended_is : (limit : ℕ) (steps : List StepView) (n : ℕ) → ended ≡ turn_at limit steps n → IsOver limit steps n
 unfolding is_end
-ended_is limit steps n is = by_place (nat_lt n limit) (slice_get steps n) (slice_get steps limit) refl refl refl is
+ended_is limit steps n is = by_place (nat_lt n limit) (slice_get steps n) (slice_get steps limit) refl refl refl (is ∙ turn_by_limit limit steps n)
   where
     by_place : (b : Bool) (o p : Option StepView) → nat_lt n limit ≡ b → slice_get steps n ≡ o → slice_get steps limit ≡ p → ended ≡ cond b (step_or_end n o) (limit_or_end limit p) → IsOver limit steps n
     by_place true None p below get past is =
@@ -165,7 +167,7 @@ limit_in default (limited step) = step
 
 pub limited_is : (limit : ℕ) (steps : List StepView) (n : ℕ) (answer : NumberedStep) → limited answer ≡ turn_at limit steps n → IsLimited limit steps n answer
 unfolding is_limit limit_in
-limited_is limit steps n answer is = by_place (nat_lt n limit) (slice_get steps n) (slice_get steps limit) refl refl is
+limited_is limit steps n answer is = by_place (nat_lt n limit) (slice_get steps n) (slice_get steps limit) refl refl (is ∙ turn_by_limit limit steps n)
   where
     of_step : (step : StepView) → limit ≤ n → slice_get steps limit ≡ Some step → answer ≡ step_of_number (limit + 1) step → IsLimited limit steps n answer
     of_step step above get same =

@@ -1,18 +1,16 @@
 -- What a call of a machine leaves, once the step that it lends is given back.
-use Rattle.std.specs.Prelude.{◌≡◌, [], ⊤}
-use Rattle.std.specs.Borrow.{follows_so, Fml, MutBor}
-use mathlib.Core.Option.{none}
-use mir.Syntax.{named}
-use Rattle.t1_char.specs.contracts.machine.Machine.{the_row}
+use Rattle.std.specs.Prelude.{◌≡◌}
+use Rattle.std.specs.Borrow.{Fml, MutBor}
 use Rattle.t1_char.specs.Editions.{limit_of}
+use Rattle.t1_char.specs.Loans.{Afterwards}
 use Rattle.t1_char.specs.Steps.{steps_of}
 use Rattle.t1_char.specs.Turns.{MachineView, counted_after}
 
--- It was asked once more, for the same glyph and by the same edition.
+-- It was asked once more, up to the first end or limit; font, glyph and edition stay.
+abbrev pub IsAskedOnceMore : MachineView → MachineView → Type 0
+IsAskedOnceMore before after =
+    (after.counted ≡ counted_after (limit_of before.edition) (steps_of before.font before.glyph) before.counted)
+    × (after.font ≡ before.font) × (after.glyph ≡ before.glyph) × (after.edition ≡ before.edition)
+
 abbrev pub MovesOn : MutBor MachineView → Fml
-MovesOn m =
-    let row = the_row (record { mir = named 0; lft = [] }) in
-    follows_so row row m.ghost_name none (λ _ _. ⊤)
-    (λ last.
-    (last.counted ≡ counted_after (limit_of m.now.edition) (steps_of m.now.font m.now.glyph) m.now.counted)
-    × (last.font ≡ m.now.font) × (last.glyph ≡ m.now.glyph) × (last.edition ≡ m.now.edition))
+MovesOn m = Afterwards m (λ last. IsAskedOnceMore m.now last)

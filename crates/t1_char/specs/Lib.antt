@@ -5,6 +5,7 @@ pub mod Editions
 pub mod Effects
 pub mod Laws
 pub mod Lending
+pub mod Loans
 pub mod Numbers
 pub mod Passing
 pub mod Rests

@@ -1,5 +1,5 @@
 -- A glyph that is executed one step a call. Type 1 Font Format 1.1, chapters 6 and 8.
-use Rattle.std.specs.Prelude.{ℕ, ◌+◌, nat_lt, if◌then◌else◌, Option, Some, None, List, length, take, slice_get}
+use Rattle.std.specs.Prelude.{ℕ, ◌+◌, nat_lt, Bool, if◌then◌else◌, Option, Some, None, List, length, take, slice_get}
 use Rattle.t1_font.specs.Fonts.{FontValue}
 use Rattle.t1_char.specs.declared.edition.Edition.{Edition}
 use Rattle.t1_char.specs.Steps.{StepView, NumberedStep}
@@ -21,7 +21,7 @@ pub data TurnValue : Type 0 where
 abbrev pub step_of_number : ℕ → StepView → NumberedStep
 step_of_number n step = record { number = n; step = step }
 
--- The steps behind the first n, up to the limit.
+-- The step behind the first n, and the first one past the limit; the end where there is none.
 abbrev pub step_or_end : ℕ → Option StepView → TurnValue
 step_or_end n None = ended
 step_or_end n (Some step) = stepped (step_of_number (n + 1) step)
@@ -30,11 +30,19 @@ abbrev pub limit_or_end : ℕ → Option StepView → TurnValue
 limit_or_end n None = ended
 limit_or_end n (Some step) = limited (step_of_number (n + 1) step)
 
--- The answer to the call behind n of them; the end and the limit are answered again.
+-- How many steps are answered: those up to the limit.
+abbrev pub answered : ℕ → List StepView → ℕ
+answered limit steps = length (take limit steps)
+
+-- The end or the limit was told, by one of n calls.
+abbrev pub is_told : ℕ → List StepView → ℕ → Bool
+is_told limit steps n = nat_lt (answered limit steps) n
+
+-- The answer to the call behind n of them: a step, where one is left; then the limit or the end, again and again.
 abbrev pub turn_at : ℕ → List StepView → ℕ → TurnValue
 turn_at limit steps n =
-    if nat_lt n limit then step_or_end n (slice_get steps n) else limit_or_end limit (slice_get steps limit)
+    if nat_lt n (answered limit steps) then step_or_end n (slice_get steps n) else limit_or_end limit (slice_get steps limit)
 
--- How many calls there were behind one more, up to the first end or limit.
+-- How many calls there were behind one more, up to the first that told the end or the limit.
 abbrev pub counted_after : ℕ → List StepView → ℕ → ℕ
-counted_after limit steps n = if nat_lt (length (take limit steps)) n then n else n + 1
+counted_after limit steps n = if is_told limit steps n then n else n + 1
