@@ -8,9 +8,10 @@ use Rattle.t1_char.specs.Laws.Turns.{EndsAreTold, LastAnswersAreToldAgain, Limit
 use Rattle.t1_char.proofs.MachineSteps.{count_on, count_stays, turn_above, turn_below, turn_past}
 
 pub steps_are_told : StepsAreTold
-steps_are_told limit steps n step below is =
-    (turn_below limit steps n below ∙ ap (step_or_end n) is,
-    sym (count_on limit steps n (omega (arith, below, slice_get_within steps n step is, length-take limit steps))))
+steps_are_told limit steps n step below is = (
+  turn_below limit steps n below ∙ ap (step_or_end n) is,
+  sym (count_on limit steps n (omega (arith, below, slice_get_within steps n step is, length-take limit steps))),
+)
 
 pub ends_are_told : EndsAreTold
 ends_are_told limit steps few = turn_past limit steps (length steps) few (omega arith)
@@ -56,7 +57,8 @@ last_answers_are_told_again limit steps n last =
       | inl past ↦ stays limit steps n past
       | inr near ↦
           let at = at_last limit steps n near last in
-          let count = sym (count_on limit steps n near) in
-          (ap (turn_at limit steps) count ∙ same_behind limit steps n at,
-          ap (counted_after limit steps) count ∙ count_stays limit steps (n + 1) (omega (arith, at)) ∙ sym count)
+          let count = sym (count_on limit steps n near) in (
+            ap (turn_at limit steps) count ∙ same_behind limit steps n at,
+            ap (counted_after limit steps) count ∙ count_stays limit steps (n + 1) (omega (arith, at)) ∙ sym count,
+          )
     ]

@@ -38,8 +38,10 @@ last_follows path (t ∷ u ∷ []) h =
     let first = both (nat_lt 0 (length path) && is_return t) (is_end u) h in
     let deep = both (nat_lt 0 (length path)) (is_return t) first.0 in
     let some : 0 < length path = ltb-true 0 (length path) deep.0 in
-    inr ((λ none. omega (arith, some, ap (λ (p : List ℕ). length p) none)),
-    ap (λ x. x ∷ u ∷ []) (return_is t deep.1) ∙ ap (λ x. Command Return ∷ x ∷ []) (end_is u first.1))
+    inr (
+      (λ none. omega (arith, some, ap (λ (p : List ℕ). length p) none)),
+      ap (λ x. x ∷ u ∷ []) (return_is t deep.1) ∙ ap (λ x. Command Return ∷ x ∷ []) (end_is u first.1),
+    )
 last_follows path (t ∷ u ∷ v ∷ ts) h = let no : false ≡ true = h in cc
 
 deep_there : (path : List ℕ) → path ≢ [] → (nat_lt 0 (length path) && true && true) ≡ true

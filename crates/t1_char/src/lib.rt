@@ -58,9 +58,8 @@ pub use edition::Edition;
 pub use expansion::expand;
 pub use laws::{
     machines_answer_in_order, quotients_are_cut_towards_zero, runs_go_step_by_step,
-    short_and_cut_charstrings_are_told,
-    stacks_are_taken_from_the_top, steps_are_looked_back_on, steps_follow_the_tokens, steps_go_on,
-    steps_tell_calls_and_ends, written_charstrings_are_read,
+    short_and_cut_charstrings_are_told, stacks_are_taken_from_the_top, steps_are_looked_back_on,
+    steps_follow_the_tokens, steps_go_on, steps_tell_calls_and_ends, written_charstrings_are_read,
 };
 pub use machine::{Machine, Turn};
 pub use numbers::{cut_quotient, natural};

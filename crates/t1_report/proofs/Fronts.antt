@@ -7,6 +7,7 @@ use Rattle.std.proofs.Math.Seq.{get_or-append_seam}
 use Rattle.t1_rules.specs.declared.rule.Rule.{Rule}
 use Rattle.t1_rules.specs.Book.{number_of}
 use Rattle.t1_report.specs.Faults.{FaultValue}
+use Rattle.t1_report.proofs.Numbered.{number_there, numbered_by_places}
 use Rattle.t1_report.specs.Reports.{Place, Comes, IsBefore, IsViolationOf, IsFrontOf, IsReportOf, place_of, StandsAt, IsRising, AreNumbered}
 use Rattle.t1_rules.proofs.Lemmas.Book.{one_rule}
 
@@ -86,15 +87,15 @@ rising_last xs f rising before i j d lt within =
     ]
 
 numbered_last : (xs : List FaultValue) (f : FaultValue) → AreNumbered 1 xs → f.number ≡ length xs + 1 → AreNumbered 1 (xs ++ f ∷ [])
-numbered_last xs f numbered is i d lt =
+numbered_last xs f numbered is = numbered_by_places 1 (xs ++ f ∷ []) (λ i d lt.
     let l = length_one xs f in
     elim (cases_order i (length xs)) [
-      | inr (inl less) ↦ ap (λ (x : FaultValue). x.number) (get_or-append xs (f ∷ []) d i less) ∙ numbered i d less
+      | inr (inl less) ↦ ap (λ (x : FaultValue). x.number) (get_or-append xs (f ∷ []) d i less) ∙ number_there 1 xs numbered i d less
       | inl same ↦
           ap (λ (n : ℕ). (slice_index_or (xs ++ f ∷ []) n d).number) same
           ∙ ap (λ (x : FaultValue). x.number) (get_or-append_seam xs f [] d) ∙ is ∙ ap (λ (n : ℕ). n + 1) (sym same)
       | inr (inr more) ↦ absurd (omega (arith, l))
-    ]
+    ])
 
 -- ---- fronts
 
@@ -110,7 +111,7 @@ module _ (Violated : Place → Type 0) (path_of : Place → List ℕ) where
     violations = λ k d lt. absurd (omega arith);
     before = λ k d lt. absurd (omega arith);
     complete = λ p is before. absurd (never_before_all p.unit p.step (number_of p.rule) before);
-    numbered = λ i d lt. absurd (omega arith);
+    numbered = refl;
   }
 
   -- a front reaches as far as no violation stands between

@@ -88,6 +88,7 @@ given_are_the_front font waivers faults k mark [] last few few_waivers report so
     (refl, subst (IsSoFar faults (k + 0)) led (subst (λ n. IsSoFar faults n mark) (omega arith) so_far))
 given_are_the_front font waivers faults k mark (fault ∷ given) last few few_waivers report so_far led =
     let one = marks_go_on_counting font waivers faults k mark fault few few_waivers report so_far led.0 in
-    let more = given_are_the_front font waivers faults (k + 1) (mark_of fault) given last few few_waivers report one.1 led.1 in
-    (ap (λ (fs : List FaultValue). fault ∷ fs) more.0 ∙ ap (λ (fs : List FaultValue). take (suc (length given)) fs) (sym (drop_next faults k fault one.0)),
-    subst (λ n. IsSoFar faults n last) (omega arith) more.1)
+    let more = given_are_the_front font waivers faults (k + 1) (mark_of fault) given last few few_waivers report one.1 led.1 in (
+      ap (λ (fs : List FaultValue). fault ∷ fs) more.0 ∙ ap (λ (fs : List FaultValue). take (suc (length given)) fs) (sym (drop_next faults k fault one.0)),
+      subst (λ n. IsSoFar faults n last) (omega arith) more.1,
+    )

@@ -10,6 +10,7 @@ pub mod Hands
 pub mod HasReport
 pub mod InFont
 pub mod LaterFaults
+pub mod Numbered
 pub mod OneReport
 pub mod PassedNumbers
 pub mod PlaceSearch

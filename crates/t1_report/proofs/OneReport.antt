@@ -3,6 +3,7 @@ use Rattle.std.proofs.Common.{◌≡◌, ℕ, ◌+◌, ◌<◌, zero, suc, List,
 use Rattle.std.specs.List.{Any, slice_index_or}
 use Rattle.t1_rules.specs.Book.{number_of}
 use Rattle.t1_report.specs.Faults.{FaultValue}
+use Rattle.t1_report.proofs.Numbered.{numbered_head, numbered_tail}
 use Rattle.t1_report.specs.Reports.{Place, Comes, IsBefore, place_of, StandsAt, IsRising, AreNumbered, IsReportOf, path_at, IsTold}
 use Rattle.t1_report.specs.Laws.Reports.{HasNoOtherReport}
 
@@ -41,9 +42,6 @@ rising_tail x xs rising i j d lt within = rising (suc i) (suc j) d (omega arith)
 
 rising_head : (x : FaultValue) (xs : List FaultValue) → IsRising (x ∷ xs) → (i : ℕ) (d : FaultValue) → i < length xs → IsBefore (place_of x) (place_of (slice_index_or xs i d))
 rising_head x xs rising i d lt = rising 0 (suc i) d (omega arith) (omega arith)
-
-numbered_tail : (n : ℕ) (x : FaultValue) (xs : List FaultValue) → AreNumbered n (x ∷ xs) → AreNumbered (n + 1) xs
-numbered_tail n x xs numbered i d lt = let next = numbered (suc i) d (omega arith) in omega arith
 
 -- where a fault stands: first, or further on and so later
 first_or_later : (p : Place) (y : FaultValue) (ys : List FaultValue) → IsRising (y ∷ ys) → Any (StandsAt p) (y ∷ ys) → (place_of y ≡ p) ⊎ IsBefore (place_of y) p
@@ -86,7 +84,7 @@ equal_lists path_of n [] (y ∷ ys) rise rise' among among' number number' none 
 equal_lists path_of n (x ∷ xs) [] rise rise' among among' number number' none none' = let found = among 0 x (omega arith) in absurd (omega (arith, found.2))
 equal_lists path_of n (x ∷ xs) (y ∷ ys) rise rise' among among' number number' none none' =
     let same = heads_same x y xs ys rise rise' among among' in
-    let first : x ≡ y = same_fault path_of x y (number 0 x (omega arith) ∙ sym (number' 0 y (omega arith))) same (none 0 x (omega arith)) (none' 0 y (omega arith)) in
+    let first : x ≡ y = same_fault path_of x y (numbered_head n x xs number ∙ sym (numbered_head n y ys number')) same (none 0 x (omega arith)) (none' 0 y (omega arith)) in
     let rest : xs ≡ ys = equal_lists path_of (n + 1) xs ys (rising_tail x xs rise) (rising_tail y ys rise') (among_tail x y xs ys same rise among)
     (among_tail y x ys xs (sym same) rise' among') (numbered_tail n x xs number) (numbered_tail n y ys number')
     (λ i d lt. none (suc i) d (omega arith)) (λ i d lt. none' (suc i) d (omega arith)) in

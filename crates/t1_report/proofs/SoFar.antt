@@ -1,6 +1,7 @@
 -- How far a report was given: the next fault, the mark behind it, and the end.
-use Rattle.std.proofs.Common.{◌≡◌, ℕ, ◌+◌, ◌^◌, ◌<◌, ◌≤◌, ◌⊎◌, inl, inr, List, length, slice_get, slice_index_or, Some, refl, sym, ap, subst, ◌∙◌, arith}
+use Rattle.std.proofs.Common.{◌≡◌, ℕ, ◌+◌, ◌-◌, ◌^◌, length-take, length-drop, ◌<◌, ◌≤◌, ◌⊎◌, inl, inr, List, length, slice_get, slice_index_or, Some, refl, sym, ap, subst, ◌∙◌, arith}
 use Rattle.std.proofs.lemmas.Bool.{cases_lt, cases_order}
+use Rattle.std.proofs.lemmas.List.{get_or-drop, get_or-take}
 use Rattle.std.proofs.lemmas.Option.{get_or_from_slice_get, slice_get_cases, slice_get_read, slice_get_within}
 use Rattle.std.proofs.Math.Nat.{min-eq_left}
 use Rattle.std.specs.List.{Any}
@@ -12,6 +13,7 @@ use Rattle.t1_report.specs.Faults.{FaultValue}
 use Rattle.t1_report.specs.Reports.{AreNumbered, Comes, IsBefore, IsReport, IsReportOf, IsRising, IsViolationOf, Place, StandsAt, path_at, place_of, IsTold}
 use Rattle.t1_report.specs.Walks.{HasNoneLater, HasNoneLaterOf, IsLater, IsNext, IsNextOf, IsSoFar, first_mark, mark_of, number_behind}
 use Rattle.t1_report.proofs.FewFaults.{few_faults}
+use Rattle.t1_report.proofs.Numbered.{number_there}
 use Rattle.t1_report.proofs.OneReport.{both, itself, same_fault}
 use Rattle.t1_report.specs.Waivers.{Waiver}
 
@@ -30,13 +32,34 @@ later_than_none unit step rule some =
 all_later : (p : Place) → IsLater first_mark p
 all_later p = later_than_none p.unit p.step (number_of p.rule) (in_book p.rule).0
 
-pub so_far_start : (faults : List FaultValue) → IsSoFar faults 0 first_mark
-so_far_start faults = record {
-  given = omega arith;
-  passed = λ i d less later. omega arith;
-  coming = λ i d past less. all_later (place_of (slice_index_or faults i d));
-  number = refl;
+-- So far, place by place.
+pub so_far_by_places : (faults : List FaultValue) (k : ℕ) (mark : Mark) → k ≤ length faults
+    → ((i : ℕ) (d : FaultValue) → i < k → IsLater mark (place_of (slice_index_or faults i d)) → ⊥)
+    → ((i : ℕ) (d : FaultValue) → k ≤ i → i < length faults → IsLater mark (place_of (slice_index_or faults i d)))
+    → mark.number ≡ k → IsSoFar faults k mark
+so_far_by_places faults k mark given passed coming number = record {
+  given = given;
+  passed = λ i d less later.
+      let near : i < k = omega (arith, less, length-take k faults) in
+      passed i d near (subst (λ (f : FaultValue). IsLater mark (place_of f)) (get_or-take k faults i d near) later);
+  coming = λ i d less.
+      subst (λ (f : FaultValue). IsLater mark (place_of f)) (sym (get_or-drop k faults i d)) (coming (k + i) d (omega arith) (omega (arith, less, length-drop k faults)));
+  number = number;
 }
+
+passed_at : (faults : List FaultValue) (k : ℕ) (mark : Mark) → IsSoFar faults k mark → (i : ℕ) (d : FaultValue) → i < k → IsLater mark (place_of (slice_index_or faults i d)) → ⊥
+passed_at faults k mark so_far i d less later =
+    let given = so_far.given in
+    so_far.passed i d (omega (arith, less, given, length-take k faults)) (subst (λ (f : FaultValue). IsLater mark (place_of f)) (sym (get_or-take k faults i d less)) later)
+
+coming_at : (faults : List FaultValue) (k : ℕ) (mark : Mark) → IsSoFar faults k mark → (i : ℕ) (d : FaultValue) → k ≤ i → i < length faults → IsLater mark (place_of (slice_index_or faults i d))
+coming_at faults k mark so_far i d past less =
+    let at : k + (i - k) ≡ i = omega (arith, past) in
+    subst (λ (f : FaultValue). IsLater mark (place_of f)) (get_or-drop k faults (i - k) d ∙ ap (λ (j : ℕ). slice_index_or faults j d) at)
+    (so_far.coming (i - k) d (omega (arith, past, less, length-drop k faults)))
+
+pub so_far_start : (faults : List FaultValue) → IsSoFar faults 0 first_mark
+so_far_start faults = so_far_by_places faults 0 first_mark (omega arith) (λ i d less later. omega arith) (λ i d past less. all_later (place_of (slice_index_or faults i d))) refl
 
 -- ---- the mark of a fault
 
@@ -61,17 +84,14 @@ before_mark faults k fault rising is i d past less =
 -- the fault of an index is numbered by it
 number_at : (faults : List FaultValue) (k : ℕ) (fault : FaultValue) → AreNumbered 1 faults → slice_get faults k ≡ Some fault → fault.number ≡ k + 1
 number_at faults k fault numbered is =
-    ap (λ (f : FaultValue). f.number) (sym (get_or_from_slice_get faults k fault fault is)) ∙ numbered k fault (slice_get_within faults k fault is)
+    ap (λ (f : FaultValue). f.number) (sym (get_or_from_slice_get faults k fault fault is)) ∙ number_there 1 faults numbered k fault (slice_get_within faults k fault is)
 
 -- the fault of index k is the last of the first k + 1
 pub so_far_at : (faults : List FaultValue) (k : ℕ) (fault : FaultValue) → IsRising faults → AreNumbered 1 faults → slice_get faults k ≡ Some fault
     → IsSoFar faults (k + 1) (mark_of fault)
-so_far_at faults k fault rising numbered is = record {
-  given = let within = slice_get_within faults k fault is in omega (arith, within);
-  passed = behind_mark faults k fault rising is;
-  coming = before_mark faults k fault rising is;
-  number = number_at faults k fault numbered is;
-}
+so_far_at faults k fault rising numbered is =
+    so_far_by_places faults (k + 1) (mark_of fault) (let within = slice_get_within faults k fault is in omega (arith, within))
+    (behind_mark faults k fault rising is) (before_mark faults k fault rising is) (number_at faults k fault numbered is)
 
 -- ---- the next fault
 
@@ -83,7 +103,7 @@ not_given : (faults : List FaultValue) (k : ℕ) (mark : Mark) → IsSoFar fault
     → IsLater mark (place_of x) → k ≤ j
 not_given faults k mark so_far j x at later =
     elim (cases_lt j k) [
-      | inl less ↦ absurd (so_far.passed j x less (subst (λ (f : FaultValue). IsLater mark (place_of f)) (sym at) later))
+      | inl less ↦ absurd (passed_at faults k mark so_far j x less (subst (λ (f : FaultValue). IsLater mark (place_of f)) (sym at) later))
       | inr past ↦ past
     ]
 
@@ -97,7 +117,7 @@ module _ (Violated : Place → Type 0) (path_of : Place → List ℕ) where
       let before : IsBefore (place_of first) (place_of fault) =
       subst (λ (p : Place). IsBefore (place_of first) p) same
       (subst (λ (f : FaultValue). IsBefore (place_of first) (place_of f)) at (report.rising k j x less within)) in
-      elim (next.first (place_of first) (report.violations k x (omega arith)).violated (so_far.coming k x (omega arith) (omega arith))) [
+      elim (next.first (place_of first) (report.violations k x (omega arith)).violated (coming_at faults k mark so_far k x (omega arith) (omega arith))) [
         | inl stands ↦ itself (place_of fault) (subst (λ (p : Place). IsBefore p (place_of fault)) (sym stands) before)
         | inr earlier ↦ both (place_of fault) (place_of first) earlier before
       ]
@@ -108,7 +128,7 @@ module _ (Violated : Place → Type 0) (path_of : Place → List ℕ) where
       → place_of x ≡ place_of fault → x ≡ fault
   same_next faults k mark fault report so_far next few x within at same =
       let is : IsViolationOf Violated path_of x = subst (IsViolationOf Violated path_of) at (report.violations k x within) in
-      let number : x.number ≡ k + 1 = ap (λ (f : FaultValue). f.number) (sym at) ∙ report.numbered k x within in
+      let number : x.number ≡ k + 1 = ap (λ (f : FaultValue). f.number) (sym at) ∙ number_there 1 faults report.numbered k x within in
       same_fault path_of x fault (number ∙ sym (number_next fault.number mark.number k (length faults) next.number so_far.number within few)) same is.path next.violation.path
 
   found_next : (faults : List FaultValue) (k : ℕ) (mark : Mark) (fault : FaultValue) → IsReportOf Violated path_of faults → IsSoFar faults k mark
@@ -159,7 +179,7 @@ module _ (Violated : Place → Type 0) (path_of : Place → List ℕ) where
       let within = slice_get_within faults k fault is in
       record {
         violation = subst (IsViolationOf Violated path_of) here (report.violations k fault within);
-        later = subst (λ (f : FaultValue). IsLater mark (place_of f)) here (so_far.coming k fault (omega arith) within);
+        later = subst (λ (f : FaultValue). IsLater mark (place_of f)) here (coming_at faults k mark so_far k fault (omega arith) within);
         first = λ p violated later. next_at faults k mark fault report so_far is p later (report.complete p violated);
         number = number_at faults k fault report.numbered is ∙ sym (number_next (number_behind mark.number) mark.number k (length faults) refl so_far.number within few);
       }
@@ -182,7 +202,7 @@ module _ (Violated : Place → Type 0) (path_of : Place → List ℕ) where
       elim (slice_get_cases faults k).1 [
         | inl (x, less, is, at) ↦ absurd (none (place_of x)
             (subst (λ (f : FaultValue). Violated (place_of f)) at (report.violations k x less).violated)
-            (subst (λ (f : FaultValue). IsLater mark (place_of f)) at (so_far.coming k x (omega arith) less)))
+            (subst (λ (f : FaultValue). IsLater mark (place_of f)) at (coming_at faults k mark so_far k x (omega arith) less)))
         | inr (past, is) ↦ let within = so_far.given in omega (arith, within)
       ]
 

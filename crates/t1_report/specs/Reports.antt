@@ -1,6 +1,6 @@
 -- The report of a font: its violations by place, each once, numbered from 1.
-use Rattle.std.specs.Prelude.{◌≡◌, ℕ, zero, suc, ◌+◌, ◌/◌, ◌%◌, ◌<◌, ◌⊎◌, ◌==◌, ◌&&◌, nat_lt, if◌then◌else◌, Bool, true, false, Option, Some, None, List, [], length, slice_get, ◌||◌, not}
-use Rattle.std.specs.List.{All, AllPairs, Any, slice_index_or}
+use Rattle.std.specs.Prelude.{◌≡◌, ℕ, zero, suc, ◌+◌, ◌/◌, ◌%◌, ◌<◌, ◌⊎◌, ◌==◌, ◌&&◌, nat_lt, if◌then◌else◌, Bool, true, false, Option, Some, None, List, [], length, map, slice_get, ◌||◌, not}
+use Rattle.std.specs.List.{All, AllPairs, Any, range_with_len}
 use Rattle.t1_char.specs.Steps.{StepView, steps_of}
 use Rattle.t1_font.specs.Fonts.{FontValue}
 use Rattle.t1_rules.specs.declared.rule.Rule.{Rule}
@@ -113,10 +113,9 @@ StandsAt p fault = place_of fault ≡ p
 abbrev pub IsRising : List FaultValue → Type 0
 IsRising faults = AllPairs (λ earlier later. IsBefore (place_of earlier) (place_of later)) faults
 
--- The faults are numbered from n.
+-- The faults are numbered from n, one after another.
 abbrev pub AreNumbered : ℕ → List FaultValue → Type 0
-AreNumbered n faults =
-    (i : ℕ) (d : FaultValue) → i < length faults → (slice_index_or faults i d).number ≡ i + n
+AreNumbered n faults = map (λ fault. fault.number) faults ≡ range_with_len n (length faults)
 
 -- Over any violations, and what the path of each place is: a fault is a violation, with the path of its
 -- place.

@@ -1,12 +1,12 @@
 -- A report that is given one fault at a time, from a mark on.
-use Rattle.std.specs.Prelude.{◌≡◌, ℕ, zero, suc, ◌+◌, ◌-◌, ◌^◌, ◌≤◌, ◌<◌, ◌⊎◌, min, List, [], ◌∷◌, length, slice_index_or, take, ◌==◌, nat_lt, if◌then◌else◌, Option, Some, None, slice_range}
+use Rattle.std.specs.Prelude.{◌≡◌, ℕ, zero, suc, ◌+◌, ◌-◌, ◌^◌, ◌≤◌, ◌⊎◌, min, List, [], ◌∷◌, drop, length, take, ◌==◌, nat_lt, if◌then◌else◌, Option, Some, None, slice_range}
 use Rattle.t1_char.specs.Steps.{steps_of}
 use Rattle.t1_rules.specs.Book.{number_of}
 use Rattle.t1_report.specs.declared.marks.Mark.{Mark}
 use Rattle.t1_report.specs.Checked.{CheckedFont, step_limit}
 use Rattle.t1_report.specs.Faults.{FaultValue}
 use Rattle.t1_report.specs.Reports.{Comes, IsBefore, IsViolationOf, Place, path_at, place_of, IsTold, is_broken_below}
-use Rattle.std.specs.List.{sum_by}
+use Rattle.std.specs.List.{All, sum_by}
 use Rattle.t1_rules.specs.Components.{glyph_named}
 use Rattle.t1_report.specs.Waivers.{Waiver}
 
@@ -59,15 +59,17 @@ AreLater font waivers mark faults = AreLaterOf (IsTold font waivers) (path_at fo
 unfoldable pub turns_of_glyph : CheckedFont → ℕ → ℕ
 turns_of_glyph font glyph = length (take (step_limit font) (steps_of font.value glyph)) + 1
 
--- The same for a unit: none for the font; for so many units from one on; for those from one on up to another.
+-- How often for a unit's steps: the font is unit 0 and takes no turn.
 abbrev pub turns_of_unit : CheckedFont → ℕ → ℕ
 turns_of_unit font zero = 0
 turns_of_unit font (suc glyph) = turns_of_glyph font glyph
 
+-- For so many units, the first of them this one.
 unfoldable pub turns_of : CheckedFont → ℕ → ℕ → ℕ
 turns_of font from zero = 0
 turns_of font from (suc n) = turns_of font from n + turns_of_unit font (from + n)
 
+-- For the units from one on that stand before another: 0 where there are none.
 abbrev pub turns_before : CheckedFont → ℕ → ℕ → ℕ
 turns_before font from unit = turns_of font from (unit - from)
 
@@ -116,9 +118,10 @@ abbrev pub turns_in_all : CheckedFont → List Waiver → ℕ → ℕ → ℕ
 turns_in_all font waivers from first =
     turns_before font from (length font.value.glyphs + 1) + turns_asked font waivers from first (length waivers)
 
--- So far k faults of a report were given, and the mark is that of the last: those behind it are to come.
+-- So far k faults of a report were given, and k is the mark's number: the first k faults don't come after the mark,
+-- the others do.
 pub record IsSoFar (faults : List FaultValue) (k : ℕ) (mark : Mark) : Type 0 where
   pub given : k ≤ length faults
-  pub passed : (i : ℕ) (d : FaultValue) → i < k → IsLater mark (place_of (slice_index_or faults i d)) → ⊥
-  pub coming : (i : ℕ) (d : FaultValue) → k ≤ i → i < length faults → IsLater mark (place_of (slice_index_or faults i d))
+  pub passed : All (λ fault. IsLater mark (place_of fault) → ⊥) (take k faults)
+  pub coming : All (λ fault. IsLater mark (place_of fault)) (drop k faults)
   pub number : mark.number ≡ k

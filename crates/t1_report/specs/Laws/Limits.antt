@@ -18,12 +18,10 @@ pub record AreCheckedTo (limit : ℕ) (edition : Edition) : Type 0 where
   pub table : (font : FontValue) (glyph place n : ℕ) → glyph < length font.glyphs → place < limit →
       is_broken (checked font edition) (suc glyph) (suc place) n
       ≡ breaks_at (charstring_rules edition (components_of limit font)) n (steps_of font glyph) place
-
   -- The step behind these breaks L01, exactly where there is one, and no other rule.
   pub first_past : (font : FontValue) (glyph n : ℕ) → glyph < length font.glyphs →
       is_broken (checked font edition) (suc glyph) (suc limit) n
       ≡ (nat_lt limit (length (steps_of font glyph)) && number_of L01 == n)
-
   -- Further on nothing is broken.
   pub further : (font : FontValue) (glyph place n : ℕ) → limit < place →
       is_broken (checked font edition) (suc glyph) (suc place) n ≡ false
