@@ -60,9 +60,10 @@ impl<'a> Scanner<'a> {
         };
         let to = from + len;
         let text = &whole[from..to];
+        let kind = kind_of(text);
         self.place = to;
         Ok(Some(Token {
-            kind: kind_of(text),
+            kind,
             text,
             from,
             to,
