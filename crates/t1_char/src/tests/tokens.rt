@@ -3,7 +3,7 @@
 ghost use Rattle.std.specs.Prelude.{negsuc, pos, ◌≤ℤ◌};
 
 use super::push_token;
-use crate::{Command, tokens};
+use crate::{CharToken, Command, tokens};
 use std::alloc::{AllocError, Global};
 use std::process::Abort;
 use std::test::Fail;
@@ -55,6 +55,20 @@ const NUMBERS: &[(&[u8], &str)] = &[
 #[test]
 fn numbers_at_the_ends_of_each_form(rt: HostRuntime) -> Result<(), Fail> {
     assert_texts(&rt, rt.alloc(), NUMBERS)
+}
+
+/// The longest charstring of a font, of numbers alone.
+#[test]
+fn the_longest_charstring(rt: HostRuntime) -> Result<(), Fail> {
+    let mut code = Vec::new(rt.alloc());
+    for _ in 0..65_535 {
+        code.push(b'\x8b')?;
+    }
+    let listed = tokens(rt.alloc(), code.as_slice(), -1)?;
+    assert_eq!(rt; listed.len(), 65_536);
+    let numbers = listed.iter().filter(|token| **token == CharToken::Number(0));
+    assert_eq!(rt; numbers.count(), 65_535);
+    Ok(())
 }
 
 /// Every byte below 32 other than 12, in the order of the bytes.
