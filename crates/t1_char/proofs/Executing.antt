@@ -10,11 +10,10 @@ use Rattle.t1_char.specs.Charstrings.{code_at, tokens_in}
 use Rattle.t1_char.specs.Effects.{State, CalledSubr, Action, goes, calls, returns, finishes, effect, effect_of, most_calls}
 use Rattle.t1_char.specs.Steps.{StepView, at_start, is_callsubr, named_at, effect_at, step_at, steps_of}
 use Rattle.t1_char.specs.Workings.Actions.{named_of, state_of}
-use Rattle.t1_char.specs.Passing.{is_number}
 use Rattle.t1_char.specs.Workings.Cursors.{behind_token, tokens_left}
 use Rattle.t1_char.specs.Rests.{frame, rest_of}
 use Rattle.t1_char.specs.Workings.Frames.{IsReady, frames_with, left_behind, callers_of, state_in, step_here, steps_from, steps_behind}
-use Rattle.t1_char.specs.Workings.Plain.{GoesOver, IsPlainEffect}
+use Rattle.t1_char.specs.Workings.Plain.{GoesOverOne, IsPlainEffect, PassesNumber}
 use Rattle.t1_char.proofs.Expanding.{IsInner, open_by, behind_open}
 use Rattle.t1_char.proofs.Rests.{rest_of_one, rest_goes, rest_calls, rest_returns, rest_finishes, caller_on_top}
 
@@ -112,40 +111,30 @@ stands_before font glyph path callers stack waiting left no_path no_callers no_s
     (subst (λ zs. StandsBefore font all [] [] [] zs left) (sym no_waiting)
     (subst (λ ts. StandsBefore font all [] [] [] [] ts) (sym code) (before_all font glyph)))))
 
--- A number isn't the end, and calls no Subr.
-behind_number : (t : CharToken) (left : List CharToken) → is_number t ≡ true → behind_token t left ≡ left
-behind_number (Number _) left is = refl
-behind_number _ left is = let no : false ≡ true = is in cc
-
-number_calls_none : (t : CharToken) → is_number t ≡ true → is_callsubr t ≡ false
-number_calls_none (Number _) is = refl
-number_calls_none _ is = let no : false ≡ true = is in cc
-
--- The step was executed, and a number was read behind it.
-pub goes_over : (font : FontValue) (f new : Frames) → IsReady font f → IsPlainEffect f.step.token f.step.stack new.step.stack →
-    tokens_left f.current ≡ new.step.token ∷ tokens_left new.current → is_number new.step.token ≡ true → length new.step.stack < 24 →
-    new.step.path.items ≡ f.step.path.items → new.callers.items ≡ f.callers.items → new.waiting.items ≡ f.waiting.items →
-    GoesOver font f new
-goes_over font f new ready plain tokens number room path callers waiting =
-    let old : List ℕ = f.step.path.items in
-    let x : State = state_of new.step.stack f.waiting.items in
-    let calls_none : is_callsubr new.step.token ≡ false = number_calls_none new.step.token number in
-    record {
-      ready = record {
-        even = ap (λ l. length l) path ∙ ready.even ∙ sym (ap (λ l. length l) callers);
-        named = λ calls_subr. let no : false ≡ true = sym calls_none ∙ calls_subr in cc;
-      };
-      behind =
-          executed_goes font f x ready (plain (named_of f.named) (length old) f.waiting.items)
-          ∙ ap (of_left font f x) (tokens ∙ ap (λ left. new.step.token ∷ left) (sym (behind_number new.step.token (tokens_left new.current) number)))
-          ∙ ap (λ all. step_here font f ∷ (rest_of font (frame old (new.step.token ∷ left_behind new) ∷ callers_of old 0 all) x).steps) (sym callers)
-          ∙ ap (λ p. step_here font f ∷ (rest_of font (frame p (new.step.token ∷ left_behind new) ∷ callers_of p 0 new.callers.items) x).steps) (sym path)
-          ∙ ap (λ zs. step_here font f ∷ (rest_of font (frame new.step.path.items (new.step.token ∷ left_behind new) ∷ callers_of new.step.path.items 0 new.callers.items) (state_of new.step.stack zs)).steps) (sym waiting);
-      number = number;
-      room = room;
-    }
-
 -- The step was executed, and the run goes on with what stands behind it.
 pub executed_plain : (font : FontValue) (f : Frames) (stack : List ℤ) → IsReady font f → IsPlainEffect f.step.token f.step.stack stack → steps_from font f ≡ of_left font f (state_of stack f.waiting.items) (tokens_left f.current)
 executed_plain font f stack ready plain =
     executed_goes font f (state_of stack f.waiting.items) ready (plain (named_of f.named) (length f.step.path.items) f.waiting.items)
+
+-- A number stood behind it, and was executed.
+pub goes_over_one : (font : FontValue) (f new : Frames) → PassesNumber f.current new.current f.step.stack new.step.stack →
+    new.step.path.items ≡ f.step.path.items → new.callers.items ≡ f.callers.items → new.waiting.items ≡ f.waiting.items →
+    GoesOverOne font f new
+goes_over_one font f new is path callers waiting =
+    let old : List ℕ = f.step.path.items in
+    let t : CharToken = Number is.number in
+    let x : State = state_of new.step.stack f.waiting.items in
+    let left : List CharToken = tokens_left new.current in
+    let here : StepView = step_at font old t left (state_in f) in
+    record {
+      number = is.number;
+      room = is.room;
+      behind =
+          ap (λ tokens. (rest_of font (frames_with f tokens) (state_in f)).steps) is.token
+          ∙ ap (λ run. run.steps) (rest_goes font old t left (callers_of old 0 f.callers.items) (state_in f) x (sym (is.plain (named_at font t f.step.stack) (length old) f.waiting.items)))
+          ∙ ap (λ all. here ∷ (rest_of font (frame old left ∷ callers_of old 0 all) x).steps) (sym callers)
+          ∙ ap (λ p. here ∷ (rest_of font (frame p left ∷ callers_of p 0 new.callers.items) x).steps) (sym path)
+          ∙ ap (λ zs. here ∷ (rest_of font (frame new.step.path.items left ∷ callers_of new.step.path.items 0 new.callers.items) (state_of new.step.stack zs)).steps) (sym waiting);
+      path = path;
+      callers = callers;
+    }

@@ -1,20 +1,27 @@
 -- What a call of a machine answers, over its count and the steps of its glyph.
-use Rattle.std.proofs.Common.{◌≡◌, ℕ, zero, suc, ◌+◌, ◌-◌, ◌<◌, ◌≤◌, Bool, true, false, cond, nat_lt, None, Some, List, [], ◌∷◌, ◌++◌, length, take, drop, slice_get, length-take, refl, ap, sym, subst, ◌∙◌, lt-ltb, le-ltb, arith}
+use Rattle.std.proofs.Common.{◌≡◌, inl, inr, ℕ, zero, suc, ◌+◌, ◌-◌, ◌<◌, ◌≤◌, Bool, true, false, cond, nat_lt, None, Some, List, [], ◌∷◌, ◌++◌, length, take, drop, slice_get, length-take, refl, ap, sym, subst, ◌∙◌, lt-ltb, le-ltb, arith}
 use Rattle.t1_font.specs.Fonts.{FontValue}
 use Rattle.t1_char.specs.declared.frames.Frames.{Frames}
 use Rattle.t1_char.specs.declared.machine.Answer.{Answer}
 use Rattle.t1_char.specs.declared.machine.Answer.TheVariants.{Step, Ended, Limit}
 use Rattle.t1_char.specs.declared.token.CharToken.{CharToken}
+use Rattle.t1_char.specs.declared.token.CharToken.TheVariants.{Number}
 use Rattle.t1_char.specs.Charstrings.{tokens_in}
 use Rattle.t1_char.specs.Effects.{State, Action, goes, calls, returns, finishes, most_calls}
 use Rattle.t1_char.specs.Steps.{StepView, Run, and_then, expansion, step_at, effect_at, led_to}
 use Rattle.t1_char.specs.StepValues.{step_view, step_value}
 use Rattle.t1_char.specs.Turns.{ended, limited, stepped, step_of_number, step_or_end, limit_or_end, turn_at, counted_after}
+use Rattle.t1_char.specs.Asking.{IsAskedBehind}
+use Rattle.t1_char.specs.AnswerViews.{answer_view}
+use Rattle.t1_char.specs.declared.machine.Numbers.{Numbers}
+use Rattle.t1_char.specs.declared.machine.Numbers.TheVariants.{Told}
+use Rattle.t1_char.specs.Workings.Cursors.{tokens_left}
 use Rattle.t1_char.specs.Rests.{Frame, frame, rest_of}
-use Rattle.t1_char.specs.Workings.Frames.{IsReady, callers_of, state_in, left_behind, step_here, steps_from}
-use Rattle.t1_char.specs.Passing.{IsPassed, is_kept_number}
-use Rattle.t1_char.specs.Workings.Machines.{GoesOnFrom, IsAt, answer_view}
-use Rattle.t1_char.specs.Workings.Plain.{GoesOver}
+use Rattle.t1_char.specs.Workings.Frames.{IsReady, callers_of, state_in, left_behind, step_here, steps_behind, steps_from}
+use Rattle.t1_char.specs.Passing.{ArePassed, IsPassed}
+use Rattle.t1_char.specs.Workings.Machines.{GoesOnFrom, IsAt, IsBehind}
+use Rattle.t1_char.specs.Workings.Plain.{GoesOver, GoesOverOne, HasGoneOver}
+use Rattle.std.proofs.lemmas.Bool.{cases_lt}
 use Rattle.t1_char.proofs.Additions.{and_then_front}
 use Rattle.t1_char.proofs.TurnTests.{turn_by_limit}
 
@@ -125,20 +132,26 @@ answers_end limit steps font n f new h over =
       count = count_on limit steps n (omega (arith, few, h.near, h.within, length-take limit steps));
     }
 
--- The next step was read, and is what stands behind the one that was executed.
+-- The step in hand was executed.
+pub behind_executed : (limit : ℕ) (steps : List StepView) (font : FontValue) (n : ℕ) (f new : Frames) → GoesOnFrom limit steps font n f → steps_from font f ≡ step_here font f ∷ steps_behind font new → length new.step.path.items ≡ length new.callers.items
+    → IsBehind limit steps font n new
+behind_executed limit steps font n f new h over even =
+    record { even = even; steps_are = sym (ap tail_of (sym h.steps_are ∙ over)); near = h.near; within = h.within }
+
+-- The next step was read.
 pub record IsNext (font : FontValue) (n : ℕ) (f new : Frames) : Type 0 where
   pub ready : IsReady font new
-  pub behind : steps_from font f ≡ step_here font f ∷ steps_from font new
+  pub behind : steps_from font new ≡ steps_behind font f
   pub step_is : step_view new.step ≡ step_here font new
   pub number : new.step.number ≡ n + 1
 
-next_is : (limit : ℕ) (steps : List StepView) (font : FontValue) (n : ℕ) (f new : Frames) → GoesOnFrom limit steps font n f → IsNext font n f new → drop n steps ≡ step_here font new ∷ (leads font new).0
-next_is limit steps font n f new h next = ap tail_of (sym h.steps_are ∙ next.behind) ∙ (leads font new).1
+next_is : (limit : ℕ) (steps : List StepView) (font : FontValue) (n : ℕ) (f new : Frames) → IsBehind limit steps font n f → IsNext font n f new → drop n steps ≡ step_here font new ∷ (leads font new).0
+next_is limit steps font n f new h next = sym h.steps_are ∙ sym next.behind ∙ (leads font new).1
 
 same_step : (font : FontValue) (n : ℕ) (f new : Frames) → IsNext font n f new → step_of_number (n + 1) (step_here font new) ≡ step_value new.step
 same_step font n f new next = ap (λ step. step_of_number (n + 1) step) (sym next.step_is) ∙ ap (λ k. step_of_number k (step_view new.step)) (sym next.number)
 
-pub answers_step : (limit : ℕ) (steps : List StepView) (font : FontValue) (n : ℕ) (f new : Frames) → GoesOnFrom limit steps font n f → IsNext font n f new → n + 1 ≤ limit → Answers limit steps font n Step new
+pub answers_step : (limit : ℕ) (steps : List StepView) (font : FontValue) (n : ℕ) (f new : Frames) → IsBehind limit steps font n f → IsNext font n f new → n + 1 ≤ limit → Answers limit steps font n Step new
 answers_step limit steps font n f new h next near =
     let rest : List StepView = (leads font new).0 in
     let there : drop n steps ≡ step_here font new ∷ rest = next_is limit steps font n f new h next in
@@ -154,7 +167,7 @@ answers_step limit steps font n f new h next near =
       count = count_on limit steps n (omega (arith, near, h.within, length-take limit steps));
     }
 
-pub answers_limit : (limit : ℕ) (steps : List StepView) (font : FontValue) (n : ℕ) (f new : Frames) → GoesOnFrom limit steps font n f → IsNext font n f new → limit < n + 1 → Answers limit steps font n Limit new
+pub answers_limit : (limit : ℕ) (steps : List StepView) (font : FontValue) (n : ℕ) (f new : Frames) → IsBehind limit steps font n f → IsNext font n f new → limit < n + 1 → Answers limit steps font n Limit new
 answers_limit limit steps font n f new h next past =
     let rest : List StepView = (leads font new).0 in
     let there : drop n steps ≡ step_here font new ∷ rest = next_is limit steps font n f new h next in
@@ -175,28 +188,66 @@ answers_limit limit steps font n f new h next past =
 
 -- A number was gone over.
 pub record GoneOver (limit : ℕ) (steps : List StepView) (font : FontValue) (n : ℕ) (new : Frames) : Type 0 where
-  pub stands : GoesOnFrom limit steps font (n + 1) new
   pub passed : IsPassed limit steps n
+  pub behind : IsBehind limit steps font (n + 1) new
 
-kept_here : (font : FontValue) (f new : Frames) → GoesOver font f new → is_kept_number (step_here font new) ≡ true
-kept_here font f new over = rw (over.number, lt-ltb (length new.step.stack) 24 over.room) refl
-
-pub gone_over : (limit : ℕ) (steps : List StepView) (font : FontValue) (n : ℕ) (f new : Frames) → GoesOnFrom limit steps font n f → GoesOver font f new → n < limit → GoneOver limit steps font n new
+pub gone_over : (limit : ℕ) (steps : List StepView) (font : FontValue) (n : ℕ) (f new : Frames) → IsBehind limit steps font n f → GoesOverOne font f new → n < limit → GoneOver limit steps font n new
 gone_over limit steps font n f new h over near =
-    let rest : List StepView = (leads font new).0 in
-    let there : drop n steps ≡ step_here font new ∷ rest = ap tail_of (sym h.steps_are ∙ over.behind) ∙ (leads font new).1 in
+    let step : StepView = step_at font f.step.path.items (Number over.number) (tokens_left new.current) (state_in f) in
+    let rest : List StepView = steps_behind font new in
+    let there : drop n steps ≡ step ∷ rest = sym h.steps_are ∙ over.behind in
     let one_more : n + 1 ≡ suc n = omega arith in
     record {
-      stands = record {
-        ready = over.ready;
-        steps_are = (leads font new).1 ∙ ap (λ l. step_here font new ∷ l) (sym (ap (λ k. drop k steps) one_more ∙ drop_next n steps rest (step_here font new) there));
-        near = omega (arith, near);
-        within = is_within n steps rest (step_here font new) there;
-      };
       passed = record {
-        step = step_here font new;
-        there = get_there n steps rest (step_here font new) there;
-        kept = kept_here font f new over;
+        step = step;
+        there = get_there n steps rest step there;
+        kept = lt-ltb (length f.step.stack) 24 over.room;
         near = near;
       };
+      behind = record {
+        even = ap (λ l. length l) over.path ∙ h.even ∙ sym (ap (λ l. length l) over.callers);
+        steps_are = sym (ap (λ k. drop k steps) one_more ∙ drop_next n steps rest step there);
+        near = omega (arith, near);
+        within = is_within n steps rest step there;
+      };
     }
+
+-- None was gone over, and one more.
+pub over_none : (limit : ℕ) (font : FontValue) (n : ℕ) (f : Frames) → GoesOver limit font n f n f
+over_none limit font n f = λ steps behind. record { least = omega arith; passed = λ k from to. absurd (omega (arith, from, to)); behind = behind }
+
+pub over_one_more : (limit : ℕ) (font : FontValue) (n m : ℕ) (f g new : Frames) → GoesOver limit font n f m g → GoesOverOne font g new → m < limit → GoesOver limit font n f (m + 1) new
+over_one_more limit font n m f g new over one near = λ steps behind.
+    let so_far = over steps behind in
+    let more = gone_over limit steps font m g new so_far.behind one near in
+    record {
+      least = omega (arith, so_far.least);
+      passed = λ k from to. elim (cases_lt k m) [
+        | inl before ↦ so_far.passed k from before
+        | inr here ↦
+            let same : m ≡ k = omega (arith, here, to) in
+            subst (IsPassed limit steps) same more.passed
+      ];
+      behind = more.behind;
+    }
+
+-- What was asked, by what the answer leaves.
+pub asked_none : (numbers : Numbers) (limit : ℕ) (steps : List StepView) (font : FontValue) (n : ℕ) (answer : Answer) (f : Frames) → Answers limit steps font n answer f → IsAskedBehind numbers limit steps n (n + 1) (answer_view answer (step_value f.step))
+asked_none numbers limit steps font n answer f answers =
+    record { before = n; least = omega arith; passed = λ k from to. absurd (omega (arith, from, to)); told = λ is. refl; turn = answers.turn; counted = answers.count }
+
+pub asked_behind : (numbers : Numbers) (limit : ℕ) (steps : List StepView) (font : FontValue) (n before : ℕ) (f : Frames) (answer : Answer) (new : Frames) → HasGoneOver limit steps font n before f → (numbers ≡ Told → before ≡ n) → Answers limit steps font before answer new
+    → IsAskedBehind numbers limit steps n (before + 1) (answer_view answer (step_value new.step))
+asked_behind numbers limit steps font n before f answer new over told answers =
+    record { before = before; least = over.least; passed = over.passed; told = told; turn = answers.turn; counted = answers.count }
+
+-- The step in hand was executed, numbers were gone over, and the next step was read.
+pub record IsRead (font : FontValue) (f executed passed new : Frames) (limit n before : ℕ) : Type 0 where
+  pub executed_is : steps_from font f ≡ step_here font f ∷ steps_behind font executed
+  pub even : length executed.step.path.items ≡ length executed.callers.items
+  pub over : GoesOver limit font n executed before passed
+  pub next : IsNext font before passed new
+
+pub gone_behind : (limit : ℕ) (steps : List StepView) (font : FontValue) (n before : ℕ) (f executed passed new : Frames) → GoesOnFrom limit steps font n f → IsRead font f executed passed new limit n before → HasGoneOver limit steps font n before passed
+gone_behind limit steps font n before f executed passed new h read =
+    read.over steps (behind_executed limit steps font n f executed h read.executed_is read.even)

@@ -8,9 +8,12 @@ use Rattle.t1_font.specs.Fonts.{FontValue}
 use Rattle.t1_char.specs.declared.edition.Edition.{Edition}
 use Rattle.t1_char.specs.Editions.{limit_of}
 use Rattle.t1_char.specs.Steps.{StepView, NumberedStep, steps_of}
+use Rattle.t1_char.specs.declared.machine.Answer.{Answer}
+use Rattle.t1_char.specs.declared.machine.Answer.TheVariants as answers
 use Rattle.t1_char.specs.declared.machine.Turn.{Turn as Turns}
 use Rattle.t1_char.specs.declared.machine.Turn.TheVariants.{Step, Ended, Limit}
 use Rattle.t1_char.specs.declared.step.Step.{Step as Steps}
+use Rattle.t1_char.specs.AnswerViews.{answer_view}
 use Rattle.t1_char.specs.TurnViews.{turn_view}
 use Rattle.t1_char.specs.Turns.{MachineView, TurnValue, stepped, ended, limited, step_of_number, step_or_end, limit_or_end, turn_at, counted_after}
 use Rattle.t1_char.proofs.TurnTests.{turn_by_limit}
@@ -114,6 +117,23 @@ pub machine_over : (edition : Edition) (m : MachineView) (font : FontValue) (gly
 machine_over edition m font glyph turn same other is =
     take_all m.counted (take (limit_of edition) (steps_of font glyph))
     (turns_over (limit_of edition) (steps_of font glyph) m.counted (ap is_step (sym (is ∙ same_turn edition m font glyph same)) ∙ not_step turn other))
+
+-- The same of an answer without its step.
+no_step : (answer : Answer) (step : NumberedStep) → (answer ≡ answers.Step → ⊥) → is_step (answer_view answer step) ≡ false
+no_step answers.Step step other = absurd (other refl)
+no_step answers.Ended step other = refl
+no_step answers.Limit step other = refl
+
+pub answered_over : (limit : ℕ) (steps : List StepView) (n : ℕ) (answer : Answer) (step : NumberedStep) → (answer ≡ answers.Step → ⊥) → answer_view answer step ≡ turn_at limit steps n → take n (take limit steps) ≡ take limit steps
+answered_over limit steps n answer step other is =
+    take_all n (take limit steps) (turns_over limit steps n (ap is_step (sym is) ∙ no_step answer step other))
+
+-- The machine behind so many calls.
+abbrev pub behind : MachineView → ℕ → MachineView
+behind m calls = record { font = m.font; glyph = m.glyph; edition = m.edition; counted = calls; step = m.step }
+
+pub executes_behind : (edition : Edition) (m : MachineView) (font : FontValue) (glyph calls : ℕ) → Executes edition font glyph m → Executes edition font glyph (behind m calls)
+executes_behind edition m font glyph calls same = record { edition_is = same.edition_is; font_is = same.font_is; glyph_is = same.glyph_is }
 
 -- How many calls are left.
 pub fewer_left : (limit : ℕ) (steps : List StepView) (n counted : ℕ) → counted ≡ n + 1 → n < length (take limit steps) → limit + 1 - counted < limit + 1 - n

@@ -1,4 +1,6 @@
+pub mod AnswerViews
 pub mod Arguments
+pub mod Asking
 pub mod Charstrings
 pub mod Commands
 pub mod Editions

@@ -6,7 +6,6 @@ ghost use Rattle.t1_char.specs.Tokens.{charstring_tokens, long_number, more_of, 
 ghost use Rattle.t1_seal.specs.Cipher.{charstring_start, decrypted};
 ghost use Rattle.t1_char.specs.Steps.{is_end};
 ghost use Rattle.t1_char.specs.Workings.Cursors.{behind_token, bytes_left, key_after, key_of, plain_by, tokens_left};
-ghost use Rattle.t1_char.specs.Passing.{is_number};
 ghost use Rattle.std.specs.List.{list_any};
 ghost use Rattle.t1_char.specs.Seacs.{is_seac};
 ghost use Rattle.t1_char.specs.Workings.Seacs.{has_pair};
@@ -85,12 +84,11 @@ impl<'a> Cursor<'a> {
         }
     }
 
-    /// The next token, where it is a number of one or two bytes.
+    /// The next number, where it is one of one or two bytes.
     #[inline(always)]
     #[tactic(auto, using(crate::proofs::Skipping::tokens_behind_is), unfolding(crate::specs::Tokens::tokens_behind))]
-    pub(crate) fn next_number(&mut self) -> Option<CharToken>
-        ensures token { IfSome result (λ token. tokens_left self.old ≡ token ∷ tokens_left self.new) }
-        ensures number { IfSome result (λ token. is_number token ≡ true) }
+    pub(crate) fn next_number(&mut self) -> Option<i32>
+        ensures { IfSome result (λ number. tokens_left self.old ≡ Number number ∷ tokens_left self.new) }
     {
         if self.short {
             return None;
@@ -103,20 +101,19 @@ impl<'a> Cursor<'a> {
 
     /// The number of its first byte and the byte behind it.
     #[inline(always)]
-    fn number_behind(&mut self, first: u8) -> Option<CharToken>
-        ensures token { IfSome result (λ token. token_at first (bytes_left self.old) ≡ token) }
-        ensures number { IfSome result (λ token. is_number token ≡ true) }
-        ensures left { IfSome result (λ token. bytes_left self.new ≡ drop (more_of first) (bytes_left self.old)) }
+    fn number_behind(&mut self, first: u8) -> Option<i32>
+        ensures token { IfSome result (λ number. token_at first (bytes_left self.old) ≡ Number number) }
+        ensures left { IfSome result (λ number. bytes_left self.new ≡ drop (more_of first) (bytes_left self.old)) }
         ensures short { self.new.short ≡ self.old.short }
     {
         match first {
-            32..=246 => Some(CharToken::Number(i32::from(first) - 139)),
+            32..=246 => Some(i32::from(first) - 139),
             247..=250 => match self.next_byte() {
-                Some(second) => Some(CharToken::Number(i32::from(pair(first - 247, second)))),
+                Some(second) => Some(i32::from(pair(first - 247, second))),
                 None => None,
             },
             251..=254 => match self.next_byte() {
-                Some(second) => Some(CharToken::Number(-i32::from(pair(first - 251, second)))),
+                Some(second) => Some(-i32::from(pair(first - 251, second))),
                 None => None,
             },
             _ => None,

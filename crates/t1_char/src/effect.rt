@@ -1,7 +1,8 @@
 //! The effect of a token on the stack, on the results that wait, and on the run: Type 1 Font Format
 //! 1.1, chapters 6 and 8.
 
-ghost use Rattle.std.specs.Prelude.{◌≡◌, ◌≤◌, ◌+◌, false, length, true};
+ghost use Rattle.std.specs.Prelude.{◌≡◌, ◌≤◌, false, length, true};
+ghost use Rattle.t1_char.specs.declared.token.CharToken.TheVariants.{Number};
 ghost use Rattle.t1_char.specs.Effects.{after_othersubr, call_of, divided, effect, effect_of, popped, results, work_of, working};
 ghost use Rattle.t1_char.specs.Stacks.{topmost, without};
 ghost use Rattle.t1_char.specs.Workings.Actions.{IsNested, action_of, named_of, state_of, work_view};
@@ -52,12 +53,19 @@ pub(crate) fn apply<'a>(
     }
 }
 
+/// Executes a number.
+#[inline(always)]
+pub(crate) fn put_number(stack: &mut Stack, number: i32)
+    ensures { IsPlainEffect (Number number) stack.old stack.new }
+{
+    stack.put(units(number));
+}
+
 /// Executes a number or a command that empties the stack and does no more; tells whether it did.
 #[inline(always)]
 pub(crate) fn apply_plain(stack: &mut Stack, token: CharToken) -> bool
     ensures plain { result ≡ true → IsPlainEffect token stack.old stack.new }
     ensures stays { result ≡ false → stack.new ≡ stack.old }
-    ensures most { length stack.new ≤ length stack.old + 1 }
 {
     match token {
         CharToken::Number(number) => {

@@ -1,6 +1,6 @@
 //! The charstrings that are being executed: a glyph's, and those of the Subrs that it calls.
 
-ghost use Rattle.std.specs.Prelude.{◌≡◌, ◌<◌, ◌-◌, ◌++◌, ◌∷◌, [], if◌then◌else◌, false, is_some, length, take, true};
+ghost use Rattle.std.specs.Prelude.{◌≡◌, ◌<◌, ◌≤◌, ◌-◌, ◌++◌, ◌∷◌, [], if◌then◌else◌, false, is_some, length, take, true};
 ghost use Rattle.t1_char.specs.Charstrings.{tokens_in};
 ghost use Rattle.t1_char.specs.Effects.{most_calls};
 ghost use Rattle.t1_char.specs.Steps.{named_at, steps_of};
@@ -8,12 +8,14 @@ ghost use Rattle.t1_char.specs.Workings.Actions.{named_of};
 ghost use Rattle.t1_char.specs.StepValues.{step_view};
 ghost use Rattle.t1_char.specs.Workings.Cursors.{tokens_left};
 ghost use Rattle.t1_char.specs.Workings.Frames.{IsReady, state_in, step_here, steps_behind, steps_from};
-ghost use Rattle.t1_char.specs.Workings.Plain.{GoesOver};
+ghost use Rattle.t1_char.specs.Workings.Plain.{GoesOver, PassesNumber};
+ghost use Rattle.t1_char.specs.declared.machine.Numbers.TheVariants.{Told};
 
 use crate::action::Action;
 use crate::charstrings::{code_at, cursor_at};
 use crate::cursor::Cursor;
-use crate::effect::{Waiting, apply, apply_plain};
+use crate::effect::{Waiting, apply, apply_plain, put_number};
+use crate::machine::Numbers;
 use crate::stack::Stack;
 use crate::step::{Step, is_callsubr, is_last, named_at};
 use crate::subr::Subr;
@@ -145,29 +147,35 @@ impl<'a> Frames<'a> {
         }
     }
 
-    /// Executes the step and reads the next one, where it is a number that the stack has room for, and the
-    /// step a number or a command that only empties the stack; else nothing is done.
+    /// Goes over the numbers that come next where they are to be passed, and tells behind how many steps the run
+    /// stands, where it stood behind `counted`.
     #[inline(always)]
-    pub(crate) fn pass_number(&mut self, _font: &'a Font<'a>) -> bool
-        requires { IsReady _font.now self.old }
-        ensures over { result ≡ true → GoesOver _font.now self.old self.new }
-        ensures stays { result ≡ false → self.new ≡ self.old }
+    pub(crate) fn pass(&mut self, numbers: Numbers, font: &'a Font<'a>, counted: u32, limit: u32) -> u32
+        requires { counted ≤ limit }
+        ensures over { GoesOver limit font.now counted self.old result self.new }
+        ensures told { numbers ≡ Told → result ≡ counted }
+        ensures near { result ≤ limit }
     {
-        if self.step.stack.len() > 22 {
-            return false;
+        match numbers {
+            Numbers::Told => counted,
+            Numbers::Passed => self.pass_numbers(font, counted, limit),
         }
+    }
+
+    /// Goes over the numbers that come next and that the stack has room for, up to the limit.
+    #[inline(always)]
+    fn pass_numbers(&mut self, font: &'a Font<'a>, counted: u32, limit: u32) -> u32
+        requires { counted ≤ limit }
+        ensures over { GoesOver limit font.now counted self.old result self.new }
+        ensures near { result ≤ limit }
+    {
+        let mut passed = counted;
         let mut ahead = self.current;
-        match ahead.next_number() {
-            None => false,
-            Some(token) => {
-                if !apply_plain(&mut self.step.stack, self.step.token) {
-                    return false;
-                }
-                self.current = ahead;
-                self.step.token = token;
-                true
-            }
+        while passed < limit && pass_number(&mut ahead, &mut self.step.stack) {
+            passed += 1;
         }
+        self.current = ahead;
+        passed
     }
 
     /// Reads the next step.
@@ -188,6 +196,7 @@ impl<'a> Frames<'a> {
         }
         self.step.last = is_last(&self.step.token, &self.current, self.step.path.len());
     }
+
     /// Looks for the Subr that the step calls.
     #[inline(never)]
     fn name(&mut self, font: &'a Font<'a>)
@@ -197,5 +206,26 @@ impl<'a> Frames<'a> {
     {
         self.named = named_at(font, self.step.token, &self.step.stack);
         self.step.found = self.named.is_some();
+    }
+}
+
+/// Executes the number that comes next, if it is one and the stack has room for it; else nothing is done.
+#[inline(always)]
+fn pass_number(ahead: &mut Cursor<'_>, stack: &mut Stack) -> bool
+    ensures passed { result ≡ true → PassesNumber ahead.old ahead.new stack.old stack.new }
+    ensures stays { result ≡ false → ahead.new ≡ ahead.old }
+    ensures kept { result ≡ false → stack.new ≡ stack.old }
+{
+    if stack.len() >= 24 {
+        return false;
+    }
+    let mut behind = *ahead;
+    match behind.next_number() {
+        None => false,
+        Some(number) => {
+            *ahead = behind;
+            put_number(stack, number);
+            true
+        }
     }
 }

@@ -61,7 +61,7 @@ pub use laws::{
     short_and_cut_charstrings_are_told, stacks_are_taken_from_the_top, steps_are_looked_back_on,
     steps_follow_the_tokens, steps_go_on, steps_tell_calls_and_ends, written_charstrings_are_read,
 };
-pub use machine::{Machine, Turn};
+pub use machine::{Answer, Machine, Numbers, Turn};
 pub use numbers::{cut_quotient, natural};
 pub use seacs::{steps_lack_seac, subrs_lack_seac};
 pub use stack::Stack;

@@ -1,13 +1,13 @@
 //! The steps of a glyph one at a time: Type 1 Font Format 1.1, chapters 6 and 8.
 
-ghost use Rattle.std.specs.Prelude.{◌≡◌, ◌<◌, ◌≤◌, ◌+◌, if◌then◌else◌, length, true};
+ghost use Rattle.std.specs.Prelude.{◌≡◌, ◌<◌, ◌≤◌, ◌+◌, length};
 ghost use Rattle.t1_char.specs.Editions.{limit_of};
-ghost use Rattle.t1_char.specs.Passing.{ArePassed, IsPassed};
+ghost use Rattle.t1_char.specs.Asking.{IsAsked};
 ghost use Rattle.t1_char.specs.Steps.{steps_of};
 ghost use Rattle.t1_char.specs.StepValues.{step_value};
 ghost use Rattle.t1_char.specs.Turns.{counted_after, turn_at};
+ghost use Rattle.t1_char.specs.AnswerViews.{answer_view, is_over};
 ghost use Rattle.t1_char.specs.TurnViews.{turn_view};
-ghost use Rattle.t1_char.specs.Workings.Machines.{answer_view};
 
 use crate::edition::Edition;
 use crate::frames::Frames;
@@ -26,12 +26,34 @@ pub enum Turn<'m> {
     Limit(&'m Step),
 }
 
-/// The same without the step.
+/// The same without the step, which [`Machine::current`] lends.
 #[derive(Clone, Copy)]
-enum Answer {
+pub enum Answer {
+    /// There is a next step.
     Step,
+    /// The glyph has no further step.
     Ended,
+    /// It is the first step past the limit.
     Limit,
+}
+
+impl Answer {
+    /// Whether the glyph has no further step.
+    #[inline(always)]
+    pub fn is_over(self) -> bool
+        ensures { result ≡ is_over self }
+    {
+        matches!(self, Answer::Ended)
+    }
+}
+
+/// What becomes of the numbers that come next and that the stack has room for.
+#[derive(Clone, Copy)]
+pub enum Numbers {
+    /// Each is told as a step.
+    Told,
+    /// The machine goes over them, and each counts as a step that it was asked for.
+    Passed,
 }
 
 /// A glyph that is executed step by step: no list is made, and no memory is taken.
@@ -115,61 +137,16 @@ impl<'a> Machine<'a> {
         ensures* moves_on { sem 𝓛 (MovesOn self.entry) }
         ensures turn { turn_view result ≡ turn_at (limit_of self.old.edition) (steps_of self.old.font self.old.glyph) self.old.counted }
     {
-        match self.go_on() {
-            Answer::Step => Turn::Step(self.shown()),
+        match self.tell() {
+            Answer::Step => Turn::Step(self.current()),
             Answer::Ended => Turn::Ended,
-            Answer::Limit => Turn::Limit(self.shown()),
+            Answer::Limit => Turn::Limit(self.current()),
         }
     }
 
-    /// Goes over the numbers that follow and that the stack has room for, up to the limit: each counts as a step
-    /// that was asked for.
+    /// The same of each step, without the step.
     #[inline(always)]
-    pub fn pass_numbers(&mut self)
-        ensures passed { ArePassed (limit_of self.old.edition) (steps_of self.old.font self.old.glyph) self.old.counted self.new.counted }
-        ensures counted { self.old.counted ≤ self.new.counted }
-        ensures font { self.new.font ≡ self.old.font }
-        ensures glyph { self.new.glyph ≡ self.old.glyph }
-        ensures edition { self.new.edition ≡ self.old.edition }
-    {
-        while self.pass_number() {}
-    }
-
-    /// Goes over one such number, if there is one.
-    #[inline(always)]
-    fn pass_number(&mut self) -> bool
-        ensures passed { result ≡ true → IsPassed (limit_of self.old.edition) (steps_of self.old.font self.old.glyph) self.old.counted }
-        ensures counted { self.new.counted ≡ (if result then self.old.counted + 1 else self.old.counted) }
-        ensures font { self.new.font ≡ self.old.font }
-        ensures glyph { self.new.glyph ≡ self.old.glyph }
-        ensures edition { self.new.edition ≡ self.old.edition }
-    {
-        match self.answer {
-            Answer::Step => {
-                if self.counted >= self.limit {
-                    return false;
-                }
-                let passed = self.frames.pass_number(self.font);
-                if passed {
-                    self.counted += 1;
-                }
-                passed
-            }
-            Answer::Ended | Answer::Limit => false,
-        }
-    }
-
-    /// How often it was asked for a step, up to the first end or limit; a number that was passed counts as asked for.
-    pub fn counted(&self) -> u32
-        ensures counted { result ≡ self.now.counted }
-        ensures most { result ≤ limit_of self.now.edition + 1 }
-    {
-        self.counted
-    }
-
-    /// Executes the step that was answered last, and reads the next.
-    #[inline(always)]
-    fn go_on(&mut self) -> Answer
+    fn tell(&mut self) -> Answer
         ensures answer { answer_view result self.new.step
             ≡ turn_at (limit_of self.old.edition) (steps_of self.old.font self.old.glyph) self.old.counted }
         ensures counted { self.new.counted
@@ -178,13 +155,27 @@ impl<'a> Machine<'a> {
         ensures glyph { self.new.glyph ≡ self.old.glyph }
         ensures edition { self.new.edition ≡ self.old.edition }
     {
+        self.go_on(Numbers::Told)
+    }
+
+    /// Executes the step that was told last, goes over the numbers behind it where they are to be passed, and reads
+    /// the next step, up to the limit of the edition; the end and the limit are told again.
+    #[inline(always)]
+    pub fn go_on(&mut self, numbers: Numbers) -> Answer
+        ensures asked { IsAsked numbers self.old self.new (answer_view result self.new.step) }
+        ensures font { self.new.font ≡ self.old.font }
+        ensures glyph { self.new.glyph ≡ self.old.glyph }
+        ensures edition { self.new.edition ≡ self.old.edition }
+    {
         match self.answer {
             Answer::Step => {
-                self.counted += 1;
                 if !self.frames.execute(self.font) {
+                    self.counted += 1;
                     self.answer = Answer::Ended;
                     return Answer::Ended;
                 }
+                let before = self.frames.pass(numbers, self.font, self.counted, self.limit);
+                self.counted = before + 1;
                 self.frames.read(self.font, self.counted);
                 if self.counted > self.limit {
                     self.answer = Answer::Limit;
@@ -196,9 +187,19 @@ impl<'a> Machine<'a> {
         }
     }
 
-    fn shown(&self) -> &Step
+    /// The step that was told last; before the first call a step that does nothing.
+    #[inline(always)]
+    pub fn current(&self) -> &Step
         ensures { step_value result.now ≡ self.now.step }
     {
         &self.frames.step
+    }
+
+    /// How often it was asked for a step, up to the first end or limit; a number that was passed counts as asked for.
+    pub fn counted(&self) -> u32
+        ensures counted { result ≡ self.now.counted }
+        ensures most { result ≤ limit_of self.now.edition + 1 }
+    {
+        self.counted
     }
 }

@@ -1,13 +1,23 @@
 -- Numbers that a machine goes over, while the watchers are calm.
-use Rattle.std.proofs.Common.{◌≡◌, ℕ, ℤ, zero, suc, ◌+◌, ◌-◌, ◌<◌, ◌≤◌, inl, inr, false, List, length, length-take, take, refl, sym, ap, subst, ◌∙◌, arith}
+use Rattle.std.proofs.Common.{◌≡◌, ℕ, ℤ, zero, suc, ◌+◌, ◌-◌, ◌<◌, ◌≤◌, inl, inr, true, false, List, length, length-take, take, refl, sym, ap, subst, ◌∙◌, arith}
 use Rattle.std.proofs.lemmas.Bool.{cases_lt}
 use Rattle.std.proofs.lemmas.Option.{slice_get_within}
 use Rattle.t1_char.specs.declared.edition.Edition.{Edition}
 use Rattle.t1_char.specs.declared.token.CharToken.TheVariants.{Number}
 use Rattle.t1_char.specs.Editions.{limit_of}
 use Rattle.t1_char.specs.Passing.{ArePassed, IsPassed}
-use Rattle.t1_char.specs.Steps.{StepView, steps_of}
-use Rattle.t1_char.specs.Turns.{MachineView}
+use Rattle.t1_char.specs.Steps.{NumberedStep, StepView, steps_of}
+use Rattle.t1_char.specs.AnswerViews.{answer_view, is_over}
+use Rattle.t1_char.specs.Asking.{IsAsked}
+use Rattle.t1_char.specs.declared.machine.Answer.{Answer}
+use Rattle.t1_char.specs.declared.machine.Answer.TheVariants as answers
+use Rattle.t1_char.specs.declared.machine.Answer.TheVariants.{Ended, Limit}
+use Rattle.t1_char.specs.declared.machine.Numbers.{Numbers}
+use Rattle.t1_char.specs.declared.machine.Numbers.TheVariants.{Passed, Told}
+use Rattle.t1_char.specs.declared.step.Step.{Step}
+use Rattle.t1_char.specs.StepValues.{step_value}
+use Rattle.t1_char.specs.Turns.{MachineView, TurnValue, ended, limited, stepped}
+use Rattle.t1_char.proofs.TurnsTaken.{IsOver, behind}
 use Rattle.t1_rules.specs.declared.sidebearings.Component.{Component}
 use Rattle.t1_rules.specs.declared.watches.Watches.{Watches}
 use Rattle.t1_rules.specs.Book.{number_of}
@@ -22,7 +32,7 @@ use Rattle.t1_report.specs.Searches.{IsQuiet, IsRun}
 use Rattle.t1_report.specs.Walks.{turns_of_glyph}
 use Rattle.t1_report.proofs.Broken.{at_step, both_kinds, rules_by, within_limit}
 use Rattle.t1_report.proofs.GlyphSteps.{take_next}
-use Rattle.t1_report.proofs.RunSteps.{run_of}
+use Rattle.t1_report.proofs.RunSteps.{IsRunAt, IsTold, count_at_end, run_at, run_of, told_end, told_limit, told_step}
 
 -- Calm watchers stand for what is behind such numbers.
 stands_more : (edition : Edition) (w : Watches) (limit : ℕ) (all : List StepView) (k : ℕ) → IsCalm w → IsPassed limit all k → WatchesStandFor edition w (take k all) → WatchesStandFor edition w (take (k + 1) all)
@@ -120,6 +130,77 @@ quiet_on m font glyph unit from to of_font of_glyph at front back = λ s rule pa
           (subst (λ u. is_broken (executed m) u s (number_of rule) ≡ false) (ap (λ g. g + 1) of_glyph ∙ sym at) (back s rule behind less))
     ]
 
+-- Behind the numbers that a machine went over, none where a rule may speak of them.
+pub record StandsBehind (font : CheckedFont) (glyph unit from before : ℕ) (w : Watches) : Type 0 where
+  pub run : IsRunAt font glyph before w
+  pub quiet : IsQuiet font unit from (before + 1)
+
+pub stands_behind_numbers : (numbers : Numbers) (m new : MachineView) (answer : TurnValue) (w : Watches) (font : CheckedFont) (glyph unit from : ℕ) → (numbers ≡ Passed → IsCalm w) → executed m ≡ font → m.glyph ≡ glyph → unit ≡ glyph + 1 → IsRun m w → IsQuiet font unit from (m.counted + 1)
+    → (asked : IsAsked numbers m new answer) → StandsBehind font glyph unit from asked.before w
+stands_behind_numbers Told m new answer w font glyph unit from calm of_font of_glyph at run quiet asked =
+    subst (λ k. StandsBehind font glyph unit from k w) (sym (asked.told refl)) (record { run = run_at font glyph m w of_font of_glyph run; quiet = quiet })
+stands_behind_numbers Passed m new answer w font glyph unit from calm of_font of_glyph at run quiet asked =
+    let is_calm : IsCalm w = calm refl in
+    record {
+      run = run_at font glyph (behind m asked.before) w of_font of_glyph (passed_run m (behind m asked.before) w refl refl asked.least is_calm asked.passed run);
+      quiet = quiet_on m font glyph unit from (asked.before + 1) of_font of_glyph at quiet (passed_quiet m w asked.before is_calm asked.passed run);
+    }
+
+near_behind : (limit : ℕ) (all : List StepView) (n before : ℕ) → n ≤ before → ArePassed limit all n before → n ≤ limit → before ≤ limit
+near_behind limit all n before more passed near =
+    elim (cases_lt n before) [
+      | inl less ↦
+          let last = passed (before - 1) (omega (arith, less)) (omega (arith, less)) in
+          omega (arith, less, last.near)
+      | inr none ↦ omega (arith, none, near)
+    ]
+
+near_font : (m : MachineView) (font : CheckedFont) (before : ℕ) → executed m ≡ font → m.counted ≤ before → ArePassed (limit_of m.edition) (steps_of m.font m.glyph) m.counted before → m.counted ≤ step_limit font → before ≤ step_limit font
+near_font m font before of_font more passed near =
+    subst (λ (f : CheckedFont). before ≤ step_limit f) of_font
+    (near_behind (limit_of m.edition) (steps_of m.font m.glyph) m.counted before more passed (subst (λ (f : CheckedFont). m.counted ≤ step_limit f) (sym of_font) near))
+
+-- What the machine told behind them: a step, or the first past the limit.
+told_behind : (numbers : Numbers) (m new : MachineView) (answer : Answer) (step : Step) (font : CheckedFont) (glyph : ℕ) → executed m ≡ font → m.glyph ≡ glyph → m.counted ≤ step_limit font → is_over answer ≡ false → step_value step ≡ new.step
+    → (asked : IsAsked numbers m new (answer_view answer new.step)) → IsTold font glyph asked.before new.counted step
+told_behind numbers m new Ended step font glyph of_font of_glyph near on here asked = let no : true ≡ false = on in cc
+told_behind numbers m new answers.Step step font glyph of_font of_glyph near on here asked =
+    told_step (behind m asked.before) font glyph new.counted step of_font of_glyph (near_font m font asked.before of_font asked.least asked.passed near) asked.counted (ap stepped here ∙ asked.turn)
+told_behind numbers m new Limit step font glyph of_font of_glyph near on here asked =
+    told_limit (behind m asked.before) font glyph new.counted step of_font of_glyph (near_font m font asked.before of_font asked.least asked.passed near) asked.counted (ap limited here ∙ asked.turn)
+
+-- The same with all that is known in front of the step.
+pub record IsTurn (font : CheckedFont) (glyph unit from n counted : ℕ) (w : Watches) (step : Step) : Type 0 where
+  pub before : ℕ
+  pub least : n ≤ before
+  pub stands : StandsBehind font glyph unit from before w
+  pub told : IsTold font glyph before counted step
+
+pub turn_behind : (numbers : Numbers) (m new : MachineView) (answer : Answer) (step : Step) (w : Watches) (font : CheckedFont) (glyph unit from : ℕ) → (numbers ≡ Passed → IsCalm w) → executed m ≡ font → m.glyph ≡ glyph → unit ≡ glyph + 1 → IsRun m w → IsQuiet font unit from (m.counted + 1)
+    → m.counted ≤ step_limit font → is_over answer ≡ false → step_value step ≡ new.step → IsAsked numbers m new (answer_view answer new.step) → IsTurn font glyph unit from m.counted new.counted w step
+turn_behind numbers m new answer step w font glyph unit from calm of_font of_glyph at run quiet near on here asked =
+    record {
+      before = asked.before;
+      least = asked.least;
+      stands = stands_behind_numbers numbers m new (answer_view answer new.step) w font glyph unit from calm of_font of_glyph at run quiet asked;
+      told = told_behind numbers m new answer step font glyph of_font of_glyph near on here asked;
+    }
+
+-- Or that there is none.
+ended_view : (answer : Answer) (step : NumberedStep) → is_over answer ≡ true → ended ≡ answer_view answer step
+ended_view Ended step is = refl
+ended_view answers.Step step is = let no : false ≡ true = is in cc
+ended_view Limit step is = let no : false ≡ true = is in cc
+
+pub record EndsBehind (font : CheckedFont) (glyph before counted : ℕ) : Type 0 where
+  pub over : IsOver (step_limit font) (steps_of font.value glyph) before
+  pub counted_is : counted ≡ turns_of_glyph font glyph
+
+pub ended_behind : (numbers : Numbers) (m new : MachineView) (answer : Answer) (font : CheckedFont) (glyph : ℕ) → executed m ≡ font → m.glyph ≡ glyph → is_over answer ≡ true → (asked : IsAsked numbers m new (answer_view answer new.step)) → asked.before ≤ turns_of_glyph font glyph → EndsBehind font glyph asked.before new.counted
+ended_behind numbers m new answer font glyph of_font of_glyph is asked few =
+    let over = told_end (behind m asked.before) font glyph of_font of_glyph (ended_view answer new.step is ∙ asked.turn) in
+    record { over = over; counted_is = count_at_end (behind m asked.before) font glyph new.counted of_font of_glyph over few asked.counted }
+
 -- How many more times the machine can be asked then.
-pub fewer_turns_left : (limit n counted behind : ℕ) → counted ≡ n + 1 → counted ≤ behind → n ≤ limit → limit + 1 - behind < limit + 1 - n
-fewer_turns_left limit n counted behind is more near = omega (arith, is, more, near)
+pub fewer_turns_left : (font : CheckedFont) (glyph unit from n counted : ℕ) (w : Watches) (step : Step) → IsTurn font glyph unit from n counted w step → n ≤ step_limit font → step_limit font + 1 - counted < step_limit font + 1 - n
+fewer_turns_left font glyph unit from n counted w step turn near = omega (arith, turn.least, turn.told.counted_is, near)

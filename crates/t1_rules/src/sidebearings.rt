@@ -19,7 +19,7 @@ use crate::step_rules::seac::{accent_code, base_code, is_unnamed};
 use crate::step_rules::tokens::{is_seac, sets_width};
 use std::alloc::{AllocError, Global};
 use std::marker::Model;
-use t1_char::{CharToken, Edition, Machine, Step, Turn, steps_lack_seac, subrs_lack_seac};
+use t1_char::{Answer, CharToken, Edition, Machine, Numbers, Step, steps_lack_seac, subrs_lack_seac};
 use t1_font::Font;
 
 /// How many codes there are.
@@ -253,12 +253,11 @@ fn component_of_glyph<'a>(
         sidebearing: None,
         has_seac: false,
     };
-    while let Turn::Step(step) = machine.step() {
-        component.take_in(step);
+    while let Answer::Step = machine.go_on(Numbers::Passed) {
+        component.take_in(machine.current());
         if lacks_seac && component.sidebearing.is_some() {
             return component;
         }
-        machine.pass_numbers();
     }
     component
 }

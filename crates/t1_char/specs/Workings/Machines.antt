@@ -4,20 +4,22 @@ use Rattle.t1_font.specs.Fonts.{FontValue}
 use Rattle.t1_char.specs.declared.frames.Frames.{Frames}
 use Rattle.t1_char.specs.declared.machine.Answer.{Answer}
 use Rattle.t1_char.specs.declared.machine.Answer.TheVariants.{Step, Ended, Limit}
-use Rattle.t1_char.specs.Steps.{StepView, NumberedStep}
+use Rattle.t1_char.specs.Steps.{StepView}
 use Rattle.t1_char.specs.StepValues.{step_value}
-use Rattle.t1_char.specs.Turns.{TurnValue, stepped, ended, limited, turn_at, counted_after}
-use Rattle.t1_char.specs.Workings.Frames.{IsReady, steps_from, step_here}
-
-abbrev pub answer_view : Answer → NumberedStep → TurnValue
-answer_view Step step = stepped step
-answer_view Ended step = ended
-answer_view Limit step = limited step
+use Rattle.t1_char.specs.Turns.{TurnValue, ended, limited, turn_at, counted_after}
+use Rattle.t1_char.specs.Workings.Frames.{IsReady, steps_from, steps_behind, step_here}
 
 -- Behind n steps the run goes on with the others.
 pub record GoesOnFrom (limit : ℕ) (steps : List StepView) (font : FontValue) (n : ℕ) (f : Frames) : Type 0 where
   pub ready : IsReady font f
   pub steps_are : steps_from font f ≡ step_here font f ∷ drop n steps
+  pub near : n ≤ limit
+  pub within : n ≤ length steps
+
+-- The same where the step in hand was executed, and the next isn't read yet.
+pub record IsBehind (limit : ℕ) (steps : List StepView) (font : FontValue) (n : ℕ) (f : Frames) : Type 0 where
+  pub even : length f.step.path.items ≡ length f.callers.items
+  pub steps_are : steps_behind font f ≡ drop n steps
   pub near : n ≤ limit
   pub within : n ≤ length steps
 

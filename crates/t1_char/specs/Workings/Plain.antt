@@ -1,12 +1,17 @@
 -- Numbers, and commands that empty the stack and do no more.
-use Rattle.std.specs.Prelude.{◌≡◌, ℕ, ℤ, ◌<◌, Bool, true, false, Option, List, ◌∷◌, length}
+use Rattle.std.specs.Prelude.{◌≡◌, ℕ, ℤ, ◌<◌, ◌≤◌, Bool, true, false, Option, List, ◌∷◌, length}
 use Rattle.t1_font.specs.Fonts.{FontValue}
+use Rattle.t1_char.specs.declared.cursor.Cursor.{Cursor}
 use Rattle.t1_char.specs.declared.frames.Frames.{Frames}
 use Rattle.t1_char.specs.declared.token.CharToken.{CharToken}
+use Rattle.t1_char.specs.declared.token.CharToken.TheVariants.{Number}
 use Rattle.t1_char.specs.Effects.{CalledSubr, Work, clears, goes, effect, effect_of}
-use Rattle.t1_char.specs.Passing.{is_number}
+use Rattle.t1_char.specs.Passing.{ArePassed}
+use Rattle.t1_char.specs.Steps.{StepView, step_at}
 use Rattle.t1_char.specs.Workings.Actions.{state_of}
-use Rattle.t1_char.specs.Workings.Frames.{IsReady, step_here, steps_from}
+use Rattle.t1_char.specs.Workings.Cursors.{tokens_left}
+use Rattle.t1_char.specs.Workings.Frames.{state_in, steps_behind}
+use Rattle.t1_char.specs.Workings.Machines.{IsBehind}
 
 abbrev pub is_clearing : Work → Bool
 is_clearing clears = true
@@ -18,9 +23,27 @@ IsPlainEffect token old new =
     (named : Option CalledSubr) (depth : ℕ) (waiting : List ℤ) →
     effect (state_of new waiting) goes ≡ effect_of token named depth (state_of old waiting)
 
--- The step was executed, and the next one is a number that the stack has room for.
-pub record GoesOver (font : FontValue) (f new : Frames) : Type 0 where
-  pub ready : IsReady font new
-  pub behind : steps_from font f ≡ step_here font f ∷ steps_from font new
-  pub number : is_number new.step.token ≡ true
-  pub room : length new.step.stack < 24
+-- A number that the stack has room for was read and executed.
+pub record PassesNumber (ahead behind : Cursor) (old new : List ℤ) : Type 0 where
+  pub number : ℤ
+  pub token : tokens_left ahead ≡ Number number ∷ tokens_left behind
+  pub plain : IsPlainEffect (Number number) old new
+  pub room : length old < 24
+
+-- The next step was a number that the stack has room for, and was executed.
+pub record GoesOverOne (font : FontValue) (f new : Frames) : Type 0 where
+  pub number : ℤ
+  pub room : length f.step.stack < 24
+  pub behind : steps_behind font f ≡ step_at font f.step.path.items (Number number) (tokens_left new.current) (state_in f) ∷ steps_behind font new
+  pub path : new.step.path.items ≡ f.step.path.items
+  pub callers : new.callers.items ≡ f.callers.items
+
+-- The steps behind the first n, up to m, were such numbers, and were executed.
+pub record HasGoneOver (limit : ℕ) (steps : List StepView) (font : FontValue) (n m : ℕ) (new : Frames) : Type 0 where
+  pub least : n ≤ m
+  pub passed : ArePassed limit steps n m
+  pub behind : IsBehind limit steps font m new
+
+-- The same for frames behind n steps, whatever glyph they execute.
+abbrev pub GoesOver : ℕ → FontValue → ℕ → Frames → ℕ → Frames → Type 0
+GoesOver limit font n f m new = (steps : List StepView) → IsBehind limit steps font n f → HasGoneOver limit steps font n m new

@@ -1,7 +1,7 @@
 //! A glyph that is executed one step a call: its steps are those of the list, and the end is answered again.
 
 use super::{clear_of, font, glyph_count, push_line, push_state, with_subrs};
-use crate::{Edition, Machine, Step, Turn};
+use crate::{Answer, Edition, Machine, Numbers, Step, Turn};
 use std::alloc::{AllocError, Global};
 use std::test::Fail;
 use t1_font::{Font, Refusal};
@@ -15,6 +15,8 @@ pub(super) enum Lines {
     States,
     /// Nothing of the steps; each answer behind them, with the count of calls.
     Ends,
+    /// The trace where numbers are passed, and the answer behind it.
+    Passed,
 }
 
 /// The states of the steps of a glyph with this charstring, as a machine tells them.
@@ -76,6 +78,9 @@ pub(super) fn told_in(
 }
 
 fn told_by(alloc: Global, mut machine: Machine<'_>, lines: Lines) -> Result<String, AllocError> {
+    if let Lines::Passed = lines {
+        return passed_by(alloc, machine);
+    }
     let mut text = String::new(alloc);
     for _call in 0..=Edition::Two.step_limit() {
         match machine.step() {
@@ -91,11 +96,23 @@ fn told_by(alloc: Global, mut machine: Machine<'_>, lines: Lines) -> Result<Stri
     Ok(text)
 }
 
+fn passed_by(alloc: Global, mut machine: Machine<'_>) -> Result<String, AllocError> {
+    let mut text = String::new(alloc);
+    for _call in 0..=Edition::Two.step_limit() {
+        match machine.go_on(Numbers::Passed) {
+            Answer::Step => push_line(alloc, &mut text, machine.current())?,
+            Answer::Ended | Answer::Limit => break,
+        }
+    }
+    push_end(alloc, &mut text, &mut machine)?;
+    Ok(text)
+}
+
 fn push_as(alloc: Global, text: &mut String, step: &Step, lines: Lines) -> Result<(), AllocError> {
     match lines {
         Lines::Trace => push_line(alloc, text, step),
         Lines::States => push_state(alloc, text, step),
-        Lines::Ends => Ok(()),
+        Lines::Ends | Lines::Passed => Ok(()),
     }
 }
 
@@ -129,6 +146,35 @@ const ENDS: &[(&[(u32, &[u8])], &[u8], &str)] = &[
 fn the_end_is_told_again(rt: HostRuntime) -> Result<(), Fail> {
     for (subrs, glyph, want) in ENDS {
         let told = told_with(rt.alloc(), subrs, glyph, Lines::Ends)?;
+        assert_eq!(rt; told.as_str(), *want, "of {glyph:?}");
+    }
+    Ok(())
+}
+
+/// Glyphs, and what is told of them where numbers are passed: a number in a Subr is passed too, and one that comes
+/// to a full stack is told.
+const PASSED: &[(&[(u32, &[u8])], &[u8], &str)] = &[
+    (
+        &[],
+        b"\x8b\xf8\x88\x0d\x0e",
+        "3 - hsbw\n4 - endchar\nended 5\n",
+    ),
+    (
+        &[(5, b"\x90\x8b\x05\x09")],
+        b"\x8b\xf8\x88\x0d\x90\x0a\x0e",
+        "3 - hsbw\n5 - callsubr\n8 5 rlineto\n9 5 closepath\n10 5 end\n11 - endchar\nended 12\n",
+    ),
+    (
+        &[],
+        b"\x8b\x8b\x8b\x8b\x8b\x8b\x8b\x8b\x8b\x8b\x8b\x8b\x8b\x8b\x8b\x8b\x8b\x8b\x8b\x8b\x8b\x8b\x8b\x8b\x8b\x0e",
+        "25 - 0\n26 - endchar\nended 27\n",
+    ),
+];
+
+#[test]
+fn numbers_are_passed(rt: HostRuntime) -> Result<(), Fail> {
+    for (subrs, glyph, want) in PASSED {
+        let told = told_with(rt.alloc(), subrs, glyph, Lines::Passed)?;
         assert_eq!(rt; told.as_str(), *want, "of {glyph:?}");
     }
     Ok(())

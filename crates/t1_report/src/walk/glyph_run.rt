@@ -2,14 +2,16 @@
 
 ghost use Rattle.std.specs.Prelude.{◌≡◌, ◌<◌, ◌≤◌, ◌+◌, false, MatchOption, length};
 ghost use Rattle.t1_report.specs.Checked.{checked, executed};
-ghost use Rattle.t1_report.specs.Searches.{IsFirst, IsQuiet, IsQuietFrom, IsRun};
+ghost use Rattle.t1_report.specs.Searches.{IsFirst, IsQuietFrom, IsRun};
 ghost use Rattle.t1_report.specs.Walks.{turns_of_glyph};
 ghost use Rattle.t1_rules.specs.Components.{AreOf};
 ghost use Rattle.t1_rules.specs.Mask.{HasNoneAbove};
+ghost use Rattle.t1_rules.specs.Watches.{IsCalm};
+ghost use Rattle.t1_char.specs.declared.machine.Numbers.TheVariants.{Passed};
 
 use crate::reporting::{broken_at, copy_of};
 use crate::walk::found::Found;
-use t1_char::{Edition, Machine, Turn};
+use t1_char::{Edition, Machine, Numbers};
 use t1_font::Font;
 use t1_rules::{Mask, Sidebearings, Watch, Watches};
 
@@ -98,10 +100,10 @@ fn next_broken(
 {
     let limit = sidebearings.edition().step_limit();
     while machine.counted() <= limit {
-        let step = match machine.step() {
-            Turn::Step(step) | Turn::Limit(step) => step,
-            Turn::Ended => return None,
-        };
+        if machine.go_on(numbers_by(watches)).is_over() {
+            return None;
+        }
+        let step = machine.current();
         let rules = broken_at(watches, sidebearings, limit, step);
         if has_rules(rules) {
             return Some(Found {
@@ -111,23 +113,19 @@ fn next_broken(
                 rules,
             });
         }
-        pass_quiet_numbers(machine, watches);
     }
     None
 }
 
-/// Goes over the numbers that follow, unless a rule speaks of them.
+/// What becomes of the numbers that come next: they are passed, unless a rule speaks of them.
 #[inline(always)]
-fn pass_quiet_numbers(machine: &mut Machine<'_>, watches: &Watches)
-    requires { IsRun machine.old watches.now }
-    ensures quiet { IsQuiet (executed machine.old) (machine.old.glyph + 1) (machine.old.counted + 1) (machine.new.counted + 1) }
-    ensures counted { machine.old.counted ≤ machine.new.counted }
-    ensures run { IsRun machine.new watches.now }
-    ensures font { executed machine.new ≡ executed machine.old }
-    ensures glyph { machine.new.glyph ≡ machine.old.glyph }
+fn numbers_by(watches: &Watches) -> Numbers
+    ensures { result ≡ Passed → IsCalm watches.now }
 {
     if watches.is_calm() {
-        machine.pass_numbers();
+        Numbers::Passed
+    } else {
+        Numbers::Told
     }
 }
 

@@ -10,8 +10,15 @@ use Rattle.t1_char.specs.declared.token.CharToken.TheVariants.{Number}
 use Rattle.t1_char.specs.Editions.{limit_of}
 use Rattle.t1_char.specs.Passing.{ArePassed, IsPassed, is_number}
 use Rattle.t1_char.specs.Steps.{StepView, steps_of}
-use Rattle.t1_char.specs.Turns.{MachineView}
-use Rattle.t1_char.proofs.TurnsTaken.{Executes}
+use Rattle.t1_char.specs.AnswerViews.{answer_view}
+use Rattle.t1_char.specs.Asking.{IsAsked}
+use Rattle.t1_char.specs.declared.machine.Answer.{Answer}
+use Rattle.t1_char.specs.declared.machine.Answer.TheVariants as answers
+use Rattle.t1_char.specs.declared.machine.Numbers.{Numbers}
+use Rattle.t1_char.specs.declared.step.Step.{Step}
+use Rattle.t1_char.specs.StepValues.{step_value, step_view}
+use Rattle.t1_char.specs.Turns.{MachineView, stepped}
+use Rattle.t1_char.proofs.TurnsTaken.{Executes, IsStepped, answered_over, behind, executes_behind, machine_counted, machine_stepped, same_turn}
 use Rattle.t1_font.specs.Fonts.{FontValue}
 use Rattle.t1_rules.specs.declared.sidebearings.Component.{Component}
 use Rattle.t1_rules.specs.Components.{component_in}
@@ -81,6 +88,46 @@ component_stays edition m font glyph counted same_run more passed =
     sym (stays_at_all limit all m.counted d (subst (λ k. ArePassed limit all m.counted k) (sym same) (of_machine edition m font glyph counted same_run passed)))
     ∙ ap (λ k. component_in (take k (take limit all))) same
 
--- How many calls are left behind them.
-pub fewer_left_behind : (limit : ℕ) (steps : List StepView) (n counted behind : ℕ) → counted ≡ n + 1 → counted ≤ behind → n < length (take limit steps) → limit + 1 - behind < limit + 1 - n
-fewer_left_behind limit steps n counted behind is more within = omega (arith, is, more, within, length-take limit steps)
+-- A machine told a step behind the numbers that it went over: what a component is up to there.
+pub record HasTold (edition : Edition) (font : FontValue) (glyph n counted : ℕ) (step : Step) : Type 0 where
+  pub before : ℕ
+  pub least : n ≤ before
+  pub told : IsStepped (limit_of edition) (steps_of font glyph) before (step_value step)
+  pub counted_is : counted ≡ before + 1
+  pub known : component_in (take n (take (limit_of edition) (steps_of font glyph))) ≡ component_in (take before (take (limit_of edition) (steps_of font glyph)))
+
+pub has_told : (numbers : Numbers) (edition : Edition) (font : FontValue) (glyph : ℕ) (m new : MachineView) (step : Step) → Executes edition font glyph m → IsAsked numbers m new (stepped new.step) → step_value step ≡ new.step → HasTold edition font glyph m.counted new.counted step
+has_told numbers edition font glyph m new step same asked here =
+    let at : MachineView = behind m asked.before in
+    let executes : Executes edition font glyph at = executes_behind edition m font glyph asked.before same in
+    let told : IsStepped (limit_of edition) (steps_of font glyph) asked.before new.step = machine_stepped edition at font glyph new.step executes asked.turn in
+    record {
+      before = asked.before;
+      least = asked.least;
+      told = subst (IsStepped (limit_of edition) (steps_of font glyph) asked.before) (sym here) told;
+      counted_is = machine_counted edition at font glyph new.step new.counted executes told asked.counted;
+      known = component_stays edition m font glyph asked.before same asked.least asked.passed;
+    }
+
+-- With the step.
+pub known_with : (edition : Edition) (font : FontValue) (glyph n counted : ℕ) (step : Step) (old new : Component) → HasTold edition font glyph n counted step → old ≡ component_in (take n (take (limit_of edition) (steps_of font glyph))) → new ≡ with_step old (step_view step)
+    → new ≡ component_in (take counted (take (limit_of edition) (steps_of font glyph)))
+known_with edition font glyph n counted step old new told is more =
+    let steps = take (limit_of edition) (steps_of font glyph) in
+    more
+    ∙ ap (λ component. with_step component (step_view step)) (is ∙ told.known)
+    ∙ sym (component_goes_on (take told.before steps) (step_view step))
+    ∙ ap component_in (sym told.told.more)
+    ∙ ap (λ k. component_in (take k steps)) (sym told.counted_is)
+
+-- Behind the last step.
+pub known_over : (numbers : Numbers) (edition : Edition) (font : FontValue) (glyph : ℕ) (m new : MachineView) (answer : Answer) → Executes edition font glyph m → IsAsked numbers m new (answer_view answer new.step) → (answer ≡ answers.Step → ⊥)
+    → component_in (take m.counted (take (limit_of edition) (steps_of font glyph))) ≡ component_in (take (limit_of edition) (steps_of font glyph))
+known_over numbers edition font glyph m new answer same asked other =
+    let at : MachineView = behind m asked.before in
+    component_stays edition m font glyph asked.before same asked.least asked.passed
+    ∙ ap component_in (answered_over (limit_of edition) (steps_of font glyph) asked.before answer new.step other (asked.turn ∙ same_turn edition at font glyph (executes_behind edition m font glyph asked.before same)))
+
+-- How many calls are left behind the step.
+pub fewer_left_behind : (edition : Edition) (font : FontValue) (glyph n counted : ℕ) (step : Step) → HasTold edition font glyph n counted step → limit_of edition + 1 - counted < limit_of edition + 1 - n
+fewer_left_behind edition font glyph n counted step told = omega (arith, told.least, told.counted_is, told.told.within, length-take (limit_of edition) (steps_of font glyph))

@@ -1,0 +1,12 @@
+use Rattle.std.proofs.Common.{◌-◌, ◌≤◌}
+use Rattle.t1_char.specs.Workings.Plain.{GoesOver}
+use Rattle.t1_char.proofs.frames.Frames.pass_numbers.Given as goal
+
+abbrev pub invariant-loop-passed : goal.invariant-loop-passed
+invariant-loop-passed l = record {
+  over : GoesOver l.limit l.font l.counted l.fn.self l.passed (record l.self { current = l.ahead });
+  near : l.passed ≤ l.limit;
+}
+
+abbrev pub decreases-loop-passed : goal.decreases-loop-passed
+decreases-loop-passed l = l.limit - l.passed

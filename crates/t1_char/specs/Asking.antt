@@ -1,0 +1,22 @@
+-- A machine that is asked for a step, and may go over the numbers that come next.
+use Rattle.std.specs.Prelude.{◌≡◌, ℕ, ◌≤◌, List}
+use Rattle.t1_char.specs.declared.machine.Numbers.{Numbers}
+use Rattle.t1_char.specs.declared.machine.Numbers.TheVariants.{Told}
+use Rattle.t1_char.specs.Editions.{limit_of}
+use Rattle.t1_char.specs.Passing.{ArePassed}
+use Rattle.t1_char.specs.Steps.{StepView, steps_of}
+use Rattle.t1_char.specs.Turns.{MachineView, TurnValue, counted_after, turn_at}
+
+-- Asked behind n calls, it went over numbers until it stood behind some steps, over none where each is told; the answer
+-- is that to the call behind so many calls, and the calls are then one more than these.
+pub record IsAskedBehind (numbers : Numbers) (limit : ℕ) (steps : List StepView) (n calls : ℕ) (answer : TurnValue) : Type 0 where
+  pub before : ℕ
+  pub least : n ≤ before
+  pub passed : ArePassed limit steps n before
+  pub told : numbers ≡ Told → before ≡ n
+  pub turn : answer ≡ turn_at limit steps before
+  pub counted : calls ≡ counted_after limit steps before
+
+abbrev pub IsAsked : Numbers → MachineView → MachineView → TurnValue → Type 0
+IsAsked numbers old new answer =
+    IsAskedBehind numbers (limit_of old.edition) (steps_of old.font old.glyph) old.counted new.counted answer
