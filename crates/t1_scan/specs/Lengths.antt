@@ -71,9 +71,10 @@ abbrev pub braces_after : ℕ → ℕ → ℕ
 braces_after b braces = if b == 123 then braces + 1 else (if b == 125 then braces - 1 else braces)
 
 -- an array or a procedure, behind its first bracket, to its last, while so many arrays, and in them
--- procedures, are open: at most 32 together. The first bytes, so many, are passed over
+-- procedures, are open: at most 32 together. So many bytes as are still to `skip`, of a string or a comment,
+-- open and close nothing
 unfoldable pub inside_len : ℕ → ℕ → ℕ → List ℕ → Option ℕ
-inside_len passed arrays braces [] = None
+inside_len skip arrays braces [] = None
 inside_len (suc n) arrays braces (b ∷ s) = further 1 (inside_len n arrays braces s)
 inside_len zero arrays braces (b ∷ s) =
     let a = arrays_after b arrays braces in
