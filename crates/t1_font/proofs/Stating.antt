@@ -17,7 +17,7 @@ use Rattle.t1_font.specs.declared.key.Key.TheVariants.{FontType, PaintType, Uniq
 use Rattle.t1_font.specs.Keys.{same_name, index_of, key_places}
 use Rattle.t1_font.specs.Inner.Puts.{put, put_pair, twice_more}
 use Rattle.t1_font.specs.PrivateText.{has_key}
-use Rattle.t1_font.specs.Fonts.{Stated, Marks, FontValue, plain, encoding, code, bad_code, size, subr, glyph, plain_of, encoding_of, code_of, size_of, subr_of, glyph_of, is_encoding, is_bad_code, last_of, after_last, firsts, last_under, keys_of, table_of, again_from, twice_of, value_of}
+use Rattle.t1_font.specs.Fonts.{Stated, Marks, FontValue, plain, encoding, code, bad_code, size, subr, glyph, plain_of, encoding_of, code_of, size_of, subr_of, glyph_of, is_encoding, is_bad_code, last_of, after_last, firsts, last_under, keys_of, table_of, repeats, twice_of, value_of}
 use Rattle.t1_font.specs.Laws.Keys.{TwiceIsAgain}
 use Rattle.t1_font.specs.Values.{value_of_entry, value_of_token}
 use Rattle.t1_font.proofs.Tables.{IsExact, nat_exact, name_exact, any_firsts, firsts_one, tab_step}
@@ -71,15 +71,15 @@ module _ {K : Type 0} (eq : K → K → Bool) where
   count_cons p x xs = grind (arith, common_steps, sum_by-append (λ x. cond (p x) 1 0) (x ∷ []) xs)
 
   -- One key more: it is there twice if it was there before.
-  again_one : (before ks : List K) (k : K) → again_from eq before (ks ++ k ∷ []) ≡ again_from eq before ks ++ cond (list_any (eq k) (before ++ ks)) (k ∷ []) []
+  again_one : (before ks : List K) (k : K) → repeats eq before (ks ++ k ∷ []) ≡ repeats eq before ks ++ cond (list_any (eq k) (before ++ ks)) (k ∷ []) []
   again_one before [] k = rw (append-nil before) (append-nil (cond (list_any (eq k) before) (k ∷ []) []))
   again_one before (j ∷ ks) k =
-      ap (λ xs. cond (list_any (eq j) before) (j ∷ []) [] ++ xs) (again_one (before ++ j ∷ []) ks k ∙ ap (λ xs. again_from eq (before ++ j ∷ []) ks ++ cond (list_any (eq k) xs) (k ∷ []) []) (append_assoc before (j ∷ []) ks))
-      ∙ sym (append_assoc (cond (list_any (eq j) before) (j ∷ []) []) (again_from eq (before ++ j ∷ []) ks) (cond (list_any (eq k) (before ++ (j ∷ ks))) (k ∷ []) []))
+      ap (λ xs. cond (list_any (eq j) before) (j ∷ []) [] ++ xs) (again_one (before ++ j ∷ []) ks k ∙ ap (λ xs. repeats eq (before ++ j ∷ []) ks ++ cond (list_any (eq k) xs) (k ∷ []) []) (append_assoc before (j ∷ []) ks))
+      ∙ sym (append_assoc (cond (list_any (eq j) before) (j ∷ []) []) (repeats eq (before ++ j ∷ []) ks) (cond (list_any (eq k) (before ++ (j ∷ ks))) (k ∷ []) []))
 
   twice_one : IsExact eq → (ks : List K) (k : K) → twice_of eq (ks ++ k ∷ []) ≡ twice_more eq (twice_of eq ks) k (list_any (eq k) ks)
   twice_one e ks k =
-      let all = again_from eq [] ks in
+      let all = repeats eq [] ks in
       ap (firsts eq) (again_one [] ks k)
       ∙ (elim (list_any (eq k) ks) as (λ b. firsts eq (all ++ cond b (k ∷ []) []) ≡ twice_more eq (firsts eq all) k b) [
         | true ↦ firsts_one eq e all k ∙ rw (any_firsts eq e k all) refl
@@ -99,11 +99,11 @@ module _ {K : Type 0} (eq : K → K → Bool) where
   itself true j k h = rw h refl
   itself false j k h = refl
 
-  any_again : IsExact eq → (before ks : List K) (k : K) → list_any (eq k) (again_from eq before ks) ≡ cond (list_any (eq k) before) (nat_lt 0 (count_by (eq k) ks)) (nat_lt 1 (count_by (eq k) ks))
+  any_again : IsExact eq → (before ks : List K) (k : K) → list_any (eq k) (repeats eq before ks) ≡ cond (list_any (eq k) before) (nat_lt 0 (count_by (eq k) ks)) (nat_lt 1 (count_by (eq k) ks))
   any_again e before [] k = elim (list_any (eq k) before) as (λ b. false ≡ cond b (nat_lt 0 0) (nat_lt 1 0)) [ true ↦ refl | false ↦ refl ]
   any_again e before (j ∷ ks) k =
       let here = cond (list_any (eq j) before) (j ∷ []) [] in
-      list_any-append (eq k) here (again_from eq (before ++ j ∷ []) ks)
+      list_any-append (eq k) here (repeats eq (before ++ j ∷ []) ks)
       ∙ (rw (any_again e (before ++ j ∷ []) ks k, list_any-append (eq k) before (j ∷ []), count_cons (eq k) j ks)
       (elim (cases_Bool (eq k j)) [
         | inl y ↦ (let s = e.exact k j y in
@@ -115,7 +115,7 @@ module _ {K : Type 0} (eq : K → K → Bool) where
       ]))
 
   pub any_twice : IsExact eq → (ks : List K) (k : K) → list_any (eq k) (twice_of eq ks) ≡ nat_lt 1 (count_by (eq k) ks)
-  any_twice e ks k = any_firsts eq e k (again_from eq [] ks) ∙ any_again e [] ks k
+  any_twice e ks k = any_firsts eq e k (repeats eq [] ks) ∙ any_again e [] ks k
 
   -- A table has the keys that its pairs have.
   pub has_table : IsExact eq → {V : Type 0} (d : V) (ps : List (K × V)) (k : K) → has_key eq (table_of eq d ps) k ≡ list_any (eq k) (keys_of ps)

@@ -102,15 +102,15 @@ keys_of ps = map (λ p. p.0) ps
 abbrev pub table_of : {K V : Type 0} → (K → K → Bool) → V → List (K × V) → List (K × V)
 table_of eq v ps = map (λ k. (k, unwrap_or (last_under eq k ps) v)) (firsts eq (keys_of ps))
 
--- The keys, behind these, that were there already.
-abbrev pub again_from : {K : Type 0} → (K → K → Bool) → List K → List K → List K
-again_from eq before [] = []
-again_from eq before (k ∷ ks) =
-    (if list_any (eq k) before then k ∷ [] else []) ++ again_from eq (before ++ k ∷ []) ks
+-- Of these keys, each that stands among those before it, as often as it does.
+abbrev pub repeats : {K : Type 0} → (K → K → Bool) → List K → List K → List K
+repeats eq before [] = []
+repeats eq before (k ∷ ks) =
+    (if list_any (eq k) before then k ∷ [] else []) ++ repeats eq (before ++ k ∷ []) ks
 
--- Each key that appears twice, in the order of its second appearance.
+-- The keys that are stated more than once, each once, in the order of their second statement.
 abbrev pub twice_of : {K : Type 0} → (K → K → Bool) → List K → List K
-twice_of eq ks = firsts eq (again_from eq [] ks)
+twice_of eq ks = firsts eq (repeats eq [] ks)
 
 -- The codes that were set since the last Encoding began.
 abbrev pub codes_of : List Stated → List (ℕ × List ℕ)
