@@ -12,7 +12,7 @@ use Rattle.t1_font.specs.declared.mode.ClearMode.TheVariants.{Outside, Codes}
 use Rattle.t1_font.specs.declared.refusal.Refusal.TheVariants.{NoEexec}
 use Rattle.t1_font.specs.Keys.{clear_key, same_name}
 use Rattle.t1_font.specs.Fonts.{Stated, Marks, FontValue, value_of, plain, encoding}
-use Rattle.t1_font.specs.Turns.{TurnValue, over, goes, stated_in}
+use Rattle.t1_font.specs.TextTurns.{TextTurn, over, goes, stated_in}
 use Rattle.t1_font.specs.ClearText.{clear_turn, clear_value, is_code_count, begins, array_at, encoding_at, encoding_turn, clear_outside, clear_of}
 use Rattle.t1_font.specs.Laws.Written.{token, IsWritten, IsWhole}
 use Rattle.t1_font.specs.Laws.UsualClearText.{code_states, ClearItem, key, standard, custom, other_name, other_token, clear_pieces, clear_states, IsOtherClearName, PassesInClear, IsClearItem, all_clear_states}
@@ -76,7 +76,7 @@ unfolding clear_outside
 encoding_name v s left h = outside v s (name (codes "Encoding")) left h
 
 -- What was found behind /Encoding, or another form.
-abbrev found_or : List ℕ → Option (TurnValue ClearMode) → TurnValue ClearMode
+abbrev found_or : List ℕ → Option (TextTurn ClearMode) → TextTurn ClearMode
 found_or s r = elim r [ Some t ↦ t | None ↦ begins Other Outside s ]
 
 standard_at : (s left : List ℕ) → BeginsWith s (word (codes "StandardEncoding")) left → encoding_at s ≡ Some (goes (Some (encoding Standard)) Outside left)

@@ -9,7 +9,7 @@ use Rattle.t1_font.specs.declared.refusal.Refusal.{Refusal}
 use Rattle.t1_font.specs.declared.refusal.Refusal.TheVariants.{NoEexec}
 use Rattle.t1_font.specs.Tokens.{is_name_kind, is_number_kind}
 use Rattle.t1_font.specs.Fonts.{Stated, Marks, FontValue, value_of, code, bad_code}
-use Rattle.t1_font.specs.Turns.{TurnValue, TextRead, goes, with_one, stated_in}
+use Rattle.t1_font.specs.TextTurns.{TextTurn, TextRead, goes, with_one, stated_in}
 use Rattle.t1_font.specs.ClearText.{clear_turn, code_statement, code_at, code_turn, code_token}
 use Rattle.t1_font.specs.Laws.Written.{Piece, token, IsWritten, IsWhole, is_word_of}
 use Rattle.t1_font.specs.Laws.UsualClearText.{CodeItem, group, between_groups, lone_dup, code_pieces, code_states, PassesInCodes, ends_group, AreCodeItems}
@@ -35,7 +35,7 @@ unfolding code_token
 def_turn v s left h = inside v s (word (codes "def")) left h
 
 -- What was found behind a dup, or the dup alone.
-abbrev found_or : List ℕ → Option (TurnValue ClearMode) → TurnValue ClearMode
+abbrev found_or : List ℕ → Option (TextTurn ClearMode) → TextTurn ClearMode
 found_or s r = elim r [ Some t ↦ t | None ↦ goes None Codes s ]
 
 -- A group behind its dup.

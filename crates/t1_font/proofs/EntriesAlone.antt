@@ -5,7 +5,7 @@ use Rattle.t1_scan.specs.Texts.{lexeme_of}
 use Rattle.t1_font.specs.declared.encoding.Encoding.TheVariants.{Standard}
 use Rattle.t1_font.specs.declared.refusal.Refusal.{Refusal}
 use Rattle.t1_font.specs.Fonts.{Stated, Marks, value_of, plain, encoding, code, size, subr, glyph, size_of, glyph_of}
-use Rattle.t1_font.specs.Turns.{TextRead}
+use Rattle.t1_font.specs.TextTurns.{TextRead}
 use Rattle.t1_font.specs.ClearText.{clear_of}
 use Rattle.t1_font.specs.PrivateText.{private_of}
 use Rattle.t1_font.specs.Texts.{font_value_of}

@@ -10,7 +10,7 @@ use Rattle.t1_font.specs.declared.refusal.Refusal.TheVariants.{BadCharStrings}
 use Rattle.t1_font.specs.Keys.{same_name}
 use Rattle.t1_font.specs.Tokens.{is_word_kind}
 use Rattle.t1_font.specs.Fonts.{Stated, Marks, FontValue, value_of, glyph, firsts}
-use Rattle.t1_font.specs.Turns.{over, goes}
+use Rattle.t1_font.specs.TextTurns.{over, goes}
 use Rattle.t1_font.specs.PrivateText.{has_key, glyphs_at, glyph_turn, glyphs_token, private_outside, private_turn}
 use Rattle.t1_font.specs.Laws.Written.{token, IsWritten, is_word_of, Charstring, charstring_pieces, IsCharstring}
 use Rattle.t1_font.specs.Laws.UsualPrivateText.{GlyphItem, glyph_entry, between_glyphs, glyph_pieces, glyph_states, glyph_names, IsGlyphItem, IsCount, glyphs_pieces}

@@ -16,7 +16,7 @@ use Rattle.t1_font.specs.declared.refusal.Refusal.TheVariants.{BadCharStrings, B
 use Rattle.t1_font.specs.Keys.{private_key, same_name}
 use Rattle.t1_font.specs.Tokens.{billion, is_word_kind, is_name_kind}
 use Rattle.t1_font.specs.Fonts.{Stated, Marks, FontValue, value_of, plain}
-use Rattle.t1_font.specs.Turns.{TextRead, goes, with_one, stated_in}
+use Rattle.t1_font.specs.TextTurns.{TextRead, goes, with_one, stated_in}
 use Rattle.t1_font.specs.PrivateText.{is_len_iv, is_len_iv_key, private_value, private_outside, subrs_token, private_turn}
 use Rattle.t1_font.specs.Laws.Written.{IsWritten, is_word_of}
 use Rattle.t1_font.specs.Laws.UsualPrivateText.{PrivateItem, key, other_name, other_token, private_pieces, private_states, IsLenIv, FitsKey, IsOtherPrivateName, IsPrivateItem, IsNoDup}

@@ -7,7 +7,7 @@ use Rattle.t1_font.specs.declared.refusal.Refusal.{Refusal}
 use Rattle.t1_font.specs.declared.refusal.Refusal.TheVariants.{NoEexec, Unclosed, BadSubrs, BadCharStrings, BadLenIv, PastLimit, SecondSubrs, MultipleMaster, Memory}
 use Rattle.t1_font.specs.Readings.{Refuses}
 use Rattle.t1_font.specs.Fonts.{Stated, Marks, FontValue, value_of}
-use Rattle.t1_font.specs.Turns.{TextRead, stated_in}
+use Rattle.t1_font.specs.TextTurns.{TextRead, stated_in}
 use Rattle.t1_font.specs.Runs.{FontRead, run_of, value_read}
 use Rattle.t1_font.specs.ClearText.{begins_as_font, clear_turn, clear_of}
 use Rattle.t1_font.specs.PrivateText.{private_turn, private_of}

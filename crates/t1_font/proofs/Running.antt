@@ -5,7 +5,7 @@ use Rattle.t1_font.specs.declared.refusal.Refusal.TheVariants.{NoEexec, Unclosed
 use Rattle.t1_font.specs.Readings.{◌>>=◌, Refuses}
 use Rattle.t1_font.specs.Fonts.{Stated, Marks, FontValue, value_of}
 use Rattle.t1_font.specs.Inner.Puts.{put, put_one}
-use Rattle.t1_font.specs.Turns.{TurnValue, over, goes, Reader, follow, with_one, stated_within}
+use Rattle.t1_font.specs.TextTurns.{TextTurn, over, goes, Reader, follow, with_one, stated_within}
 use Rattle.t1_font.specs.Runs.{go_on, run_within, run_of, value_read}
 
 -- A rest stands at the end of a text, behind a byte or more.
@@ -26,7 +26,7 @@ is_behind_rest s rest front left h e = record {
 }
 
 -- What a turn leaves stands behind a byte or more.
-abbrev pub Leaves : {M : Type 0} → List ℕ → TurnValue M → Type 0
+abbrev pub Leaves : {M : Type 0} → List ℕ → TextTurn M → Type 0
 Leaves s (over rest) = IsBehind s rest
 Leaves s (goes e mode left) = IsBehind s left
 

@@ -18,7 +18,7 @@ use Rattle.t1_font.specs.declared.refusal.Refusal.TheVariants.{BadCharStrings, B
 use Rattle.t1_font.specs.Readings.{◌>>=◌}
 use Rattle.t1_font.specs.Tokens.{token_at, wanted, token_ahead, natural, is_number_kind, is_name_kind, name_of, spells, past_word, charstring_at, raw_of, some_raw, ◌>?◌}
 use Rattle.t1_font.specs.Fonts.{FontValue, size, glyph}
-use Rattle.t1_font.specs.Turns.{goes}
+use Rattle.t1_font.specs.TextTurns.{goes}
 use Rattle.t1_font.specs.ClearText.{clear_value, array_at, encoding_at, encoding_turn, clear_outside, code_at, code_turn, code_token, clear_turn, code_statement, begins}
 use Rattle.t1_font.specs.PrivateText.{private_value, subrs_at, subrs_turn, glyphs_at, private_outside, subr_at, dup_turn, subrs_token, glyph_turn, glyphs_token, private_turn}
 use Rattle.t1_font.proofs.Compose.{bind, either, choose, look, which, found_or, ok_is}

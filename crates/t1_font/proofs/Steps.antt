@@ -15,7 +15,7 @@ use Rattle.t1_font.specs.Keys.{same_name}
 use Rattle.t1_font.specs.Readings.{◌>>=◌}
 use Rattle.t1_font.specs.Tokens.{token_at, wanted}
 use Rattle.t1_font.specs.Fonts.{Stated, Marks, FontValue, value_of}
-use Rattle.t1_font.specs.Turns.{TurnValue, over, goes, Reader, follow, with_one, stated_within, stated_in}
+use Rattle.t1_font.specs.TextTurns.{TextTurn, over, goes, Reader, follow, with_one, stated_within, stated_in}
 use Rattle.t1_font.specs.ClearText.{code_at, code_turn, clear_turn, clear_outside, code_token}
 use Rattle.t1_font.specs.PrivateText.{private_turn, private_outside, subrs_token, glyphs_token}
 use Rattle.t1_font.specs.Laws.UsualTexts.{BlanksPass, BlanksPassInPrivate, DupPassesInCodes, WordsPass, WordsPassInCodes, WordsPassInPrivate, WordsPassInSubrs, WordsPassInGlyphs}
@@ -107,7 +107,7 @@ words_pass_in_codes marks before s t h word a b c = goes_on clear_turn NoEexec c
 
 lone_dup : (s : List ℕ) → code_at s ≡ None → code_turn s ≡ goes None clear_modes.Codes s
 unfolding code_turn
-lone_dup s none = ap (λ (r : Option (TurnValue ClearMode)). elim r [ Some t ↦ t | None ↦ goes None clear_modes.Codes s ]) none
+lone_dup s none = ap (λ (r : Option (TextTurn ClearMode)). elim r [ Some t ↦ t | None ↦ goes None clear_modes.Codes s ]) none
 
 code_dup : (v : FontValue) (s : List ℕ) (t : Found) → token_of s ≡ Ok (Some t) → t.kind ≡ Word → t.text ≡ codes "dup" → code_at t.rest ≡ None → clear_turn v clear_modes.Codes s ≡ Ok (goes None clear_modes.Codes t.rest)
 unfolding clear_turn code_token

@@ -15,7 +15,7 @@ use Rattle.t1_font.specs.declared.refusal.Refusal.{Refusal}
 use Rattle.t1_font.specs.declared.refusal.Refusal.TheVariants.{BadSubrs}
 use Rattle.t1_font.specs.Tokens.{token_at, inside_of, is_array_kind, is_number_kind, is_word_kind}
 use Rattle.t1_font.specs.Fonts.{Stated, Marks, FontValue, value_of, size, subr, size_of}
-use Rattle.t1_font.specs.Turns.{TurnValue, goes}
+use Rattle.t1_font.specs.TextTurns.{TextTurn, goes}
 use Rattle.t1_font.specs.PrivateText.{is_blank_text, subrs_at, subrs_turn, subr_at, dup_turn, subrs_token, private_outside, private_turn}
 use Rattle.t1_font.specs.Laws.Written.{IsWritten, IsWhole, is_word_of, Charstring, charstring_pieces, IsCharstring}
 use Rattle.t1_font.specs.Laws.UsualPrivateText.{SubrItem, subr_entry, between_subrs, subr_pieces, subr_states, IsSubrItem, SubrsPart, no_subrs, empty_subrs, some_subrs, subrs_pieces, subrs_states, IsSubrsPart}
@@ -62,7 +62,7 @@ unfolding subr_at
 subr_is n number c s left is small good h = rw (natural_is BadSubrs 65534 n number is small, charstring_is BadSubrs c s left good h) refl
 
 -- A number behind a dup begins a Subr.
-abbrev pub behind_dup : List ℕ → Option Found → Result (TurnValue PrivateMode) Refusal
+abbrev pub behind_dup : List ℕ → Option Found → Result (TextTurn PrivateMode) Refusal
 behind_dup rest r = elim r [
   | None ↦ Ok (goes None Outside rest)
   | Some t ↦ if is_number_kind t.kind then subr_at t.kind t.rest else Ok (goes None Outside rest)

@@ -15,10 +15,10 @@ use Rattle.t1_font.specs.declared.key.Key.{Key}
 use Rattle.t1_font.specs.Keys.{clear_key, same_name}
 use Rattle.t1_font.specs.Tokens.{billion, wanted, token_ahead, whole_up_to, spells, is_name_kind, is_number_kind, name_of, ◌>?◌}
 use Rattle.t1_font.specs.Fonts.{Stated, Marks, FontValue, plain, encoding, code, bad_code}
-use Rattle.t1_font.specs.Turns.{TurnValue, over, goes, pass, TextRead, stated_in}
+use Rattle.t1_font.specs.TextTurns.{TextTurn, over, goes, pass, TextRead, stated_in}
 
 -- A plain key takes the next token as its value, whatever it is.
-unfoldable pub clear_value : Option Key → List ℕ → Result (TurnValue ClearMode) Refusal
+unfoldable pub clear_value : Option Key → List ℕ → Result (TextTurn ClearMode) Refusal
 clear_value None rest = Ok (pass Outside rest)
 clear_value (Some k) rest =
     wanted NoEexec rest >>= λ t.
@@ -30,7 +30,7 @@ is_code_count (Number (pos n)) = n == 256 * billion
 is_code_count _ = false
 
 -- An Encoding of a form begins.
-abbrev pub begins : Encoding → ClearMode → List ℕ → TurnValue ClearMode
+abbrev pub begins : Encoding → ClearMode → List ℕ → TextTurn ClearMode
 begins form mode rest = goes (Some (encoding form)) mode rest
 
 -- What follows the word array.
@@ -39,17 +39,17 @@ array_at s = token_ahead s >? λ t. if spells (codes "array") t.kind t.text then
 
 -- What follows /Encoding: StandardEncoding, or 256 array; else the form is another, and reading goes
 -- on right here.
-unfoldable pub encoding_at : List ℕ → Option (TurnValue ClearMode)
+unfoldable pub encoding_at : List ℕ → Option (TextTurn ClearMode)
 encoding_at s = token_ahead s >? λ t.
     if spells (codes "StandardEncoding") t.kind t.text then Some (begins Standard Outside t.rest)
     else if is_code_count t.kind then (array_at t.rest >? λ rest. Some (begins Custom Codes rest))
     else None
 
-unfoldable pub encoding_turn : List ℕ → TurnValue ClearMode
+unfoldable pub encoding_turn : List ℕ → TextTurn ClearMode
 encoding_turn s = elim (encoding_at s) [ Some t ↦ t | None ↦ begins Other Outside s ]
 
 -- A token outside a custom encoding, and what follows it.
-unfoldable pub clear_outside : Kind → List ℕ → List ℕ → Result (TurnValue ClearMode) Refusal
+unfoldable pub clear_outside : Kind → List ℕ → List ℕ → Result (TextTurn ClearMode) Refusal
 clear_outside kind text rest =
     if spells (codes "eexec") kind text then Ok (over rest)
     else if not (is_name_kind kind) then Ok (pass Outside rest)
@@ -62,7 +62,7 @@ unfoldable pub code_statement : Kind → List ℕ → Stated
 code_statement kind text = elim (whole_up_to 255 kind) [ Some n ↦ code n (name_of text) | None ↦ bad_code ]
 
 -- What follows dup: a number, a name and the word put.
-unfoldable pub code_at : List ℕ → Option (TurnValue ClearMode)
+unfoldable pub code_at : List ℕ → Option (TextTurn ClearMode)
 code_at s =
     token_ahead s >? λ number.
     if not (is_number_kind number.kind) then None else
@@ -73,11 +73,11 @@ code_at s =
     then Some (goes (Some (code_statement number.kind name.text)) Codes last.rest) else None
 
 -- A dup that begins no group is passed over alone.
-unfoldable pub code_turn : List ℕ → TurnValue ClearMode
+unfoldable pub code_turn : List ℕ → TextTurn ClearMode
 code_turn s = elim (code_at s) [ Some t ↦ t | None ↦ pass Codes s ]
 
 -- A token in a custom encoding, and what follows it.
-unfoldable pub code_token : Kind → List ℕ → List ℕ → TurnValue ClearMode
+unfoldable pub code_token : Kind → List ℕ → List ℕ → TextTurn ClearMode
 code_token kind text rest =
     if spells (codes "eexec") kind text then over rest
     else if spells (codes "def") kind text then pass Outside rest
@@ -85,7 +85,7 @@ code_token kind text rest =
     else pass Codes rest
 
 -- A turn of the clear text.
-unfoldable pub clear_turn : FontValue → ClearMode → List ℕ → Result (TurnValue ClearMode) Refusal
+unfoldable pub clear_turn : FontValue → ClearMode → List ℕ → Result (TextTurn ClearMode) Refusal
 clear_turn v mode s = wanted NoEexec s >>= λ t. elim mode [
   | Outside ↦ clear_outside t.kind t.text t.rest
   | Codes ↦ Ok (code_token t.kind t.text t.rest)

@@ -8,8 +8,8 @@ pub mod LenIv
 pub mod PrivateText
 pub mod Readings
 pub mod Runs
+pub mod TextTurns
 pub mod Texts
 pub mod Tokens
-pub mod Turns
 pub mod Values
 pub mod Views

@@ -14,7 +14,7 @@ use Rattle.t1_font.specs.Readings.{◌>>=◌}
 use Rattle.t1_font.specs.Keys.{private_key, same_name}
 use Rattle.t1_font.specs.Tokens.{billion, token_at, wanted, token_ahead, whole_up_to, natural, spells, is_word_kind, is_name_kind, is_number_kind, is_array_kind, name_of, inside_of, past_word, charstring_at}
 use Rattle.t1_font.specs.Fonts.{Stated, Marks, FontValue, plain, size, subr, glyph}
-use Rattle.t1_font.specs.Turns.{TurnValue, over, goes, pass, TextRead, stated_in}
+use Rattle.t1_font.specs.TextTurns.{TextTurn, over, goes, pass, TextRead, stated_in}
 
 abbrev pub is_minus_one : Kind → Bool
 is_minus_one (Number (negsuc n)) = suc n == billion
@@ -29,7 +29,7 @@ is_len_iv_key LenIv = true
 is_len_iv_key _ = false
 
 -- A plain key takes the next token as its value; the end of the text is told by the key.
-unfoldable pub private_value : Option Key → List ℕ → Result (TurnValue PrivateMode) Refusal
+unfoldable pub private_value : Option Key → List ℕ → Result (TextTurn PrivateMode) Refusal
 private_value None rest = Ok (pass Outside rest)
 private_value (Some k) rest =
     wanted (if is_len_iv_key k then BadLenIv else BadCharStrings) rest >>= λ t.
@@ -41,7 +41,7 @@ unfoldable pub is_blank_text : List ℕ → Bool
 is_blank_text s = elim (token_at s) [ Err _ ↦ false | Ok found ↦ elim found [ None ↦ true | Some _ ↦ false ] ]
 
 -- What follows /Subrs: an empty array, or a count and the word array.
-unfoldable pub subrs_at : List ℕ → Result (TurnValue PrivateMode) Refusal
+unfoldable pub subrs_at : List ℕ → Result (TextTurn PrivateMode) Refusal
 subrs_at rest =
     wanted BadSubrs rest >>= λ t.
     if is_array_kind t.kind
@@ -51,11 +51,11 @@ subrs_at rest =
     Ok (goes (Some (size n)) Subrs left))
 
 -- A second /Subrs is refused.
-unfoldable pub subrs_turn : FontValue → List ℕ → Result (TurnValue PrivateMode) Refusal
+unfoldable pub subrs_turn : FontValue → List ℕ → Result (TextTurn PrivateMode) Refusal
 subrs_turn v rest = if is_some v.size then Err SecondSubrs else subrs_at rest
 
 -- What follows /CharStrings: a count, dict, dup and begin.
-unfoldable pub glyphs_at : List ℕ → Result (TurnValue PrivateMode) Refusal
+unfoldable pub glyphs_at : List ℕ → Result (TextTurn PrivateMode) Refusal
 glyphs_at rest =
     wanted BadCharStrings rest >>= λ t.
     natural BadCharStrings 65535 t.kind >>= λ n.
@@ -65,7 +65,7 @@ glyphs_at rest =
     Ok (pass Glyphs c)
 
 -- A token outside the Subrs and the CharStrings, and what follows it.
-unfoldable pub private_outside : FontValue → Kind → List ℕ → List ℕ → Result (TurnValue PrivateMode) Refusal
+unfoldable pub private_outside : FontValue → Kind → List ℕ → List ℕ → Result (TextTurn PrivateMode) Refusal
 private_outside v kind text rest =
     if not (is_name_kind kind) then Ok (pass Outside rest)
     else if same_name text (codes "/Subrs") then subrs_turn v rest
@@ -73,21 +73,21 @@ private_outside v kind text rest =
     else private_value (private_key text) rest
 
 -- A Subr: dup, its number, the count of its bytes, a word, one byte and the bytes.
-unfoldable pub subr_at : Kind → List ℕ → Result (TurnValue PrivateMode) Refusal
+unfoldable pub subr_at : Kind → List ℕ → Result (TextTurn PrivateMode) Refusal
 subr_at kind rest =
     natural BadSubrs 65534 kind >>= λ n.
     charstring_at BadSubrs rest >>= λ bytes.
     Ok (goes (Some (subr n bytes.0)) Subrs bytes.1)
 
 -- A dup begins a Subr where a number follows; else the Subrs are over.
-unfoldable pub dup_turn : List ℕ → Result (TurnValue PrivateMode) Refusal
+unfoldable pub dup_turn : List ℕ → Result (TextTurn PrivateMode) Refusal
 dup_turn rest = elim (token_ahead rest) [
   | None ↦ Ok (pass Outside rest)
   | Some t ↦ if is_number_kind t.kind then subr_at t.kind t.rest else Ok (pass Outside rest)
 ]
 
 -- A token among the Subrs: a word other than dup is passed over, and no word ends them.
-unfoldable pub subrs_token : FontValue → Kind → List ℕ → List ℕ → Result (TurnValue PrivateMode) Refusal
+unfoldable pub subrs_token : FontValue → Kind → List ℕ → List ℕ → Result (TextTurn PrivateMode) Refusal
 subrs_token v kind text rest =
     if spells (codes "dup") kind text then dup_turn rest
     else if is_word_kind kind then Ok (pass Subrs rest)
@@ -98,14 +98,14 @@ abbrev pub has_key : {K V : Type 0} → (K → K → Bool) → List (K × V) →
 has_key eq ps k = list_any (λ p. eq k p.0) ps
 
 -- A glyph: its name, the count of its bytes, a word, one byte and the bytes.
-unfoldable pub glyph_turn : FontValue → List ℕ → List ℕ → Result (TurnValue PrivateMode) Refusal
+unfoldable pub glyph_turn : FontValue → List ℕ → List ℕ → Result (TextTurn PrivateMode) Refusal
 glyph_turn v name rest =
     if nat_le 65535 (length v.glyphs) && not (has_key same_name v.glyphs name) then Err PastLimit
     else (charstring_at BadCharStrings rest >>= λ bytes.
     Ok (goes (Some (glyph name bytes.0)) Glyphs bytes.1))
 
 -- A token among the glyphs, and what follows it.
-unfoldable pub glyphs_token : FontValue → Kind → List ℕ → List ℕ → Result (TurnValue PrivateMode) Refusal
+unfoldable pub glyphs_token : FontValue → Kind → List ℕ → List ℕ → Result (TextTurn PrivateMode) Refusal
 glyphs_token v kind text rest =
     if spells (codes "end") kind text then Ok (over rest)
     else if is_word_kind kind then Ok (pass Glyphs rest)
@@ -113,7 +113,7 @@ glyphs_token v kind text rest =
     else Err BadCharStrings
 
 -- A turn of the private text.
-unfoldable pub private_turn : FontValue → PrivateMode → List ℕ → Result (TurnValue PrivateMode) Refusal
+unfoldable pub private_turn : FontValue → PrivateMode → List ℕ → Result (TextTurn PrivateMode) Refusal
 private_turn v mode s = wanted BadCharStrings s >>= λ t. elim mode [
   | Outside ↦ private_outside v t.kind t.text t.rest
   | Subrs ↦ subrs_token v t.kind t.text t.rest

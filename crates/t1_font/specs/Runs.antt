@@ -4,7 +4,7 @@ use Rattle.t1_font.specs.declared.refusal.Refusal.{Refusal}
 use Rattle.t1_font.specs.Readings.{◌>>=◌}
 use Rattle.t1_font.specs.Fonts.{Marks, FontValue, value_of}
 use Rattle.t1_font.specs.Inner.Puts.{put_one}
-use Rattle.t1_font.specs.Turns.{TurnValue, over, goes, Reader, TextRead}
+use Rattle.t1_font.specs.TextTurns.{TextTurn, over, goes, Reader, TextRead}
 
 -- The value that a text leaves, and what follows the text.
 pub record FontRead : Type 0 where
@@ -13,7 +13,7 @@ pub record FontRead : Type 0 where
 
 -- What follows a turn.
 abbrev pub go_on : {M : Type 0} → (FontValue → M → List ℕ → Result FontRead Refusal) → FontValue →
-    TurnValue M → Result FontRead Refusal
+    TextTurn M → Result FontRead Refusal
 go_on after v (over rest) = Ok (record { value = v; rest = rest })
 go_on after v (goes e mode left) = after (put_one v e) mode left
 

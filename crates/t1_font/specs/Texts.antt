@@ -5,7 +5,7 @@ use Rattle.t1_font.specs.declared.mode.PrivateMode.TheVariants.{Outside}
 use Rattle.t1_font.specs.declared.refusal.Refusal.{Refusal}
 use Rattle.t1_font.specs.declared.refusal.Refusal.TheVariants.{BadCharStrings}
 use Rattle.t1_font.specs.Fonts.{Stated, Marks, FontValue, value_of}
-use Rattle.t1_font.specs.Turns.{TextRead}
+use Rattle.t1_font.specs.TextTurns.{TextRead}
 use Rattle.t1_font.specs.Runs.{FontRead, run_of}
 use Rattle.t1_font.specs.ClearText.{clear_of}
 use Rattle.t1_font.specs.PrivateText.{private_turn, private_of}

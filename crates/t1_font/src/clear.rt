@@ -5,7 +5,7 @@ ghost use Rattle.t1_font.specs.ClearText.{begins_as_font, clear_of};
 ghost use Rattle.t1_font.specs.Fonts.{Marks, Stated, value_of};
 ghost use Rattle.t1_font.specs.Readings.{Reads};
 ghost use Rattle.t1_font.specs.Texts.{clear_read, font_after, font_read, marks_of};
-ghost use Rattle.t1_font.specs.Turns.{TextRead};
+ghost use Rattle.t1_font.specs.TextTurns.{TextRead};
 
 use crate::font::Font;
 use crate::refusal::Refusal;

@@ -10,7 +10,7 @@ use Rattle.t1_seal.proofs.SegmentFaults.{joined_of-refused}
 use Rattle.t1_font.specs.ClearText.{clear_of}
 use Rattle.t1_font.specs.Fonts.{Stated, Marks, FontValue}
 use Rattle.t1_font.specs.Texts.{font_read}
-use Rattle.t1_font.specs.Turns.{TextRead}
+use Rattle.t1_font.specs.TextTurns.{TextRead}
 use Rattle.t1_font.specs.Laws.Refusals.{IsClearRefusal, IsPrivateRefusal}
 use Rattle.t1_font.specs.declared.refusal.Refusal.{Refusal}
 use Rattle.t1_font.specs.declared.refusal.Refusal.TheVariants as refusal

@@ -8,7 +8,7 @@ use Rattle.t1_seal.specs.declared.errors.SealError.TheVariants as seal
 use Rattle.t1_font.specs.ClearText.{clear_of}
 use Rattle.t1_font.specs.Fonts.{Stated, Marks, FontValue}
 use Rattle.t1_font.specs.Texts.{font_read}
-use Rattle.t1_font.specs.Turns.{TextRead}
+use Rattle.t1_font.specs.TextTurns.{TextRead}
 use Rattle.t1_font.specs.declared.refusal.Refusal.{Refusal}
 use Rattle.t1_font.specs.declared.refusal.Refusal.TheVariants as refusal
 use Rattle.t1check.specs.declared.unread.Unread.{Unread}

@@ -7,7 +7,7 @@ use Rattle.t1_font.specs.declared.statement.Statement.TheVariants.{Plain, Encodi
 use Rattle.t1_font.specs.declared.statement.Turn.{Turn}
 use Rattle.t1_font.specs.declared.statement.Turn.TheVariants.{Over, Goes}
 use Rattle.t1_font.specs.Fonts.{Stated, plain, encoding, code, bad_code, size, subr, glyph}
-use Rattle.t1_font.specs.Turns.{TurnValue, over, goes}
+use Rattle.t1_font.specs.TextTurns.{TextTurn, over, goes}
 
 abbrev pub lexeme_of : Token → Lexeme
 lexeme_of t = record { kind = t.kind; text = t.text.now }
@@ -25,6 +25,6 @@ abbrev pub view_if_any : Option Statement → Option Stated
 view_if_any None = None
 view_if_any (Some s) = Some (statement_view s)
 
-abbrev pub turn_view : {M : Type 0} → Turn M → TurnValue M
+abbrev pub turn_view : {M : Type 0} → Turn M → TextTurn M
 turn_view (Over left) = over left.now
 turn_view (Goes s mode left) = goes (view_if_any s) mode left.now

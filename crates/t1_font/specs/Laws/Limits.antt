@@ -3,7 +3,7 @@ use Rattle.std.specs.Prelude.{◌≡◌, ◌<◌, ◌≤◌, ℕ, Ok, List, None
 use Rattle.std.specs.List.{All}
 use Rattle.std.specs.Map.{lookup}
 use Rattle.t1_font.specs.Fonts.{Marks, FontValue, value_of}
-use Rattle.t1_font.specs.Turns.{TextRead}
+use Rattle.t1_font.specs.TextTurns.{TextRead}
 use Rattle.t1_font.specs.ClearText.{clear_of}
 use Rattle.t1_font.specs.PrivateText.{private_of}
 use Rattle.t1_font.specs.Texts.{font_read}

@@ -10,7 +10,7 @@ use Rattle.t1_font.specs.declared.mode.PrivateMode.TheVariants.{Outside, Subrs, 
 use Rattle.t1_font.specs.declared.refusal.Refusal.TheVariants.{NoEexec, BadCharStrings}
 use Rattle.t1_font.specs.Keys.{same_name}
 use Rattle.t1_font.specs.Fonts.{Stated, Marks, value_of}
-use Rattle.t1_font.specs.Turns.{stated_in}
+use Rattle.t1_font.specs.TextTurns.{stated_in}
 use Rattle.t1_font.specs.ClearText.{code_at, clear_turn, clear_of}
 use Rattle.t1_font.specs.PrivateText.{private_turn, private_of}
 use Rattle.t1_font.specs.Texts.{font_value_of, font_read}

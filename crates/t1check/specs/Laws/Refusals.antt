@@ -6,7 +6,7 @@ use Rattle.t1_seal.specs.SealError.{IsSegmentFault}
 use Rattle.t1_seal.specs.declared.errors.SealError.{SealError}
 use Rattle.t1_font.specs.ClearText.{clear_of}
 use Rattle.t1_font.specs.Laws.Refusals.{IsClearRefusal, IsPrivateRefusal}
-use Rattle.t1_font.specs.Turns.{TextRead}
+use Rattle.t1_font.specs.TextTurns.{TextRead}
 use Rattle.t1_font.specs.declared.refusal.Refusal.{Refusal}
 use Rattle.t1check.specs.declared.unread.Unread.{Unread}
 use Rattle.t1check.specs.declared.unread.Unread.TheVariants.{TooLarge, TooShort, Memory}

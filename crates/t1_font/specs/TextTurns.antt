@@ -6,12 +6,12 @@ use Rattle.t1_font.specs.Fonts.{Stated, Marks, FontValue, value_of}
 
 -- One turn, M the places where reading can be: the text is over, and this is left; or reading goes on at
 -- what is left, after a statement or none.
-pub data TurnValue (M : Type 0) : Type 0 where
-  over : List ℕ → TurnValue M
-  goes : Option Stated → M → List ℕ → TurnValue M
+pub data TextTurn (M : Type 0) : Type 0 where
+  over : List ℕ → TextTurn M
+  goes : Option Stated → M → List ℕ → TextTurn M
 
 -- Reading goes on behind a token that states nothing.
-abbrev pub pass : {M : Type 0} → M → List ℕ → TurnValue M
+abbrev pub pass : {M : Type 0} → M → List ℕ → TextTurn M
 pass mode rest = goes None mode rest
 
 -- What is stated in a text, and what follows it.
@@ -24,17 +24,19 @@ abbrev pub with_one : List Stated → Option Stated → List Stated
 with_one before None = before
 with_one before (Some e) = before ++ e ∷ []
 
--- What follows a turn.
+-- What is stated when a turn was taken: where the text is over, what was stated before; where reading goes
+-- on, what `after` says of the rest, from there on, with the turn's own statement added to those before.
 abbrev pub follow : {M : Type 0} → (List Stated → M → List ℕ → Result TextRead Refusal) → List Stated →
-    TurnValue M → Result TextRead Refusal
+    TextTurn M → Result TextRead Refusal
 follow after before (over rest) = Ok (record { stated = before; rest = rest })
 follow after before (goes e mode left) = after (with_one before e) mode left
 
 -- How a text's turns go, which know the value of what was stated before.
 abbrev pub Reader : Type 0 → Type 0
-Reader M = FontValue → M → List ℕ → Result (TurnValue M) Refusal
+Reader M = FontValue → M → List ℕ → Result (TextTurn M) Refusal
 
--- The statements of a text, those before it given, by at most n turns.
+-- The statements of a text, those before it given, by at most n turns: one turn, and then the rest, which is
+-- read with one turn less. The text that is not over by then is refused.
 unfoldable pub stated_within : {M : Type 0} → Reader M → Refusal → Marks → ℕ → List Stated → M → List ℕ →
     Result TextRead Refusal
 stated_within turn ended marks zero before mode s = Err ended
