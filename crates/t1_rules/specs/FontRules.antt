@@ -19,7 +19,7 @@ use Rattle.t1_rules.specs.Book.{number_of}
 use Rattle.t1_rules.specs.Keys.{file_key, encoding_key, subrs_key, glyphs_key, key_number, value_at}
 use Rattle.t1_rules.specs.FontRules.Values.{is_the_number, is_sixteen_twice}
 use Rattle.t1_rules.specs.FontRules.Ids.{id_keys, is_past_range, ids_differ}
-use Rattle.t1_rules.specs.FontRules.Glyphs.{not_defined, has_glyph, is_glyph_twice}
+use Rattle.t1_rules.specs.FontRules.Glyphs.{not_defined, has_glyph, is_glyph_given_twice}
 use Rattle.t1_rules.specs.FontRules.Encoding.{is_no_form, encodes_missing}
 use Rattle.t1_rules.specs.FontRules.Subrs.{is_wrong_subr}
 use Rattle.t1_rules.specs.FontRules.Hints.{hint_keys, is_of_another_kind, numbers_at, has_too_many, falls_at}
@@ -36,8 +36,8 @@ pub record FontRule : Type 0 where
   pub rule : Rule
   pub tests : List KeyTest
 
-abbrev pub row : Rule → List KeyTest → FontRule
-row rule tests = record { rule = rule; tests = tests }
+abbrev pub font_row : Rule → List KeyTest → FontRule
+font_row rule tests = record { rule = rule; tests = tests }
 
 -- At each index of a key.
 abbrev pub each : ℕ → (FontValue → ℕ → Bool) → List KeyTest
@@ -59,55 +59,55 @@ each_of keys test = map (λ k. record { key = key_number k; is_broken = λ font 
 unfoldable pub font_rules : List FontRule
 font_rules =
     -- A PFB file has no end segment. Technical Note 5040, section 3.3.
-    row F01 (once file_key (λ font. font.no_end))
+    font_row F01 (once file_key (λ font. font.no_end))
     -- Bytes follow the end segment. Technical Note 5040, section 3.3.
-    ∷ row F02 (once file_key (λ font. font.extra))
+    ∷ font_row F02 (once file_key (λ font. font.extra))
     -- FontType isn't 1. Type 1 Font Format, chapter 2.
-    ∷ row F03 (value FontType (λ v. not (is_the_number 1 v)))
+    ∷ font_row F03 (value FontType (λ v. not (is_the_number 1 v)))
     -- PaintType is neither 0, filled, nor 2, outlined. Type 1 Font Format, chapter 2.
-    ∷ row F04 (value PaintType (λ v. not (is_the_number 0 v || is_the_number 2 v)))
+    ∷ font_row F04 (value PaintType (λ v. not (is_the_number 0 v || is_the_number 2 v)))
     -- A UniqueID is out of its range. Type 1 Font Format, chapter 2.
-    ∷ row F05 (each_of id_keys (λ font k index. index == 0 && is_past_range (value_at font k)))
+    ∷ font_row F05 (each_of id_keys (λ font k index. index == 0 && is_past_range (value_at font k)))
     -- The two UniqueIDs differ. Type 1 Font Format, chapter 5.
-    ∷ row F06 (once (key_number PrivateUniqueId) ids_differ)
+    ∷ font_row F06 (once (key_number PrivateUniqueId) ids_differ)
     -- The password isn't 5839. Type 1 Font Format, chapter 5.
-    ∷ row F07 (value Password (λ v. not (is_the_number 5839 v)))
+    ∷ font_row F07 (value Password (λ v. not (is_the_number 5839 v)))
     -- MinFeature isn't {16 16}. Type 1 Font Format, chapter 5.
-    ∷ row F08 (value MinFeature (λ v. not (is_sixteen_twice v)))
+    ∷ font_row F08 (value MinFeature (λ v. not (is_sixteen_twice v)))
     -- No glyph is called .notdef. Type 1 Font Format, chapter 2.
-    ∷ row F09 (once glyphs_key (λ font. not (has_glyph font not_defined)))
+    ∷ font_row F09 (once glyphs_key (λ font. not (has_glyph font not_defined)))
     -- A glyph is given twice; the index is its number. Own.
-    ∷ row F10 (each glyphs_key is_glyph_twice)
+    ∷ font_row F10 (each glyphs_key is_glyph_given_twice)
     -- The Encoding isn't there, or of another form. Type 1 Font Format, chapter 2.
-    ∷ row F11 (once encoding_key (λ font. is_no_form font.encoding))
+    ∷ font_row F11 (once encoding_key (λ font. is_no_form font.encoding))
     -- A code of the Encoding isn't whole from 0 to 255. Type 1 Font Format, chapter 2.
-    ∷ row F12 (once encoding_key (λ font. font.bad_code))
+    ∷ font_row F12 (once encoding_key (λ font. font.bad_code))
     -- A custom Encoding names a glyph that isn't there; the index is the code. Own.
-    ∷ row F13 (each encoding_key encodes_missing)
+    ∷ font_row F13 (each encoding_key encodes_missing)
     -- A Subr is given twice or past its array; the index is its number. Type 1 Font Format, chapter 8.
-    ∷ row F14 (each subrs_key is_wrong_subr)
+    ∷ font_row F14 (each subrs_key is_wrong_subr)
     -- A hint entry isn't a number, or numbers, as it should be. Type 1 Font Format, chapter 5.
-    ∷ row Z01 (each_of hint_keys (λ font k index. is_of_another_kind k (value_at font k) index))
+    ∷ font_row Z01 (each_of hint_keys (λ font k index. is_of_another_kind k (value_at font k) index))
     -- There are more zone numbers than the limit. Type 1 Font Format, chapter 5.
-    ∷ row Z02 (each_of zone_keys (λ font k index. has_too_many k (value_at font k) index))
+    ∷ font_row Z02 (each_of zone_keys (λ font k index. has_too_many k (value_at font k) index))
     -- A zone number has no second one. Type 1 Font Format, chapter 5.
-    ∷ row Z03 (each_of zone_keys (λ font k index. has_odd_count (value_at font k) index))
+    ∷ font_row Z03 (each_of zone_keys (λ font k index. has_odd_count (value_at font k) index))
     -- A zone number is less than the one before it; the index is its place. Type 1 Font Format, chapter 5.
-    ∷ row Z04 (each_of zone_keys (λ font k index. falls_at (numbers_at font k) index))
+    ∷ font_row Z04 (each_of zone_keys (λ font k index. falls_at (numbers_at font k) index))
     -- A zone is too near to the one before it; its lower edge is the index. Type 1 Font Format, chapter 5.
-    ∷ row Z05 (each_of zone_keys (λ font k index. is_too_near (distance font) (numbers_at font k) index))
+    ∷ font_row Z05 (each_of zone_keys (λ font k index. is_too_near (distance font) (numbers_at font k) index))
     -- A low zone is too near to a high one; its lower edge is the index. Type 1 Font Format, chapter 5.
-    ∷ row Z06 (each_of low_zone_keys comes_near_high)
+    ∷ font_row Z06 (each_of low_zone_keys comes_near_high)
     -- A zone is too high for BlueScale; its upper edge is the index. Type 1 Font Format, chapter 5.
-    ∷ row Z07 (each_of zone_keys (λ font k index. is_too_high (scale font) (numbers_at font k) index))
+    ∷ font_row Z07 (each_of zone_keys (λ font k index. is_too_high (scale font) (numbers_at font k) index))
     -- A standard width has none or several numbers. Type 1 Font Format, chapter 5.
-    ∷ row Z08 (each_of width_keys (λ font k index. index == 0 && is_not_one_width (value_at font k)))
+    ∷ font_row Z08 (each_of width_keys (λ font k index. index == 0 && is_not_one_width (value_at font k)))
     -- There are more stem snaps than 12. Type 1 Font Format, chapter 5.
-    ∷ row Z09 (each_of snap_keys (λ font k index. has_too_many k (value_at font k) index))
+    ∷ font_row Z09 (each_of snap_keys (λ font k index. has_too_many k (value_at font k) index))
     -- A stem snap is less than the one before it; the index is its place. Type 1 Font Format, chapter 5.
-    ∷ row Z10 (each_of snap_keys (λ font k index. falls_at (numbers_at font k) index))
+    ∷ font_row Z10 (each_of snap_keys (λ font k index. falls_at (numbers_at font k) index))
     -- The first number of the standard width isn't one of the stem snaps. Type 1 Font Format, chapter 5.
-    ∷ row Z11 (each_of snap_keys (λ font k index. index == 0 && width_is_apart font k))
+    ∷ font_row Z11 (each_of snap_keys (λ font k index. index == 0 && width_is_apart font k))
     ∷ []
 
 -- What the tests of a rule say at a key and an index; nothing at a key that none of them has.

@@ -50,14 +50,14 @@ abbrev pub value_at : FontValue → Key → Value
 value_at font key = slice_index_or font.plain (index_of key) absent
 
 -- How many numbers a list of zones or stem snaps has at most.
-abbrev pub limit_of : Key → ℕ
-limit_of BlueValues = 14
-limit_of OtherBlues = 10
-limit_of FamilyBlues = 14
-limit_of FamilyOtherBlues = 10
-limit_of StemSnapH = 12
-limit_of StemSnapV = 12
-limit_of _ = 0
+abbrev pub list_limit_of : Key → ℕ
+list_limit_of BlueValues = 14
+list_limit_of OtherBlues = 10
+list_limit_of FamilyBlues = 14
+list_limit_of FamilyOtherBlues = 10
+list_limit_of StemSnapH = 12
+list_limit_of StemSnapV = 12
+list_limit_of _ = 0
 
 -- How many indexes the Subrs have: past the greatest number of one, and at most 65,536.
 abbrev pub subr_places : List (ℕ × List ℕ) → ℕ
@@ -73,8 +73,8 @@ pub record KeyRow : Type 0 where
   pub text : List ℕ
   pub places : FontValue → ℕ
 
-abbrev pub row : List ℕ → (FontValue → ℕ) → KeyRow
-row text places = record { text = text; places = places }
+abbrev pub key_row : List ℕ → (FontValue → ℕ) → KeyRow
+key_row text places = record { text = text; places = places }
 
 -- One index, for what is said of an entry as a whole.
 abbrev pub of_entry : FontValue → ℕ
@@ -82,33 +82,33 @@ of_entry font = 1
 
 -- One for each number that a list can have, and one more, for the first that is too much.
 abbrev pub of_list : Key → FontValue → ℕ
-of_list key font = limit_of key + 1
+of_list key font = list_limit_of key + 1
 
 -- The keys in the order of their numbers, from 0 on. No rule speaks of lenIV; an Encoding's indexes are its codes.
 abbrev pub key_rows : List KeyRow
 key_rows =
-    row (codes "file") of_entry
-    ∷ row (codes "FontType") of_entry
-    ∷ row (codes "PaintType") of_entry
-    ∷ row (codes "UniqueID") of_entry
-    ∷ row (codes "Encoding") (λ font. 256)
-    ∷ row (codes "PrivateUniqueID") of_entry
-    ∷ row (codes "password") of_entry
-    ∷ row (codes "MinFeature") of_entry
-    ∷ row (codes "lenIV") (λ font. 0)
-    ∷ row (codes "BlueValues") (of_list BlueValues)
-    ∷ row (codes "OtherBlues") (of_list OtherBlues)
-    ∷ row (codes "FamilyBlues") (of_list FamilyBlues)
-    ∷ row (codes "FamilyOtherBlues") (of_list FamilyOtherBlues)
-    ∷ row (codes "BlueScale") of_entry
-    ∷ row (codes "BlueShift") of_entry
-    ∷ row (codes "BlueFuzz") of_entry
-    ∷ row (codes "StdHW") of_entry
-    ∷ row (codes "StdVW") of_entry
-    ∷ row (codes "StemSnapH") (of_list StemSnapH)
-    ∷ row (codes "StemSnapV") (of_list StemSnapV)
-    ∷ row (codes "Subrs") (λ font. subr_places font.subrs)
-    ∷ row (codes "CharStrings") glyph_places
+    key_row (codes "file") of_entry
+    ∷ key_row (codes "FontType") of_entry
+    ∷ key_row (codes "PaintType") of_entry
+    ∷ key_row (codes "UniqueID") of_entry
+    ∷ key_row (codes "Encoding") (λ font. 256)
+    ∷ key_row (codes "PrivateUniqueID") of_entry
+    ∷ key_row (codes "password") of_entry
+    ∷ key_row (codes "MinFeature") of_entry
+    ∷ key_row (codes "lenIV") (λ font. 0)
+    ∷ key_row (codes "BlueValues") (of_list BlueValues)
+    ∷ key_row (codes "OtherBlues") (of_list OtherBlues)
+    ∷ key_row (codes "FamilyBlues") (of_list FamilyBlues)
+    ∷ key_row (codes "FamilyOtherBlues") (of_list FamilyOtherBlues)
+    ∷ key_row (codes "BlueScale") of_entry
+    ∷ key_row (codes "BlueShift") of_entry
+    ∷ key_row (codes "BlueFuzz") of_entry
+    ∷ key_row (codes "StdHW") of_entry
+    ∷ key_row (codes "StdVW") of_entry
+    ∷ key_row (codes "StemSnapH") (of_list StemSnapH)
+    ∷ key_row (codes "StemSnapV") (of_list StemSnapV)
+    ∷ key_row (codes "Subrs") (λ font. subr_places font.subrs)
+    ∷ key_row (codes "CharStrings") glyph_places
     ∷ []
 
 abbrev pub key_texts : List (List ℕ)

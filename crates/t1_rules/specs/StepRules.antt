@@ -17,7 +17,7 @@ use Rattle.t1_rules.specs.declared.rule.Rule.{Rule}
 use Rattle.t1_rules.specs.declared.sidebearings.Component.{Component}
 use Rattle.t1_rules.specs.declared.rule.Rule.TheVariants.{C01, C02, C03, C04, C05, C06, C07, C08, C09, S01, S02, S03, S04, GE01, GE02, W01, W02, P01, P02, P03, H01, H02, H03, H04, R01, R02, X01, X02, X03, X04, X05, X06, O01, O02, O03, O04, K01, K02, K03, K04, K05, K06, K07}
 use Rattle.t1_rules.specs.Book.{number_of}
-use Rattle.t1_rules.specs.StepRules.Arguments.{has_too_few, has_too_many, overflows, has_argument_past, divides_past, divides_by_zero}
+use Rattle.t1_rules.specs.StepRules.Arguments.{has_too_few_arguments, has_too_many_arguments, overflows, has_argument_past, divides_past, divides_by_zero}
 use Rattle.t1_rules.specs.StepRules.Calls.{calls_missing, calls_too_deep, returns_from_glyph, ends_in_subr, ends_in_glyph, goes_on_past_end}
 use Rattle.t1_rules.specs.StepRules.Flex.{starts_in_flex, goes_on_outside, commands_in_flex, counts_no_pairs, ends_elsewhere, sets_point_alone}
 use Rattle.t1_rules.specs.StepRules.Othersubrs.{calls_unknown, has_bad_count, has_wrong_count, pops_nothing}
@@ -48,9 +48,9 @@ argument_rules =
     -- The command isn't known. Type 1 Font Format, chapter 6.
     ∷ of_step C03 (λ step. is_unknown step.token)
     -- The command wants more numbers than there are. Type 1 Font Format, chapter 6.
-    ∷ of_step C04 (λ step. has_too_few step.token step.stack)
+    ∷ of_step C04 (λ step. has_too_few_arguments step.token step.stack)
     -- There are more numbers than the command's arguments. Type 1 Font Format, chapter 6.
-    ∷ of_step C05 (λ step. has_too_many step.token step.stack)
+    ∷ of_step C05 (λ step. has_too_many_arguments step.token step.stack)
     -- A 25th number comes to the stack. Type 1 Font Format, chapter 6.
     ∷ of_step C06 overflows
     -- An argument is past 32000. Type 1 Font Format, chapter 6.

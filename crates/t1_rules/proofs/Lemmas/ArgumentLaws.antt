@@ -11,7 +11,7 @@ use Rattle.t1_char.specs.Steps.{StepView}
 use Rattle.t1_rules.specs.Laws.Arguments.{Brings, KeptIsNotPast, NoneAreTooManyAtTheTop, NumbersOverflowAt24, OthersHaveNoArguments, TooFewAreFewerThanWanted, TooManyAreMoreThanArguments, Wants, arguments, callothersubr, callsubr, div, number, pop, result, return}
 use Rattle.t1_rules.specs.declared.rule.Rule.TheVariants.{C06}
 use Rattle.t1_rules.specs.Laws.StepRules.{violates}
-use Rattle.t1_rules.specs.StepRules.Arguments.{has_too_few, has_too_many, is_more_than, wanted_by}
+use Rattle.t1_rules.specs.StepRules.Arguments.{has_too_few_arguments, has_too_many_arguments, is_more_than, wanted_by}
 use Rattle.t1_rules.specs.StepRules.Tokens.{is_number, is_pop}
 use Rattle.t1_rules.proofs.Lemmas.Book.{both}
 use Rattle.t1_rules.proofs.Lemmas.Rows.{c04_row, c05_row, c06_row}
@@ -29,23 +29,23 @@ wanted _ _ return = refl
 
 pub too_few_are_fewer : TooFewAreFewerThanWanted
 too_few_are_fewer edition before step command count is wants =
-    let broken = c04_row edition before step ∙ ap (λ token. has_too_few token step.stack) is ∙ ap (nat_lt (length step.stack)) (wanted command count wants) in
+    let broken = c04_row edition before step ∙ ap (λ token. has_too_few_arguments token step.stack) is ∙ ap (nat_lt (length step.stack)) (wanted command count wants) in
     (λ e. ltb-true (length step.stack) count (sym broken ∙ e), λ fewer. broken ∙ lt-ltb (length step.stack) count fewer)
 
 pub too_many_are_more : TooManyAreMoreThanArguments
 too_many_are_more edition before step command count is takes =
-    let broken = c05_row edition before step ∙ ap (λ token. has_too_many token step.stack) is ∙ ap (λ wanted. is_more_than wanted (length step.stack)) takes in
+    let broken = c05_row edition before step ∙ ap (λ token. has_too_many_arguments token step.stack) is ∙ ap (λ wanted. is_more_than wanted (length step.stack)) takes in
     (λ e. ltb-true count (length step.stack) (sym broken ∙ e), λ more. broken ∙ lt-ltb count (length step.stack) more)
 
 pub none_are_too_many : NoneAreTooManyAtTheTop
 none_are_too_many edition before step command is takes =
-    c05_row edition before step ∙ ap (λ token. has_too_many token step.stack) is ∙ ap (λ wanted. is_more_than wanted (length step.stack)) takes
+    c05_row edition before step ∙ ap (λ token. has_too_many_arguments token step.stack) is ∙ ap (λ wanted. is_more_than wanted (length step.stack)) takes
 
-not_few : (token : CharToken) (stack : List ℤ) → ((command : Commands) → token ≡ Command command → ⊥) → has_too_few token stack ≡ false
+not_few : (token : CharToken) (stack : List ℤ) → ((command : Commands) → token ≡ Command command → ⊥) → has_too_few_arguments token stack ≡ false
 not_few (Command command) stack none = absurd (none command refl)
 not_few _ stack none = refl
 
-not_many : (token : CharToken) (stack : List ℤ) → ((command : Commands) → token ≡ Command command → ⊥) → has_too_many token stack ≡ false
+not_many : (token : CharToken) (stack : List ℤ) → ((command : Commands) → token ≡ Command command → ⊥) → has_too_many_arguments token stack ≡ false
 not_many (Command command) stack none = absurd (none command refl)
 not_many _ stack none = refl
 

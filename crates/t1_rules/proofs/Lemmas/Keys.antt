@@ -13,7 +13,7 @@ use Rattle.t1_rules.specs.FontRules.Values.{first_in}
 use Rattle.t1_rules.specs.FontRules.Hints.{falls_at, numbers_at}
 use Rattle.t1_rules.specs.FontRules.Zones.{distance, scale, is_too_near, meets, is_too_high}
 use Rattle.t1_rules.specs.FontRules.Subrs.{is_wrong_subr}
-use Rattle.t1_rules.specs.FontRules.Glyphs.{is_glyph_twice}
+use Rattle.t1_rules.specs.FontRules.Glyphs.{is_glyph_given_twice}
 use Rattle.t1_rules.specs.FontRules.{font_rules, violated}
 use Rattle.t1_rules.proofs.Lemmas.Book.{both}
 use Rattle.t1_rules.proofs.Lemmas.FontRules.{past_last}
@@ -58,10 +58,10 @@ wrong_subr_past font index past = go (nat_lt index 65536) refl
     go true e = rw (lookup_past font.subrs index (ltb-true index 65536 e) past, and-false (nat_lt index 65536)) refl
     go false e = rw e refl
 
-glyph_twice_past : (font : FontValue) (index : ℕ) → glyph_places font ≤ index → is_glyph_twice font index ≡ false
+glyph_twice_past : (font : FontValue) (index : ℕ) → glyph_places font ≤ index → is_glyph_given_twice font index ≡ false
 glyph_twice_past font index past = go (nat_lt index 65536) refl
   where
-    go : (b : Bool) → nat_lt index 65536 ≡ b → is_glyph_twice font index ≡ false
+    go : (b : Bool) → nat_lt index 65536 ≡ b → is_glyph_given_twice font index ≡ false
     go true e =
         let small = ltb-true index 65536 e in
         rw (le-ltb index (length font.glyphs) (omega arith), and-false (nat_lt index 65536)) refl

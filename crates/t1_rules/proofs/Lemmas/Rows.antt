@@ -5,7 +5,7 @@ use Rattle.t1_char.specs.Steps.{StepView}
 use Rattle.t1_rules.specs.declared.rule.Rule.TheVariants.{C04, C05, C06, S01, S02, H01, H04, R01, R02, X04, X06, O04, K01, K02}
 use Rattle.t1_rules.specs.Laws.StepRules.{violates}
 use Rattle.t1_rules.specs.StepRules.{argument_rules, call_rules, path_rules, stem_rules, flex_rules, othersubr_rules, seac_rules, step_rules}
-use Rattle.t1_rules.specs.StepRules.Arguments.{has_too_few, has_too_many, overflows}
+use Rattle.t1_rules.specs.StepRules.Arguments.{has_too_few_arguments, has_too_many_arguments, overflows}
 use Rattle.t1_rules.specs.StepRules.Calls.{calls_missing, calls_too_deep}
 use Rattle.t1_rules.specs.StepRules.Flex.{counts_no_pairs, sets_point_alone}
 use Rattle.t1_rules.specs.StepRules.Othersubrs.{pops_nothing}
@@ -13,11 +13,11 @@ use Rattle.t1_rules.specs.StepRules.Seac.{has_no_code, has_unnamed_code}
 use Rattle.t1_rules.specs.StepRules.Stems.{leaves_out_call, leaves_out_pop, sets_stem_late, sets_unequal}
 use Rattle.t1_rules.proofs.Lemmas.StepRules.{row_decides}
 
-pub c04_row : (edition : Edition) (before : List StepView) (step : StepView) → violates edition C04 before step ≡ has_too_few step.token step.stack
+pub c04_row : (edition : Edition) (before : List StepView) (step : StepView) → violates edition C04 before step ≡ has_too_few_arguments step.token step.stack
 unfolding step_rules argument_rules call_rules path_rules stem_rules flex_rules othersubr_rules seac_rules
 c04_row edition before step = row_decides 29 (step_rules edition) 3 _ refl refl refl refl before step
 
-pub c05_row : (edition : Edition) (before : List StepView) (step : StepView) → violates edition C05 before step ≡ has_too_many step.token step.stack
+pub c05_row : (edition : Edition) (before : List StepView) (step : StepView) → violates edition C05 before step ≡ has_too_many_arguments step.token step.stack
 unfolding step_rules argument_rules call_rules path_rules stem_rules flex_rules othersubr_rules seac_rules
 c05_row edition before step = row_decides 30 (step_rules edition) 4 _ refl refl refl refl before step
 

@@ -18,7 +18,7 @@ use Rattle.t1_rules.specs.Laws.Seac.{DiffersInSidebearing, IsCode, IsCodePlace, 
 use Rattle.t1_rules.specs.Laws.StepRules.{violates}
 use Rattle.t1_rules.specs.StandardEncoding.{standard_name}
 use Rattle.t1_rules.specs.StepRules.{component_rules}
-use Rattle.t1_rules.specs.StepRules.Seac.{code_of, component_of_code, differs_in_sidebearing, is_another, is_lacking, is_named, is_unnamed, is_without_sidebearing, lacks_component, lacks_sidebearing, nests}
+use Rattle.t1_rules.specs.StepRules.Seac.{component_of_code, differs_in_sidebearing, is_another, is_lacking, is_named, is_unnamed, is_without_sidebearing, lacks_component, lacks_sidebearing, nests, seac_code}
 use Rattle.t1_rules.specs.StepRules.Tokens.{is_seac, sets_width}
 use Rattle.t1_rules.specs.Words.StepTests.{IsCommand}
 use Rattle.t1_rules.proofs.Lemmas.Book.{both}
@@ -48,7 +48,7 @@ k07_row limit font before step = row_decides 68 (component_rules (components_of 
 -- ---- the component at a place
 
 abbrev code_at : StepView → ℕ → Option ℕ
-code_at step place = code_of (argument step.stack place)
+code_at step place = seac_code (argument step.stack place)
 
 abbrev part : ℕ → FontValue → StepView → ℕ → Component
 part limit font step place = component_of_code (components_of limit font) (code_at step place)

@@ -5,7 +5,7 @@ use Rattle.std.proofs.Math.Nat.{eq-or-lt_of_le}
 use Rattle.std.proofs.lemmas.Bool.{cases_lt, le-ltb, lt-ltb, eq-eqb}
 use Rattle.std.specs.Int.Signed.{lt_z_no, ≤ℤ_refl}
 use Rattle.t1_rules.specs.FontRules.Values.{product_one}
-use Rattle.t1_rules.specs.FontRules.Hints.{at, falls_at}
+use Rattle.t1_rules.specs.FontRules.Hints.{number_at, falls_at}
 use Rattle.t1_rules.specs.FontRules.Zones.{Zone, zones, come_near, is_too_near, meets, is_too_high}
 use Rattle.t1_rules.specs.Laws.Zones.{ZoneAt}
 use Rattle.std.specs.List.{AllPairs, list_any}
@@ -14,7 +14,7 @@ use Rattle.std.proofs.Math.Seq.{take-length}
 pub near_both_ways : (d : ℤ) (z w : Zone) → come_near d z w ≡ come_near d w z
 near_both_ways d z w = and_comm (int_lt (w.lower -ℤ z.upper) d) (int_lt (z.lower -ℤ w.upper) d)
 
-pub zone_there : (v : List ℤ) (j : ℕ) → 2 * j + 1 < length v → slice_get (zones v) j ≡ Some (record { lower = at v (2 * j); upper = at v (2 * j + 1) })
+pub zone_there : (v : List ℤ) (j : ℕ) → 2 * j + 1 < length v → slice_get (zones v) j ≡ Some (record { lower = number_at v (2 * j); upper = number_at v (2 * j + 1) })
 zone_there [] j less = absurd (omega arith)
 zone_there (a ∷ []) j less = absurd (omega arith)
 zone_there (a ∷ (b ∷ v)) zero less = refl
@@ -59,22 +59,22 @@ chain (negsuc m) (pos n) (negsuc k) p q = grind arith
 chain (negsuc m) (negsuc n) (pos k) p q = grind arith
 chain (negsuc m) (negsuc n) (negsuc k) p q = grind arith
 
-no_fall : (v : List ℤ) (j : ℕ) → falls_at v (suc j) ≡ false → suc j < length v → at v j ≤ℤ at v (suc j)
+no_fall : (v : List ℤ) (j : ℕ) → falls_at v (suc j) ≡ false → suc j < length v → number_at v j ≤ℤ number_at v (suc j)
 no_fall v j none less =
     let after : nat_lt 0 (suc j) ≡ true = lt-ltb 0 (suc j) (omega arith) in
     let there : nat_lt (suc j) (length v) ≡ true = lt-ltb (suc j) (length v) less in
     let one_less : suc j - 1 ≡ j = omega arith in
-    let kept : int_lt (at v (suc j)) (at v j) ≡ false = rw (after, there, one_less) at none in
-    not_less (at v (suc j)) (at v j) kept
+    let kept : int_lt (number_at v (suc j)) (number_at v j) ≡ false = rw (after, there, one_less) at none in
+    not_less (number_at v (suc j)) (number_at v j) kept
 
-rises : (v : List ℤ) → ((index : ℕ) → falls_at v index ≡ false) → (i j : ℕ) → i ≤ j → j < length v → at v i ≤ℤ at v j
-rises v none i zero le less = let first : i ≡ 0 = omega arith in rw first (≤ℤ_refl (at v 0))
+rises : (v : List ℤ) → ((index : ℕ) → falls_at v index ≡ false) → (i j : ℕ) → i ≤ j → j < length v → number_at v i ≤ℤ number_at v j
+rises v none i zero le less = let first : i ≡ 0 = omega arith in rw first (≤ℤ_refl (number_at v 0))
 rises v none i (suc j) le less = elim (eq-or-lt_of_le le) [
-  | inl same ↦ rw same (≤ℤ_refl (at v (suc j)))
-  | inr before ↦ chain (at v i) (at v j) (at v (suc j)) (rises v none i j (omega arith) (omega arith)) (no_fall v j (none (suc j)) less)
+  | inl same ↦ rw same (≤ℤ_refl (number_at v (suc j)))
+  | inr before ↦ chain (number_at v i) (number_at v j) (number_at v (suc j)) (rises v none i j (omega arith) (omega arith)) (no_fall v j (none (suc j)) less)
 ]
 
-default_past : (v : List ℤ) (i : ℕ) (d : ℤ) → i < length v → slice_index_or v i d ≡ at v i
+default_past : (v : List ℤ) (i : ℕ) (d : ℤ) → i < length v → slice_index_or v i d ≡ number_at v i
 default_past [] i d less = absurd (omega arith)
 default_past (x ∷ v) zero d less = refl
 default_past (x ∷ v) (suc i) d less = default_past v i d (omega arith)
@@ -88,7 +88,7 @@ falls_nowhere v rising zero = refl
 falls_nowhere v rising (suc j) = elim (cases_lt (suc j) (length v)) [
   | inl less ↦
       let one_less : suc j - 1 ≡ j = omega arith in
-      rw (one_less, above (at v (suc j)) (at v j) (rising j (suc j) (pos 0) (omega arith) less)) (and-false (nat_lt 0 (suc j) && nat_lt (suc j) (length v)))
+      rw (one_less, above (number_at v (suc j)) (number_at v j) (rising j (suc j) (pos 0) (omega arith) less)) (and-false (nat_lt 0 (suc j) && nat_lt (suc j) (length v)))
   | inr past ↦ rw (le-ltb (suc j) (length v) past, and-false (nat_lt 0 (suc j))) refl
 ]
 
@@ -109,8 +109,8 @@ there v j z is = elim (cases_lt (2 * j + 1) (length v)) [
 ]
 
 -- The zone is the two numbers.
-edges : (v : List ℤ) (j : ℕ) (z : Zone) → ZoneAt v j z → z ≡ record { lower = at v (2 * j); upper = at v (2 * j + 1) }
-edges v j z is = let same : Some z ≡ Some (record { lower = at v (2 * j); upper = at v (2 * j + 1) }) = sym is ∙ zone_there v j (there v j z is) in cc
+edges : (v : List ℤ) (j : ℕ) (z : Zone) → ZoneAt v j z → z ≡ record { lower = number_at v (2 * j); upper = number_at v (2 * j + 1) }
+edges v j z is = let same : Some z ≡ Some (record { lower = number_at v (2 * j); upper = number_at v (2 * j + 1) }) = sym is ∙ zone_there v j (there v j z is) in cc
 
 even : (j : ℕ) → (2 * j) % 2 ≡ 0
 even j = grind arith

@@ -1,7 +1,7 @@
 -- What the CharStrings say (Type 1 Font Format, chapter 2).
 use Rattle.std.specs.Prelude.{ℕ, ◌&&◌, Bool, nat_lt, List, codes, length}
 use Rattle.std.specs.List.{list_any}
-use Rattle.t1_font.specs.Fonts.{FontValue, is_glyph_twice as is_given_twice}
+use Rattle.t1_font.specs.Fonts.{FontValue, is_glyph_twice}
 use Rattle.t1_font.specs.Keys.{same_name}
 
 -- The glyph that stands for all that are missing.
@@ -12,7 +12,7 @@ not_defined = codes ".notdef"
 abbrev pub has_glyph : FontValue → List ℕ → Bool
 has_glyph font name = list_any (λ glyph. same_name name glyph.0) font.glyphs
 
--- The glyph of a number is given twice; indexes are below 65,536.
-abbrev pub is_glyph_twice : FontValue → ℕ → Bool
-is_glyph_twice font glyph =
-    nat_lt glyph 65536 && nat_lt glyph (length font.glyphs) && is_given_twice font glyph
+-- The font states the glyph of a number twice; a number that a fault can stand at is below 65,536.
+abbrev pub is_glyph_given_twice : FontValue → ℕ → Bool
+is_glyph_given_twice font glyph =
+    nat_lt glyph 65536 && nat_lt glyph (length font.glyphs) && is_glyph_twice font glyph

@@ -4,8 +4,8 @@ use Rattle.t1_font.specs.declared.key.Key.{Key}
 use Rattle.t1_font.specs.declared.key.Key.TheVariants.{BlueValues, OtherBlues, FamilyBlues, FamilyOtherBlues, BlueScale, BlueShift, BlueFuzz, StdHw, StdVw, StemSnapH, StemSnapV}
 use Rattle.t1_font.specs.Fonts.{FontValue}
 use Rattle.t1_font.specs.Values.{Value}
-use Rattle.t1_rules.specs.Keys.{limit_of, value_at}
-use Rattle.t1_rules.specs.FontRules.Values.{is_absent, is_number, is_numbers, count_in, first_in}
+use Rattle.t1_rules.specs.Keys.{list_limit_of, value_at}
+use Rattle.t1_rules.specs.FontRules.Values.{is_absent, is_one_number, is_numbers, count_in, first_in}
 
 -- All entries whose kind is asked.
 abbrev pub hint_keys : List Key
@@ -15,9 +15,9 @@ hint_keys =
 
 -- The value is of the kind that a hint entry has: a number, or numbers.
 abbrev pub is_of_kind : Key → Value → Bool
-is_of_kind BlueScale value = is_number value
-is_of_kind BlueShift value = is_number value
-is_of_kind BlueFuzz value = is_number value
+is_of_kind BlueScale value = is_one_number value
+is_of_kind BlueShift value = is_one_number value
+is_of_kind BlueFuzz value = is_one_number value
 is_of_kind _ value = is_numbers value
 
 -- The entry is there, and of another kind.
@@ -26,16 +26,16 @@ is_of_another_kind k value index = index == 0 && not (is_absent value) && not (i
 
 -- There are more numbers than the limit; this stands at the first place that is too much.
 abbrev pub has_too_many : Key → Value → ℕ → Bool
-has_too_many k value index = index == limit_of k && nat_lt (limit_of k) (count_in value)
+has_too_many k value index = index == list_limit_of k && nat_lt (list_limit_of k) (count_in value)
 
 -- The numbers of a list that are looked at: its first ones, as many as its limit.
 abbrev pub numbers_at : FontValue → Key → List ℤ
-numbers_at font k = first_in (limit_of k) (value_at font k)
+numbers_at font k = first_in (list_limit_of k) (value_at font k)
 
 -- The number at a place.
-abbrev pub at : List ℤ → ℕ → ℤ
-at v index = slice_index_or v index (pos 0)
+abbrev pub number_at : List ℤ → ℕ → ℤ
+number_at v index = slice_index_or v index (pos 0)
 
 -- A number follows another here, and is less.
 abbrev pub falls_at : List ℤ → ℕ → Bool
-falls_at v index = nat_lt 0 index && nat_lt index (length v) && int_lt (at v index) (at v (index - 1))
+falls_at v index = nat_lt 0 index && nat_lt index (length v) && int_lt (number_at v index) (number_at v (index - 1))

@@ -23,11 +23,11 @@ is_absent (numbers count first) = false
 is_absent other = false
 
 -- The entry is a number.
-abbrev pub is_number : Value → Bool
-is_number absent = false
-is_number (number z) = true
-is_number (numbers count first) = false
-is_number other = false
+abbrev pub is_one_number : Value → Bool
+is_one_number absent = false
+is_one_number (number z) = true
+is_one_number (numbers count first) = false
+is_one_number other = false
 
 -- The entry is an array or a procedure of numbers.
 abbrev pub is_numbers : Value → Bool

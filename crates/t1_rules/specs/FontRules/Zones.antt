@@ -7,7 +7,7 @@ use Rattle.t1_font.specs.Fonts.{FontValue}
 use Rattle.t1_font.specs.Values.{Value}
 use Rattle.t1_rules.specs.Keys.{value_at}
 use Rattle.t1_rules.specs.FontRules.Values.{product_one, whole, number_or, count_in}
-use Rattle.t1_rules.specs.FontRules.Hints.{at, numbers_at}
+use Rattle.t1_rules.specs.FontRules.Hints.{number_at, numbers_at}
 
 -- The lists of zones.
 abbrev pub zone_keys : List Key
@@ -51,7 +51,7 @@ begins_zone v index = index % 2 == 0 && nat_lt (index + 1) (length v)
 
 -- A zone that begins here is nearer to the one before it than the distance.
 abbrev pub is_too_near : ℤ → List ℤ → ℕ → Bool
-is_too_near d v index = nat_lt 0 index && begins_zone v index && int_lt (at v index -ℤ at v (index - 1)) d
+is_too_near d v index = nat_lt 0 index && begins_zone v index && int_lt (number_at v index -ℤ number_at v (index - 1)) d
 
 -- Two zones are nearer to one another than the distance, whichever is the lower one.
 abbrev pub come_near : ℤ → Zone → Zone → Bool
@@ -61,7 +61,7 @@ come_near d z w = int_lt (w.lower -ℤ z.upper) d && int_lt (z.lower -ℤ w.uppe
 abbrev pub meets : ℤ → List ℤ → List ℤ → ℕ → Bool
 meets d v others index =
     begins_zone v index
-    && list_any (come_near d (record { lower = at v index; upper = at v (index + 1) })) (zones others)
+    && list_any (come_near d (record { lower = number_at v index; upper = number_at v (index + 1) })) (zones others)
 
 -- A low zone that begins here comes near to a high one.
 abbrev pub comes_near_high : FontValue → Key → ℕ → Bool
@@ -71,4 +71,4 @@ comes_near_high font k index = meets (distance font) (numbers_at font k) (number
 abbrev pub is_too_high : ℤ → List ℤ → ℕ → Bool
 is_too_high s v index =
     index % 2 == 1 && nat_lt index (length v)
-    && int_le product_one ((at v index -ℤ at v (index - 1)) *ℤ s)
+    && int_le product_one ((number_at v index -ℤ number_at v (index - 1)) *ℤ s)

@@ -15,7 +15,7 @@ use Rattle.t1_rules.specs.Laws.Othersubrs.{how_many}
 use Rattle.t1_rules.specs.Laws.StepRules.{violates}
 use Rattle.t1_rules.specs.StandardEncoding.{standard_name}
 use Rattle.t1_rules.specs.StepRules.{breaks, component_rules}
-use Rattle.t1_rules.specs.StepRules.Seac.{code_of, is_named, is_unnamed}
+use Rattle.t1_rules.specs.StepRules.Seac.{seac_code, is_named, is_unnamed}
 use Rattle.t1_rules.specs.StepRules.Tokens.{sets_width}
 use Rattle.t1_rules.specs.Words.StepTests.{IsCommand}
 
@@ -27,12 +27,12 @@ pub record IsCode (z : ℤ) (code : ℕ) : Type 0 where
   pub whole : z ≡ units (pos code)
 
 abbrev pub CodesAreWholeTo255 : Type 0
-CodesAreWholeTo255 = (z : ℤ) (code : ℕ) → (code_of z ≡ Some code) ↔ IsCode z code
+CodesAreWholeTo255 = (z : ℤ) (code : ℕ) → (seac_code z ≡ Some code) ↔ IsCode z code
 
 -- An argument is exactly one of three: no code, one without a name, one with a name.
 abbrev pub CodesAreOneOfThree : Type 0
 CodesAreOneOfThree = (z : ℤ) →
-    how_many (is_none (code_of z) ∷ is_unnamed (code_of z) ∷ is_named (code_of z) ∷ []) ≡ 1
+    how_many (is_none (seac_code z) ∷ is_unnamed (seac_code z) ∷ is_named (seac_code z) ∷ []) ≡ 1
 
 -- The arguments of seac that are codes, counted from 0: the base's and the accent's.
 pub data IsCodePlace : ℕ → Type 0 where

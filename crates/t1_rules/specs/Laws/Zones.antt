@@ -2,7 +2,7 @@
 use Rattle.std.specs.Prelude.{◌≡◌, ℕ, suc, int_lt, int_le, ◌*ℤ◌, ◌+◌, ◌*◌, ◌<◌, ◌≤◌, ◌⊎◌, ◌↔◌, false, ℤ, ◌-ℤ◌, ◌≤ℤ◌, Some, None, List, length, slice_get}
 use Rattle.std.specs.List.{AllPairs, list_any}
 use Rattle.t1_rules.specs.FontRules.Values.{product_one}
-use Rattle.t1_rules.specs.FontRules.Hints.{at, falls_at}
+use Rattle.t1_rules.specs.FontRules.Hints.{number_at, falls_at}
 use Rattle.t1_rules.specs.FontRules.Zones.{Zone, zones, come_near, is_too_near, meets, is_too_high}
 
 -- Where no number falls behind the one before it, none is less than any before it; and only there.
@@ -13,7 +13,7 @@ ListsRiseWhereNoneFalls = (v : List ℤ) → ((index : ℕ) → falls_at v index
 abbrev pub ZonesArePairs : Type 0
 ZonesArePairs =
     (v : List ℤ) (j : ℕ) → 2 * j + 1 < length v →
-    slice_get (zones v) j ≡ Some (record { lower = at v (2 * j); upper = at v (2 * j + 1) })
+    slice_get (zones v) j ≡ Some (record { lower = number_at v (2 * j); upper = number_at v (2 * j + 1) })
 
 -- There is no other zone.
 abbrev pub NoZoneIsPastPairs : Type 0

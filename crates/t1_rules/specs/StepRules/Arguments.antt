@@ -25,18 +25,18 @@ wanted_by command (Some count) = count
 wanted_by command None = taken_from_top command
 
 -- There are fewer numbers than the command wants.
-abbrev pub has_too_few : CharToken → List ℤ → Bool
-has_too_few (Command command) stack = nat_lt (length stack) (wanted_by command (arguments_of command))
-has_too_few _ stack = false
+abbrev pub has_too_few_arguments : CharToken → List ℤ → Bool
+has_too_few_arguments (Command command) stack = nat_lt (length stack) (wanted_by command (arguments_of command))
+has_too_few_arguments _ stack = false
 
 -- There are more numbers than the arguments.
 abbrev pub is_more_than : Option ℕ → ℕ → Bool
 is_more_than None numbers = false
 is_more_than (Some count) numbers = nat_lt count numbers
 
-abbrev pub has_too_many : CharToken → List ℤ → Bool
-has_too_many (Command command) stack = is_more_than (arguments_of command) (length stack)
-has_too_many _ stack = false
+abbrev pub has_too_many_arguments : CharToken → List ℤ → Bool
+has_too_many_arguments (Command command) stack = is_more_than (arguments_of command) (length stack)
+has_too_many_arguments _ stack = false
 
 -- One number more comes to a stack of 24.
 abbrev pub overflows : StepView → Bool

@@ -18,18 +18,19 @@ abbrev pub code_among : Option ℕ → Option ℕ
 code_among None = None
 code_among (Some n) = if nat_lt n 256 then Some n else None
 
-abbrev pub code_of : ℤ → Option ℕ
-code_of z = code_among (natural z)
+-- An argument of seac as a code.
+abbrev pub seac_code : ℤ → Option ℕ
+seac_code z = code_among (natural z)
 
 -- The arguments of seac are asb, adx, ady, and the codes of the base and of the accent.
 abbrev pub accent_sidebearing : StepView → ℤ
 accent_sidebearing step = argument step.stack 0
 
 abbrev pub base_code : StepView → Option ℕ
-base_code step = code_of (argument step.stack 3)
+base_code step = seac_code (argument step.stack 3)
 
 abbrev pub accent_code : StepView → Option ℕ
-accent_code step = code_of (argument step.stack 4)
+accent_code step = seac_code (argument step.stack 4)
 
 abbrev pub has_no_code : StepView → Bool
 has_no_code step = is_seac step.token && (is_none (base_code step) || is_none (accent_code step))

@@ -2,7 +2,7 @@
 
 ghost use Rattle.std.specs.Prelude.{◌≡◌, ℕ, ◌==◌, ◌&&◌, not};
 ghost use Rattle.t1_rules.specs.FontRules.{font_rules, violated};
-ghost use Rattle.t1_rules.specs.FontRules.Glyphs.{has_glyph, is_glyph_twice, not_defined};
+ghost use Rattle.t1_rules.specs.FontRules.Glyphs.{has_glyph, is_glyph_given_twice, not_defined};
 ghost use Rattle.t1_rules.specs.Keys.{glyphs_key};
 ghost use Rattle.t1_rules.specs.Mask.{has};
 
@@ -30,7 +30,7 @@ fn lacks_not_defined(font: &Font<'_>, index: u32) -> bool
 
 /// Whether the glyph of this number is given twice.
 fn is_glyph_twice(font: &Font<'_>, glyph: u32) -> bool
-    ensures { result ≡ is_glyph_twice font.now glyph }
+    ensures { result ≡ is_glyph_given_twice font.now glyph }
 {
     glyph < INDEXES && (glyph as usize) < font.glyphs().len() && font.glyph_twice(glyph as usize)
 }

@@ -3,7 +3,7 @@
 ghost use Rattle.std.specs.Prelude.{◌≡◌, ℕ};
 ghost use Rattle.t1_font.specs.Entries.{entry_view};
 ghost use Rattle.t1_rules.specs.FontRules.Hints.{falls_at, has_too_many, is_of_another_kind, is_of_kind};
-ghost use Rattle.t1_rules.specs.Keys.{limit_of};
+ghost use Rattle.t1_rules.specs.Keys.{list_limit_of};
 ghost use Rattle.t1_rules.specs.Mask.{has};
 ghost use Rattle.t1_rules.specs.Words.KeyTests.{broken_among, number_tests};
 
@@ -14,7 +14,7 @@ use t1_font::{Entry, Font, Key};
 
 /// How many numbers a list of zones or stem snaps has at most.
 pub(crate) fn limit(key: Key) -> usize
-    ensures { result ≡ limit_of key }
+    ensures { result ≡ list_limit_of key }
 {
     match key {
         Key::BlueValues | Key::FamilyBlues => 14,

@@ -7,7 +7,7 @@ ghost use Rattle.t1_char.specs.Steps.{StepView};
 ghost use Rattle.t1_char.specs.StepValues.{step_view};
 ghost use Rattle.t1_rules.specs.Mask.{has};
 ghost use Rattle.t1_rules.specs.StepRules.{breaks, seac_rules};
-ghost use Rattle.t1_rules.specs.StepRules.Seac.{accent_code, base_code, code_of, has_no_code, has_unnamed_code, is_unnamed};
+ghost use Rattle.t1_rules.specs.StepRules.Seac.{accent_code, base_code, has_no_code, has_unnamed_code, is_unnamed, seac_code};
 ghost use Rattle.t1_rules.specs.StepRules.Stems.{is_stem};
 ghost use Rattle.t1_rules.specs.StepRules.Tokens.{closes, is_line, is_move};
 ghost use Rattle.t1_rules.specs.Watches.{SeacStandsFor};
@@ -143,7 +143,7 @@ pub(crate) fn accent_code(step: &Step) -> Option<u8>
 
 /// A number as a code, where it is whole from 0 to 255.
 fn code_of(number: i32) -> Option<u8>
-    ensures { result ≡ code_of number }
+    ensures { result ≡ seac_code number }
 {
     match natural(i64::from(number)) {
         Some(code) if code < 256 => Some(code as u8),
