@@ -19,7 +19,9 @@ use crate::step_rules::seac::{accent_code, base_code, is_unnamed};
 use crate::step_rules::tokens::{is_seac, sets_width};
 use std::alloc::{AllocError, Global};
 use std::marker::Model;
-use t1_char::{Answer, CharToken, Edition, Machine, Numbers, Step, steps_lack_seac, subrs_lack_seac};
+use t1_char::{
+    Answer, CharToken, Edition, Machine, Numbers, Step, steps_lack_seac, subrs_lack_seac,
+};
 use t1_font::Font;
 
 /// How many codes there are.
