@@ -6,8 +6,7 @@ use Rattle.t1_font.specs.Fonts.{FontValue}
 use Rattle.t1_io.specs.Devices.{SinkState, SourceState}
 use Rattle.t1_report.specs.Checked.{checked}
 use Rattle.t1_report.specs.Faults.{FaultValue}
-use Rattle.t1_report.proofs.HasReport.{has_report}
-use Rattle.t1_report.proofs.OneReport.{no_other_report}
+use Rattle.t1_report.specs.Laws.Reports.{HasNoOtherReport, HasReport}
 use Rattle.t1check.specs.declared.asked.Options.{Options}
 use Rattle.t1check.specs.declared.status.Status.{Status}
 use Rattle.t1check.specs.declared.status.Status.TheVariants.{Failed}
@@ -60,37 +59,37 @@ unread_ends options left failed v v' out out' told told' errors' reason read res
 unread_ends options left failed v v' out out' told told' errors' reason read result are kept (inr is, spared, same, told_same) tells =
     refused reason (subst (AreRead left) is are) kept spared same (subst (λ (s : SinkState). Tells (told_of reason) (unread_status reason) s errors' result) told_same tells)
 
--- there is an answer
-has_reported : (options : Options) (font : FontValue) (waived : Result (List Waiver) WaiverRefusal) → (answer : Answer) × IsReported options font waived answer
-has_reported options font (Ok waivers) =
-    let (faults, is) = has_report (checked font options.edition) waivers in
+-- there is an answer, as each font has a report
+has_reported : HasReport → (options : Options) (font : FontValue) (waived : Result (List Waiver) WaiverRefusal) → (answer : Answer) × IsReported options font waived answer
+has_reported reports options font (Ok waivers) =
+    let (faults, is) = reports (checked font options.edition) waivers in
     (reported font waivers (selection options faults), (faults, (is, refl)))
-has_reported options font (Err reason) = (refusal (told_of_waivers reason), refl)
+has_reported reports options font (Err reason) = (refusal (told_of_waivers reason), refl)
 
-has_shown : (options : Options) (font : FontValue) (waived : Result (List Waiver) WaiverRefusal) (name : Option (List ℕ)) → (answer : Answer) × IsShown options font waived name answer
-has_shown options font waived None = has_reported options font waived
-has_shown options font waived (Some name) = (traced options.edition font name, refl)
+has_shown : HasReport → (options : Options) (font : FontValue) (waived : Result (List Waiver) WaiverRefusal) (name : Option (List ℕ)) → (answer : Answer) × IsShown options font waived name answer
+has_shown reports options font waived None = has_reported reports options font waived
+has_shown reports options font waived (Some name) = (traced options.edition font name, refl)
 
-has_by_read : (options : Options) (read : Result FontValue Unread) (waived : Result (List Waiver) WaiverRefusal) → (answer : Answer) × IsAnswerTo options read waived answer
-has_by_read options (Ok font) waived = has_shown options font waived (option_map string_bytes options.trace)
-has_by_read options (Err unread) waived = (refusal (told_of unread), refl)
+has_by_read : HasReport → (options : Options) (read : Result FontValue Unread) (waived : Result (List Waiver) WaiverRefusal) → (answer : Answer) × IsAnswerTo options read waived answer
+has_by_read reports options (Ok font) waived = has_shown reports options font waived (option_map string_bytes options.trace)
+has_by_read reports options (Err unread) waived = (refusal (told_of unread), refl)
 
-pub has_answer : HasAnAnswer
-has_answer options input text = has_by_read options (font_of input) (waived_by options text)
+pub has_answer : HasReport → HasAnAnswer
+has_answer reports options input text = has_by_read reports options (font_of input) (waived_by options text)
 
--- the options and the bytes decide the answer
-one_reported : (options : Options) (font : FontValue) (waived : Result (List Waiver) WaiverRefusal) (a b : Answer) → IsReported options font waived a → IsReported options font waived b → a ≡ b
-one_reported options font (Ok waivers) a b (xs, (p, e)) (ys, (q, f)) =
-    e ∙ ap (λ (zs : List FaultValue). reported font waivers (selection options zs)) (no_other_report (checked font options.edition) waivers xs ys p q) ∙ sym f
-one_reported options font (Err reason) a b p q = p ∙ sym q
+-- the options and the bytes decide the answer, as a font has no other report
+one_reported : HasNoOtherReport → (options : Options) (font : FontValue) (waived : Result (List Waiver) WaiverRefusal) (a b : Answer) → IsReported options font waived a → IsReported options font waived b → a ≡ b
+one_reported no_other options font (Ok waivers) a b (xs, (p, e)) (ys, (q, f)) =
+    e ∙ ap (λ (zs : List FaultValue). reported font waivers (selection options zs)) (no_other (checked font options.edition) waivers xs ys p q) ∙ sym f
+one_reported no_other options font (Err reason) a b p q = p ∙ sym q
 
-one_shown : (options : Options) (font : FontValue) (waived : Result (List Waiver) WaiverRefusal) (name : Option (List ℕ)) (a b : Answer) → IsShown options font waived name a → IsShown options font waived name b → a ≡ b
-one_shown options font waived None a b p q = one_reported options font waived a b p q
-one_shown options font waived (Some name) a b p q = p ∙ sym q
+one_shown : HasNoOtherReport → (options : Options) (font : FontValue) (waived : Result (List Waiver) WaiverRefusal) (name : Option (List ℕ)) (a b : Answer) → IsShown options font waived name a → IsShown options font waived name b → a ≡ b
+one_shown no_other options font waived None a b p q = one_reported no_other options font waived a b p q
+one_shown no_other options font waived (Some name) a b p q = p ∙ sym q
 
-one_by_read : (options : Options) (read : Result FontValue Unread) (waived : Result (List Waiver) WaiverRefusal) (a b : Answer) → IsAnswerTo options read waived a → IsAnswerTo options read waived b → a ≡ b
-one_by_read options (Ok font) waived a b p q = one_shown options font waived (option_map string_bytes options.trace) a b p q
-one_by_read options (Err unread) waived a b p q = p ∙ sym q
+one_by_read : HasNoOtherReport → (options : Options) (read : Result FontValue Unread) (waived : Result (List Waiver) WaiverRefusal) (a b : Answer) → IsAnswerTo options read waived a → IsAnswerTo options read waived b → a ≡ b
+one_by_read no_other options (Ok font) waived a b p q = one_shown no_other options font waived (option_map string_bytes options.trace) a b p q
+one_by_read no_other options (Err unread) waived a b p q = p ∙ sym q
 
-pub one_answer : HasNoOtherAnswer
-one_answer options input text a b p q = one_by_read options (font_of input) (waived_by options text) a b p q
+pub one_answer : HasNoOtherReport → HasNoOtherAnswer
+one_answer no_other options input text a b p q = one_by_read no_other options (font_of input) (waived_by options text) a b p q

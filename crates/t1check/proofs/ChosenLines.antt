@@ -1,4 +1,5 @@
--- The lines of the faults that are chosen of a report, one after another.
+-- The lines of the faults that are chosen of a report, one after another. What the marks of a walk count is a law of
+-- t1_report, whose clauses these lemmas are given.
 use Rattle.std.proofs.Common.{◌≡◌, ℕ, suc, ◌+◌, ◌-◌, ◌^◌, ◌<◌, ◌≤◌, min, List, [], ◌∷◌, Option, None, Some, Result, Ok, Err, inl, inr, length, take, drop, get_or, slice_get, refl, sym, ap, subst, ◌∙◌, arith}
 use Rattle.std.proofs.lemmas.Bool.{cases_lt}
 use Rattle.std.proofs.lemmas.List.{drop_all, get_or-drop, get_or-take, length-drop, length-take, take_all}
@@ -12,11 +13,10 @@ use Rattle.t1_io.proofs.SinkLemmas.{Delivers-flush, PutFailed-part, Wrote-part}
 use Rattle.t1_report.specs.Faults.{FaultValue}
 use Rattle.t1_report.specs.Lines.{line_of}
 use Rattle.t1_report.specs.Reports.{IsReport}
-use Rattle.t1_report.specs.Walks.{HasNoneLater, IsNext, IsSoFar, first_mark, mark_of}
+use Rattle.t1_report.specs.Walks.{AreLater, HasNoneLater, IsNext, IsSoFar, first_mark, mark_of}
 use Rattle.t1_report.specs.WalkViews.{WalkView}
 use Rattle.t1_report.specs.declared.marks.Mark.{Mark}
-use Rattle.t1_report.proofs.FewFaults.{few_faults}
-use Rattle.t1_report.proofs.SoFar.{next_in_font, none_left_in_font, one_more_in_font, so_far_start}
+use Rattle.t1_report.specs.Laws.Walks.{AllAreGivenAtLast, AreBehindTheCount, MarksGoOnCounting, NoneIsGivenAtFirst}
 use Rattle.t1check.specs.declared.asked.Options.{Options}
 use Rattle.t1check.specs.declared.status.Status.{Status}
 use Rattle.t1check.specs.declared.status.Status.TheVariants.{Faults}
@@ -53,26 +53,26 @@ none_gone font waivers faults k most mark sink status so_far wrote is =
     let first : k ≡ k + 0 = omega arith in
     record { so_far = subst (λ n. IsSoFar faults n mark) first so_far; wrote = wrote; status_is = is }
 
-pub one_gone : (font : CheckedFont) (waivers : List Waiver) (faults : List FaultValue) (k most i : ℕ) (mark : Mark) (fault : FaultValue) (a b c : SinkState) (status : Status)
+pub one_gone : MarksGoOnCounting → (font : CheckedFont) (waivers : List Waiver) (faults : List FaultValue) (k most i : ℕ) (mark : Mark) (fault : FaultValue) (a b c : SinkState) (status : Status)
     → length font.value.glyphs ≤ 65535 → length waivers ≤ 1048576 → i < most → IsReport font waivers faults → IsNext font waivers mark fault → HaveGone font.value waivers faults k most i mark a b status → Wrote b c (line_of font.value waivers fault)
     → HaveGone font.value waivers faults k most (i + 1) (mark_of fault) a c Faults
-one_gone font waivers faults k most i mark fault a b c status few few_waivers less report next gone more =
-    let is = (next_in_font font waivers faults (k + i) mark fault few few_waivers report gone.so_far next).1 in
+one_gone counts font waivers faults k most i mark fault a b c status few few_waivers less report next gone more =
+    let is = (counts font waivers faults (k + i) mark fault few few_waivers report gone.so_far next).0 in
     let within = chosen_within faults k most i fault less is in
     let on : (k + i) + 1 ≡ k + (i + 1) = omega arith in
     let count : suc i ≡ i + 1 = omega arith in
     record {
-      so_far = subst (λ n. IsSoFar faults n (mark_of fault)) on (one_more_in_font font waivers faults (k + i) mark fault few few_waivers report gone.so_far next);
+      so_far = subst (λ n. IsSoFar faults n (mark_of fault)) on (counts font waivers faults (k + i) mark fault few few_waivers report gone.so_far next).1;
       wrote = Wrote-part (line_of font.value waivers) (chosen faults k most) i fault a b c within gone.wrote
           (subst (λ f. Wrote b c (line_of font.value waivers f)) (sym (chosen_at faults k most i fault less is)) more);
       status_is = subst (λ n. Faults ≡ status_of (take n (chosen faults k most))) count (status_some (chosen faults k most) i within);
     }
 
-pub one_failed : (font : CheckedFont) (waivers : List Waiver) (faults : List FaultValue) (k most i : ℕ) (mark : Mark) (fault : FaultValue) (a b c : SinkState) (status : Status)
+pub one_failed : MarksGoOnCounting → (font : CheckedFont) (waivers : List Waiver) (faults : List FaultValue) (k most i : ℕ) (mark : Mark) (fault : FaultValue) (a b c : SinkState) (status : Status)
     → length font.value.glyphs ≤ 65535 → length waivers ≤ 1048576 → i < most → IsReport font waivers faults → IsNext font waivers mark fault → HaveGone font.value waivers faults k most i mark a b status → PutFailed b c (line_of font.value waivers fault)
     → PutFailed a c (lines_of font.value waivers (chosen faults k most))
-one_failed font waivers faults k most i mark fault a b c status few few_waivers less report next gone broke =
-    let is = (next_in_font font waivers faults (k + i) mark fault few few_waivers report gone.so_far next).1 in
+one_failed counts font waivers faults k most i mark fault a b c status few few_waivers less report next gone broke =
+    let is = (counts font waivers faults (k + i) mark fault few few_waivers report gone.so_far next).0 in
     PutFailed-part (line_of font.value waivers) (chosen faults k most) i fault a b c (chosen_within faults k most i fault less is) gone.wrote
     (subst (λ f. PutFailed b c (line_of font.value waivers f)) (sym (chosen_at faults k most i fault less is)) broke)
 
@@ -88,10 +88,10 @@ pub most_gone : (font : CheckedFont) (waivers : List Waiver) (faults : List Faul
 most_gone font waivers faults k most i mark old new status gone all =
     whole font waivers faults k most i mark old new status gone (omega (arith, all, length-take most (drop k faults)))
 
-pub all_gone : (font : CheckedFont) (waivers : List Waiver) (faults : List FaultValue) (k most i : ℕ) (mark : Mark) (old new : SinkState) (status : Status) → IsReport font waivers faults → HasNoneLater font waivers mark
+pub all_gone : AllAreGivenAtLast → (font : CheckedFont) (waivers : List Waiver) (faults : List FaultValue) (k most i : ℕ) (mark : Mark) (old new : SinkState) (status : Status) → IsReport font waivers faults → HasNoneLater font waivers mark
     → HaveGone font.value waivers faults k most i mark old new status → Wrote old new (lines_of font.value waivers (chosen faults k most)) × (status ≡ status_of (chosen faults k most))
-all_gone font waivers faults k most i mark old new status report none gone =
-    let last = none_left_in_font font waivers faults (k + i) mark report gone.so_far none in
+all_gone ends font waivers faults k most i mark old new status report none gone =
+    let last = ends font waivers faults (k + i) mark report gone.so_far none in
     whole font waivers faults k most i mark old new status gone (omega (arith, last, length-take most (drop k faults), length-drop k faults))
 
 -- ---- what the options choose
@@ -111,18 +111,37 @@ most_are : (max : Option ℕ) (faults : List FaultValue) → length faults < 2 ^
 most_are None faults few = take_all (2 ^ 64 - 1) faults (omega (arith, few))
 most_are (Some max) faults few = refl
 
-chosen_are : (font : CheckedFont) (waivers : List Waiver) (faults : List FaultValue) (options : Options) → length font.value.glyphs ≤ 65535 → length waivers ≤ 1048576 → IsReport font waivers faults
+-- A fault's number is its place in the report, and no number is above the greatest of 64 bits.
+few_behind : MarksGoOnCounting → (font : CheckedFont) (waivers : List Waiver) (faults : List FaultValue) (k : ℕ) (mark : Mark) (rest : List FaultValue) → length font.value.glyphs ≤ 65535 → length waivers ≤ 1048576
+    → IsReport font waivers faults → IsSoFar faults k mark → AreLater font waivers mark rest → k < 2 ^ 64 → k + length rest < 2 ^ 64
+few_behind counts font waivers faults k mark [] few few_waivers report so_far later small = omega (arith, small)
+few_behind counts font waivers faults k mark (fault ∷ rest) few few_waivers report so_far (next, later) small =
+    let on = (counts font waivers faults k mark fault few few_waivers report so_far next).1 in
+    let number : fault.number ≡ k + 1 = on.number in
+    let bounded : fault.number ≡ min (mark.number + 1) (2 ^ 64 - 1) = next.number in
+    let below : k + 1 < 2 ^ 64 = omega (arith, number, bounded) in
+    let count = few_behind counts font waivers faults (k + 1) (mark_of fault) rest few few_waivers report on later below in
+    omega (arith, count)
+
+few_faults : NoneIsGivenAtFirst → MarksGoOnCounting → AreBehindTheCount → (font : CheckedFont) (waivers : List Waiver) (faults : List FaultValue) → length font.value.glyphs ≤ 65535 → length waivers ≤ 1048576
+    → IsReport font waivers faults → length faults < 2 ^ 64
+few_faults starts counts behind font waivers faults few few_waivers report =
+    let later = (behind font waivers faults 0 first_mark faults few few_waivers report (starts faults)).1 refl in
+    let count = few_behind counts font waivers faults 0 first_mark faults few few_waivers report (starts faults) later (omega arith) in
+    omega (arith, count)
+
+chosen_are : NoneIsGivenAtFirst → MarksGoOnCounting → AreBehindTheCount → (font : CheckedFont) (waivers : List Waiver) (faults : List FaultValue) (options : Options) → length font.value.glyphs ≤ 65535 → length waivers ≤ 1048576 → IsReport font waivers faults
     → chosen faults (min options.after (length faults)) (unwrap_or options.max (2 ^ 64 - 1)) ≡ selection options faults
-chosen_are font waivers faults options few few_waivers report =
-    let count = few_faults font waivers faults few few_waivers report in
+chosen_are starts counts behind font waivers faults options few few_waivers report =
+    let count = few_faults starts counts behind font waivers faults few few_waivers report in
     ap (take (unwrap_or options.max (2 ^ 64 - 1))) (drop_min options.after faults)
     ∙ most_are options.max (drop options.after faults) (omega (arith, count, length-drop options.after faults))
 
 -- ---- faults that are passed
 
-pub one_passed : (font : CheckedFont) (waivers : List Waiver) (faults : List FaultValue) (i : ℕ) (mark : Mark) (fault : FaultValue) → length font.value.glyphs ≤ 65535 → length waivers ≤ 1048576 → IsReport font waivers faults
+pub one_passed : MarksGoOnCounting → (font : CheckedFont) (waivers : List Waiver) (faults : List FaultValue) (i : ℕ) (mark : Mark) (fault : FaultValue) → length font.value.glyphs ≤ 65535 → length waivers ≤ 1048576 → IsReport font waivers faults
     → IsNext font waivers mark fault → IsSoFar faults i mark → IsSoFar faults (i + 1) (mark_of fault)
-one_passed font waivers faults i mark fault few few_waivers report next so_far = one_more_in_font font waivers faults i mark fault few few_waivers report so_far next
+one_passed counts font waivers faults i mark fault few few_waivers report next so_far = (counts font waivers faults i mark fault few few_waivers report so_far next).1
 
 pub count_passed : (faults : List FaultValue) (count i : ℕ) (mark : Mark) → count ≡ i → IsSoFar faults i mark → IsSoFar faults (min count (length faults)) mark
 count_passed faults count i mark is so_far =
@@ -130,25 +149,25 @@ count_passed faults count i mark is so_far =
     let same : i ≡ min count (length faults) = omega (arith, is, within) in
     subst (λ n. IsSoFar faults n mark) same so_far
 
-pub all_passed : (font : CheckedFont) (waivers : List Waiver) (faults : List FaultValue) (count i : ℕ) (mark : Mark) → IsReport font waivers faults → HasNoneLater font waivers mark → i < count → IsSoFar faults i mark
+pub all_passed : AllAreGivenAtLast → (font : CheckedFont) (waivers : List Waiver) (faults : List FaultValue) (count i : ℕ) (mark : Mark) → IsReport font waivers faults → HasNoneLater font waivers mark → i < count → IsSoFar faults i mark
     → IsSoFar faults (min count (length faults)) mark
-all_passed font waivers faults count i mark report none less so_far =
-    let last = none_left_in_font font waivers faults i mark report so_far none in
+all_passed ends font waivers faults count i mark report none less so_far =
+    let last = ends font waivers faults i mark report so_far none in
     let same : i ≡ min count (length faults) = omega (arith, last, less) in
     subst (λ n. IsSoFar faults n mark) same so_far
 
 -- from before the first fault on
-pub first_passed : (font : CheckedFont) (waivers : List Waiver) (begun : WalkView) (count : ℕ) (mark : Mark) → begun.font ≡ font → begun.waivers ≡ waivers → begun.mark ≡ first_mark
+pub first_passed : NoneIsGivenAtFirst → (font : CheckedFont) (waivers : List Waiver) (begun : WalkView) (count : ℕ) (mark : Mark) → begun.font ≡ font → begun.waivers ≡ waivers → begun.mark ≡ first_mark
     → ((faults : List FaultValue) → IsReport begun.font begun.waivers faults → IsSoFar faults 0 begun.mark → IsSoFar faults (min count (length faults)) mark)
     → (faults : List FaultValue) → IsReport font waivers faults → IsSoFar faults (min count (length faults)) mark
-first_passed font waivers begun count mark of_font of_waivers first passed faults report =
+first_passed starts font waivers begun count mark of_font of_waivers first passed faults report =
     passed faults
     (subst (λ (f : CheckedFont). IsReport f begun.waivers faults) (sym of_font) (subst (λ (w : List Waiver). IsReport font w faults) (sym of_waivers) report))
-    (subst (λ (m : Mark). IsSoFar faults 0 m) (sym first) (so_far_start faults))
+    (subst (λ (m : Mark). IsSoFar faults 0 m) (sym first) (starts faults))
 
-pub chosen_by : (font : CheckedFont) (waivers : List Waiver) (faults : List FaultValue) (options : Options) (most : ℕ) → most ≡ unwrap_or options.max (2 ^ 64 - 1) → length font.value.glyphs ≤ 65535 → length waivers ≤ 1048576
+pub chosen_by : NoneIsGivenAtFirst → MarksGoOnCounting → AreBehindTheCount → (font : CheckedFont) (waivers : List Waiver) (faults : List FaultValue) (options : Options) (most : ℕ) → most ≡ unwrap_or options.max (2 ^ 64 - 1) → length font.value.glyphs ≤ 65535 → length waivers ≤ 1048576
     → IsReport font waivers faults → chosen faults (min options.after (length faults)) most ≡ selection options faults
-chosen_by font waivers faults options most is few few_waivers report = ap (λ n. take n (drop (min options.after (length faults)) faults)) is ∙ chosen_are font waivers faults options few few_waivers report
+chosen_by starts counts behind font waivers faults options most is few few_waivers report = ap (λ n. take n (drop (min options.after (length faults)) faults)) is ∙ chosen_are starts counts behind font waivers faults options few few_waivers report
 
 -- ---- the flush behind the lines
 

@@ -1,14 +1,19 @@
-//! Laws above the definitions: each is the contract of a function without a body.
+//! Laws above the definitions: each is the contract of a function that does nothing, but for calling the laws on which it rests.
 
 ghost use Rattle.t1check.specs.Laws.Answers.{HasAnAnswer, HasNoOtherAnswer};
 ghost use Rattle.t1check.specs.Laws.Refusals.{NeverForMemory, RefusedByPart};
 ghost use Rattle.t1check.specs.Laws.Runs.{RunsKeepPromises};
 
+use t1_report::{a_font_has_one_report, each_font_has_a_report};
+
 /// The options, the bytes of a file and those of the waivers decide the answer.
 pub fn a_file_has_one_answer()
     ensures some { HasAnAnswer }
     ensures no_other { HasNoOtherAnswer }
-{}
+{
+    each_font_has_a_report();
+    a_font_has_one_report();
+}
 
 /// A file is refused for its size by E05; for its segments by E01, E02 or E03; for its clear text by E04,
 /// E07 or E13; for its encrypted section by E06; for its private text by E07 to E12. So no bytes are

@@ -13,7 +13,7 @@ use crate::asked::Options;
 use crate::status::Status;
 use t1_font::Font;
 use t1_io::{Broken, Sink};
-use t1_report::{Waivers, Walk, write_fault};
+use t1_report::{Waivers, Walk, marks_count_the_faults_given, write_fault};
 use t1_rules::Sidebearings;
 
 /// Writes the lines of a font's report that the options choose, each before the next fault is sought, and
@@ -35,6 +35,8 @@ pub fn write_report<'a, W: Sink>(
     ensures status { (faults : List FaultValue) → IsReport (checked font.now options.now.edition) waivers.now faults →
         IfOk result (λ status. status ≡ status_of (selection options.now faults)) }
 {
+    // The call of a law does nothing: the proof cites what it ensures.
+    marks_count_the_faults_given();
     let mut walk = Walk::begin(font, sidebearings, waivers);
     pass(&mut walk, options.after);
     let status = write_lines(sink, font, waivers, walk, options)?;
@@ -51,6 +53,7 @@ fn pass(walk: &mut Walk<'_>, count: u64)
     ensures passed { (faults : List FaultValue) → IsReport walk.old.font walk.old.waivers faults →
         IsSoFar faults 0 walk.old.mark → IsSoFar faults (min count (length faults)) walk.new.mark }
 {
+    marks_count_the_faults_given();
     for _fault in 0..count {
         let Some(_passed) = walk.next() else {
             return;
@@ -77,6 +80,7 @@ fn write_lines<W: Sink>(
         IsSoFar faults k walk.entry.mark →
         IfOk result (λ status. status ≡ status_of (take (unwrap_or options.now.max (2 ^ 64 - 1)) (drop k faults))) }
 {
+    marks_count_the_faults_given();
     let mut status = Status::Clean;
     for _line in 0..options.max.unwrap_or(u64::MAX) {
         let Some(fault) = walk.next() else {

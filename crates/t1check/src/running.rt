@@ -24,7 +24,7 @@ use std::alloc::Global;
 use t1_char::Edition;
 use t1_font::{Clear, Font, read_clear, read_font};
 use t1_io::{Sink, Source};
-use t1_report::{LARGEST_WAIVERS, WaiverError, Waivers};
+use t1_report::{LARGEST_WAIVERS, WaiverError, Waivers, each_font_has_a_report};
 use t1_rules::{Sidebearings, glyph_named};
 use t1_seal::{join, open_eexec};
 
@@ -165,6 +165,7 @@ fn report_waived<W: Sink, E: Sink>(
     ensures { Reports options.now font.now (as_waivers (waivers_of text.now))
         (W.state out.old) (W.state out.new) (E.state errors.old) (E.state errors.new) result }
 {
+    each_font_has_a_report();
     let waivers = match Waivers::read(alloc, text) {
         Ok(waivers) => waivers,
         Err(WaiverError::Malformed) => {

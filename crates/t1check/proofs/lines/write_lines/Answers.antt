@@ -6,7 +6,7 @@ use Rattle.t1_report.specs.Faults.{fault_value}
 use Rattle.t1_report.specs.WalkViews.{WalkView}
 use Rattle.t1_report.specs.Walks.{HasNoneLater, IsNext}
 use Rattle.t1_report.specs.declared.marks.Mark.{Mark}
-use Rattle.t1_report.proofs.InFont.{in_font}
+use Rattle.t1_report.specs.Lines.{IsInFont}
 use Rattle.t1check.specs.declared.status.Status.TheVariants.{Faults}
 use Rattle.t1check.proofs.ChosenLines.{HaveGone, all_gone, most_gone, one_failed, one_gone}
 use Rattle.t1check.proofs.lines.write_lines.Goals as goal
@@ -14,14 +14,13 @@ use Rattle.t1_report.specs.Waivers.{Waiver}
 
 pub write_fault-requires : goal.write_fault-requires
 write_fault-requires g c =
-    in_font (checked c.args.font.now c.args.options.now.edition) c.args.waivers.now (fault_value c.in-Some.fault)
-    (subst (λ (waivers : List Waiver). IsNext (checked c.args.font.now c.args.options.now.edition) waivers c.loop-line.walk.mark (fault_value c.in-Some.fault)) c.loop-line.invariant.waivers
-    (subst (λ (font : CheckedFont). IsNext font c.loop-line.walk.waivers c.loop-line.walk.mark (fault_value c.in-Some.fault)) c.loop-line.invariant.font c.in-Some.ensures.next)).violation
+    subst (λ (waivers : List Waiver). IsInFont c.args.font.now waivers (fault_value c.in-Some.fault)) c.loop-line.invariant.waivers
+    (subst (λ (font : CheckedFont). IsInFont font.value c.loop-line.walk.waivers (fault_value c.in-Some.fault)) c.loop-line.invariant.font c.in-Some.ensures.in_font)
 
 pub returns-in_err-write_fault-clause-writes : goal.returns-in_err-write_fault-clause-writes
 returns-in_err-write_fault-clause-writes g c faults k report first =
     Writes-failed _ _ _ _ _ c.from_residual.ensures.1
-    (one_failed (checked c.args.font.now c.args.options.now.edition) c.args.waivers.now faults k (unwrap_or c.args.options.now.max (2 ^ 64 - 1)) c.loop-line._line c.loop-line.walk.mark (fault_value c.in-Some.fault) _ _ _ c.loop-line.status c.requires.few c.requires.few_waivers
+    (one_failed c.marks_count_the_faults_given.ensures.next (checked c.args.font.now c.args.options.now.edition) c.args.waivers.now faults k (unwrap_or c.args.options.now.max (2 ^ 64 - 1)) c.loop-line._line c.loop-line.walk.mark (fault_value c.in-Some.fault) _ _ _ c.loop-line.status c.requires.few c.requires.few_waivers
     (omega (arith, c.loop-line-test.true, c.unwrap_or-line-end.ensures)) report
     (subst (λ (waivers : List Waiver). IsNext (checked c.args.font.now c.args.options.now.edition) waivers c.loop-line.walk.mark (fault_value c.in-Some.fault)) c.loop-line.invariant.waivers
     (subst (λ (font : CheckedFont). IsNext font c.loop-line.walk.waivers c.loop-line.walk.mark (fault_value c.in-Some.fault)) c.loop-line.invariant.font c.in-Some.ensures.next))
@@ -34,7 +33,7 @@ loop-line-preserved g c = record {
   gone = λ faults k report first.
       subst (λ (mark : Mark). HaveGone c.args.font.now c.args.waivers.now faults k (unwrap_or c.args.options.now.max (2 ^ 64 - 1)) (c.loop-line._line + 1) mark (g.W.Sink.state c.args.sink.now) (g.W.Sink.state c.write_fault.new.sink) Faults)
       (sym (ap (λ (w : WalkView). w.mark) c.in-Some.ensures.state))
-      (one_gone (checked c.args.font.now c.args.options.now.edition) c.args.waivers.now faults k (unwrap_or c.args.options.now.max (2 ^ 64 - 1)) c.loop-line._line c.loop-line.walk.mark (fault_value c.in-Some.fault) _ _ _ c.loop-line.status c.requires.few c.requires.few_waivers
+      (one_gone c.marks_count_the_faults_given.ensures.next (checked c.args.font.now c.args.options.now.edition) c.args.waivers.now faults k (unwrap_or c.args.options.now.max (2 ^ 64 - 1)) c.loop-line._line c.loop-line.walk.mark (fault_value c.in-Some.fault) _ _ _ c.loop-line.status c.requires.few c.requires.few_waivers
       (omega (arith, c.loop-line-test.true, c.unwrap_or-line-end.ensures)) report
       (subst (λ (waivers : List Waiver). IsNext (checked c.args.font.now c.args.options.now.edition) waivers c.loop-line.walk.mark (fault_value c.in-Some.fault)) c.loop-line.invariant.waivers
       (subst (λ (font : CheckedFont). IsNext font c.loop-line.walk.waivers c.loop-line.walk.mark (fault_value c.in-Some.fault)) c.loop-line.invariant.font c.in-Some.ensures.next))
@@ -53,14 +52,14 @@ returns-after-loop-line-clause-status g c faults k report first =
 
 pub returns-in_default-clause-writes : goal.returns-in_default-clause-writes
 returns-in_default-clause-writes g c faults k report first =
-    (all_gone (checked c.args.font.now c.args.options.now.edition) c.args.waivers.now faults k (unwrap_or c.args.options.now.max (2 ^ 64 - 1)) c.loop-line._line c.loop-line.walk.mark _ _ c.loop-line.status report
+    (all_gone c.marks_count_the_faults_given.ensures.end (checked c.args.font.now c.args.options.now.edition) c.args.waivers.now faults k (unwrap_or c.args.options.now.max (2 ^ 64 - 1)) c.loop-line._line c.loop-line.walk.mark _ _ c.loop-line.status report
     (subst (λ (waivers : List Waiver). HasNoneLater (checked c.args.font.now c.args.options.now.edition) waivers c.loop-line.walk.mark) c.loop-line.invariant.waivers
     (subst (λ (font : CheckedFont). HasNoneLater font c.loop-line.walk.waivers c.loop-line.walk.mark) c.loop-line.invariant.font c.in_default.ensures.next))
     (c.loop-line.invariant.gone faults k report first)).0
 
 pub returns-in_default-clause-status : goal.returns-in_default-clause-status
 returns-in_default-clause-status g c faults k report first =
-    (all_gone (checked c.args.font.now c.args.options.now.edition) c.args.waivers.now faults k (unwrap_or c.args.options.now.max (2 ^ 64 - 1)) c.loop-line._line c.loop-line.walk.mark _ _ c.loop-line.status report
+    (all_gone c.marks_count_the_faults_given.ensures.end (checked c.args.font.now c.args.options.now.edition) c.args.waivers.now faults k (unwrap_or c.args.options.now.max (2 ^ 64 - 1)) c.loop-line._line c.loop-line.walk.mark _ _ c.loop-line.status report
     (subst (λ (waivers : List Waiver). HasNoneLater (checked c.args.font.now c.args.options.now.edition) waivers c.loop-line.walk.mark) c.loop-line.invariant.waivers
     (subst (λ (font : CheckedFont). HasNoneLater font c.loop-line.walk.waivers c.loop-line.walk.mark) c.loop-line.invariant.font c.in_default.ensures.next))
     (c.loop-line.invariant.gone faults k report first)).1

@@ -1,7 +1,6 @@
 use Rattle.std.proofs.Common.{◌≡◌, None, ap, refl}
 use Rattle.t1_report.specs.Waivers.{waivers_of}
 use Rattle.t1_report.specs.Checked.{checked}
-use Rattle.t1_report.proofs.HasReport.{has_report}
 use Rattle.t1check.specs.Ends.Reports.{lines, malformed, no_memory}
 use Rattle.t1check.specs.Waived.{as_waivers}
 use Rattle.t1check.specs.declared.unread.WaiverRefusal.TheVariants.{Malformed}
@@ -17,7 +16,7 @@ returns-in-Err-Memory g c = no_memory refl c.tell-in-Err-Memory.ensures
 
 pub returns-in-Ok-prepare : goal.returns-in-Ok-prepare
 returns-in-Ok-prepare g c =
-    let some = has_report (checked c.args.font.now c.args.options.now.edition) c.in-Ok.waivers in
+    let some = c.each_font_has_a_report.ensures (checked c.args.font.now c.args.options.now.edition) c.in-Ok.waivers in
     lines c.in-Ok.waivers (ap as_waivers c.in-Ok.ensures) some.0 some.1 (c.give_report.ensures some.0 some.1)
 
 pub returns : goal.returns
