@@ -22,8 +22,9 @@ use std::marker::Model;
 use t1_font::Font;
 use t1_rules::Sidebearings;
 
-/// A report that is given one fault at a time. It takes no memory and can't fail. Each glyph is executed once,
-/// and once more for each waiver of it, up to the first step that breaks the waiver's rule.
+/// A report that is given one fault at a time. It takes no memory and can't fail. [`Walk::turns`] counts how often it
+/// asks a machine for a step: for each glyph as often as the glyph has steps, and for each waiver of it once more, up
+/// to the first step that breaks the waiver's rule.
 ///
 /// ```
 /// let sidebearings = Sidebearings::prepare(alloc, &font, Edition::One)?;

@@ -173,8 +173,9 @@ pub fn standard_encoding_names_149_codes()
     ensures once { NoNameStandsTwice }
 {}
 
-/// What a component is, its charstring alone tells: the font's own Encoding has no say, nor has its place
-/// among the glyphs, so that it may stand before the accented character or behind it.
+/// What a component is, its charstring tells, with the font's Subrs and lenIV: the font's own Encoding has no say, nor
+/// has its place among the glyphs, where no other of its name stands in front, so that it may stand before the
+/// accented character or behind it.
 #[tactic(auto, using(crate::proofs::Lemmas::ComponentLaws::own_encoding_has_no_say, crate::proofs::Lemmas::ComponentLaws::places_have_no_say))]
 pub fn components_are_found_by_their_names()
     ensures encoding { OwnEncodingHasNoSay }

@@ -54,8 +54,8 @@ impl Model for Sidebearings {
 }
 
 impl Sidebearings {
-    /// The components of a font: each glyph that StandardEncoding names and the font has is executed
-    /// once, up to the limit of steps.
+    /// The components of a font: each glyph that StandardEncoding names and the font has is executed up to the
+    /// limit of steps, or up to its first sidebearing where surely no step of it is a seac.
     pub fn prepare(
         alloc: Global,
         font: &Font<'_>,
