@@ -1,5 +1,5 @@
 -- What executing its step leaves of frames, one lemma an action.
-use Rattle.std.proofs.Common.{◌≡◌, ℕ, zero, suc, ℤ, ◌+◌, ◌-◌, ◌<◌, true, false, Option, List, [], ◌∷◌, ◌++◌, length, length-append, take, refl, ap, sym, subst, ◌∙◌, arith}
+use Rattle.std.proofs.Common.{◌≡◌, ℕ, zero, suc, ℤ, ◌+◌, ◌-◌, ◌<◌, true, Option, List, [], ◌∷◌, ◌++◌, length, length-append, take, refl, ap, sym, subst, ◌∙◌, arith}
 use Rattle.t1_font.specs.Fonts.{FontValue}
 use Rattle.t1_char.specs.declared.command.Command.TheVariants.{Callsubr}
 use Rattle.t1_char.specs.declared.cursor.Cursor.{Cursor}
@@ -10,7 +10,7 @@ use Rattle.t1_char.specs.Charstrings.{code_at, tokens_in}
 use Rattle.t1_char.specs.Effects.{State, CalledSubr, Action, goes, calls, returns, finishes, effect, effect_of, most_calls}
 use Rattle.t1_char.specs.Steps.{StepView, at_start, is_callsubr, named_at, effect_at, step_at, steps_of}
 use Rattle.t1_char.specs.Workings.Actions.{named_of, state_of}
-use Rattle.t1_char.specs.Workings.Cursors.{behind_token, tokens_left}
+use Rattle.t1_char.specs.Workings.Cursors.{tokens_left}
 use Rattle.t1_char.specs.Rests.{frame, rest_of}
 use Rattle.t1_char.specs.Workings.Frames.{IsReady, frames_with, left_behind, callers_of, state_in, step_here, steps_from, steps_behind}
 use Rattle.t1_char.specs.Workings.Plain.{GoesOverOne, IsPlainEffect, PassesNumber}

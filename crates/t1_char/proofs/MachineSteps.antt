@@ -18,7 +18,7 @@ use Rattle.t1_char.specs.declared.machine.Numbers.TheVariants.{Told}
 use Rattle.t1_char.specs.Workings.Cursors.{tokens_left}
 use Rattle.t1_char.specs.Rests.{Frame, frame, rest_of}
 use Rattle.t1_char.specs.Workings.Frames.{IsReady, callers_of, state_in, left_behind, step_here, steps_behind, steps_from}
-use Rattle.t1_char.specs.Passing.{ArePassed, IsPassed}
+use Rattle.t1_char.specs.Passing.{IsPassed}
 use Rattle.t1_char.specs.Workings.Machines.{GoesOnFrom, IsAt, IsBehind}
 use Rattle.t1_char.specs.Workings.Plain.{GoesOver, GoesOverOne, HasGoneOver}
 use Rattle.std.proofs.lemmas.Bool.{cases_lt}

@@ -150,7 +150,13 @@ impl<'a> Frames<'a> {
     /// Goes over the numbers that come next where they are to be passed, and tells behind how many steps the run
     /// stands, where it stood behind `counted`.
     #[inline(always)]
-    pub(crate) fn pass(&mut self, numbers: Numbers, font: &'a Font<'a>, counted: u32, limit: u32) -> u32
+    pub(crate) fn pass(
+        &mut self,
+        numbers: Numbers,
+        font: &'a Font<'a>,
+        counted: u32,
+        limit: u32,
+    ) -> u32
         requires { counted ≤ limit }
         ensures over { GoesOver limit font.now counted self.old result self.new }
         ensures told { numbers ≡ Told → result ≡ counted }
@@ -216,7 +222,7 @@ fn pass_number(ahead: &mut Cursor<'_>, stack: &mut Stack) -> bool
     ensures stays { result ≡ false → ahead.new ≡ ahead.old }
     ensures kept { result ≡ false → stack.new ≡ stack.old }
 {
-    if stack.len() >= 24 {
+    if stack.is_full() {
         return false;
     }
     let mut behind = *ahead;

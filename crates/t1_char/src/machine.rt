@@ -174,7 +174,9 @@ impl<'a> Machine<'a> {
                     self.answer = Answer::Ended;
                     return Answer::Ended;
                 }
-                let before = self.frames.pass(numbers, self.font, self.counted, self.limit);
+                let before = self
+                    .frames
+                    .pass(numbers, self.font, self.counted, self.limit);
                 self.counted = before + 1;
                 self.frames.read(self.font, self.counted);
                 if self.counted > self.limit {

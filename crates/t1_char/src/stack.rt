@@ -1,6 +1,6 @@
 //! The stack of numbers: Type 1 Font Format 1.1, chapter 6.
 
-ghost use Rattle.std.specs.Prelude.{◌≡◌, ◌≤◌, ◌<◌, [], length, nat_eq};
+ghost use Rattle.std.specs.Prelude.{◌≡◌, ◌≤◌, ◌<◌, [], length, nat_eq, nat_le};
 ghost use Rattle.t1_char.specs.Stacks.{from_top, put, without};
 
 use std::marker::Model;
@@ -59,6 +59,14 @@ impl Stack {
         ensures { result ≡ nat_eq (length self.now) 0 }
     {
         self.len == 0
+    }
+
+    /// Whether there is no room for one more.
+    #[inline(always)]
+    pub(crate) fn is_full(&self) -> bool
+        ensures { result ≡ nat_le 24 (length self.now) }
+    {
+        self.len >= MOST
     }
 
     /// A stack of the same numbers.

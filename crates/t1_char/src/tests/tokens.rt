@@ -66,7 +66,9 @@ fn the_longest_charstring(rt: HostRuntime) -> Result<(), Fail> {
     }
     let listed = tokens(rt.alloc(), code.as_slice(), -1)?;
     assert_eq!(rt; listed.len(), 65_536);
-    let numbers = listed.iter().filter(|token| **token == CharToken::Number(0));
+    let numbers = listed
+        .iter()
+        .filter(|token| **token == CharToken::Number(0));
     assert_eq!(rt; numbers.count(), 65_535);
     Ok(())
 }

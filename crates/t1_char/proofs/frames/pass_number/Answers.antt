@@ -1,4 +1,4 @@
-use Rattle.std.proofs.Common.{SFits, w32, arith, rules}
+use Rattle.std.proofs.Common.{SFits, w32, leb-false, length, sym, ◌∙◌, rules}
 use Rattle.std.proofs.lemmas.Int.{to_z-of_z}
 use Rattle.t1_char.proofs.frames.pass_number.Goals as goal
 
@@ -9,5 +9,5 @@ returns-in-Some-clause-passed c =
       number = c.in-Some.number;
       token = c.in-Some.ensures;
       plain = simp to_z-of_z at c.put_number.ensures;
-      room = omega (arith, c.len.ensures.len, c.if-len-ge24.false);
+      room = leb-false 24 (length c.args.stack.now) (sym c.is_full.ensures ∙ c.if-is_full.false);
     }

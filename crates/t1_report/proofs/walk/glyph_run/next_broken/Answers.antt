@@ -1,8 +1,8 @@
-use Rattle.std.proofs.Common.{◌≡◌, ◌+◌, ◌++◌, ◌∷◌, [], take, refl, ap, sym, subst, ◌∙◌, arith}
+use Rattle.std.proofs.Common.{◌+◌, ◌++◌, ◌∷◌, [], take, refl, ap, sym, subst, ◌∙◌, arith}
 use Rattle.t1_char.specs.Editions.{limit_of}
 use Rattle.t1_char.specs.Steps.{steps_of}
 use Rattle.t1_char.specs.StepValues.{step_view}
-use Rattle.t1_report.specs.Checked.{executed, step_limit}
+use Rattle.t1_report.specs.Checked.{executed}
 use Rattle.t1_report.proofs.GlyphSteps.{is_next_by}
 use Rattle.t1_report.proofs.PassedNumbers.{EndsBehind, IsTurn, StandsBehind, ended_behind, fewer_turns_left, stands_behind_numbers, turn_behind}
 use Rattle.t1_report.proofs.RunSteps.{same_executed, found_at, quiet_limit, quiet_more, quiet_over, run_at, run_more, run_of, run_over, step_agrees, turns_at_limit}
@@ -42,10 +42,10 @@ broken_at-rules-requires-clause-next c =
     let font = executed c.args.machine.now in
     let all = steps_of font.value c.args.machine.now.glyph in
     let turn =
-        turn_behind c.numbers_by.result c.loop-machine.machine c.go_on.new.self c.go_on.result c.current-step.result.now c.loop-machine.watches (executed c.args.machine.now) c.args.machine.now.glyph c.args.unit (c.args.machine.now.counted + 1)
-        c.numbers_by.ensures c.loop-machine.invariant.font c.loop-machine.invariant.glyph c.requires.unit c.loop-machine.invariant.run c.loop-machine.invariant.quiet
-        (omega (arith, c.loop-machine-test.true, c.counted.ensures.counted, c.step_limit-limit.ensures.limit ∙ ap limit_of (c.edition.ensures ∙ c.requires.edition)))
-        (sym c.is_over.ensures ∙ c.if-is_over.false) c.current-step.ensures c.go_on.ensures.asked in
+    turn_behind c.numbers_by.result c.loop-machine.machine c.go_on.new.self c.go_on.result c.current-step.result.now c.loop-machine.watches (executed c.args.machine.now) c.args.machine.now.glyph c.args.unit (c.args.machine.now.counted + 1)
+    c.numbers_by.ensures c.loop-machine.invariant.font c.loop-machine.invariant.glyph c.requires.unit c.loop-machine.invariant.run c.loop-machine.invariant.quiet
+    (omega (arith, c.loop-machine-test.true, c.counted.ensures.counted, c.step_limit-limit.ensures.limit ∙ ap limit_of (c.edition.ensures ∙ c.requires.edition)))
+    (sym c.is_over.ensures ∙ c.if-is_over.false) c.current-step.ensures c.go_on.ensures.asked in
     (take turn.before all, is_next_by c.args.sidebearings.now.edition font.edition c.requires.edition all c.loop-machine.watches turn.before c.current-step.result.now turn.told.listed turn.stands.run.seen_are)
 
 -- A rule is broken at it.
