@@ -11,12 +11,13 @@ use Rattle.t1_font.specs.declared.refusal.Refusal.TheVariants.{BadCharStrings, N
 use Rattle.t1_font.specs.Readings.{◌>>=◌}
 use Rattle.t1_font.specs.Fonts.{Stated, Marks, FontValue, plain, encoding, code, bad_code, size, subr, glyph, value_of}
 use Rattle.t1_font.specs.Inner.Puts.{put, put_pair}
-use Rattle.t1_font.specs.TextTurns.{over, goes, TextRead, Reader, follow, with_one, stated_within}
+use Rattle.t1_font.specs.TextTurns.{over, goes, TextRead, Reader, with_one, stated_within}
 use Rattle.t1_font.specs.ClearText.{clear_turn, begins_as_font, clear_of}
 use Rattle.t1_font.specs.PrivateText.{private_turn, private_of}
 use Rattle.t1_font.specs.Texts.{font_value_of}
 use Rattle.t1_font.specs.Laws.Limits.{IsWithinLimits, ReadWithinLimits, FontsWithinLimits, NothingPastTheEnd}
 use Rattle.t1_font.proofs.Room.{room_put}
+use Rattle.t1_font.proofs.Running.{follow}
 use Rattle.t1_font.proofs.Stating.{value_step}
 use Rattle.t1_font.proofs.Compose.{either}
 use Rattle.t1_font.proofs.TurnsWithin.{Fits, FitsOne, Keeps, clear_fits, private_fits}

@@ -15,12 +15,13 @@ use Rattle.t1_font.specs.Keys.{private_key, clear_key}
 use Rattle.t1_font.specs.Tokens.{token_at, wanted, token_ahead, whole, natural, is_word_kind, is_number_kind, name_of, spells, raw_of, some_raw, past_word, charstring_at}
 use Rattle.t1_font.specs.Fonts.{Stated, Marks, FontValue, value_of, size, glyph}
 use Rattle.t1_font.specs.Inner.Puts.{put_one}
-use Rattle.t1_font.specs.TextTurns.{over, goes, TextRead, Reader, follow, with_one, stated_within}
+use Rattle.t1_font.specs.TextTurns.{over, goes, TextRead, Reader, with_one, stated_within}
 use Rattle.t1_font.specs.Runs.{FontRead, go_on, run_within}
 use Rattle.t1_font.specs.ClearText.{clear_value, clear_outside, clear_turn, begins_as_font, clear_of}
 use Rattle.t1_font.specs.PrivateText.{is_len_iv_key, private_value, subrs_at, subrs_turn, glyphs_at, private_outside, subr_at, dup_turn, subrs_token, glyph_turn, glyphs_token, private_turn, private_of}
 use Rattle.t1_font.specs.Texts.{clear_value_of, font_value_of, value_alone}
 use Rattle.t1_font.specs.Laws.Refusals.{IsClearRefusal, IsPrivateRefusal, ClearRefusals, ClearReadRefusals, PrivateRefusals, FontReadRefusals, FontAfterRefusals}
+use Rattle.t1_font.proofs.Running.{follow}
 
 -- What is read next, too, is refused so.
 then_refused : {A B : Type 0} (P : Refusal → Type 0) (r : Result A Refusal) (f : A → Result B Refusal) → IfErr r P → ((x : A) → IfErr (f x) P) → IfErr (r >>= f) P

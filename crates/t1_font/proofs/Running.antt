@@ -5,7 +5,7 @@ use Rattle.t1_font.specs.declared.refusal.Refusal.TheVariants.{NoEexec, Unclosed
 use Rattle.t1_font.specs.Readings.{◌>>=◌, Refuses}
 use Rattle.t1_font.specs.Fonts.{Stated, Marks, FontValue, value_of}
 use Rattle.t1_font.specs.Inner.Puts.{put, put_one}
-use Rattle.t1_font.specs.TextTurns.{TextTurn, over, goes, Reader, follow, with_one, stated_within}
+use Rattle.t1_font.specs.TextTurns.{TextTurn, over, goes, TextRead, Reader, with_one, stated_within}
 use Rattle.t1_font.specs.Runs.{go_on, run_within, run_of, value_read}
 
 -- A rest stands at the end of a text, behind a byte or more.
@@ -98,6 +98,13 @@ module _ {M : Type 0} (turn : Reader M) (ended : Refusal) (shortens : Shortens t
           | goes e next left ↦ λ h. mapped_ok (λ read. IsEndOf left read.rest) (λ read. IsEndOf s read.rest) (run_within turn ended n (put_one v e) next left) (λ read k. is_end_behind s left read.rest h k) (run_ends n (put_one v e) next left)
         ]
       ] (shortens.less v mode s)
+
+-- What is stated when a turn was taken: `after` says it of the rest.
+abbrev pub follow : {M : Type 0} → (List Stated → M → List ℕ → Result TextRead Refusal) → List Stated → TextTurn M → Result TextRead Refusal
+follow after before t = elim t [
+  | over rest ↦ Ok (record { stated = before; rest = rest })
+  | goes e next left ↦ after (with_one before e) next left
+]
 
 -- The value that is kept is that of all that was stated, looked up afterwards.
 module _ {M : Type 0} (turn : Reader M) (ended : Refusal) (marks : Marks) (step : (es : List Stated) (e : Stated) → value_of marks (es ++ e ∷ []) ≡ put (value_of marks es) e) where

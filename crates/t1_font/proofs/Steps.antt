@@ -15,11 +15,11 @@ use Rattle.t1_font.specs.Keys.{same_name}
 use Rattle.t1_font.specs.Readings.{◌>>=◌}
 use Rattle.t1_font.specs.Tokens.{token_at, wanted}
 use Rattle.t1_font.specs.Fonts.{Stated, Marks, FontValue, value_of}
-use Rattle.t1_font.specs.TextTurns.{TextTurn, over, goes, Reader, follow, with_one, stated_within, stated_in}
+use Rattle.t1_font.specs.TextTurns.{TextTurn, over, goes, Reader, with_one, stated_within, stated_in}
 use Rattle.t1_font.specs.ClearText.{code_at, code_turn, clear_turn, clear_outside, code_token}
 use Rattle.t1_font.specs.PrivateText.{private_turn, private_outside, subrs_token, glyphs_token}
 use Rattle.t1_font.specs.Laws.UsualTexts.{BlanksPass, BlanksPassInPrivate, DupPassesInCodes, WordsPass, WordsPassInCodes, WordsPassInPrivate, WordsPassInSubrs, WordsPassInGlyphs}
-use Rattle.t1_font.proofs.Running.{Leaves, Shortens, is_shorter}
+use Rattle.t1_font.proofs.Running.{follow, Leaves, Shortens, is_shorter}
 use Rattle.t1_font.proofs.Shorter.{clear_shortens, private_shortens}
 
 module _ {M : Type 0} (turn : Reader M) (ended : Refusal) (shortens : Shortens turn) (marks : Marks) where

@@ -24,24 +24,19 @@ abbrev pub with_one : List Stated → Option Stated → List Stated
 with_one before None = before
 with_one before (Some e) = before ++ e ∷ []
 
--- What is stated when a turn was taken: where the text is over, what was stated before; where reading goes
--- on, what `after` says of the rest, from there on, with the turn's own statement added to those before.
-abbrev pub follow : {M : Type 0} → (List Stated → M → List ℕ → Result TextRead Refusal) → List Stated →
-    TextTurn M → Result TextRead Refusal
-follow after before (over rest) = Ok (record { stated = before; rest = rest })
-follow after before (goes e mode left) = after (with_one before e) mode left
-
 -- How a text's turns go, which know the value of what was stated before.
 abbrev pub Reader : Type 0 → Type 0
 Reader M = FontValue → M → List ℕ → Result (TextTurn M) Refusal
 
--- The statements of a text, those before it given, by at most n turns: one turn, and then the rest, which is
--- read with one turn less. The text that is not over by then is refused.
+-- The statements of a text, those before it given, by at most n turns. Where a turn goes on, what it states
+-- comes behind those before, and the rest is read with one turn less.
 unfoldable pub stated_within : {M : Type 0} → Reader M → Refusal → Marks → ℕ → List Stated → M → List ℕ →
     Result TextRead Refusal
 stated_within turn ended marks zero before mode s = Err ended
-stated_within turn ended marks (suc n) before mode s =
-    turn (value_of marks before) mode s >>= follow (stated_within turn ended marks n) before
+stated_within turn ended marks (suc n) before mode s = turn (value_of marks before) mode s >>= (λ t. elim t [
+  | over rest ↦ Ok (record { stated = before; rest = rest })
+  | goes e next left ↦ stated_within turn ended marks n (with_one before e) next left
+])
 
 -- A turn takes a byte or more, or it tells the end.
 abbrev pub stated_in : {M : Type 0} → Reader M → Refusal → Marks → List Stated → M → List ℕ →
