@@ -5,7 +5,7 @@ use Rattle.std.specs.Prelude.{ℕ, ℤ, pos, ◌-◌, nat_lt, if◌then◌else�
 abbrev pub put : List ℤ → ℤ → List ℤ
 put stack z = if nat_lt (length stack) 24 then stack ++ z ∷ [] else stack
 
--- The number so many below the top.
+-- The number so many below the top; past the bottom it is the bottom number, and 0 on an empty stack.
 abbrev pub from_top : List ℤ → ℕ → ℤ
 from_top stack below = slice_index_or stack (length stack - 1 - below) (pos 0)
 

@@ -18,7 +18,8 @@ use Rattle.t1_report.specs.Waivers.{Waiver}
 abbrev pub IsInHand : Found → Place → Type 0
 IsInHand found p = (p.unit ≡ found.unit) × (p.step ≡ found.step) × (has found.rules (number_of p.rule) ≡ true)
 
--- A number of a rule: of a place's rules exactly those above it come after the mark.
+-- The floor of a place: of the rules that are broken there those of a greater number come after the mark, and no others. (It is the
+-- mark's rule at the mark's own place, 0 behind it, and past all rules in front of it.)
 pub record IsFloor (mark : Mark) (unit step floor : ℕ) : Type 0 where
   pub above : (r : ℕ) → floor < r → r ≤ 70 → Comes mark.unit mark.step mark.rule unit step r
   pub below : (r : ℕ) → 0 < r → Comes mark.unit mark.step mark.rule unit step r → floor < r
