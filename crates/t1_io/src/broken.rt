@@ -1,3 +1,5 @@
+//! How a device fails.
+
 ghost use Rattle.std.specs.Prelude.{Some, codes};
 
 use std::error::Error;

@@ -1,3 +1,5 @@
+//! Devices that fail on purpose, for tests.
+
 ghost use Rattle.std.specs.Prelude.{◌≡◌, ◌≤◌, ◌⊎◌, true, false, length, IfOk, OnErr, IsErr};
 ghost use Rattle.t1_io.specs.Devices.{Flushes, Puts, Takes};
 ghost use Rattle.t1_io.specs.Limits.{has_blown, let_through, burnt, lets_some_through, count_of};

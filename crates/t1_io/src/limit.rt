@@ -1,3 +1,5 @@
+//! When a device fails on purpose.
+
 ghost use Rattle.std.specs.Prelude.{◌≡◌};
 ghost use Rattle.t1_io.specs.Limits.{has_blown, let_through, burnt};
 

@@ -1,3 +1,5 @@
+//! Devices that take bytes, over std's writers.
+
 ghost use Rattle.std.specs.Prelude.{◌≡◌, true, false};
 ghost use Rattle.t1_io.specs.Devices.{Flushes, Puts, SinkState};
 

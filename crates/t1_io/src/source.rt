@@ -1,3 +1,5 @@
+//! Devices that give bytes, over std's readers.
+
 ghost use Rattle.std.specs.Prelude.{◌≡◌, false};
 ghost use Rattle.t1_io.specs.Devices.{SourceState, Takes};
 

@@ -1,3 +1,5 @@
+//! Devices over readers and writers that work, that fail, and that take nothing.
+
 use crate::{Fuse, In, Limit, Out, Sink, Source, put_all, put_parts};
 use std::io;
 use std::io::{Read, Write};

@@ -1,3 +1,5 @@
+//! Writing a whole text, part after part, to a device that takes as much at once as it likes.
+
 ghost use Rattle.t1_io.specs.Devices.{Delivers, Writes, whole_of};
 
 use crate::{Broken, Sink};

@@ -5,6 +5,7 @@ pub mod Cover
 pub mod NumbersFound
 pub mod NumbersRead
 pub mod PartsFound
+pub mod PlainTokens
 pub mod Prefixes
 pub mod Steps
 pub mod StringsFound

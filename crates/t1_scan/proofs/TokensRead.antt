@@ -28,7 +28,7 @@ run_ends [] h = refl
 run_ends (b ∷ s) h = h
 
 -- a byte with which a token begins
-abbrev starts : ℕ → Bool
+abbrev pub starts : ℕ → Bool
 starts b = not (is_blank b || b == 37)
 
 no_blanks : (b : ℕ) (s : List ℕ) → starts b ≡ true → blank_len false (b ∷ s) ≡ 0
@@ -50,16 +50,16 @@ deep : (b : ℕ) (u after : List ℕ) → starts b ≡ true → token_len b (u +
 deep b u after h len = starts_here b (u ++ after) h ∙ ap (cut (b ∷ (u ++ after))) len
 
 -- a run of regular bytes
-record IsOther (b : ℕ) : Type 0 where
-  starts : starts b ≡ true
-  slash : (b == 47) ≡ false
-  parenthesis : (b == 40) ≡ false
-  less : (b == 60) ≡ false
-  greater : (b == 62) ≡ false
-  brace : (b == 123) ≡ false
-  bracket : (b == 91) ≡ false
+pub record IsOther (b : ℕ) : Type 0 where
+  pub starts : starts b ≡ true
+  pub slash : (b == 47) ≡ false
+  pub parenthesis : (b == 40) ≡ false
+  pub less : (b == 60) ≡ false
+  pub greater : (b == 62) ≡ false
+  pub brace : (b == 123) ≡ false
+  pub bracket : (b == 91) ≡ false
 
-regular_is : (b : ℕ) → is_regular b ≡ true → IsOther b
+pub regular_is : (b : ℕ) → is_regular b ≡ true → IsOther b
 regular_is b h = record {
   starts = grind (arith, nat_tests);
   slash = grind (arith, nat_tests);
@@ -73,11 +73,11 @@ regular_is b h = record {
 run_is : (run after : List ℕ) → list_all is_regular run ≡ true → ends_run after ≡ true → run_len (run ++ after) ≡ length run
 run_is run after h e = prefix_is is_regular run after h (run_ends after e)
 
-regular_len : (b : ℕ) (s : List ℕ) → is_regular b ≡ true → IsOther b → token_len b s ≡ Some (1 + run_len s)
+pub regular_len : (b : ℕ) (s : List ℕ) → is_regular b ≡ true → IsOther b → token_len b s ≡ Some (1 + run_len s)
 unfolding token_len
 regular_len b s h o = rw (h, o.slash, o.bracket, o.brace, o.greater) refl
 
-regular_kind : (b : ℕ) (s : List ℕ) → IsOther b → kind_of (b ∷ s) ≡ number_or_word (number_of (b ∷ s))
+pub regular_kind : (b : ℕ) (s : List ℕ) → IsOther b → kind_of (b ∷ s) ≡ number_or_word (number_of (b ∷ s))
 unfolding kind_of
 regular_kind b s o = rw (o.slash, o.parenthesis, o.less, o.brace, o.bracket) refl
 
@@ -94,7 +94,7 @@ all_by p q h [] e = refl
 all_by p q h (b ∷ run) e =
     let parts = and_parts (p b) (list_all p run) e in rw (h b parts.0, all_by p q h run parts.1) refl
 
-digits_regular : (run : List ℕ) → list_all is_decimal_digit run ≡ true → list_all is_regular run ≡ true
+pub digits_regular : (run : List ℕ) → list_all is_decimal_digit run ≡ true → list_all is_regular run ≡ true
 digits_regular run h = all_by is_decimal_digit is_regular (λ b e. grind (arith, nat_tests)) run h
 
 not_empty : (run : List ℕ) → 0 < length run → not (length run == 0) ≡ true

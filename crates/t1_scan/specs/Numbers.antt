@@ -1,6 +1,6 @@
 -- The number that a run of regular bytes spells, in billionths. The forms are PostScript's, as Type
 -- 1 Font Format uses it (chapters 2 and 10); the limit and the unit are this product's own.
-use Rattle.std.specs.Prelude.{ℕ, ℤ, pos, neg_ℤ, Bool, true, Option, Some, None, List, [], ◌∷◌, ◌++◌, ◌+◌, ◌*◌, ◌/◌, ◌^◌, ◌==◌, ◌&&◌, ◌||◌, not, if◌then◌else◌, nat_lt, nat_le, length, drop, slice_index}
+use Rattle.std.specs.Prelude.{ℕ, ℤ, pos, neg_ℤ, Bool, true, false, Option, Some, None, List, [], ◌∷◌, ◌++◌, ◌+◌, ◌*◌, ◌/◌, ◌^◌, ◌==◌, ◌&&◌, ◌||◌, not, if◌then◌else◌, nat_lt, nat_le, length, drop, slice_index}
 use Rattle.std.specs.Option.{option_map, option_or}
 use Rattle.std.specs.List.{prefix_len, take_while, list_all}
 use Rattle.std.specs.Char.{digit_value}
@@ -73,6 +73,11 @@ radix_of run =
 -- a number begins with a digit, a sign or a point
 abbrev pub begins_number : ℕ → Bool
 begins_number b = is_decimal_digit b || b == 43 || b == 45 || b == 46
+
+-- digits with a point begin with a digit or a point
+abbrev pub begins_digits : List ℕ → Bool
+begins_digits [] = false
+begins_digits (b ∷ s) = is_decimal_digit b || b == 46
 
 -- either form; no run has both
 abbrev pub number_of : List ℕ → Option ℤ

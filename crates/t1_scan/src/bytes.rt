@@ -1,3 +1,5 @@
+//! Kinds of bytes: Type 1 Font Format 1.1, chapters 2 and 10.
+
 ghost use Rattle.std.specs.Prelude.{◌≡◌};
 ghost use Rattle.t1_scan.specs.Bytes.{is_line_end, is_blank, is_regular, is_decimal_digit};
 
@@ -15,11 +17,13 @@ pub fn is_blank(b: u8) -> bool
     matches!(b, 0 | b'\t' | b'\n' | 12 | b'\r' | b' ')
 }
 
-/// Whether a byte is neither a blank nor a delimiter. Most are letters and digits: these are asked for first.
+/// Whether a byte is neither a blank nor a delimiter. Most are letters, and then digits: these are asked for first.
+#[inline(always)]
 pub fn is_regular(b: u8) -> bool
     ensures { result ≡ is_regular b }
 {
-    b.is_ascii_alphanumeric()
+    b.is_ascii_alphabetic()
+        || b.is_ascii_digit()
         || !matches!(
             b,
             0 | b'\t'

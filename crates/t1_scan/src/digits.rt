@@ -1,11 +1,14 @@
-ghost use Rattle.std.specs.Prelude.{◌≡◌, ◌+◌, ◌*◌, ◌/◌, ◌^◌, ◌<◌, ◌≤◌, ◌==◌, length, IsTrue, IfSome};
+//! What digits spell.
+
+ghost use Rattle.std.specs.Prelude.{◌≡◌, ◌+◌, ◌*◌, ◌/◌, ◌^◌, ◌<◌, ◌≤◌, ◌==◌, length, pos, IsTrue, IfSome};
 ghost use Rattle.std.specs.List.{list_all};
 ghost use Rattle.std.specs.Char.{digit_value};
 ghost use Rattle.std.specs.Str.Parse.{digits_value};
 ghost use Rattle.t1_scan.specs.Bytes.{is_decimal_digit};
 ghost use Rattle.t1_scan.specs.Numbers.{are_in_base, below_billion};
+ghost use Rattle.t1_scan.specs.Reading.{AreDigits};
 
-use crate::bytes::is_decimal_digit;
+use crate::bytes::{is_decimal_digit, is_regular};
 
 /// Numbers are below it, and have that many billionths in one.
 pub const BILLION: u64 = 1_000_000_000;
@@ -69,4 +72,37 @@ pub fn billionths(decimals: &[u8]) -> u64
         unit /= 10;
     }
     value
+}
+
+/// How many billionths a whole number has.
+#[inline(always)]
+pub fn billionths_in(whole: u64) -> i64
+    requires { whole < 1000000000 }
+    ensures { result ≡ pos (whole * 1000000000) }
+{
+    (whole * BILLION) as i64
+}
+
+/// How many digits the run in front has, and what they spell, if it has nothing but digits and is below a billion.
+#[inline(always)]
+#[tactic(auto, using(std::proofs::lemmas::Int::Digits::digits_value_more, crate::proofs::PlainTokens::run_more, crate::proofs::PlainTokens::digits_more))]
+pub fn digits_alone(text: &[u8]) -> Option<(usize, u64)>
+    ensures alone { IfSome result (λ p. AreDigits text.now p.0 p.1) }
+    ensures bound { IfSome result (λ p. p.1 < 1000000000) }
+    ensures within { IfSome result (λ p. p.0 ≤ length text.now) }
+{
+    let mut value = 0;
+    for (at, b) in text.iter().enumerate() {
+        if !is_decimal_digit(*b) {
+            if is_regular(*b) {
+                return None;
+            }
+            return Some((at, value));
+        }
+        value = value * 10 + digit_value(*b);
+        if value >= BILLION {
+            return None;
+        }
+    }
+    Some((text.len(), value))
 }

@@ -1,3 +1,5 @@
+//! Why no token is read.
+
 use thiserror::Error;
 
 /// Why no token could be read.

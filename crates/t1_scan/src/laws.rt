@@ -1,3 +1,5 @@
+//! Laws of the definitions, each the contract of a function that does nothing.
+
 ghost use Rattle.t1_scan.specs.Laws.{
   ReadsToken,
   FindsToken,

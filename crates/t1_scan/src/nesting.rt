@@ -1,3 +1,5 @@
+//! Procedures and arrays, each one token however deep it nests.
+
 ghost use Rattle.std.specs.Prelude.{◌≡◌, ◌+◌, ◌<◌, ◌≤◌, ◌^◌, length, IfSome};
 ghost use Rattle.t1_scan.specs.Lengths.{arrays_after, braces_after, inside_len};
 

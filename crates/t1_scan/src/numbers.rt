@@ -1,7 +1,9 @@
+//! Numbers, in decimal form and in a base: Type 1 Font Format 1.1, chapter 2.
+
 ghost use Rattle.std.specs.Prelude.{◌≡◌, ◌<◌, ◌^◌, IfSome, IsTrue};
 ghost use Rattle.std.specs.List.{list_all};
 ghost use Rattle.t1_scan.specs.Bytes.{is_decimal_digit};
-ghost use Rattle.t1_scan.specs.Numbers.{begins_number, value_of, magnitude_of, decimal_of, in_base, radix_of, number_of};
+ghost use Rattle.t1_scan.specs.Numbers.{begins_digits, begins_number, value_of, magnitude_of, decimal_of, in_base, radix_of, number_of};
 
 use crate::bytes::is_decimal_digit;
 use crate::digits::{BILLION, are_digits, are_in_base, billionths, small_value};
@@ -75,10 +77,18 @@ fn radix(run: &[u8]) -> Option<i64>
 }
 
 /// Whether a number may begin with this byte: a digit, a sign or a point.
-fn begins_number(b: u8) -> bool
+pub fn begins_number(b: u8) -> bool
     ensures { result ≡ begins_number b }
 {
     is_decimal_digit(b) || matches!(b, b'+' | b'-' | b'.')
+}
+
+/// Whether digits with a point may begin here: behind a sign nothing else is a number.
+#[inline(always)]
+pub fn begins_digits(text: &[u8]) -> bool
+    ensures { result ≡ begins_digits text.now }
+{
+    matches!(text, [b'0'..=b'9' | b'.', ..])
 }
 
 /// The number that a run of regular bytes spells, in billionths. Most words are told by their first byte.

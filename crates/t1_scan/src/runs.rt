@@ -1,3 +1,5 @@
+//! Blanks with comments, and runs of regular bytes.
+
 ghost use Rattle.std.specs.Prelude.{◌≡◌, ◌≤◌, length, false};
 ghost use Rattle.std.specs.List.{prefix_len};
 ghost use Rattle.t1_scan.specs.Bytes.{is_decimal_digit};
@@ -5,7 +7,8 @@ ghost use Rattle.t1_scan.specs.Lengths.{blank_len, run_len, comment_len};
 
 use crate::bytes::{is_blank, is_decimal_digit, is_line_end, is_regular};
 
-/// The blanks and comments in front.
+/// The blanks and comments in front. Most tokens begin with a byte above `%`, which no blank is.
+#[inline(always)]
 #[tactic(auto, using(crate::proofs::Steps::blank_more))]
 pub fn blank_len(text: &[u8]) -> usize
     ensures value { result ≡ blank_len false text.now }
@@ -15,6 +18,8 @@ pub fn blank_len(text: &[u8]) -> usize
     for (at, b) in text.iter().enumerate() {
         if in_comment {
             in_comment = !is_line_end(*b);
+        } else if *b > b'%' {
+            return at;
         } else if *b == b'%' {
             in_comment = true;
         } else if !is_blank(*b) {
@@ -25,6 +30,7 @@ pub fn blank_len(text: &[u8]) -> usize
 }
 
 /// The longest run of regular bytes.
+#[inline(always)]
 pub fn run_len(text: &[u8]) -> usize
     ensures value { result ≡ run_len text.now }
     ensures bound { result ≤ length text.now }

@@ -1,8 +1,10 @@
+//! The scanner.
+
 ghost use Rattle.std.specs.Prelude.{◌≡◌, ◌≤◌, ◌<◌, ◌+◌, ◌⊎◌, true, false, length, is_err, IfSome, IfNone};
 ghost use Rattle.t1_scan.specs.Reading.{reading, seen, Moves, PassesRaw};
 
 use crate::error::ScanError;
-use crate::forms::{kind_of, token_len};
+use crate::forms::token_at;
 use crate::runs::blank_len;
 use crate::token::Token;
 
@@ -39,6 +41,7 @@ impl<'a> Scanner<'a> {
     }
 
     /// The next token, or None where only blanks and comments are left.
+    #[inline(always)]
     pub fn next(&mut self) -> Result<Option<Token<'a>>, ScanError>
         ensures text { text_of self.new ≡ text_of self.old }
         ensures token { reading (has_failed self.old) (left_of self.old) ≡ seen (text_of self.old) result }
@@ -50,17 +53,17 @@ impl<'a> Scanner<'a> {
         }
         let whole = self.text;
         let from = self.place + blank_len(&whole[self.place..]);
-        let [first, rest @ ..] = &whole[from..] else {
+        let left = &whole[from..];
+        if left.is_empty() {
             self.place = from;
             return Ok(None);
-        };
-        let Some(len) = token_len(*first, rest) else {
+        }
+        let Some((len, kind)) = token_at(left) else {
             self.failed = true;
             return Err(ScanError::Unclosed);
         };
         let to = from + len;
         let text = &whole[from..to];
-        let kind = kind_of(text);
         self.place = to;
         Ok(Some(Token {
             kind,

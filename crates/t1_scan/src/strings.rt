@@ -1,3 +1,5 @@
+//! Strings in parentheses and in angle brackets.
+
 ghost use Rattle.std.specs.Prelude.{◌≡◌, ◌+◌, ◌<◌, ◌≤◌, ◌^◌, length, false, IfSome};
 ghost use Rattle.t1_scan.specs.Lengths.{depth_after, string_len, close_len, angle_len, part_len};
 

@@ -1,3 +1,5 @@
+//! Texts and their tokens, written by hand.
+
 use crate::{Kind, ScanError, Scanner};
 use std::process::Abort;
 use std::test::Fail;

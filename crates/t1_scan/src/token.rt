@@ -1,3 +1,5 @@
+//! Tokens.
+
 /// What a token is.
 #[derive(Clone, Copy, Debug, PartialEq, Eq)]
 pub enum Kind {
