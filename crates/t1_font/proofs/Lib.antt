@@ -5,6 +5,7 @@ pub mod CodesRead
 pub mod Compose
 pub mod DifferentKeys
 pub mod EntriesAlone
+pub mod FileRead
 pub mod FontMaps
 pub mod GlyphNames
 pub mod GlyphsRead
@@ -13,6 +14,7 @@ pub mod ListValues
 pub mod Lists
 pub mod Maps
 pub mod NumberLists
+pub mod PartsRefused
 pub mod PrivateItemsRead
 pub mod PrivateRead
 pub mod Reading

@@ -4,6 +4,7 @@ pub mod Example
 pub mod Keys
 pub mod Limits
 pub mod Lists
+pub mod Parts
 pub mod Refusals
 pub mod Statements
 pub mod UsualClearText

@@ -1,5 +1,6 @@
 pub mod ClearText
 pub mod Entries
+pub mod FontFiles
 pub mod Fonts
 pub mod Inner
 pub mod Keys

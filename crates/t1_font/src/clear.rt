@@ -37,6 +37,9 @@ impl<'a> Clear<'a> {
         self.after
     }
 
+    /// Lets go of what is stated, in a function of its own: one that drops it beside other ends takes long to prove.
+    pub fn let_go(self) {}
+
     fn into_font(self) -> Font<'a>
         ensures { result ≡ self.entry.font }
     {
@@ -68,7 +71,7 @@ pub fn read_clear<'a>(alloc: Global, joined: &'a Joined) -> Result<Clear<'a>, Re
     let rest = match take_clear(&mut font, text) {
         Ok(rest) => rest,
         Err(refusal) => {
-            let_go(font);
+            font.let_go();
             return Err(refusal);
         }
     };
@@ -87,11 +90,8 @@ pub fn read_font<'a>(_alloc: Global, clear: Clear<'a>, text: &'a [u8]) -> Result
     match take_private(&mut font, text) {
         Ok(()) => Ok(font),
         Err(refusal) => {
-            let_go(font);
+            font.let_go();
             Err(refusal)
         }
     }
 }
-
-/// Lets a font go: a function that drops one takes long to prove, so that one alone does.
-fn let_go(_font: Font<'_>) {}

@@ -193,6 +193,9 @@ impl<'a> Font<'a> {
         self.extra
     }
 
+    /// Lets the font go, in a function of its own: one that drops a font beside other ends takes long to prove.
+    pub fn let_go(self) {}
+
     /// Whether the size of the Subrs is stated.
     pub(crate) fn has_size(&self) -> bool
         ensures { result ≡ is_some self.now.size }
@@ -215,6 +218,7 @@ impl<'a> Font<'a> {
     }
 
     /// Takes what a text states. Where memory is wanting the font is of no more use.
+    #[inline(always)]
     pub(crate) fn put_one(&mut self, statement: Option<Statement<'a>>) -> Result<(), Refusal>
         requires { HasRoomFor self.old (view_if_any statement) }
         ensures ok { OnOk result (self.new ≡ put_one self.old (view_if_any statement.entry)) }
@@ -226,6 +230,7 @@ impl<'a> Font<'a> {
         }
     }
 
+    #[inline(never)]
     fn put(&mut self, statement: Statement<'a>) -> Result<(), Refusal>
         requires { HasRoomFor self.old (Some (statement_view statement)) }
         ensures ok { OnOk result (self.new ≡ put self.old (statement_view statement.entry)) }

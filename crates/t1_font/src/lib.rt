@@ -1,9 +1,10 @@
 //! Reads a Type 1 font: what its clear text and its private text state, or the one reason why they
 //! can't be read. Adobe Type 1 Font Format 1.1, chapters 2, 5, 6 and 7.
 //!
-//! [`read_clear`] reads the joined bytes of a font file up to the word `eexec`; [`read_font`] reads the
-//! decrypted private text over that and gives a [`Font`]. A charstring is a slice of the private text:
-//! none is copied. Which tokens are read, the limits and the refusals are this program's own.
+//! [`OpenFont`] is the way in: `open` joins the bytes of a file, and `font` gives the [`Font`], which lends
+//! from it. Below it stand [`read_clear`], which reads joined bytes up to the word `eexec`, and
+//! [`read_font`], which reads the decrypted private text over that. A charstring is a slice of the private
+//! text: none is copied. Which tokens are read, the limits and the refusals are this program's own.
 //!
 //! What is promised, for all bytes:
 //!
@@ -15,10 +16,8 @@
 //! - No index, sum or cast goes wrong, and each call returns.
 //!
 //! ```
-//! let joined = t1_seal::join(alloc, file)?;
-//! let clear = t1_font::read_clear(alloc, &joined)?;
-//! let private = t1_seal::open_eexec(alloc, &joined.bytes[clear.after()..])?;
-//! let font = t1_font::read_font(alloc, clear, &private)?;
+//! let mut file = t1_font::OpenFont::open(alloc, bytes)?;
+//! let font = file.font(alloc)?;
 //! ```
 #![tactic(auto)]
 
@@ -31,6 +30,7 @@ mod key;
 mod laws;
 mod limit_laws;
 mod mode;
+mod open_font;
 mod plain_values;
 mod private_text;
 mod refusal;
@@ -40,6 +40,7 @@ mod statement;
 mod tests;
 mod texts;
 mod tokens;
+mod unread;
 mod value_laws;
 
 pub use clear::{Clear, read_clear, read_font};
@@ -53,8 +54,11 @@ pub use laws::{
     usual_private_texts, words_between_entries,
 };
 pub use limit_laws::limits_of_fonts;
+pub use open_font::OpenFont;
 pub use refusal::Refusal;
 pub use refusal_laws::{
-    early_ends, long_charstrings, refusals_of_texts, small_broken_texts, unclosed_tokens,
+    each_part_has_its_refusals, early_ends, long_charstrings, refusals_of_texts,
+    small_broken_texts, unclosed_tokens,
 };
+pub use unread::Unread;
 pub use value_laws::lists_by_tokens;

@@ -12,7 +12,7 @@ use crate::refusal::Refusal;
 use crate::statement::{Statement, Turn};
 use crate::tokens::{
     BILLION, charstring, first, inside, is_any_word, is_array, is_name, is_number, is_word, name,
-    natural, past_word, token_ahead, wanted, whole_up_to,
+    natural, past_word, wanted, whole_up_to,
 };
 use t1_scan::Kind;
 
@@ -165,11 +165,11 @@ fn subr_at<'a>(kind: Kind, text: &'a [u8]) -> Result<Turn<'a, PrivateMode>, Refu
 }
 
 /// What follows a `dup` of the Subrs: one without a number ends them.
-#[tactic(auto, unfolding(crate::specs::PrivateText::dup_turn))]
+#[tactic(auto, unfolding(crate::specs::PrivateText::dup_turn, crate::specs::Tokens::token_ahead))]
 fn dup_turn<'a>(text: &'a [u8]) -> Result<Turn<'a, PrivateMode>, Refusal>
     ensures { Is turn_view result (dup_turn text.now) }
 {
-    let Some((token, rest)) = token_ahead(text) else {
+    let Ok(Some((token, rest))) = first(text) else {
         return Ok(Turn::Goes(None, PrivateMode::Outside, text));
     };
     if !is_number(token.kind) {

@@ -1,8 +1,17 @@
-//! Laws of the refusals, on calls that do nothing: those that a text can have, and those of private texts in
-//! the usual form that break off or hold one wrong thing.
+//! Laws of the refusals, on calls that do nothing: those that each part of a file can have, and those of
+//! private texts in the usual form that break off or hold one wrong thing.
 
 ghost use Rattle.t1_font.specs.Laws.BrokenTexts.{EndsTooSoon, GlyphCutOff, GlyphTooLong, SmallTextsBreak, SubrCutOff, SubrNumberFirst, SubrTooLong, UnclosedToken};
+ghost use Rattle.t1_font.specs.Laws.Parts.{NeverForMemory, RefusedByPart};
 ghost use Rattle.t1_font.specs.Laws.Refusals.{ClearReadRefusals, ClearRefusals, FontAfterRefusals, FontReadRefusals, PrivateRefusals};
+
+/// A file is refused for its segments by E01, E02 or E03; for its clear text by E04, E07 or E13; for its
+/// encrypted section by E06; for its private text by E07 to E12. So no bytes are refused for want of memory.
+#[tactic(auto, using(crate::proofs::PartsRefused::refused_by_part, crate::proofs::PartsRefused::never_for_memory))]
+pub fn each_part_has_its_refusals()
+    ensures parts { RefusedByPart }
+    ensures memory { NeverForMemory }
+{}
 
 /// Whatever its bytes, a clear text is refused for nothing but E04, E07 or E13, and a private text for
 /// nothing but E07, E08, E09, E10, E11 or E12; so want of memory is no refusal of a text.

@@ -13,7 +13,7 @@ mod sections;
 mod subrs;
 mod values;
 
-use crate::{Encoding, Entry, Font, Key, Refusal, read_clear, read_font};
+use crate::{Encoding, Entry, Font, Key, OpenFont, Refusal, Unread, read_clear, read_font};
 use std::alloc::{AllocError, Global};
 use std::process::Abort;
 use std::test::Fail;
@@ -50,6 +50,13 @@ fn section_start(alloc: Global, joined: &Joined) -> Result<usize, Refusal> {
 fn section(alloc: Global, joined: &Joined) -> Result<&[u8], Fail> {
     let after = section_start(alloc, joined)?;
     Ok(joined.bytes.get(after..).ok_or("the section")?)
+}
+
+/// How many glyphs the font of a file has.
+fn glyphs_of(alloc: Global, bytes: &[u8]) -> Result<usize, Unread> {
+    let mut file = OpenFont::open(alloc, bytes)?;
+    let font = file.font(alloc)?;
+    Ok(font.glyphs().len())
 }
 
 /// The two texts of a font.

@@ -33,6 +33,7 @@ pub(crate) fn first<'a>(text: &'a [u8]) -> Result<Option<(Token<'a>, &'a [u8])>,
 
 /// The token that has to follow; where the text is over the answer is `ended`.
 #[tactic(auto, unfolding(crate::specs::Tokens::wanted))]
+#[inline(always)]
 pub(crate) fn wanted<'a>(text: &'a [u8], ended: Refusal) -> Result<(Token<'a>, &'a [u8]), Refusal>
     ensures { Is (λ p. found_of p.0 p.1.now) result (wanted ended text.now) }
 {
@@ -45,6 +46,7 @@ pub(crate) fn wanted<'a>(text: &'a [u8], ended: Refusal) -> Result<(Token<'a>, &
 
 /// The token that follows, if there is one that is closed.
 #[tactic(auto, unfolding(crate::specs::Tokens::token_ahead))]
+#[inline(never)]
 pub(crate) fn token_ahead<'a>(text: &'a [u8]) -> Option<(Token<'a>, &'a [u8])>
     ensures { Sees (λ p. found_of p.0 p.1.now) result (token_ahead text.now) }
 {

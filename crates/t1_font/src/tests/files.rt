@@ -1,6 +1,7 @@
 //! Whole files: the worked font as PFB and PFA, with its section in both forms.
 
-use super::{Counts, Marks, Texts};
+use super::{Counts, Marks, Texts, glyphs_of};
+use crate::Unread;
 use std::alloc::{AllocError, Global};
 use std::test::Fail;
 use t1_samples::{Charstrings, FontFile, Sample, TRAILER};
@@ -104,6 +105,22 @@ fn numbers_of_files_are_read(rt: HostRuntime) -> Result<(), Fail> {
     for kind in KINDS {
         let texts = worked_texts(rt.alloc(), kind)?;
         assert_eq!(rt; texts.counts(rt.alloc())?, counts, "as {kind:?}");
+    }
+    Ok(())
+}
+
+#[test]
+fn files_are_opened(rt: HostRuntime) -> Result<(), Fail> {
+    let file = worked_file(rt.alloc(), Kind::Pfb)?;
+    assert_eq!(rt; glyphs_of(rt.alloc(), file.as_slice()), Ok(1));
+    let refused: [(&[u8], Unread); 4] = [
+        (b"", Unread::NotAFont),
+        (b"%!", Unread::NoEexec),
+        (b"%!\neexec\nabc", Unread::TooShort),
+        (b"%!\neexec\nghijklmn", Unread::BadCharStrings),
+    ];
+    for (bytes, unread) in &refused {
+        assert_eq!(rt; glyphs_of(rt.alloc(), bytes), Err(*unread));
     }
     Ok(())
 }
