@@ -2,6 +2,7 @@
 use Rattle.std.proofs.Common.{◌≡◌, ◌≢◌, ◌⊎◌, inl, inr, ℕ, ℤ, suc, pos, ◌-◌, ◌<◌, ◌&&◌, nat_lt, Bool, true, false, cond, Option, Some, None, is_some, List, [], ◌∷◌, ◌++◌, length, length-append, take, slice_index_or, refl, ap, sym, ◌∙◌, lt-ltb, arith}
 use Rattle.std.proofs.lemmas.Bool.{ltb-true}
 use Rattle.std.proofs.lemmas.Grind.{common_steps}
+use Rattle.std.proofs.lemmas.List.{get_or-reverse}
 use Rattle.t1_font.specs.Fonts.{FontValue}
 use Rattle.t1_char.specs.declared.command.Command.TheVariants.{Callsubr, Return}
 use Rattle.t1_char.specs.declared.token.CharToken.{CharToken}
@@ -74,7 +75,9 @@ top_of : (stack : List ℤ) → 0 < length stack → (below : List ℤ) × (stac
 top_of [] some = absurd (omega (arith, some))
 top_of (z ∷ zs) some =
     let place : suc (length zs) - 1 - 0 ≡ length zs = omega arith in
-    (take (length zs) (z ∷ zs), with_top z zs ∙ ap (λ n. take (length zs) (z ∷ zs) ++ slice_index_or (z ∷ zs) n (pos 0) ∷ []) (sym place))
+    let top : from_top (z ∷ zs) 0 ≡ slice_index_or (z ∷ zs) (length zs) (pos 0) =
+    get_or-reverse (z ∷ zs) 0 (pos 0) (omega arith) ∙ ap (λ n. slice_index_or (z ∷ zs) n (pos 0)) place in
+    (take (length zs) (z ∷ zs), with_top z zs ∙ ap (λ x. take (length zs) (z ∷ zs) ++ x ∷ []) (sym top))
 
 code_there : (font : FontValue) (t : CharToken) (stack : List ℤ) (number : ℕ) (found : Option (List ℕ)) → subr_in font number ≡ found → is_some (with_code number found) ≡ true
     → t ≡ Command Callsubr → 0 < length stack → from_top stack 0 ≡ units (pos number) → CallsASubr font t stack number

@@ -14,7 +14,7 @@ use Rattle.t1_char.specs.declared.machine.Turn.{Turn as Turns}
 use Rattle.t1_char.specs.declared.machine.Turn.TheVariants.{Step, Ended, Limit}
 use Rattle.t1_char.specs.declared.step.Step.{Step as Steps}
 use Rattle.t1_char.specs.AnswerViews.{answer_view}
-use Rattle.t1_char.specs.TurnViews.{turn_view}
+use Rattle.t1_char.specs.TurnViews.{turn_value}
 use Rattle.t1_char.specs.Turns.{MachineView, TurnValue, stepped, ended, limited, step_of_number, step_or_end, limit_or_end, turn_at, counted_after}
 use Rattle.t1_char.proofs.TurnTests.{turn_by_limit}
 
@@ -108,12 +108,12 @@ machine_stepped edition m font glyph answer same is = stepped_is (limit_of editi
 pub machine_counted : (edition : Edition) (m : MachineView) (font : FontValue) (glyph : ℕ) (answer : NumberedStep) (counted : ℕ) → Executes edition font glyph m → IsStepped (limit_of edition) (steps_of font glyph) m.counted answer → counted ≡ counted_after (limit_of m.edition) (steps_of m.font m.glyph) m.counted → counted ≡ m.counted + 1
 machine_counted edition m font glyph answer counted same stepped_to is = is ∙ same_count edition m font glyph same ∙ stepped_to.counted
 
-not_step : (turn : Turns) → ((step : Bor Steps) → turn ≡ Step step → ⊥) → is_step (turn_view turn) ≡ false
+not_step : (turn : Turns) → ((step : Bor Steps) → turn ≡ Step step → ⊥) → is_step (turn_value turn) ≡ false
 not_step (Step step) other = absurd (other step refl)
 not_step Ended other = refl
 not_step (Limit step) other = refl
 
-pub machine_over : (edition : Edition) (m : MachineView) (font : FontValue) (glyph : ℕ) (turn : Turns) → Executes edition font glyph m → ((step : Bor Steps) → turn ≡ Step step → ⊥) → turn_view turn ≡ turn_at (limit_of m.edition) (steps_of m.font m.glyph) m.counted → take m.counted (take (limit_of edition) (steps_of font glyph)) ≡ take (limit_of edition) (steps_of font glyph)
+pub machine_over : (edition : Edition) (m : MachineView) (font : FontValue) (glyph : ℕ) (turn : Turns) → Executes edition font glyph m → ((step : Bor Steps) → turn ≡ Step step → ⊥) → turn_value turn ≡ turn_at (limit_of m.edition) (steps_of m.font m.glyph) m.counted → take m.counted (take (limit_of edition) (steps_of font glyph)) ≡ take (limit_of edition) (steps_of font glyph)
 machine_over edition m font glyph turn same other is =
     take_all m.counted (take (limit_of edition) (steps_of font glyph))
     (turns_over (limit_of edition) (steps_of font glyph) m.counted (ap is_step (sym (is ∙ same_turn edition m font glyph same)) ∙ not_step turn other))

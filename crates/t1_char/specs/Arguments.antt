@@ -1,6 +1,8 @@
 -- What commands and OtherSubrs are given: Type 1 Font Format 1.1, chapters 6 and 8.
-use Rattle.std.specs.Prelude.{ℕ, ℤ, pos, ◌+◌, ◌*◌, ◌&&◌, nat_le, Bool, true, false, List, length, slice_index_or}
+use Rattle.std.specs.Prelude.{ℕ, ℤ, pos, ◌+◌, ◌*◌, ◌&&◌, nat_le, if◌then◌else◌, Bool, true, false, List, length, slice_index_or}
 use Rattle.std.specs.Ordering.{int_eq}
+use Rattle.t1_char.specs.declared.argument.OthersubrCall.{OthersubrCall}
+use Rattle.t1_char.specs.declared.argument.OthersubrCall.TheVariants.{FlexEnd, FlexStart, FlexPoint, HintReplacement, Other}
 use Rattle.t1_char.specs.declared.command.Command.TheVariants.{Callothersubr}
 use Rattle.t1_char.specs.declared.token.CharToken.{CharToken}
 use Rattle.t1_char.specs.declared.token.CharToken.TheVariants.{Command}
@@ -40,3 +42,11 @@ is_flex_end step = calls_othersubr 0 3 step
 
 abbrev pub is_hint_replacement : StepView → Bool
 is_hint_replacement step = calls_othersubr 3 1 step
+
+-- Which of these a step calls.
+abbrev pub othersubr_call : StepView → OthersubrCall
+othersubr_call step =
+    if is_flex_end step then FlexEnd
+    else (if is_flex_start step then FlexStart
+    else (if is_flex_point step then FlexPoint
+    else (if is_hint_replacement step then HintReplacement else Other)))

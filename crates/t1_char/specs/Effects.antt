@@ -1,6 +1,6 @@
 -- What a token does. Type 1 Font Format 1.1, chapter 6 (the commands) and chapter 8 (OtherSubrs); what
 -- is done where a charstring is faulty is this project's own.
-use Rattle.std.specs.Prelude.{ℕ, ℤ, ◌==◌, ◌||◌, ◌&&◌, nat_lt, nat_le, if◌then◌else◌, Option, Some, None, List, [], ◌∷◌, ◌++◌, length, drop}
+use Rattle.std.specs.Prelude.{ℕ, ℤ, ◌==◌, ◌||◌, ◌&&◌, nat_lt, nat_le, if◌then◌else◌, Bool, true, false, Option, Some, None, List, [], ◌∷◌, ◌++◌, length, drop}
 use Rattle.t1_char.specs.declared.command.Command.{Command as Commands}
 use Rattle.t1_char.specs.declared.command.Command.TheVariants.{Endchar, Seac, Div, Callsubr, Return, Callothersubr, Pop}
 use Rattle.t1_char.specs.declared.token.CharToken.{CharToken}
@@ -53,6 +53,15 @@ work_of Return = returns_back
 work_of Callothersubr = calls_othersubr
 work_of Pop = pops
 work_of _ = clears
+
+-- What finishes the glyph at any depth: endchar and seac.
+abbrev pub does_finish : Work → Bool
+does_finish finishes_glyph = true
+does_finish _ = false
+
+abbrev pub is_finishing : CharToken → Bool
+is_finishing (Command command) = does_finish (work_of command)
+is_finishing _ = false
 
 -- div: the two topmost become their quotient.
 abbrev pub divided : List ℤ → List ℤ

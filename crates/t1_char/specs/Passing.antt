@@ -1,12 +1,6 @@
 -- Steps that a machine can go over: numbers that the stack has room for.
-use Rattle.std.specs.Prelude.{◌≡◌, ℕ, ◌<◌, ◌≤◌, ◌&&◌, nat_lt, Bool, true, false, Some, List, length, slice_get}
-use Rattle.t1_char.specs.declared.token.CharToken.{CharToken}
-use Rattle.t1_char.specs.declared.token.CharToken.TheVariants.{Number}
-use Rattle.t1_char.specs.Steps.{StepView}
-
-abbrev pub is_number : CharToken → Bool
-is_number (Number _) = true
-is_number _ = false
+use Rattle.std.specs.Prelude.{◌≡◌, ℕ, ◌<◌, ◌≤◌, ◌&&◌, nat_lt, Bool, true, Some, List, length, slice_get}
+use Rattle.t1_char.specs.Steps.{StepView, is_number}
 
 -- A number that doesn't come to a full stack.
 abbrev pub is_kept_number : StepView → Bool

@@ -1,13 +1,13 @@
 -- The stack of numbers, bottom first. Type 1 Font Format 1.1, chapter 6.
-use Rattle.std.specs.Prelude.{ℕ, ℤ, pos, ◌-◌, nat_lt, if◌then◌else◌, List, [], ◌∷◌, ◌++◌, length, take, drop, slice_index_or}
+use Rattle.std.specs.Prelude.{ℕ, ℤ, pos, ◌-◌, nat_lt, if◌then◌else◌, List, [], ◌∷◌, ◌++◌, length, reverse, take, drop, slice_index_or}
 
 -- One number more on top; a 25th is dropped.
 abbrev pub put : List ℤ → ℤ → List ℤ
 put stack z = if nat_lt (length stack) 24 then stack ++ z ∷ [] else stack
 
--- The number so many below the top; past the bottom it is the bottom number, and 0 on an empty stack.
+-- The number so many below the top; 0 where there is none. That there is one is the caller's to see to.
 abbrev pub from_top : List ℤ → ℕ → ℤ
-from_top stack below = slice_index_or stack (length stack - 1 - below) (pos 0)
+from_top stack below = slice_index_or (reverse stack) below (pos 0)
 
 -- The stack without its n topmost.
 abbrev pub without : ℕ → List ℤ → List ℤ

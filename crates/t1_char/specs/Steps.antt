@@ -4,7 +4,7 @@ use Rattle.std.specs.Prelude.{ℕ, zero, suc, ℤ, ◌+◌, ◌&&◌, nat_lt, if
 use Rattle.t1_font.specs.Fonts.{FontValue}
 use Rattle.t1_char.specs.declared.command.Command.TheVariants.{Callsubr, Return}
 use Rattle.t1_char.specs.declared.token.CharToken.{CharToken}
-use Rattle.t1_char.specs.declared.token.CharToken.TheVariants.{Command, End}
+use Rattle.t1_char.specs.declared.token.CharToken.TheVariants.{Number, Command, End}
 use Rattle.t1_char.specs.Numbers.{natural}
 use Rattle.t1_char.specs.Stacks.{from_top}
 use Rattle.t1_char.specs.Effects.{State, CalledSubr, Action, goes, calls, returns, finishes, Effect, effect_of, most_calls}
@@ -20,6 +20,10 @@ pub record StepView : Type 0 where
   pub waiting : ℕ
   pub found : Bool
   pub last : Bool
+
+abbrev pub is_number : CharToken → Bool
+is_number (Number _) = true
+is_number _ = false
 
 abbrev pub is_end : CharToken → Bool
 is_end End = true

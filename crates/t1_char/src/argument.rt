@@ -1,16 +1,30 @@
 //! What commands and OtherSubrs are given: Type 1 Font Format 1.1, chapters 6 and 8.
 
 ghost use Rattle.std.specs.Prelude.{◌≡◌};
-ghost use Rattle.t1_char.specs.Arguments.{argument, calls_othersubr, is_callothersubr, is_flex_end, is_flex_point, is_flex_start, is_hint_replacement, is_whole};
+ghost use Rattle.t1_char.specs.Arguments.{argument, calls_othersubr, is_flex_end, is_flex_point, is_flex_start, is_hint_replacement, is_whole, othersubr_call};
 ghost use Rattle.t1_char.specs.Numbers.{clamped};
 ghost use Rattle.t1_char.specs.StepValues.{step_view};
 
-use crate::command::Command;
 use crate::step::Step;
-use crate::token::CharToken;
+use crate::token::is_callothersubr;
 
 /// 32000 in units of 1/65536.
 const GREATEST: i32 = 32000 * 65536;
+
+/// Which of the OtherSubrs of flex and hint replacement a step calls, with the count that it wants.
+#[derive(Clone, Copy, Debug, PartialEq, Eq)]
+pub enum OthersubrCall {
+    /// 0 with three arguments: a flex ends.
+    FlexEnd,
+    /// 1 with none: a flex starts.
+    FlexStart,
+    /// 2 with none: a flex is given its next point.
+    FlexPoint,
+    /// 3 with one: the hints are replaced.
+    HintReplacement,
+    /// None of these.
+    Other,
+}
 
 impl Step {
     /// The argument at a place from the bottom of the stack, in units of 1/65536, kept within -32000 to
@@ -61,6 +75,23 @@ impl Step {
     {
         self.calls_othersubr(3, 1)
     }
+
+    /// Which of these calls it is.
+    pub fn othersubr_call(&self) -> OthersubrCall
+        ensures { result ≡ othersubr_call (step_view self.now) }
+    {
+        if self.ends_flex() {
+            OthersubrCall::FlexEnd
+        } else if self.starts_flex() {
+            OthersubrCall::FlexStart
+        } else if self.gives_flex_point() {
+            OthersubrCall::FlexPoint
+        } else if self.replaces_hints() {
+            OthersubrCall::HintReplacement
+        } else {
+            OthersubrCall::Other
+        }
+    }
 }
 
 /// The number from -32000 to 32000 that is nearest.
@@ -74,12 +105,6 @@ fn clamped(number: i64) -> i32
     } else {
         number as i32
     }
-}
-
-fn is_callothersubr(token: CharToken) -> bool
-    ensures { result ≡ is_callothersubr token }
-{
-    matches!(token, CharToken::Command(Command::Callothersubr))
 }
 
 /// Whether a number on the stack is that whole number.

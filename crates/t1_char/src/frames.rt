@@ -17,9 +17,9 @@ use crate::cursor::Cursor;
 use crate::effect::{Waiting, apply, apply_plain, put_number};
 use crate::machine::Numbers;
 use crate::stack::Stack;
-use crate::step::{Step, is_callsubr, is_last, named_at};
+use crate::step::{Step, is_last, named_at};
 use crate::subr::Subr;
-use crate::token::CharToken;
+use crate::token::{CharToken, is_callsubr};
 use arrayvec::ArrayVec;
 use t1_font::Font;
 

@@ -53,6 +53,7 @@ mod tests;
 mod token;
 mod token_list;
 
+pub use argument::OthersubrCall;
 pub use command::{Command, command_name};
 pub use edition::Edition;
 pub use expansion::expand;
@@ -66,5 +67,5 @@ pub use numbers::{cut_quotient, natural};
 pub use seacs::{steps_lack_seac, subrs_lack_seac};
 pub use stack::Stack;
 pub use step::{Path, Step};
-pub use token::CharToken;
+pub use token::{CharToken, is_callothersubr, is_callsubr, is_end, is_return};
 pub use token_list::tokens;

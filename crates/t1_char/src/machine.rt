@@ -7,7 +7,7 @@ ghost use Rattle.t1_char.specs.Steps.{steps_of};
 ghost use Rattle.t1_char.specs.StepValues.{step_value};
 ghost use Rattle.t1_char.specs.Turns.{counted_after, turn_at};
 ghost use Rattle.t1_char.specs.AnswerViews.{answer_view, is_over};
-ghost use Rattle.t1_char.specs.TurnViews.{turn_view};
+ghost use Rattle.t1_char.specs.TurnViews.{turn_value};
 
 use crate::edition::Edition;
 use crate::frames::Frames;
@@ -135,7 +135,7 @@ impl<'a> Machine<'a> {
     #[inline(always)]
     pub fn step(&mut self) -> Turn<'_>
         ensures* moves_on { sem 𝓛 (MovesOn self.entry) }
-        ensures turn { turn_view result ≡ turn_at (limit_of self.old.edition) (steps_of self.old.font self.old.glyph) self.old.counted }
+        ensures turn { turn_value result ≡ turn_at (limit_of self.old.edition) (steps_of self.old.font self.old.glyph) self.old.counted }
     {
         match self.tell() {
             Answer::Step => Turn::Step(self.current()),

@@ -1,16 +1,15 @@
 //! The steps of a glyph: Type 1 Font Format 1.1, chapters 6 and 8.
 
 ghost use Rattle.std.specs.Prelude.{◌≡◌};
-ghost use Rattle.t1_char.specs.Steps.{is_callsubr, is_end, is_last, is_return, named_at};
+ghost use Rattle.t1_char.specs.Steps.{is_last, named_at};
 ghost use Rattle.t1_char.specs.Workings.Actions.{named_of};
 ghost use Rattle.t1_char.specs.Workings.Cursors.{behind_token, tokens_left};
 
-use crate::command::Command;
 use crate::cursor::Cursor;
 use crate::numbers::natural;
 use crate::stack::Stack;
 use crate::subr::Subr;
-use crate::token::CharToken;
+use crate::token::{CharToken, is_callsubr, is_end, is_return};
 use arrayvec::ArrayVec;
 use t1_font::Font;
 
@@ -61,12 +60,6 @@ pub(crate) fn copy_of(path: &Path) -> Path
     copy
 }
 
-pub(crate) fn is_callsubr(token: CharToken) -> bool
-    ensures { result ≡ is_callsubr token }
-{
-    matches!(token, CharToken::Command(Command::Callsubr))
-}
-
 /// Whether what follows a token is End alone, or, in a Subr, return and End.
 #[inline(always)]
 pub(crate) fn is_last(token: &CharToken, behind: &Cursor<'_>, depth: usize) -> bool
@@ -99,16 +92,4 @@ fn ends(token: &CharToken, behind: &Cursor<'_>, depth: usize) -> bool
         return false;
     }
     is_end(behind.next_token())
-}
-
-fn is_end(token: CharToken) -> bool
-    ensures { result ≡ is_end token }
-{
-    matches!(token, CharToken::End)
-}
-
-fn is_return(token: CharToken) -> bool
-    ensures { result ≡ is_return token }
-{
-    matches!(token, CharToken::Command(Command::Return))
 }

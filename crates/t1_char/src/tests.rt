@@ -1,3 +1,5 @@
+//! What the tests of charstrings share: fonts of made glyphs and Subrs, and steps as text.
+
 mod arguments;
 mod effects;
 mod limits;

@@ -2,7 +2,9 @@
 //! Command Encoding).
 
 ghost use Rattle.std.specs.Prelude.{◌≡◌, ◌+◌, ◌*◌, ◌<◌};
+ghost use Rattle.t1_char.specs.Arguments.{is_callothersubr};
 ghost use Rattle.t1_char.specs.Commands.{command_of, escaped_of};
+ghost use Rattle.t1_char.specs.Steps.{is_callsubr, is_end, is_return};
 ghost use Rattle.t1_char.specs.Tokens.{escaped_code, plain_code, signed_of};
 
 use crate::command::Command;
@@ -24,6 +26,38 @@ pub enum CharToken {
     Short,
     /// The end of the charstring.
     End,
+}
+
+/// Whether it calls a Subr.
+#[inline(always)]
+pub fn is_callsubr(token: CharToken) -> bool
+    ensures { result ≡ is_callsubr token }
+{
+    matches!(token, CharToken::Command(Command::Callsubr))
+}
+
+/// Whether it calls an OtherSubr.
+#[inline(always)]
+pub fn is_callothersubr(token: CharToken) -> bool
+    ensures { result ≡ is_callothersubr token }
+{
+    matches!(token, CharToken::Command(Command::Callothersubr))
+}
+
+/// Whether it goes back from a Subr.
+#[inline(always)]
+pub fn is_return(token: CharToken) -> bool
+    ensures { result ≡ is_return token }
+{
+    matches!(token, CharToken::Command(Command::Return))
+}
+
+/// Whether it is the end of the charstring.
+#[inline(always)]
+pub fn is_end(token: CharToken) -> bool
+    ensures { result ≡ is_end token }
+{
+    matches!(token, CharToken::End)
 }
 
 /// The token of a byte below 32 other than 12.

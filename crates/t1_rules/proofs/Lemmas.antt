@@ -15,6 +15,7 @@ pub mod FlexPairs
 pub mod FontRules
 pub mod GlyphPlaces
 pub mod Keys
+pub mod KnownCalls
 pub mod Mask
 pub mod OthersubrCalls
 pub mod Othersubrs

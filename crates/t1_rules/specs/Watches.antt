@@ -3,7 +3,7 @@ use Rattle.std.specs.Prelude.{◌≡◌, ⊤, false, ℕ, ℤ, pos, ◌+ℤ◌, 
 use Rattle.t1_char.specs.declared.edition.Edition.{Edition}
 use Rattle.t1_char.specs.declared.token.CharToken.{CharToken}
 use Rattle.t1_char.specs.Arguments.{is_callothersubr, is_flex_end}
-use Rattle.t1_char.specs.Laws.Steps.{is_finishing}
+use Rattle.t1_char.specs.Effects.{is_finishing}
 use Rattle.t1_char.specs.Since.{any_so_far, was}
 use Rattle.t1_char.specs.Steps.{StepView, is_end}
 use Rattle.t1_rules.specs.declared.step_rules.flex.FlexWatcher.{FlexWatcher}

@@ -1,3 +1,5 @@
+//! What the tests of font rules share: a font that breaks none, and what others say of a key.
+
 mod book;
 mod encoding;
 mod entries;

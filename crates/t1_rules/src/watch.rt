@@ -2,6 +2,7 @@
 
 ghost use Rattle.std.specs.Prelude.{◌≡◌, ℕ, ◌<◌, List, [], ◌∷◌, ◌++◌, length};
 ghost use Rattle.t1_char.specs.declared.edition.Edition.{Edition as Editions};
+ghost use Rattle.t1_char.specs.Arguments.{othersubr_call};
 ghost use Rattle.t1_char.specs.Steps.{StepView};
 ghost use Rattle.t1_char.specs.StepValues.{step_view};
 ghost use Rattle.t1_rules.specs.Mask.{has};
@@ -9,7 +10,7 @@ ghost use Rattle.t1_rules.specs.StepRules.{StepRule, breaks};
 ghost use Rattle.t1_rules.specs.Watches.{most_steps};
 
 use crate::mask::Mask;
-use t1_char::{CharToken, Edition, Step};
+use t1_char::{CharToken, Edition, OthersubrCall, Step};
 
 /// Sees the steps of a glyph in their order, from the first on, and answers of each which of its rules the
 /// step breaks. What it keeps of the steps before is of a fixed size.
@@ -24,10 +25,11 @@ pub trait Watch {
     fn start(edition: Edition) -> Self
         ensures { stands_for edition result [] };
 
-    /// The same as [`Watch::see`], where the step's token is told: where that is known when the program is
-    /// built, no test of it is left.
-    fn see_as(&mut self, token: CharToken, step: &Step) -> Mask
+    /// The same as [`Watch::see`], where the step's token is known, and which OtherSubr of flex and hint
+    /// replacement it calls. Of what is known when the program is built, no test is left.
+    fn see_known(&mut self, token: CharToken, call: OthersubrCall, step: &Step) -> Mask
         requires token { step.now.token ≡ token }
+        requires call { call ≡ othersubr_call (step_view step.now) }
         requires steps { (edition : Editions) × ((before : List StepView) ×
             (stands_for edition self.old before × (length before < most_steps))) }
         ensures stands { (edition : Editions) (before : List StepView) →

@@ -18,8 +18,9 @@ use crate::step_rules::othersubrs::OthersubrWatcher;
 use crate::step_rules::paths::PathWatcher;
 use crate::step_rules::seac::SeacWatcher;
 use crate::step_rules::stems::StemWatcher;
+use crate::step_rules::tokens::call_of;
 use crate::watch::Watch;
-use t1_char::{CharToken, Command, Edition, Step};
+use t1_char::{CharToken, Command, Edition, OthersubrCall, Step};
 
 /// How many numbers a stack holds.
 const FULL: usize = 24;
@@ -56,14 +57,16 @@ impl Watch for Watches {
         }
     }
 
-    /// There is a copy of the watchers for each token that is frequent, in which no test of the token is left.
     #[inline(always)]
-    fn see_as(&mut self, token: CharToken, step: &Step) -> Mask {
-        match token {
-            CharToken::Number(number) => self.see_number(number, step),
-            CharToken::Command(command) => self.see_command(command, step),
-            _ => self.see_rare(step),
-        }
+    fn see_known(&mut self, token: CharToken, call: OthersubrCall, step: &Step) -> Mask {
+        let arguments = self.arguments.see_known(token, call, step);
+        let flex = self.flex.see_known(token, call, step);
+        let calls = self.calls.see_known(token, call, step);
+        let paths = self.paths.see_known(token, call, step);
+        let stems = self.stems.see_known(token, call, step);
+        let othersubrs = self.othersubrs.see_known(token, call, step);
+        let seac = self.seac.see_known(token, call, step);
+        arguments.join(calls.join(paths.join(stems.join(flex.join(othersubrs.join(seac))))))
     }
 
     #[inline(always)]
@@ -73,6 +76,27 @@ impl Watch for Watches {
 }
 
 impl Watches {
+    /// The same as [`Watch::see`] of a step of this token. There is a copy of the watchers for each token that is
+    /// frequent, in which no test of the token is left.
+    #[inline(always)]
+    pub fn see_as(&mut self, token: CharToken, step: &Step) -> Mask
+        requires token { step.now.token ≡ token }
+        requires steps { (edition : Editions) × ((before : List StepView) ×
+            (WatchesStandFor edition self.old before × (length before < most_steps))) }
+        ensures stands { (edition : Editions) (before : List StepView) →
+            WatchesStandFor edition self.old before → length before < most_steps →
+            WatchesStandFor edition self.new (before ++ step_view step.now ∷ []) }
+        ensures answer { (edition : Editions) (before : List StepView) →
+            WatchesStandFor edition self.old before → length before < most_steps →
+            (n : ℕ) → has result n ≡ breaks (step_rules edition) n before (step_view step.now) }
+    {
+        match token {
+            CharToken::Number(number) => self.see_number(number, step),
+            CharToken::Command(command) => self.see_command(command, step),
+            _ => self.see_rare(step),
+        }
+    }
+
     /// What all watchers say of a number: most steps are numbers, and most of these change nothing.
     #[inline(always)]
     fn see_number(&mut self, number: i32, step: &Step) -> Mask
@@ -217,13 +241,6 @@ impl Watches {
             WatchesStandFor edition self.old before → length before < most_steps →
             (n : ℕ) → has result n ≡ breaks (step_rules edition) n before (step_view step.now) }
     {
-        let arguments = self.arguments.see_as(token, step);
-        let flex = self.flex.see_as(token, step);
-        let calls = self.calls.see_as(token, step);
-        let paths = self.paths.see_as(token, step);
-        let stems = self.stems.see_as(token, step);
-        let othersubrs = self.othersubrs.see_as(token, step);
-        let seac = self.seac.see_as(token, step);
-        arguments.join(calls.join(paths.join(stems.join(flex.join(othersubrs.join(seac))))))
+        self.see_known(token, call_of(token, step), step)
     }
 }

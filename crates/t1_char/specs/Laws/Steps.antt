@@ -1,21 +1,16 @@
 -- Laws of the expansion. Type 1 Font Format 1.1, chapters 6 and 8.
-use Rattle.std.specs.Prelude.{◌≡◌, ℕ, ◌-◌, ◌≤◌, ◌||◌, not, if◌then◌else◌, Bool, true, false, List, [], ◌∷◌, ◌++◌, length, map, take, ◌↔◌, ◌⊎◌, ◌≢◌, ◌^◌, ◌<◌, ℤ, pos, Some}
+use Rattle.std.specs.Prelude.{◌≡◌, ℕ, ◌-◌, ◌≤◌, ◌||◌, not, if◌then◌else◌, Bool, true, List, [], ◌∷◌, ◌++◌, length, map, take, ◌↔◌, ◌⊎◌, ◌≢◌, ◌^◌, ◌<◌, ℤ, pos, Some}
 use Rattle.std.specs.List.{All, AllPass}
 use Rattle.t1_font.specs.Fonts.{FontValue}
-use Rattle.t1_char.specs.declared.command.Command.TheVariants.{Callsubr, Endchar, Return, Seac}
+use Rattle.t1_char.specs.declared.command.Command.TheVariants.{Callsubr, Return}
 use Rattle.t1_char.specs.declared.token.CharToken.{CharToken}
 use Rattle.t1_char.specs.declared.token.CharToken.TheVariants.{Command, End}
 use Rattle.t1_char.specs.Charstrings.{code_at, subr_in, tokens_in}
-use Rattle.t1_char.specs.Effects.{State, Action, goes, calls, returns, finishes}
+use Rattle.t1_char.specs.Effects.{State, Action, goes, calls, returns, finishes, is_finishing}
 use Rattle.t1_char.specs.Numbers.{units}
 use Rattle.t1_char.specs.Steps.{StepView, at_start, effect_at, is_callsubr, is_end, step_at, steps_of}
 
--- endchar and seac finish the glyph at any depth, and End outside Subrs.
-abbrev pub is_finishing : CharToken → Bool
-is_finishing (Command Endchar) = true
-is_finishing (Command Seac) = true
-is_finishing _ = false
-
+-- What finishes the glyph at any depth, and End outside Subrs.
 abbrev pub finishes_at : CharToken → List ℕ → Bool
 finishes_at token [] = is_finishing token || is_end token
 finishes_at token (_ ∷ _) = is_finishing token

@@ -7,12 +7,12 @@ use Rattle.t1_char.specs.declared.command.Command.TheVariants.{Pop}
 use Rattle.t1_char.specs.declared.token.CharToken.{CharToken}
 use Rattle.t1_char.specs.declared.token.CharToken.TheVariants.{Command, Number}
 use Rattle.t1_char.specs.Commands.{arguments_of}
-use Rattle.t1_char.specs.Steps.{StepView}
+use Rattle.t1_char.specs.Steps.{StepView, is_number}
 use Rattle.t1_rules.specs.Laws.Arguments.{Brings, KeptIsNotPast, NoneAreTooManyAtTheTop, NumbersOverflowAt24, OthersHaveNoArguments, TooFewAreFewerThanWanted, TooManyAreMoreThanArguments, Wants, arguments, callothersubr, callsubr, div, number, pop, result, return}
 use Rattle.t1_rules.specs.declared.rule.Rule.TheVariants.{C06}
 use Rattle.t1_rules.specs.Laws.StepRules.{violates}
 use Rattle.t1_rules.specs.StepRules.Arguments.{has_too_few_arguments, has_too_many_arguments, is_more_than, wanted_by}
-use Rattle.t1_rules.specs.StepRules.Tokens.{is_number, is_pop}
+use Rattle.t1_rules.specs.StepRules.Tokens.{is_pop}
 use Rattle.t1_rules.proofs.Lemmas.Book.{both}
 use Rattle.t1_rules.proofs.Lemmas.Rows.{c04_row, c05_row, c06_row}
 

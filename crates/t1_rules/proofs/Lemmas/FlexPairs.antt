@@ -32,7 +32,7 @@ pub closepath_leaves_the_point : ClosepathLeavesThePoint
 closepath_leaves_the_point before step is = point_goes_on before step ∙ rw is (plus_origin (current_point before))
 
 -- A call of another OtherSubr is none of this one.
-is_other : (number count : ℕ) (t : StepView) (top : ℤ) → from_top t.stack 0 ≡ top → is_whole number top ≡ false → calls_othersubr number count t ≡ false
+pub is_other : (number count : ℕ) (t : StepView) (top : ℤ) → from_top t.stack 0 ≡ top → is_whole number top ≡ false → calls_othersubr number count t ≡ false
 is_other number count t top is apart =
     rw (is, apart) (no_third (is_callothersubr t.token) (nat_le (count + 2) (length t.stack)) (is_whole count (from_top t.stack 1)))
   where

@@ -8,8 +8,8 @@ use Rattle.t1_char.specs.declared.edition.Edition.{Edition}
 use Rattle.t1_char.specs.declared.token.CharToken.{CharToken}
 use Rattle.t1_char.specs.declared.token.CharToken.TheVariants.{Number}
 use Rattle.t1_char.specs.Editions.{limit_of}
-use Rattle.t1_char.specs.Passing.{ArePassed, IsPassed, is_number}
-use Rattle.t1_char.specs.Steps.{StepView, steps_of}
+use Rattle.t1_char.specs.Passing.{ArePassed, IsPassed}
+use Rattle.t1_char.specs.Steps.{StepView, steps_of, is_number}
 use Rattle.t1_char.specs.AnswerViews.{answer_view}
 use Rattle.t1_char.specs.Asking.{IsAsked}
 use Rattle.t1_char.specs.declared.machine.Answer.{Answer}

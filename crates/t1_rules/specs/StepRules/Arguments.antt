@@ -9,8 +9,8 @@ use Rattle.t1_char.specs.declared.token.CharToken.TheVariants.{Command}
 use Rattle.t1_char.specs.Commands.{arguments_of}
 use Rattle.t1_char.specs.Numbers.{cut_quotient}
 use Rattle.t1_char.specs.Stacks.{from_top}
-use Rattle.t1_char.specs.Steps.{StepView}
-use Rattle.t1_rules.specs.StepRules.Tokens.{is_number, is_div, is_pop}
+use Rattle.t1_char.specs.Steps.{StepView, is_number}
+use Rattle.t1_rules.specs.StepRules.Tokens.{is_div, is_pop}
 
 -- How many numbers a command takes from the top of the stack.
 abbrev pub taken_from_top : Commands → ℕ

@@ -2,7 +2,7 @@
 -- Format 1.1, chapters 6 and 8.
 use Rattle.std.specs.Prelude.{◌==◌, ◌&&◌, not, nat_lt, Bool, length}
 use Rattle.t1_char.specs.Effects.{most_calls}
-use Rattle.t1_char.specs.Laws.Steps.{is_finishing}
+use Rattle.t1_char.specs.Effects.{is_finishing}
 use Rattle.t1_char.specs.Steps.{StepView, is_callsubr, is_end, is_return}
 
 -- callsubr, with a number on the stack.

@@ -1,7 +1,7 @@
 -- Widths and paths: where a step breaks W01, W02 and P01 to P03. Type 1 Font Format 1.1, chapters 6 and 8.
 use Rattle.std.specs.Prelude.{◌&&◌, ◌||◌, not, Bool, List}
 use Rattle.t1_char.specs.Arguments.{is_flex_start, is_flex_end}
-use Rattle.t1_char.specs.Laws.Steps.{is_finishing}
+use Rattle.t1_char.specs.Effects.{is_finishing}
 use Rattle.t1_char.specs.Since.{any_so_far, since}
 use Rattle.t1_char.specs.Steps.{StepView}
 use Rattle.t1_rules.specs.StepRules.Calls.{ends_in_glyph}

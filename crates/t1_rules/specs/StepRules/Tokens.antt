@@ -3,12 +3,8 @@ use Rattle.std.specs.Prelude.{◌||◌, Bool, true, false}
 use Rattle.t1_char.specs.declared.command.Command.{Command as Commands}
 use Rattle.t1_char.specs.declared.command.Command.TheVariants.{Vmoveto, Rlineto, Hlineto, Vlineto, Rrcurveto, Closepath, Hsbw, Rmoveto, Hmoveto, Vhcurveto, Hvcurveto, Sbw, Div, Pop, Seac, Setcurrentpoint}
 use Rattle.t1_char.specs.declared.token.CharToken.{CharToken}
-use Rattle.t1_char.specs.declared.token.CharToken.TheVariants.{Number, Command, Unknown, Unknown12, Cut, Short}
+use Rattle.t1_char.specs.declared.token.CharToken.TheVariants.{Command, Unknown, Unknown12, Cut, Short}
 use Rattle.t1_char.specs.Commands.{is_clearing}
-
-abbrev pub is_number : CharToken → Bool
-is_number (Number _) = true
-is_number _ = false
 
 -- A byte, or 12 and a byte, that is no command.
 abbrev pub is_unknown : CharToken → Bool

@@ -29,7 +29,7 @@ fn lacks_not_defined(font: &Font<'_>, index: u32) -> bool
 }
 
 /// Whether the glyph of this number is given twice.
-fn is_glyph_twice(font: &Font<'_>, glyph: u32) -> bool
+fn is_glyph_given_twice(font: &Font<'_>, glyph: u32) -> bool
     ensures { result ≡ is_glyph_given_twice font.now glyph }
 {
     glyph < INDEXES && (glyph as usize) < font.glyphs().len() && font.glyph_twice(glyph as usize)
@@ -41,6 +41,6 @@ pub(crate) fn glyph_faults(font: &Font<'_>, index: u32) -> Mask
     ensures { (n : ℕ) → has result n ≡ violated font_rules n font.now glyphs_key index }
 {
     Mask::empty()
-        .with(Rule::F10, is_glyph_twice(font, index))
+        .with(Rule::F10, is_glyph_given_twice(font, index))
         .with(Rule::F09, lacks_not_defined(font, index))
 }

@@ -13,7 +13,7 @@ use crate::rule::Rule;
 use t1_font::{Entry, Font, Key};
 
 /// How many numbers a list of zones or stem snaps has at most.
-pub(crate) fn limit(key: Key) -> usize
+pub(crate) fn list_limit_of(key: Key) -> usize
     ensures { result ≡ list_limit_of key }
 {
     match key {
@@ -45,7 +45,7 @@ pub(crate) fn is_of_another_kind(key: Key, value: &Entry, index: u32) -> bool
 pub(crate) fn has_too_many(key: Key, value: &Entry, index: u32) -> bool
     ensures { result ≡ has_too_many key (entry_view value.now) index }
 {
-    let limit = limit(key);
+    let limit = list_limit_of(key);
     index as usize == limit && limit < count_in(value)
 }
 

@@ -6,7 +6,7 @@ ghost use Rattle.t1_rules.specs.FontRules.Stems.{is_not_among, is_not_one_width}
 ghost use Rattle.t1_rules.specs.Mask.{has};
 ghost use Rattle.t1_rules.specs.Words.KeyTests.{broken_among, snap_tests, width_tests};
 
-use crate::font_rules::hints::{falls_at, has_too_many, is_of_another_kind, limit};
+use crate::font_rules::hints::{falls_at, has_too_many, is_of_another_kind, list_limit_of};
 use crate::font_rules::values::first_in;
 use crate::mask::Mask;
 use crate::rule::Rule;
@@ -47,7 +47,7 @@ pub(crate) fn snap_faults(font: &Font<'_>, key: Key, width: Key, index: u32) -> 
     ensures { (n : ℕ) → has result n ≡ broken_among (snap_tests font.now key width index) n }
 {
     let value = font.value(key);
-    let snaps = first_in(limit(key), value);
+    let snaps = first_in(list_limit_of(key), value);
     let width = font.value(width);
     let widths = first_in(1, width);
     Mask::empty()

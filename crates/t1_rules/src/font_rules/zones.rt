@@ -10,7 +10,7 @@ ghost use Rattle.t1_rules.specs.Mask.{has};
 ghost use Rattle.t1_rules.specs.Words.Edges.{zone_of};
 ghost use Rattle.t1_rules.specs.Words.KeyTests.{broken_among, high_zone_tests, low_zone_tests, zone_tests};
 
-use crate::font_rules::hints::{falls_at, has_too_many, is_of_another_kind, limit};
+use crate::font_rules::hints::{falls_at, has_too_many, is_of_another_kind, list_limit_of};
 use crate::font_rules::values::{ONE, count_in, first_in, number_or};
 use crate::mask::Mask;
 use crate::rule::Rule;
@@ -133,7 +133,7 @@ fn zone_faults(font: &Font<'_>, key: Key, meeting: bool, index: u32) -> Mask
     ensures { (n : ℕ) → has result n ≡ broken_among (zone_tests font.now key meeting index) n }
 {
     let value = font.value(key);
-    let numbers = first_in(limit(key), value);
+    let numbers = first_in(list_limit_of(key), value);
     let place = index as usize;
     Mask::empty()
         .with(Rule::Z07, is_too_high(font, numbers, place))
@@ -160,8 +160,8 @@ pub(crate) fn low_zone_faults(font: &Font<'_>, low: Key, high: Key, index: u32) 
     let high_value = font.value(high);
     let meeting = meets(
         font,
-        first_in(limit(low), low_value),
-        first_in(limit(high), high_value),
+        first_in(list_limit_of(low), low_value),
+        first_in(list_limit_of(high), high_value),
         index as usize,
     );
     zone_faults(font, low, meeting, index)

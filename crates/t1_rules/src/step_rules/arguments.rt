@@ -14,7 +14,7 @@ ghost use Rattle.t1_rules.specs.Words.StepTests.{IsCommand, breaks_by_count, bre
 use crate::mask::Mask;
 use crate::rule::Rule;
 use crate::watch::Watch;
-use t1_char::{CharToken, Command, Edition, Step, cut_quotient};
+use t1_char::{CharToken, Command, Edition, OthersubrCall, Step, cut_quotient};
 
 /// The greatest absolute value of an argument and of a quotient, 32000, in units of 1/65536.
 const GREATEST: i64 = 32000 * 65536;
@@ -39,12 +39,12 @@ impl Watch for ArgumentWatcher {
     }
 
     #[inline(always)]
-    fn see_as(&mut self, token: CharToken, step: &Step) -> Mask {
+    fn see_known(&mut self, token: CharToken, _call: OthersubrCall, step: &Step) -> Mask {
         faults(token, step)
     }
 
     fn see(&mut self, step: &Step) -> Mask {
-        self.see_as(step.token, step)
+        self.see_known(step.token, step.othersubr_call(), step)
     }
 }
 

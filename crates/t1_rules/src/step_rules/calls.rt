@@ -2,7 +2,7 @@
 //! 1.1, chapters 6 and 8.
 
 ghost use Rattle.std.specs.Prelude.{◌≡◌, ℕ, List, true, false};
-ghost use Rattle.t1_char.specs.Laws.Steps.{is_finishing};
+ghost use Rattle.t1_char.specs.Effects.{is_finishing};
 ghost use Rattle.t1_char.specs.Steps.{StepView, is_callsubr, is_end, is_return};
 ghost use Rattle.t1_char.specs.StepValues.{step_view};
 ghost use Rattle.t1_rules.specs.Mask.{has};
@@ -11,9 +11,9 @@ ghost use Rattle.t1_rules.specs.StepRules.Calls.{calls_by_number, calls_missing,
 
 use crate::mask::Mask;
 use crate::rule::Rule;
-use crate::step_rules::tokens::{is_callsubr, is_end, is_finishing, is_return};
+use crate::step_rules::tokens::is_finishing;
 use crate::watch::Watch;
-use t1_char::{CharToken, Edition, Step};
+use t1_char::{CharToken, Edition, OthersubrCall, Step, is_callsubr, is_end, is_return};
 
 /// How many calls are open at most.
 const MOST_CALLS: usize = 10;
@@ -35,12 +35,12 @@ impl Watch for CallWatcher {
     }
 
     #[inline(always)]
-    fn see_as(&mut self, token: CharToken, step: &Step) -> Mask {
+    fn see_known(&mut self, token: CharToken, _call: OthersubrCall, step: &Step) -> Mask {
         faults(token, step)
     }
 
     fn see(&mut self, step: &Step) -> Mask {
-        self.see_as(step.token, step)
+        self.see_known(step.token, step.othersubr_call(), step)
     }
 }
 

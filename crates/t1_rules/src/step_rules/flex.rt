@@ -2,7 +2,7 @@
 
 ghost use Rattle.std.specs.Prelude.{◌≡◌, ◌≤ℤ◌, ◌+ℤ◌, ◌<◌, ◌+◌, ◌&&◌, ◌||◌, not, ℕ, pos, negsuc, List, [], ◌∷◌, ◌++◌, length, true, false, if◌then◌else◌, suc};
 ghost use Rattle.t1_char.specs.declared.command.Command.{Command as Commands};
-ghost use Rattle.t1_char.specs.Arguments.{argument, is_callothersubr, is_flex_end, is_flex_point, is_flex_start};
+ghost use Rattle.t1_char.specs.Arguments.{argument, is_callothersubr, is_flex_end, is_flex_point, is_flex_start, othersubr_call};
 ghost use Rattle.t1_char.specs.Steps.{StepView};
 ghost use Rattle.t1_char.specs.StepValues.{step_view};
 ghost use Rattle.t1_rules.specs.Mask.{has};
@@ -15,11 +15,11 @@ use crate::mask::Mask;
 use crate::rule::Rule;
 use crate::step_rules::numbers::sum;
 use crate::step_rules::tokens::{
-    clears, ends_flex, gives_flex_point, is_callothersubr, is_command, is_hsbw, is_move, is_pop,
-    is_setcurrentpoint, sets_point, starts_flex,
+    clears, ends_flex, gives_flex_point, is_command, is_hsbw, is_move, is_pop, is_setcurrentpoint,
+    sets_point, starts_flex,
 };
 use crate::watch::Watch;
-use t1_char::{CharToken, Command, Edition, Step};
+use t1_char::{CharToken, Command, Edition, OthersubrCall, Step, is_callothersubr};
 
 /// A point, in units of 1/65536.
 #[derive(Clone, Copy, Debug, PartialEq, Eq)]
@@ -68,14 +68,14 @@ impl Watch for FlexWatcher {
     }
 
     #[inline(always)]
-    fn see_as(&mut self, token: CharToken, step: &Step) -> Mask {
-        let broken = self.faults(token, step);
-        self.go_on(token, step);
+    fn see_known(&mut self, token: CharToken, call: OthersubrCall, step: &Step) -> Mask {
+        let broken = self.faults(token, call, step);
+        self.go_on(token, call, step);
         broken
     }
 
     fn see(&mut self, step: &Step) -> Mask {
-        self.see_as(step.token, step)
+        self.see_known(step.token, step.othersubr_call(), step)
     }
 }
 
@@ -93,8 +93,9 @@ impl FlexWatcher {
     /// What a step breaks.
     #[inline(always)]
     #[tactic(auto, unfolding(crate::specs::StepRules::flex_rules))]
-    fn faults(&self, token: CharToken, step: &Step) -> Mask
+    fn faults(&self, token: CharToken, call: OthersubrCall, step: &Step) -> Mask
         requires token { step.now.token ≡ token }
+        requires call { call ≡ othersubr_call (step_view step.now) }
         requires steps { (before : List StepView) × (FlexStandsFor self.now before × (length before < most_steps)) }
         ensures { (before : List StepView) → FlexStandsFor self.now before →
             (n : ℕ) → has result n ≡ breaks flex_rules n before (step_view step.now) }
@@ -106,24 +107,25 @@ impl FlexWatcher {
             .with(Rule::X06, is_setcurrentpoint(token) & !self.popped_twice)
             .with(
                 Rule::X05,
-                ends_away_from(self.point, token, step) & self.in_flex,
+                ends_away_from(self.point, call, step) & self.in_flex,
             )
             .with(
                 Rule::X04,
-                miscounts(self.moves, self.points, token, step) & self.in_flex,
+                miscounts(self.moves, self.points, call, step) & self.in_flex,
             )
             .with(Rule::X03, clears(token) & !is_move(token) & self.in_flex)
             .with(
                 Rule::X02,
-                (gives_flex_point(token, step) | ends_flex(token, step)) & !self.in_flex,
+                (gives_flex_point(call, step) | ends_flex(call, step)) & !self.in_flex,
             )
-            .with(Rule::X01, starts_flex(token, step) & self.in_flex)
+            .with(Rule::X01, starts_flex(call, step) & self.in_flex)
     }
 
     /// Keeps what the step changes.
     #[inline(always)]
-    fn go_on(&mut self, token: CharToken, step: &Step)
+    fn go_on(&mut self, token: CharToken, call: OthersubrCall, step: &Step)
         requires token { step.now.token ≡ token }
+        requires call { call ≡ othersubr_call (step_view step.now) }
         requires steps { (before : List StepView) × (FlexStandsFor self.old before × (length before < most_steps)) }
         ensures { (before : List StepView) → FlexStandsFor self.old before → length before < most_steps →
             FlexStandsFor self.new (before ++ step_view step.now ∷ []) }
@@ -138,10 +140,10 @@ impl FlexWatcher {
         let pops = is_pop(token);
         self.popped_twice = pops & self.popped;
         self.popped = pops & self.ended;
-        self.ended = ends_flex(token, step);
-        self.moves = counted(token, step, self.moves, is_move(token));
-        self.points = counted(token, step, self.points, gives_flex_point(token, step));
-        self.in_flex = starts_flex(token, step) | (self.in_flex & !self.ended);
+        self.ended = ends_flex(call, step);
+        self.moves = counted(call, step, self.moves, is_move(token));
+        self.points = counted(call, step, self.points, gives_flex_point(call, step));
+        self.in_flex = starts_flex(call, step) | (self.in_flex & !self.ended);
         self.point = point;
     }
 }
@@ -156,12 +158,12 @@ fn is_quiet(token: CharToken) -> bool
 
 /// A count since the last start of a flex, with one more where the step is counted.
 #[inline(always)]
-fn counted(token: CharToken, step: &Step, count: u32, is_one: bool) -> u32
-    requires token { step.now.token ≡ token }
+fn counted(call: OthersubrCall, step: &Step, count: u32, is_one: bool) -> u32
+    requires call { call ≡ othersubr_call (step_view step.now) }
     requires count { count < most_steps }
     ensures { result ≡ (if is_flex_start (step_view step.now) then 0 else (if is_one then suc count else count)) }
 {
-    if starts_flex(token, step) {
+    if starts_flex(call, step) {
         0
     } else if is_one {
         count + 1
@@ -172,18 +174,18 @@ fn counted(token: CharToken, step: &Step, count: u32, is_one: bool) -> u32
 
 /// Whether a point doesn't come behind its move, or the end behind seven of each.
 #[inline(always)]
-fn miscounts(moves: u32, points: u32, token: CharToken, step: &Step) -> bool
-    requires token { step.now.token ≡ token }
+fn miscounts(moves: u32, points: u32, call: OthersubrCall, step: &Step) -> bool
+    requires call { call ≡ othersubr_call (step_view step.now) }
     requires points { points < most_steps }
     ensures { result ≡ miscounts moves points (step_view step.now) }
 {
-    (gives_flex_point(token, step) & (moves != points + 1))
-        | (ends_flex(token, step) & !((moves == 7) & (points == 7)))
+    (gives_flex_point(call, step) & (moves != points + 1))
+        | (ends_flex(call, step) & !((moves == 7) & (points == 7)))
 }
 
 /// Whether the step ends a flex, and not at this point.
-fn ends_away_from(point: Point, token: CharToken, step: &Step) -> bool
-    requires token { step.now.token ≡ token }
+fn ends_away_from(point: Point, call: OthersubrCall, step: &Step) -> bool
+    requires call { call ≡ othersubr_call (step_view step.now) }
     ensures { result ≡ ends_away_from point (step_view step.now) }
 {
     if step.stack.len() < 5 {
@@ -193,7 +195,7 @@ fn ends_away_from(point: Point, token: CharToken, step: &Step) -> bool
         x: step.stack.from_top(3),
         y: step.stack.from_top(2),
     };
-    ends_flex(token, step) & is_elsewhere(end, point)
+    ends_flex(call, step) & is_elsewhere(end, point)
 }
 
 fn is_elsewhere(one: Point, other: Point) -> bool

@@ -2,6 +2,7 @@
 
 ghost use Rattle.std.specs.Prelude.{◌≡◌, ◌≤◌, ℕ, List, length};
 ghost use Rattle.t1_char.specs.declared.command.Command.TheVariants.{Callothersubr};
+ghost use Rattle.t1_char.specs.Arguments.{othersubr_call};
 ghost use Rattle.t1_char.specs.Steps.{StepView};
 ghost use Rattle.t1_char.specs.StepValues.{step_view};
 ghost use Rattle.t1_rules.specs.Mask.{has};
@@ -11,8 +12,9 @@ ghost use Rattle.t1_rules.specs.Words.StepTests.{IsCommand, breaks_by_call};
 
 use crate::mask::Mask;
 use crate::rule::Rule;
+use crate::step_rules::tokens::{ends_flex, gives_flex_point, replaces_hints, starts_flex};
 use crate::watch::Watch;
-use t1_char::{CharToken, Command, Edition, Step, natural};
+use t1_char::{CharToken, Command, Edition, OthersubrCall, Step, natural};
 
 /// Watches for O01 to O04, which a step alone decides.
 #[derive(Clone, Copy, Debug, PartialEq, Eq)]
@@ -31,25 +33,26 @@ impl Watch for OthersubrWatcher {
     }
 
     #[inline(always)]
-    fn see_as(&mut self, token: CharToken, step: &Step) -> Mask {
-        faults(token, step)
+    fn see_known(&mut self, token: CharToken, call: OthersubrCall, step: &Step) -> Mask {
+        faults(token, call, step)
     }
 
     fn see(&mut self, step: &Step) -> Mask {
-        self.see_as(step.token, step)
+        self.see_known(step.token, step.othersubr_call(), step)
     }
 }
 
 /// What a step breaks.
 #[inline(always)]
 #[tactic(auto, unfolding(crate::specs::StepRules::othersubr_rules))]
-fn faults(token: CharToken, step: &Step) -> Mask
+fn faults(token: CharToken, call: OthersubrCall, step: &Step) -> Mask
     requires token { step.now.token ≡ token }
+    requires call { call ≡ othersubr_call (step_view step.now) }
     ensures { (before : List StepView) → (n : ℕ) →
         has result n ≡ breaks othersubr_rules n before (step_view step.now) }
 {
     match token {
-        CharToken::Command(Command::Callothersubr) => call_faults(step),
+        CharToken::Command(Command::Callothersubr) => call_faults(call, step),
         CharToken::Command(Command::Pop) => Mask::empty().with(Rule::O04, step.waiting == 0),
         _ => Mask::empty(),
     }
@@ -58,8 +61,9 @@ fn faults(token: CharToken, step: &Step) -> Mask
 /// What a call of an OtherSubr breaks.
 #[inline(never)]
 #[tactic(auto, using(crate::proofs::Lemmas::Othersubrs::of_call, crate::proofs::Lemmas::Othersubrs::of_few))]
-fn call_faults(step: &Step) -> Mask
-    requires { IsCommand (step_view step.now) Callothersubr }
+fn call_faults(call: OthersubrCall, step: &Step) -> Mask
+    requires token { IsCommand (step_view step.now) Callothersubr }
+    requires call { call ≡ othersubr_call (step_view step.now) }
     ensures { (before : List StepView) → (n : ℕ) →
         has result n ≡ breaks othersubr_rules n before (step_view step.now) }
 {
@@ -68,7 +72,7 @@ fn call_faults(step: &Step) -> Mask
     }
     number_faults(
         has_good_count(step),
-        is_effective(step),
+        is_effective(call, step),
         step.stack.from_top(0),
     )
 }
@@ -103,10 +107,12 @@ fn is_good_count(most: usize, count: i64) -> bool
 }
 
 /// Whether the step calls an OtherSubr of flex or hint replacement with the count that it wants.
-fn is_effective(step: &Step) -> bool
+fn is_effective(call: OthersubrCall, step: &Step) -> bool
+    requires call { call ≡ othersubr_call (step_view step.now) }
     ensures { result ≡ is_effective (step_view step.now) }
 {
-    step.ends_flex() | (step.starts_flex() | (step.gives_flex_point() | step.replaces_hints()))
+    ends_flex(call, step)
+        | (starts_flex(call, step) | (gives_flex_point(call, step) | replaces_hints(call, step)))
 }
 
 /// Whether it is the number of an OtherSubr of flex or hint replacement.

@@ -1,7 +1,7 @@
 //! The rules on widths and paths, W01, W02 and P01 to P03: Type 1 Font Format 1.1, chapters 6 and 8.
 
 ghost use Rattle.std.specs.Prelude.{◌≡◌, ◌&&◌, ◌||◌, not, ℕ, List, [], ◌∷◌, ◌++◌, true};
-ghost use Rattle.t1_char.specs.Arguments.{is_flex_end};
+ghost use Rattle.t1_char.specs.Arguments.{is_flex_end, othersubr_call};
 ghost use Rattle.t1_char.specs.Steps.{StepView};
 ghost use Rattle.t1_char.specs.StepValues.{step_view};
 ghost use Rattle.t1_rules.specs.Mask.{has};
@@ -13,11 +13,10 @@ use crate::mask::Mask;
 use crate::rule::Rule;
 use crate::step_rules::calls::ends_in_glyph;
 use crate::step_rules::tokens::{
-    clears, closes, ends_flex, is_callothersubr, is_end, is_finishing, is_line, is_move,
-    sets_width, starts_flex,
+    clears, closes, ends_flex, is_finishing, is_line, is_move, sets_width, starts_flex,
 };
 use crate::watch::Watch;
-use t1_char::{CharToken, Edition, Step};
+use t1_char::{CharToken, Edition, OthersubrCall, Step, is_callothersubr, is_end};
 
 /// Watches for W01, W02 and P01 to P03.
 #[derive(Clone, Copy, Debug, PartialEq, Eq)]
@@ -50,17 +49,17 @@ impl Watch for PathWatcher {
     }
 
     #[inline(always)]
-    fn see_as(&mut self, token: CharToken, step: &Step) -> Mask {
+    fn see_known(&mut self, token: CharToken, call: OthersubrCall, step: &Step) -> Mask {
         if is_quiet(token) {
             return Mask::empty();
         }
-        let broken = self.faults(token, step);
-        self.go_on(token, step);
+        let broken = self.faults(token, call, step);
+        self.go_on(token, call, step);
         broken
     }
 
     fn see(&mut self, step: &Step) -> Mask {
-        self.see_as(step.token, step)
+        self.see_known(step.token, step.othersubr_call(), step)
     }
 }
 
@@ -68,8 +67,9 @@ impl PathWatcher {
     /// What a step breaks.
     #[inline(always)]
     #[tactic(auto, unfolding(crate::specs::StepRules::path_rules))]
-    fn faults(&self, token: CharToken, step: &Step) -> Mask
+    fn faults(&self, token: CharToken, call: OthersubrCall, step: &Step) -> Mask
         requires token { step.now.token ≡ token }
+        requires call { call ≡ othersubr_call (step_view step.now) }
         ensures { (before : List StepView) → PathsStandFor self.now before →
             (n : ℕ) → has result n ≡ breaks path_rules n before (step_view step.now) }
     {
@@ -77,23 +77,27 @@ impl PathWatcher {
         Mask::empty()
             .with(Rule::P03, closes(token) & !self.drawn)
             .with(Rule::P02, (self.moves(token) | finishes) & self.drawn)
-            .with(Rule::P01, draws(token, step, self.in_flex) & !self.moved)
+            .with(
+                Rule::P01,
+                draws(token, call, step, self.in_flex) & !self.moved,
+            )
             .with(Rule::W02, sets_width(token) & self.begun)
             .with(Rule::W01, clears(token) & !sets_width(token) & !self.begun)
     }
 
     /// Keeps what the step changes.
     #[inline(always)]
-    fn go_on(&mut self, token: CharToken, step: &Step)
+    fn go_on(&mut self, token: CharToken, call: OthersubrCall, step: &Step)
         requires token { step.now.token ≡ token }
+        requires call { call ≡ othersubr_call (step_view step.now) }
         ensures { (before : List StepView) → PathsStandFor self.old before →
             PathsStandFor self.new (before ++ step_view step.now ∷ []) }
     {
         let stays = !closes(token);
-        self.drawn = draws(token, step, self.in_flex) | (self.drawn & stays);
+        self.drawn = draws(token, call, step, self.in_flex) | (self.drawn & stays);
         self.moved = self.moves(token) | (self.moved & stays);
         self.begun = self.begun | clears(token);
-        self.in_flex = starts_flex(token, step) | (self.in_flex & !ends_flex(token, step));
+        self.in_flex = starts_flex(call, step) | (self.in_flex & !ends_flex(call, step));
     }
 
     /// Whether it is a move outside flex.
@@ -106,11 +110,12 @@ impl PathWatcher {
 
 /// Whether the step draws a line, a curve, or the curves of a flex, being in it.
 #[inline(always)]
-pub(crate) fn draws(token: CharToken, step: &Step, in_flex: bool) -> bool
+pub(crate) fn draws(token: CharToken, call: OthersubrCall, step: &Step, in_flex: bool) -> bool
     requires token { step.now.token ≡ token }
+    requires call { call ≡ othersubr_call (step_view step.now) }
     ensures { result ≡ (is_line step.now.token || (is_flex_end (step_view step.now) && in_flex)) }
 {
-    is_line(token) | (ends_flex(token, step) & in_flex)
+    is_line(token) | (ends_flex(call, step) & in_flex)
 }
 
 /// Whether none of these rules speaks of a token, and it changes nothing that is kept.

@@ -2,7 +2,7 @@
 //! 1.1, chapter 6 (seac).
 
 ghost use Rattle.std.specs.Prelude.{◌≡◌, ◌&&◌, ◌||◌, is_none, not, ℕ, List, [], ◌∷◌, ◌++◌, false};
-ghost use Rattle.t1_char.specs.Arguments.{is_flex_end};
+ghost use Rattle.t1_char.specs.Arguments.{is_flex_end, othersubr_call};
 ghost use Rattle.t1_char.specs.Steps.{StepView};
 ghost use Rattle.t1_char.specs.StepValues.{step_view};
 ghost use Rattle.t1_rules.specs.Mask.{has};
@@ -19,7 +19,7 @@ use crate::step_rules::paths::draws;
 use crate::step_rules::stems::is_stem;
 use crate::step_rules::tokens::{closes, ends_flex, is_command, is_move, is_seac, starts_flex};
 use crate::watch::Watch;
-use t1_char::{CharToken, Edition, Step, natural};
+use t1_char::{CharToken, Edition, OthersubrCall, Step, natural};
 
 /// Watches for K01, K02 and K06.
 #[derive(Clone, Copy, Debug, PartialEq, Eq)]
@@ -46,14 +46,14 @@ impl Watch for SeacWatcher {
     }
 
     #[inline(always)]
-    fn see_as(&mut self, token: CharToken, step: &Step) -> Mask {
+    fn see_known(&mut self, token: CharToken, call: OthersubrCall, step: &Step) -> Mask {
         let broken = self.faults(token, step);
-        self.go_on(token, step);
+        self.go_on(token, call, step);
         broken
     }
 
     fn see(&mut self, step: &Step) -> Mask {
-        self.see_as(step.token, step)
+        self.see_known(step.token, step.othersubr_call(), step)
     }
 }
 
@@ -77,28 +77,30 @@ impl SeacWatcher {
 
     /// Keeps what the step changes.
     #[inline(always)]
-    fn go_on(&mut self, token: CharToken, step: &Step)
+    fn go_on(&mut self, token: CharToken, call: OthersubrCall, step: &Step)
         requires token { step.now.token ≡ token }
+        requires call { call ≡ othersubr_call (step_view step.now) }
         ensures { (before : List StepView) → SeacStandsFor self.old before →
             SeacStandsFor self.new (before ++ step_view step.now ∷ []) }
     {
         if !is_command(token) {
             return;
         }
-        self.outlined = self.outlined | makes_outline(token, step, self.in_flex);
-        self.in_flex = starts_flex(token, step) | (self.in_flex & !ends_flex(token, step));
+        self.outlined = self.outlined | makes_outline(token, call, step, self.in_flex);
+        self.in_flex = starts_flex(call, step) | (self.in_flex & !ends_flex(call, step));
     }
 }
 
 /// Whether the step makes a part of an outline, being in flex or not.
 #[inline(always)]
-fn makes_outline(token: CharToken, step: &Step, in_flex: bool) -> bool
+fn makes_outline(token: CharToken, call: OthersubrCall, step: &Step, in_flex: bool) -> bool
     requires token { step.now.token ≡ token }
+    requires call { call ≡ othersubr_call (step_view step.now) }
     ensures { result ≡ (is_move step.now.token
         || ((is_line step.now.token || (is_flex_end (step_view step.now) && in_flex))
         || (is_stem step.now.token || closes step.now.token))) }
 {
-    is_move(token) | (draws(token, step, in_flex) | (is_stem(token) | closes(token)))
+    is_move(token) | (draws(token, call, step, in_flex) | (is_stem(token) | closes(token)))
 }
 
 /// Whether a code of seac isn't whole from 0 to 255.
@@ -131,18 +133,18 @@ pub(crate) fn is_unnamed(code: Option<u8>) -> bool
 pub(crate) fn base_code(step: &Step) -> Option<u8>
     ensures { result ≡ base_code (step_view step.now) }
 {
-    code_of(step.argument(3))
+    seac_code(step.argument(3))
 }
 
 /// The code of the accent.
 pub(crate) fn accent_code(step: &Step) -> Option<u8>
     ensures { result ≡ accent_code (step_view step.now) }
 {
-    code_of(step.argument(4))
+    seac_code(step.argument(4))
 }
 
 /// A number as a code, where it is whole from 0 to 255.
-fn code_of(number: i32) -> Option<u8>
+fn seac_code(number: i32) -> Option<u8>
     ensures { result ≡ seac_code number }
 {
     match natural(i64::from(number)) {

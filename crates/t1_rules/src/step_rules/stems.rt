@@ -6,7 +6,7 @@ ghost use Rattle.std.specs.Int.{int_max, int_min};
 ghost use Rattle.std.specs.List.{list_any};
 ghost use Rattle.std.specs.Ordering.{int_eq};
 ghost use Rattle.t1_char.specs.declared.edition.Edition.{Edition as Editions};
-ghost use Rattle.t1_char.specs.Arguments.{is_callothersubr, is_hint_replacement};
+ghost use Rattle.t1_char.specs.Arguments.{is_callothersubr, is_hint_replacement, othersubr_call};
 ghost use Rattle.t1_char.specs.Steps.{StepView};
 ghost use Rattle.t1_char.specs.StepValues.{step_view};
 ghost use Rattle.t1_rules.specs.Mask.{has};
@@ -20,12 +20,10 @@ use crate::mask::Mask;
 use crate::rule::Rule;
 use crate::step_rules::numbers::{differ, greater, is_below, lesser, sum, twice};
 use crate::step_rules::paths::draws;
-use crate::step_rules::tokens::{
-    ends_flex, is_callothersubr, is_callsubr, is_line, is_pop, replaces_hints, starts_flex,
-};
+use crate::step_rules::tokens::{ends_flex, is_line, is_pop, replaces_hints, starts_flex};
 use crate::watch::Watch;
 use arrayvec::ArrayVec;
-use t1_char::{CharToken, Command, Edition, Step};
+use t1_char::{CharToken, Command, Edition, OthersubrCall, Step, is_callothersubr, is_callsubr};
 
 /// How many stems a hint set has at most, in each direction.
 const MOST_STEMS: usize = 96;
@@ -84,14 +82,14 @@ impl Watch for StemWatcher {
     }
 
     #[inline(always)]
-    fn see_as(&mut self, token: CharToken, step: &Step) -> Mask {
+    fn see_known(&mut self, token: CharToken, call: OthersubrCall, step: &Step) -> Mask {
         let broken = self.faults(token, step);
-        self.go_on(token, step);
+        self.go_on(token, call, step);
         broken
     }
 
     fn see(&mut self, step: &Step) -> Mask {
-        self.see_as(step.token, step)
+        self.see_known(step.token, step.othersubr_call(), step)
     }
 }
 
@@ -158,25 +156,27 @@ impl StemWatcher {
 
     /// Keeps what the step changes.
     #[inline(always)]
-    fn go_on(&mut self, token: CharToken, step: &Step)
+    fn go_on(&mut self, token: CharToken, call: OthersubrCall, step: &Step)
         requires token { step.now.token ≡ token }
+        requires call { call ≡ othersubr_call (step_view step.now) }
         ensures { (edition : Editions) (before : List StepView) → StemsStandFor edition self.old before →
             StemsStandFor edition self.new (before ++ step_view step.now ∷ []) }
     {
         self.popped = is_pop(token) & self.replaced;
-        self.replaced = replaces_hints(token, step);
+        self.replaced = replaces_hints(call, step);
         if is_quiet(token) {
             return;
         }
-        self.drawn = draws(token, step, self.in_flex) | (self.drawn & !self.replaced);
-        self.in_flex = starts_flex(token, step) | (self.in_flex & !ends_flex(token, step));
-        self.keep_stems(token, step);
+        self.drawn = draws(token, call, step, self.in_flex) | (self.drawn & !self.replaced);
+        self.in_flex = starts_flex(call, step) | (self.in_flex & !ends_flex(call, step));
+        self.keep_stems(token, call, step);
     }
 
     /// Keeps the stems of the step, or none after a hint replacement.
     #[inline(always)]
-    fn keep_stems(&mut self, token: CharToken, step: &Step)
+    fn keep_stems(&mut self, token: CharToken, call: OthersubrCall, step: &Step)
         requires token { step.now.token ≡ token }
+        requires call { call ≡ othersubr_call (step_view step.now) }
         ensures across { self.new.across.items ≡ kept_after lies_across self.old.across.items (step_view step.now) }
         ensures upright { self.new.upright.items ≡ kept_after stands_upright self.old.upright.items (step_view step.now) }
         ensures edition { self.new.edition ≡ self.old.edition }
@@ -185,7 +185,7 @@ impl StemWatcher {
         ensures replaced { self.new.replaced ≡ self.old.replaced }
         ensures popped { self.new.popped ≡ self.old.popped }
     {
-        if replaces_hints(token, step) {
+        if replaces_hints(call, step) {
             self.across.clear();
             self.upright.clear();
         } else if lies_across(token) {

@@ -1,19 +1,12 @@
 //! The kinds of tokens that charstring rules speak of: Type 1 Font Format 1.1, chapter 6.
 
 ghost use Rattle.std.specs.Prelude.{◌≡◌, true};
-ghost use Rattle.t1_char.specs.Arguments.{is_callothersubr, is_flex_end, is_flex_point, is_flex_start, is_hint_replacement};
-ghost use Rattle.t1_char.specs.Laws.Steps.{is_finishing};
-ghost use Rattle.t1_char.specs.Steps.{is_callsubr, is_end, is_return};
+ghost use Rattle.t1_char.specs.Arguments.{is_flex_end, is_flex_point, is_flex_start, is_hint_replacement, othersubr_call};
+ghost use Rattle.t1_char.specs.Effects.{is_finishing};
 ghost use Rattle.t1_char.specs.StepValues.{step_view};
 ghost use Rattle.t1_rules.specs.StepRules.Tokens.{clears, closes, is_command, is_hsbw, is_line, is_move, is_pop, is_seac, is_setcurrentpoint, sets_point, sets_width};
 
-use t1_char::{CharToken, Command, Step};
-
-pub(crate) fn is_end(token: CharToken) -> bool
-    ensures { result ≡ is_end token }
-{
-    matches!(token, CharToken::End)
-}
+use t1_char::{CharToken, Command, OthersubrCall, Step, is_callothersubr};
 
 /// Whether it is a command. Most tokens are numbers, at which little changes.
 #[inline(always)]
@@ -21,25 +14,6 @@ pub(crate) fn is_command(token: CharToken) -> bool
     ensures { result ≡ is_command (λ command. true) token }
 {
     matches!(token, CharToken::Command(_))
-}
-
-pub(crate) fn is_callsubr(token: CharToken) -> bool
-    ensures { result ≡ is_callsubr token }
-{
-    matches!(token, CharToken::Command(Command::Callsubr))
-}
-
-#[inline(always)]
-pub(crate) fn is_callothersubr(token: CharToken) -> bool
-    ensures { result ≡ is_callothersubr token }
-{
-    matches!(token, CharToken::Command(Command::Callothersubr))
-}
-
-pub(crate) fn is_return(token: CharToken) -> bool
-    ensures { result ≡ is_return token }
-{
-    matches!(token, CharToken::Command(Command::Return))
 }
 
 /// Whether it finishes the glyph, in its own charstring or in a Subr.
@@ -130,38 +104,55 @@ pub(crate) fn is_seac(token: CharToken) -> bool
     matches!(token, CharToken::Command(Command::Seac))
 }
 
-/// Whether a step of this token starts a flex.
+/// Which OtherSubr of flex and hint replacement a step of this token calls.
 #[inline(always)]
-pub(crate) fn starts_flex(token: CharToken, step: &Step) -> bool
+pub(crate) fn call_of(token: CharToken, step: &Step) -> OthersubrCall
     requires token { step.now.token ≡ token }
-    ensures { result ≡ is_flex_start (step_view step.now) }
+    ensures { result ≡ othersubr_call (step_view step.now) }
 {
-    is_callothersubr(token) && step.starts_flex()
+    if is_callothersubr(token) {
+        step.othersubr_call()
+    } else {
+        OthersubrCall::Other
+    }
 }
 
-/// Whether a step of this token gives a flex its next point.
+/// Whether the step of this call starts a flex.
 #[inline(always)]
-pub(crate) fn gives_flex_point(token: CharToken, step: &Step) -> bool
-    requires token { step.now.token ≡ token }
-    ensures { result ≡ is_flex_point (step_view step.now) }
+#[tactic(auto, using(crate::proofs::Lemmas::KnownCalls::starts, crate::proofs::Lemmas::KnownCalls::starts_none))]
+pub(crate) fn starts_flex(call: OthersubrCall, _step: &Step) -> bool
+    requires call { call ≡ othersubr_call (step_view _step.now) }
+    ensures { result ≡ is_flex_start (step_view _step.now) }
 {
-    is_callothersubr(token) && step.gives_flex_point()
+    matches!(call, OthersubrCall::FlexStart)
 }
 
-/// Whether a step of this token ends a flex.
+/// Whether the step of this call gives a flex its next point.
 #[inline(always)]
-pub(crate) fn ends_flex(token: CharToken, step: &Step) -> bool
-    requires token { step.now.token ≡ token }
-    ensures { result ≡ is_flex_end (step_view step.now) }
+#[tactic(auto, using(crate::proofs::Lemmas::KnownCalls::gives_point, crate::proofs::Lemmas::KnownCalls::gives_no_point))]
+pub(crate) fn gives_flex_point(call: OthersubrCall, _step: &Step) -> bool
+    requires call { call ≡ othersubr_call (step_view _step.now) }
+    ensures { result ≡ is_flex_point (step_view _step.now) }
 {
-    is_callothersubr(token) && step.ends_flex()
+    matches!(call, OthersubrCall::FlexPoint)
 }
 
-/// Whether a step of this token replaces hints.
+/// Whether the step of this call ends a flex.
 #[inline(always)]
-pub(crate) fn replaces_hints(token: CharToken, step: &Step) -> bool
-    requires token { step.now.token ≡ token }
-    ensures { result ≡ is_hint_replacement (step_view step.now) }
+#[tactic(auto, using(crate::proofs::Lemmas::KnownCalls::ends, crate::proofs::Lemmas::KnownCalls::ends_none))]
+pub(crate) fn ends_flex(call: OthersubrCall, _step: &Step) -> bool
+    requires call { call ≡ othersubr_call (step_view _step.now) }
+    ensures { result ≡ is_flex_end (step_view _step.now) }
 {
-    is_callothersubr(token) && step.replaces_hints()
+    matches!(call, OthersubrCall::FlexEnd)
+}
+
+/// Whether the step of this call replaces hints.
+#[inline(always)]
+#[tactic(auto, using(crate::proofs::Lemmas::KnownCalls::replaces, crate::proofs::Lemmas::KnownCalls::replaces_none))]
+pub(crate) fn replaces_hints(call: OthersubrCall, _step: &Step) -> bool
+    requires call { call ≡ othersubr_call (step_view _step.now) }
+    ensures { result ≡ is_hint_replacement (step_view _step.now) }
+{
+    matches!(call, OthersubrCall::HintReplacement)
 }

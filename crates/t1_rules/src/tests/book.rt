@@ -1,3 +1,5 @@
+//! The book of rules: numbers, codes and texts.
+
 use crate::{Rule, rule_text};
 
 /// Rules, and the number and the text of each.

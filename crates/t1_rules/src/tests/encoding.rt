@@ -1,3 +1,5 @@
+//! Rules on the Encoding: Type 1 Font Format 1.1, chapter 2.
+
 use super::{Part, assert_lines};
 use std::test::Fail;
 

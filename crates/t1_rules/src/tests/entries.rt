@@ -1,3 +1,5 @@
+//! Rules on required and optional entries: Type 1 Font Format 1.1, chapters 2 and 5.
+
 use super::{CLEAR, Part, assert_lines, lines_of_texts};
 use std::test::Fail;
 

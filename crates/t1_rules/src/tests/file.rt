@@ -1,3 +1,5 @@
+//! Rules on the file: Technical Note 5040.
+
 use super::lines_of_font;
 use std::alloc::Global;
 use std::test::Fail;

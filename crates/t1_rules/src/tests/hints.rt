@@ -1,3 +1,5 @@
+//! Rules on numbers of the Private dictionary: Type 1 Font Format 1.1, chapter 5.
+
 use super::{Part, assert_lines};
 use std::test::Fail;
 

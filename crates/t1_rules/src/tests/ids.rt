@@ -1,3 +1,5 @@
+//! Rules on UniqueID and XUID: Type 1 Font Format 1.1, chapter 2.
+
 use super::{ENTRIES, GLYPHS, Part, assert_lines, lines_of_texts};
 use std::alloc::Global;
 use std::test::Fail;

@@ -1,3 +1,5 @@
+//! What the keys of a report are called.
+
 use crate::key_text;
 
 /// Keys, and the text of each.

@@ -1,3 +1,5 @@
+//! Sets of rules.
+
 use crate::{Mask, Rule, rule_code};
 
 /// The code of the next rule of a set, or nothing.

@@ -1,3 +1,5 @@
+//! Rules on standard and snap widths: Type 1 Font Format 1.1, chapter 5.
+
 use super::{Part, assert_lines};
 use std::test::Fail;
 

@@ -1,3 +1,5 @@
+//! Rules on the Subrs: Type 1 Font Format 1.1, chapters 2 and 8.
+
 use super::{Part, assert_lines};
 use std::test::Fail;
 

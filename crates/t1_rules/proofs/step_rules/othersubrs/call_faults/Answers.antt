@@ -9,5 +9,5 @@ returns c = λ before n.
     let there : 2 ≤ length c.args.step.now.stack = grind (arith, c.if-len-lt2.false, c.len.ensures.len) in
     let fits : FitsSigned w64 c.from_top.result = search rules in
     c.number_faults.ensures n
-    ∙ of_call _ _ _ n before (step_view c.args.step.now) c.requires there c.has_good_count.ensures c.is_effective.ensures
+    ∙ of_call _ _ _ n before (step_view c.args.step.now) c.requires.token there c.has_good_count.ensures c.is_effective.ensures
     (to_z-of_z w64 c.from_top.result fits ∙ c.from_top.ensures)

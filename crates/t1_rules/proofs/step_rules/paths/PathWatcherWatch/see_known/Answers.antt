@@ -1,7 +1,7 @@
 use Rattle.std.proofs.Common.{sym, ◌∙◌}
 use Rattle.t1_char.specs.StepValues.{step_view}
 use Rattle.t1_rules.proofs.Lemmas.Paths.{stays, no_fault}
-use Rattle.t1_rules.proofs.step_rules.paths.PathWatcherWatch.see_as.Goals as goal
+use Rattle.t1_rules.proofs.step_rules.paths.PathWatcherWatch.see_known.Goals as goal
 
 pub returns-then-is_quiet-clause-stands : goal.returns-then-is_quiet-clause-stands
 returns-then-is_quiet-clause-stands c = λ edition before st short.

@@ -1,4 +1,4 @@
-use Rattle.t1_rules.proofs.step_rules.stems.StemWatcherWatch.see_as.Goals as goal
+use Rattle.t1_rules.proofs.step_rules.stems.StemWatcherWatch.see_known.Goals as goal
 
 pub returns-clause-stands : goal.returns-clause-stands
 returns-clause-stands c = λ edition before st short. c.go_on.ensures edition before st

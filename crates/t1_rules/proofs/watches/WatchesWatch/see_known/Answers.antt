@@ -1,0 +1,43 @@
+use Rattle.t1_char.specs.StepValues.{step_view}
+use Rattle.t1_rules.specs.StepRules.{argument_rules, call_rules, flex_rules, othersubr_rules, path_rules, seac_rules, stem_rules, step_rules}
+use Rattle.t1_rules.specs.Watches.{WatchesStandFor}
+use Rattle.t1_rules.proofs.Lemmas.Watches.{joined}
+use Rattle.t1_rules.proofs.watches.WatchesWatch.see_known.Goals as goal
+
+pub see_known-paths-requires-clause-steps : goal.see_known-paths-requires-clause-steps
+unfolding WatchesStandFor
+see_known-paths-requires-clause-steps c = (c.requires.steps.0, (c.requires.steps.1.0, (c.requires.steps.1.1.0.0, c.requires.steps.1.1.1)))
+
+pub see_known-stems-requires-clause-steps : goal.see_known-stems-requires-clause-steps
+unfolding WatchesStandFor
+see_known-stems-requires-clause-steps c = (c.requires.steps.0, (c.requires.steps.1.0, (c.requires.steps.1.1.0.1.0, c.requires.steps.1.1.1)))
+
+pub see_known-flex-requires-clause-steps : goal.see_known-flex-requires-clause-steps
+unfolding WatchesStandFor
+see_known-flex-requires-clause-steps c = (c.requires.steps.0, (c.requires.steps.1.0, (c.requires.steps.1.1.0.1.1.0, c.requires.steps.1.1.1)))
+
+pub see_known-seac-requires-clause-steps : goal.see_known-seac-requires-clause-steps
+unfolding WatchesStandFor
+see_known-seac-requires-clause-steps c = (c.requires.steps.0, (c.requires.steps.1.0, (c.requires.steps.1.1.0.1.1.1, c.requires.steps.1.1.1)))
+
+pub returns-clause-stands : goal.returns-clause-stands
+unfolding WatchesStandFor
+returns-clause-stands c = λ edition before st short. (
+  c.see_known-paths.ensures.stands edition before st.0 short,
+  (
+    c.see_known-stems.ensures.stands edition before st.1.0 short,
+    (c.see_known-flex.ensures.stands edition before st.1.1.0 short, c.see_known-seac.ensures.stands edition before st.1.1.1 short),
+  ),
+)
+
+pub returns-clause-answer : goal.returns-clause-answer
+unfolding WatchesStandFor step_rules
+returns-clause-answer c = λ edition before st short n.
+    let t = step_view c.args.step.now in
+    joined argument_rules _ n before t _ _ _ (c.join-6.ensures n) (c.see_known-arguments.ensures.answer edition before _ short n)
+    (joined call_rules _ n before t _ _ _ (c.join-5.ensures n) (c.see_known-calls.ensures.answer edition before _ short n)
+    (joined path_rules _ n before t _ _ _ (c.join-4.ensures n) (c.see_known-paths.ensures.answer edition before st.0 short n)
+    (joined (stem_rules edition) _ n before t _ _ _ (c.join-3.ensures n) (c.see_known-stems.ensures.answer edition before st.1.0 short n)
+    (joined flex_rules _ n before t _ _ _ (c.join-2.ensures n) (c.see_known-flex.ensures.answer edition before st.1.1.0 short n)
+    (joined othersubr_rules seac_rules n before t _ _ _ (c.join.ensures n) (c.see_known-othersubrs.ensures.answer edition before _ short n)
+    (c.see_known-seac.ensures.answer edition before st.1.1.1 short n))))))
