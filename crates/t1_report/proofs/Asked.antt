@@ -1,6 +1,6 @@
 -- How often machines are asked for a glyph, and for waivers.
 use Rattle.std.proofs.Common.{◌≡◌, ℕ, zero, suc, ◌+◌, ◌-◌, ◌*◌, ◌<◌, ◌≤◌, inl, inr, Bool, true, false, true≢false, if◌then◌else◌, Option, None, Some, List, [], ◌∷◌, length, length-take, length-drop, drop, take, slice_get, slice_range, get_or, refl, sym, ap, ◌∙◌, arith}
-use Rattle.std.specs.List.{sum_by}
+use Rattle.std.specs.List.{sum_by, range_with_len}
 use Rattle.std.proofs.lemmas.Bool.{cases_lt, eq-eqb, le-ltb, lt-ltb, ne_eqb}
 use Rattle.std.proofs.lemmas.List.{get_or-drop}
 use Rattle.std.proofs.lemmas.List.Sums.{sum_by-cons, sum_by_more}
@@ -9,13 +9,31 @@ use Rattle.t1_char.proofs.EditionLemmas.{limit_few}
 use Rattle.t1_char.specs.Steps.{StepView, steps_of}
 use Rattle.t1_report.specs.Checked.{CheckedFont, step_limit}
 use Rattle.t1_rules.specs.declared.rule.Rule.TheVariants.{C01}
-use Rattle.t1_report.specs.Reports.{is_broken}
+use Rattle.t1_report.specs.Reports.{is_broken, is_broken_below}
 use Rattle.t1_report.specs.Waivers.{Waiver}
 use Rattle.t1_report.specs.Walks.{first_asked, turns_asked, turns_for, turns_if_any, turns_of_glyph, turns_of_waiver, turns_up_to}
 use Rattle.t1_report.proofs.Broken.{past_steps}
 use Rattle.t1_report.proofs.Told.{none_below, some_below}
 
 -- ---- a glyph
+
+-- A sum over places, from its first one on.
+pub places_first : (f : ℕ → ℕ) (from n : ℕ) → sum_by f (range_with_len from (suc n)) ≡ f from + sum_by f (range_with_len (suc from) n)
+places_first f from n =
+    let next : from + 1 ≡ suc from = omega arith in
+    sum_by-cons f from (range_with_len (from + 1) n) ∙ ap (λ (u : ℕ). f from + sum_by f (range_with_len u n)) next
+
+-- A sum over places with one more.
+pub places_more : (f : ℕ → ℕ) (from n : ℕ) → sum_by f (range_with_len from (suc n)) ≡ sum_by f (range_with_len from n) + f (from + n)
+places_more f from zero =
+    let place : from ≡ from + 0 = omega arith in
+    let last = ap f place in
+    omega (arith, places_first f from 0, last)
+places_more f from (suc n) =
+    let rest = places_more f (suc from) n in
+    let place : suc from + n ≡ from + suc n = omega arith in
+    let last = ap f place in
+    omega (arith, places_first f from (suc n), places_first f from n, rest, last)
 
 pub few_turns : (font : CheckedFont) (glyph : ℕ) → turns_of_glyph font glyph ≤ step_limit font + 1
 unfolding turns_of_glyph
@@ -26,17 +44,27 @@ few_turns font glyph = by_limit (step_limit font) (steps_of font.value glyph)
 
 -- ---- a waiver
 
+no_turn : (font : CheckedFont) (unit n : ℕ) → turns_up_to font unit n 0 ≡ 0
+unfolding turns_up_to
+no_turn font unit n = refl
+
+one_turn_more : (font : CheckedFont) (unit n turns : ℕ)
+    → turns_up_to font unit n (suc turns) ≡ turns_up_to font unit n turns + (if is_broken_below font unit (suc turns) n then 0 else 1)
+unfolding turns_up_to
+one_turn_more font unit n turns =
+    let place : 1 + turns ≡ suc turns = omega arith in
+    places_more (λ (turn : ℕ). if is_broken_below font unit turn n then 0 else 1) 1 turns
+    ∙ ap (λ (turn : ℕ). turns_up_to font unit n turns + (if is_broken_below font unit turn n then 0 else 1)) place
+
 -- Where no step below breaks the rule, all turns are asked for.
 pub all_turns : (font : CheckedFont) (unit n turns : ℕ) → ((s : ℕ) → s < turns → is_broken font unit s n ≡ false) → turns_up_to font unit n turns ≡ turns
-unfolding turns_up_to
-all_turns font unit n zero quiet = refl
+all_turns font unit n zero quiet = no_turn font unit n
 all_turns font unit n (suc turns) quiet =
     let before = all_turns font unit n turns (λ s less. quiet s (omega (arith, less))) in
-    rw (none_below font unit (suc turns) n quiet) (omega (arith, before))
+    one_turn_more font unit n turns ∙ rw (none_below font unit (suc turns) n quiet) (omega (arith, before))
 
 -- Else those up to the first step that does.
 pub turns_to_first : (font : CheckedFont) (unit n first turns : ℕ) → ((s : ℕ) → s < first → is_broken font unit s n ≡ false) → is_broken font unit first n ≡ true → first ≤ turns → turns_up_to font unit n turns ≡ first
-unfolding turns_up_to
 turns_to_first font unit n first zero quiet broken within = all_turns font unit n zero (λ s less. absurd (omega (arith, less))) ∙ omega (arith, within)
 turns_to_first font unit n first (suc turns) quiet broken within =
     elim (cases_lt first (suc turns)) [
@@ -47,13 +75,15 @@ turns_to_first font unit n first (suc turns) quiet broken within =
     ]
   where
     one_more : (first turns : ℕ) → first < suc turns → is_broken font unit first n ≡ true → turns_up_to font unit n turns ≡ first → turns_up_to font unit n (suc turns) ≡ first
-    one_more first turns less broken so_far = rw (some_below font unit (suc turns) n first less broken) (omega (arith, so_far))
+    one_more first turns less broken so_far =
+        one_turn_more font unit n turns ∙ rw (some_below font unit (suc turns) n first less broken) (omega (arith, so_far))
 
 -- As many at most as there are.
 few_up_to : (font : CheckedFont) (unit n turns : ℕ) → turns_up_to font unit n turns ≤ turns
-unfolding turns_up_to
-few_up_to font unit n zero = omega arith
-few_up_to font unit n (suc turns) = one_more (turns_up_to font unit n turns) _ (few_up_to font unit n turns)
+few_up_to font unit n zero = omega (arith, no_turn font unit n)
+few_up_to font unit n (suc turns) =
+    let so_far = one_more (turns_up_to font unit n turns) (is_broken_below font unit (suc turns) n) (few_up_to font unit n turns) in
+    omega (arith, one_turn_more font unit n turns, so_far)
   where
     one_more : (count : ℕ) (b : Bool) → count ≤ turns → count + (if b then 0 else 1) ≤ suc turns
     one_more count true few = omega (arith, few)

@@ -8,7 +8,7 @@ use Rattle.t1_report.specs.Checked.{CheckedFont, step_limit}
 use Rattle.t1_rules.specs.Book.{number_of}
 use Rattle.t1_rules.proofs.Lemmas.Book.{in_book}
 use Rattle.t1_report.specs.Faults.{FaultValue}
-use Rattle.t1_report.specs.Reports.{Comes, IsReport, IsRising, is_broken, is_told}
+use Rattle.t1_report.specs.Reports.{Comes, IsReport, IsRising, is_broken, is_told, spot}
 use Rattle.t1_report.proofs.Broken.{past_keys, past_steps}
 use Rattle.t1_report.specs.Waivers.{Waiver}
 use Rattle.t1_report.proofs.Told.{no_waiver, quiet_told, told_of_waiver, told_within}
@@ -33,7 +33,7 @@ joined_near width a b a' b' same less = let same_width = ap (λ (n : ℕ). n * w
 ordinal : ℕ → ℕ → ℕ → ℕ → ℕ
 ordinal width unit step rule = joined 71 (joined width unit step) rule
 
-ordinal_rises : (width u s r u' s' r' : ℕ) → s < width → r < 71 → Comes u s r u' s' r' → ordinal width u s r < ordinal width u' s' r'
+ordinal_rises : (width u s r u' s' r' : ℕ) → s < width → r < 71 → Comes (spot u s r) (spot u' s' r') → ordinal width u s r < ordinal width u' s' r'
 unfolding ordinal
 ordinal_rises width u s r u' s' r' low few (inl unit) = joined_less 71 (joined width u s) r (joined width u' s') r' (joined_less width u s u' s' unit low) few
 ordinal_rises width u s r u' s' r' low few (inr (unit, inl step)) =
@@ -66,7 +66,7 @@ count_below at (suc n) bound rise below =
 ordinal_of : ℕ → FaultValue → ℕ
 ordinal_of width fault = ordinal width fault.unit fault.step (number_of fault.rule)
 
-fault_rises : (width : ℕ) (a b : FaultValue) → a.step < width → Comes a.unit a.step (number_of a.rule) b.unit b.step (number_of b.rule)
+fault_rises : (width : ℕ) (a b : FaultValue) → a.step < width → Comes (spot a.unit a.step (number_of a.rule)) (spot b.unit b.step (number_of b.rule))
     → ordinal_of width a < ordinal_of width b
 unfolding ordinal_of
 fault_rises width a b low before =

@@ -8,12 +8,12 @@ use Rattle.t1_rules.specs.declared.rule.Rule.{Rule}
 use Rattle.t1_rules.specs.Book.{number_of}
 use Rattle.t1_report.specs.Faults.{FaultValue}
 use Rattle.t1_report.proofs.Numbered.{number_there, numbered_by_places}
-use Rattle.t1_report.specs.Reports.{Place, Comes, IsBefore, IsViolationOf, IsFrontOf, IsReportOf, place_of, StandsAt, IsRising, AreNumbered}
+use Rattle.t1_report.specs.Reports.{Place, Comes, IsBefore, IsViolationOf, IsFrontOf, IsReportOf, place_of, StandsAt, IsRising, AreNumbered, spot, spot_of}
 use Rattle.t1_rules.proofs.Lemmas.Book.{one_rule}
 
 -- ---- the order of places
 
-pub comes_on : (u s r u' s' r' u'' s'' r'' : ℕ) → Comes u s r u' s' r' → Comes u' s' r' u'' s'' r'' → Comes u s r u'' s'' r''
+pub comes_on : (u s r u' s' r' u'' s'' r'' : ℕ) → Comes (spot u s r) (spot u' s' r') → Comes (spot u' s' r') (spot u'' s'' r'') → Comes (spot u s r) (spot u'' s'' r'')
 comes_on u s r u' s' r' u'' s'' r'' (inl a) (inl b) = inl (omega arith)
 comes_on u s r u' s' r' u'' s'' r'' (inl a) (inr (b, c)) = inl (omega arith)
 comes_on u s r u' s' r' u'' s'' r'' (inr (a, c)) (inl b) = inl (omega arith)
@@ -23,7 +23,7 @@ comes_on u s r u' s' r' u'' s'' r'' (inr (a, inr (c, e))) (inr (b, inl d)) = inr
 comes_on u s r u' s' r' u'' s'' r'' (inr (a, inr (c, e))) (inr (b, inr (d, f))) = inr (omega arith, inr (omega arith, omega arith))
 
 -- what comes before the next rule number of a step comes before the rule, or stands there
-comes_next : (u s r u' s' r' : ℕ) → Comes u s r u' s' (r' + 1) → Comes u s r u' s' r' ⊎ ((u ≡ u') × ((s ≡ s') × (r ≡ r')))
+comes_next : (u s r u' s' r' : ℕ) → Comes (spot u s r) (spot u' s' (r' + 1)) → Comes (spot u s r) (spot u' s' r') ⊎ ((u ≡ u') × ((s ≡ s') × (r ≡ r')))
 comes_next u s r u' s' r' (inl a) = inl (inl a)
 comes_next u s r u' s' r' (inr (a, inl b)) = inl (inr (a, inl b))
 comes_next u s r u' s' r' (inr (a, inr (b, c))) =
@@ -33,7 +33,7 @@ comes_next u s r u' s' r' (inr (a, inr (b, c))) =
       | inr (inr more) ↦ absurd (omega arith)
     ]
 
-never_before_all : (u s r : ℕ) → Comes u s r 0 0 0 → ⊥
+never_before_all : (u s r : ℕ) → Comes (spot u s r) (spot 0 0 0) → ⊥
 never_before_all u s r (inl a) = omega arith
 never_before_all u s r (inr (a, inl b)) = omega arith
 never_before_all u s r (inr (a, inr (b, c))) = omega arith
@@ -116,8 +116,8 @@ module _ (Violated : Place → Type 0) (path_of : Place → List ℕ) where
 
   -- a front reaches as far as no violation stands between
   pub front_on : (u s r u' s' r' : ℕ) (faults : List FaultValue) → IsFrontOf Violated path_of u s r faults
-      → ((u0 s0 r0 : ℕ) → Comes u0 s0 r0 u s r → Comes u0 s0 r0 u' s' r')
-      → ((p : Place) → Violated p → Comes p.unit p.step (number_of p.rule) u' s' r' → Comes p.unit p.step (number_of p.rule) u s r)
+      → ((u0 s0 r0 : ℕ) → Comes (spot u0 s0 r0) (spot u s r) → Comes (spot u0 s0 r0) (spot u' s' r'))
+      → ((p : Place) → Violated p → Comes (spot_of p) (spot u' s' r') → Comes (spot_of p) (spot u s r))
       → IsFrontOf Violated path_of u' s' r' faults
   front_on u s r u' s' r' faults front further back = record {
     rising = front.rising;
@@ -135,7 +135,7 @@ module _ (Violated : Place → Type 0) (path_of : Place → List ℕ) where
       record {
         rising = rising_last faults f front.rising front.before;
         violations = all_last (IsViolationOf Violated path_of) faults f front.violations (record { violated = is; path = refl });
-        before = all_last (λ fault. Comes fault.unit fault.step (number_of fault.rule) p.unit p.step (number_of p.rule + 1)) faults f
+        before = all_last (λ fault. Comes (spot fault.unit fault.step (number_of fault.rule)) (spot p.unit p.step (number_of p.rule + 1))) faults f
             (λ k d lt. comes_on (slice_index_or faults k d).unit (slice_index_or faults k d).step (number_of (slice_index_or faults k d).rule) p.unit p.step (number_of p.rule) p.unit p.step (number_of p.rule + 1)
             (front.before k d lt) (inr (refl, inr (refl, omega arith))))
             (inr (refl, inr (refl, omega arith)));
@@ -148,7 +148,7 @@ module _ (Violated : Place → Type 0) (path_of : Place → List ℕ) where
 
   -- a front that no violation stands behind is the report
   pub front_ends : (u s r : ℕ) (faults : List FaultValue) → IsFrontOf Violated path_of u s r faults
-      → ((p : Place) → Violated p → Comes p.unit p.step (number_of p.rule) u s r) → IsReportOf Violated path_of faults
+      → ((p : Place) → Violated p → Comes (spot_of p) (spot u s r)) → IsReportOf Violated path_of faults
   front_ends u s r faults front all = record {
     rising = front.rising;
     violations = front.violations;

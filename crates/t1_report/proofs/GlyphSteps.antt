@@ -11,7 +11,7 @@ use Rattle.t1_char.specs.StepValues.{step_view, step_value}
 use Rattle.t1_report.specs.Checked.{CheckedFont, step_limit}
 use Rattle.t1_rules.specs.declared.watches.Watches.{Watches}
 use Rattle.t1_report.specs.Reports.{is_broken}
-use Rattle.t1_report.specs.Workings.{HaveSeen, IsNext}
+use Rattle.t1_report.specs.Workings.{HaveSeen, IsNextStep}
 use Rattle.t1_report.proofs.Broken.{past_steps}
 
 -- The step at a place of the glyph's steps, and no place is past the limit.
@@ -78,7 +78,7 @@ none_behind font unit glyph steps at is step n past =
     past_steps font unit glyph step n at (omega (arith, count))
 
 -- The step at a place is the next one for watchers that have seen those before it.
-pub is_next : (edition : Edition) (all : List StepView) (watches : Watches) (place : ℕ) (step : Step) → IsListed (limit_of edition) all place step → HaveSeen edition watches (take place all) → IsNext edition watches (take place all) step
+pub is_next : (edition : Edition) (all : List StepView) (watches : Watches) (place : ℕ) (step : Step) → IsListed (limit_of edition) all place step → HaveSeen edition watches (take place all) → IsNextStep edition watches (take place all) step
 is_next edition all watches place step is seen =
     let before = length-before all place (step_view step) is.there in
     record {
@@ -88,6 +88,6 @@ is_next edition all watches place step is seen =
     }
 
 -- The same by another name of the edition.
-pub is_next_by : (named edition : Edition) → named ≡ edition → (all : List StepView) (watches : Watches) (place : ℕ) (step : Step) → IsListed (limit_of edition) all place step → HaveSeen edition watches (take place all) → IsNext named watches (take place all) step
+pub is_next_by : (named edition : Edition) → named ≡ edition → (all : List StepView) (watches : Watches) (place : ℕ) (step : Step) → IsListed (limit_of edition) all place step → HaveSeen edition watches (take place all) → IsNextStep named watches (take place all) step
 is_next_by named edition same all watches place step is seen =
-    subst (λ e. IsNext e watches (take place all) step) (sym same) (is_next edition all watches place step is seen)
+    subst (λ e. IsNextStep e watches (take place all) step) (sym same) (is_next edition all watches place step is seen)

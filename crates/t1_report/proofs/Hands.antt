@@ -14,8 +14,8 @@ use Rattle.t1_report.specs.declared.walk.search.Part.TheVariants.{Font, Glyph, O
 use Rattle.t1_report.specs.declared.walk.search.Search.{Search}
 use Rattle.t1_report.specs.Courses.{HasInHand, IsFloor, IsInHand, turns_so_far}
 use Rattle.t1_report.specs.Faults.{FaultValue, fault_value}
-use Rattle.t1_report.specs.Reports.{Comes, Place, path_in, IsTold, is_told}
-use Rattle.t1_report.specs.Searching.{HasNoneFrom, checked_in, IsFirstPlace, IsFrom, IsPart, IsSearch, step_of_part, turns_in}
+use Rattle.t1_report.specs.Reports.{Comes, Place, path_in, IsTold, is_told, spot, spot_of}
+use Rattle.t1_report.specs.Searches.{HasNoneFrom, checked_in, IsFirstPlace, IsFrom, IsPart, IsSearch, step_of_part, turns_in}
 use Rattle.t1_report.specs.Walks.{HasNoneLater, IsLater, IsNext, mark_of, number_behind, turns_at, turns_before, turns_asked, turns_in_all}
 use Rattle.t1_report.proofs.Fronts.{comes_on}
 use Rattle.t1_report.proofs.Units.{few_steps}
@@ -44,14 +44,14 @@ abbrev place : ℕ → ℕ → Rule → Place
 place u t r = record { unit = u; step = t; rule = r }
 
 in_hand_later : (s : Search) (found : Found) (mark : Mark) (floor : ℕ) (rule : Rule) → HasInHand s found mark → IsFloor mark found.unit found.step floor → IsLeastAbove found.rules floor rule
-    → (p : Place) → IsTold (checked_in s) s.waivers.now p → IsLater mark p → (place found.unit found.step rule ≡ p) ⊎ Comes found.unit found.step (number_of rule) p.unit p.step (number_of p.rule)
+    → (p : Place) → IsTold (checked_in s) s.waivers.now p → IsLater mark p → (place found.unit found.step rule ≡ p) ⊎ Comes (spot found.unit found.step (number_of rule)) (spot_of p)
 in_hand_later s found mark floor rule hand is_floor least p is later = by_kind (hand.complete p is later)
   where
-    ordered : IsInHand found p → (place found.unit found.step rule ≡ p) ⊎ Comes found.unit found.step (number_of rule) p.unit p.step (number_of p.rule)
+    ordered : IsInHand found p → (place found.unit found.step rule ≡ p) ⊎ Comes (spot found.unit found.step (number_of rule)) (spot_of p)
     ordered (unit, step, there) =
         let above : floor < number_of p.rule =
         is_floor.below (number_of p.rule) (in_book p.rule).0
-        (subst (λ u. Comes mark.unit mark.step mark.rule u found.step (number_of p.rule)) unit (subst (λ t. Comes mark.unit mark.step mark.rule p.unit t (number_of p.rule)) step later)) in
+        (subst (λ u. Comes (spot mark.unit mark.step mark.rule) (spot u found.step (number_of p.rule))) unit (subst (λ t. Comes (spot mark.unit mark.step mark.rule) (spot p.unit t (number_of p.rule))) step later)) in
         elim (cases_lt (number_of p.rule) (number_of rule)) [
           | inl less ↦ absurd (true≢false (sym there ∙ least.least (number_of p.rule) above less))
           | inr past ↦ elim (cases_lt (number_of rule) (number_of p.rule)) [
@@ -60,14 +60,14 @@ in_hand_later s found mark floor rule hand is_floor least p is later = by_kind (
           ]
         ]
 
-    beyond : IsFrom s.unit (step_of_part s.part) p.unit p.step → (place found.unit found.step rule ≡ p) ⊎ Comes found.unit found.step (number_of rule) p.unit p.step (number_of p.rule)
+    beyond : IsFrom s.unit (step_of_part s.part) p.unit p.step → (place found.unit found.step rule ≡ p) ⊎ Comes (spot found.unit found.step (number_of rule)) (spot_of p)
     beyond from = inr (on (hand.ahead (number_of rule) least.is_in) from)
       where
-        on : (s.unit ≡ found.unit) × (step_of_part s.part ≡ found.step + 1) → IsFrom s.unit (step_of_part s.part) p.unit p.step → Comes found.unit found.step (number_of rule) p.unit p.step (number_of p.rule)
+        on : (s.unit ≡ found.unit) × (step_of_part s.part ≡ found.step + 1) → IsFrom s.unit (step_of_part s.part) p.unit p.step → Comes (spot found.unit found.step (number_of rule)) (spot_of p)
         on (unit, step) (inl less) = inl (omega (arith, less, unit))
         on (unit, step) (inr (same, past)) = inr (sym unit ∙ same, inl (omega (arith, past, step)))
 
-    by_kind : IsInHand found p ⊎ IsFrom s.unit (step_of_part s.part) p.unit p.step → (place found.unit found.step rule ≡ p) ⊎ Comes found.unit found.step (number_of rule) p.unit p.step (number_of p.rule)
+    by_kind : IsInHand found p ⊎ IsFrom s.unit (step_of_part s.part) p.unit p.step → (place found.unit found.step rule ≡ p) ⊎ Comes (spot found.unit found.step (number_of rule)) (spot_of p)
     by_kind (inl in_hand) = ordered in_hand
     by_kind (inr from) = beyond from
 
@@ -166,7 +166,7 @@ to_be_found s found mark floor hand is_floor none p is later = by_kind (hand.com
     by_kind (inl (unit, step, there)) =
         absurd (true≢false (sym there ∙ none (number_of p.rule)
         (is_floor.below (number_of p.rule) (in_book p.rule).0
-        (subst (λ u. Comes mark.unit mark.step mark.rule u found.step (number_of p.rule)) unit (subst (λ t. Comes mark.unit mark.step mark.rule p.unit t (number_of p.rule)) step later))) (in_book p.rule).1))
+        (subst (λ u. Comes (spot mark.unit mark.step mark.rule) (spot u found.step (number_of p.rule))) unit (subst (λ t. Comes (spot mark.unit mark.step mark.rule) (spot p.unit t (number_of p.rule))) step later))) (in_book p.rule).1))
 
 pub hand_found : (s new : Search) (found place : Found) (mark : Mark) (floor : ℕ) → HasInHand s found mark → IsFloor mark found.unit found.step floor → HasNoneAbove found.rules floor
     → checked_in new ≡ checked_in s → new.waivers.now ≡ s.waivers.now → IsFirstPlace (checked_in s) s.waivers.now s.unit (step_of_part s.part) place → (new.unit ≡ place.unit) × (step_of_part new.part ≡ place.step + 1) → HasInHand new place mark

@@ -4,15 +4,15 @@ use Rattle.std.specs.List.{Any, slice_index_or}
 use Rattle.t1_rules.specs.Book.{number_of}
 use Rattle.t1_report.specs.Faults.{FaultValue}
 use Rattle.t1_report.proofs.Numbered.{numbered_head, numbered_tail}
-use Rattle.t1_report.specs.Reports.{Place, Comes, IsBefore, place_of, StandsAt, IsRising, AreNumbered, IsReportOf, path_at, IsTold}
+use Rattle.t1_report.specs.Reports.{Place, Comes, IsBefore, place_of, StandsAt, IsRising, AreNumbered, IsReportOf, path_at, IsTold, spot}
 use Rattle.t1_report.specs.Laws.Reports.{HasNoOtherReport}
 
-never_itself : (u s r : ℕ) → Comes u s r u s r → ⊥
+never_itself : (u s r : ℕ) → Comes (spot u s r) (spot u s r) → ⊥
 never_itself u s r (inl unit) = omega arith
 never_itself u s r (inr (unit, inl step)) = omega arith
 never_itself u s r (inr (unit, inr (step, rule))) = omega arith
 
-never_both : (u s r u' s' r' : ℕ) → Comes u s r u' s' r' → Comes u' s' r' u s r → ⊥
+never_both : (u s r u' s' r' : ℕ) → Comes (spot u s r) (spot u' s' r') → Comes (spot u' s' r') (spot u s r) → ⊥
 never_both u s r u' s' r' (inl a) (inl b) = omega arith
 never_both u s r u' s' r' (inl a) (inr (b, c)) = omega arith
 never_both u s r u' s' r' (inr (a, c)) (inl b) = omega arith

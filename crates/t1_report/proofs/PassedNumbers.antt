@@ -1,11 +1,14 @@
 -- Numbers that a machine goes over, while the watchers are calm.
-use Rattle.std.proofs.Common.{◌≡◌, ℕ, ℤ, zero, suc, ◌+◌, ◌-◌, ◌<◌, ◌≤◌, inl, inr, true, false, List, length, length-take, take, refl, sym, ap, subst, ◌∙◌, arith}
+use Rattle.std.proofs.Common.{◌≡◌, ℕ, ℤ, zero, suc, ◌+◌, ◌-◌, ◌<◌, ◌≤◌, ◌&&◌, inl, inr, true, false, List, [], ◌∷◌, ◌++◌, length, length-take, take, refl, sym, ap, subst, ◌∙◌, arith}
+use Rattle.std.proofs.Math.Bool.{and-false}
 use Rattle.std.proofs.lemmas.Bool.{cases_lt}
 use Rattle.std.proofs.lemmas.Option.{slice_get_within}
 use Rattle.t1_char.specs.declared.edition.Edition.{Edition}
 use Rattle.t1_char.specs.declared.token.CharToken.TheVariants.{Number}
+use Rattle.t1_char.specs.Arguments.{is_hint_replacement}
 use Rattle.t1_char.specs.Editions.{limit_of}
 use Rattle.t1_char.specs.Passing.{ArePassed, IsPassed}
+use Rattle.t1_char.specs.Since.{was}
 use Rattle.t1_char.specs.Steps.{NumberedStep, StepView, steps_of}
 use Rattle.t1_char.specs.AnswerViews.{answer_view, is_over}
 use Rattle.t1_char.specs.Asking.{IsAsked}
@@ -24,11 +27,14 @@ use Rattle.t1_rules.specs.Book.{number_of}
 use Rattle.t1_rules.specs.Components.{components_of}
 use Rattle.t1_rules.specs.StepRules.{StepRule, breaks, breaks_next, component_rules}
 use Rattle.t1_rules.specs.Watches.{IsCalm, WatchesStandFor}
+use Rattle.t1_rules.specs.StepRules.Stems.{popping}
+use Rattle.t1_rules.proofs.Lemmas.Before.{was_last}
 use Rattle.t1_rules.proofs.Lemmas.PassedNumbers.{kept}
 use Rattle.t1_rules.proofs.Lemmas.Watches.{no_fault_at_number, stays_at_number}
 use Rattle.t1_report.specs.Checked.{CheckedFont, executed, step_limit}
+use Rattle.t1_report.specs.Laws.PassedNumbers.{CalmIsBehindNoReplacement, CalmWatchersStandBehindNumbers, IsBehindNoReplacement, PassedNumbersBreakNoRule}
 use Rattle.t1_report.specs.Reports.{is_broken, rules_of}
-use Rattle.t1_report.specs.Searches.{IsQuiet, IsRun}
+use Rattle.t1_report.specs.Units.{IsQuiet, IsRun}
 use Rattle.t1_report.specs.Walks.{turns_of_glyph}
 use Rattle.t1_report.proofs.Broken.{at_step, both_kinds, rules_by, within_limit}
 use Rattle.t1_report.proofs.GlyphSteps.{take_next}
@@ -62,10 +68,9 @@ no_component_fault : (components : List Component) (n : ℕ) (before : List Step
 unfolding component_rules
 no_component_fault components n before t z is = rw is refl
 
-none_at : (w : Watches) (font : CheckedFont) (unit glyph k n : ℕ) → unit ≡ glyph + 1 → glyph < length font.value.glyphs → IsCalm w → IsPassed (step_limit font) (steps_of font.value glyph) k
-    → WatchesStandFor font.edition w (take k (steps_of font.value glyph)) → is_broken font unit (k + 1) n ≡ false
-unfolding WatchesStandFor
-none_at w font unit glyph k n at there calm passed st =
+none_at : (font : CheckedFont) (unit glyph k n : ℕ) → unit ≡ glyph + 1 → glyph < length font.value.glyphs → IsPassed (step_limit font) (steps_of font.value glyph) k
+    → IsBehindNoReplacement (take k (steps_of font.value glyph)) → is_broken font unit (k + 1) n ≡ false
+none_at font unit glyph k n at there passed none =
     let all : List StepView = steps_of font.value glyph in
     let is = kept (step_limit font) all k passed in
     let components = components_of (step_limit font) font.value in
@@ -74,8 +79,45 @@ none_at w font unit glyph k n at there calm passed st =
     ∙ ap (breaks_next (rules_of font) n (take k all)) passed.there
     ∙ ap (λ (rules : List StepRule). breaks rules n (take k all) passed.step) (sym (rules_by font components refl))
     ∙ sym (both_kinds font.edition components n (take k all) passed.step false false false refl
-    (sym (no_fault_at_number font.edition n (take k all) passed.step is.number is.token is.room (sym st.1.0.replaced ∙ calm.replaced) (sym st.1.0.popped ∙ calm.hints_popped)))
+    (sym (no_fault_at_number font.edition n (take k all) passed.step is.number is.token is.room none.0 none.1))
     (sym (no_component_fault components n (take k all) passed.step is.number is.token)))
+
+-- Behind a number stands none that speaks of it.
+behind_number : (before : List StepView) (t : StepView) (z : ℤ) → t.token ≡ Number z → IsBehindNoReplacement (before ++ t ∷ [])
+behind_number before t z is = (
+  was_last is_hint_replacement before t ∙ rw is refl,
+  ap (λ b. was 1 is_hint_replacement (before ++ t ∷ []) && b) (was_last popping before t ∙ rw is refl) ∙ and-false (was 1 is_hint_replacement (before ++ t ∷ [])),
+)
+
+behind_none : (limit : ℕ) (all : List StepView) (n m k : ℕ) → ArePassed limit all n m → n ≤ k → k < m → IsBehindNoReplacement (take n all) → IsBehindNoReplacement (take k all)
+behind_none limit all n m k passed from to none =
+    elim (cases_lt n k) [
+      | inl less ↦
+          let last = passed (k - 1) (omega (arith, less)) (omega (arith, less, to)) in
+          let is = kept limit all (k - 1) last in
+          let place : k - 1 + 1 ≡ k = omega (arith, less) in
+          subst (λ i. IsBehindNoReplacement (take i all)) place
+          (subst IsBehindNoReplacement (sym (take_next all (k - 1) last.step last.there)) (behind_number (take (k - 1) all) last.step is.number is.token))
+      | inr least ↦
+          let same : n ≡ k = omega (arith, least, from) in
+          subst (λ i. IsBehindNoReplacement (take i all)) same none
+    ]
+
+-- Three laws.
+pub calm_is_behind_none : CalmIsBehindNoReplacement
+unfolding WatchesStandFor
+calm_is_behind_none edition w before st calm = (sym st.1.0.replaced ∙ calm.replaced, sym st.1.0.popped ∙ calm.hints_popped)
+
+pub passed_break_none : PassedNumbersBreakNoRule
+passed_break_none font glyph from to place n there none passed least less =
+    let unit_is : suc glyph ≡ glyph + 1 = omega arith in
+    let step_is : place + 1 ≡ suc place = omega arith in
+    subst (λ step. is_broken font (suc glyph) step n ≡ false) step_is
+    (none_at font (suc glyph) glyph place n unit_is there (passed place least less)
+    (behind_none (step_limit font) (steps_of font.value glyph) from to place passed least less none))
+
+pub calm_stand_behind : CalmWatchersStandBehindNumbers
+calm_stand_behind font glyph from to w more passed calm st = stands_at font.edition w (step_limit font) (steps_of font.value glyph) from to to calm passed more (omega arith) st
 
 -- How many were told with them.
 within : (limit : ℕ) (all : List StepView) (n m : ℕ) → n ≤ m → ArePassed limit all n m → n ≤ length (take limit all) + 1 → m ≤ length (take limit all) + 1
@@ -115,9 +157,9 @@ passed_quiet m w counted calm passed run = λ s rule from to.
     let first = passed m.counted (omega arith) (omega (arith, from, to)) in
     let place : k + 1 ≡ s = omega (arith, from) in
     subst (λ i. is_broken (executed m) (m.glyph + 1) i (number_of rule) ≡ false) place
-    (none_at w (executed m) (m.glyph + 1) m.glyph k (number_of rule) refl run.there calm this
-    (stands_at m.edition w limit all m.counted counted k calm passed (omega (arith, from)) (omega (arith, to))
-    (run.seen (omega (arith, first.near, length-take m.counted all)))))
+    (none_at (executed m) (m.glyph + 1) m.glyph k (number_of rule) refl run.there this
+    (behind_none limit all m.counted counted k passed (omega (arith, from)) (omega (arith, from, to))
+    (calm_is_behind_none m.edition w (take m.counted all) (run.seen (omega (arith, first.near, length-take m.counted all))) calm)))
 
 -- One quiet stretch behind another, of a machine that executes this glyph of this font.
 pub quiet_on : (m : MachineView) (font : CheckedFont) (glyph unit from to : ℕ) → executed m ≡ font → m.glyph ≡ glyph → unit ≡ glyph + 1

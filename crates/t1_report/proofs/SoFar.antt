@@ -10,7 +10,7 @@ use Rattle.t1_rules.specs.Book.{number_of}
 use Rattle.t1_rules.proofs.Lemmas.Book.{in_book}
 use Rattle.t1_report.specs.declared.marks.Mark.{Mark}
 use Rattle.t1_report.specs.Faults.{FaultValue}
-use Rattle.t1_report.specs.Reports.{AreNumbered, Comes, IsBefore, IsReport, IsReportOf, IsRising, IsViolationOf, Place, StandsAt, path_at, place_of, IsTold}
+use Rattle.t1_report.specs.Reports.{AreNumbered, Comes, IsBefore, IsReport, IsReportOf, IsRising, IsViolationOf, Place, StandsAt, path_at, place_of, IsTold, spot}
 use Rattle.t1_report.specs.Walks.{HasNoneLater, HasNoneLaterOf, IsLater, IsNext, IsNextOf, IsSoFar, first_mark, mark_of, number_behind}
 use Rattle.t1_report.proofs.FewFaults.{few_faults}
 use Rattle.t1_report.proofs.Numbered.{number_there}
@@ -19,7 +19,7 @@ use Rattle.t1_report.specs.Waivers.{Waiver}
 
 -- ---- the first mark
 
-later_than_none : (unit step rule : ℕ) → 0 < rule → Comes 0 0 0 unit step rule
+later_than_none : (unit step rule : ℕ) → 0 < rule → Comes (spot 0 0 0) (spot unit step rule)
 later_than_none unit step rule some =
     elim (cases_lt 0 unit) [
       | inl more ↦ inl more

@@ -11,8 +11,8 @@ use Rattle.t1_report.specs.declared.walk.search.Part.TheVariants.{Font, Glyph, W
 use Rattle.t1_report.specs.declared.walk.search.Search.{Search}
 use Rattle.t1_report.specs.Lines.{glyph_name}
 use Rattle.t1_report.specs.Reports.{is_broken, is_told, path_in, tells_unused}
-use Rattle.t1_report.specs.Searches.{IsFirst, IsQuietFrom, font_step}
-use Rattle.t1_report.specs.Searching.{IsFirstTold, IsPart, IsSearch, IsWaiverPart, TellsNoneFrom, checked_in, step_of_part}
+use Rattle.t1_report.specs.Units.{IsFirst, IsQuietFrom, font_step}
+use Rattle.t1_report.specs.Searches.{IsFirstTold, IsPart, IsSearch, IsWaiverPart, TellsNoneFrom, checked_in, step_of_part}
 use Rattle.t1_report.specs.Waivers.{Waiver, is_waived}
 use Rattle.t1_report.specs.Walks.{first_asked, turns_asked, turns_if_any}
 use Rattle.t1_report.proofs.Asked.{asked_more}

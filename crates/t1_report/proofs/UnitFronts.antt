@@ -6,26 +6,26 @@ use Rattle.t1_rules.specs.Mask.{HasNoneAbove, IsLeastAbove, has}
 use Rattle.t1_rules.specs.declared.mask.Mask.{Mask}
 use Rattle.t1_rules.specs.Book.{number_of}
 use Rattle.t1_report.specs.Faults.{FaultValue}
-use Rattle.t1_report.specs.Reports.{Comes, IsFrontOf, IsReportOf, Place}
+use Rattle.t1_report.specs.Reports.{Comes, IsFrontOf, IsReportOf, Place, spot}
 use Rattle.t1_report.proofs.Fronts.{comes_on, fault_at, front_ends, front_on, front_with}
 use Rattle.t1_rules.proofs.Lemmas.Book.{in_book}
 
 -- ---- the order of places
 
 -- before a greater number of a rule
-comes_up : (u s r unit step a b : ℕ) → a ≤ b → Comes u s r unit step a → Comes u s r unit step b
+comes_up : (u s r unit step a b : ℕ) → a ≤ b → Comes (spot u s r) (spot unit step a) → Comes (spot u s r) (spot unit step b)
 comes_up u s r unit step a b more (inl c) = inl c
 comes_up u s r unit step a b more (inr (c, inl d)) = inr (c, inl d)
 comes_up u s r unit step a b more (inr (c, inr (d, e))) = inr (c, inr (d, omega arith))
 
 -- before a greater step
-comes_far : (u s r unit step step' : ℕ) → step ≤ step' → Comes u s r unit step 0 → Comes u s r unit step' 0
+comes_far : (u s r unit step step' : ℕ) → step ≤ step' → Comes (spot u s r) (spot unit step 0) → Comes (spot u s r) (spot unit step' 0)
 comes_far u s r unit step step' more (inl c) = inl c
 comes_far u s r unit step step' more (inr (c, inl d)) = inr (c, inl (omega arith))
 comes_far u s r unit step step' more (inr (c, inr (d, e))) = absurd (omega arith)
 
 -- before a number of a rule that is less, unless it stands between both
-comes_back : (u s r unit step a b : ℕ) → (u ≡ unit → s ≡ step → a ≤ r → r < b → ⊥) → Comes u s r unit step b → Comes u s r unit step a
+comes_back : (u s r unit step a b : ℕ) → (u ≡ unit → s ≡ step → a ≤ r → r < b → ⊥) → Comes (spot u s r) (spot unit step b) → Comes (spot u s r) (spot unit step a)
 comes_back u s r unit step a b none (inl c) = inl c
 comes_back u s r unit step a b none (inr (c, inl d)) = inr (c, inl d)
 comes_back u s r unit step a b none (inr (c, inr (d, e))) =
@@ -35,7 +35,7 @@ comes_back u s r unit step a b none (inr (c, inr (d, e))) =
     ]
 
 -- before a step that is less, unless it stands between both
-comes_near : (u s r unit step step' : ℕ) → (u ≡ unit → step ≤ s → s < step' → ⊥) → Comes u s r unit step' 0 → Comes u s r unit step 0
+comes_near : (u s r unit step step' : ℕ) → (u ≡ unit → step ≤ s → s < step' → ⊥) → Comes (spot u s r) (spot unit step' 0) → Comes (spot u s r) (spot unit step 0)
 comes_near u s r unit step step' none (inl c) = inl c
 comes_near u s r unit step step' none (inr (c, inl d)) =
     elim (cases_lt s step) [
@@ -45,7 +45,7 @@ comes_near u s r unit step step' none (inr (c, inl d)) =
 comes_near u s r unit step step' none (inr (c, inr (d, e))) = absurd (omega arith)
 
 -- before the next step there are no more rules than the book has
-comes_last : (u s r unit step : ℕ) → r < 71 → Comes u s r unit (step + 1) 0 → Comes u s r unit step 71
+comes_last : (u s r unit step : ℕ) → r < 71 → Comes (spot u s r) (spot unit (step + 1) 0) → Comes (spot u s r) (spot unit step 71)
 comes_last u s r unit step few (inl c) = inl c
 comes_last u s r unit step few (inr (c, inl d)) =
     elim (cases_lt s step) [
@@ -55,7 +55,7 @@ comes_last u s r unit step few (inr (c, inl d)) =
 comes_last u s r unit step few (inr (c, inr (d, e))) = absurd (omega arith)
 
 -- before the next unit, unless it stands behind the step
-comes_within : (u s r unit step : ℕ) → (u ≡ unit → step ≤ s → ⊥) → Comes u s r (unit + 1) 0 0 → Comes u s r unit step 0
+comes_within : (u s r unit step : ℕ) → (u ≡ unit → step ≤ s → ⊥) → Comes (spot u s r) (spot (unit + 1) 0 0) → Comes (spot u s r) (spot unit step 0)
 comes_within u s r unit step none (inl c) =
     elim (cases_lt u unit) [
       | inl less ↦ inl less

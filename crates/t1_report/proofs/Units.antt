@@ -6,18 +6,18 @@ use Rattle.t1_report.specs.Checked.{CheckedFont, executed, step_limit}
 use Rattle.t1_rules.specs.Book.{number_of}
 use Rattle.t1_report.specs.declared.walk.found.Found.{Found}
 use Rattle.t1_report.specs.Reports.{Place, path_in, IsTold, is_told}
-use Rattle.t1_report.specs.Searches.{IsFontPlaces, IsRun}
+use Rattle.t1_report.specs.Units.{IsFontPlaces, IsRun}
 use Rattle.t1_rules.specs.Components.{AreOf}
 use Rattle.t1_report.specs.declared.walk.font_places.FontPlaces.{FontPlaces}
 use Rattle.t1_report.specs.declared.walk.search.Part.{Part}
 use Rattle.t1_report.specs.declared.walk.search.Part.TheVariants.{Font, Glyph, Over, Waivers}
 use Rattle.t1_report.specs.declared.walk.search.Search.{Search}
-use Rattle.t1_report.specs.Searching.{HasNoneFrom, checked_in, IsFirstPlace, IsFrom, IsOfFont, IsPart, IsSearch, is_over, step_of_part, turns_in, AreBegun, IsDone, IsFirstTold, IsPartBegun, TellsNoneFrom}
+use Rattle.t1_report.specs.Searches.{HasNoneFrom, checked_in, IsFirstPlace, IsFrom, IsOfFont, IsPart, IsSearch, is_over, step_of_part, turns_in, AreBegun, IsDone, IsFirstTold, IsPartBegun, TellsNoneFrom}
 use Rattle.t1_report.specs.Walks.{turns_of_glyph, turns_of_unit, turns_of, turns_before, first_asked, turns_asked}
 use Rattle.t1_report.specs.Waivers.{Waiver}
 use Rattle.t1_char.specs.Turns.{MachineView}
 use Rattle.t1_rules.specs.declared.watches.Watches.{Watches}
-use Rattle.t1_report.proofs.Asked.{asked_few, asked_most, asked_none, few_turns, first_at, first_before, first_behind, mul_mono}
+use Rattle.t1_report.proofs.Asked.{asked_few, asked_most, asked_none, few_turns, first_at, first_before, first_behind, mul_mono, places_first, places_more}
 use Rattle.t1_report.proofs.Told.{told_no_step, told_within}
 
 -- ---- turns
@@ -32,14 +32,19 @@ few_in_unit : (font : CheckedFont) (unit : ℕ) → turns_of_unit font unit ≤ 
 few_in_unit font zero = omega arith
 few_in_unit font (suc glyph) = few_turns font glyph
 
+-- The first unit's, and then those of the units behind it.
+turns_first : (font : CheckedFont) (from n : ℕ) → turns_of font from (suc n) ≡ turns_of_unit font from + turns_of font (suc from) n
+unfolding turns_of
+turns_first font from n = places_first (turns_of_unit font) from n
+
 few_over : (most : ℕ) (font : CheckedFont) (from n : ℕ) → ((unit : ℕ) → turns_of_unit font unit ≤ most) → turns_of font from n ≤ most * n
 unfolding turns_of
 few_over most font from zero few = omega arith
 few_over most font from (suc n) few =
-    let so_far = few_over most font from n few in
-    let next = few (from + n) in
+    let first = few from in
+    let rest = few_over most font (suc from) n few in
     let product : most * suc n ≡ most * n + most = omega arith in
-    omega (arith, so_far, next, product)
+    omega (arith, turns_first font from n, first, rest, product)
 
 -- At most 1,000,001 a unit.
 pub few_before : (font : CheckedFont) (from unit : ℕ) → turns_before font from unit ≤ 1000001 * (unit - from)
@@ -49,12 +54,7 @@ few_before font from unit =
 -- None for the font, and at most one more than the limit a glyph.
 few_from_font : (most : ℕ) (font : CheckedFont) (n : ℕ) → ((unit : ℕ) → turns_of_unit font unit ≤ most) → turns_of font 0 (suc n) ≤ most * n
 unfolding turns_of
-few_from_font most font zero few = omega arith
-few_from_font most font (suc n) few =
-    let so_far = few_from_font most font n few in
-    let next = few (0 + suc n) in
-    let product : most * suc n ≡ most * n + most = omega arith in
-    omega (arith, so_far, next, product)
+few_from_font most font n few = omega (arith, turns_first font 0 n, few_over most font 1 n few)
 
 few_to_glyph : (most : ℕ) (font : CheckedFont) (from n : ℕ) → ((unit : ℕ) → turns_of_unit font unit ≤ most) → turns_before font from (suc n) ≤ most * n
 few_to_glyph most font zero n few =
@@ -68,12 +68,17 @@ few_to_glyph most font (suc from) n few = at_most_all (few_over most font (suc f
         omega (arith, less, fewer)
 
 -- Those of one unit more.
+turns_more : (font : CheckedFont) (from n : ℕ) → turns_of font from (suc n) ≡ turns_of font from n + turns_of_unit font (from + n)
+unfolding turns_of
+turns_more font from n = places_more (turns_of_unit font) from n
+
 pub turns_next : (font : CheckedFont) (from unit : ℕ) → from ≤ unit → turns_before font from (unit + 1) ≡ turns_before font from unit + turns_of_unit font unit
 unfolding turns_of
 turns_next font from unit past =
     let more : unit + 1 - from ≡ suc (unit - from) = omega (arith, past) in
     let here : from + (unit - from) ≡ unit = omega (arith, past) in
-    ap (turns_of font from) more ∙ ap (λ u. turns_of font from (unit - from) + turns_of_unit font u) here
+    ap (turns_of font from) more ∙ turns_more font from (unit - from)
+    ∙ ap (λ u. turns_of font from (unit - from) + turns_of_unit font u) here
 
 -- None before the unit that one begins with.
 pub turns_none : (font : CheckedFont) (from unit : ℕ) → unit ≤ from → turns_before font from unit ≡ 0

@@ -9,8 +9,8 @@ use Rattle.t1_report.specs.declared.walk.found.Found.{Found}
 use Rattle.t1_report.specs.declared.walk.search.Search.{Search}
 use Rattle.t1_report.specs.Faults.{fault_value}
 use Rattle.t1_report.specs.Checked.{CheckedFont}
-use Rattle.t1_report.specs.Reports.{Comes, Place, path_in, IsTold, is_told}
-use Rattle.t1_report.specs.Searching.{IsFrom, IsSearch, checked_in, step_of_part, turns_in}
+use Rattle.t1_report.specs.Reports.{Comes, Place, path_in, IsTold, is_told, spot}
+use Rattle.t1_report.specs.Searches.{IsFrom, IsSearch, checked_in, step_of_part, turns_in}
 use Rattle.t1_report.specs.Walks.{IsLater, mark_of, turns_at, turns_in_all}
 use Rattle.t1_report.specs.Waivers.{Waiver}
 
@@ -21,8 +21,8 @@ IsInHand found p = (p.unit ≡ found.unit) × (p.step ≡ found.step) × (has fo
 -- The floor of a place: of the rules that are broken there those of a greater number come after the mark, and no others. (It is the
 -- mark's rule at the mark's own place, 0 behind it, and past all rules in front of it.)
 pub record IsFloor (mark : Mark) (unit step floor : ℕ) : Type 0 where
-  pub above : (r : ℕ) → floor < r → r ≤ 70 → Comes mark.unit mark.step mark.rule unit step r
-  pub below : (r : ℕ) → 0 < r → Comes mark.unit mark.step mark.rule unit step r → floor < r
+  pub above : (r : ℕ) → floor < r → r ≤ 70 → Comes (spot mark.unit mark.step mark.rule) (spot unit step r)
+  pub below : (r : ℕ) → 0 < r → Comes (spot mark.unit mark.step mark.rule) (spot unit step r) → floor < r
 
 -- The rules in hand are broken at the place before the next one that is searched; every violation after the
 -- mark is in hand or still to be found.

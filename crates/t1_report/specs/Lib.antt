@@ -5,8 +5,8 @@ pub mod Laws
 pub mod Lines
 pub mod Reports
 pub mod Searches
-pub mod Searching
 pub mod Traces
+pub mod Units
 pub mod WaiverViews
 pub mod Waivers
 pub mod WalkViews

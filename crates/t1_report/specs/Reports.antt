@@ -20,14 +20,26 @@ pub record Place : Type 0 where
   pub step : ℕ
   pub rule : Rule
 
+-- A place by numbers alone: the rule's is 0 before all rules.
+pub record Spot : Type 0 where
+  pub unit : ℕ
+  pub step : ℕ
+  pub rule : ℕ
+
+abbrev pub spot : ℕ → ℕ → ℕ → Spot
+spot unit step rule = record { unit = unit; step = step; rule = rule }
+
+abbrev pub spot_of : Place → Spot
+spot_of p = spot p.unit p.step (number_of p.rule)
+
 -- The order of places: by unit, then step, then the rule's number.
-abbrev pub Comes : ℕ → ℕ → ℕ → ℕ → ℕ → ℕ → Type 0
-Comes unit step rule unit' step' rule' =
-    (unit < unit') ⊎ ((unit ≡ unit') × ((step < step') ⊎ ((step ≡ step') × (rule < rule'))))
+abbrev pub Comes : Spot → Spot → Type 0
+Comes p q =
+    (p.unit < q.unit) ⊎ ((p.unit ≡ q.unit) × ((p.step < q.step) ⊎ ((p.step ≡ q.step) × (p.rule < q.rule))))
 
 -- The first place comes before the second.
 abbrev pub IsBefore : Place → Place → Type 0
-IsBefore p q = Comes p.unit p.step (number_of p.rule) q.unit q.step (number_of q.rule)
+IsBefore p q = Comes (spot_of p) (spot_of q)
 
 -- What the step at a place of a glyph breaks, where places count from 0: up to the limit what the rules say of it;
 -- at the limit, which is the first step past it, the rule on the limit alone.
@@ -137,8 +149,8 @@ pub record IsFrontOf (Violated : Place → Type 0) (path_of : Place
     → List ℕ) (unit step rule : ℕ) (faults : List FaultValue) : Type 0 where
   pub rising : IsRising faults
   pub violations : All (IsViolationOf Violated path_of) faults
-  pub before : All (λ fault. Comes fault.unit fault.step (number_of fault.rule) unit step rule) faults
-  pub complete : (p : Place) → Violated p → Comes p.unit p.step (number_of p.rule) unit step rule
+  pub before : All (λ fault. Comes (spot fault.unit fault.step (number_of fault.rule)) (spot unit step rule)) faults
+  pub complete : (p : Place) → Violated p → Comes (spot_of p) (spot unit step rule)
       → Any (StandsAt p) faults
   pub numbered : AreNumbered 1 faults
 

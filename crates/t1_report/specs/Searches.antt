@@ -1,48 +1,149 @@
--- What the parts of a walk stand for: words that private contracts alone cite.
-use Rattle.std.specs.Prelude.{◌≡◌, ℕ, ◌+◌, ◌*◌, ◌<◌, ◌≤◌, false, length, take}
-use Rattle.t1_char.specs.Steps.{steps_of}
+-- What a search stands for.
+use Rattle.std.specs.Prelude.{◌≡◌, ⊤, ℕ, ◌+◌, ◌<◌, ◌≤◌, ◌⊎◌, Bool, true, false, length, ◌-◌, List}
 use Rattle.t1_font.specs.Fonts.{FontValue}
-use Rattle.t1_rules.specs.declared.rule.Rule.{Rule}
-use Rattle.t1_rules.specs.Book.{number_of}
-use Rattle.t1_rules.specs.Keys.{places_of}
+use Rattle.t1_rules.specs.Components.{AreOf}
 use Rattle.t1_rules.specs.Mask.{has}
-use Rattle.t1_rules.specs.declared.watches.Watches.{Watches}
-use Rattle.t1_char.specs.Turns.{MachineView}
 use Rattle.t1_report.specs.declared.walk.found.Found.{Found}
 use Rattle.t1_report.specs.declared.walk.font_places.FontPlaces.{FontPlaces}
-use Rattle.t1_report.specs.Checked.{CheckedFont, executed}
-use Rattle.t1_report.specs.Reports.{is_broken, path_in}
-use Rattle.t1_report.specs.Walks.{turns_of_glyph}
-use Rattle.t1_report.specs.Workings.{HaveSeen}
+use Rattle.t1_report.specs.declared.walk.glyph_run.GlyphRun.{GlyphRun}
+use Rattle.t1_report.specs.declared.walk.search.Part.{Part}
+use Rattle.t1_report.specs.declared.walk.search.Part.TheVariants.{Font, Glyph, Over, Waivers}
+use Rattle.t1_report.specs.declared.walk.search.Search.{Search}
+use Rattle.t1_report.specs.Checked.{CheckedFont, checked, executed}
+use Rattle.t1_report.specs.Reports.{Place, path_in, IsTold, is_told}
+use Rattle.t1_report.specs.Units.{IsFontPlaces, IsRun, font_step}
+use Rattle.t1_report.specs.Walks.{turns_before, first_asked, turns_asked, turns_of_unit}
+use Rattle.t1_rules.specs.declared.rule.Rule.{Rule}
+use Rattle.t1_rules.specs.Book.{number_of}
+use Rattle.t1_report.specs.Waivers.{Waiver}
 
--- No rule is broken at a unit's steps from one on up to another; nor from one on.
-abbrev pub IsQuiet : CheckedFont → ℕ → ℕ → ℕ → Type 0
-IsQuiet font unit from to =
-    (s : ℕ) (r : Rule) → from ≤ s → s < to → is_broken font unit s (number_of r) ≡ false
+-- The place doesn't come before a unit and a step.
+abbrev pub IsFrom : ℕ → ℕ → ℕ → ℕ → Type 0
+IsFrom unit step unit' step' = (unit < unit') ⊎ ((unit ≡ unit') × (step ≤ step'))
 
-abbrev pub IsQuietFrom : CheckedFont → ℕ → ℕ → Type 0
-IsQuietFrom font unit from =
-    (s : ℕ) (r : Rule) → from ≤ s → is_broken font unit s (number_of r) ≡ false
+-- Nothing is told from a unit and a step on.
+abbrev pub HasNoneFrom : CheckedFont → List Waiver → ℕ → ℕ → Type 0
+HasNoneFrom font waivers unit step = (p : Place) → IsTold font waivers p → IsFrom unit step p.unit p.step → ⊥
 
--- What was found is where a rule is first broken in a unit from a step on, with the rules and the path of it.
-pub record IsFirst (font : CheckedFont) (unit from : ℕ) (found : Found) : Type 0 where
+-- Nothing is told of a unit from a step on; nor from one up to another.
+abbrev pub TellsNoneFrom : CheckedFont → List Waiver → ℕ → ℕ → Type 0
+TellsNoneFrom font waivers unit from =
+    (s : ℕ) (r : Rule) → from ≤ s → is_told font waivers unit s (number_of r) ≡ false
+
+-- What was found is where something is first told of a unit from a step on, if there is anything.
+pub record IsFirstTold (font : CheckedFont) (waivers : List Waiver) (unit from : ℕ) (found : Found) : Type 0 where
   pub unit_is : found.unit ≡ unit
   pub behind : from ≤ found.step
-  pub quiet : IsQuiet font unit from found.step
-  pub rules : (n : ℕ) → has found.rules n ≡ is_broken font unit found.step n
+  pub quiet : (s : ℕ) (r : Rule) → from ≤ s → s < found.step → is_told font waivers unit s (number_of r) ≡ false
+  pub rules : (n : ℕ) → has found.rules n ≡ is_told font waivers unit found.step n
   pub path : found.path.items ≡ path_in font.value unit found.step
 
--- The next place of the font to be asked.
-abbrev pub font_step : FontPlaces → ℕ
-font_step p = 65536 * p.key + p.index
+-- What was found is the first place from a unit and a step on where a rule is broken.
+pub record IsFirstPlace (font : CheckedFont) (waivers : List Waiver) (unit step : ℕ) (found : Found) : Type 0 where
+  pub behind : IsFrom unit step found.unit found.step
+  pub within : found.unit ≤ length font.value.glyphs + 1
+  pub first : (p : Place) → IsTold font waivers p → IsFrom unit step p.unit p.step → IsFrom found.unit found.step p.unit p.step
+  pub rules : (n : ℕ) → has found.rules n ≡ is_told font waivers found.unit found.step n
+  pub path : found.path.items ≡ path_in font.value found.unit found.step
 
-pub record IsFontPlaces (font : FontValue) (p : FontPlaces) : Type 0 where
-  pub key : p.key ≤ 22
-  pub index : p.index ≤ 65536
-  pub places : p.places ≡ places_of font p.key
+-- The next step of a part, and how often its machine was asked.
+abbrev pub step_of_part : Part → ℕ
+step_of_part (Font places) = font_step places
+step_of_part (Glyph run) = run.machine.counted + 1
+step_of_part (Waivers next) = next
+step_of_part Over = 0
 
--- The machine told no more of its glyph than there is, and the watchers have seen what it told up to the limit.
-pub record IsRun (machine : MachineView) (watches : Watches) : Type 0 where
-  pub there : machine.glyph < length machine.font.glyphs
-  pub counted : machine.counted ≤ turns_of_glyph (executed machine) machine.glyph
-  pub seen : HaveSeen machine.edition watches (take machine.counted (steps_of machine.font machine.glyph))
+abbrev pub turns_in : Part → ℕ
+turns_in (Font places) = 0
+turns_in (Glyph run) = run.machine.counted
+turns_in (Waivers next) = 0
+turns_in Over = 0
+
+abbrev pub is_over : Part → Bool
+is_over (Font places) = false
+is_over (Glyph run) = false
+is_over (Waivers next) = false
+is_over Over = true
+
+-- A glyph is before its first step; past the last glyph all is over.
+pub record IsBegun (font : CheckedFont) (glyph : ℕ) (run : GlyphRun) : Type 0 where
+  pub glyph_is : run.machine.glyph ≡ glyph
+  pub font_is : executed run.machine ≡ font
+  pub runs : IsRun run.machine run.watches
+  pub counted : run.machine.counted ≡ 0
+
+-- The waivers are before a step, or before the first or behind the last.
+pub record AreBegun (font : CheckedFont) (waivers : List Waiver) (glyph step next : ℕ) : Type 0 where
+  pub behind : glyph ≡ length font.value.glyphs
+  pub first : 1 ≤ next
+  pub near : (next ≤ 1) ⊎ (next ≤ step)
+  pub past : (step ≤ next) ⊎ (length waivers < next)
+  pub within : next ≤ length waivers + 1
+
+abbrev pub IsPartBegun : CheckedFont → List Waiver → ℕ → ℕ → Part → Type 0
+IsPartBegun font waivers glyph step (Font places) = ⊥
+IsPartBegun font waivers glyph step (Glyph run) = IsBegun font glyph run
+IsPartBegun font waivers glyph step (Waivers next) = AreBegun font waivers glyph step next
+IsPartBegun font waivers glyph step Over = length font.value.glyphs < glyph
+
+-- A glyph is done when its machine has told all of it; the waivers are, when the last was asked.
+abbrev pub IsDone : CheckedFont → List Waiver → ℕ → Part → Type 0
+IsDone font waivers unit (Font places) = Unit {0}
+IsDone font waivers unit (Glyph run) = run.machine.counted ≡ turns_of_unit font unit
+IsDone font waivers unit (Waivers next) = length waivers < next
+IsDone font waivers unit Over = Unit {0}
+
+-- A glyph that is under way is of this font.
+abbrev pub IsOfFont : FontValue → Part → Type 0
+IsOfFont font (Font places) = ⊤
+IsOfFont font (Glyph run) = run.machine.font ≡ font
+IsOfFont font (Waivers next) = ⊤
+IsOfFont font Over = ⊤
+
+-- The part is that of the unit, and the turns are those of the units before.
+pub record IsFontPart (font : CheckedFont) (from unit passed : ℕ) (places : FontPlaces) : Type 0 where
+  pub begins : from ≡ 0
+  pub unit_is : unit ≡ 0
+  pub none_passed : passed ≡ 0
+  pub places_are : IsFontPlaces font.value places
+
+pub record IsGlyphPart (font : CheckedFont) (from unit passed : ℕ) (run : GlyphRun) : Type 0 where
+  pub begins : from ≤ unit
+  pub unit_is : unit ≡ run.machine.glyph + 1
+  pub font_is : executed run.machine ≡ font
+  pub runs : IsRun run.machine run.watches
+  pub passed_are : passed ≡ turns_before font from unit
+  pub few : length font.value.glyphs ≤ 65535
+
+-- The waivers: those before the next one were asked, from the first that the search asks on.
+pub record IsWaiverPart (font : CheckedFont) (waivers : List Waiver) (from first_step unit passed checked next : ℕ) : Type 0 where
+  pub begins : from ≤ unit
+  pub unit_is : unit ≡ length font.value.glyphs + 1
+  pub first : 1 ≤ next
+  pub within : next ≤ length waivers + 1
+  pub passed_are : passed ≡ turns_before font from unit
+  pub begun : (first_asked font waivers from first_step < next) ⊎ (length waivers < next)
+  pub checked_are : checked ≡ turns_asked font waivers from first_step (next - 1)
+  pub few : length font.value.glyphs ≤ 65535
+  pub few_waivers : length waivers ≤ 1048576
+
+pub record IsOver (font : CheckedFont) (from unit passed : ℕ) : Type 0 where
+  pub past : length font.value.glyphs + 1 < unit
+  pub passed_are : passed ≡ turns_before font from (length font.value.glyphs + 1)
+  pub few : length font.value.glyphs ≤ 65535
+
+abbrev pub IsPart : CheckedFont → List Waiver → ℕ → ℕ → ℕ → ℕ → ℕ → Part → Type 0
+IsPart font waivers from first unit passed checked (Font places) = IsFontPart font from unit passed places × (checked ≡ 0)
+IsPart font waivers from first unit passed checked (Glyph run) = IsGlyphPart font from unit passed run × (checked ≡ 0)
+IsPart font waivers from first unit passed checked (Waivers next) = IsWaiverPart font waivers from first unit passed checked next
+IsPart font waivers from first unit passed checked Over =
+    IsOver font from unit passed
+    × ((checked ≡ turns_asked font waivers from first (length waivers)) × (length waivers ≤ 1048576))
+
+-- The font, and the edition of its sidebearings.
+abbrev pub checked_in : Search → CheckedFont
+checked_in s = checked s.font.now s.sidebearings.now.edition
+
+pub record IsSearch (s : Search) : Type 0 where
+  pub part_is : IsPart (checked_in s) s.waivers.now s.from s.first s.unit s.passed s.checked s.part
+  pub components_are : AreOf s.font.now s.sidebearings.now

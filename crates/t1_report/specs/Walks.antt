@@ -5,14 +5,14 @@ use Rattle.t1_rules.specs.Book.{number_of}
 use Rattle.t1_report.specs.declared.marks.Mark.{Mark}
 use Rattle.t1_report.specs.Checked.{CheckedFont, step_limit}
 use Rattle.t1_report.specs.Faults.{FaultValue}
-use Rattle.t1_report.specs.Reports.{Comes, IsBefore, IsViolationOf, Place, path_at, place_of, IsTold, is_broken_below}
-use Rattle.std.specs.List.{All, sum_by}
+use Rattle.t1_report.specs.Reports.{Comes, IsBefore, IsViolationOf, Place, path_at, place_of, IsTold, is_broken_below, spot, spot_of}
+use Rattle.std.specs.List.{All, sum_by, range_with_len}
 use Rattle.t1_rules.specs.Components.{glyph_named}
 use Rattle.t1_report.specs.Waivers.{Waiver}
 
 -- A place and its rule come after a mark.
 abbrev pub IsLater : Mark → Place → Type 0
-IsLater mark p = Comes mark.unit mark.step mark.rule p.unit p.step (number_of p.rule)
+IsLater mark p = Comes (spot mark.unit mark.step mark.rule) (spot_of p)
 
 -- The mark that stands before all faults.
 abbrev pub first_mark : Mark
@@ -66,8 +66,7 @@ turns_of_unit font (suc glyph) = turns_of_glyph font glyph
 
 -- For so many units, the first of them this one.
 unfoldable pub turns_of : CheckedFont → ℕ → ℕ → ℕ
-turns_of font from zero = 0
-turns_of font from (suc n) = turns_of font from n + turns_of_unit font (from + n)
+turns_of font from n = sum_by (turns_of_unit font) (range_with_len from n)
 
 -- For the units from one on that stand before another: 0 where there are none.
 abbrev pub turns_before : CheckedFont → ℕ → ℕ → ℕ
@@ -76,9 +75,8 @@ turns_before font from unit = turns_of font from (unit - from)
 -- Of a unit's first turns those up to the first step that breaks the rule of a number: a turn is asked for
 -- unless a step before it breaks the rule.
 unfoldable pub turns_up_to : CheckedFont → ℕ → ℕ → ℕ → ℕ
-turns_up_to font unit n zero = 0
-turns_up_to font unit n (suc turns) =
-    turns_up_to font unit n turns + (if is_broken_below font unit (suc turns) n then 0 else 1)
+turns_up_to font unit n turns =
+    sum_by (λ (turn : ℕ). if is_broken_below font unit turn n then 0 else 1) (range_with_len 1 turns)
 
 -- How often a machine is asked for a waiver: for the steps of its glyph up to the first that breaks its rule,
 -- for all turns of the glyph where none does, and never where the font has no such glyph.

@@ -23,7 +23,7 @@ abbrev pub HaveSeen : Edition → Watches → List StepView → Type 0
 HaveSeen edition watches steps = length steps ≤ limit_of edition → WatchesStandFor edition watches steps
 
 -- The step follows these, which the watchers have seen, and at most the first one is past the limit.
-pub record IsNext (edition : Edition) (watches : Watches) (before : List StepView) (step : Step) : Type 0 where
+pub record IsNextStep (edition : Edition) (watches : Watches) (before : List StepView) (step : Step) : Type 0 where
   pub seen : WatchesStandFor edition watches before
   pub number : step.number ≡ length before + 1
   pub few : length before ≤ limit_of edition

@@ -1,3 +1,5 @@
+//! Numbers in decimal digits, without memory.
+
 ghost use Rattle.std.specs.Prelude.{◌≡◌, ℕ, ◌+◌, ◌<◌, List, drop};
 ghost use Rattle.std.specs.Fmt.{decimal};
 

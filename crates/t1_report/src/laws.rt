@@ -3,6 +3,7 @@
 ghost use Rattle.t1_report.specs.Laws.Editions.{UsualFontsHaveOneReport};
 ghost use Rattle.t1_char.specs.declared.edition.Edition.TheVariants.{One, Two};
 ghost use Rattle.t1_report.specs.Laws.Limits.{AreCheckedTo};
+ghost use Rattle.t1_report.specs.Laws.PassedNumbers.{CalmIsBehindNoReplacement, CalmWatchersStandBehindNumbers, PassedNumbersBreakNoRule};
 ghost use Rattle.t1_report.specs.Laws.Reports.{HasNoOtherReport, HasReport};
 ghost use Rattle.t1_report.specs.Laws.WaivedFaults.{OrderLeavesFaults, OrderLeavesUses, RepeatedLinesSayNothing, UnusedWaiversChangeNothing, WaivedFaultsAreLeftOut};
 ghost use Rattle.t1_report.specs.Laws.Walks.{AllAreGivenAtLast, AreBehindTheCount, AreTheReport, AreTheRest, GivenAreTheFront, MarksGoOnCounting, NoneIsGivenAtFirst};
@@ -45,6 +46,15 @@ pub fn marks_count_the_faults_given()
 pub fn the_limit_is_one_step()
     ensures first { AreCheckedTo 100000 One }
     ensures second { AreCheckedTo 1000000 Two }
+{}
+
+/// Numbers that a machine passes break no rule, unless the first of them stands directly behind a hint replacement or
+/// the pop of one. Calm watchers have seen no such step last; and what they keep is the same behind the numbers, which
+/// they don't see.
+pub fn passed_numbers_break_no_rule()
+    ensures rules { PassedNumbersBreakNoRule }
+    ensures calm { CalmIsBehindNoReplacement }
+    ensures kept { CalmWatchersStandBehindNumbers }
 {}
 
 /// A font has the same report in both editions where no glyph has more than 100,000 steps, and none of its

@@ -10,7 +10,7 @@ ghost use Rattle.t1_report.specs.Checked.{CheckedFont, checked};
 ghost use Rattle.t1_report.specs.Faults.{fault_value, faults_of};
 ghost use Rattle.t1_report.specs.Lines.{IsInFont};
 ghost use Rattle.t1_report.specs.Reports.{IsFront, IsReport, step_breaks};
-ghost use Rattle.t1_report.specs.Workings.{HaveSeen, IsNext, HasTold};
+ghost use Rattle.t1_report.specs.Workings.{HaveSeen, IsNextStep, HasTold};
 ghost use Rattle.t1_rules.specs.Components.{AreOf};
 ghost use Rattle.t1_rules.specs.Keys.{places_of};
 ghost use Rattle.t1_rules.specs.Mask.{has};
@@ -157,13 +157,13 @@ pub(crate) fn broken_at(
     step: &Step,
 ) -> Mask
     requires limit { limit ≡ limit_of sidebearings.now.edition }
-    requires next { (before : List StepView) × IsNext sidebearings.now.edition watches.old before step.now }
-    ensures broken { (before : List StepView) → IsNext sidebearings.now.edition watches.old before step.now →
+    requires next { (before : List StepView) × IsNextStep sidebearings.now.edition watches.old before step.now }
+    ensures broken { (before : List StepView) → IsNextStep sidebearings.now.edition watches.old before step.now →
         (n : ℕ) → has result n
         ≡ step_breaks (limit_of sidebearings.now.edition)
         (charstring_rules sidebearings.now.edition sidebearings.now.components) n
         (before ++ step_view step.now ∷ []) (length before) }
-    ensures seen { (before : List StepView) → IsNext sidebearings.now.edition watches.old before step.now →
+    ensures seen { (before : List StepView) → IsNextStep sidebearings.now.edition watches.old before step.now →
         HaveSeen sidebearings.now.edition watches.new (before ++ step_view step.now ∷ []) }
 {
     if limit < step.number {

@@ -1,3 +1,5 @@
+//! Reports of made fonts, each compared with its lines, and the same fonts by walks.
+
 mod arguments;
 mod assembly;
 mod calls;

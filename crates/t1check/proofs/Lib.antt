@@ -1,7 +1,6 @@
 pub mod AnswerLemmas
 pub mod ChosenLines
 pub mod CommandLemmas
-pub mod FontFileLemmas
 pub mod InputLemmas
 pub mod RefusalLaws
 pub mod RunLaws

@@ -1,95 +1,38 @@
--- Each part of a file is refused by a refusal of its own.
+-- A file is refused for its size, or by the law of its parts.
 use Rattle.std.proofs.Common.{◌≡◌, ℕ, Bool, true, false, cond, nat_lt, List, length, Result, Ok, Err, IfErr, refl}
 use Rattle.std.proofs.lemmas.Result.{IfErr-at_err}
-use Rattle.t1_seal.specs.Segments.{JoinedText, joined_of}
-use Rattle.t1_seal.specs.Eexec.{opened, private_text_of, cipher_bytes, section_of}
-use Rattle.t1_seal.specs.SealError.{IsSegmentFault}
-use Rattle.t1_seal.specs.declared.errors.SealError.{SealError}
-use Rattle.t1_seal.specs.declared.errors.SealError.TheVariants as seal
-use Rattle.t1_seal.proofs.SegmentFaults.{joined_of-refused}
-use Rattle.t1_font.specs.ClearText.{clear_of}
-use Rattle.t1_font.specs.Fonts.{Stated, Marks, FontValue}
-use Rattle.t1_font.specs.Texts.{font_read}
-use Rattle.t1_font.specs.TextTurns.{TextRead}
-use Rattle.t1_font.specs.Laws.Refusals.{IsClearRefusal, IsPrivateRefusal}
-use Rattle.t1_font.specs.declared.refusal.Refusal.{Refusal}
-use Rattle.t1_font.specs.declared.refusal.Refusal.TheVariants as refusal
-use Rattle.t1_font.proofs.Refused.{clear_refusals, font_read_refusals}
-use Rattle.t1check.specs.declared.unread.Unread.TheVariants.{TooLarge, Memory}
-use Rattle.t1check.specs.FontFiles.{of_seal_error, of_refusal, marks_in, as_unread, private_next, section_next, clear_next, font_in, font_of}
-use Rattle.t1check.specs.Laws.Refusals.{IsOfText, IsOfSection, IsOfTexts, IsOfJoined, IsOfSized, IsOfFile, RefusedByPart, NeverForMemory}
+use Rattle.t1_seal.specs.Segments.{joined_of}
+use Rattle.t1_font.specs.FontFiles.{font_in}
+use Rattle.t1_font.specs.Fonts.{FontValue}
+use Rattle.t1_font.specs.Laws.Parts as parts
+use Rattle.t1_font.specs.declared.unread.Unread.{Unread}
+use Rattle.t1_font.specs.declared.unread.Unread.TheVariants.{Memory}
+use Rattle.t1check.specs.declared.refusals.Reason.TheVariants.{TooLarge, Font}
+use Rattle.t1check.specs.FontFiles.{font_of, with_reason}
+use Rattle.t1check.specs.Laws.Refusals.{IsOfSized, IsOfFile, RefusedByPart, NeverForMemory}
 
--- Each part, over what it is read as.
-private_refused : (read : Result FontValue Refusal) → ((e : Refusal) → read ≡ Err e → IsPrivateRefusal e) → IfErr (as_unread read) (IsOfText IsPrivateRefusal)
-private_refused (Ok font) h = tt
-private_refused (Err e) h = (e, (h e refl, refl))
+-- of the parts, where no law but theirs is known
+reasoned : (bytes : List ℕ) (read : Result FontValue Unread) → ((unread : Unread) → read ≡ Err unread → parts.IsOfJoined (joined_of bytes) unread) → IfErr (with_reason read) (IsOfSized false bytes)
+reasoned bytes (Ok font) h = tt
+reasoned bytes (Err unread) h = (unread, (refl, h unread refl))
 
-section_refused : (marks : Marks) (before : List Stated) (section : Result (List ℕ) SealError) → ((e : SealError) → section ≡ Err e → e ≡ seal.TooShort) → IfErr (private_next marks before section) (IsOfSection section)
-section_refused marks before (Ok text) h = private_refused (font_read marks before text) (font_read_refusals marks before text)
-section_refused marks before (Err e) h = rw (h e refl) refl
+sized : parts.RefusedByPart → (test : Bool) (bytes : List ℕ) → IfErr (cond test (Err TooLarge) (with_reason (font_in bytes))) (IsOfSized test bytes)
+sized by_part true bytes = refl
+sized by_part false bytes = reasoned bytes (font_in bytes) (by_part bytes)
 
-chosen : {A : Type 0} (test : Bool) (x : A) (e : SealError) → cond test (Err seal.TooShort) (Ok x) ≡ Err e → e ≡ seal.TooShort
-chosen true x e h = cc
-chosen false x e h = cc
-
-too_short : (bytes : List ℕ) (e : SealError) → private_text_of bytes ≡ Err e → e ≡ seal.TooShort
-unfolding private_text_of opened
-too_short bytes e h = chosen (nat_lt (length (cipher_bytes (section_of bytes))) 4) _ e h
-
-texts_refused : (marks : Marks) (read : Result TextRead Refusal) → ((e : Refusal) → read ≡ Err e → IsClearRefusal e) → IfErr (section_next marks read) (IsOfTexts read)
-texts_refused marks (Ok clear) h = section_refused marks clear.stated (private_text_of clear.rest) (too_short clear.rest)
-texts_refused marks (Err e) h = (e, (h e refl, refl))
-
-joined_refused : (joined : Result JoinedText SealError) → ((e : SealError) → joined ≡ Err e → IsSegmentFault e) → IfErr (clear_next joined) (IsOfJoined joined)
-joined_refused (Ok joined) h = texts_refused (marks_in joined) (clear_of (marks_in joined) joined.bytes) (clear_refusals (marks_in joined) joined.bytes)
-joined_refused (Err e) h = (e, (h e refl, refl))
-
-in_file : (bytes : List ℕ) → IfErr (font_in bytes) (IsOfJoined (joined_of bytes))
-unfolding font_in
-in_file bytes = joined_refused (joined_of bytes) (joined_of-refused bytes)
-
-sized : (test : Bool) (bytes : List ℕ) → IfErr (cond test (Err TooLarge) (font_in bytes)) (IsOfSized test bytes)
-sized true bytes = refl
-sized false bytes = in_file bytes
-
-pub refused_by_part : RefusedByPart
+pub refused_by_part : parts.RefusedByPart → RefusedByPart
 unfolding font_of
-refused_by_part bytes unread known = IfErr-at_err (IsOfFile bytes) known (sized (nat_lt 16777216 (length bytes)) bytes)
+refused_by_part by_part bytes reason known = IfErr-at_err (IsOfFile bytes) known (sized by_part (nat_lt 16777216 (length bytes)) bytes)
 
--- Want of memory is of no part.
-no_segments : (e : SealError) → IsSegmentFault e → Memory ≡ of_seal_error e → ⊥
-no_segments seal.NotAFont h named = cc
-no_segments seal.BadHeader h named = cc
-no_segments seal.CutShort h named = cc
-no_segments seal.TooShort h named = h
-no_segments seal.Memory h named = h
+-- want of memory is no reason of a file
+is_font : (read : Result FontValue Unread) (unread : Unread) → with_reason read ≡ Err (Font unread) → read ≡ Err unread
+is_font (Ok font) unread h = cc
+is_font (Err e) unread h = cc
 
-no_text : (kind : Refusal → Type 0) → (kind refusal.Memory → ⊥) → (e : Refusal) → kind e → Memory ≡ of_refusal e → ⊥
-no_text kind never refusal.NoEexec h named = cc
-no_text kind never refusal.Unclosed h named = cc
-no_text kind never refusal.BadSubrs h named = cc
-no_text kind never refusal.BadCharStrings h named = cc
-no_text kind never refusal.BadLenIv h named = cc
-no_text kind never refusal.PastLimit h named = cc
-no_text kind never refusal.SecondSubrs h named = cc
-no_text kind never refusal.MultipleMaster h named = cc
-no_text kind never refusal.Memory h named = never h
+small : (test : Bool) (read : Result FontValue Unread) → cond test (Err TooLarge) (with_reason read) ≡ Err (Font Memory) → read ≡ Err Memory
+small true read h = cc
+small false read h = is_font read Memory h
 
-no_section : (section : Result (List ℕ) SealError) → IsOfSection section Memory → ⊥
-no_section (Ok text) h = no_text IsPrivateRefusal (λ none. none) h.0 h.1.0 h.1.1
-no_section (Err e) h = cc
-
-no_texts : (read : Result TextRead Refusal) → IsOfTexts read Memory → ⊥
-no_texts (Ok clear) h = no_section (private_text_of clear.rest) h
-no_texts (Err e) h = no_text IsClearRefusal (λ none. none) h.0 h.1.0 h.1.1
-
-no_joined : (joined : Result JoinedText SealError) → IsOfJoined joined Memory → ⊥
-no_joined (Ok joined) h = no_texts (clear_of (marks_in joined) joined.bytes) h
-no_joined (Err e) h = no_segments h.0 h.1.0 h.1.1
-
-no_file : (test : Bool) (bytes : List ℕ) → IsOfSized test bytes Memory → ⊥
-no_file true bytes h = cc
-no_file false bytes h = no_joined (joined_of bytes) h
-
-pub never_for_memory : NeverForMemory
-never_for_memory bytes known = no_file (nat_lt 16777216 (length bytes)) bytes (refused_by_part bytes Memory known)
+pub never_for_memory : parts.NeverForMemory → NeverForMemory
+unfolding font_of
+never_for_memory never bytes known = never bytes (small (nat_lt 16777216 (length bytes)) (font_in bytes) known)

@@ -7,8 +7,9 @@ use Rattle.t1_io.specs.Devices.{SinkState, SourceState, one_more}
 use Rattle.t1check.specs.declared.asked.Options.{Options}
 use Rattle.t1check.specs.declared.status.Status.{Status}
 use Rattle.t1check.specs.declared.status.Status.TheVariants.{Clean, Failed, Faults, Refused}
-use Rattle.t1check.specs.declared.unread.Unread.{Unread}
-use Rattle.t1check.specs.declared.unread.Unread.TheVariants as unread
+use Rattle.t1_font.specs.declared.unread.Unread.TheVariants as unread
+use Rattle.t1check.specs.declared.refusals.Reason.{Reason}
+use Rattle.t1check.specs.declared.refusals.Reason.TheVariants.{TooLarge, Font}
 use Rattle.t1check.specs.Answers.{Answer, IsAnswerTo, IsShown, selection, refused, reported, status_of, traced_at}
 use Rattle.t1check.specs.Ends.{AreRead, Ends, Gives, Shows, Tells, unread_status}
 use Rattle.t1check.specs.Ends.Shows.{no_glyph, reported as was_reported, traced as was_traced, no_room, waivers_refused, waivers_unread}
@@ -20,7 +21,7 @@ use Rattle.t1check.specs.FontFiles.{font_of}
 use Rattle.t1check.specs.Laws.Runs.{Answered, Promises, RunsKeepPromises, WentOut, IfKnown, IsSpared}
 use Rattle.t1check.specs.Refusals.{told_of, told_of_waivers}
 use Rattle.t1_report.specs.Waivers.{Waiver}
-use Rattle.t1check.specs.declared.unread.WaiverRefusal.{WaiverRefusal}
+use Rattle.t1check.specs.declared.refusals.WaiverRefusal.{WaiverRefusal}
 use Rattle.t1check.specs.Waived.{AreWaived, IfWaived, asks_waivers}
 use Rattle.t1check.proofs.WaivedLemmas.{of-any, of-waived, waived-weaker}
 
@@ -115,7 +116,7 @@ nothing-same : (a b : SinkState) → b ≡ a → Appends a.written b.written []
 nothing-same a b same = subst (λ (s : SinkState). Appends a.written s.written []) (sym same) (Appends-nil a.written)
 
 -- what is so of a reading is so of the bytes that are read so
-of-read : (P : Result FontValue Unread → Type 0) (left : Option (List ℕ)) (read : Result FontValue Unread) → AreRead left read → P read → IfSome left (λ input. P (font_of input))
+of-read : (P : Result FontValue Reason → Type 0) (left : Option (List ℕ)) (read : Result FontValue Reason) → AreRead left read → P read → IfSome left (λ input. P (font_of input))
 of-read P None read are holds = tt
 of-read P (Some input) read are holds = subst P (sym are) holds
 
@@ -134,19 +135,19 @@ module _ (options : Options) (left : Option (List ℕ)) (failed : Bool) (waivers
   Answering answer = IfKnown options left waivers.left (λ read waived. IsAnswerTo options read waived answer)
 
   -- both were read so
-  of-both : (answer : Answer) (read : Result FontValue Unread) (waived : Result (List Waiver) WaiverRefusal) → AreRead left read → AreWaived (asks_waivers options) waivers.left waived → IsAnswerTo options read waived answer → Answering answer
+  of-both : (answer : Answer) (read : Result FontValue Reason) (waived : Result (List Waiver) WaiverRefusal) → AreRead left read → AreWaived (asks_waivers options) waivers.left waived → IsAnswerTo options read waived answer → Answering answer
   of-both answer read waived are is holds =
       of-read (λ r. IfWaived (asks_waivers options) waivers.left (λ w. IsAnswerTo options r w answer)) left read are
       (of-waived (λ w. IsAnswerTo options read w answer) (asks_waivers options) waivers.left waived is holds)
 
   -- whatever the waivers are
-  of-font : (answer : Answer) (read : Result FontValue Unread) → AreRead left read → ((waived : Result (List Waiver) WaiverRefusal) → IsAnswerTo options read waived answer) → Answering answer
+  of-font : (answer : Answer) (read : Result FontValue Reason) → AreRead left read → ((waived : Result (List Waiver) WaiverRefusal) → IsAnswerTo options read waived answer) → Answering answer
   of-font answer read are holds =
       of-read (λ r. IfWaived (asks_waivers options) waivers.left (λ w. IsAnswerTo options r w answer)) left read are
       (of-any (λ w. IsAnswerTo options read w answer) (asks_waivers options) waivers.left holds)
 
-  known-weaker : (answer : Answer) (Q : Result FontValue Unread → Result (List Waiver) WaiverRefusal → Type 0)
-      → ((read : Result FontValue Unread) (waived : Result (List Waiver) WaiverRefusal) → IsAnswerTo options read waived answer → Q read waived) → Answering answer → IfKnown options left waivers.left Q
+  known-weaker : (answer : Answer) (Q : Result FontValue Reason → Result (List Waiver) WaiverRefusal → Type 0)
+      → ((read : Result FontValue Reason) (waived : Result (List Waiver) WaiverRefusal) → IsAnswerTo options read waived answer → Q read waived) → Answering answer → IfKnown options left waivers.left Q
   known-weaker answer Q on holds =
       some-weaker (λ input. IfWaived (asks_waivers options) waivers.left (λ w. IsAnswerTo options (font_of input) w answer)) (λ input. IfWaived (asks_waivers options) waivers.left (Q (font_of input))) left
       (λ input h. waived-weaker (λ w. IsAnswerTo options (font_of input) w answer) (Q (font_of input)) (asks_waivers options) waivers.left (λ w is. on (font_of input) w is) h) holds
@@ -164,10 +165,10 @@ module _ (options : Options) (left : Option (List ℕ)) (failed : Bool) (waivers
   fine unfailed kept (inr other) = true≢false (sym other ∙ kept ∙ waivers_sound)
 
   spared_whole : waivers' ≡ waivers → IsSpared options left failed waivers waivers'
-  spared_whole same = record { unasked = λ unasked. same; unread = λ source. same; refused = some-any (λ input. (reason : Unread) → font_of input ≡ Err reason → waivers' ≡ waivers) left (λ input reason is. same) }
+  spared_whole same = record { unasked = λ unasked. same; unread = λ source. same; refused = some-any (λ input. (reason : Reason) → font_of input ≡ Err reason → waivers' ≡ waivers) left (λ input reason is. same) }
 
-  never_refused : (font : FontValue) → AreRead left (Ok font) → IfSome left (λ input. (reason : Unread) → font_of input ≡ Err reason → waivers' ≡ waivers)
-  never_refused font are = of-read (λ r. (reason : Unread) → r ≡ Err reason → waivers' ≡ waivers) left (Ok font) are (λ reason is. cc)
+  never_refused : (font : FontValue) → AreRead left (Ok font) → IfSome left (λ input. (reason : Reason) → font_of input ≡ Err reason → waivers' ≡ waivers)
+  never_refused font are = of-read (λ r. (reason : Reason) → r ≡ Err reason → waivers' ≡ waivers) left (Ok font) are (λ reason is. cc)
 
   spared_by : (font : FontValue) → AreRead left (Ok font) → failed ≡ false → (asks_waivers options ≡ false → waivers' ≡ waivers) → IsSpared options left failed waivers waivers'
   spared_by font are unfailed unasked =
@@ -330,20 +331,21 @@ module _ (options : Options) (left : Option (List ℕ)) (failed : Bool) (waivers
   after_shown font are unfailed (no_room none heard same tells) =
       after_no_memory unfailed heard.failed (spared_by font are unfailed heard.unasked) same tells
 
-  after_refusal : (reason : Unread) → AreRead left (Err reason) → failed ≡ false → waivers' ≡ waivers → out' ≡ out → Tells (told_of reason) (unread_status reason) errors errors' result
-      → (unread_status reason ≡ Refused) ⊎ (reason ≡ unread.Memory) → Facts options left failed waivers waivers' out out' errors errors' result
+  after_refusal : (reason : Reason) → AreRead left (Err reason) → failed ≡ false → waivers' ≡ waivers → out' ≡ out → Tells (told_of reason) (unread_status reason) errors errors' result
+      → (unread_status reason ≡ Refused) ⊎ (reason ≡ Font unread.Memory) → Facts options left failed waivers waivers' out out' errors errors' result
   after_refusal reason are unfailed untouched same tells (inl two) =
       after_told (refused (told_of reason)) (of-font (refused (told_of reason)) (Err reason) are (λ waived. refl)) unfailed (same_failed untouched) (spared_whole untouched) refl (inl refl) same
       (subst (λ (s : Status). Tells (told_of reason) s errors errors' result) two tells)
   after_refusal reason are unfailed untouched same tells (inr memory) =
       after_no_memory unfailed (same_failed untouched) (spared_whole untouched) same
-      (subst (λ (u : Unread). Tells (told_of u) (unread_status u) errors errors' result) memory tells)
+      (subst (λ (u : Reason). Tells (told_of u) (unread_status u) errors errors' result) memory tells)
 
 -- a reason is a refusal, or want of memory
-kind_of_reason : (reason : Unread) → (unread_status reason ≡ Refused) ⊎ (reason ≡ unread.Memory)
-kind_of_reason unread.Memory = inr refl
-kind_of_reason unread.NotAFont = inl refl
-kind_of_reason _ = inl refl
+kind_of_reason : (reason : Reason) → (unread_status reason ≡ Refused) ⊎ (reason ≡ Font unread.Memory)
+kind_of_reason TooLarge = inl refl
+kind_of_reason (Font unread.Memory) = inr refl
+kind_of_reason (Font unread.NotAFont) = inl refl
+kind_of_reason (Font _) = inl refl
 
 facts : (options : Options) (left : Option (List ℕ)) (failed : Bool) (v v' : SourceState) (out out' errors errors' : SinkState) (result : Status)
     → v.failed ≡ false → out.failed ≡ false → errors.failed ≡ false → Ends options left failed v v' out out' errors errors' result

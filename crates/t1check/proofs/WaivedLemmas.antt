@@ -10,13 +10,13 @@ use Rattle.t1check.specs.declared.asked.Options.{Options}
 use Rattle.t1check.specs.declared.reading.Input.{Input}
 use Rattle.t1check.specs.declared.reading.Input.TheVariants.{Bytes, TooLarge, Broken, NoMemory}
 use Rattle.t1check.specs.declared.status.Status.{Status}
-use Rattle.t1check.specs.declared.unread.WaiverRefusal.{WaiverRefusal}
+use Rattle.t1check.specs.declared.refusals.WaiverRefusal.{WaiverRefusal}
 use Rattle.t1check.specs.Ends.{Reports, Shows}
 use Rattle.t1check.specs.Ends.Reports.{lines, malformed, no_memory}
 use Rattle.t1check.specs.Ends.Shows.{no_room, reported, waivers_refused}
 use Rattle.t1check.specs.Input.{Gathers, StopsAt}
 use Rattle.t1check.specs.Input.StopsAt.{past_limit, the_end}
-use Rattle.t1check.specs.declared.unread.WaiverRefusal.TheVariants.{PastLimit}
+use Rattle.t1check.specs.declared.refusals.WaiverRefusal.TheVariants.{PastLimit}
 use Rattle.t1check.specs.Waived.{AreWaived, HasText, IfWaived, IsHeard, IsText, as_waivers, asks_waivers, is_asked, waivers_in}
 
 waivers_in-small : (text : List ℕ) → length text ≤ 1048576 → waivers_in text ≡ as_waivers (waivers_of text)
@@ -93,19 +93,16 @@ asked_is None None b none is = is
 asked_is None (Some w) b none is = is
 asked_is (Some t) waive b none is = cc
 
-pub not_traced : {A B : Type 0} (trace : Option A) (waive : Option B) → true ≡ is_some trace → is_asked trace waive ≡ true → ⊥
-not_traced None waive some asked = true≢false some
-not_traced (Some t) waive some asked = true≢false (sym asked)
+pub not_traced : {A B : Type 0} (trace : Option A) (waive : Option B) (t : A) → trace ≡ Some t → is_asked trace waive ≡ true → ⊥
+not_traced trace waive t some asked = true≢false (sym asked ∙ rw some refl)
 
 pub not_named : {A B : Type 0} (trace : Option A) (waive : Option B) → waive ≡ None → is_asked trace waive ≡ true → ⊥
 not_named None None none asked = true≢false (sym asked)
 not_named None (Some w) none asked = cc
 not_named (Some t) waive none asked = true≢false (sym asked)
 
-pub is_named : {A B : Type 0} (trace : Option A) (waive : Option B) (w : B) → false ≡ is_some trace → waive ≡ Some w → is_asked trace waive ≡ true
-is_named None None w none some = cc
-is_named None (Some x) w none some = refl
-is_named (Some t) waive w none some = absurd (true≢false (sym none))
+pub is_named : {A B : Type 0} (trace : Option A) (waive : Option B) (w : B) → trace ≡ None → waive ≡ Some w → is_asked trace waive ≡ true
+is_named trace waive w none some = rw (none, some) refl
 
 -- ---- the report
 

@@ -8,14 +8,14 @@ use Rattle.t1_report.specs.Reports.{IsReport}
 use Rattle.t1check.specs.declared.asked.Options.{Options}
 use Rattle.t1check.specs.declared.status.Status.{Status}
 use Rattle.t1check.specs.declared.status.Status.TheVariants.{Clean, Failed, Faults, Refused}
-use Rattle.t1check.specs.declared.unread.Unread.{Unread}
+use Rattle.t1check.specs.declared.refusals.Reason.{Reason}
 use Rattle.t1check.specs.FontFiles.{font_of}
 use Rattle.t1check.specs.Lines.{lines_of}
 use Rattle.t1check.specs.Refusals.{told_of, told_of_waivers}
 use Rattle.t1_rules.specs.Components.{glyph_named}
 use Rattle.t1check.specs.Traces.{no_glyph_line, trace_of}
 use Rattle.t1_report.specs.Waivers.{Waiver}
-use Rattle.t1check.specs.declared.unread.WaiverRefusal.{WaiverRefusal}
+use Rattle.t1check.specs.declared.refusals.WaiverRefusal.{WaiverRefusal}
 use Rattle.t1check.specs.Waived.{asks_waivers, waivers_in}
 
 pub record Answer : Type 0 where
@@ -68,11 +68,11 @@ IsShown options font waived None answer = IsReported options font waived answer
 IsShown options font waived (Some name) answer = answer ≡ traced options.edition font name
 
 -- The answer of a font that was read is what the options ask for; else the reason is told.
-abbrev pub IsAnswerTo : Options → Result FontValue Unread → Result (List Waiver) WaiverRefusal → Answer
+abbrev pub IsAnswerTo : Options → Result FontValue Reason → Result (List Waiver) WaiverRefusal → Answer
     → Type 0
 IsAnswerTo options (Ok font) waived answer =
     IsShown options font waived (option_map string_bytes options.trace) answer
-IsAnswerTo options (Err unread) waived answer = answer ≡ refused (told_of unread)
+IsAnswerTo options (Err reason) waived answer = answer ≡ refused (told_of reason)
 
 -- The waivers of a text, where the options ask for them; else there are none.
 abbrev pub waived_by : Options → List ℕ → Result (List Waiver) WaiverRefusal

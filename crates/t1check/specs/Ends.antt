@@ -1,6 +1,9 @@
 -- How a run ends: what was given on the output, what was told on standard error, and the status.
 use Rattle.std.specs.Prelude.{◌≡◌, ℕ, Bool, true, false, List, Option, None, Some, option_map, Result, Ok, Err, IfSome, codes, string_bytes}
+use Rattle.t1_font.specs.FontFiles.{IsUnread}
 use Rattle.t1_font.specs.Fonts.{FontValue}
+use Rattle.t1_font.specs.declared.unread.Unread.{Unread}
+use Rattle.t1_font.specs.declared.unread.Unread.TheVariants as unread
 use Rattle.t1_io.specs.Devices.{Delivered, DeliveryFailed, PutFailed, SinkState, Wrote, SourceState}
 use Rattle.t1_report.specs.Checked.{checked}
 use Rattle.t1_report.specs.Faults.{FaultValue}
@@ -10,16 +13,16 @@ use Rattle.t1check.specs.declared.asked.UsageError.{UsageError}
 use Rattle.t1check.specs.declared.asked.UsageError.TheVariants.{Help, Usage, Memory}
 use Rattle.t1check.specs.declared.status.Status.{Status}
 use Rattle.t1check.specs.declared.status.Status.TheVariants.{Clean, Failed, Refused}
-use Rattle.t1check.specs.declared.unread.Unread.{Unread}
-use Rattle.t1check.specs.declared.unread.Unread.TheVariants as unread
+use Rattle.t1check.specs.declared.refusals.Reason.{Reason}
+use Rattle.t1check.specs.declared.refusals.Reason.TheVariants.{Font}
 use Rattle.t1check.specs.Answers.{selection, status_of}
-use Rattle.t1check.specs.FontFiles.{IsUnread, font_of}
+use Rattle.t1check.specs.FontFiles.{font_of}
 use Rattle.t1check.specs.Lines.{lines_of}
 use Rattle.t1check.specs.Refusals.{told_of, told_of_waivers}
 use Rattle.t1_rules.specs.Components.{glyph_named}
 use Rattle.t1check.specs.Traces.{no_glyph_line, trace_of}
 use Rattle.t1_report.specs.Waivers.{Waiver}
-use Rattle.t1check.specs.declared.unread.WaiverRefusal.{WaiverRefusal}
+use Rattle.t1check.specs.declared.refusals.WaiverRefusal.{WaiverRefusal}
 use Rattle.t1check.specs.Waived.{AreWaived, IsHeard, IsUnbroken, asks_waivers}
 
 -- A text was to be told on standard error, and then a status to be answered; where that can't be told,
@@ -98,12 +101,12 @@ pub data Reports (options : Options) (font : FontValue) (waived : Result (List W
       → Reports options font waived out out' errors errors' result
 
 -- The status where a file isn't read.
-abbrev pub unread_status : Unread → Status
-unread_status unread.Memory = Failed
+abbrev pub unread_status : Reason → Status
+unread_status (Font unread.Memory) = Failed
 unread_status _ = Refused
 
 -- The bytes of a source, where they are known, are read so.
-abbrev pub AreRead : Option (List ℕ) → Result FontValue Unread → Type 0
+abbrev pub AreRead : Option (List ℕ) → Result FontValue Reason → Type 0
 AreRead left read = IfSome left (λ input. font_of input ≡ read)
 
 -- How a run ends: these bytes were left in the source, and a read of it failed or didn't; and the source of
@@ -118,7 +121,7 @@ pub data Ends (options : Options) (left : Option (List ℕ)) (failed : Bool) (wa
       → Ends options left failed waivers waivers' out out' errors errors' result
   -- status 2
   refused :
-      (reason : Unread) → AreRead left (Err reason) → failed ≡ false → waivers' ≡ waivers → out' ≡ out
+      (reason : Reason) → AreRead left (Err reason) → failed ≡ false → waivers' ≡ waivers → out' ≡ out
       → Tells (told_of reason) (unread_status reason) errors errors' result
       → Ends options left failed waivers waivers' out out' errors errors' result
   -- status 3
@@ -138,8 +141,8 @@ abbrev pub Checks : Options → Result FontValue Unread → SourceState → Sour
     → SinkState → SinkState → Result Status Unread → Type 0
 Checks options read waivers waivers' out out' errors errors' (Ok status) =
     (font : FontValue) × (read ≡ Ok font) × Shows options font waivers waivers' out out' errors errors' status
-Checks options read waivers waivers' out out' errors errors' (Err reason) =
-    IsUnread reason read × (waivers' ≡ waivers) × (out' ≡ out) × (errors' ≡ errors)
+Checks options read waivers waivers' out out' errors errors' (Err unread) =
+    IsUnread unread read × (waivers' ≡ waivers) × (out' ≡ out) × (errors' ≡ errors)
 
 -- What is answered to words of the command line that give no options: help on the output, all else on
 -- standard error.

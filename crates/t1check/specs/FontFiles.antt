@@ -1,71 +1,16 @@
--- A font's file: the font that its bytes are read as, or the first reason why they aren't (Type 1 Font
--- Format 1.1, chapters 2, 7; Technical Note 5040).
-use Rattle.std.specs.Prelude.{◌≡◌, ◌⊎◌, ℕ, ◌&&◌, not, nat_lt, if◌then◌else◌, List, length, Result, Ok, Err}
-use Rattle.t1_seal.specs.Segments.{JoinedText, joined_of}
-use Rattle.t1_seal.specs.Eexec.{private_text_of}
-use Rattle.t1_seal.specs.declared.errors.SealError.{SealError}
-use Rattle.t1_seal.specs.declared.errors.SealError.TheVariants as seal
-use Rattle.t1_font.specs.ClearText.{clear_of}
-use Rattle.t1_font.specs.Fonts.{Stated, Marks, FontValue}
-use Rattle.t1_font.specs.Texts.{font_read}
-use Rattle.t1_font.specs.TextTurns.{TextRead}
-use Rattle.t1_font.specs.declared.refusal.Refusal.{Refusal}
-use Rattle.t1_font.specs.declared.refusal.Refusal.TheVariants as refusal
-use Rattle.t1check.specs.declared.unread.Unread.{Unread}
-use Rattle.t1check.specs.declared.unread.Unread.TheVariants.{NotAFont, BadHeader, CutShort, NoEexec, TooLarge, TooShort, Unclosed, BadSubrs, BadCharStrings, BadLenIv, PastLimit, SecondSubrs, MultipleMaster, Memory}
+-- A font's file, which may be too large.
+use Rattle.std.specs.Prelude.{ℕ, nat_lt, if◌then◌else◌, List, length, Result, Ok, Err}
+use Rattle.t1_font.specs.FontFiles.{font_in}
+use Rattle.t1_font.specs.Fonts.{FontValue}
+use Rattle.t1_font.specs.declared.unread.Unread.{Unread}
+use Rattle.t1check.specs.declared.refusals.Reason.{Reason}
+use Rattle.t1check.specs.declared.refusals.Reason.TheVariants.{TooLarge, Font}
 
--- A fault of the segments or of the encrypted section.
-abbrev pub of_seal_error : SealError → Unread
-of_seal_error seal.NotAFont = NotAFont
-of_seal_error seal.BadHeader = BadHeader
-of_seal_error seal.CutShort = CutShort
-of_seal_error seal.TooShort = TooShort
-of_seal_error seal.Memory = Memory
-
--- A fault of the clear text or of the private text.
-abbrev pub of_refusal : Refusal → Unread
-of_refusal refusal.NoEexec = NoEexec
-of_refusal refusal.Unclosed = Unclosed
-of_refusal refusal.BadSubrs = BadSubrs
-of_refusal refusal.BadCharStrings = BadCharStrings
-of_refusal refusal.BadLenIv = BadLenIv
-of_refusal refusal.PastLimit = PastLimit
-of_refusal refusal.SecondSubrs = SecondSubrs
-of_refusal refusal.MultipleMaster = MultipleMaster
-of_refusal refusal.Memory = Memory
-
--- The marks of the row of segments.
-abbrev pub marks_in : JoinedText → Marks
-marks_in joined = record { no_end = joined.pfb && not joined.end_segment; extra = joined.trailing }
-
--- The font that was read, or the program's word for why none was.
-abbrev pub as_unread : Result FontValue Refusal → Result FontValue Unread
-as_unread (Ok font) = Ok font
-as_unread (Err e) = Err (of_refusal e)
-
--- The private text, which the encrypted section opens to.
-abbrev pub private_next : Marks → List Stated → Result (List ℕ) SealError → Result FontValue Unread
-private_next marks before (Ok text) = as_unread (font_read marks before text)
-private_next marks before (Err e) = Err (of_seal_error e)
-
--- The encrypted section, which follows the word eexec of the clear text.
-abbrev pub section_next : Marks → Result TextRead Refusal → Result FontValue Unread
-section_next marks (Ok clear) = private_next marks clear.stated (private_text_of clear.rest)
-section_next marks (Err e) = Err (of_refusal e)
-
--- The clear text, with which the joined bytes begin.
-abbrev pub clear_next : Result JoinedText SealError → Result FontValue Unread
-clear_next (Ok joined) = section_next (marks_in joined) (clear_of (marks_in joined) joined.bytes)
-clear_next (Err e) = Err (of_seal_error e)
-
--- A file that isn't too large: its segments, its clear text, its encrypted section, its private text.
-unfoldable pub font_in : List ℕ → Result FontValue Unread
-font_in bytes = clear_next (joined_of bytes)
+-- The font that was read, or why none was.
+abbrev pub with_reason : Result FontValue Unread → Result FontValue Reason
+with_reason (Ok font) = Ok font
+with_reason (Err unread) = Err (Font unread)
 
 -- The font that a file's bytes are read as, or the one reason why they aren't.
-unfoldable pub font_of : List ℕ → Result FontValue Unread
-font_of bytes = if nat_lt 16777216 (length bytes) then Err TooLarge else font_in bytes
-
--- A program that didn't read the font tells what is so, or memory ran out.
-abbrev pub IsUnread : Unread → Result FontValue Unread → Type 0
-IsUnread unread read = (unread ≡ Memory) ⊎ (read ≡ Err unread)
+unfoldable pub font_of : List ℕ → Result FontValue Reason
+font_of bytes = if nat_lt 16777216 (length bytes) then Err TooLarge else with_reason (font_in bytes)

@@ -3,8 +3,8 @@ use Rattle.std.specs.Prelude.{◌≡◌, ◌≤◌, ℕ, Bool, true, false, nat_
 use Rattle.t1_io.specs.Devices.{SourceState}
 use Rattle.t1_report.specs.Waivers.{Waiver, waivers_of}
 use Rattle.t1check.specs.declared.asked.Options.{Options}
-use Rattle.t1check.specs.declared.unread.WaiverRefusal.{WaiverRefusal}
-use Rattle.t1check.specs.declared.unread.WaiverRefusal.TheVariants.{Malformed, PastLimit}
+use Rattle.t1check.specs.declared.refusals.WaiverRefusal.{WaiverRefusal}
+use Rattle.t1check.specs.declared.refusals.WaiverRefusal.TheVariants.{Malformed, PastLimit}
 use Rattle.t1check.specs.Input.{StopsAt}
 use Rattle.t1check.specs.declared.reading.Input.{Input}
 use Rattle.t1check.specs.declared.reading.Input.TheVariants.{Bytes, TooLarge, Broken, NoMemory}

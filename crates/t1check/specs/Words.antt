@@ -23,6 +23,20 @@ pub record AreRefused (words : List Text) (error : UsageError) : Type 0 where
   pub help : AsksHelp words → IsHelpOrMemory error
   pub only_help : IsHelp error → AsksHelp words
 
+-- The words are taken, and they name this file of a font.
+abbrev pub NamesFont : List Text → Text → Type 0
+NamesFont words name =
+    (options : Options) × (AreTaken words options × (option_map string_bytes options.file ≡ Some name))
+
+-- The options ask for waivers, of the file of this name.
+abbrev pub AsksWaiversOf : Options → Text → Type 0
+AsksWaiversOf options name =
+    (asks_waivers options ≡ true) × (option_map string_bytes options.waive ≡ Some name)
+
+-- The words are taken, ask for waivers, and name this file of them.
+abbrev pub NamesWaivers : List Text → Text → Type 0
+NamesWaivers words name = (options : Options) × (AreTaken words options × AsksWaiversOf options name)
+
 -- A way to open files by their names: one of the name is opened and these bytes are left in it, where they
 -- are known, or it can't be opened.
 pub record Opening : Type 1 where
@@ -38,6 +52,9 @@ pub record Sinks : Type 0 where
 pub record Files : Type 0 where
   pub font : Option SourceState
   pub waivers : Option SourceState
+
+abbrev pub none_opened : Files
+none_opened = record { font = None; waivers = None }
 
 -- The source of waivers, before a run and behind it: of the file that the options name, where they ask for
 -- waivers; that file is handed back.
@@ -66,15 +83,17 @@ pub data RunsOn (options : Options) (opening : Opening) (source source' : Source
 
 -- The words are answered: explained, or by a run on standard input or on the file that they name, where that
 -- can be opened. What is told of a read is tied to the source that was read: standard input before and
--- behind, and the files as they are left. Standard input is left alone but where no file is named.
+-- behind, and the files as they are left. Standard input is left alone but where no file is named, and no file
+-- is handed back of what wasn't opened: of a font where none is named, of waivers where none are asked for, none
+-- at all where the words aren't taken.
 pub data Answers (words : List Text) (fonts waivers : Opening) (input input' : SourceState)
     (files : Files) (sinks sinks' : Sinks) (result : Status) : Type 0 where
   explained :
-      (error : UsageError) → AreRefused words error → input' ≡ input
+      (error : UsageError) → AreRefused words error → files ≡ none_opened → input' ≡ input
       → Explains error sinks.out sinks'.out sinks.errors sinks'.errors result
       → Answers words fonts waivers input input' files sinks sinks' result
   read_input :
-      (options : Options) → AreTaken words options → options.file ≡ None
+      (options : Options) → AreTaken words options → options.file ≡ None → files.font ≡ None
       → RunsOn options waivers input input' files.waivers sinks sinks' result
       → Answers words fonts waivers input input' files sinks sinks' result
   read_file :
@@ -86,6 +105,6 @@ pub data Answers (words : List Text) (fonts waivers : Opening) (input input' : S
   not_opened :
       (options : Options) (name : Text) → AreTaken words options
       → option_map string_bytes options.file ≡ Some name
-      → input' ≡ input → fonts.CannotOpen name → sinks'.out ≡ sinks.out
+      → files ≡ none_opened → input' ≡ input → fonts.CannotOpen name → sinks'.out ≡ sinks.out
       → Tells (codes "t1check: read failed\n") Failed sinks.errors sinks'.errors result
       → Answers words fonts waivers input input' files sinks sinks' result

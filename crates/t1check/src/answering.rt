@@ -1,6 +1,8 @@
+//! From the words of the command line to a status.
+
 ghost use Rattle.std.specs.Prelude.{◌≡◌, map, Ok, Err, false, option_map};
 ghost use Rattle.std.specs.Fn.{FnOnceReturnsAt};
-ghost use Rattle.t1check.specs.Words.{Answers, RunsOn};
+ghost use Rattle.t1check.specs.Words.{Answers, AsksWaiversOf, NamesFont, NamesWaivers, RunsOn};
 
 use crate::asked::Options;
 use crate::command_line::options;
@@ -27,8 +29,8 @@ pub struct Answered<F: Read + Drop, G: Read + Drop> {
 
 /// Answers the words of the command line, the program's name first: explains them, or runs on the file
 /// that they name, which `open_file` opens, or on `input` where they name none; with the waivers of the
-/// file that `open_waivers` opens, where they ask for these. The files are handed back, so that what is
-/// told of a read is tied to what was read.
+/// file that `open_waivers` opens, where they ask for these. A file is opened at most where they name it. The
+/// files are handed back, so that what is told of a read is tied to what was read.
 pub fn answer<S, I, F, O, G, P, W, E>(
     alloc: Global,
     words: &[S],
@@ -48,8 +50,8 @@ where
     W: Sink,
     E: Sink,
     requires input { (I.state input.old).failed ≡ false }
-    requires open_file { O.IsAlwaysCallable open_file }
-    requires open_waivers { P.IsAlwaysCallable open_waivers }
+    requires open_file { (name : _) → NamesFont (map S.text words.now) name.now → O.pre open_file name }
+    requires open_waivers { (name : _) → NamesWaivers (map S.text words.now) name.now → P.pre open_waivers name }
     ensures { Answers (map S.text words.now)
         (record {
           Opens = λ name left. (file : F) × FnOnceReturnsAt O.FnOnce open_file name (Ok file)
@@ -121,7 +123,7 @@ where
     W: Sink,
     E: Sink,
     requires source { (R.state source.old).failed ≡ false }
-    requires open_waivers { P.IsAlwaysCallable open_waivers }
+    requires open_waivers { (name : _) → AsksWaiversOf options.now name.now → P.pre open_waivers name }
     ensures { RunsOn options.now
         (record {
           Opens = λ name left. (file : G) × FnOnceReturnsAt P.FnOnce open_waivers name (Ok file)
@@ -133,34 +135,18 @@ where
         (record { out = W.state out.old; errors = E.state errors.old })
         (record { out = W.state out.new; errors = E.state errors.new }) result.0 }
 {
-    if options.trace.is_some() {
-        let status = run(
-            alloc,
-            source,
-            &mut In::new(io::empty()),
-            options,
-            out,
-            errors,
-        );
-        return (status, None);
-    }
-    let Some(name) = &options.waive else {
-        let status = run(
-            alloc,
-            source,
-            &mut In::new(io::empty()),
-            options,
-            out,
-            errors,
-        );
-        return (status, None);
-    };
-    match open_waivers(name.as_str()) {
-        Ok(file) => {
-            let mut waivers = In::new(file);
-            let status = run(alloc, source, &mut waivers, options, out, errors);
-            (status, Some(waivers))
+    match (&options.trace, &options.waive) {
+        (None, Some(name)) => match open_waivers(name.as_str()) {
+            Ok(file) => {
+                let mut waivers = In::new(file);
+                let status = run(alloc, source, &mut waivers, options, out, errors);
+                (status, Some(waivers))
+            }
+            Err(_) => (tell(errors, READ_FAILED, Status::Failed), None),
+        },
+        _ => {
+            let mut none = In::new(io::empty());
+            (run(alloc, source, &mut none, options, out, errors), None)
         }
-        Err(_) => (tell(errors, READ_FAILED, Status::Failed), None),
     }
 }

@@ -1,3 +1,5 @@
+//! What the words of the command line ask for.
+
 ghost use Rattle.std.specs.Prelude.{◌≡◌};
 ghost use Rattle.t1check.specs.declared.asked.UsageError.TheVariants.{Memory};
 

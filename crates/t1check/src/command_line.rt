@@ -1,3 +1,5 @@
+//! The command line, by clap.
+
 ghost use Rattle.std.specs.Prelude.{◌≡◌, ℕ, List, [], true, map, option_map, string_bytes, IfOk, IfErr};
 ghost use Rattle.clap.specs.Words.{FailsBy, app_of, fault_of, first_value, found_of, kind_of, matches_of, rows_of, takes};
 ghost use Rattle.clap.specs.declared.error.kind.ErrorKind.TheVariants.{OutOfMemory, DisplayHelp};

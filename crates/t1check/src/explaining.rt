@@ -1,3 +1,5 @@
+//! What is answered to words that give no options.
+
 ghost use Rattle.t1check.specs.Ends.{Explains, Gives};
 
 use crate::asked::UsageError;

@@ -1,3 +1,5 @@
+//! The lines of a report that the options choose.
+
 ghost use Rattle.std.specs.Prelude.{◌≡◌, ◌≤◌, ◌^◌, ◌-◌, ℕ, List, IfOk, drop, length, min, take};
 ghost use Rattle.std.specs.Option.{unwrap_or};
 ghost use Rattle.t1_io.specs.Devices.{Delivers, Writes};

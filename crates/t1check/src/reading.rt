@@ -1,3 +1,5 @@
+//! Reading a source to its end, within a limit.
+
 ghost use Rattle.std.specs.Prelude.{◌≡◌, ◌≤◌, ◌+◌, false};
 ghost use Rattle.t1check.specs.Input.{Gathers, TakesAtMost};
 

@@ -1,11 +1,13 @@
+//! A run: reads a font, and the waivers, and writes what the options ask for.
+
 ghost use Rattle.std.specs.Prelude.{◌≡◌, ◌≤◌, ◌<◌, ◌+◌, List, false, length, None};
+ghost use Rattle.t1_font.specs.FontFiles.{font_in};
 ghost use Rattle.t1_report.specs.Checked.{checked};
 ghost use Rattle.t1_report.specs.Faults.{FaultValue};
 ghost use Rattle.t1_report.specs.Reports.{IsReport};
 ghost use Rattle.t1_rules.specs.Components.{AreOf};
 ghost use Rattle.t1check.specs.Answers.{selection, status_of};
 ghost use Rattle.t1check.specs.Ends.{Checks, Ends, EndsForMemory, Gives, Tells, unread_status, Reports, Shows};
-ghost use Rattle.t1check.specs.FontFiles.{font_in};
 ghost use Rattle.t1check.specs.Input.{TakesAtMost, ReadsAtMost, StopsAt};
 ghost use Rattle.t1check.specs.Lines.{lines_of};
 ghost use Rattle.t1check.specs.Refusals.{told_of};
@@ -16,17 +18,16 @@ ghost use Rattle.t1check.specs.Waived.{HasText, as_waivers};
 use crate::asked::Options;
 use crate::lines::write_report;
 use crate::reading::{Input, LARGEST_FILE, read_all};
+use crate::refusals::{Reason, WaiverRefusal};
 use crate::status::Status;
 use crate::telling::{OUT_OF_MEMORY, READ_FAILED, WRITE_FAILED, tell, tell_no_glyph};
 use crate::tracing::write_trace;
-use crate::unread::{Unread, WaiverRefusal};
 use std::alloc::Global;
 use t1_char::Edition;
-use t1_font::{Clear, Font, read_clear, read_font};
+use t1_font::{Font, OpenFont, Unread};
 use t1_io::{Sink, Source};
 use t1_report::{LARGEST_WAIVERS, WaiverError, Waivers, each_font_has_a_report};
 use t1_rules::{Sidebearings, glyph_named};
-use t1_seal::{join, open_eexec};
 
 /// Reads a font to its end and writes its report, or the trace of a glyph. The waivers that the options ask for are read once the font is.
 pub fn run<R: Source, V: Source, W: Sink, E: Sink>(
@@ -48,50 +49,37 @@ pub fn run<R: Source, V: Source, W: Sink, E: Sink>(
     ensures waivers { ReadsAtMost 1048577 (V.state waivers.old) (V.state waivers.new) }
 {
     match read_all(alloc, source, LARGEST_FILE) {
-        Input::Bytes(bytes) => match check(alloc, bytes.as_slice(), waivers, options, out, errors) {
+        Input::Bytes(bytes) => match check(alloc, bytes, waivers, options, out, errors) {
             Ok(status) => status,
-            Err(unread) => tell_unread(unread, errors),
+            Err(unread) => tell_unread(Reason::Font(unread), errors),
         },
-        Input::TooLarge => tell_unread(Unread::TooLarge, errors),
+        Input::TooLarge => tell_unread(Reason::TooLarge, errors),
         Input::Broken => tell(errors, READ_FAILED, Status::Failed),
-        Input::NoMemory => tell_unread(Unread::Memory, errors),
+        Input::NoMemory => tell_unread(Reason::Font(Unread::Memory), errors),
     }
 }
 
-/// Reads a font and writes what the options choose of its report.
+/// Reads a font and writes what the options choose of its report. The file's bytes are held no longer than
+/// until their segments are joined.
 fn check<V: Source, W: Sink, E: Sink>(
     alloc: Global,
-    bytes: &[u8],
+    bytes: Vec<u8>,
     waivers: &mut V,
     options: &Options,
     out: &mut W,
     errors: &mut E,
 ) -> Result<Status, Unread>
-    ensures checks { Checks options.now (font_in bytes.now) (V.state waivers.old) (V.state waivers.new)
+    ensures checks { Checks options.now (font_in bytes.items) (V.state waivers.old) (V.state waivers.new)
         (W.state out.old) (W.state out.new) (E.state errors.old) (E.state errors.new) result }
     ensures waivers { ReadsAtMost 1048577 (V.state waivers.old) (V.state waivers.new) }
 {
-    let joined = join(alloc, bytes)?;
-    let clear = read_clear(alloc, &joined)?;
-    let (_, section) = joined.bytes.as_slice().split_at(clear.after());
-    let private = match open_eexec(alloc, section) {
-        Ok(private) => private,
-        Err(error) => {
-            give_up(clear);
-            return Err(Unread::from(error));
-        }
-    };
-    let font = read_font(alloc, clear, private.as_slice())?;
+    let mut file = OpenFont::open(alloc, bytes.as_slice())?;
+    drop(bytes);
+    let font = file.font(alloc)?;
     let status = show(alloc, &font, waivers, options, out, errors);
-    let_go(font);
+    font.let_go();
     Ok(status)
 }
-
-/// Lets a font go.
-fn let_go(_font: Font<'_>) {}
-
-/// Lets go of what a clear text states.
-fn give_up(_clear: Clear<'_>) {}
 
 /// Writes what the options ask for of a font: lines of its report, or the trace of a glyph.
 fn show<V: Source, W: Sink, E: Sink>(
@@ -180,14 +168,14 @@ fn report_waived<W: Sink, E: Sink>(
 }
 
 /// Tells why a file isn't read.
-fn tell_unread<E: Sink>(unread: Unread, errors: &mut E) -> Status
-    ensures { Tells (told_of unread) (unread_status unread) (E.state errors.old) (E.state errors.new) result }
+fn tell_unread<E: Sink>(reason: Reason, errors: &mut E) -> Status
+    ensures { Tells (told_of reason) (unread_status reason) (E.state errors.old) (E.state errors.new) result }
 {
-    let status = match unread {
-        Unread::Memory => Status::Failed,
+    let status = match reason {
+        Reason::Font(Unread::Memory) => Status::Failed,
         _ => Status::Refused,
     };
-    tell(errors, unread.told(), status)
+    tell(errors, reason.told(), status)
 }
 
 /// Writes the lines of a font's report that the options choose.

@@ -1,3 +1,5 @@
+//! How a run ends, as its exit status tells.
+
 ghost use Rattle.std.specs.Prelude.{◌≡◌};
 ghost use Rattle.std.specs.Process.{exit_status};
 ghost use Rattle.t1check.specs.Exit.{exit_code_of};

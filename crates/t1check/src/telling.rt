@@ -1,3 +1,5 @@
+//! What is told on standard error.
+
 ghost use Rattle.t1_io.specs.Devices.{whole_of};
 ghost use Rattle.t1check.specs.Ends.{Tells};
 ghost use Rattle.t1check.specs.Traces.{no_glyph_line};

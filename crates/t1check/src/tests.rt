@@ -1,3 +1,5 @@
+//! What the tests of the program share: files, runs over devices in memory, and their answers.
+
 mod command_line;
 mod cut_files;
 mod devices;

@@ -1,3 +1,5 @@
+//! The lines of a trace.
+
 ghost use Rattle.std.specs.Prelude.{◌≡◌, ◌<◌, length};
 ghost use Rattle.t1_io.specs.Devices.{Delivers, Writes};
 ghost use Rattle.t1check.specs.Traces.{trace_of};

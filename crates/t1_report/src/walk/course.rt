@@ -4,7 +4,7 @@ ghost use Rattle.std.specs.Prelude.{◌≡◌, ◌≤◌, ◌*◌, ◌+◌, Matc
 ghost use Rattle.t1_report.specs.Courses.{IsCourse, IsFloor, mark_after, turns_after, turns_so_far};
 ghost use Rattle.t1_report.specs.Faults.{fault_value};
 ghost use Rattle.t1_report.specs.Checked.{checked, step_limit};
-ghost use Rattle.t1_report.specs.Searching.{checked_in};
+ghost use Rattle.t1_report.specs.Searches.{checked_in};
 ghost use Rattle.t1_report.specs.Walks.{HasNoneLater, IsNext, mark_of, number_behind};
 ghost use Rattle.t1_rules.specs.Components.{AreOf};
 

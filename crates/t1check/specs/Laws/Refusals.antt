@@ -1,52 +1,25 @@
--- The refusals of a font's file, by the first part that has one. Want of memory is none of them.
-use Rattle.std.specs.Prelude.{◌≡◌, ℕ, nat_lt, Bool, true, false, List, length, Result, Ok, Err}
-use Rattle.t1_seal.specs.Segments.{JoinedText, joined_of}
-use Rattle.t1_seal.specs.Eexec.{private_text_of}
-use Rattle.t1_seal.specs.SealError.{IsSegmentFault}
-use Rattle.t1_seal.specs.declared.errors.SealError.{SealError}
-use Rattle.t1_font.specs.ClearText.{clear_of}
-use Rattle.t1_font.specs.Laws.Refusals.{IsClearRefusal, IsPrivateRefusal}
-use Rattle.t1_font.specs.TextTurns.{TextRead}
-use Rattle.t1_font.specs.declared.refusal.Refusal.{Refusal}
-use Rattle.t1check.specs.declared.unread.Unread.{Unread}
-use Rattle.t1check.specs.declared.unread.Unread.TheVariants.{TooLarge, TooShort, Memory}
-use Rattle.t1check.specs.FontFiles.{of_seal_error, of_refusal, marks_in, font_of}
-
--- Of the segments: E01, E02 or E03, by its name in the program.
-abbrev pub IsOfSegments : Unread → Type 0
-IsOfSegments unread = (e : SealError) × (IsSegmentFault e × (unread ≡ of_seal_error e))
-
--- Of a text, one of these refusals, by its name in the program.
-abbrev pub IsOfText : (Refusal → Type 0) → Unread → Type 0
-IsOfText kind unread = (e : Refusal) × (kind e × (unread ≡ of_refusal e))
-
--- Behind a clear text that was read: E06 where the encrypted section isn't opened, else of the private text:
--- E07, E08, E09, E10, E11 or E12.
-abbrev pub IsOfSection : Result (List ℕ) SealError → Unread → Type 0
-IsOfSection (Err e) unread = unread ≡ TooShort
-IsOfSection (Ok text) unread = IsOfText IsPrivateRefusal unread
-
--- Of the clear text: E04, E07 or E13; else of what is behind it.
-abbrev pub IsOfTexts : Result TextRead Refusal → Unread → Type 0
-IsOfTexts (Err e) unread = IsOfText IsClearRefusal unread
-IsOfTexts (Ok clear) unread = IsOfSection (private_text_of clear.rest) unread
-
-abbrev pub IsOfJoined : Result JoinedText SealError → Unread → Type 0
-IsOfJoined (Err e) unread = IsOfSegments unread
-IsOfJoined (Ok joined) unread = IsOfTexts (clear_of (marks_in joined) joined.bytes) unread
+-- The refusals of a font's file, its size among them.
+use Rattle.std.specs.Prelude.{◌≡◌, ℕ, nat_lt, Bool, true, false, List, length, Err}
+use Rattle.t1_seal.specs.Segments.{joined_of}
+use Rattle.t1_font.specs.Laws.Parts.{IsOfJoined}
+use Rattle.t1_font.specs.declared.unread.Unread.{Unread}
+use Rattle.t1_font.specs.declared.unread.Unread.TheVariants.{Memory}
+use Rattle.t1check.specs.declared.refusals.Reason.{Reason}
+use Rattle.t1check.specs.declared.refusals.Reason.TheVariants.{TooLarge, Font}
+use Rattle.t1check.specs.FontFiles.{font_of}
 
 -- Of a file, which is too large or not: E05, or of its first part that can't be read.
-abbrev pub IsOfSized : Bool → List ℕ → Unread → Type 0
-IsOfSized true bytes unread = unread ≡ TooLarge
-IsOfSized false bytes unread = IsOfJoined (joined_of bytes) unread
+abbrev pub IsOfSized : Bool → List ℕ → Reason → Type 0
+IsOfSized true bytes reason = reason ≡ TooLarge
+IsOfSized false bytes reason = (unread : Unread) × ((reason ≡ Font unread) × IsOfJoined (joined_of bytes) unread)
 
-abbrev pub IsOfFile : List ℕ → Unread → Type 0
-IsOfFile bytes unread = IsOfSized (nat_lt 16777216 (length bytes)) bytes unread
+abbrev pub IsOfFile : List ℕ → Reason → Type 0
+IsOfFile bytes reason = IsOfSized (nat_lt 16777216 (length bytes)) bytes reason
 
 -- A file is refused for its size or for the first part that can't be read, by a refusal of that part.
 abbrev pub RefusedByPart : Type 0
-RefusedByPart = (bytes : List ℕ) (unread : Unread) → font_of bytes ≡ Err unread → IsOfFile bytes unread
+RefusedByPart = (bytes : List ℕ) (reason : Reason) → font_of bytes ≡ Err reason → IsOfFile bytes reason
 
 -- No bytes are refused for want of memory.
 abbrev pub NeverForMemory : Type 0
-NeverForMemory = (bytes : List ℕ) → font_of bytes ≡ Err Memory → ⊥
+NeverForMemory = (bytes : List ℕ) → font_of bytes ≡ Err (Font Memory) → ⊥

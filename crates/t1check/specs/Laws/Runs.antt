@@ -6,12 +6,12 @@ use Rattle.t1_io.specs.Devices.{AppendsFront, SinkState, one_more, SourceState}
 use Rattle.t1check.specs.declared.asked.Options.{Options}
 use Rattle.t1check.specs.declared.status.Status.{Status}
 use Rattle.t1check.specs.declared.status.Status.TheVariants.{Clean, Failed, Faults, Refused}
-use Rattle.t1check.specs.declared.unread.Unread.{Unread}
+use Rattle.t1check.specs.declared.refusals.Reason.{Reason}
 use Rattle.t1check.specs.Answers.{Answer, IsAnswerTo}
 use Rattle.t1check.specs.Ends.{Ends}
 use Rattle.t1check.specs.FontFiles.{font_of}
 use Rattle.t1_report.specs.Waivers.{Waiver}
-use Rattle.t1check.specs.declared.unread.WaiverRefusal.{WaiverRefusal}
+use Rattle.t1check.specs.declared.refusals.WaiverRefusal.{WaiverRefusal}
 use Rattle.t1check.specs.Waived.{IfWaived, asks_waivers}
 
 -- This answer was given, where what went out is known.
@@ -22,17 +22,17 @@ pub record Gave (answer : Answer) (result : Status) (out out' errors errors' : S
 
 -- It is so of what the font's file and the waivers are read as, where their bytes are known.
 abbrev pub IfKnown : Options → Option (List ℕ) → Option (List ℕ)
-    → (Result FontValue Unread → Result (List Waiver) WaiverRefusal → Type 0) → Type 0
+    → (Result FontValue Reason → Result (List Waiver) WaiverRefusal → Type 0) → Type 0
 IfKnown options left text P = IfSome left (λ input. IfWaived (asks_waivers options) text (P (font_of input)))
 
 -- The answer to files that were read so was given.
 abbrev pub Answered : Options → Status → SinkState → SinkState → SinkState → SinkState
-    → Result FontValue Unread → Result (List Waiver) WaiverRefusal → Type 0
+    → Result FontValue Reason → Result (List Waiver) WaiverRefusal → Type 0
 Answered options result out out' errors errors' read waived =
     (answer : Answer) × (IsAnswerTo options read waived answer × Gave answer result out out' errors errors')
 
 -- A front of the answer's text went out.
-abbrev pub WentOut : Options → SinkState → SinkState → Result FontValue Unread
+abbrev pub WentOut : Options → SinkState → SinkState → Result FontValue Reason
     → Result (List Waiver) WaiverRefusal → Type 0
 WentOut options out out' read waived =
     (answer : Answer)
@@ -43,7 +43,7 @@ pub record IsSpared (options : Options) (left : Option (List ℕ)) (failed : Boo
     (waivers waivers' : SourceState) : Type 0 where
   pub unasked : asks_waivers options ≡ false → waivers' ≡ waivers
   pub unread : failed ≡ true → waivers' ≡ waivers
-  pub refused : IfSome left (λ input. (reason : Unread) → font_of input ≡ Err reason → waivers' ≡ waivers)
+  pub refused : IfSome left (λ input. (reason : Reason) → font_of input ≡ Err reason → waivers' ≡ waivers)
 
 -- A read failed, of the font or of the waivers.
 abbrev pub ReadFailed : Bool → SourceState → Type 0

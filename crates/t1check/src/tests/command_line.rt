@@ -1,3 +1,5 @@
+//! Words of the command line, and what they give.
+
 use crate::asked::UsageError;
 use crate::command_line::options;
 use std::alloc::Global;

@@ -1,3 +1,5 @@
+//! Devices that fail at each place of a run.
+
 ghost use Rattle.std.specs.Prelude.{◌≡◌, true};
 ghost use Rattle.t1_io.specs.Limits.{lets_some_through};
 

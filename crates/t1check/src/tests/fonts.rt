@@ -1,3 +1,5 @@
+//! Fonts in each form that is read.
+
 use super::{ended_by, is_clean};
 use std::alloc::{AllocError, Global};
 use std::test::Fail;

@@ -1,3 +1,5 @@
+//! Texts that are refused, each with its line.
+
 use super::{assert_refusals, is_refused};
 use std::alloc::{AllocError, Global};
 use std::process::Abort;

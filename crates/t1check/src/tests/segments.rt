@@ -1,3 +1,5 @@
+//! Broken rows of segments, each with its line.
+
 use super::{assert_refusals, is_refused};
 use std::alloc::{AllocError, Global};
 use std::test::Fail;

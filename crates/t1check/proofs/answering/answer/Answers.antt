@@ -6,12 +6,12 @@ use Rattle.t1check.proofs.answering.answer.Goals as goal
 pub returns-in-Err : goal.returns-in-Err
 returns-in-Err g c =
     explained c.in-Err.error
-    (record { taken = c.in-Err.ensures.taken; text = c.in-Err.ensures.text; help = c.in-Err.ensures.help; only_help = c.in-Err.ensures.only_help }) refl
+    (record { taken = c.in-Err.ensures.taken; text = c.in-Err.ensures.text; help = c.in-Err.ensures.help; only_help = c.in-Err.ensures.only_help }) refl refl
     c.explain.ensures
 
 pub returns-in_default : goal.returns-in_default
 returns-in_default g c =
-    read_input c.in-Ok.options (record { given = c.in-Ok.ensures.given; sound = c.in-Ok.ensures.sound }) c.in_default.is
+    read_input c.in-Ok.options (record { given = c.in-Ok.ensures.given; sound = c.in-Ok.ensures.sound }) c.in_default.is refl
     c.run_on-status.ensures
 
 pub returns-in-Ok-open_file : goal.returns-in-Ok-open_file
@@ -23,5 +23,5 @@ returns-in-Ok-open_file g c =
 
 pub returns-in-Err-open_file : goal.returns-in-Err-open_file
 returns-in-Err-open_file g c =
-    not_opened c.in-Ok.options (string_bytes c.in-Some.name) (record { given = c.in-Ok.ensures.given; sound = c.in-Ok.ensures.sound }) (ap (option_map string_bytes) c.in-Some.is) refl
+    not_opened c.in-Ok.options (string_bytes c.in-Some.name) (record { given = c.in-Ok.ensures.given; sound = c.in-Ok.ensures.sound }) (ap (option_map string_bytes) c.in-Some.is) refl refl
     (c.in-Err-open_file.field-0, (c.as_str.result, c.in-Err-open_file.ensures, c.as_str.ensures.value)) refl c.tell.ensures

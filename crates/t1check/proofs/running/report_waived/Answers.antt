@@ -3,7 +3,7 @@ use Rattle.t1_report.specs.Waivers.{waivers_of}
 use Rattle.t1_report.specs.Checked.{checked}
 use Rattle.t1check.specs.Ends.Reports.{lines, malformed, no_memory}
 use Rattle.t1check.specs.Waived.{as_waivers}
-use Rattle.t1check.specs.declared.unread.WaiverRefusal.TheVariants.{Malformed}
+use Rattle.t1check.specs.declared.refusals.WaiverRefusal.TheVariants.{Malformed}
 use Rattle.t1check.proofs.running.report_waived.Goals as goal
 
 pub returns-in-Err-Malformed : goal.returns-in-Err-Malformed

@@ -1,22 +1,22 @@
 use Rattle.std.proofs.Common.{◌∙◌, refl}
 use Rattle.t1check.specs.Ends.Ends.{refused, shown}
 use Rattle.t1check.specs.Input.StopsAt.{failure, no_memory, past_limit, the_end}
-use Rattle.t1check.specs.declared.unread.Unread.TheVariants.{TooLarge}
+use Rattle.t1check.specs.declared.refusals.Reason.TheVariants.{TooLarge}
 use Rattle.t1check.proofs.AnswerLemmas.{are_read, too_large, unread_ends}
 use Rattle.t1check.proofs.running.run.Goals as goal
 
 pub returns-in-Ok-clause-ends : goal.returns-in-Ok-clause-ends
 returns-in-Ok-clause-ends g c =
-    let checks = rw c.as_slice.ensures.value at c.in-Ok.ensures.checks in
+    let checks = c.in-Ok.ensures.checks in
     shown checks.0
     (are_read _ _ c.in-Bytes.bytes.items _ c.in-Bytes.ensures.gathers.0 c.in-Bytes.ensures.gathers.1 c.in-Bytes.ensures.gathers.2 checks.1)
     (c.in-Bytes.ensures.gathers.3 ∙ c.requires.source) checks.2
 
-pub returns-in-Bytes-clause-ends : goal.returns-in-Bytes-clause-ends
-returns-in-Bytes-clause-ends g c =
+pub returns-in-Err-clause-ends : goal.returns-in-Err-clause-ends
+returns-in-Err-clause-ends g c =
     unread_ends c.args.options.now _ _ _ _ _ _ _ _ _ c.in-Err.unread _ _
     (are_read _ _ c.in-Bytes.bytes.items _ c.in-Bytes.ensures.gathers.0 c.in-Bytes.ensures.gathers.1 c.in-Bytes.ensures.gathers.2 refl)
-    (c.in-Bytes.ensures.gathers.3 ∙ c.requires.source) (rw c.as_slice.ensures.value at c.in-Err.ensures.checks) c.tell_unread.ensures
+    (c.in-Bytes.ensures.gathers.3 ∙ c.requires.source) c.in-Err.ensures.checks c.tell_unread.ensures
 
 pub returns-in-TooLarge-clause-ends : goal.returns-in-TooLarge-clause-ends
 returns-in-TooLarge-clause-ends g c =
@@ -26,8 +26,8 @@ returns-in-TooLarge-clause-ends g c =
 pub returns-in-Ok-clause-whole : goal.returns-in-Ok-clause-whole
 returns-in-Ok-clause-whole g c = the_end c.in-Bytes.ensures.gathers.1
 
-pub returns-in-Bytes-clause-whole : goal.returns-in-Bytes-clause-whole
-returns-in-Bytes-clause-whole g c = the_end c.in-Bytes.ensures.gathers.1
+pub returns-in-Err-clause-whole : goal.returns-in-Err-clause-whole
+returns-in-Err-clause-whole g c = the_end c.in-Bytes.ensures.gathers.1
 
 pub returns-in-TooLarge-clause-whole : goal.returns-in-TooLarge-clause-whole
 returns-in-TooLarge-clause-whole g c =
@@ -36,5 +36,5 @@ returns-in-TooLarge-clause-whole g c =
 pub returns-in-Broken-clause-whole : goal.returns-in-Broken-clause-whole
 returns-in-Broken-clause-whole g c = failure c.in-Broken.ensures.gathers
 
-pub returns-clause-whole : goal.returns-clause-whole
-returns-clause-whole g c = no_memory c.tell_unread-in-NoMemory.ensures
+pub returns-in-NoMemory-clause-whole : goal.returns-in-NoMemory-clause-whole
+returns-in-NoMemory-clause-whole g c = no_memory c.tell_unread-in-NoMemory.ensures

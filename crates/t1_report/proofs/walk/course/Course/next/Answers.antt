@@ -1,6 +1,6 @@
 use Rattle.std.proofs.Common.{◌+◌, ◌<◌, length, ap, sym, subst, ◌∙◌}
 use Rattle.t1_report.specs.Checked.{CheckedFont}
-use Rattle.t1_report.specs.Searching.{checked_in}
+use Rattle.t1_report.specs.Searches.{checked_in}
 use Rattle.t1_report.specs.Courses.{HasInHand}
 use Rattle.t1_report.specs.Faults.{fault_value}
 use Rattle.t1_report.specs.Walks.{HasNoneLater, IsNext, turns_at, turns_in_all}
