@@ -157,7 +157,7 @@ while read -r code text; do
         pass
     fi
 done <"$scratch/book"
-sed -n 's/^ *[A-Za-z]*::[A-Za-z]* => "refused: \(E[0-9]*\) \(.*\)\\n",$/\1 \2/p' "$top/crates/t1check/src/unread.rt" >"$scratch/refusals"
+sed -n 's/^.*"refused: \(E[0-9]*\) \(.*\)\\n",$/\1 \2/p' "$top/crates/t1check/src/refusals.rt" >"$scratch/refusals"
 while read -r code text; do
     if grep -qF "| $code | $text |" "$rules"; then
         pass
@@ -192,7 +192,7 @@ list_cited() {
             if ($0 !~ /;$/) next
             bringing = 0
             if (using !~ /use Rattle\.t1[a-z_]*\.specs\./ ||
-                using ~ /specs\.(declared|Laws|Words|Inner|Workings|Opening|Searches|Searching)\./) next
+                using ~ /specs\.(declared|Laws|Words|Inner|Workings|Opening|Units|Searches)\./) next
             sub(/^.*specs\.[A-Za-z.]*[{]?/, "", using)
             sub(/[}]?;$/, "", using)
             count = split(using, names, /, */)

@@ -1,0 +1,470 @@
+#!/bin/sh
+# Runs the tools that stand beside the program in bin/ on made fonts, and compares each answer, standard output, standard error
+# and status, with what was written here by hand. Names what differs and what is skipped; the last line counts both kinds.
+set -u
+LC_ALL=C
+export LC_ALL
+
+top=$(CDPATH='' cd -- "$(dirname "$0")/.." && pwd -P) || exit 1
+fonts=$top/tests/program/fonts
+all=$top/bin/t1check-all
+explain=$top/bin/t1explain
+if ! "$top/bin/t1check" --help >/dev/null; then
+    echo "failed: bin/t1check --help, which builds the program"
+    echo "0 passed, 1 failed"
+    exit 1
+fi
+scratch=$(mktemp -d) || exit 1
+trap 'rm -rf "$scratch"' EXIT
+trap 'exit 1' HUP INT TERM
+passed=0
+failed=0
+
+fail() {
+    failed=$((failed + 1))
+    printf 'failed: %s\n' "$1"
+}
+
+# Compares what a command answers with standard input: the wanted output, and behind a line `--` the wanted standard error.
+# NAME STATUS COMMAND...
+try() {
+    name=$1 status=$2
+    shift 2
+    sed '/^--$/,$d' >"$scratch/out.wanted" <"$scratch/wanted"
+    awk 'behind { print } /^--$/ { behind = 1 }' >"$scratch/err.wanted" <"$scratch/wanted"
+    timeout 60 "$@" >"$scratch/out" 2>"$scratch/err" </dev/null
+    given=$?
+    for text in out err; do
+        if ! cmp -s "$scratch/$text.wanted" "$scratch/$text"; then
+            fail "$name: another $text (< wanted, > given)"
+            diff "$scratch/$text.wanted" "$scratch/$text"
+            return
+        fi
+    done
+    if [ "$given" -ne "$status" ]; then
+        fail "$name: status $given, wanted $status"
+    else
+        passed=$((passed + 1))
+    fi
+}
+
+wanted() {
+    cat >"$scratch/wanted"
+}
+
+# A folder of fonts with names that are hard to handle.
+odd=$scratch/odd
+mkdir -p "$odd/-dash" "$odd/sub folder/deep" "$odd/empty"
+byte=$(printf 'b\377d')
+cp "$fonts/H02.pfb" "$odd/-dash/-x.pfb"
+cp "$fonts/K02.pfb" "$odd/a=b.t1"
+cp "$fonts/F01.pfb" "$odd/back\\slash.pfb"
+cp "$fonts/F01.pfb" "$odd/$byte.pfb"
+cp "$fonts/E03.bin" "$odd/cut.pfa"
+cp "$fonts/H02.pfb" "$odd/q'\"uote.PFB"
+cp "$fonts/Z05.pfb" "$odd/sub folder/deep/two words.pfb"
+cp "$fonts/Z05.pfb" "$odd/not-a-font.txt"
+ln -s "sub folder" "$odd/link"
+cd "$odd" || exit 1
+
+wanted <<END
+-dash/-x.pfb: 1: glyph A - 9 H02 stems overlap
+a=b.t1: 1: glyph C - 9 K02 seac code not in StandardEncoding
+back\\slash.pfb: 1: font file 0 F01 no end segment
+$byte.pfb: 1: font file 0 F01 no end segment
+cut.pfa: refused: E03 segment cut short
+q'"uote.PFB: 1: glyph A - 9 H02 stems overlap
+sub folder/deep/two words.pfb: 1: font BlueValues 4 Z05 zones too near
+--
+7 fonts: 0 clean, 6 with faults, 1 refused, 0 not checked
+      2 F01
+      2 H02
+      1 K02
+      1 Z05
+END
+for jobs in 1 2 7; do
+    try "a folder, $jobs at once" 2 "$all" -j "$jobs" .
+done
+try 'a folder by its whole path and without it' 2 "$all" ./ . "./sub folder/deep/two words.pfb"
+
+wanted <<'END'
+sub folder/deep/two words.pfb: 1: font BlueValues 4 Z05 zones too near
+q'"uote.PFB: 1: glyph A - 9 H02 stems overlap
+-dash/-x.pfb: 1: glyph A - 9 H02 stems overlap
+a=b.t1: 1: glyph C - 9 K02 seac code not in StandardEncoding
+--
+END
+try 'words in their order, each font once' 1 "$all" -q -- 'sub folder' "q'\"uote.PFB" -dash a=b.t1 ./a=b.t1 'sub folder/'
+
+wanted <<'END'
+not-a-font.txt: 1: font BlueValues 4 Z05 zones too near
+--
+missing.pfb: t1check: read failed
+2 fonts: 0 clean, 1 with faults, 0 refused, 1 not checked
+      1 Z05
+END
+try 'a missing font, and a file that is named' 3 "$all" missing.pfb not-a-font.txt
+
+wanted <<'END'
+--
+t1check-all: there is no font to check
+t1check-all: 't1check-all --help' says how it is used
+END
+try 'a folder without fonts' 3 "$all" empty
+
+mkdir "$scratch/lines"
+cp "$fonts/Z05.pfb" "$scratch/lines/$(printf 'two\nlines.pfb')"
+cp "$fonts/Z05.pfb" "$scratch/lines/one.pfb"
+wanted <<'END'
+one.pfb: 1: font BlueValues 4 Z05 zones too near
+--
+t1check-all: a name with a line end is passed over
+END
+try 'a name with a line end' 3 sh -c "cd '$scratch/lines' && '$all' -q ."
+
+# As a user who may not read the font: root reads all.
+cp "$fonts/Z05.pfb" "$scratch/closed.pfb"
+chmod 000 "$scratch/closed.pfb"
+wanted <<'END'
+--
+closed.pfb: t1check: read failed
+END
+if [ "$(id -u)" -ne 0 ]; then
+    try 'an unreadable font' 3 sh -c "cd '$scratch' && '$all' -q closed.pfb"
+elif chmod 755 "$scratch" && su -s /bin/sh nobody -c "test -x '$top/crates/t1check/out/t1check' && test -x '$all'" 2>/dev/null; then
+    try 'an unreadable font' 3 su -s /bin/sh nobody -c "cd '$scratch' && '$all' -q closed.pfb"
+else
+    echo "skipped: an unreadable font, since nobody may not run $all"
+fi
+
+# Rules.
+wanted <<'END'
+-dash/-x.pfb: 1: glyph A - 9 H02 stems overlap
+cut.pfa: refused: E03 segment cut short
+q'"uote.PFB: 1: glyph A - 9 H02 stems overlap
+sub folder/deep/two words.pfb: 1: font BlueValues 4 Z05 zones too near
+--
+END
+try 'some rules' 2 "$all" -q --only=h02,Z .
+try 'all but some rules' 2 "$all" -q . --except F --except K02
+wanted <<'END'
+--
+t1check-all: --only wants codes of rules or their letters, as H02,Z
+t1check-all: 't1check-all --help' says how it is used
+END
+for codes in E03 E H05 '' ,; do
+    try "codes '$codes'" 3 "$all" --only "$codes" .
+done
+
+# Editions: a stem of width -20 overlaps in the first alone.
+wanted <<'END'
+edge.pfb: 1: glyph A - 9 H02 stems overlap
+--
+END
+cp "$fonts/H02.pfb" "$scratch/edge.pfb"
+try 'edition 1' 1 sh -c "cd '$scratch' && '$all' -q --edition 1 edge.pfb"
+try 'edition 2' 1 sh -c "cd '$scratch' && '$all' -q --edition=2 edge.pfb"
+
+# Waivers.
+cp "$fonts/zones_and_glyphs.pfb" "$scratch/glyphs.pfb"
+cd "$scratch" || exit 1
+wanted <<'END'
+glyphs.pfb: 1: font BlueValues 1 Z07 zone too high for BlueScale
+glyphs.pfb: 2: font StdHW 0 Z01 value of another kind
+--
+1 font: 0 clean, 1 with faults, 0 refused, 0 not checked
+      1 Z01
+      1 Z07
+t1check-all: lines of a font itself can not be waived
+END
+try 'waivers are written' 1 "$all" --write-waivers glyphs.pfb
+wanted <<'END'
+A P03
+A P02
+B GE01
+--
+END
+try 'the waivers' 0 cat glyphs.pfb.waivers
+wanted <<'END'
+glyphs.pfb: 1: font BlueValues 1 Z07 zone too high for BlueScale
+glyphs.pfb: 2: font StdHW 0 Z01 value of another kind
+--
+END
+try 'waivers beside a font' 1 "$all" -q glyphs.pfb
+wanted <<'END'
+glyphs.pfb: 1: font BlueValues 1 Z07 zone too high for BlueScale
+glyphs.pfb: 2: font StdHW 0 Z01 value of another kind
+glyphs.pfb: 3: glyph A 5 6 P03 closepath without a path
+glyphs.pfb: 4: glyph A - 12 P02 path not closed
+glyphs.pfb: 5: glyph B - 4 GE01 no endchar
+--
+END
+try 'waivers left aside' 1 "$all" -q --no-waivers glyphs.pfb
+wanted <<'END'
+glyphs.pfb: 1: font BlueValues 1 Z07 zone too high for BlueScale
+glyphs.pfb: 2: font StdHW 0 Z01 value of another kind
+--
+t1check-all: lines of a font itself can not be waived
+glyphs.pfb: waivers are there already
+END
+try 'waivers that are there' 3 "$all" -q --write-waivers glyphs.pfb
+echo 'A H02' >glyphs.pfb.waivers
+wanted <<'END'
+--
+END
+try 'waivers are overwritten' 0 "$all" -q --write-waivers --force --only P,GE glyphs.pfb
+wanted <<'END'
+A P03
+A P02
+B GE01
+--
+END
+try 'the overwritten waivers' 0 cat glyphs.pfb.waivers
+echo 'A H02' >glyphs.pfb.waivers
+wanted <<'END'
+glyphs.pfb: 6: waiver A H02 U01 waiver not used
+--
+END
+try 'a waiver that is not used' 1 "$all" -q --only U01 glyphs.pfb
+echo 'no waiver' >glyphs.pfb.waivers
+wanted <<'END'
+glyphs.pfb: refused: E14 waivers malformed
+--
+END
+try 'malformed waivers' 2 "$all" -q glyphs.pfb
+rm -f glyphs.pfb.waivers
+
+# Known faults.
+wanted <<'END'
+--
+t1check-all: known can't be read
+t1check-all: 't1check-all --help' says how it is used
+END
+try 'known faults that are missing' 3 "$all" --baseline known glyphs.pfb edge.pfb
+wanted <<'END'
+--
+2 fonts: 2 clean, 0 with faults, 0 refused, 0 not checked
+END
+try 'known faults are written' 0 "$all" --baseline known --update-baseline glyphs.pfb edge.pfb
+wanted <<'END'
+# Known faults: count, rule, unit, font.
+1 Z07 font BlueValues glyphs.pfb
+1 Z01 font StdHW glyphs.pfb
+1 P03 glyph A glyphs.pfb
+1 P02 glyph A glyphs.pfb
+1 GE01 glyph B glyphs.pfb
+1 H02 glyph A edge.pfb
+--
+END
+try 'the known faults' 0 cat known
+cat >known <<'END'
+# Known faults: count, rule, unit, font.
+1 Z07 font BlueValues glyphs.pfb
+2 P03 glyph A glyphs.pfb
+1 GE01 glyph B glyphs.pfb
+1 H02 glyph A edge.pfb
+3 C05 glyph A elsewhere.pfb
+END
+wanted <<'END'
+glyphs.pfb: 2: font StdHW 0 Z01 value of another kind
+glyphs.pfb: 4: glyph A - 12 P02 path not closed
+--
+glyphs.pfb: known faults: P03 glyph A: 2 known, 1 found
+END
+try 'what goes beyond known faults' 1 "$all" -q --baseline known glyphs.pfb edge.pfb
+cp "$fonts/E03.bin" edge.pfb
+wanted <<'END'
+edge.pfb: refused: E03 segment cut short
+--
+END
+try 'known faults of some rules and fonts' 2 "$all" -q --baseline=known --update-baseline --only P,Z01 glyphs.pfb edge.pfb
+wanted <<'END'
+# Known faults: count, rule, unit, font.
+1 Z07 font BlueValues glyphs.pfb
+1 Z01 font StdHW glyphs.pfb
+1 P03 glyph A glyphs.pfb
+1 P02 glyph A glyphs.pfb
+1 GE01 glyph B glyphs.pfb
+1 H02 glyph A edge.pfb
+3 C05 glyph A elsewhere.pfb
+--
+END
+try 'rows of other rules and fonts stand' 0 cat known
+echo 'one H02 glyph A glyphs.pfb' >known
+wanted <<'END'
+--
+t1check-all: no row of known faults: one H02 glyph A glyphs.pfb
+END
+try 'a row that is none' 3 "$all" -q --baseline known glyphs.pfb
+
+# Shards: what they write one behind the other is what one run writes.
+"$all" -q "$fonts" >whole 2>/dev/null
+: >joined
+for part in 1 2 3 4 5; do
+    "$all" -q --shard "$part/5" "$fonts" >>joined
+done
+wanted <<'END'
+--
+END
+try 'shards' 0 cmp whole joined
+try 'an empty shard' 0 "$all" -q --shard 1/2 glyphs.pfb
+wanted <<'END'
+glyphs.pfb: 3: glyph A 5 6 P03 closepath without a path
+--
+END
+try 'a shard' 1 "$all" -q --shard 2/2 glyphs.pfb --only P03
+
+# Usage.
+usage() {
+    wanted <<END
+--
+t1check-all: $1
+t1check-all: 't1check-all --help' says how it is used
+END
+    shift
+    try "usage: $*" 3 "$all" "$@"
+}
+usage 'no font is named'
+usage 'no font is named' -q
+usage 'unknown option --color' --color glyphs.pfb
+usage 'unknown option -x' -qx glyphs.pfb
+usage '-j wants a number from 1 on' -j0 glyphs.pfb
+usage '-j wants a number from 1 on' -j two glyphs.pfb
+usage '--edition wants 1 or 2' --edition 3 glyphs.pfb
+usage '--edition wants a value' glyphs.pfb --edition
+usage '--shard wants I/N, I from 1 to N' --shard 3/2 glyphs.pfb
+usage '--shard wants I/N, I from 1 to N' --shard 2 glyphs.pfb
+usage '--update-baseline wants --baseline' --update-baseline glyphs.pfb
+usage '--update-baseline and --shard exclude one another' --update-baseline --baseline known --shard 1/2 glyphs.pfb
+usage '--write-waivers excludes --baseline and --shard' --write-waivers --shard 1/2 glyphs.pfb
+usage '--force wants --write-waivers' --force glyphs.pfb
+
+# A program in t1check's place that writes a line and then waits, ends itself by a signal, or with a status of its own.
+stand=$scratch/stand
+mkdir -p "$stand/bin" "$stand/docs" "$stand/crates/t1check/out" "$scratch/tmp"
+cp "$all" "$stand/bin/"
+cp "$top/docs/RULES.md" "$stand/docs/"
+printf '#!/bin/sh\n' >"$stand/bin/t1check"
+cat >"$stand/crates/t1check/out/t1check" <<END
+#!/bin/sh
+read -r kind
+case \$kind in
+    wait) echo \$\$ >>'$scratch/running'; exec sleep 60 ;;
+    crash) kill -SEGV \$\$ ;;
+    line) echo '1: font file 0 F01 no end segment'; exit 1 ;;
+    seven) exit 7 ;;
+esac
+END
+chmod +x "$stand/bin/t1check" "$stand/crates/t1check/out/t1check"
+for kind in wait crash line seven; do
+    echo "$kind" >"$kind.pfb"
+done
+wanted <<'END'
+line.pfb: 1: font file 0 F01 no end segment
+--
+crash.pfb: t1check: ended by signal 11
+seven.pfb: t1check: ended with status 7
+END
+try 'a program that crashes' 3 "$stand/bin/t1check-all" -q -j1 crash.pfb line.pfb seven.pfb
+
+# Whether nothing is left of a run that was ended: no process, no file.
+nothing_left() {
+    if [ -n "$(ls "$scratch/tmp")" ]; then
+        fail "$1: a file is left behind"
+        return
+    fi
+    while read -r process; do
+        if kill -0 "$process" 2>/dev/null; then
+            fail "$1: a process is left behind"
+            return
+        fi
+    done <"$scratch/running"
+    passed=$((passed + 1))
+}
+
+# What runs these tests may have it that SIGINT is ignored, as of jobs in the background; then nobody can trap it.
+with=''
+if [ -n "$(sh -c 'kill -s INT $$; echo ignored' 2>/dev/null)" ]; then
+    with='env --default-signal=INT'
+fi
+signals='INT TERM'
+# shellcheck disable=SC2086
+if [ -n "$($with sh -c 'kill -s INT $$; echo ignored' 2>/dev/null)" ] || ! $with true 2>/dev/null; then
+    echo 'skipped: SIGINT, since it is ignored here'
+    signals=TERM
+    with=''
+fi
+cp wait.pfb wait2.pfb
+for signal in $signals; do
+    : >"$scratch/running"
+    # The signal comes once both fonts are being checked.
+    (
+        while [ "$(wc -l <"$scratch/running")" -lt 2 ]; do sleep 1; done
+        kill -s "$signal" "$(cat "$scratch/main")"
+    ) &
+    # shellcheck disable=SC2086
+    TMPDIR=$scratch/tmp $with sh -c "echo \$\$ >'$scratch/main'; exec '$stand/bin/t1check-all' -j2 wait.pfb wait2.pfb" 2>/dev/null
+    given=$?
+    wait
+    case $signal$given in
+        INT130 | TERM143) passed=$((passed + 1)) ;;
+        *) fail "$signal: status $given" ;;
+    esac
+    nothing_left "$signal"
+done
+if [ -c /dev/full ]; then
+    : >"$scratch/running"
+    TMPDIR=$scratch/tmp "$all" -q glyphs.pfb 2>given >/dev/full
+    given=$?
+    if [ "$given" -eq 3 ] && grep -qx 't1check-all: write failed' given; then
+        passed=$((passed + 1))
+    else
+        fail "a full device: status $given"
+    fi
+    nothing_left 'a full device'
+else
+    echo 'skipped: a full device, since there is no /dev/full'
+fi
+
+# The pages of rules and refusals.
+"$explain" f03 | sed -n 1,2p >"$scratch/head"
+"$explain" F03 >"$scratch/upper"
+"$explain" f03 >"$scratch/lower"
+wanted <<'END'
+--
+END
+try 'codes in small letters' 0 cmp "$scratch/upper" "$scratch/lower"
+wanted <<'END'
+F03 FontType is not 1
+
+--
+END
+try 'the heading of a page' 0 cat "$scratch/head"
+wanted <<'END'
+E06 encrypted part too short
+
+Fewer than four encrypted bytes stand behind `eexec`.
+
+The file was cut, or an editor changed the encrypted bytes.
+
+Example: a file that ends behind `currentfile eexec`.
+
+Cure: take it from its source again.
+--
+t1explain: there is no rule and no refusal 'H'
+t1explain: there is no rule and no refusal 'E16'
+END
+try 'a page, and codes that are none' 3 "$explain" H e06 E16
+"$explain" >"$scratch/listed"
+for code in F01 Z11 C09 GE02 K07 L01 U01 E01 E05 E15; do
+    grep -q "^$code " "$scratch/listed" && [ -n "$("$explain" "$code" | sed -n 3p)" ] || fail "t1explain: no page of $code"
+done
+passed=$((passed + 1))
+wanted <<'END'
+85
+--
+END
+try 'the list of rules and refusals' 0 sh -c "'$explain' | wc -l | tr -d ' '"
+
+printf '%d passed, %d failed\n' "$passed" "$failed"
+[ "$failed" -eq 0 ]
