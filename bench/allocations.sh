@@ -176,7 +176,7 @@ build_plain() {
     copy_crates "$top" "$work"
     mkdir -p "$work/crates/plain/src"
     cp "$top/bench/allocations/plain.txt" "$work/crates/plain/src/main.rt"
-    echo 'plain: t1_seal t1_font t1_char t1_report' >>"$work/crates.txt"
+    echo 'plain: t1_font t1_char t1_report' >>"$work/crates.txt"
     cd "$work/crates/plain"
     if ! rt run >"$log" 2>&1 <"$pfb"; then
         cat "$log" >&2

@@ -4,7 +4,7 @@
 copy_crates() {
     mkdir -p "$2/crates"
     for crate in t1_io t1_seal t1_samples t1_scan t1_font t1_char t1_rules t1_report; do
-        cp -R "$1/crates/$crate" "$2/crates/"
+        cp -Rp "$1/crates/$crate" "$2/crates/"
         grep "^$crate:" "$1/crates.txt" >>"$2/crates.txt"
     done
 }

@@ -22,7 +22,7 @@ trap 'rm -rf "$work"' EXIT
 copy_crates "$top" "$work"
 mkdir -p "$work/crates/resuming/src"
 cp "$top/bench/instructions/main.txt" "$work/crates/resuming/src/main.rt"
-echo 'resuming: t1_seal t1_font t1_char t1_rules t1_report' >>"$work/crates.txt"
+echo 'resuming: t1_font t1_char t1_rules t1_report' >>"$work/crates.txt"
 if ! (cd "$work/crates/resuming" && rt run) >"$work/log" 2>&1 <"$font"; then
     cat "$work/log" >&2
     exit 1

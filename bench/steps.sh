@@ -19,7 +19,7 @@ cp "$top/bench/steps/main.txt" "$work/crates/timing/src/main.rt"
 for proof in Invariants Answers; do
     cp "$top/bench/steps/watch_glyph/$proof.txt" "$work/crates/timing/proofs/watch_glyph/$proof.antt"
 done
-echo 'timing: t1_seal t1_font t1_char t1_rules t1_report' >>"$work/crates.txt"
+echo 'timing: t1_font t1_char t1_rules t1_report' >>"$work/crates.txt"
 
 cd "$work/crates/timing"
 if ! rt run >"$work/log" 2>&1 </dev/null; then
