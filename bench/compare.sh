@@ -11,6 +11,7 @@ export LC_ALL=C
 
 usage='usage: bench/compare.sh FOLDER [N]   (FOLDER holds fonts, N is a number of rounds from 1 to 999)'
 top=$(cd -- "$(dirname -- "$0")/.." && pwd) || exit 1
+. "$top/bench/table.sh"
 built=$top/crates/t1check/out/t1check
 gnu_time=/usr/bin/time
 
@@ -103,19 +104,14 @@ thousandths() {
     printf '%d.%03d' $(($1 / 1000)) $(($1 % 1000))
 }
 
-# Prints a program's processor time a font, given its least times in milliseconds on the fonts and on a missing file.
-print_spent() {
-    local name=$1 whole=$2 start=$3
-    printf '%-8s processor time %s ms a font, of which a start takes %s ms\n' "$name" \
-        "$(thousandths $((whole * 1000 / ${#fonts[@]})))" "$(thousandths $((start * 1000 / ${#fonts[@]})))"
-}
-
-# Prints a program's line: its name, its least time in microseconds, its greatest memory in KiB.
-print_line() {
-    local name=$1 least=$2 memory=$3
-    printf '%-8s least time %s s, %d fonts a second, %s MB a second' "$name" \
-        "$(thousandths $((least / 1000)))" $((${#fonts[@]} * 1000000 / least)) "$(thousandths $((bytes * 1000 / least)))"
-    ((memory == 0)) || printf ', peak memory %s MB' "$(thousandths $((memory * 1024 / 1000)))"
+# Prints a row of the table, of thousandths: what was measured, its unit, and the figure of each program.
+print_row() {
+    printf '%s\t%s' "$1" "$2"
+    shift 2
+    local figure
+    for figure; do
+        printf '\t%s' "$(thousandths "$figure")"
+    done
     printf '\n'
 }
 
@@ -165,17 +161,29 @@ done
 
 printf '%d fonts, %s MB, rounds timed: %d\n' "${#fonts[@]}" "$(thousandths $((bytes / 1000)))" "$rounds"
 printf 't1check  answers: %d without a line, %d with a report, %d refused\n' "${answers[@]}"
+rates=()
+throughputs=()
+spent_each=()
+start_each=()
+rest_each=()
+memories=()
 for turn in "${!programs[@]}"; do
-    print_line "${names[turn]}" "${leasts[turn]}" "${peaks[turn]}"
-    print_spent "${names[turn]}" "${wholes[turn]}" "${starts[turn]}"
+    count=${#fonts[@]}
+    rates+=($((count * 1000000000 / leasts[turn])))
+    throughputs+=($((bytes * 1000 / leasts[turn])))
+    spent_each+=($((wholes[turn] * 1000 / count)))
+    start_each+=($((starts[turn] * 1000 / count)))
+    rest_each+=($(((wholes[turn] - starts[turn]) * 1000 / count)))
+    memories+=($((peaks[turn] * 1024 / 1000)))
+    leasts[turn]=$((leasts[turn] / 1000))
 done
-if ((${#programs[@]} == 2)); then
-    printf 'ratio    t1check takes %s times the time of t1lint' "$(thousandths $((leasts[0] * 1000 / leasts[1])))"
-    printf ', and %s times its processor time' "$(thousandths $((wholes[0] * 1000 / wholes[1])))"
-    if ((wholes[1] > starts[1])); then
-        printf '; less the starts %s times' "$(thousandths $(((wholes[0] - starts[0]) * 1000 / (wholes[1] - starts[1]))))"
-    fi
-    printf '\n'
-else
-    printf 't1lint   not installed\n'
-fi
+{
+    print_row 'least time' s "${leasts[@]}"
+    print_row 'fonts a second' count "${rates[@]}"
+    print_row 'read a second' MB "${throughputs[@]}"
+    print_row 'processor time a font' ms "${spent_each[@]}"
+    print_row 'of which a start takes' ms "${start_each[@]}"
+    print_row 'less that start' ms "${rest_each[@]}"
+    ((!has_gnu_time)) || print_row 'peak memory' MB "${memories[@]}"
+} | print_table "${names[1]:-}"
+((${#programs[@]} == 2)) || printf "t1lint isn't installed\n"

@@ -5,6 +5,7 @@
 # `rustc`.
 set -eu
 top=$(cd "$(dirname "$0")/.." && pwd)
+. "$top/bench/table.sh"
 work=$(mktemp -d)
 trap 'rm -rf "$work"' EXIT
 
@@ -25,6 +26,7 @@ fi
 
 # Each line is a kind, the section's bytes, the best time in microseconds and a sum over the texts.
 paste -d ' ' "$work/ours" "$work/theirs" | awk '
-    $4 != $8 { print "the texts of " $1 " differ"; failed = 1 }
-    { printf "%s: t1_seal %.0f MB/s, plain Rust %.0f MB/s, %.2f times its time\n", $1, $2 / $3, $6 / $7, $3 / $7 }
-    END { exit failed }'
+    $4 != $8 { print "the texts of " $1 " differ" >"/dev/stderr"; failed = 1 }
+    { printf "%s section\tMB/s\t%.0f\t%.0f\n", $1, $2 / $3, $6 / $7 }
+    END { exit failed }' >"$work/rows"
+print_table 'plain Rust' <"$work/rows"

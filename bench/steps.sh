@@ -13,6 +13,7 @@ work=$(mktemp -d)
 trap 'rm -rf "$work"' EXIT
 
 . "$top/bench/crates.sh"
+. "$top/bench/table.sh"
 copy_crates "$top" "$work"
 mkdir -p "$work/crates/timing/src" "$work/crates/timing/proofs/watch_glyph"
 cp "$top/bench/steps/main.txt" "$work/crates/timing/src/main.rt"
@@ -26,4 +27,5 @@ if ! rt run >"$work/log" 2>&1 </dev/null; then
     cat "$work/log" >&2
     exit 1
 fi
-find -L "$folder" -type f \( -name '*.pfb' -o -name '*.pfa' -o -name '*.t1' \) | sort | out/timing
+find -L "$folder" -type f \( -name '*.pfb' -o -name '*.pfa' -o -name '*.t1' \) | sort | out/timing >"$work/rows"
+print_table <"$work/rows"
