@@ -103,8 +103,8 @@ led_to step s finishes behind called = only step true s
 abbrev pub run_by : StepView → Effect → (State → Run) → (ℕ → List ℕ → State → Run) → Run
 run_by step e behind called = led_to step e.state e.action behind called
 
--- The steps of tokens, where n calls more can be open: n is most_calls less the length of the path. With n = 0 no effect calls, so
--- the row for a call says nothing then.
+-- The steps of tokens, where n calls more can be open: n is most_calls less the length of the path. With n = 0 no effect calls,
+-- so the row for a call says nothing then.
 unfoldable pub expansion : FontValue → ℕ → List ℕ → List CharToken → State → Run
 expansion font n path [] s = nothing s
 expansion font zero path (t ∷ ts) s =

@@ -208,7 +208,8 @@ impl<'a> Frames<'a> {
     fn name(&mut self, font: &'a Font<'a>)
         ensures named { named_of self.new.named ≡ named_at font.now self.old.step.token self.old.step.stack }
         ensures found { self.new.step.found ≡ is_some (named_at font.now self.old.step.token self.old.step.stack) }
-        ensures kept { self.new ≡ record self.old { named = self.new.named; step = record self.old.step { found = self.new.step.found } } }
+        ensures kept { self.new
+            ≡ record self.old { named = self.new.named; step = record self.old.step { found = self.new.step.found } } }
     {
         self.named = named_at(font, self.step.token, &self.step.stack);
         self.step.found = self.named.is_some();

@@ -86,7 +86,8 @@ impl<'a> Model for Machine<'a> {
 
     ghost Value = { MachineView };
 
-    ghost view = { λ m. record { font = m.font.now; glyph = m.glyph; edition = m.edition; counted = m.counted; step = step_value m.frames.step } };
+    ghost view = { λ m. record { font = m.font.now; glyph = m.glyph; edition = m.edition; counted = m.counted;
+        step = step_value m.frames.step } };
 
     ghost invariant = { λ m. IsAt (limit_of m.edition) (steps_of m.font.now m.glyph) m.font.now m.counted m.answer m.frames
         × (m.limit ≡ limit_of m.edition) };
@@ -135,7 +136,8 @@ impl<'a> Machine<'a> {
     #[inline(always)]
     pub fn step(&mut self) -> Turn<'_>
         ensures* moves_on { sem 𝓛 (MovesOn self.entry) }
-        ensures turn { turn_value result ≡ turn_at (limit_of self.old.edition) (steps_of self.old.font self.old.glyph) self.old.counted }
+        ensures turn { turn_value result
+            ≡ turn_at (limit_of self.old.edition) (steps_of self.old.font self.old.glyph) self.old.counted }
     {
         match self.tell() {
             Answer::Step => Turn::Step(self.current()),

@@ -102,8 +102,10 @@ fn add_glyph(
     requires sidebearings { AreOf font.now sidebearings.now }
     requires glyph { glyph < length font.now.glyphs }
     requires few { length font.now.glyphs ≤ 65535 }
-    requires front { IsFront (checked font.now sidebearings.now.edition) waivers.now (glyph + 1) 0 0 (faults_of faults.old.items) }
-    ensures { OnOk result (IsFront (checked font.now sidebearings.now.edition) waivers.now (glyph + 2) 0 0 (faults_of faults.new.items)) }
+    requires front { IsFront (checked font.now sidebearings.now.edition) waivers.now (glyph + 1) 0 0
+        (faults_of faults.old.items) }
+    ensures { OnOk result (IsFront (checked font.now sidebearings.now.edition) waivers.now (glyph + 2) 0 0
+        (faults_of faults.new.items)) }
 {
     let edition = sidebearings.edition();
     let limit = edition.step_limit();
@@ -134,8 +136,10 @@ fn add_waiver(
     requires place { place < length waivers.now }
     requires few { length font.now.glyphs ≤ 65535 }
     requires few_waivers { length waivers.now ≤ 1048576 }
-    requires front { IsFront (checked font.now sidebearings.now.edition) waivers.now (length font.now.glyphs + 1) (place + 1) 0 (faults_of faults.old.items) }
-    ensures { OnOk result (IsFront (checked font.now sidebearings.now.edition) waivers.now (length font.now.glyphs + 1) (place + 2) 0 (faults_of faults.new.items)) }
+    requires front { IsFront (checked font.now sidebearings.now.edition) waivers.now (length font.now.glyphs + 1) (place + 1) 0
+        (faults_of faults.old.items) }
+    ensures { OnOk result (IsFront (checked font.now sidebearings.now.edition) waivers.now (length font.now.glyphs + 1) (place + 2) 0
+        (faults_of faults.new.items)) }
 {
     let fault = FaultPlace {
         unit: font.glyphs().len() as u32 + 1,

@@ -36,7 +36,8 @@ pub(crate) fn check_waiver<'a>(
 ) -> Check
     requires sidebearings { AreOf font.now sidebearings.now }
     requires few { length font.now.glyphs ≤ 65535 }
-    ensures rules { (n : ℕ) → has result.rules n ≡ tells_unused (checked font.now sidebearings.now.edition) waivers.now (place + 1) n }
+    ensures rules { (n : ℕ) → has result.rules n
+        ≡ tells_unused (checked font.now sidebearings.now.edition) waivers.now (place + 1) n }
     ensures turns { result.turns ≡ turns_if_any (checked font.now sidebearings.now.edition) (slice_get waivers.now place) }
     ensures few { result.turns ≤ 1000001 }
 {

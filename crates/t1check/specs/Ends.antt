@@ -88,7 +88,8 @@ pub data Shows (options : Options) (font : FontValue) (waivers waivers' : Source
 pub data Reports (options : Options) (font : FontValue) (waived : Result (List Waiver) WaiverRefusal)
     (out out' errors errors' : SinkState) (result : Status) : Type 0 where
   lines :
-      (waivers : List Waiver) → waived ≡ Ok waivers → (faults : List FaultValue) → IsReport (checked font options.edition) waivers faults
+      (waivers : List Waiver) → waived ≡ Ok waivers → (faults : List FaultValue)
+      → IsReport (checked font options.edition) waivers faults
       → Gives (lines_of font waivers (selection options faults))
       (status_of (selection options faults)) out out' errors errors' result
       → Reports options font waived out out' errors errors' result

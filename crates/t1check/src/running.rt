@@ -29,7 +29,8 @@ use t1_io::{Sink, Source};
 use t1_report::{LARGEST_WAIVERS, WaiverError, Waivers, each_font_has_a_report};
 use t1_rules::{Sidebearings, glyph_named};
 
-/// Reads a font to its end and writes its report, or the trace of a glyph. The waivers that the options ask for are read once the font is.
+/// Reads a font to its end and writes its report, or the trace of a glyph. The waivers that the options ask for are read once the
+/// font is.
 pub fn run<R: Source, V: Source, W: Sink, E: Sink>(
     alloc: Global,
     source: &mut R,
@@ -39,8 +40,8 @@ pub fn run<R: Source, V: Source, W: Sink, E: Sink>(
     errors: &mut E,
 ) -> Status
     requires source { (R.state source.old).failed ≡ false }
-    ensures ends { Ends options.now (R.state source.old).left (R.state source.new).failed (V.state waivers.old) (V.state waivers.new)
-        (W.state out.old) (W.state out.new) (E.state errors.old) (E.state errors.new) result }
+    ensures ends { Ends options.now (R.state source.old).left (R.state source.new).failed (V.state waivers.old)
+        (V.state waivers.new) (W.state out.old) (W.state out.new) (E.state errors.old) (E.state errors.new) result }
     ensures reads { (R.state source.new).takes ≤ (R.state source.old).takes + 16777217 }
     ensures taken { TakesAtMost 16777217 (R.state source.old).left (R.state source.new).left }
     ensures stops { (R.state source.new).late_takes ≡ (R.state source.old).late_takes }

@@ -26,7 +26,8 @@ pub fn write_trace<'a, W: Sink>(
 /// Writes the steps of a glyph up to the limit and the line on more of them, each before it is executed.
 fn write_steps<W: Sink>(sink: &mut W, mut machine: Machine<'_>) -> Result<(), Broken>
     requires { machine.counted ≡ 0 }
-    ensures { Writes (W.state sink.old) (W.state sink.new) (trace_of machine.entry.edition machine.entry.font machine.entry.glyph) result }
+    ensures { Writes (W.state sink.old) (W.state sink.new)
+        (trace_of machine.entry.edition machine.entry.font machine.entry.glyph) result }
 {
     loop {
         match machine.step() {

@@ -40,7 +40,8 @@ pub record IsListing (begun : Listing) (from : Cursor) (now : Listing) (left : C
   pub most : now.most ≡ begun.most
 
 -- The step of the next token was listed, and executed.
-pub record Takes (old : Listing) (left : Cursor) (token : CharToken) (action : Action) (behind : Cursor) (new : Listing) : Type 0 where
+pub record Takes (old : Listing) (left : Cursor) (token : CharToken) (action : Action) (behind : Cursor) (new : Listing)
+    : Type 0 where
   pub tokens : tokens_left left ≡ token ∷ behind_token token (tokens_left behind)
   pub step : steps_in new ≡ steps_in old ++ step_taken old token behind ∷ []
   pub effect_is : effect (state_in new) action ≡ effect_taken old token

@@ -34,7 +34,8 @@ pub record PassesNumber (ahead behind : Cursor) (old new : List ℤ) : Type 0 wh
 pub record GoesOverOne (font : FontValue) (f new : Frames) : Type 0 where
   pub number : ℤ
   pub room : length f.step.stack < 24
-  pub behind : steps_behind font f ≡ step_at font f.step.path.items (Number number) (tokens_left new.current) (state_in f) ∷ steps_behind font new
+  pub behind : steps_behind font f
+      ≡ step_at font f.step.path.items (Number number) (tokens_left new.current) (state_in f) ∷ steps_behind font new
   pub path : new.step.path.items ≡ f.step.path.items
   pub callers : new.callers.items ≡ f.callers.items
 

@@ -10,7 +10,8 @@ abbrev pub AreNumbered : List Step → Type 0
 AreNumbered steps = map step_value steps ≡ numbered 1 (map step_view steps)
 
 -- To the steps in front those of a run were added, until there were so many.
-pub record IsExpanded (most : ℕ) (front : List StepView) (run : Run) (steps : List StepView) (finished : Bool) (state : State) : Type 0 where
+pub record IsExpanded (most : ℕ) (front : List StepView) (run : Run) (steps : List StepView) (finished : Bool) (state : State)
+    : Type 0 where
   pub steps_are : steps ≡ take most (front ++ run.steps)
   pub finished_is : length steps < most → finished ≡ run.finished
   pub state_is : length steps < most → state ≡ run.state

@@ -10,4 +10,5 @@ HasReport = (font : CheckedFont) (waivers : List Waiver) → (faults : List Faul
 
 abbrev pub HasNoOtherReport : Type 0
 HasNoOtherReport =
-    (font : CheckedFont) (waivers : List Waiver) (a b : List FaultValue) → IsReport font waivers a → IsReport font waivers b → a ≡ b
+    (font : CheckedFont) (waivers : List Waiver) (a b : List FaultValue) → IsReport font waivers a → IsReport font waivers b →
+    a ≡ b

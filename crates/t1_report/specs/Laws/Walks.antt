@@ -14,7 +14,8 @@ AreTheReport = (font : CheckedFont) (waivers : List Waiver) (faults : List Fault
 
 -- After the mark of a fault they are those behind it in the report.
 abbrev pub AreTheRest : Type 0
-AreTheRest = (font : CheckedFont) (waivers : List Waiver) (faults : List FaultValue) (k : ℕ) (fault : FaultValue) (rest : List FaultValue) →
+AreTheRest =
+    (font : CheckedFont) (waivers : List Waiver) (faults : List FaultValue) (k : ℕ) (fault : FaultValue) (rest : List FaultValue) →
     length font.value.glyphs ≤ 65535 → length waivers ≤ 1048576 → IsReport font waivers faults → slice_get faults k ≡ Some fault →
     AreLater font waivers (mark_of fault) rest ↔ (rest ≡ drop (k + 1) faults)
 
@@ -25,7 +26,8 @@ NoneIsGivenAtFirst = (faults : List FaultValue) → IsSoFar faults 0 first_mark
 -- Where k faults were given so far, and k is the mark's number, the next fault is the one behind them in the
 -- report; then k + 1 were given, and that is the number of its mark.
 abbrev pub MarksGoOnCounting : Type 0
-MarksGoOnCounting = (font : CheckedFont) (waivers : List Waiver) (faults : List FaultValue) (k : ℕ) (mark : Mark) (fault : FaultValue) →
+MarksGoOnCounting =
+    (font : CheckedFont) (waivers : List Waiver) (faults : List FaultValue) (k : ℕ) (mark : Mark) (fault : FaultValue) →
     length font.value.glyphs ≤ 65535 → length waivers ≤ 1048576 → IsReport font waivers faults → IsSoFar faults k mark →
     IsNext font waivers mark fault → (slice_get faults k ≡ Some fault) × IsSoFar faults (k + 1) (mark_of fault)
 
@@ -51,6 +53,7 @@ GivenAreTheFront = (font : CheckedFont) (waivers : List Waiver) (faults : List F
 
 -- The faults after such a mark are the report without the first k.
 abbrev pub AreBehindTheCount : Type 0
-AreBehindTheCount = (font : CheckedFont) (waivers : List Waiver) (faults : List FaultValue) (k : ℕ) (mark : Mark) (rest : List FaultValue) →
+AreBehindTheCount =
+    (font : CheckedFont) (waivers : List Waiver) (faults : List FaultValue) (k : ℕ) (mark : Mark) (rest : List FaultValue) →
     length font.value.glyphs ≤ 65535 → length waivers ≤ 1048576 → IsReport font waivers faults → IsSoFar faults k mark →
     AreLater font waivers mark rest ↔ (rest ≡ drop k faults)

@@ -65,7 +65,8 @@ impl<'a> Course<'a> {
     pub(crate) fn turns(&self) -> u64
         requires { IsCourse self.now }
         ensures turns { result ≡ turns_so_far self.now.search }
-        ensures few { result ≤ (step_limit (checked_in self.now.search) + 1) * (length self.now.search.font.now.glyphs + length self.now.search.waivers.now) }
+        ensures few { result ≤ (step_limit (checked_in self.now.search) + 1)
+            * (length self.now.search.font.now.glyphs + length self.now.search.waivers.now) }
     {
         self.search.turns()
     }
@@ -76,8 +77,8 @@ impl<'a> Course<'a> {
         ensures next { MatchOption result (HasNoneLater (checked_in self.old.search) self.old.search.waivers.now self.old.mark)
             (λ fault. IsNext (checked_in self.old.search) self.old.search.waivers.now self.old.mark (fault_value fault)) }
         ensures mark { self.new.mark ≡ mark_after self.old.mark result }
-        ensures turns { turns_so_far self.new.search
-            ≡ turns_after (checked_in self.old.search) self.old.search.waivers.now self.old.search.from self.old.search.first result }
+        ensures turns { turns_so_far self.new.search ≡ turns_after (checked_in self.old.search) self.old.search.waivers.now
+            self.old.search.from self.old.search.first result }
         ensures course { IsCourse self.new }
         ensures font { checked_in self.new.search ≡ checked_in self.old.search }
         ensures waivers { self.new.search.waivers.now ≡ self.old.search.waivers.now }

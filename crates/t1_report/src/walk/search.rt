@@ -64,8 +64,8 @@ impl<'a> Search<'a> {
         ensures first { result.first ≡ step }
         ensures unit { result.unit ≡ unit }
         ensures turns { result.passed + turns_in result.part + result.checked ≡ 0 }
-        ensures behind { (p : Place) → IsTold (checked font.now sidebearings.now.edition) waivers.now p → p.unit ≡ unit → step ≤ p.step →
-            step_of_part result.part ≤ p.step }
+        ensures behind { (p : Place) → IsTold (checked font.now sidebearings.now.edition) waivers.now p → p.unit ≡ unit →
+            step ≤ p.step → step_of_part result.part ≤ p.step }
     {
         let part = if unit == 0 {
             Part::Font(FontPlaces::from(font, step))
@@ -118,7 +118,8 @@ impl<'a> Search<'a> {
     pub(crate) fn turns(&self) -> u64
         requires { IsSearch self.now }
         ensures turns { result ≡ self.now.passed + turns_in self.now.part + self.now.checked }
-        ensures few { result ≤ (step_limit (checked_in self.now) + 1) * (length self.now.font.now.glyphs + length self.now.waivers.now) }
+        ensures few { result ≤ (step_limit (checked_in self.now) + 1)
+            * (length self.now.font.now.glyphs + length self.now.waivers.now) }
     {
         self.passed + self.turns_in_part() + self.checked
     }
