@@ -192,7 +192,7 @@ list_cited() {
             if ($0 !~ /;$/) next
             bringing = 0
             if (using !~ /use Rattle\.t1[a-z_]*\.specs\./ ||
-                using ~ /specs\.(declared|Laws|Words|Inner|Workings|Opening|Units|Searches)\./) next
+                using ~ /specs\.(declared|Laws)\./) next
             sub(/^.*specs\.[A-Za-z.]*[{]?/, "", using)
             sub(/[}]?;$/, "", using)
             count = split(using, names, /, */)
@@ -218,12 +218,12 @@ list_cited() {
     ' "$@" | sort -u
 }
 
-# `Gathers` is a word of reading.rt alone, which docs/DEFINITIONS.md names as private.
+# A word of specs/Private that a public contract cites has no row, and so is told.
 awk -F '|' '/^\| *[A-Z]+[0-9]+ *\|/ { print $4; next } /^\|/ { print $2 }' "$top/docs/DEFINITIONS.md" |
     grep -o '`[^`]*`' | tr -d '`' | tr ' ' '\n' | sort -u >"$scratch/listed"
 list_public >"$scratch/public"
 # shellcheck disable=SC2046
-list_cited $(cat "$scratch/public") | grep -vx Gathers >"$scratch/cited"
+list_cited $(cat "$scratch/public") >"$scratch/cited"
 while read -r word; do
     if grep -qxF -e "$word" "$scratch/listed"; then
         pass

@@ -3,7 +3,7 @@ use Rattle.std.proofs.Common.{◌≡◌, ℕ, ◌<◌, ◌≤◌, Bool, true, fa
 use Rattle.std.proofs.lemmas.List.{take_all, take-append-le}
 use Rattle.t1_char.specs.Effects.{State}
 use Rattle.t1_char.specs.Steps.{StepView, Run, first, only, after, and_then}
-use Rattle.t1_char.specs.Workings.Steps.{GoesOn, IsExpanded}
+use Rattle.t1_char.specs.Private.Steps.{GoesOn, IsExpanded}
 
 -- One step of the rest was added.
 pub goes_more : (front : List StepView) (run : Run) (steps : List StepView) (step : StepView) (rest : Run) → GoesOn front run steps (first step rest) → GoesOn front run (steps ++ step ∷ []) rest

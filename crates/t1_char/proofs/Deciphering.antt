@@ -3,7 +3,7 @@ use Rattle.std.proofs.Common.{◌≡◌, ℕ, ◌<◌, ◌++◌, List, [], ◌�
 use Rattle.t1_seal.specs.Cipher.{decrypted, plain_byte, state_after}
 use Rattle.t1_seal.proofs.States.{starts_at_the_start, state_runs_along}
 use Rattle.t1_seal.proofs.Deciphering.{decrypted-push}
-use Rattle.t1_char.specs.Workings.Cursors.{deciphered}
+use Rattle.t1_char.specs.Private.Cursors.{deciphered}
 
 deciphered_behind : (start : ℕ) (front rest : List ℕ) → decrypted start (front ++ rest) ≡ decrypted start front ++ deciphered (Some (state_after start front)) rest
 unfolding deciphered

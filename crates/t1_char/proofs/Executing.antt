@@ -9,11 +9,11 @@ use Rattle.t1_char.specs.declared.token.CharToken.TheVariants.{Command, Cut, Num
 use Rattle.t1_char.specs.Charstrings.{code_at, tokens_in}
 use Rattle.t1_char.specs.Effects.{State, CalledSubr, Action, goes, calls, returns, finishes, effect, effect_of, most_calls}
 use Rattle.t1_char.specs.Steps.{StepView, at_start, is_callsubr, named_at, effect_at, step_at, steps_of}
-use Rattle.t1_char.specs.Workings.Actions.{named_of, state_of}
-use Rattle.t1_char.specs.Workings.Cursors.{tokens_left}
+use Rattle.t1_char.specs.Private.Actions.{named_of, state_of}
+use Rattle.t1_char.specs.Private.Cursors.{tokens_left}
 use Rattle.t1_char.specs.Rests.{frame, rest_of}
-use Rattle.t1_char.specs.Workings.Frames.{IsReady, frames_with, left_behind, callers_of, state_in, step_here, steps_from, steps_behind}
-use Rattle.t1_char.specs.Workings.Plain.{GoesOverOne, IsPlainEffect, PassesNumber}
+use Rattle.t1_char.specs.Private.Frames.{IsReady, frames_with, left_behind, callers_of, state_in, step_here, steps_from, steps_behind}
+use Rattle.t1_char.specs.Private.Plain.{GoesOverOne, IsPlainEffect, PassesNumber}
 use Rattle.t1_char.proofs.Expanding.{IsInner, open_by, behind_open}
 use Rattle.t1_char.proofs.Rests.{rest_of_one, rest_goes, rest_calls, rest_returns, rest_finishes, caller_on_top}
 

@@ -6,7 +6,7 @@ use Rattle.t1_char.specs.declared.token.CharToken.TheVariants.{End}
 use Rattle.t1_char.specs.Charstrings.{tokens_in}
 use Rattle.t1_char.specs.Effects.{State, CalledSubr, Action, goes, calls, returns, finishes, effect, effect_of}
 use Rattle.t1_char.specs.Steps.{is_end, effect_at, step_at, run_by, first, only, and_then, expansion}
-use Rattle.t1_char.specs.Workings.Cursors.{behind_token}
+use Rattle.t1_char.specs.Private.Cursors.{behind_token}
 
 pub run_goes : (font : FontValue) (n : ℕ) (path : List ℕ) (t : CharToken) (ts : List CharToken) (s x : State) → effect_at font path t s ≡ effect x goes → expansion font n path (t ∷ ts) s ≡ first (step_at font path t ts s) (expansion font n path ts x)
 unfolding expansion

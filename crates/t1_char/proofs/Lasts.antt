@@ -2,7 +2,7 @@
 use Rattle.std.proofs.Common.{◌≡◌, ℕ, ◌<◌, nat_lt, Bool, true, false, ◌&&◌, List, [], ◌∷◌, refl, ap, ◌∙◌, cond, lt-ltb}
 use Rattle.t1_char.specs.declared.token.CharToken.{CharToken}
 use Rattle.t1_char.specs.Steps.{is_end, is_return, is_last}
-use Rattle.t1_char.specs.Workings.Cursors.{behind_token}
+use Rattle.t1_char.specs.Private.Cursors.{behind_token}
 
 and_false : (a b : Bool) → b ≡ false → (a && b) ≡ false
 and_false true b h = h

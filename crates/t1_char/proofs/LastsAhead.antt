@@ -7,7 +7,7 @@ use Rattle.t1_char.specs.declared.token.CharToken.TheVariants.{Short}
 use Rattle.t1_char.specs.Commands.{escaped_of}
 use Rattle.t1_char.specs.Tokens.{Form, whole, two, five, form_of, completed, more_in, escaped_code, long_number, tokens_behind, tokens_of}
 use Rattle.t1_char.specs.Steps.{is_end, is_return, is_last}
-use Rattle.t1_char.specs.Workings.Cursors.{bytes_left, tokens_left, behind_token, deciphered, key_after}
+use Rattle.t1_char.specs.Private.Cursors.{bytes_left, tokens_left, behind_token, deciphered, key_after}
 
 -- As many bytes are left as are to be deciphered.
 pub length_deciphered : (key : Option ℕ) (bytes : List ℕ) → length (deciphered key bytes) ≡ length bytes

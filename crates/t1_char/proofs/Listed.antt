@@ -6,10 +6,10 @@ use Rattle.t1_char.specs.declared.token.CharToken.{CharToken}
 use Rattle.t1_char.specs.Charstrings.{tokens_in}
 use Rattle.t1_char.specs.Effects.{State, Action, goes, calls, returns, finishes, effect, most_calls}
 use Rattle.t1_char.specs.Steps.{Run, StepView, named_at, first, only, and_then, expansion}
-use Rattle.t1_char.specs.Workings.Cursors.{tokens_left, behind_token}
-use Rattle.t1_char.specs.Workings.Listings.{steps_in, state_in, run_from, step_taken, effect_taken, IsListing, Takes}
+use Rattle.t1_char.specs.Private.Cursors.{tokens_left, behind_token}
+use Rattle.t1_char.specs.Private.Listings.{steps_in, state_in, run_from, step_taken, effect_taken, IsListing, Takes}
 use Rattle.t1_char.specs.StepValues.{step_view}
-use Rattle.t1_char.specs.Workings.Steps.{AreNumbered, GoesOn, IsExpanded}
+use Rattle.t1_char.specs.Private.Steps.{AreNumbered, GoesOn, IsExpanded}
 use Rattle.std.proofs.lemmas.List.{length-map}
 use Rattle.std.proofs.Math.Seq.{take-append_seam}
 use Rattle.t1_char.proofs.Expanding.{run_goes, run_calls, run_returns, run_finishes, IsInner, open_by, behind_open}

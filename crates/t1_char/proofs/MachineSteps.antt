@@ -15,12 +15,12 @@ use Rattle.t1_char.specs.Asking.{IsAskedBehind}
 use Rattle.t1_char.specs.AnswerViews.{answer_view}
 use Rattle.t1_char.specs.declared.machine.Numbers.{Numbers}
 use Rattle.t1_char.specs.declared.machine.Numbers.TheVariants.{Told}
-use Rattle.t1_char.specs.Workings.Cursors.{tokens_left}
+use Rattle.t1_char.specs.Private.Cursors.{tokens_left}
 use Rattle.t1_char.specs.Rests.{Frame, frame, rest_of}
-use Rattle.t1_char.specs.Workings.Frames.{IsReady, callers_of, state_in, left_behind, step_here, steps_behind, steps_from}
+use Rattle.t1_char.specs.Private.Frames.{IsReady, callers_of, state_in, left_behind, step_here, steps_behind, steps_from}
 use Rattle.t1_char.specs.Passing.{IsPassed}
-use Rattle.t1_char.specs.Workings.Machines.{GoesOnFrom, IsAt, IsBehind}
-use Rattle.t1_char.specs.Workings.Plain.{GoesOver, GoesOverOne, HasGoneOver}
+use Rattle.t1_char.specs.Private.Machines.{GoesOnFrom, IsAt, IsBehind}
+use Rattle.t1_char.specs.Private.Plain.{GoesOver, GoesOverOne, HasGoneOver}
 use Rattle.std.proofs.lemmas.Bool.{cases_lt}
 use Rattle.t1_char.proofs.Additions.{and_then_front}
 use Rattle.t1_char.proofs.TurnTests.{turn_by_limit}

@@ -4,7 +4,7 @@ use Rattle.std.proofs.lemmas.List.{length-map, map-append}
 use Rattle.t1_char.specs.declared.step.Step.{Step}
 use Rattle.t1_char.specs.Steps.{StepView, NumberedStep, numbered}
 use Rattle.t1_char.specs.StepValues.{step_view, step_value}
-use Rattle.t1_char.specs.Workings.Steps.{AreNumbered}
+use Rattle.t1_char.specs.Private.Steps.{AreNumbered}
 
 abbrev pub with_number : StepView → ℕ → NumberedStep
 with_number s n = record { number = n; step = s }

@@ -8,9 +8,9 @@ use Rattle.t1_char.specs.declared.token.CharToken.{CharToken}
 use Rattle.t1_char.specs.Charstrings.{tokens_in}
 use Rattle.t1_char.specs.Effects.{State, goes, calls, returns, finishes, effect, most_calls}
 use Rattle.t1_char.specs.Steps.{Run, StepView, step_at, effect_at, nothing, only, first, after, and_then, expansion}
-use Rattle.t1_char.specs.Workings.Cursors.{tokens_left}
+use Rattle.t1_char.specs.Private.Cursors.{tokens_left}
 use Rattle.t1_char.specs.Rests.{Frame, frame, rest_of}
-use Rattle.t1_char.specs.Workings.Frames.{callers_of}
+use Rattle.t1_char.specs.Private.Frames.{callers_of}
 use Rattle.t1_char.proofs.Expanding.{run_goes, run_calls, run_returns, run_finishes}
 
 first_then : (step : StepView) (run : Run) (next : State → Run) → and_then (first step run) next ≡ first step (and_then run next)

@@ -10,8 +10,8 @@ use Rattle.t1_char.specs.declared.token.CharToken.TheVariants.{Number, Short}
 use Rattle.t1_char.specs.Commands.{command_of, escaped_of}
 use Rattle.t1_char.specs.Seacs.{is_seac}
 use Rattle.t1_char.specs.Tokens.{completed, escaped_code, five, long_number, more_of, plain_code, token_at, tokens_behind, tokens_of, two, whole, with_second}
-use Rattle.t1_char.specs.Workings.Cursors.{bytes_left, tokens_left}
-use Rattle.t1_char.specs.Workings.Seacs.{has_pair}
+use Rattle.t1_char.specs.Private.Cursors.{bytes_left, tokens_left}
+use Rattle.t1_char.specs.Private.Seacs.{has_pair}
 
 abbrev is_it : Option Commands → Bool
 is_it None = false

@@ -10,6 +10,7 @@ pub mod Lending
 pub mod Loans
 pub mod Numbers
 pub mod Passing
+pub mod Private
 pub mod Rests
 pub mod Seacs
 pub mod Since
@@ -19,4 +20,3 @@ pub mod Steps
 pub mod Tokens
 pub mod TurnViews
 pub mod Turns
-pub mod Workings

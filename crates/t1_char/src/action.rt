@@ -2,7 +2,7 @@
 
 ghost use Rattle.std.specs.Prelude.{◌≡◌};
 ghost use Rattle.t1_char.specs.Effects.{work_of};
-ghost use Rattle.t1_char.specs.Workings.Actions.{work_view};
+ghost use Rattle.t1_char.specs.Private.Actions.{work_view};
 
 use crate::command::Command;
 use crate::subr::Subr;

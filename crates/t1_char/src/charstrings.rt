@@ -2,7 +2,7 @@
 
 ghost use Rattle.std.specs.Prelude.{◌≡◌};
 ghost use Rattle.t1_char.specs.Charstrings.{code_at, tokens_in};
-ghost use Rattle.t1_char.specs.Workings.Cursors.{tokens_left};
+ghost use Rattle.t1_char.specs.Private.Cursors.{tokens_left};
 
 use crate::cursor::Cursor;
 use t1_font::Font;

@@ -5,10 +5,10 @@ ghost use Rattle.t1_seal.specs.Laws.Cipher.{next_state};
 ghost use Rattle.t1_char.specs.Tokens.{charstring_tokens, long_number, more_of, random_of, token_at};
 ghost use Rattle.t1_seal.specs.Cipher.{charstring_start, decrypted};
 ghost use Rattle.t1_char.specs.Steps.{is_end};
-ghost use Rattle.t1_char.specs.Workings.Cursors.{behind_token, bytes_left, key_after, key_of, plain_by, tokens_left};
+ghost use Rattle.t1_char.specs.Private.Cursors.{behind_token, bytes_left, key_after, key_of, plain_by, tokens_left};
 ghost use Rattle.std.specs.List.{list_any};
 ghost use Rattle.t1_char.specs.Seacs.{is_seac};
-ghost use Rattle.t1_char.specs.Workings.Seacs.{has_pair};
+ghost use Rattle.t1_char.specs.Private.Seacs.{has_pair};
 ghost use Rattle.t1_char.specs.declared.token.CharToken.TheVariants.{Cut, Number};
 
 use crate::token::{CharToken, escaped_token, joined, pair, plain_token, signed};
@@ -203,7 +203,7 @@ impl<'a> Cursor<'a> {
 
     /// The next plain byte.
     #[inline(always)]
-    #[tactic(auto, unfolding(crate::specs::Workings::Cursors::deciphered))]
+    #[tactic(auto, unfolding(crate::specs::Private::Cursors::deciphered))]
     fn next_byte(&mut self) -> Option<u8>
         ensures byte { MatchOption result (bytes_left self.old ≡ [])
             (λ b. bytes_left self.old ≡ b ∷ bytes_left self.new) }

@@ -4,11 +4,11 @@ ghost use Rattle.std.specs.Prelude.{◌^◌, ◌≡◌, ◌≤◌, ◌<◌, ◌-
 ghost use Rattle.t1_char.specs.Editions.{limit_of};
 ghost use Rattle.t1_char.specs.Effects.{effect};
 ghost use Rattle.t1_char.specs.Steps.{first_steps};
-ghost use Rattle.t1_char.specs.Workings.Actions.{IsNested, action_of};
-ghost use Rattle.t1_char.specs.Workings.Cursors.{behind_token, tokens_left};
-ghost use Rattle.t1_char.specs.Workings.Listings.{effect_taken, run_from, state_in, step_taken, steps_in};
+ghost use Rattle.t1_char.specs.Private.Actions.{IsNested, action_of};
+ghost use Rattle.t1_char.specs.Private.Cursors.{behind_token, tokens_left};
+ghost use Rattle.t1_char.specs.Private.Listings.{effect_taken, run_from, state_in, step_taken, steps_in};
 ghost use Rattle.t1_char.specs.StepValues.{step_value};
-ghost use Rattle.t1_char.specs.Workings.Steps.{AreNumbered, IsExpanded};
+ghost use Rattle.t1_char.specs.Private.Steps.{AreNumbered, IsExpanded};
 
 use crate::action::Action;
 use crate::charstrings::{code_at, cursor_at};

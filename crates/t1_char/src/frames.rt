@@ -4,11 +4,11 @@ ghost use Rattle.std.specs.Prelude.{◌≡◌, ◌<◌, ◌≤◌, ◌-◌, ◌+
 ghost use Rattle.t1_char.specs.Charstrings.{tokens_in};
 ghost use Rattle.t1_char.specs.Effects.{most_calls};
 ghost use Rattle.t1_char.specs.Steps.{named_at, steps_of};
-ghost use Rattle.t1_char.specs.Workings.Actions.{named_of};
+ghost use Rattle.t1_char.specs.Private.Actions.{named_of};
 ghost use Rattle.t1_char.specs.StepValues.{step_view};
-ghost use Rattle.t1_char.specs.Workings.Cursors.{tokens_left};
-ghost use Rattle.t1_char.specs.Workings.Frames.{IsReady, state_in, step_here, steps_behind, steps_from};
-ghost use Rattle.t1_char.specs.Workings.Plain.{GoesOver, PassesNumber};
+ghost use Rattle.t1_char.specs.Private.Cursors.{tokens_left};
+ghost use Rattle.t1_char.specs.Private.Frames.{IsReady, state_in, step_here, steps_behind, steps_from};
+ghost use Rattle.t1_char.specs.Private.Plain.{GoesOver, PassesNumber};
 ghost use Rattle.t1_char.specs.declared.machine.Numbers.TheVariants.{Told};
 
 use crate::action::Action;

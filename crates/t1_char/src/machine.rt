@@ -80,7 +80,7 @@ impl<'a> Model for Machine<'a> {
     ghost use Rattle.std.specs.Prelude.{◌≡◌};
     ghost use Rattle.t1_char.specs.StepValues.{step_value};
     ghost use Rattle.t1_char.specs.Turns.{MachineView};
-    ghost use Rattle.t1_char.specs.Workings.Machines.{IsAt};
+    ghost use Rattle.t1_char.specs.Private.Machines.{IsAt};
     ghost use Rattle.t1_char.specs.Steps.{steps_of};
     ghost use Rattle.t1_char.specs.Editions.{limit_of};
 

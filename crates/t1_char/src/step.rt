@@ -2,8 +2,8 @@
 
 ghost use Rattle.std.specs.Prelude.{◌≡◌};
 ghost use Rattle.t1_char.specs.Steps.{is_last, named_at};
-ghost use Rattle.t1_char.specs.Workings.Actions.{named_of};
-ghost use Rattle.t1_char.specs.Workings.Cursors.{behind_token, tokens_left};
+ghost use Rattle.t1_char.specs.Private.Actions.{named_of};
+ghost use Rattle.t1_char.specs.Private.Cursors.{behind_token, tokens_left};
 
 use crate::cursor::Cursor;
 use crate::numbers::natural;

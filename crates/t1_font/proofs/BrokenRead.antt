@@ -18,7 +18,7 @@ use Rattle.t1_font.specs.declared.refusal.Refusal.TheVariants.{Unclosed, BadSubr
 use Rattle.t1_font.specs.Keys.{private_key, same_name}
 use Rattle.t1_font.specs.Fonts.{Stated, Marks, FontValue, value_of, glyph_of, size_of, firsts}
 use Rattle.t1_font.specs.Tokens.{token_at, wanted, token_ahead, whole, natural, is_word_kind, past_word, raw_of, charstring_at}
-use Rattle.t1_font.specs.Inner.Room.{HasRoom}
+use Rattle.t1_font.specs.Private.Room.{HasRoom}
 use Rattle.t1_font.specs.PrivateText.{private_value, private_outside, subrs_at, subr_at, dup_turn, glyphs_at, glyph_turn, private_turn, private_of}
 use Rattle.t1_font.specs.Laws.Written.{IsWritten, IsWhole}
 use Rattle.t1_font.specs.Laws.UsualPrivateText.{PrivateItem, private_pieces, private_states, IsPrivateItem, SubrItem, some_subrs, subrs_pieces, subrs_states, IsSubrsPart, GlyphItem, glyph_pieces, glyph_states, glyph_names, IsGlyphItem, IsCount, StatesNoCharstring}

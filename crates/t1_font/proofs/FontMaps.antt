@@ -10,7 +10,7 @@ use Rattle.indexmap.specs.IndexMap.{insert_entry}
 use Rattle.t1_font.specs.declared.entry.Entry.{Entry}
 use Rattle.t1_font.specs.Entries.{entry_view}
 use Rattle.t1_font.specs.Keys.{same_name}
-use Rattle.t1_font.specs.Inner.Puts.{put_pair, twice_more}
+use Rattle.t1_font.specs.Puts.{put_pair, twice_more}
 use Rattle.t1_font.specs.PrivateText.{has_key}
 use Rattle.t1_font.specs.Views.{bytes_of, number_pair, name_pair, names_now}
 use Rattle.t1_font.proofs.Maps.{entries_put, has_entry}

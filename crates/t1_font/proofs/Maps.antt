@@ -2,7 +2,7 @@
 use Rattle.std.proofs.Common.{◌≡◌, Bool, true, false, cond, ◌||◌, Some, List, [], ◌∷◌, map, refl, ap, is_some}
 use Rattle.std.specs.Map.{lookup}
 use Rattle.indexmap.specs.IndexMap.{insert_entry}
-use Rattle.t1_font.specs.Inner.Puts.{put_pair}
+use Rattle.t1_font.specs.Puts.{put_pair}
 use Rattle.t1_font.specs.PrivateText.{has_key}
 
 abbrev pub pair_by : {K K' V V' : Type 0} → (K → K') → (V → V') → K × V → K' × V'

@@ -14,7 +14,7 @@ use Rattle.t1_font.specs.Readings.{◌>>=◌}
 use Rattle.t1_font.specs.Keys.{private_key, clear_key}
 use Rattle.t1_font.specs.Tokens.{token_at, wanted, token_ahead, whole, natural, is_word_kind, is_number_kind, name_of, spells, raw_of, some_raw, past_word, charstring_at}
 use Rattle.t1_font.specs.Fonts.{Stated, Marks, FontValue, value_of, size, glyph}
-use Rattle.t1_font.specs.Inner.Puts.{put_one}
+use Rattle.t1_font.specs.Puts.{put_one}
 use Rattle.t1_font.specs.TextTurns.{over, goes, TextRead, Reader, with_one, stated_within}
 use Rattle.t1_font.specs.Runs.{FontRead, go_on, run_within}
 use Rattle.t1_font.specs.ClearText.{clear_value, clear_outside, clear_turn, begins_as_font, clear_of}

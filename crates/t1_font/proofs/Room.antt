@@ -7,9 +7,9 @@ use Rattle.std.specs.Borrow.{Bor}
 use Rattle.indexmap.specs.IndexMap.{insert_entry}
 use Rattle.t1_font.specs.Keys.{same_name}
 use Rattle.t1_font.specs.Fonts.{FontValue}
-use Rattle.t1_font.specs.Inner.Room.{HasRoom}
+use Rattle.t1_font.specs.Private.Room.{HasRoom}
 use Rattle.t1_font.specs.PrivateText.{has_key}
-use Rattle.t1_font.specs.Inner.Puts.{put_pair}
+use Rattle.t1_font.specs.Puts.{put_pair}
 use Rattle.t1_font.specs.Views.{name_pair}
 use Rattle.t1_font.proofs.FontMaps.{same_bytes, name_put}
 

@@ -4,7 +4,7 @@ use Rattle.t1_font.specs.declared.refusal.Refusal.{Refusal}
 use Rattle.t1_font.specs.declared.refusal.Refusal.TheVariants.{NoEexec, Unclosed, BadSubrs, BadCharStrings, BadLenIv, PastLimit, SecondSubrs, MultipleMaster, Memory}
 use Rattle.t1_font.specs.Readings.{◌>>=◌, Refuses}
 use Rattle.t1_font.specs.Fonts.{Stated, Marks, FontValue, value_of}
-use Rattle.t1_font.specs.Inner.Puts.{put, put_one}
+use Rattle.t1_font.specs.Puts.{put, put_one}
 use Rattle.t1_font.specs.TextTurns.{TextTurn, over, goes, TextRead, Reader, with_one, stated_within}
 use Rattle.t1_font.specs.Runs.{go_on, run_within, run_of, value_read}
 

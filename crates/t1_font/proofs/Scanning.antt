@@ -4,7 +4,7 @@ use Rattle.t1_scan.specs.declared.error.ScanError.{ScanError}
 use Rattle.t1_scan.specs.declared.token.Token.{Token}
 use Rattle.t1_scan.specs.Reading.{reading, seen}
 use Rattle.t1_font.specs.Tokens.{token_at}
-use Rattle.t1_font.specs.Inner.Tokens.{found_of}
+use Rattle.t1_font.specs.Private.Tokens.{found_of}
 
 module _ (text over : List ℕ) (failed : Bool) (place : ℕ) (same : over ≡ text) (live : failed ≡ false) (start : place ≡ 0) where
   first_read : (answer : Result (Option Token) ScanError) → reading failed (drop place over) ≡ seen over answer → token_at text ≡ seen text answer

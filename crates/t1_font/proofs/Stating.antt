@@ -15,7 +15,7 @@ use Rattle.t1_font.specs.declared.encoding.Encoding.TheVariants.{Absent}
 use Rattle.t1_font.specs.declared.key.Key.{Key}
 use Rattle.t1_font.specs.declared.key.Key.TheVariants.{FontType, PaintType, UniqueId, PrivateUniqueId, Password, MinFeature, LenIv, BlueValues, OtherBlues, FamilyBlues, FamilyOtherBlues, BlueScale, BlueShift, BlueFuzz, StdHw, StdVw, StemSnapH, StemSnapV}
 use Rattle.t1_font.specs.Keys.{same_name, index_of, key_places}
-use Rattle.t1_font.specs.Inner.Puts.{put, put_pair, twice_more}
+use Rattle.t1_font.specs.Puts.{put, put_pair, twice_more}
 use Rattle.t1_font.specs.PrivateText.{has_key}
 use Rattle.t1_font.specs.Fonts.{Stated, Marks, FontValue, plain, encoding, code, bad_code, size, subr, glyph, plain_of, encoding_of, code_of, size_of, subr_of, glyph_of, is_encoding, is_bad_code, last_of, after_last, firsts, last_under, keys_of, table_of, repeats, twice_of, value_of}
 use Rattle.t1_font.specs.Laws.Keys.{TwiceIsAgain}

@@ -6,7 +6,7 @@ use Rattle.std.proofs.lemmas.List.{map-append}
 use Rattle.std.proofs.lemmas.List.Elements.{filter-append}
 use Rattle.std.specs.List.{list_any}
 use Rattle.t1_font.specs.Keys.{same_name}
-use Rattle.t1_font.specs.Inner.Puts.{put_pair}
+use Rattle.t1_font.specs.Puts.{put_pair}
 use Rattle.t1_font.specs.Fonts.{firsts}
 
 -- A comparison that tells equal from different.

@@ -18,7 +18,7 @@ use Rattle.t1_font.specs.Fonts.{Stated, FontValue, plain, encoding, code, bad_co
 use Rattle.t1_font.specs.TextTurns.{TextTurn, over, goes}
 use Rattle.t1_font.specs.ClearText.{clear_value, array_at, encoding_at, encoding_turn, clear_outside, code_statement, code_at, code_turn, code_token, clear_turn, begins}
 use Rattle.t1_font.specs.PrivateText.{has_key, private_value, subrs_at, subrs_turn, glyphs_at, private_outside, subr_at, dup_turn, subrs_token, glyph_turn, glyphs_token, private_turn}
-use Rattle.t1_font.specs.Inner.Room.{HasRoom, HasRoomFor}
+use Rattle.t1_font.specs.Private.Room.{HasRoom, HasRoomFor}
 use Rattle.t1_font.proofs.Compose.{bind, next, either, choose, glance, which, found_or}
 
 -- A statement that leaves a value within the limits.

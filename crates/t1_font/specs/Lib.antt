@@ -2,11 +2,12 @@ pub mod ClearText
 pub mod Entries
 pub mod FontFiles
 pub mod Fonts
-pub mod Inner
 pub mod Keys
 pub mod Laws
 pub mod LenIv
+pub mod Private
 pub mod PrivateText
+pub mod Puts
 pub mod Readings
 pub mod Runs
 pub mod TextTurns

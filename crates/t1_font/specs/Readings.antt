@@ -9,11 +9,6 @@ abbrev pub ◌>>=◌ : {X Y : Type 0} → Result X Refusal → (X → Result Y R
 (Ok x) >>= f = f x
 (Err e) >>= f = Err e
 
--- What a call that takes no memory returned, seen by view, is what was read.
-abbrev pub Is : {X Y : Type 0} → (X → Y) → Result X Refusal → Result Y Refusal → Type 0
-Is view (Ok x) read = read ≡ Ok (view x)
-Is view (Err e) read = read ≡ Err e
-
 -- The refusal is the one that was read, or memory ran out, which says nothing of the bytes.
 abbrev pub Refuses : {Y : Type 0} → Refusal → Result Y Refusal → Type 0
 Refuses Memory read = Unit {0}

@@ -3,7 +3,7 @@ use Rattle.std.specs.Prelude.{ℕ, zero, suc, Result, Ok, Err, List, length}
 use Rattle.t1_font.specs.declared.refusal.Refusal.{Refusal}
 use Rattle.t1_font.specs.Readings.{◌>>=◌}
 use Rattle.t1_font.specs.Fonts.{Marks, FontValue, value_of}
-use Rattle.t1_font.specs.Inner.Puts.{put_one}
+use Rattle.t1_font.specs.Puts.{put_one}
 use Rattle.t1_font.specs.TextTurns.{TextTurn, over, goes, Reader, TextRead}
 
 -- The value that a text leaves, and what follows the text.

@@ -3,9 +3,9 @@
 ghost use Rattle.std.specs.Prelude.{◌≡◌};
 ghost use Rattle.t1_font.specs.ClearText.{array_at, clear_outside, clear_turn, clear_value, code_at, code_statement, code_token, code_turn, encoding_at, encoding_turn, is_code_count};
 ghost use Rattle.t1_font.specs.Fonts.{FontValue};
-ghost use Rattle.t1_font.specs.Readings.{Is};
-ghost use Rattle.t1_font.specs.Inner.Statements.{statement_view, turn_view};
-ghost use Rattle.t1_font.specs.Inner.Tokens.{Sees};
+ghost use Rattle.t1_font.specs.Private.Readings.{Is};
+ghost use Rattle.t1_font.specs.Private.Statements.{statement_view, turn_view};
+ghost use Rattle.t1_font.specs.Private.Tokens.{Sees};
 
 use crate::encoding::Encoding;
 use crate::key::{Key, clear_key};

@@ -2,7 +2,7 @@
 
 ghost use Rattle.std.specs.Prelude.{◌≡◌, ◌++◌, ◌∷◌, ◌≤◌, [], false, length, take};
 ghost use Rattle.t1_font.specs.Entries.{entry_view};
-ghost use Rattle.t1_font.specs.Inner.Items.{item_view};
+ghost use Rattle.t1_font.specs.Private.Items.{item_view};
 ghost use Rattle.t1_font.specs.LenIv.{len_iv_of};
 ghost use Rattle.t1_font.specs.Values.{item_at, item_of, list_value, value_of_token};
 

@@ -7,10 +7,10 @@ ghost use Rattle.t1_font.specs.Fonts.{FontValue, Marks, value_of, plain, encodin
 ghost use Rattle.t1_font.specs.Entries.{entry_view};
 ghost use Rattle.t1_font.specs.Keys.{index_of, same_name};
 ghost use Rattle.t1_font.specs.LenIv.{len_iv_of};
-ghost use Rattle.t1_font.specs.Inner.Room.{HasRoom, HasRoomFor};
+ghost use Rattle.t1_font.specs.Private.Room.{HasRoom, HasRoomFor};
 ghost use Rattle.t1_font.specs.PrivateText.{has_key};
-ghost use Rattle.t1_font.specs.Inner.Puts.{put, put_one};
-ghost use Rattle.t1_font.specs.Inner.Statements.{lexeme_of, statement_view, view_if_any};
+ghost use Rattle.t1_font.specs.Puts.{put, put_one};
+ghost use Rattle.t1_font.specs.Private.Statements.{lexeme_of, statement_view, view_if_any};
 ghost use Rattle.t1_font.specs.Values.{absent};
 ghost use Rattle.t1_font.specs.Views.{bytes_of, name_pair, number_pair};
 ghost use Rattle.t1_font.specs.declared.key.Key.TheVariants.{LenIv};

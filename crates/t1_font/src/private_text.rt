@@ -2,8 +2,8 @@
 
 ghost use Rattle.std.specs.Prelude.{◌≡◌};
 ghost use Rattle.t1_font.specs.PrivateText.{dup_turn, glyph_turn, glyphs_at, glyphs_token, is_blank_text, is_len_iv, is_len_iv_key, is_minus_one, private_outside, private_turn, private_value, subr_at, subrs_at, subrs_token, subrs_turn};
-ghost use Rattle.t1_font.specs.Readings.{Is};
-ghost use Rattle.t1_font.specs.Inner.Statements.{turn_view};
+ghost use Rattle.t1_font.specs.Private.Readings.{Is};
+ghost use Rattle.t1_font.specs.Private.Statements.{turn_view};
 
 use crate::font::Font;
 use crate::key::{Key, private_key};

@@ -2,9 +2,9 @@
 //! text, and gives what it reads and what is left behind that.
 
 ghost use Rattle.std.specs.Prelude.{◌≡◌};
-ghost use Rattle.t1_font.specs.Readings.{Is};
+ghost use Rattle.t1_font.specs.Private.Readings.{Is};
 ghost use Rattle.t1_font.specs.Tokens.{charstring_at, inside_of, is_array_kind, is_name_kind, is_number_kind, is_word_kind, name_of, natural, past_word, raw_of, some_raw, spells, token_ahead, wanted, whole, whole_up_to};
-ghost use Rattle.t1_font.specs.Inner.Tokens.{IsFirst, Sees, found_of};
+ghost use Rattle.t1_font.specs.Private.Tokens.{IsFirst, Sees, found_of};
 
 use crate::refusal::Refusal;
 use t1_scan::{Kind, ScanError, Scanner, Token};

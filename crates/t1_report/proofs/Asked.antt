@@ -11,7 +11,8 @@ use Rattle.t1_report.specs.Checked.{CheckedFont, step_limit}
 use Rattle.t1_rules.specs.declared.rule.Rule.TheVariants.{C01}
 use Rattle.t1_report.specs.Reports.{is_broken, is_broken_below}
 use Rattle.t1_report.specs.Waivers.{Waiver}
-use Rattle.t1_report.specs.Walks.{first_asked, turns_asked, turns_for, turns_if_any, turns_of_glyph, turns_of_waiver, turns_up_to}
+use Rattle.t1_report.specs.Walks.{first_asked, turns_asked, turns_for, turns_of_glyph, turns_of_waiver, turns_up_to}
+use Rattle.t1_report.specs.Private.Units.{turns_if_any}
 use Rattle.t1_report.proofs.Broken.{past_steps}
 use Rattle.t1_report.proofs.Told.{none_below, some_below}
 

@@ -8,7 +8,8 @@ use Rattle.t1_rules.specs.declared.rule.Rule.{Rule}
 use Rattle.t1_rules.specs.Book.{number_of}
 use Rattle.t1_report.specs.Faults.{FaultValue}
 use Rattle.t1_report.proofs.Numbered.{number_there, numbered_by_places}
-use Rattle.t1_report.specs.Reports.{Place, Comes, IsBefore, IsViolationOf, IsFrontOf, IsReportOf, place_of, StandsAt, IsRising, AreNumbered, spot, spot_of}
+use Rattle.t1_report.specs.Reports.{Place, Comes, IsBefore, IsViolationOf, IsReportOf, place_of, StandsAt, IsRising, AreNumbered, spot, spot_of}
+use Rattle.t1_report.specs.Private.Fronts.{IsFrontOf}
 use Rattle.t1_rules.proofs.Lemmas.Book.{one_rule}
 
 -- ---- the order of places

@@ -11,7 +11,7 @@ use Rattle.t1_char.specs.StepValues.{step_view, step_value}
 use Rattle.t1_report.specs.Checked.{CheckedFont, step_limit}
 use Rattle.t1_rules.specs.declared.watches.Watches.{Watches}
 use Rattle.t1_report.specs.Reports.{is_broken}
-use Rattle.t1_report.specs.Workings.{HaveSeen, IsNextStep}
+use Rattle.t1_report.specs.Private.Reporting.{HaveSeen, IsNextStep}
 use Rattle.t1_report.proofs.Broken.{past_steps}
 
 -- The step at a place of the glyph's steps, and no place is past the limit.

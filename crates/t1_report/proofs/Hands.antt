@@ -12,10 +12,10 @@ use Rattle.t1_report.specs.declared.walk.found.Found.{Found}
 use Rattle.t1_report.specs.declared.walk.search.Part.{Part}
 use Rattle.t1_report.specs.declared.walk.search.Part.TheVariants.{Font, Glyph, Over, Waivers}
 use Rattle.t1_report.specs.declared.walk.search.Search.{Search}
-use Rattle.t1_report.specs.Courses.{HasInHand, IsFloor, IsInHand, turns_so_far}
+use Rattle.t1_report.specs.Private.Courses.{HasInHand, IsFloor, IsInHand, turns_so_far}
 use Rattle.t1_report.specs.Faults.{FaultValue, fault_value}
 use Rattle.t1_report.specs.Reports.{Comes, Place, path_in, IsTold, is_told, spot, spot_of}
-use Rattle.t1_report.specs.Searches.{HasNoneFrom, checked_in, IsFirstPlace, IsFrom, IsPart, IsSearch, step_of_part, turns_in}
+use Rattle.t1_report.specs.Private.Searches.{HasNoneFrom, checked_in, IsFirstPlace, IsFrom, IsPart, IsSearch, step_of_part, turns_in}
 use Rattle.t1_report.specs.Walks.{HasNoneLater, IsLater, IsNext, mark_of, number_behind, turns_at, turns_before, turns_asked, turns_in_all}
 use Rattle.t1_report.proofs.Fronts.{comes_on}
 use Rattle.t1_report.proofs.Units.{few_steps}

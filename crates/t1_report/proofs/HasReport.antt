@@ -8,7 +8,8 @@ use Rattle.t1_rules.specs.declared.rule.Rule.{Rule}
 use Rattle.t1_rules.specs.Book.{number_of, rules}
 use Rattle.t1_rules.proofs.Lemmas.Book.{both}
 use Rattle.t1_report.specs.Faults.{FaultValue}
-use Rattle.t1_report.specs.Reports.{IsFrontOf, IsReport, IsReportOf, Place, is_broken, path_at, is_told}
+use Rattle.t1_report.specs.Reports.{IsReport, IsReportOf, Place, is_broken, path_at, is_told}
+use Rattle.t1_report.specs.Private.Fronts.{IsFrontOf}
 use Rattle.t1_report.proofs.Broken.{past_keys, past_steps}
 use Rattle.t1_report.proofs.Fronts.{fault_at, front_start, front_with}
 use Rattle.t1_report.proofs.UnitFronts.{all_units, first_rule, rule_passed, step_passed, unit_ends}

@@ -12,7 +12,7 @@ use Rattle.t1_rules.proofs.Lemmas.Keys.{few_places}
 use Rattle.t1_report.specs.declared.walk.found.Found.{Found}
 use Rattle.t1_report.specs.declared.walk.font_places.FontPlaces.{FontPlaces}
 use Rattle.t1_report.specs.Reports.{is_broken}
-use Rattle.t1_report.specs.Units.{IsFirst, IsFontPlaces, IsQuiet, IsQuietFrom, font_step}
+use Rattle.t1_report.specs.Private.Units.{IsFirst, IsFontPlaces, IsQuiet, IsQuietFrom, font_step}
 use Rattle.t1_report.proofs.Broken.{in_font, no_path, past_key, past_keys}
 
 -- An index that is asked is below 65,536.

@@ -19,8 +19,8 @@ use Rattle.t1_rules.specs.StepRules.{StepRule, charstring_rules}
 use Rattle.t1_rules.proofs.Lemmas.Book.{in_book}
 use Rattle.t1_report.specs.declared.walk.found.Found.{Found}
 use Rattle.t1_report.specs.Reports.{is_broken, path_in, path_of_step, rules_of, step_breaks}
-use Rattle.t1_report.specs.Units.{IsFirst, IsQuiet, IsRun}
-use Rattle.t1_report.specs.Workings.{HaveSeen}
+use Rattle.t1_report.specs.Private.Units.{IsFirst, IsQuiet, IsRun}
+use Rattle.t1_report.specs.Private.Reporting.{HaveSeen}
 use Rattle.t1_report.specs.Walks.{turns_of_glyph}
 use Rattle.t1_report.proofs.Broken.{at_step, past_steps, path_at_step, rules_by, so_far_decides}
 use Rattle.t1_report.proofs.GlyphSteps.{IsListed, take_next}

@@ -8,7 +8,7 @@ use Rattle.t1_rules.specs.Components.{glyph_named}
 use Rattle.t1_rules.specs.Mask.{has}
 use Rattle.t1_report.specs.declared.walk.found.Found.{Found}
 use Rattle.t1_report.specs.Reports.{is_broken, is_used, is_used_by}
-use Rattle.t1_report.specs.Units.{IsFirst, IsQuietFrom}
+use Rattle.t1_report.specs.Private.Units.{IsFirst, IsQuietFrom}
 use Rattle.t1_report.specs.Walks.{turns_for, turns_of_glyph, turns_of_waiver}
 use Rattle.t1_report.proofs.Asked.{all_turns, turns_to_first}
 use Rattle.t1_report.proofs.Told.{none_below, some_below}

@@ -11,10 +11,11 @@ use Rattle.t1_report.specs.declared.walk.search.Part.TheVariants.{Font, Glyph, W
 use Rattle.t1_report.specs.declared.walk.search.Search.{Search}
 use Rattle.t1_report.specs.Lines.{glyph_name}
 use Rattle.t1_report.specs.Reports.{is_broken, is_told, path_in, tells_unused}
-use Rattle.t1_report.specs.Units.{IsFirst, IsQuietFrom, font_step}
-use Rattle.t1_report.specs.Searches.{IsFirstTold, IsPart, IsSearch, IsWaiverPart, TellsNoneFrom, checked_in, step_of_part}
+use Rattle.t1_report.specs.Private.Units.{IsFirst, IsQuietFrom, font_step}
+use Rattle.t1_report.specs.Private.Searches.{IsFirstTold, IsPart, IsSearch, IsWaiverPart, TellsNoneFrom, checked_in, step_of_part}
 use Rattle.t1_report.specs.Waivers.{Waiver, is_waived}
-use Rattle.t1_report.specs.Walks.{first_asked, turns_asked, turns_if_any}
+use Rattle.t1_report.specs.Walks.{first_asked, turns_asked}
+use Rattle.t1_report.specs.Private.Units.{turns_if_any}
 use Rattle.t1_report.proofs.Asked.{asked_more}
 use Rattle.t1_report.proofs.Broken.{no_path_behind}
 use Rattle.t1_report.proofs.Told.{no_waiver, quiet_told, told_in_font, told_in_glyph, told_of_waiver}

@@ -6,7 +6,8 @@ use Rattle.t1_rules.specs.Mask.{HasNoneAbove, IsLeastAbove, has}
 use Rattle.t1_rules.specs.declared.mask.Mask.{Mask}
 use Rattle.t1_rules.specs.Book.{number_of}
 use Rattle.t1_report.specs.Faults.{FaultValue}
-use Rattle.t1_report.specs.Reports.{Comes, IsFrontOf, IsReportOf, Place, spot}
+use Rattle.t1_report.specs.Reports.{Comes, IsReportOf, Place, spot}
+use Rattle.t1_report.specs.Private.Fronts.{IsFrontOf}
 use Rattle.t1_report.proofs.Fronts.{comes_on, fault_at, front_ends, front_on, front_with}
 use Rattle.t1_rules.proofs.Lemmas.Book.{in_book}
 

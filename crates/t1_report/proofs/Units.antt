@@ -6,13 +6,13 @@ use Rattle.t1_report.specs.Checked.{CheckedFont, executed, step_limit}
 use Rattle.t1_rules.specs.Book.{number_of}
 use Rattle.t1_report.specs.declared.walk.found.Found.{Found}
 use Rattle.t1_report.specs.Reports.{Place, path_in, IsTold, is_told}
-use Rattle.t1_report.specs.Units.{IsFontPlaces, IsRun}
+use Rattle.t1_report.specs.Private.Units.{IsFontPlaces, IsRun}
 use Rattle.t1_rules.specs.Components.{AreOf}
 use Rattle.t1_report.specs.declared.walk.font_places.FontPlaces.{FontPlaces}
 use Rattle.t1_report.specs.declared.walk.search.Part.{Part}
 use Rattle.t1_report.specs.declared.walk.search.Part.TheVariants.{Font, Glyph, Over, Waivers}
 use Rattle.t1_report.specs.declared.walk.search.Search.{Search}
-use Rattle.t1_report.specs.Searches.{HasNoneFrom, checked_in, IsFirstPlace, IsFrom, IsOfFont, IsPart, IsSearch, is_over, step_of_part, turns_in, AreBegun, IsDone, IsFirstTold, IsPartBegun, TellsNoneFrom}
+use Rattle.t1_report.specs.Private.Searches.{HasNoneFrom, checked_in, IsFirstPlace, IsFrom, IsOfFont, IsPart, IsSearch, is_over, step_of_part, turns_in, AreBegun, IsDone, IsFirstTold, IsPartBegun, TellsNoneFrom}
 use Rattle.t1_report.specs.Walks.{turns_of_glyph, turns_of_unit, turns_of, turns_before, first_asked, turns_asked}
 use Rattle.t1_report.specs.Waivers.{Waiver}
 use Rattle.t1_char.specs.Turns.{MachineView}

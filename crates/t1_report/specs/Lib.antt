@@ -3,12 +3,10 @@ pub mod Courses
 pub mod Faults
 pub mod Laws
 pub mod Lines
+pub mod Private
 pub mod Reports
-pub mod Searches
 pub mod Traces
-pub mod Units
 pub mod WaiverViews
 pub mod Waivers
 pub mod WalkViews
 pub mod Walks
-pub mod Workings

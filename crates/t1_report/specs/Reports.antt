@@ -144,21 +144,6 @@ pub record IsReportOf (Violated : Place → Type 0) (path_of : Place
   pub complete : (p : Place) → Violated p → Any (StandsAt p) faults
   pub numbered : AreNumbered 1 faults
 
--- The front of such a report: all violations that come before this unit, step and rule number, and no other.
-pub record IsFrontOf (Violated : Place → Type 0) (path_of : Place
-    → List ℕ) (unit step rule : ℕ) (faults : List FaultValue) : Type 0 where
-  pub rising : IsRising faults
-  pub violations : All (IsViolationOf Violated path_of) faults
-  pub before : All (λ fault. Comes (spot fault.unit fault.step (number_of fault.rule)) (spot unit step rule)) faults
-  pub complete : (p : Place) → Violated p → Comes (spot_of p) (spot unit step rule)
-      → Any (StandsAt p) faults
-  pub numbered : AreNumbered 1 faults
-
 -- The report of a font by an edition, given waivers.
 abbrev pub IsReport : CheckedFont → List Waiver → List FaultValue → Type 0
 IsReport font waivers faults = IsReportOf (IsTold font waivers) (path_at font) faults
-
--- The front of such a report.
-abbrev pub IsFront : CheckedFont → List Waiver → ℕ → ℕ → ℕ → List FaultValue → Type 0
-IsFront font waivers unit step rule faults =
-    IsFrontOf (IsTold font waivers) (path_at font) unit step rule faults

@@ -87,10 +87,6 @@ turns_for font n (Some glyph) = turns_up_to font (suc glyph) n (turns_of_glyph f
 abbrev pub turns_of_waiver : CheckedFont → Waiver → ℕ
 turns_of_waiver font w = turns_for font (number_of w.1) (glyph_named font.value w.0)
 
-abbrev pub turns_if_any : CheckedFont → Option Waiver → ℕ
-turns_if_any font None = 0
-turns_if_any font (Some w) = turns_of_waiver font w
-
 -- The place of the first waiver that a walk asks, which began at a unit and a step: that of the step where it
 -- began with the waivers' unit, none where it began behind that, and else the first.
 abbrev pub first_asked : CheckedFont → List Waiver → ℕ → ℕ → ℕ

@@ -3,7 +3,8 @@
 ghost use Rattle.std.specs.Prelude.{◌≡◌, ◌≤◌, ◌+◌, ℕ, length, slice_get};
 ghost use Rattle.t1_report.specs.Checked.{checked};
 ghost use Rattle.t1_report.specs.Reports.{is_used, tells_unused};
-ghost use Rattle.t1_report.specs.Walks.{turns_if_any, turns_of_waiver};
+ghost use Rattle.t1_report.specs.Walks.{turns_of_waiver};
+ghost use Rattle.t1_report.specs.Private.Units.{turns_if_any};
 ghost use Rattle.t1_rules.specs.Book.{number_of};
 ghost use Rattle.t1_rules.specs.Components.{AreOf};
 ghost use Rattle.t1_rules.specs.Mask.{has};

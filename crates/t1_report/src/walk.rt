@@ -39,8 +39,8 @@ pub struct Walk<'a> {
 }
 
 impl<'a> Model for Walk<'a> {
-    ghost use Rattle.t1_report.specs.Courses.{IsCourse, turns_so_far};
-    ghost use Rattle.t1_report.specs.Searches.{checked_in};
+    ghost use Rattle.t1_report.specs.Private.Courses.{IsCourse, turns_so_far};
+    ghost use Rattle.t1_report.specs.Private.Searches.{checked_in};
     ghost use Rattle.t1_report.specs.WalkViews.{WalkView};
 
     ghost Value = { WalkView };

@@ -4,7 +4,7 @@ pub mod FontRules
 pub mod Keys
 pub mod Laws
 pub mod Mask
+pub mod Private
 pub mod StandardEncoding
 pub mod StepRules
 pub mod Watches
-pub mod Words

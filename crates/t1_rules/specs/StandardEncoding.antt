@@ -1,7 +1,6 @@
 -- StandardEncoding: the names of codes. PostScript Language Reference Manual, appendix E; Type 1 Font
 -- Format 1.1, chapter 6 (seac).
-use Rattle.std.specs.Prelude.{ℕ, codes, List, [], ◌∷◌, ◌++◌, map, replicate, slice_index_or}
-use Rattle.std.specs.Borrow.{Bor}
+use Rattle.std.specs.Prelude.{ℕ, codes, List, [], ◌∷◌, ◌++◌, replicate, slice_index_or}
 
 -- Codes without a name.
 abbrev pub unnamed : ℕ → List (List ℕ)
@@ -74,7 +73,3 @@ standard_encoding =
 
 unfoldable pub standard_name : ℕ → List ℕ
 standard_name code = slice_index_or standard_encoding code []
-
--- The letters at a place of a list of texts.
-abbrev pub text_at : List (Bor (List ℕ)) → ℕ → List ℕ
-text_at names place = slice_index_or (map (λ name. name.now) names) place []

@@ -1,11 +1,9 @@
 -- What watchers keep of the steps that they have seen.
 use Rattle.std.specs.Prelude.{◌≡◌, ⊤, false, ℕ, ℤ, pos, ◌+ℤ◌, ◌*◌, ◌^◌, ◌&&◌, ◌≤◌, ◌≤ℤ◌, List, length}
 use Rattle.t1_char.specs.declared.edition.Edition.{Edition}
-use Rattle.t1_char.specs.declared.token.CharToken.{CharToken}
-use Rattle.t1_char.specs.Arguments.{is_callothersubr, is_flex_end}
-use Rattle.t1_char.specs.Effects.{is_finishing}
+use Rattle.t1_char.specs.Arguments.{is_flex_end}
 use Rattle.t1_char.specs.Since.{any_so_far, was}
-use Rattle.t1_char.specs.Steps.{StepView, is_end}
+use Rattle.t1_char.specs.Steps.{StepView}
 use Rattle.t1_rules.specs.declared.step_rules.flex.FlexWatcher.{FlexWatcher}
 use Rattle.t1_rules.specs.declared.step_rules.flex.Point.{Point}
 use Rattle.t1_rules.specs.declared.step_rules.paths.PathWatcher.{PathWatcher}
@@ -16,7 +14,6 @@ use Rattle.t1_rules.specs.StepRules.Flex.{current_point, flex_moves, flex_points
 use Rattle.t1_rules.specs.StepRules.Paths.{clearing_step, in_flex, is_moved, is_open}
 use Rattle.t1_rules.specs.StepRules.Seac.{makes_outline}
 use Rattle.t1_rules.specs.StepRules.Stems.{lies_across, stands_upright, hint_set, is_drawn, is_replaced, is_replaced_and_popped, popping}
-use Rattle.t1_rules.specs.StepRules.Tokens.{clears, sets_width, is_move, is_line, is_setcurrentpoint, closes}
 
 -- How many steps a watcher can see: more than the limit of any edition.
 abbrev pub most_steps : ℕ
@@ -31,17 +28,6 @@ pub record PathsStandFor (watcher : PathWatcher) (before : List StepView) : Type
   pub in_flex : watcher.in_flex ≡ in_flex before
   pub moved : watcher.moved ≡ is_moved before
   pub drawn : watcher.drawn ≡ is_open before
-
--- A token that changes nothing of it, and breaks no rule on widths and paths.
-pub record IsQuietForPaths (token : CharToken) : Type 0 where
-  pub clears : clears token ≡ false
-  pub sets_width : sets_width token ≡ false
-  pub moves : is_move token ≡ false
-  pub draws : is_line token ≡ false
-  pub closes : closes token ≡ false
-  pub finishes : is_finishing token ≡ false
-  pub ends : is_end token ≡ false
-  pub othersubr : is_callothersubr token ≡ false
 
 pub record StemsStandFor (edition : Edition) (watcher : StemWatcher) (before : List StepView) : Type 0 where
   pub edition_is : watcher.edition ≡ edition
@@ -77,11 +63,6 @@ pub record FlexStandsFor (watcher : FlexWatcher) (before : List StepView) : Type
   pub few_moves : watcher.moves ≤ length before
   pub few_points : watcher.points ≤ length before
   pub near : IsNear (length before) watcher.point
-
--- A token that breaks no rule on flex where none was started.
-pub record IsQuietForFlex (token : CharToken) : Type 0 where
-  pub othersubr : is_callothersubr token ≡ false
-  pub point : is_setcurrentpoint token ≡ false
 
 pub record SeacStandsFor (watcher : SeacWatcher) (before : List StepView) : Type 0 where
   pub in_flex : watcher.in_flex ≡ in_flex before

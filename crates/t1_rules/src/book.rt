@@ -1,7 +1,7 @@
 //! The rule book: each rule with its number, its code and its text.
 
 ghost use Rattle.std.specs.Prelude.{◌≡◌, ◌⊎◌, ◌<◌, IfNone, IfSome, map};
-ghost use Rattle.t1_rules.specs.Words.BookRows.{row_coded, row_view, rows};
+ghost use Rattle.t1_rules.specs.Private.BookRows.{row_coded, row_view, rows};
 ghost use Rattle.t1_rules.specs.Book.{code_of, last_number, number_of, text_of};
 
 use crate::rule::Rule;

@@ -10,7 +10,7 @@ ghost use Rattle.t1_rules.specs.Components.{component_at, component_in, componen
 ghost use Rattle.t1_rules.specs.Mask.{has};
 ghost use Rattle.t1_rules.specs.StepRules.{breaks, component_rules};
 ghost use Rattle.t1_rules.specs.StepRules.Seac.{accent, base, component_of_code, differs_in_sidebearing, is_another, is_lacking, is_named, is_without_sidebearing, lacks_component, lacks_sidebearing, nests};
-ghost use Rattle.t1_rules.specs.Words.Seac.{with_step};
+ghost use Rattle.t1_rules.specs.Private.Seac.{with_step};
 
 use crate::mask::Mask;
 use crate::rule::Rule;

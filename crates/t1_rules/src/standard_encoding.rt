@@ -2,7 +2,8 @@
 //! PostScript Language Reference Manual, appendix E.
 
 ghost use Rattle.std.specs.Prelude.{◌≡◌, ◌<◌, length};
-ghost use Rattle.t1_rules.specs.StandardEncoding.{standard_encoding, standard_name, text_at};
+ghost use Rattle.t1_rules.specs.StandardEncoding.{standard_encoding, standard_name};
+ghost use Rattle.t1_rules.specs.Private.Texts.{text_at};
 
 /// The name of each code; empty where it has none.
 static NAMES: [&str; 256] = [

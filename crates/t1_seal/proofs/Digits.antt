@@ -6,7 +6,7 @@ use Rattle.std.specs.List.{prefix_len}
 use Rattle.hex.specs.Hex.{hex_digit_value, decode_pairs, decode_sized}
 use Rattle.t1_seal.specs.declared.opening.Opening.{Opening}
 use Rattle.t1_seal.specs.Eexec.{is_digit, is_blank, is_digit_or_blank, digit_value, digits_of, bytes_of_digits}
-use Rattle.t1_seal.specs.Opening.{HasRoom, HasTaken, IsFor}
+use Rattle.t1_seal.specs.Private.Opening.{HasRoom, HasTaken, IsFor}
 use Rattle.std.proofs.lemmas.List.{drop_all}
 use Rattle.t1_seal.proofs.Openings.{has_room}
 

@@ -10,7 +10,7 @@ use Rattle.t1_seal.specs.SealError.{Reads}
 use Rattle.t1_seal.specs.declared.opening.Opening.{Opening}
 use Rattle.t1_seal.specs.Cipher.{eexec_start, plain_byte, decrypted}
 use Rattle.t1_seal.specs.Eexec.{opened}
-use Rattle.t1_seal.specs.Opening.{HasRoom, HasTaken, IsFor}
+use Rattle.t1_seal.specs.Private.Opening.{HasRoom, HasTaken, IsFor}
 use Rattle.t1_seal.proofs.Deciphering.{decrypted-push, length-decrypted}
 
 -- Fewer than four cipher bytes open to nothing, and others to what stands after four.

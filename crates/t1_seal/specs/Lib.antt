@@ -2,6 +2,6 @@ pub mod Cipher
 pub mod Eexec
 pub mod Joined
 pub mod Laws
-pub mod Opening
+pub mod Private
 pub mod SealError
 pub mod Segments

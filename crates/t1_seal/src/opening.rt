@@ -2,7 +2,7 @@
 
 ghost use Rattle.std.specs.Prelude.{◌≡◌, ◌≤◌, ◌++◌, ◌∷◌, [], ℕ, List, IfOk, MatchResult, Ok, Err};
 ghost use Rattle.t1_seal.specs.Eexec.{opened};
-ghost use Rattle.t1_seal.specs.Opening.{HasRoom, HasTaken, IsFor};
+ghost use Rattle.t1_seal.specs.Private.Opening.{HasRoom, HasTaken, IsFor};
 
 use crate::cipher::Cipher;
 use crate::errors::SealError;

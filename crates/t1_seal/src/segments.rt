@@ -1,7 +1,8 @@
 //! The segments of a PFB file: Adobe Technical Note 5040, the IBM PC format.
 
 ghost use Rattle.t1_seal.specs.SealError.{Reads};
-ghost use Rattle.t1_seal.specs.Joined.{joined_text, part_of};
+ghost use Rattle.t1_seal.specs.Joined.{joined_text};
+ghost use Rattle.t1_seal.specs.Private.Segments.{part_of};
 ghost use Rattle.t1_seal.specs.Segments.{as_pfb, joined_of, row_of, segment_of};
 
 use crate::errors::SealError;

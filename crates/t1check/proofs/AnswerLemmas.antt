@@ -16,7 +16,8 @@ use Rattle.t1check.specs.declared.refusals.Reason.{Reason}
 use Rattle.t1check.specs.declared.refusals.Reason.TheVariants.{TooLarge, Font}
 use Rattle.t1check.specs.Answers.{Answer, IsAnswerTo, IsShown, selection, refused as refusal, reported, IsReported, traced, waived_by}
 use Rattle.t1check.specs.Laws.Answers.{HasAnAnswer, HasNoOtherAnswer}
-use Rattle.t1check.specs.Ends.{AreRead, Checks, Ends, Tells, unread_status}
+use Rattle.t1check.specs.Ends.{AreRead, Ends, Tells, unread_status}
+use Rattle.t1check.specs.Private.Running.{Checks}
 use Rattle.t1check.specs.Ends.Ends.{no_memory, refused}
 use Rattle.t1check.specs.FontFiles.{font_of, with_reason}
 use Rattle.t1check.specs.Refusals.{told_of, told_of_waivers}

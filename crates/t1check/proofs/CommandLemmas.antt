@@ -13,7 +13,9 @@ use Rattle.clap.specs.declared.builder.command.Command.{Command}
 use Rattle.clap.specs.declared.builder.command.Command.TheViews.{out-Command}
 use Rattle.clap.specs.declared.builder.value_parser.ValueParser.TheVariants as parser
 use Rattle.clap.specs.declared.parser.matches.ArgMatches.{ArgMatches}
-use Rattle.t1check.specs.CommandLine.{t1check, after_rule, edition_rule, file_rule, max_rule, trace_rule, IsNumberArgument, IsTextOfNumber, waive_rule}
+use Rattle.t1check.specs.CommandLine.{t1check, after_rule, edition_rule, file_rule, max_rule, trace_rule, waive_rule}
+use Rattle.t1check.specs.Private.Numbers.{IsNumberArgument}
+use Rattle.t1check.specs.Private.Numbers.{IsTextOfNumber}
 use Rattle.t1check.proofs.ValueLemmas.{first_value-passes}
 
 -- a command with the six arguments is the program's

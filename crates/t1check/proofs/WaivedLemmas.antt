@@ -11,13 +11,16 @@ use Rattle.t1check.specs.declared.reading.Input.{Input}
 use Rattle.t1check.specs.declared.reading.Input.TheVariants.{Bytes, TooLarge, Broken, NoMemory}
 use Rattle.t1check.specs.declared.status.Status.{Status}
 use Rattle.t1check.specs.declared.refusals.WaiverRefusal.{WaiverRefusal}
-use Rattle.t1check.specs.Ends.{Reports, Shows}
-use Rattle.t1check.specs.Ends.Reports.{lines, malformed, no_memory}
+use Rattle.t1check.specs.Ends.{Shows}
+use Rattle.t1check.specs.Private.Running.{Reports}
+use Rattle.t1check.specs.Private.Running.Reports.{lines, malformed, no_memory}
 use Rattle.t1check.specs.Ends.Shows.{no_room, reported, waivers_refused}
-use Rattle.t1check.specs.Input.{Gathers, StopsAt}
+use Rattle.t1check.specs.Input.{StopsAt}
+use Rattle.t1check.specs.Private.Reading.{Gathers}
 use Rattle.t1check.specs.Input.StopsAt.{past_limit, the_end}
 use Rattle.t1check.specs.declared.refusals.WaiverRefusal.TheVariants.{PastLimit}
-use Rattle.t1check.specs.Waived.{AreWaived, HasText, IfWaived, IsHeard, IsText, as_waivers, asks_waivers, is_asked, waivers_in}
+use Rattle.t1check.specs.Waived.{AreWaived, IfWaived, IsHeard, as_waivers, asks_waivers, is_asked, waivers_in}
+use Rattle.t1check.specs.Private.WaiverTexts.{GivesText, IsText}
 
 waivers_in-small : (text : List ℕ) → length text ≤ 1048576 → waivers_in text ≡ as_waivers (waivers_of text)
 unfolding waivers_in
@@ -75,7 +78,7 @@ waived-weaker P Q true (Some text) on holds = on (waivers_in text) holds
 
 -- ---- the text that was had
 
-pub gathered : (old new : SourceState) (r : Input) → Gathers 1048576 old new r → HasText true old new r
+pub gathered : (old new : SourceState) (r : Input) → Gathers 1048576 old new r → GivesText true old new r
 gathered old new (Bytes bytes) (consumed, end, small, kept) = ((small, text_is old.left new.left bytes.items consumed end small), was_asked old new kept (the_end end))
 gathered old new TooLarge ((bytes, consumed, large), kept) = (text_past old.left new.left bytes consumed large, was_asked old new kept (past_limit bytes consumed large))
 gathered old new Broken broken = (refl, broken)

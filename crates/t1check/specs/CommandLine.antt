@@ -1,8 +1,7 @@
 -- The command line: its arguments as clap sees them, and the options that words give by clap's rules.
 use Rattle.std.specs.Prelude.{◌≡◌, ◌<◌, ℕ, length, List, [], ◌∷◌, Option, None, Some, IfSome, IsSome, option_map, codes, string_bytes}
-use Rattle.std.specs.List.{Any}
 use Rattle.std.specs.Str.Parse.{IsNumeral, without_leading_plus, digits_value}
-use Rattle.clap.specs.Words.{App, IsUnsignedIn, Rule, Text, fault_of, first_of, matches_of, new_app, new_rule, with_rule}
+use Rattle.clap.specs.Words.{App, Rule, Text, fault_of, first_of, matches_of, new_app, new_rule, with_rule}
 use Rattle.clap.specs.declared.builder.value_parser.ValueParser.TheVariants as parser
 use Rattle.clap.specs.declared.error.kind.ErrorKind.TheVariants.{DisplayHelp}
 use Rattle.t1_char.specs.declared.edition.Edition.{Edition}
@@ -55,16 +54,6 @@ t1check =
     (with_rule (with_rule (with_rule (new_app (codes "t1check")) after_rule) max_rule) trace_rule) edition_rule)
     waive_rule)
     file_rule
-
--- The id of an argument whose value is a number of 64 bits between two others.
-abbrev pub IsNumberArgument : ℕ → ℕ → Text → Type 0
-IsNumberArgument low high id =
-    Any (λ rule. (rule.id ≡ id) × (rule.parser ≡ Some (parser.Unsigned low high))) t1check.top.rules
-
--- What clap takes for such a number.
-abbrev pub IsTextOfNumber : ℕ → ℕ → Option Text → Type 0
-IsTextOfNumber low high None = Unit {0}
-IsTextOfNumber low high (Some text) = IsUnsignedIn low high text
 
 -- A number as clap reads it: digits, with a plus before them or without.
 abbrev pub IsNumber : Text → ℕ → Type 0

@@ -1,8 +1,6 @@
 -- How a run ends: what was given on the output, what was told on standard error, and the status.
 use Rattle.std.specs.Prelude.{◌≡◌, ℕ, Bool, true, false, List, Option, None, Some, option_map, Result, Ok, Err, IfSome, codes, string_bytes}
-use Rattle.t1_font.specs.FontFiles.{IsUnread}
 use Rattle.t1_font.specs.Fonts.{FontValue}
-use Rattle.t1_font.specs.declared.unread.Unread.{Unread}
 use Rattle.t1_font.specs.declared.unread.Unread.TheVariants as unread
 use Rattle.t1_io.specs.Devices.{Delivered, DeliveryFailed, PutFailed, SinkState, Wrote, SourceState}
 use Rattle.t1_report.specs.Checked.{checked}
@@ -84,23 +82,6 @@ pub data Shows (options : Options) (font : FontValue) (waivers waivers' : Source
       → Tells (codes "t1check: out of memory\n") Failed errors errors' result
       → Shows options font waivers waivers' out out' errors errors' result
 
--- How writing the report ends, given what the waivers are read as.
-pub data Reports (options : Options) (font : FontValue) (waived : Result (List Waiver) WaiverRefusal)
-    (out out' errors errors' : SinkState) (result : Status) : Type 0 where
-  lines :
-      (waivers : List Waiver) → waived ≡ Ok waivers → (faults : List FaultValue)
-      → IsReport (checked font options.edition) waivers faults
-      → Gives (lines_of font waivers (selection options faults))
-      (status_of (selection options faults)) out out' errors errors' result
-      → Reports options font waived out out' errors errors' result
-  malformed :
-      (reason : WaiverRefusal) → waived ≡ Err reason → out' ≡ out
-      → Tells (told_of_waivers reason) Refused errors errors' result
-      → Reports options font waived out out' errors errors' result
-  no_memory :
-      out' ≡ out → Tells (codes "t1check: out of memory\n") Failed errors errors' result
-      → Reports options font waived out out' errors errors' result
-
 -- The status where a file isn't read.
 abbrev pub unread_status : Reason → Status
 unread_status (Font unread.Memory) = Failed
@@ -135,15 +116,6 @@ pub data Ends (options : Options) (left : Option (List ℕ)) (failed : Bool) (wa
       failed ≡ false → waivers' ≡ waivers → out' ≡ out
       → Tells (codes "t1check: out of memory\n") Failed errors errors' result
       → Ends options left failed waivers waivers' out out' errors errors' result
-
--- How reading these bytes ends: the font is shown, or there is a reason why they aren't read, and nothing
--- read, given or told.
-abbrev pub Checks : Options → Result FontValue Unread → SourceState → SourceState → SinkState → SinkState
-    → SinkState → SinkState → Result Status Unread → Type 0
-Checks options read waivers waivers' out out' errors errors' (Ok status) =
-    (font : FontValue) × (read ≡ Ok font) × Shows options font waivers waivers' out out' errors errors' status
-Checks options read waivers waivers' out out' errors errors' (Err unread) =
-    IsUnread unread read × (waivers' ≡ waivers) × (out' ≡ out) × (errors' ≡ errors)
 
 -- What is answered to words of the command line that give no options: help on the output, all else on
 -- standard error.

@@ -6,6 +6,7 @@ pub mod FontFiles
 pub mod Input
 pub mod Laws
 pub mod Lines
+pub mod Private
 pub mod Refusals
 pub mod Traces
 pub mod Waived

@@ -1,13 +1,11 @@
 -- Waivers that the options ask for: what their text is read as, and what is done to its source.
-use Rattle.std.specs.Prelude.{◌≡◌, ◌≤◌, ℕ, Bool, true, false, nat_lt, if◌then◌else◌, List, [], length, Option, None, Some, Result, Ok, Err}
+use Rattle.std.specs.Prelude.{◌≡◌, ℕ, Bool, true, false, nat_lt, if◌then◌else◌, List, [], length, Option, None, Some, Result, Ok, Err}
 use Rattle.t1_io.specs.Devices.{SourceState}
 use Rattle.t1_report.specs.Waivers.{Waiver, waivers_of}
 use Rattle.t1check.specs.declared.asked.Options.{Options}
 use Rattle.t1check.specs.declared.refusals.WaiverRefusal.{WaiverRefusal}
 use Rattle.t1check.specs.declared.refusals.WaiverRefusal.TheVariants.{Malformed, PastLimit}
 use Rattle.t1check.specs.Input.{StopsAt}
-use Rattle.t1check.specs.declared.reading.Input.{Input}
-use Rattle.t1check.specs.declared.reading.Input.TheVariants.{Bytes, TooLarge, Broken, NoMemory}
 
 abbrev pub as_waivers : Option (List Waiver) → Result (List Waiver) WaiverRefusal
 as_waivers None = Err Malformed
@@ -47,13 +45,3 @@ pub record IsHeard (asked : Bool) (old new : SourceState) : Type 0 where
   pub unasked : asked ≡ false → new ≡ old
   pub failed : new.failed ≡ old.failed
   pub whole : asked ≡ true → StopsAt 1048576 old new ⊥
-
--- The text of waivers, few enough bytes, or none where none are asked for; or why there is none.
-abbrev pub IsText : Bool → Option (List ℕ) → List ℕ → Type 0
-IsText asked text bytes = (length bytes ≤ 1048576) × AreWaived asked text (as_waivers (waivers_of bytes))
-
-abbrev pub HasText : Bool → SourceState → SourceState → Input → Type 0
-HasText asked old new (Bytes bytes) = IsText asked old.left bytes.items × IsHeard asked old new
-HasText asked old new TooLarge = AreWaived asked old.left (Err PastLimit) × IsHeard asked old new
-HasText asked old new Broken = (asked ≡ true) × (new.failed ≡ true)
-HasText asked old new NoMemory = IsUnbroken asked old new

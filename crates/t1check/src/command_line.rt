@@ -3,7 +3,9 @@
 ghost use Rattle.std.specs.Prelude.{◌≡◌, ℕ, List, [], true, map, option_map, string_bytes, IfOk, IfErr};
 ghost use Rattle.clap.specs.Words.{FailsBy, app_of, fault_of, first_value, found_of, kind_of, matches_of, rows_of, takes};
 ghost use Rattle.clap.specs.declared.error.kind.ErrorKind.TheVariants.{OutOfMemory, DisplayHelp};
-ghost use Rattle.t1check.specs.CommandLine.{t1check, AreGiven, AreNumber, IsEditionOrFirst, IsNumberArgument, IsTextOfNumber, IsHelp, IsHelpOrMemory, AsksHelp, HasText};
+ghost use Rattle.t1check.specs.CommandLine.{t1check, AreGiven, AreNumber, IsEditionOrFirst, IsHelp, IsHelpOrMemory, AsksHelp, HasText};
+ghost use Rattle.t1check.specs.Private.Numbers.{IsNumberArgument};
+ghost use Rattle.t1check.specs.Private.Numbers.{IsTextOfNumber};
 
 use crate::asked::{Options, UsageError};
 use clap::error::ErrorKind;

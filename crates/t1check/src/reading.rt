@@ -1,7 +1,8 @@
 //! Reading a source to its end, within a limit.
 
 ghost use Rattle.std.specs.Prelude.{◌≡◌, ◌≤◌, ◌+◌, false};
-ghost use Rattle.t1check.specs.Input.{Gathers, TakesAtMost};
+ghost use Rattle.t1check.specs.Input.{TakesAtMost};
+ghost use Rattle.t1check.specs.Private.Reading.{Gathers};
 
 use std::alloc::Global;
 use t1_io::Source;
@@ -27,7 +28,7 @@ pub enum Input {
 
 /// Reads to the end of the source, in as few calls as it allows, and no further than one byte past the most
 /// that it may have.
-pub fn read_all<R: Source>(alloc: Global, source: &mut R, most: usize) -> Input
+pub(crate) fn read_all<R: Source>(alloc: Global, source: &mut R, most: usize) -> Input
     requires most { most ≤ 16777216 }
     ensures gathers { Gathers most (R.state source.old) (R.state source.new) result }
     ensures takes { (R.state source.new).takes ≤ (R.state source.old).takes + (most + 1) }

@@ -7,13 +7,15 @@ ghost use Rattle.t1_report.specs.Faults.{FaultValue};
 ghost use Rattle.t1_report.specs.Reports.{IsReport};
 ghost use Rattle.t1_rules.specs.Components.{AreOf};
 ghost use Rattle.t1check.specs.Answers.{selection, status_of};
-ghost use Rattle.t1check.specs.Ends.{Checks, Ends, EndsForMemory, Gives, Tells, unread_status, Reports, Shows};
+ghost use Rattle.t1check.specs.Ends.{Ends, EndsForMemory, Gives, Tells, unread_status, Shows};
+ghost use Rattle.t1check.specs.Private.Running.{Checks, Reports};
 ghost use Rattle.t1check.specs.Input.{TakesAtMost, ReadsAtMost, StopsAt};
 ghost use Rattle.t1check.specs.Lines.{lines_of};
 ghost use Rattle.t1check.specs.Refusals.{told_of};
 ghost use Rattle.t1check.specs.Traces.{trace_of};
 ghost use Rattle.t1_report.specs.Waivers.{waivers_of};
-ghost use Rattle.t1check.specs.Waived.{HasText, as_waivers};
+ghost use Rattle.t1check.specs.Waived.{as_waivers};
+ghost use Rattle.t1check.specs.Private.WaiverTexts.{GivesText};
 
 use crate::asked::Options;
 use crate::lines::write_report;
@@ -130,7 +132,7 @@ fn show_report<V: Source, W: Sink, E: Sink>(
 
 /// The text of the waivers, where they are asked for; none is read without.
 fn waiver_text<V: Source>(alloc: Global, source: &mut V, asked: bool) -> Input
-    ensures text { HasText asked (V.state source.old) (V.state source.new) result }
+    ensures text { GivesText asked (V.state source.old) (V.state source.new) result }
     ensures waivers { ReadsAtMost 1048577 (V.state source.old) (V.state source.new) }
 {
     if asked {

@@ -2,7 +2,7 @@
 use Rattle.std.specs.Prelude.{◌≡◌, ℕ, List, [], ◌∷◌, ◌++◌}
 use Rattle.t1_font.specs.declared.refusal.Refusal.{Refusal}
 use Rattle.t1_font.specs.Fonts.{Stated, Marks, value_of}
-use Rattle.t1_font.specs.Inner.Puts.{put}
+use Rattle.t1_font.specs.Puts.{put}
 use Rattle.t1_font.specs.TextTurns.{Reader, stated_in}
 use Rattle.t1_font.specs.Runs.{run_of, value_read}
 

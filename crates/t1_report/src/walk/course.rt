@@ -1,10 +1,11 @@
 //! How a walk goes on from its mark: the rules of the place in hand, and then the next place.
 
 ghost use Rattle.std.specs.Prelude.{◌≡◌, ◌≤◌, ◌*◌, ◌+◌, MatchOption, length};
-ghost use Rattle.t1_report.specs.Courses.{IsCourse, IsFloor, mark_after, turns_after, turns_so_far};
+ghost use Rattle.t1_report.specs.Courses.{mark_after, turns_after};
+ghost use Rattle.t1_report.specs.Private.Courses.{IsCourse, IsFloor, turns_so_far};
 ghost use Rattle.t1_report.specs.Faults.{fault_value};
 ghost use Rattle.t1_report.specs.Checked.{checked, step_limit};
-ghost use Rattle.t1_report.specs.Searches.{checked_in};
+ghost use Rattle.t1_report.specs.Private.Searches.{checked_in};
 ghost use Rattle.t1_report.specs.Walks.{HasNoneLater, IsNext, mark_of, number_behind};
 ghost use Rattle.t1_rules.specs.Components.{AreOf};
 

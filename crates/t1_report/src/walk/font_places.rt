@@ -3,7 +3,7 @@
 ghost use Rattle.std.specs.Prelude.{◌≡◌, ◌≤◌, ◌+◌, ◌*◌, MatchOption};
 ghost use Rattle.t1_char.specs.declared.edition.Edition.{Edition as Editions};
 ghost use Rattle.t1_report.specs.Checked.{checked};
-ghost use Rattle.t1_report.specs.Units.{IsFirst, IsFontPlaces, IsQuietFrom, font_step};
+ghost use Rattle.t1_report.specs.Private.Units.{IsFirst, IsFontPlaces, IsQuietFrom, font_step};
 
 use crate::reporting::STEPS_OF_A_KEY;
 use crate::walk::found::Found;

@@ -3,7 +3,7 @@
 ghost use Rattle.std.specs.Prelude.{◌≡◌, ◌≤◌, ◌<◌, ◌+◌, ◌*◌, false, MatchOption, length, ◌-◌, ◌&&◌, ℕ, not};
 ghost use Rattle.t1_report.specs.Checked.{checked, step_limit};
 ghost use Rattle.t1_report.specs.Reports.{Place, IsTold};
-ghost use Rattle.t1_report.specs.Searches.{checked_in, HasNoneFrom, IsFirstPlace, IsOfFont, IsSearch, is_over, step_of_part, turns_in, IsDone, IsFirstTold, IsPartBegun, TellsNoneFrom};
+ghost use Rattle.t1_report.specs.Private.Searches.{checked_in, HasNoneFrom, IsFirstPlace, IsOfFont, IsSearch, is_over, step_of_part, turns_in, IsDone, IsFirstTold, IsPartBegun, TellsNoneFrom};
 ghost use Rattle.t1_rules.specs.Components.{AreOf};
 ghost use Rattle.t1_report.specs.Lines.{glyph_name};
 ghost use Rattle.t1_report.specs.Waivers.{is_waived};

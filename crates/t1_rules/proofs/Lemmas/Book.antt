@@ -2,7 +2,7 @@
 use Rattle.std.proofs.Common.{◌≡◌, ◌<◌, ◌≤◌, ◌-◌, ℕ, refl, sym, ap, ◌∙◌, arith, slice_index_or, zero, suc, ◌+◌, ◌&&◌, ◌==◌, Bool, true, false, List, [], ◌∷◌, map, length, subst, Option, None, Some, cond, drop}
 use Rattle.t1_rules.specs.declared.rule.Rule.{Rule}
 use Rattle.t1_rules.specs.declared.rule.Rule.TheVariants.{F01, L01}
-use Rattle.t1_rules.specs.Words.BookRows.{row_coded, row_view, rows}
+use Rattle.t1_rules.specs.Private.BookRows.{row_coded, row_view, rows}
 use Rattle.t1_rules.specs.Book.{coded_in, number_of, last_number, code_of, rules, text_of}
 use Rattle.std.specs.Borrow.{Bor}
 use Rattle.t1_font.specs.Keys.{same_name}

@@ -14,7 +14,7 @@ use Rattle.t1_font.specs.Fonts.{FontValue}
 use Rattle.t1_rules.specs.declared.sidebearings.Component.{Component}
 use Rattle.t1_rules.specs.Components.{component_in, component_named, component_of_glyph, glyph_named, first_sidebearing, is_seac_step}
 use Rattle.t1_rules.specs.StepRules.Tokens.{is_seac, sets_width}
-use Rattle.t1_rules.specs.Words.Seac.{sidebearing_with, with_step}
+use Rattle.t1_rules.specs.Private.Seac.{sidebearing_with, with_step}
 
 -- One step more of a component.
 pub component_goes_on : (steps : List StepView) (t : StepView) → component_in (steps ++ t ∷ []) ≡ with_step (component_in steps) t

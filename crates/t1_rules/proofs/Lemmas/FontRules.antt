@@ -7,7 +7,7 @@ use Rattle.t1_rules.specs.declared.mask.Mask.{Mask}
 use Rattle.t1_rules.specs.declared.rule.Rule.{Rule}
 use Rattle.t1_rules.specs.Book.{number_of, last_number}
 use Rattle.t1_rules.specs.Mask.{has}
-use Rattle.t1_rules.specs.Words.KeyTests.{broken_among}
+use Rattle.t1_rules.specs.Private.KeyTests.{broken_among}
 use Rattle.t1_rules.specs.Laws.FontRules.{RuleNumbersAreInOrder}
 use Rattle.t1_rules.specs.FontRules.{KeyTest, FontRule, font_rules, says, violated}
 use Rattle.t1_rules.proofs.Lemmas.Book.{both, in_book}

@@ -22,7 +22,7 @@ use Rattle.t1_char.proofs.TurnsTaken.{Executes, IsStepped, answered_over, behind
 use Rattle.t1_font.specs.Fonts.{FontValue}
 use Rattle.t1_rules.specs.declared.sidebearings.Component.{Component}
 use Rattle.t1_rules.specs.Components.{component_in}
-use Rattle.t1_rules.specs.Words.Seac.{sidebearing_with, with_step}
+use Rattle.t1_rules.specs.Private.Seac.{sidebearing_with, with_step}
 use Rattle.t1_rules.proofs.Lemmas.Components.{component_goes_on}
 
 -- A number that there is room for.

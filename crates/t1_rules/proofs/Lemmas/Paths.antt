@@ -8,7 +8,8 @@ use Rattle.t1_rules.specs.declared.step_rules.paths.PathWatcher.{PathWatcher}
 use Rattle.t1_rules.specs.StepRules.{breaks, path_rules}
 use Rattle.t1_rules.specs.StepRules.Paths.{clearing_step, flex_start, flex_end, closing_step, outer_move, drawing}
 use Rattle.t1_rules.specs.StepRules.Tokens.{clears, closes, is_line, is_move}
-use Rattle.t1_rules.specs.Watches.{PathsStandFor, IsQuietForPaths}
+use Rattle.t1_rules.specs.Watches.{PathsStandFor}
+use Rattle.t1_rules.specs.Private.Quiet.{IsQuietForPaths}
 
 -- What is kept after a step, by what was kept before it.
 pub one_more : (old new : PathWatcher) (before : List StepView) (t : StepView) → PathsStandFor old before

@@ -13,7 +13,7 @@ use Rattle.t1_rules.specs.StepRules.Paths.{drawing, flex_start, flex_end}
 use Rattle.t1_rules.specs.StepRules.Stems.{hint_set, lies_across, popping, replacing_step, stands_upright, stems_in, stems_of}
 use Rattle.t1_rules.specs.StepRules.Tokens.{is_command, is_line, is_pop}
 use Rattle.t1_rules.specs.Watches.{StemsStandFor}
-use Rattle.t1_rules.specs.Words.Stems.{IsQuietForStems, kept_after}
+use Rattle.t1_rules.specs.Private.Stems.{IsQuietForStems, kept_after}
 use Rattle.t1_rules.proofs.Lemmas.Before.{take_more, was_last, was_before}
 
 -- The hint set of a direction.

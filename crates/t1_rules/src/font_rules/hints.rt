@@ -5,7 +5,7 @@ ghost use Rattle.t1_font.specs.Entries.{entry_view};
 ghost use Rattle.t1_rules.specs.FontRules.Hints.{falls_at, has_too_many, is_of_another_kind, is_of_kind};
 ghost use Rattle.t1_rules.specs.Keys.{list_limit_of};
 ghost use Rattle.t1_rules.specs.Mask.{has};
-ghost use Rattle.t1_rules.specs.Words.KeyTests.{broken_among, number_tests};
+ghost use Rattle.t1_rules.specs.Private.KeyTests.{broken_among, number_tests};
 
 use crate::font_rules::values::count_in;
 use crate::mask::Mask;

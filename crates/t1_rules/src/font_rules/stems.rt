@@ -4,7 +4,7 @@ ghost use Rattle.std.specs.Prelude.{◌≡◌, ℕ};
 ghost use Rattle.t1_font.specs.Entries.{entry_view};
 ghost use Rattle.t1_rules.specs.FontRules.Stems.{is_not_among, is_not_one_width};
 ghost use Rattle.t1_rules.specs.Mask.{has};
-ghost use Rattle.t1_rules.specs.Words.KeyTests.{broken_among, snap_tests, width_tests};
+ghost use Rattle.t1_rules.specs.Private.KeyTests.{broken_among, snap_tests, width_tests};
 
 use crate::font_rules::hints::{falls_at, has_too_many, is_of_another_kind, list_limit_of};
 use crate::font_rules::values::first_in;

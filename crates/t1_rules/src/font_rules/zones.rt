@@ -7,8 +7,8 @@ ghost use Rattle.t1_font.specs.Entries.{entry_view};
 ghost use Rattle.t1_rules.specs.FontRules.Values.{product_one};
 ghost use Rattle.t1_rules.specs.FontRules.Zones.{begins_zone, come_near, distance, has_odd_count, is_too_high, is_too_near, meets, scale, zones};
 ghost use Rattle.t1_rules.specs.Mask.{has};
-ghost use Rattle.t1_rules.specs.Words.Edges.{zone_of};
-ghost use Rattle.t1_rules.specs.Words.KeyTests.{broken_among, high_zone_tests, low_zone_tests, zone_tests};
+ghost use Rattle.t1_rules.specs.Private.Edges.{zone_of};
+ghost use Rattle.t1_rules.specs.Private.KeyTests.{broken_among, high_zone_tests, low_zone_tests, zone_tests};
 
 use crate::font_rules::hints::{falls_at, has_too_many, is_of_another_kind, list_limit_of};
 use crate::font_rules::values::{ONE, count_in, first_in, number_or};

@@ -9,7 +9,8 @@ ghost use Rattle.t1_rules.specs.Mask.{has};
 ghost use Rattle.t1_rules.specs.StepRules.{breaks, flex_rules};
 ghost use Rattle.t1_rules.specs.StepRules.Flex.{at, displacement, ends_away_from, is_elsewhere, miscounts, moved_by, origin, plus, point_set};
 ghost use Rattle.t1_rules.specs.StepRules.Tokens.{clears, is_move, is_pop, sets_point};
-ghost use Rattle.t1_rules.specs.Watches.{FlexStandsFor, IsNear, IsQuietForFlex, IsWithin, most_steps, reach};
+ghost use Rattle.t1_rules.specs.Watches.{FlexStandsFor, IsNear, IsWithin, most_steps, reach};
+ghost use Rattle.t1_rules.specs.Private.Quiet.{IsQuietForFlex};
 
 use crate::mask::Mask;
 use crate::rule::Rule;

@@ -4,7 +4,7 @@ ghost use Rattle.std.specs.Prelude.{◌≡◌, ◌+ℤ◌, ◌*ℤ◌, int_lt, n
 ghost use Rattle.std.specs.Int.{int_max, int_min};
 ghost use Rattle.std.specs.Ordering.{int_eq};
 ghost use Rattle.t1_rules.specs.Watches.{IsWithin, reach};
-ghost use Rattle.t1_rules.specs.Words.Sums.{SumFits};
+ghost use Rattle.t1_rules.specs.Private.Sums.{SumFits};
 
 pub(crate) fn sum(one: i64, other: i64) -> i64
     requires { SumFits one other }

@@ -7,7 +7,8 @@ ghost use Rattle.t1_char.specs.StepValues.{step_view};
 ghost use Rattle.t1_rules.specs.Mask.{has};
 ghost use Rattle.t1_rules.specs.StepRules.{breaks, path_rules};
 ghost use Rattle.t1_rules.specs.StepRules.Tokens.{is_line, is_move};
-ghost use Rattle.t1_rules.specs.Watches.{PathsStandFor, IsQuietForPaths};
+ghost use Rattle.t1_rules.specs.Watches.{PathsStandFor};
+ghost use Rattle.t1_rules.specs.Private.Quiet.{IsQuietForPaths};
 
 use crate::mask::Mask;
 use crate::rule::Rule;

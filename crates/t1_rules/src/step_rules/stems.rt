@@ -14,7 +14,7 @@ ghost use Rattle.t1_rules.specs.StepRules.{breaks, stem_rules};
 ghost use Rattle.t1_rules.specs.StepRules.Stems.{are_unequal, has_no_width, has_one_edge, is_off_middle, is_stem, is_triple, lies_across, lower, one_overlaps, overlap, overlap_by, sets_unequal, stands_upright, stem_at, stems_meet, stems_of, two_overlap, twice_middle, upper};
 ghost use Rattle.t1_rules.specs.StepRules.Tokens.{is_command, is_line};
 ghost use Rattle.t1_rules.specs.Watches.{IsWithin, StemsStandFor, reach};
-ghost use Rattle.t1_rules.specs.Words.Stems.{IsQuietForStems, kept_after};
+ghost use Rattle.t1_rules.specs.Private.Stems.{IsQuietForStems, kept_after};
 
 use crate::mask::Mask;
 use crate::rule::Rule;

@@ -1,5 +1,5 @@
 use Rattle.std.proofs.Common.{sym, ◌∙◌, arith}
-use Rattle.t1_char.specs.Workings.Cursors.{tokens_left}
+use Rattle.t1_char.specs.Private.Cursors.{tokens_left}
 use Rattle.t1_char.proofs.Lasts.{last_at_end, last_in_glyph, last_before_other, last_behind_return}
 use Rattle.t1_char.proofs.step.ends.Goals as goal
 

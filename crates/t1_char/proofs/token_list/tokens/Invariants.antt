@@ -1,6 +1,6 @@
 use Rattle.std.proofs.Common.{◌≡◌, ◌++◌, length}
 use Rattle.t1_char.specs.Tokens.{charstring_tokens}
-use Rattle.t1_char.specs.Workings.Cursors.{tokens_left}
+use Rattle.t1_char.specs.Private.Cursors.{tokens_left}
 use Rattle.t1_char.proofs.token_list.tokens.Given as goal
 
 abbrev pub invariant-loop-tokens : goal.invariant-loop-tokens

@@ -1,7 +1,8 @@
 use Rattle.std.proofs.Common.{ℕ, ◌+◌, ◌∙◌, ap, subst, sym}
 use Rattle.t1_rules.specs.Book.{number_of}
 use Rattle.t1_report.specs.Faults.{faults_of}
-use Rattle.t1_report.specs.Reports.{IsFront, path_at, path_in, is_told}
+use Rattle.t1_report.specs.Reports.{path_at, path_in, is_told}
+use Rattle.t1_report.specs.Private.Fronts.{IsFront}
 use Rattle.t1_report.proofs.Pushed.{pushed}
 use Rattle.t1_report.proofs.UnitFronts.{fault_more, place_ends}
 use Rattle.t1_report.proofs.reporting.add_faults.Goals as goal

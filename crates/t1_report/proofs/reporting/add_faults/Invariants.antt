@@ -1,8 +1,8 @@
 use Rattle.std.proofs.Common.{◌≤◌, ◌+◌, ◌-◌, List}
 use Rattle.t1_report.specs.Checked.{CheckedFont}
 use Rattle.t1_report.specs.Faults.{faults_of}
-use Rattle.t1_report.specs.Reports.{IsFront}
-use Rattle.t1_report.specs.Workings.{HasTold}
+use Rattle.t1_report.specs.Private.Fronts.{IsFront}
+use Rattle.t1_report.specs.Private.Reporting.{HasTold}
 use Rattle.t1_report.proofs.reporting.add_faults.Given as goal
 use Rattle.t1_report.specs.Waivers.{Waiver}
 

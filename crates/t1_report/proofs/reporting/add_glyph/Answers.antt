@@ -8,8 +8,9 @@ use Rattle.t1_char.specs.Editions.{limit_of}
 use Rattle.t1_rules.specs.Watches.{WatchesStandFor}
 use Rattle.t1_report.specs.Checked.{checked, step_limit}
 use Rattle.t1_report.specs.Faults.{faults_of}
-use Rattle.t1_report.specs.Reports.{IsFront, is_broken, path_at, path_of_step, rules_of, step_breaks, is_told}
-use Rattle.t1_report.specs.Workings.{HaveSeen}
+use Rattle.t1_report.specs.Reports.{is_broken, path_at, path_of_step, rules_of, step_breaks, is_told}
+use Rattle.t1_report.specs.Private.Fronts.{IsFront}
+use Rattle.t1_report.specs.Private.Reporting.{HaveSeen}
 use Rattle.t1_report.proofs.Broken.{at_step, path_at_step, rules_by, so_far_decides}
 use Rattle.t1_report.proofs.GlyphSteps.{is_next, listed_at, none_behind, take_next}
 use Rattle.t1_report.proofs.UnitFronts.{quiet_on, unit_ends}

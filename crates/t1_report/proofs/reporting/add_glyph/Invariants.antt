@@ -2,8 +2,8 @@ use Rattle.std.proofs.Common.{◌+◌, take}
 use Rattle.t1_char.specs.Steps.{steps_of}
 use Rattle.t1_report.specs.Checked.{checked}
 use Rattle.t1_report.specs.Faults.{faults_of}
-use Rattle.t1_report.specs.Reports.{IsFront}
-use Rattle.t1_report.specs.Workings.{HaveSeen}
+use Rattle.t1_report.specs.Private.Fronts.{IsFront}
+use Rattle.t1_report.specs.Private.Reporting.{HaveSeen}
 use Rattle.t1_report.proofs.reporting.add_glyph.Given as goal
 
 abbrev pub invariant-loop-step : goal.invariant-loop-step

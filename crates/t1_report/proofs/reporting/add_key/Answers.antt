@@ -3,7 +3,8 @@ use Rattle.t1_rules.specs.Keys.{places_of}
 use Rattle.t1_rules.proofs.Lemmas.Keys.{few_places}
 use Rattle.t1_report.specs.Checked.{checked}
 use Rattle.t1_report.specs.Faults.{faults_of}
-use Rattle.t1_report.specs.Reports.{IsFront, is_broken, path_at, is_told}
+use Rattle.t1_report.specs.Reports.{is_broken, path_at, is_told}
+use Rattle.t1_report.specs.Private.Fronts.{IsFront}
 use Rattle.t1_report.proofs.Broken.{in_font, no_path, past_key}
 use Rattle.t1_report.proofs.UnitFronts.{quiet_on}
 use Rattle.t1_rules.specs.Book.{number_of}

@@ -2,7 +2,7 @@ use Rattle.std.proofs.Common.{◌+◌, ◌*◌}
 use Rattle.t1_char.specs.declared.edition.Edition.{Edition}
 use Rattle.t1_report.specs.Checked.{checked}
 use Rattle.t1_report.specs.Faults.{faults_of}
-use Rattle.t1_report.specs.Reports.{IsFront}
+use Rattle.t1_report.specs.Private.Fronts.{IsFront}
 use Rattle.t1_report.proofs.reporting.add_key.Given as goal
 
 abbrev pub invariant-loop-index : goal.invariant-loop-index

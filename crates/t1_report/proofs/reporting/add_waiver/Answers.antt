@@ -3,7 +3,7 @@ use Rattle.std.proofs.lemmas.List.{length-map}
 use Rattle.t1_font.specs.Views.{name_pair}
 use Rattle.t1_report.specs.Checked.{checked}
 use Rattle.t1_report.specs.Faults.{faults_of}
-use Rattle.t1_report.specs.Reports.{IsFront}
+use Rattle.t1_report.specs.Private.Fronts.{IsFront}
 use Rattle.t1_report.proofs.Broken.{no_path_behind}
 use Rattle.t1_report.proofs.Told.{told_of_waiver}
 use Rattle.t1_report.proofs.reporting.add_waiver.Goals as goal

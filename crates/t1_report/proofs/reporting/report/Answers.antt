@@ -6,7 +6,8 @@ use Rattle.t1_font.specs.Views.{name_pair}
 use Rattle.t1_rules.specs.Book.{number_of}
 use Rattle.t1_rules.specs.Components.{ComponentsView}
 use Rattle.t1_report.specs.Faults.{FaultValue, faults_of}
-use Rattle.t1_report.specs.Reports.{IsFront, IsReport, path_at, is_told}
+use Rattle.t1_report.specs.Reports.{IsReport, path_at, is_told}
+use Rattle.t1_report.specs.Private.Fronts.{IsFront}
 use Rattle.t1_report.proofs.Broken.{past_keys}
 use Rattle.t1_report.proofs.InFont.{all_in_font}
 use Rattle.t1_report.proofs.UnitFronts.{all_units, unit_ends, quiet_on}

@@ -5,7 +5,7 @@ use Rattle.t1_rules.specs.Components.{AreOf}
 use Rattle.t1_char.proofs.EditionLemmas.{limit_few}
 use Rattle.t1_char.specs.Turns.{MachineView}
 use Rattle.t1_rules.specs.declared.watches.Watches.{Watches}
-use Rattle.t1_report.specs.Units.{IsRun}
+use Rattle.t1_report.specs.Private.Units.{IsRun}
 use Rattle.t1_report.specs.Walks.{turns_of_glyph}
 use Rattle.t1_report.proofs.Broken.{at_no_step}
 use Rattle.t1_report.proofs.Units.{few_turns_of}

@@ -1,5 +1,5 @@
 use Rattle.std.proofs.Common.{◌≡◌, drop, map}
-use Rattle.t1_rules.specs.Words.BookRows.{row_coded, row_view}
+use Rattle.t1_rules.specs.Private.BookRows.{row_coded, row_view}
 use Rattle.t1_rules.proofs.book.rule_in.Given as goal
 
 abbrev pub invariant-loop-row : goal.invariant-loop-row

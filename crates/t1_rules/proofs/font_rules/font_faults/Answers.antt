@@ -1,7 +1,7 @@
 use Rattle.t1_font.specs.declared.key.Key.TheVariants as keys
 use Rattle.std.proofs.Common.{◌≤◌, [], refl, sym, ◌∙◌, rules}
 use Rattle.t1_rules.specs.FontRules.{font_rules}
-use Rattle.t1_rules.specs.Words.KeyTests.{high_zone_tests, low_zone_tests, number_tests, width_tests, snap_tests}
+use Rattle.t1_rules.specs.Private.KeyTests.{high_zone_tests, low_zone_tests, number_tests, width_tests, snap_tests}
 use Rattle.t1_rules.proofs.Lemmas.FontRules.{told_at, moved_to, past_last}
 use Rattle.t1_rules.proofs.font_rules.font_faults.Goals as goal
 

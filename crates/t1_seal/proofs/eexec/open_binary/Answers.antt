@@ -1,7 +1,7 @@
 use Rattle.std.proofs.Common.{◌≡◌, ◌<◌, ◌-◌, ◌++◌, ap, arith, length, length-append, length-take, subst, sym, take, ◌∙◌}
 use Rattle.std.proofs.lemmas.List.{append_assoc, take_all, take_more}
 use Rattle.t1_seal.specs.Eexec.{opened}
-use Rattle.t1_seal.specs.Opening.{HasTaken}
+use Rattle.t1_seal.specs.Private.Opening.{HasTaken}
 use Rattle.t1_seal.proofs.Openings.{finished, has_room}
 use Rattle.t1_seal.proofs.eexec.open_binary.Goals as goal
 

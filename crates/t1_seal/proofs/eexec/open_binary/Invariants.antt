@@ -1,5 +1,5 @@
 use Rattle.std.proofs.Common.{◌-◌, ◌++◌, take, length}
-use Rattle.t1_seal.specs.Opening.{HasTaken, IsFor}
+use Rattle.t1_seal.specs.Private.Opening.{HasTaken, IsFor}
 use Rattle.t1_seal.proofs.eexec.open_binary.Given as goal
 
 abbrev pub invariant-loop-byte : goal.invariant-loop-byte

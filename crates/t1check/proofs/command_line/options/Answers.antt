@@ -1,6 +1,8 @@
 use Rattle.std.proofs.Common.{ℕ, map, ap, true≢false, Option, None, Some, unwrap_or, codes, ◌∙◌, subst, sym, refl, lit<, inl, inr}
 use Rattle.clap.specs.Words.{Text, fault_of, matches_of}
-use Rattle.t1check.specs.CommandLine.{t1check, after_rule, edition_rule, max_rule, AreNumber, IsEditionOrFirst, IsNumberArgument, IsNumberOrZero, IsTextOfNumber}
+use Rattle.t1check.specs.CommandLine.{t1check, after_rule, edition_rule, max_rule, AreNumber, IsEditionOrFirst, IsNumberOrZero}
+use Rattle.t1check.specs.Private.Numbers.{IsNumberArgument}
+use Rattle.t1check.specs.Private.Numbers.{IsTextOfNumber}
 use Rattle.t1check.proofs.CommandLemmas.{first_of-found}
 use Rattle.t1check.proofs.SingleFault.{fault_of-single, single-among}
 use Rattle.t1check.proofs.command_line.options.Goals as goal

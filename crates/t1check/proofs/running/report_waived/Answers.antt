@@ -1,7 +1,7 @@
 use Rattle.std.proofs.Common.{◌≡◌, None, ap, refl}
 use Rattle.t1_report.specs.Waivers.{waivers_of}
 use Rattle.t1_report.specs.Checked.{checked}
-use Rattle.t1check.specs.Ends.Reports.{lines, malformed, no_memory}
+use Rattle.t1check.specs.Private.Running.Reports.{lines, malformed, no_memory}
 use Rattle.t1check.specs.Waived.{as_waivers}
 use Rattle.t1check.specs.declared.refusals.WaiverRefusal.TheVariants.{Malformed}
 use Rattle.t1check.proofs.running.report_waived.Goals as goal

@@ -1,6 +1,7 @@
 use Rattle.std.proofs.Common.{◌≡◌, Err, refl, subst}
 use Rattle.t1check.specs.Ends.Shows.{no_room, waivers_refused}
-use Rattle.t1check.specs.Waived.{AreWaived, IsHeard, IsText, IsUnbroken, asks_waivers}
+use Rattle.t1check.specs.Waived.{AreWaived, IsHeard, IsUnbroken, asks_waivers}
+use Rattle.t1check.specs.Private.WaiverTexts.{IsText}
 use Rattle.t1check.specs.declared.refusals.WaiverRefusal.TheVariants.{PastLimit}
 use Rattle.t1check.proofs.WaivedLemmas.{asked_is, shown_waived}
 use Rattle.t1check.proofs.running.show_report.Goals as goal

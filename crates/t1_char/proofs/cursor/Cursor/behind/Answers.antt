@@ -1,6 +1,6 @@
 use Rattle.std.proofs.Common.{Some, ap, sym, lit<, drop, ◌∙◌}
 use Rattle.t1_seal.specs.Cipher.{charstring_start}
-use Rattle.t1_char.specs.Workings.Cursors.{deciphered}
+use Rattle.t1_char.specs.Private.Cursors.{deciphered}
 use Rattle.t1_char.proofs.Deciphering.{decrypted_is}
 use Rattle.t1_char.proofs.cursor.Cursor.behind.Goals as goal
 

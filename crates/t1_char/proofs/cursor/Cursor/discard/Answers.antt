@@ -1,5 +1,5 @@
 use Rattle.std.proofs.Common.{ap, drop, ◌∙◌, drop-drop}
-use Rattle.t1_char.specs.Workings.Cursors.{bytes_left}
+use Rattle.t1_char.specs.Private.Cursors.{bytes_left}
 use Rattle.t1_char.proofs.cursor.Cursor.discard.Goals as goal
 
 pub loop-taken-preserved : goal.loop-taken-preserved

@@ -1,5 +1,5 @@
 use Rattle.std.proofs.Common.{◌≡◌, drop}
-use Rattle.t1_char.specs.Workings.Cursors.{bytes_left}
+use Rattle.t1_char.specs.Private.Cursors.{bytes_left}
 use Rattle.t1_char.proofs.cursor.Cursor.discard.Given as goal
 
 abbrev pub invariant-loop-taken : goal.invariant-loop-taken

@@ -1,6 +1,6 @@
 use Rattle.std.proofs.Common.{◌≡◌, length}
-use Rattle.t1_char.specs.Workings.Cursors.{bytes_left}
-use Rattle.t1_char.specs.Workings.Seacs.{has_pair}
+use Rattle.t1_char.specs.Private.Cursors.{bytes_left}
+use Rattle.t1_char.specs.Private.Seacs.{has_pair}
 use Rattle.t1_char.proofs.cursor.Cursor.has_pair.Given as goal
 
 abbrev pub invariant-loop-byte : goal.invariant-loop-byte

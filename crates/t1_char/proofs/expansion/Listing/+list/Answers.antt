@@ -1,7 +1,7 @@
 use Rattle.std.proofs.Common.{ap, sym, subst, length, ◌<◌, ◌∙◌}
 use Rattle.t1_char.specs.Effects.{goes, calls, returns, finishes}
-use Rattle.t1_char.specs.Workings.Actions.{IsNested, action_of}
-use Rattle.t1_char.specs.Workings.Listings.{run_from, state_in, steps_in, IsListing}
+use Rattle.t1_char.specs.Private.Actions.{IsNested, action_of}
+use Rattle.t1_char.specs.Private.Listings.{run_from, state_in, steps_in, IsListing}
 use Rattle.t1_char.proofs.Additions.{Called}
 use Rattle.t1_char.proofs.Listed.{behind_call, listing_goes, listing_returns, listing_finishes, listing_calls, takes_as, call_fills, call_finishes, call_goes_on, path_back}
 use Rattle.t1_char.proofs.expansion.Listing.+list.Goals as goal

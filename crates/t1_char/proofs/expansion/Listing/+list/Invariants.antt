@@ -1,6 +1,6 @@
 use Rattle.std.proofs.Common.{◌-◌, length}
-use Rattle.t1_char.specs.Workings.Cursors.{tokens_left}
-use Rattle.t1_char.specs.Workings.Listings.{IsListing}
+use Rattle.t1_char.specs.Private.Cursors.{tokens_left}
+use Rattle.t1_char.specs.Private.Listings.{IsListing}
 use Rattle.t1_char.proofs.expansion.Listing.+list.Given as goal
 
 abbrev pub decreases-list : goal.decreases-list

@@ -1,5 +1,5 @@
 use Rattle.std.proofs.Common.{◌-◌, ◌≤◌}
-use Rattle.t1_char.specs.Workings.Plain.{GoesOver}
+use Rattle.t1_char.specs.Private.Plain.{GoesOver}
 use Rattle.t1_char.proofs.frames.Frames.pass_numbers.Given as goal
 
 abbrev pub invariant-loop-passed : goal.invariant-loop-passed

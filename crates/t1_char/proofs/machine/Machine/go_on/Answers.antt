@@ -5,8 +5,8 @@ use Rattle.t1_char.specs.AnswerViews.{answer_view}
 use Rattle.t1_char.specs.Editions.{limit_of}
 use Rattle.t1_char.specs.Steps.{steps_of}
 use Rattle.t1_char.specs.StepValues.{step_value}
-use Rattle.t1_char.specs.Workings.Machines.{IsAt}
-use Rattle.t1_char.specs.Workings.Plain.{GoesOver, HasGoneOver}
+use Rattle.t1_char.specs.Private.Machines.{IsAt}
+use Rattle.t1_char.specs.Private.Plain.{GoesOver, HasGoneOver}
 use Rattle.t1_char.proofs.MachineSteps.{Answers, IsRead, asked_behind, asked_none, gone_behind, still_goes_on, answers_end, answers_step, answers_limit}
 use Rattle.t1_char.proofs.machine.Machine.go_on.Goals as goal
 

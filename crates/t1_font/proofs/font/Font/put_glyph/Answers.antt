@@ -2,7 +2,7 @@ use Rattle.std.proofs.Common.{◌≡◌, ap, sym, ◌∙◌, is_some, map, true,
 use Rattle.t1_font.specs.Fonts.{glyph}
 use Rattle.t1_font.specs.Keys.{same_name}
 use Rattle.t1_font.specs.PrivateText.{has_key}
-use Rattle.t1_font.specs.Inner.Puts.{put}
+use Rattle.t1_font.specs.Puts.{put}
 use Rattle.t1_font.specs.Views.{name_pair, names_now}
 use Rattle.t1_font.proofs.FontMaps.{name_put, name_has, name_twice}
 use Rattle.t1_font.proofs.Room.{entries_few}

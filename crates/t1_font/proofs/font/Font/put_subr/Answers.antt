@@ -1,7 +1,7 @@
 use Rattle.std.proofs.Common.{◌≡◌, ap, sym, ◌∙◌, is_some, map, nat_eq, true, false}
 use Rattle.t1_font.specs.Fonts.{subr}
 use Rattle.t1_font.specs.PrivateText.{has_key}
-use Rattle.t1_font.specs.Inner.Puts.{put}
+use Rattle.t1_font.specs.Puts.{put}
 use Rattle.t1_font.specs.Views.{number_pair}
 use Rattle.t1_font.proofs.FontMaps.{number_put, number_has}
 use Rattle.t1_font.proofs.font.Font.put_subr.Goals as goal

@@ -6,8 +6,8 @@ use Rattle.t1_report.specs.Checked.{executed}
 use Rattle.t1_report.proofs.GlyphSteps.{is_next_by}
 use Rattle.t1_report.proofs.PassedNumbers.{EndsBehind, IsTurn, StandsBehind, ended_behind, fewer_turns_left, stands_behind_numbers, turn_behind}
 use Rattle.t1_report.proofs.RunSteps.{same_executed, found_at, quiet_limit, quiet_more, quiet_over, run_at, run_more, run_of, run_over, step_agrees, turns_at_limit}
-use Rattle.t1_report.specs.Units.{IsQuiet}
-use Rattle.t1_report.specs.Workings.{HaveSeen}
+use Rattle.t1_report.specs.Private.Units.{IsQuiet}
+use Rattle.t1_report.specs.Private.Reporting.{HaveSeen}
 use Rattle.t1_report.proofs.walk.glyph_run.next_broken.Goals as goal
 
 -- The glyph is over.

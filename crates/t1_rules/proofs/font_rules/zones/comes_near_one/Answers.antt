@@ -1,7 +1,7 @@
 use Rattle.std.proofs.Common.{◌≡◌, false, get_or, pos, rules, to_z, of_z}
 use Rattle.std.specs.Int.{w128}
 use Rattle.t1_rules.specs.FontRules.Zones.{come_near}
-use Rattle.t1_rules.specs.Words.Edges.{zone_of}
+use Rattle.t1_rules.specs.Private.Edges.{zone_of}
 use Rattle.t1_rules.proofs.Lemmas.Zones.{after_one}
 use Rattle.t1_rules.proofs.font_rules.zones.comes_near_one.Goals as goal
 

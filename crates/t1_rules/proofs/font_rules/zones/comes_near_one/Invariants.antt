@@ -1,7 +1,7 @@
 use Rattle.std.proofs.Common.{◌≡◌, length}
 use Rattle.std.specs.List.{list_any}
 use Rattle.t1_rules.specs.FontRules.Zones.{come_near, zones}
-use Rattle.t1_rules.specs.Words.Edges.{zone_of}
+use Rattle.t1_rules.specs.Private.Edges.{zone_of}
 use Rattle.t1_rules.proofs.font_rules.zones.comes_near_one.Given as goal
 
 abbrev pub invariant-loop-rest : goal.invariant-loop-rest

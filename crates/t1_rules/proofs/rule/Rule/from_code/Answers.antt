@@ -1,6 +1,6 @@
 use Rattle.std.proofs.Common.{ap, ◌∙◌}
 use Rattle.t1_rules.specs.Book.{rules}
-use Rattle.t1_rules.specs.Words.BookRows.{row_coded}
+use Rattle.t1_rules.specs.Private.BookRows.{row_coded}
 use Rattle.t1_rules.proofs.Lemmas.Book.{coded}
 use Rattle.t1_rules.proofs.rule.Rule.from_code.Goals as goal
 

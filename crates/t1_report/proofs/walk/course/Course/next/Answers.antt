@@ -1,7 +1,7 @@
 use Rattle.std.proofs.Common.{◌+◌, ◌<◌, length, ap, sym, subst, ◌∙◌}
 use Rattle.t1_report.specs.Checked.{CheckedFont}
-use Rattle.t1_report.specs.Searches.{checked_in}
-use Rattle.t1_report.specs.Courses.{HasInHand}
+use Rattle.t1_report.specs.Private.Searches.{checked_in}
+use Rattle.t1_report.specs.Private.Courses.{HasInHand}
 use Rattle.t1_report.specs.Faults.{fault_value}
 use Rattle.t1_report.specs.Walks.{HasNoneLater, IsNext, turns_at, turns_in_all}
 use Rattle.t1_report.proofs.Hands.{fewer_places, hand_empty, hand_found, hand_marked, hand_none, next_fault, turns_found, turns_over}

@@ -1,6 +1,6 @@
 use Rattle.std.proofs.Common.{◌≡◌, ◌+◌, ◌-◌, ◌*◌, length}
-use Rattle.t1_report.specs.Courses.{IsCourse}
-use Rattle.t1_report.specs.Searches.{checked_in, step_of_part}
+use Rattle.t1_report.specs.Private.Courses.{IsCourse}
+use Rattle.t1_report.specs.Private.Searches.{checked_in, step_of_part}
 use Rattle.t1_report.proofs.walk.course.Course.next.Given as goal
 
 abbrev pub invariant-loop-rule : goal.invariant-loop-rule

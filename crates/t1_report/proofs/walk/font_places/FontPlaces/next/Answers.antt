@@ -1,7 +1,7 @@
 use Rattle.std.proofs.Common.{◌+◌, ◌*◌, ap, refl, arith}
 use Rattle.t1_report.proofs.PlaceSearch.{few_index, fewer_places, first_place, key_passed, keys_passed, place_passed}
 use Rattle.t1_report.specs.Checked.{checked}
-use Rattle.t1_report.specs.Units.{font_step}
+use Rattle.t1_report.specs.Private.Units.{font_step}
 use Rattle.t1_report.proofs.walk.font_places.FontPlaces.next.Goals as goal
 
 pub returns-then-has_rules-clause-found : goal.returns-then-has_rules-clause-found

@@ -1,7 +1,7 @@
 use Rattle.std.proofs.Common.{◌≤◌, ◌+◌, ◌-◌, ◌*◌}
 use Rattle.t1_char.specs.declared.edition.Edition.{Edition}
 use Rattle.t1_report.specs.Checked.{checked}
-use Rattle.t1_report.specs.Units.{IsFontPlaces, IsQuiet, font_step}
+use Rattle.t1_report.specs.Private.Units.{IsFontPlaces, IsQuiet, font_step}
 use Rattle.t1_report.proofs.walk.font_places.FontPlaces.next.Given as goal
 
 abbrev pub invariant-loop-self : goal.invariant-loop-self

@@ -1,7 +1,7 @@
 use Rattle.std.proofs.Common.{◌≤◌, ◌-◌, refl, sym, subst, arith}
 use Rattle.t1_report.specs.declared.walk.search.Search.{Search}
 use Rattle.t1_report.specs.Checked.{checked}
-use Rattle.t1_report.specs.Searches.{step_of_part, IsPartBegun}
+use Rattle.t1_report.specs.Private.Searches.{step_of_part, IsPartBegun}
 use Rattle.t1_report.proofs.Units.{begins_at, font_begun, search_begun, starts_near}
 use Rattle.t1_report.proofs.walk.search.Search.from.Goals as goal
 use Rattle.t1_report.proofs.walk.search.Search.from.Goals.{then-unit-eq0, else-unit-eq0}

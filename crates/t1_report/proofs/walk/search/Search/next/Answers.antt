@@ -1,7 +1,7 @@
 use Rattle.std.proofs.Common.{◌<◌, ◌∙◌, length, sym, subst, arith, ◌+◌}
 use Rattle.t1_report.proofs.Units.{next_passed, none_past, over_past}
 use Rattle.t1_report.specs.Checked.{CheckedFont}
-use Rattle.t1_report.specs.Searches.{checked_in, step_of_part, TellsNoneFrom}
+use Rattle.t1_report.specs.Private.Searches.{checked_in, step_of_part, TellsNoneFrom}
 use Rattle.t1_report.proofs.walk.search.Search.next.Goals as goal
 
 pub loop-self-preserved : goal.loop-self-preserved

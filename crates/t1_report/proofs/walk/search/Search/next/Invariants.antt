@@ -1,5 +1,5 @@
 use Rattle.std.proofs.Common.{◌≡◌, ◌+◌, ◌-◌, length}
-use Rattle.t1_report.specs.Searches.{IsSearch, checked_in, step_of_part}
+use Rattle.t1_report.specs.Private.Searches.{IsSearch, checked_in, step_of_part}
 use Rattle.t1_report.proofs.Units.{IsPassed}
 use Rattle.t1_report.proofs.walk.search.Search.next.Given as goal
 

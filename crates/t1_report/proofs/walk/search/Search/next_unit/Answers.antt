@@ -1,6 +1,6 @@
 use Rattle.std.proofs.Common.{subst, arith, ◌+◌, sym}
 use Rattle.t1_report.specs.Checked.{checked}
-use Rattle.t1_report.specs.Searches.{IsPart, IsPartBegun, checked_in}
+use Rattle.t1_report.specs.Private.Searches.{IsPart, IsPartBegun, checked_in}
 use Rattle.t1_report.proofs.Units.{few_passed, part_next, part_of_font}
 use Rattle.t1_report.proofs.walk.search.Search.next_unit.Goals as goal
 

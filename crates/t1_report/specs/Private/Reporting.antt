@@ -1,4 +1,4 @@
--- Words that private contracts alone cite: no clause of the report rests on them.
+-- What the report's own functions keep while they ask a place or a glyph.
 use Rattle.std.specs.Prelude.{◌≡◌, ℕ, ◌+◌, ◌≤◌, List, length}
 use Rattle.t1_char.specs.declared.edition.Edition.{Edition}
 use Rattle.t1_char.specs.Editions.{limit_of}

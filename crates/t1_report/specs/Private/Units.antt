@@ -1,6 +1,5 @@
--- Within one unit: where a rule is first broken, and what stands for the places of the font and the run of a glyph. Words that
--- private contracts alone cite.
-use Rattle.std.specs.Prelude.{◌≡◌, ℕ, ◌+◌, ◌*◌, ◌<◌, ◌≤◌, false, length, take}
+-- Within one unit: where a rule is first broken, and what stands for the places of the font and the run of a glyph.
+use Rattle.std.specs.Prelude.{◌≡◌, ℕ, ◌+◌, ◌*◌, ◌<◌, ◌≤◌, false, Option, None, Some, length, take}
 use Rattle.t1_char.specs.Steps.{steps_of}
 use Rattle.t1_font.specs.Fonts.{FontValue}
 use Rattle.t1_rules.specs.declared.rule.Rule.{Rule}
@@ -13,8 +12,9 @@ use Rattle.t1_report.specs.declared.walk.found.Found.{Found}
 use Rattle.t1_report.specs.declared.walk.font_places.FontPlaces.{FontPlaces}
 use Rattle.t1_report.specs.Checked.{CheckedFont, executed}
 use Rattle.t1_report.specs.Reports.{is_broken, path_in}
-use Rattle.t1_report.specs.Walks.{turns_of_glyph}
-use Rattle.t1_report.specs.Workings.{HaveSeen}
+use Rattle.t1_report.specs.Walks.{turns_of_glyph, turns_of_waiver}
+use Rattle.t1_report.specs.Private.Reporting.{HaveSeen}
+use Rattle.t1_report.specs.Waivers.{Waiver}
 
 -- No rule is broken at a unit's steps from one on up to another; nor from one on.
 abbrev pub IsQuiet : CheckedFont → ℕ → ℕ → ℕ → Type 0
@@ -47,3 +47,7 @@ pub record IsRun (machine : MachineView) (watches : Watches) : Type 0 where
   pub there : machine.glyph < length machine.font.glyphs
   pub counted : machine.counted ≤ turns_of_glyph (executed machine) machine.glyph
   pub seen : HaveSeen machine.edition watches (take machine.counted (steps_of machine.font machine.glyph))
+
+abbrev pub turns_if_any : CheckedFont → Option Waiver → ℕ
+turns_if_any font None = 0
+turns_if_any font (Some w) = turns_of_waiver font w

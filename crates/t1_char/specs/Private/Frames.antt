@@ -7,8 +7,8 @@ use Rattle.t1_char.specs.declared.token.CharToken.{CharToken}
 use Rattle.t1_char.specs.Effects.{State}
 use Rattle.t1_char.specs.Rests.{Frame, frame, rest_of}
 use Rattle.t1_char.specs.Steps.{StepView, step_at, is_callsubr, named_at}
-use Rattle.t1_char.specs.Workings.Actions.{named_of, state_of}
-use Rattle.t1_char.specs.Workings.Cursors.{tokens_left, behind_token}
+use Rattle.t1_char.specs.Private.Actions.{named_of, state_of}
+use Rattle.t1_char.specs.Private.Cursors.{tokens_left, behind_token}
 
 -- The frames of callers, the innermost first, where n frames lie below; the path of each is the front of
 -- the path as long as there are frames below it.

@@ -7,7 +7,7 @@ use Rattle.t1_rules.specs.declared.rule.Rule.{Rule}
 use Rattle.t1_rules.specs.declared.rule.Rule.TheVariants.{C04, C05, C07, C08, C09, O01, O02, O03}
 use Rattle.t1_rules.specs.StepRules.Arguments.{is_zero, one_is_past, quotient_is_past}
 use Rattle.t1_rules.specs.StepRules.Othersubrs.{is_flex_or_hints, is_known}
-use Rattle.t1_rules.specs.Words.KeyTests.{broken_among}
+use Rattle.t1_rules.specs.Private.KeyTests.{broken_among}
 
 -- The step's token is this command.
 abbrev pub IsCommand : StepView → Commands → Type 0

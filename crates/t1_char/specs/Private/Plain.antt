@@ -8,10 +8,10 @@ use Rattle.t1_char.specs.declared.token.CharToken.TheVariants.{Number}
 use Rattle.t1_char.specs.Effects.{CalledSubr, Work, clears, goes, effect, effect_of}
 use Rattle.t1_char.specs.Passing.{ArePassed}
 use Rattle.t1_char.specs.Steps.{StepView, step_at}
-use Rattle.t1_char.specs.Workings.Actions.{state_of}
-use Rattle.t1_char.specs.Workings.Cursors.{tokens_left}
-use Rattle.t1_char.specs.Workings.Frames.{state_in, steps_behind}
-use Rattle.t1_char.specs.Workings.Machines.{IsBehind}
+use Rattle.t1_char.specs.Private.Actions.{state_of}
+use Rattle.t1_char.specs.Private.Cursors.{tokens_left}
+use Rattle.t1_char.specs.Private.Frames.{state_in, steps_behind}
+use Rattle.t1_char.specs.Private.Machines.{IsBehind}
 
 abbrev pub is_clearing : Work → Bool
 is_clearing clears = true

@@ -7,7 +7,7 @@ use Rattle.t1_char.specs.declared.machine.Answer.TheVariants.{Step, Ended, Limit
 use Rattle.t1_char.specs.Steps.{StepView}
 use Rattle.t1_char.specs.StepValues.{step_value}
 use Rattle.t1_char.specs.Turns.{TurnValue, ended, limited, turn_at, counted_after}
-use Rattle.t1_char.specs.Workings.Frames.{IsReady, steps_from, steps_behind, step_here}
+use Rattle.t1_char.specs.Private.Frames.{IsReady, steps_from, steps_behind, step_here}
 
 -- Behind n steps the run goes on with the others.
 pub record GoesOnFrom (limit : ℕ) (steps : List StepView) (font : FontValue) (n : ℕ) (f : Frames) : Type 0 where

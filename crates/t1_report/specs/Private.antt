@@ -1,0 +1,6 @@
+-- Words that private contracts alone cite: no clause of a public function rests on them.
+pub mod Courses
+pub mod Fronts
+pub mod Reporting
+pub mod Searches
+pub mod Units
