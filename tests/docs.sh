@@ -10,6 +10,7 @@
 #   docs/DEFINITIONS.md, or beside the rule in a row that begins with a rule's code. Left out is what that page leaves out: words of laws and
 #   of private functions, and types that the code declares. Public are all functions of the program, and of a library those of the modules
 #   whose items it hands on.
+# - The README's lines for an editor are lines of crates/example.
 # - Each link between the pages leads to a file, and to a heading where it names one.
 set -u
 LC_ALL=C
@@ -232,6 +233,17 @@ while read -r word; do
     fi
 done <"$scratch/cited"
 [ "$(wc -l <"$scratch/cited")" -gt 100 ] || fail "the words of contracts aren't read: $(wc -l <"$scratch/cited")"
+
+# The README's lines for an editor stand in the example.
+sed -n '/^## In an editor$/,/^## /s/^    //p' "$top/README.md" >"$scratch/editor"
+while IFS= read -r line; do
+    if grep -qF -e "$line" "$top/crates/example/src/main.rt"; then
+        pass
+    else
+        fail "README.md: crates/example has no line '$line'"
+    fi
+done <"$scratch/editor"
+[ "$(wc -l <"$scratch/editor")" -eq 6 ] || fail "the README's lines for an editor aren't read"
 
 # A page's headings as their anchors.
 anchors() {
