@@ -466,5 +466,335 @@ wanted <<'END'
 END
 try 'the list of rules and refusals' 0 sh -c "'$explain' | wc -l | tr -d ' '"
 
+# Installing, from a copy of what is to be put, so that nothing else of the repository is needed. In the place of man and zsh stand
+# two that name the folders which they look through.
+copy=$scratch/copy
+mkdir -p "$copy/crates/t1check" "$copy/docs" "$scratch/shells" "$scratch/home"
+cp -R "$top/bin" "$top/man" "$top/completions" "$copy/"
+cp -R "$top/crates/t1check/out" "$copy/crates/t1check/"
+cp "$top/docs/RULES.md" "$copy/docs/"
+cat >"$scratch/shells/man" <<'END'
+#!/bin/sh
+echo "/usr/share/man:${LOOKS-}/man"
+END
+cat >"$scratch/shells/zsh" <<'END'
+#!/bin/sh
+echo "${LOOKS-}/zsh/site-functions"
+END
+chmod +x "$scratch/shells/man" "$scratch/shells/zsh"
+unset DESTDIR LOOKS XDG_DATA_HOME XDG_DATA_DIRS
+HOME=$scratch/home
+export HOME
+prefix="$scratch/in stalled/it's"
+quoted="$scratch/in stalled/it'\\''s"
+wanted <<END
+t1check, t1check-all and t1explain are in $prefix/bin.
+A shell still needs, in the file that it reads when it starts:
+export PATH='$quoted/bin':"\$PATH"
+export MANPATH='$quoted/share/man':"\${MANPATH-}"
+export XDG_DATA_DIRS='$quoted/share':"\${XDG_DATA_DIRS:-/usr/local/share:/usr/share}"    # completions of bash and fish
+fpath=('$quoted/share/zsh/site-functions' \$fpath)    # zsh, before compinit
+--
+END
+try 'installing' 0 env PATH="$scratch/shells:$PATH" "$copy/bin/install" --prefix "$prefix"
+wanted <<END
+t1check, t1check-all and t1explain are in $prefix/bin.
+--
+END
+try 'installing once more, where shells find it' 0 env PATH="$prefix/bin:$scratch/shells:$PATH" LOOKS="$prefix/share" \
+    XDG_DATA_DIRS="/usr/share:$prefix/share/" "$copy/bin/install" "--prefix=$prefix/"
+rm -rf "$copy"
+wanted <<'END'
+./bin/t1check
+./bin/t1check-all
+./bin/t1explain
+./share/bash-completion/completions/t1check
+./share/bash-completion/completions/t1check-all
+./share/bash-completion/completions/t1explain
+./share/fish/vendor_completions.d/t1check-all.fish
+./share/fish/vendor_completions.d/t1check.fish
+./share/fish/vendor_completions.d/t1explain.fish
+./share/man/man1/t1check-all.1
+./share/man/man1/t1check.1
+./share/man/man1/t1explain.1
+./share/man/man7/t1check-rules.7
+./share/t1check/RULES.md
+./share/t1check/commit
+./share/t1check/installed
+./share/zsh/site-functions/_t1check
+--
+END
+try 'what is installed' 0 sh -c "cd \"$prefix\" && find . ! -type d | sort"
+wanted <<'END'
+glyphs.pfb: 3: glyph A 5 6 P03 closepath without a path
+--
+END
+try 'an installed t1check-all' 1 "$prefix/bin/t1check-all" -q --only P03 glyphs.pfb
+wanted <<'END'
+3: glyph A 5 6 P03 closepath without a path
+--
+END
+try 'an installed t1check' 1 "$prefix/bin/t1check" --after 2 --max 1 glyphs.pfb
+wanted <<'END'
+E06 encrypted part too short
+
+Fewer than four encrypted bytes stand behind `eexec`.
+
+The file was cut, or an editor changed the encrypted bytes.
+
+Example: a file that ends behind `currentfile eexec`.
+
+Cure: take it from its source again.
+--
+END
+mkdir "$scratch/linked"
+ln -s "$prefix/bin/t1explain" "$scratch/linked/explain"
+try 'an installed t1explain, by a link' 0 "$scratch/linked/explain" e06
+
+# The manual pages: that man and mandoc have nothing to say of them, that they have the options of --help, and all rules.
+printf '.TH A 1 2026-01-01\n.SH NAME\na \\- b\n' >"$scratch/a.1"
+readers=''
+man --warnings -E UTF-8 -l -Tutf8 -Z "$scratch/a.1" >/dev/null 2>&1 && readers='man --warnings -E UTF-8 -l -Tutf8 -Z' ||
+    echo 'skipped: manual pages read by man, since man-db is not here'
+pages="man1/t1check.1 man1/t1check-all.1 man1/t1explain.1 man7/t1check-rules.7"
+wanted <<'END'
+--
+END
+for page in $pages; do
+    # shellcheck disable=SC2086
+    [ -z "$readers" ] || try "$page by man" 0 sh -c "$readers \"$prefix/share/man/$page\" >/dev/null"
+    ! command -v mandoc >/dev/null || try "$page by mandoc" 0 mandoc -T lint "$prefix/share/man/$page"
+done
+command -v mandoc >/dev/null || echo 'skipped: manual pages read by mandoc, since it is not here'
+# The options that a tool's --help lists.
+options() {
+    "$prefix/bin/$1" --help | awk '/^ *-/ {
+        sub(/^ */, "")
+        sub(/  .*/, "")
+        count = split($0, words, /[ ,]+/)
+        for (i = 1; i <= count; i++) if (words[i] ~ /^-/ && words[i] != "-h") print words[i]
+    }' | sort
+}
+for tool in t1check t1check-all; do
+    options "$tool" >"$scratch/options"
+    sed -n '/^.SH OPTIONS/,/^.SH EXIT/p' "$prefix/share/man/man1/$tool.1" | grep '^\.B' | tr -d '\\",' | tr ' ' '\n' | grep '^-' |
+        grep -vx -e -h | sort >"$scratch/paged"
+    try "options in the manual page of $tool" 0 diff "$scratch/options" "$scratch/paged"
+    sed -n "/^    $tool)/,/;;/p" "$prefix/share/zsh/site-functions/_t1check" | sed '1d; s/\[.*//' | grep -o -e '-[-a-z][-a-z]*' |
+        grep -vx -e -h | sort >"$scratch/completed"
+    try "options of $tool in zsh's completions" 0 diff "$scratch/options" "$scratch/completed"
+done
+sed -n 's/^\.SS \([A-Z]*[0-9][0-9] .*\)/\1/p' "$prefix/share/man/man7/t1check-rules.7" >"$scratch/paged"
+try 'rules in the manual page' 0 diff "$scratch/listed" "$scratch/paged"
+
+# Completions.
+mkdir "$scratch/some"
+cd "$scratch/some" || exit 1
+: >'two words.PFA'
+: >font.pfb
+: >font.afm
+if command -v bash >/dev/null; then
+    cat >"$scratch/ask.bash" <<'END'
+PATH=$1/bin:$PATH
+. "$1/share/bash-completion/completions/t1check"
+ask() {
+    COMP_WORDS=("$@") COMP_CWORD=$(($# - 1))
+    _t1check "$1" "${@: -1}" "${@: -2:1}"
+    (IFS=,; echo "$*:${COMPREPLY[*]}")
+}
+ask t1check --ed
+ask t1check --edition ''
+ask t1check --edition = 2
+ask t1check f
+ask t1check tw
+ask t1check --waive f
+ask t1check-all --u
+ask t1check-all --only h0
+ask t1check-all --only = H02,Z1
+ask t1check-all --except L
+ask t1explain H0
+ask "$1/bin/t1explain" H02 e0
+for tool in t1check t1check-all; do
+    COMP_WORDS=("$tool" -) COMP_CWORD=1
+    _t1check "$tool" - "$tool"
+    printf '%s\n' "${COMPREPLY[@]}" | sort >"$tool.options"
+done
+END
+    wanted <<END
+t1check,--ed:--edition
+t1check,--edition,:1,2
+t1check,--edition,=,2:2
+t1check,f:font.pfb
+t1check,tw:two words.PFA
+t1check,--waive,f:
+t1check-all,--u:--update-baseline
+t1check-all,--only,h0:H01,H02,H03,H04
+t1check-all,--only,=,H02,Z1:H02,Z10,H02,Z11
+t1check-all,--except,L:L,L01
+t1explain,H0:H01,H02,H03,H04
+$prefix/bin/t1explain,H02,e0:E01,E02,E03,E04,E05,E06,E07,E08,E09
+--
+END
+    try 'completions of bash' 0 bash "$scratch/ask.bash" "$prefix"
+    for tool in t1check t1check-all; do
+        options "$tool" >"$scratch/options"
+        wanted <<'END'
+--
+END
+        try "options of $tool in bash's completions" 0 diff "$scratch/options" "$tool.options"
+    done
+else
+    echo 'skipped: completions of bash, since it is not here'
+fi
+if command -v fish >/dev/null; then
+    ask() {
+        # shellcheck disable=SC2016
+        PATH=$prefix/bin:$PATH XDG_DATA_DIRS=$prefix/share:/usr/local/share:/usr/share fish -c 'complete -C $argv[1]' "$1"
+    }
+    for line in 't1check --ed' 't1check --edition ' 't1check f' 't1check tw' 't1check --waive f' 't1check-all --only H02,Z1' 't1explain h0'; do
+        ask "$line"
+    done >"$scratch/told" 2>&1
+    wanted <<'END'
+--edition	Check by this edition of the rule book
+1	Check by this edition of the rule book
+2	Check by this edition of the rule book
+font.pfb
+two words.PFA
+font.afm
+font.pfb
+H02,Z10	stem snaps fall
+H02,Z11	standard width not among the snaps
+H01	stem after drawing
+H02	stems overlap
+H03	stem of zero width
+H04	unequal stem3
+--
+END
+    try 'completions of fish' 0 cat "$scratch/told"
+    for tool in t1check t1check-all; do
+        options "$tool" >"$scratch/options"
+        ask "$tool -" | cut -f 1 | grep -vx -e -h | sort >"$scratch/completed"
+        wanted <<'END'
+--
+END
+        try "options of $tool in fish's completions" 0 diff "$scratch/options" "$scratch/completed"
+    done
+else
+    echo 'skipped: completions of fish, since it is not here'
+fi
+if command -v zsh >/dev/null && zsh -fc 'zmodload zsh/zpty' 2>/dev/null; then
+    # Keys as a user types them: each Tab puts the next completion in, and control-G tells the line.
+    cat >"$scratch/ask.zsh" <<'END'
+zmodload zsh/zpty
+zpty shell zsh -fi
+zpty -w shell "PATH=${(q)1}/bin:\$PATH; fpath=(${(q)1}/share/zsh/site-functions \$fpath); cd ${(q)PWD}; autoload -Uz compinit
+compinit -D -u; bindkey '^I' menu-complete; tell() { print -r -- \"\${BUFFER% }\" >>told; BUFFER= }; zle -N tell; bindkey '^G' tell
+: >told"
+await() {
+    repeat 150; do
+        [[ -e told && $(wc -l <told) -eq $1 ]] && return
+        sleep 0.1
+    done
+}
+await 0
+number=0
+for keys in $'t1check --ed\t' $'t1check --edition \t\t' $'t1check f\t' $'t1check tw\t' $'t1check-all --only H02,Z1\t\t' \
+    $'t1check-all --except=L\t\t' $'t1explain h0\t\t\t' "${(q)1}/bin/t1explain GE"$'\t'; do
+    zpty -w -n shell $keys$'\C-g'
+    await $((++number))
+done
+zpty -d shell
+cat told
+END
+    wanted <<END
+t1check --edition=
+t1check --edition 2
+t1check font.pfb
+t1check two\\ words.PFA
+t1check-all --only H02,Z11,
+t1check-all --except=L,
+t1explain H03
+$(zsh -fc 'print -r -- ${(q)1}' zsh "$prefix")/bin/t1explain GE01
+--
+END
+    try 'completions of zsh' 0 zsh -f "$scratch/ask.zsh" "$prefix"
+else
+    echo 'skipped: completions of zsh, since it or its zpty is not here'
+fi
+cd "$scratch" || exit 1
+
+# Taking away. What others put there stays, and so do folders that are not empty.
+(cd "$prefix" && find . -type d | while read -r folder; do : >"$folder/foreign"; done)
+wanted <<'END'
+--
+END
+try 'taking away' 0 "$top/bin/install" --prefix "$prefix" --remove
+wanted <<'END'
+./bin/foreign
+./foreign
+./share/bash-completion/completions/foreign
+./share/bash-completion/foreign
+./share/fish/foreign
+./share/fish/vendor_completions.d/foreign
+./share/foreign
+./share/man/foreign
+./share/man/man1/foreign
+./share/man/man7/foreign
+./share/t1check/foreign
+./share/zsh/foreign
+./share/zsh/site-functions/foreign
+--
+END
+try 'what is left' 0 sh -c "cd \"$prefix\" && find . ! -type d | sort"
+wanted <<END
+--
+install: nothing is installed in $prefix
+END
+try 'taking away what is not there' 3 "$top/bin/install" --prefix "$prefix" --remove
+mkdir -p "$scratch/before/share/man"
+DESTDIR="$scratch/before" "$top/bin/install" --prefix "/" >given
+DESTDIR="$scratch/before/stage" "$top/bin/install" --prefix /usr/local >>given
+wanted <<END
+t1check, t1check-all and t1explain are in $scratch/before/bin.
+t1check, t1check-all and t1explain are in $scratch/before/stage/usr/local/bin.
+--
+END
+try 'installing with DESTDIR' 0 cat given
+DESTDIR="$scratch/before" "$top/bin/install" --prefix / --remove
+DESTDIR="$scratch/before/stage" "$top/bin/install" --prefix /usr/local --remove
+wanted <<'END'
+before
+before/share
+before/share/man
+--
+END
+try 'folders that were there before stay, others go' 0 sh -c 'find before | sort'
+mkdir -p "$scratch/home/.local/bin"
+ln -s "$scratch/glyphs.pfb" "$scratch/home/.local/bin/t1explain"
+wanted <<END
+--
+install: this is there already, and no install put it there:
+$scratch/home/.local/bin/t1explain
+END
+try 'a file that another put there' 3 "$top/bin/install"
+wanted <<END
+--
+install: $top is the repository itself
+install: 'bin/install --help' says how it is used
+END
+try 'the repository itself' 3 "$top/bin/install" --prefix "$top/"
+wanted <<END
+--
+install: --prefix wants a value
+install: 'bin/install --help' says how it is used
+END
+try 'no prefix' 3 "$top/bin/install" --remove --prefix
+wanted <<END
+--
+install: unknown option --preefix
+install: 'bin/install --help' says how it is used
+END
+try 'an unknown option of install' 3 "$top/bin/install" --preefix here
+
 printf '%d passed, %d failed\n' "$passed" "$failed"
 [ "$failed" -eq 0 ]
