@@ -1,6 +1,7 @@
 #!/bin/sh
 # Runs the tools that stand beside the program in bin/ on made fonts, and compares each answer, standard output, standard error
-# and status, with what was written here by hand. Names what differs and what is skipped; the last line counts both kinds.
+# and status, with what was written here by hand; installs them, and tries them, their manual pages and the shells' completions
+# there. Names what differs and what is skipped; the last line counts passed and failed.
 set -u
 LC_ALL=C
 export LC_ALL
@@ -487,6 +488,14 @@ HOME=$scratch/home
 export HOME
 prefix="$scratch/in stalled/it's"
 quoted="$scratch/in stalled/it'\\''s"
+printf '#!/bin/sh\nexit 1\n' >"$copy/man/rules.sh"
+wanted <<END
+--
+install: not all could be put into $prefix, so nothing is
+END
+try 'installing where something fails' 3 "$copy/bin/install" --prefix "$prefix"
+[ ! -e "$scratch/in stalled" ] || fail 'installing where something fails leaves something'
+cp "$top/man/rules.sh" "$copy/man/"
 wanted <<END
 t1check, t1check-all and t1explain are in $prefix/bin.
 A shell still needs, in the file that it reads when it starts:
@@ -795,6 +804,19 @@ install: unknown option --preefix
 install: 'bin/install --help' says how it is used
 END
 try 'an unknown option of install' 3 "$top/bin/install" --preefix here
+
+# The hook of pre-commit: its entry is there, and its files are fonts.
+hooks=$top/.pre-commit-hooks.yaml
+entry=$(sed -n 's/^  entry: \([^ ]*\).*/\1/p' <"$hooks")
+[ -x "$top/$entry" ] || fail ".pre-commit-hooks.yaml: no entry '$entry'"
+wanted <<'END'
+a.pfb
+b/c.PFA
+d e.t1
+--
+END
+printf '%s\n' a.pfb a.pfb.waivers a.afm b/c.PFA 'd e.t1' pfb at1 >names
+try 'files of the hook' 0 grep -E "$(sed -n "s/^  files: '\(.*\)'/\1/p" <"$hooks")" names
 
 printf '%d passed, %d failed\n' "$passed" "$failed"
 [ "$failed" -eq 0 ]
