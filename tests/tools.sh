@@ -470,9 +470,10 @@ try 'the list of rules and refusals' 0 sh -c "'$explain' | wc -l | tr -d ' '"
 # Installing, from a copy of what is to be put, so that nothing else of the repository is needed. In the place of man and zsh stand
 # two that name the folders which they look through.
 copy=$scratch/copy
-mkdir -p "$copy/crates/t1check" "$copy/docs" "$scratch/shells" "$scratch/home"
+mkdir -p "$copy/crates/t1check/out" "$copy/docs" "$scratch/shells" "$scratch/home"
 cp -R "$top/bin" "$top/man" "$top/completions" "$copy/"
-cp -R "$top/crates/t1check/out" "$copy/crates/t1check/"
+cp "$top/crates/t1check/out/t1check" "$copy/crates/t1check/out/"
+: >"$copy/crates/t1check/out/built"
 cp "$top/docs/RULES.md" "$copy/docs/"
 cat >"$scratch/shells/man" <<'END'
 #!/bin/sh
@@ -794,10 +795,12 @@ END
 try 'the repository itself' 3 "$top/bin/install" --prefix "$top/"
 wanted <<END
 --
-install: --prefix wants a value
+install: --prefix wants a folder
 install: 'bin/install --help' says how it is used
 END
 try 'no prefix' 3 "$top/bin/install" --remove --prefix
+try 'an option in place of a prefix' 3 "$top/bin/install" --prefix --remove
+try 'an empty prefix' 3 "$top/bin/install" --prefix=
 wanted <<END
 --
 install: unknown option --preefix
