@@ -48,8 +48,6 @@ mod seacs;
 mod stack;
 mod step;
 mod subr;
-#[cfg(test)]
-mod tests;
 mod token;
 mod token_list;
 

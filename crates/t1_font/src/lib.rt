@@ -36,8 +36,6 @@ mod private_text;
 mod refusal;
 mod refusal_laws;
 mod statement;
-#[cfg(test)]
-mod tests;
 mod texts;
 mod tokens;
 mod unread;

@@ -34,6 +34,3 @@ pub use limit::Limit;
 pub use sink::{Out, Sink};
 pub use source::{In, Source};
 pub use writing::{deliver, put_all, put_parts};
-
-#[cfg(test)]
-mod tests;

@@ -30,8 +30,6 @@ mod laws;
 mod lines;
 mod marks;
 mod reporting;
-#[cfg(test)]
-mod tests;
 mod traces;
 mod usage;
 mod waivers;

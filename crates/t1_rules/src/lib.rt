@@ -84,6 +84,3 @@ pub use step_rules::seac::SeacWatcher;
 pub use step_rules::stems::StemWatcher;
 pub use watch::Watch;
 pub use watches::Watches;
-
-#[cfg(test)]
-mod tests;

@@ -21,8 +21,6 @@
 mod cipher;
 mod file;
 mod sample;
-#[cfg(test)]
-mod tests;
 
 pub use cipher::{charstring, eexec};
 pub use file::{END_SEGMENT, FontFile, TRAILER};

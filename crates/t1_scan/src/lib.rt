@@ -36,8 +36,6 @@ mod numbers;
 mod runs;
 mod scanner;
 mod strings;
-#[cfg(test)]
-mod tests;
 mod token;
 
 pub use bytes::is_regular;

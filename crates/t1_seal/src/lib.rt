@@ -29,8 +29,6 @@ mod joined;
 pub mod laws;
 mod opening;
 mod segments;
-#[cfg(test)]
-mod tests;
 
 pub use cipher::Cipher;
 pub use eexec::open_eexec;

@@ -1,0 +1,233 @@
+//! What the tests of charstrings share: fonts of made glyphs and Subrs, and steps as text.
+
+mod arguments;
+mod effects;
+mod limits;
+mod machines;
+mod steps;
+mod tokens;
+
+ghost use Rattle.std.specs.Prelude.{◌≡◌, length};
+
+use t1_char::{CharToken, Edition, Stack, Step, command_name, expand};
+use machines::{states_told, trace_told};
+use std::alloc::{AllocError, Global};
+use std::process::Abort;
+use std::test::Fail;
+use t1_font::{Font, Refusal, read_clear, read_font};
+use t1_samples::Sample;
+use t1_seal::Joined;
+
+/// `0 500 hsbw`.
+const HSBW: &[u8] = b"\x8b\xf8\x88\x0d";
+
+/// Adds a number in digits.
+fn push_number(alloc: Global, text: &mut String, number: i64) -> Result<(), AllocError> {
+    let digits = format!(in alloc; "{number}")?;
+    text.push_str(digits.as_str())
+}
+
+/// Adds words and a byte in digits.
+fn push_byte(alloc: Global, text: &mut String, words: &str, byte: u8) -> Result<(), AllocError> {
+    text.push_str(words)?;
+    push_number(alloc, text, i64::from(byte))
+}
+
+/// Adds what a token is called: its number or its command's name.
+fn push_token(alloc: Global, text: &mut String, token: CharToken) -> Result<(), AllocError> {
+    match token {
+        CharToken::Number(number) => push_number(alloc, text, i64::from(number)),
+        CharToken::Command(command) => text.push_str(command_name(command)),
+        CharToken::Unknown(byte) => push_byte(alloc, text, "unknown ", byte),
+        CharToken::Unknown12(byte) => push_byte(alloc, text, "unknown 12 ", byte),
+        CharToken::Cut => text.push_str("cut"),
+        CharToken::Short => text.push_str("short"),
+        CharToken::End => text.push_str("end"),
+    }
+}
+
+/// Adds the Subrs of a path with `>` between them, or `-`.
+fn push_path(alloc: Global, text: &mut String, path: &[u32]) -> Result<(), AllocError> {
+    if path.is_empty() {
+        return text.push_str("-");
+    }
+    let mut mark = "";
+    for subr in path {
+        text.push_str(mark)?;
+        push_number(alloc, text, i64::from(*subr))?;
+        mark = ">";
+    }
+    Ok(())
+}
+
+/// Adds a number of a stack: a whole one as it is, another in units of 1/65536 behind a `~`.
+fn push_entry(alloc: Global, text: &mut String, number: i64) -> Result<(), AllocError> {
+    if number % 65536 == 0 {
+        text.push_str(" ")?;
+        push_number(alloc, text, number / 65536)
+    } else {
+        text.push_str(" ~")?;
+        push_number(alloc, text, number)
+    }
+}
+
+/// Adds the numbers of a stack, in brackets.
+fn push_stack(alloc: Global, text: &mut String, stack: &Stack) -> Result<(), AllocError> {
+    text.push_str("[")?;
+    for number in stack.as_slice() {
+        push_entry(alloc, text, *number)?;
+    }
+    text.push_str(" ]")
+}
+
+/// Adds a step's path and its token.
+fn push_place(alloc: Global, text: &mut String, step: &Step) -> Result<(), AllocError> {
+    push_path(alloc, text, step.path.as_slice())?;
+    text.push_str(" ")?;
+    push_token(alloc, text, step.token)
+}
+
+/// Adds how many results wait, and the two facts of a step.
+fn push_facts(alloc: Global, text: &mut String, step: &Step) -> Result<(), AllocError> {
+    let waiting = step.waiting;
+    let count = format!(in alloc; "{waiting}")?;
+    text.push_str(count.as_str())?;
+    text.push_str(if step.found { " found" } else { "" })?;
+    text.push_str(if step.last { " last" } else { "" })
+}
+
+/// Adds a step's number, its path and its token.
+fn push_line(alloc: Global, text: &mut String, step: &Step) -> Result<(), AllocError> {
+    push_number(alloc, text, i64::from(step.number))?;
+    text.push_str(" ")?;
+    push_place(alloc, text, step)?;
+    text.push_str("\n")
+}
+
+/// A line for each step: its number, its path and its token.
+fn trace_of(alloc: Global, steps: &[Step]) -> Result<String, AllocError> {
+    let mut text = String::new(alloc);
+    for step in steps {
+        push_line(alloc, &mut text, step)?;
+    }
+    Ok(text)
+}
+
+/// Adds a step's path, its token, the stack, how many results wait, and its two facts.
+fn push_state(alloc: Global, text: &mut String, step: &Step) -> Result<(), AllocError> {
+    push_place(alloc, text, step)?;
+    text.push_str(" ")?;
+    push_stack(alloc, text, &step.stack)?;
+    text.push_str(" ")?;
+    push_facts(alloc, text, step)?;
+    text.push_str("\n")
+}
+
+/// A line for each step: its path, its token, the stack, how many results wait, and its two facts.
+fn states_of(alloc: Global, steps: &[Step]) -> Result<String, AllocError> {
+    let mut text = String::new(alloc);
+    for step in steps {
+        push_state(alloc, &mut text, step)?;
+    }
+    Ok(text)
+}
+
+/// What was read, in a box: a function that drops a font of its own takes long to prove.
+fn boxed<T: Drop>(alloc: Global, read: Result<T, Refusal>) -> Result<Box<T>, Refusal> {
+    Ok(Box::new(alloc, read?)?)
+}
+
+/// The font of these texts.
+fn font<'a>(alloc: Global, text: &'a Joined, private: &'a [u8]) -> Result<Box<Font<'a>>, Refusal> {
+    let clear = read_clear(alloc, text)?;
+    boxed(alloc, read_font(alloc, clear, private))
+}
+
+/// The steps of a sample's second glyph.
+fn steps_of(alloc: Global, sample: &Sample) -> Result<Vec<Step>, Refusal> {
+    let text = clear_of(sample)?;
+    let private = sample.private()?;
+    steps_of_texts(alloc, &text, private.as_slice())
+}
+
+/// The clear text of a sample.
+fn clear_of(sample: &Sample) -> Result<Joined, AllocError> {
+    Ok(Joined {
+        bytes: sample.clear()?,
+        pfb: false,
+        end_segment: false,
+        trailing: false,
+    })
+}
+
+fn steps_of_texts(alloc: Global, text: &Joined, private: &[u8]) -> Result<Vec<Step>, Refusal> {
+    let font = font(alloc, text, private)?;
+    Ok(steps_in(alloc, &font, Edition::One)?)
+}
+
+/// How many glyphs a font has.
+fn glyph_count(font: &Font<'_>) -> usize
+    ensures { result ≡ length font.now.glyphs }
+{
+    font.glyphs().len()
+}
+
+/// The steps of a font's second glyph.
+fn steps_in(alloc: Global, font: &Font<'_>, edition: Edition) -> Result<Vec<Step>, AllocError> {
+    if glyph_count(font) < 2 {
+        return Ok(Vec::new(alloc));
+    }
+    expand(alloc, font, 1, edition)
+}
+
+/// A sound font with these Subrs.
+fn with_subrs(alloc: Global, subrs: &[(u32, &[u8])]) -> Result<Sample, AllocError> {
+    let mut sample = Sample::new(alloc)?;
+    for (number, code) in subrs {
+        sample = sample.subr(*number, *code)?;
+    }
+    Ok(sample)
+}
+
+/// The steps of a glyph with this charstring, in a font with these Subrs.
+fn steps_with(alloc: Global, subrs: &[(u32, &[u8])], glyph: &[u8]) -> Result<Vec<Step>, Refusal> {
+    let sample = with_subrs(alloc, subrs)?.glyph(b"A", glyph)?;
+    steps_of(alloc, &sample)
+}
+
+/// The states of the steps of a glyph with this charstring, in a font with these Subrs.
+fn states_with(alloc: Global, subrs: &[(u32, &[u8])], glyph: &[u8]) -> Result<String, Refusal> {
+    let steps = steps_with(alloc, subrs, glyph)?;
+    Ok(states_of(alloc, &steps)?)
+}
+
+/// The trace of a glyph with this charstring, in a font with these Subrs.
+fn trace_with(alloc: Global, subrs: &[(u32, &[u8])], glyph: &[u8]) -> Result<String, Refusal> {
+    let steps = steps_with(alloc, subrs, glyph)?;
+    Ok(trace_of(alloc, &steps)?)
+}
+
+/// Subrs, a glyph, and what is written of its steps.
+type Case<'a> = (&'a [(u32, &'a [u8])], &'a [u8], &'a str);
+
+/// The glyphs have the states of steps beside them.
+fn assert_states(rt: &impl Abort, alloc: Global, cases: &[Case<'_>]) -> Result<(), Fail> {
+    for (subrs, glyph, want) in cases {
+        let states = states_with(alloc, subrs, glyph)?;
+        assert_eq!(rt; states.as_str(), *want, "of {glyph:?}");
+        let told = states_told(alloc, subrs, glyph)?;
+        assert_eq!(rt; told.as_str(), *want, "of {glyph:?}, by a machine");
+    }
+    Ok(())
+}
+
+/// The glyphs have the traces beside them.
+fn assert_traces(rt: &impl Abort, alloc: Global, cases: &[Case<'_>]) -> Result<(), Fail> {
+    for (subrs, glyph, want) in cases {
+        let trace = trace_with(alloc, subrs, glyph)?;
+        assert_eq!(rt; trace.as_str(), *want, "of {glyph:?}");
+        let told = trace_told(alloc, subrs, glyph)?;
+        assert_eq!(rt; told.as_str(), *want, "of {glyph:?}, by a machine");
+    }
+    Ok(())
+}

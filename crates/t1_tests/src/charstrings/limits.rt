@@ -1,0 +1,120 @@
+//! Glyphs of as many steps as an edition looks at, of one less, and of more.
+
+use super::machines::{Lines, told_in};
+use super::{HSBW, clear_of, font, steps_in, trace_of, with_subrs};
+use t1_char::Edition;
+use std::alloc::{AllocError, Global};
+use std::test::Fail;
+use t1_font::{Font, Refusal};
+use t1_samples::Sample;
+use t1_seal::Joined;
+
+/// Subr 5 of 8,330 times dotsection and return; the glyph `0 500 hsbw`, so many calls of it, so many times
+/// dotsection, and endchar.
+fn long_glyph(alloc: Global, calls: usize, more: usize) -> Result<Sample, AllocError> {
+    let mut subr = Vec::new(alloc);
+    for _ in 0..8330 {
+        subr.extend_from_slice(b"\x0c\x00")?;
+    }
+    subr.extend_from_slice(b"\x0b")?;
+    let mut glyph = Vec::from_slice(alloc, HSBW)?;
+    for _ in 0..calls {
+        glyph.extend_from_slice(b"\x90\x0a")?;
+    }
+    for _ in 0..more {
+        glyph.extend_from_slice(b"\x0c\x00")?;
+    }
+    glyph.extend_from_slice(b"\x0e")?;
+    with_subrs(alloc, &[(5, subr.as_slice())])?.glyph(b"A", glyph.as_slice())
+}
+
+/// What is asked of a long glyph.
+#[derive(Clone, Copy)]
+enum Asked {
+    /// How many steps are listed, and the line of the last.
+    List,
+    /// What a machine answers behind the steps, three times, with the count of calls.
+    Ends,
+}
+
+fn told_of(
+    alloc: Global,
+    sample: &Sample,
+    edition: Edition,
+    asked: Asked,
+) -> Result<String, Refusal> {
+    let text = clear_of(sample)?;
+    let private = sample.private()?;
+    told_of_texts(alloc, &text, private.as_slice(), edition, asked)
+}
+
+fn told_of_texts(
+    alloc: Global,
+    text: &Joined,
+    private: &[u8],
+    edition: Edition,
+    asked: Asked,
+) -> Result<String, Refusal> {
+    let font = font(alloc, text, private)?;
+    Ok(match asked {
+        Asked::List => end_of(alloc, &font, edition)?,
+        Asked::Ends => told_in(alloc, &font, edition, Lines::Ends)?,
+    })
+}
+
+fn end_of(alloc: Global, font: &Font<'_>, edition: Edition) -> Result<String, AllocError> {
+    let steps = steps_in(alloc, font, edition)?;
+    let count = steps.len();
+    let (_, last) = steps.as_slice().split_at(count.saturating_sub(1));
+    let line = trace_of(alloc, last)?;
+    format!(in alloc; "{count} listed, {line}")
+}
+
+/// The edition, how many calls, how many times dotsection more, and what is listed.
+const LISTED: &[(Edition, usize, usize, &str)] = &[
+    (Edition::One, 11, 8332, "99999 listed, 99999 - endchar\n"),
+    (Edition::One, 12, 0, "100000 listed, 100000 - endchar\n"),
+    (Edition::One, 12, 1, "100001 listed, 100001 - endchar\n"),
+    (Edition::One, 12, 2, "100001 listed, 100001 - dotsection\n"),
+    (Edition::Two, 12, 2, "100002 listed, 100002 - endchar\n"),
+];
+
+#[test]
+fn steps_are_listed_to_the_first_past_the_limit(rt: HostRuntime) -> Result<(), Fail> {
+    for (edition, calls, more, want) in LISTED {
+        let sample = long_glyph(rt.alloc(), *calls, *more)?;
+        let told = told_of(rt.alloc(), &sample, *edition, Asked::List)?;
+        assert_eq!(rt; told.as_str(), *want);
+    }
+    Ok(())
+}
+
+/// The edition, how many calls, how many times dotsection more, and each answer behind the steps.
+const ENDED: &[(Edition, usize, usize, &str)] = &[
+    (Edition::One, 11, 8332, "ended 100000\n"),
+    (Edition::One, 12, 0, "ended 100001\n"),
+    (Edition::One, 12, 1, "limit 100001 - endchar\n100001\n"),
+    (Edition::One, 12, 2, "limit 100001 - dotsection\n100001\n"),
+    (Edition::One, 120, 37, "limit 100001 - callsubr\n100001\n"),
+    (Edition::Two, 12, 1, "ended 100002\n"),
+    (Edition::Two, 120, 35, "ended 1000000\n"),
+    (Edition::Two, 120, 36, "ended 1000001\n"),
+    (Edition::Two, 120, 37, "limit 1000001 - endchar\n1000001\n"),
+    (
+        Edition::Two,
+        120,
+        38,
+        "limit 1000001 - dotsection\n1000001\n",
+    ),
+];
+
+#[test]
+fn the_end_and_the_limit_are_told_again(rt: HostRuntime) -> Result<(), Fail> {
+    for (edition, calls, more, answer) in ENDED {
+        let sample = long_glyph(rt.alloc(), *calls, *more)?;
+        let told = told_of(rt.alloc(), &sample, *edition, Asked::Ends)?;
+        let want = format!(in rt.alloc(); "{answer}{answer}{answer}")?;
+        assert_eq!(rt; told.as_str(), want.as_str());
+    }
+    Ok(())
+}

@@ -1,0 +1,22 @@
+//! The book of rules: numbers, codes and texts.
+
+use t1_rules::{Rule, rule_text};
+
+/// Rules, and the number and the text of each.
+const TEXTS: &[(Rule, u8, &str)] = &[
+    (Rule::F01, 1, "no end segment"),
+    (Rule::F14, 14, "Subr given twice or past the array"),
+    (Rule::Z01, 15, "value of another kind"),
+    (Rule::Z11, 25, "standard width not among the snaps"),
+    (Rule::C01, 26, "shorter than lenIV"),
+    (Rule::GE02, 40, "tokens after the end"),
+    (Rule::X06, 57, "setcurrentpoint outside flex"),
+    (Rule::L01, 69, "step limit"),
+];
+
+#[test]
+fn texts_of_rules(rt: HostRuntime) {
+    for (rule, number, text) in TEXTS {
+        assert_eq!(rt; (rule.number(), rule_text(*rule)), (*number, *text));
+    }
+}

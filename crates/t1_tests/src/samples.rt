@@ -1,0 +1,118 @@
+//! The samples against the same bytes as another program writes them, and against t1_seal's readers.
+
+use t1_samples::{CLEAR, Charstrings, FontFile, Sample, TRAILER, charstring, eexec};
+use std::test::Fail;
+use t1_seal::{join, open_eexec};
+
+#[test]
+fn zeros_are_encrypted(rt: HostRuntime) -> Result<(), Fail> {
+    let section = eexec(rt.alloc(), [0; 4], b"")?;
+    let bytes = charstring(rt.alloc(), 4, b"")?;
+    assert_eq!(rt; section.as_slice(), b"\xd9\xd6\x6f\x63".as_slice());
+    assert_eq!(rt; bytes.as_slice(), b"\x10\xbf\x31\x70".as_slice());
+    Ok(())
+}
+
+/// A private text and its section are of the same length but for the four bytes that are discarded.
+#[test]
+fn sections_open(rt: HostRuntime) -> Result<(), Fail> {
+    let section = eexec(rt.alloc(), [0x98, 0xff, 0, 0], TRAILER)?;
+    assert!(rt; section.starts_with(b"\x41\xba"));
+    let text = open_eexec(rt.alloc(), section.as_slice())?;
+    assert_eq!(rt; text.as_slice(), TRAILER);
+    Ok(())
+}
+
+/// The private text of a sample with a key, a Subr and a glyph.
+#[test]
+fn texts_are_written(rt: HostRuntime) -> Result<(), Fail> {
+    let text = Sample::new(rt.alloc())?
+        .key(b"/BlueValues [0 25] def")?
+        .subr(5, b"\x0b")?
+        .glyph(b"A", b"\x0e")?
+        .private()?;
+    assert_eq!(rt;
+        text.as_slice(),
+        b"dup /Private 8 dict dup begin\n/password 5839 def\n/MinFeature {16 16} def\n/lenIV -1 def\n/BlueValues [0 25] def\n/Subrs 6 array\ndup 5 1 RD \x0b NP\nND\n2 index /CharStrings 4 dict dup begin\n/.notdef 5 RD \x8b\xf8\x88\x0d\x0e ND\n/A 1 RD \x0e ND\nend\n".as_slice()
+    );
+    Ok(())
+}
+
+#[test]
+fn charstrings_are_encrypted(rt: HostRuntime) -> Result<(), Fail> {
+    let table: [(Charstrings, &[u8]); 2] = [
+        (
+            Charstrings::Encrypted(4),
+            b"dup /Private 8 dict dup begin\n/password 5839 def\n/MinFeature {16 16} def\n/lenIV 4 def\n/Subrs [] def\n2 index /CharStrings 4 dict dup begin\n/.notdef 9 RD \x10\xbf\x31\x70\x79\xc8\x2f\x06\x80 ND\nend\n",
+        ),
+        (
+            Charstrings::WithoutLenIv,
+            b"dup /Private 8 dict dup begin\n/password 5839 def\n/MinFeature {16 16} def\n/Subrs [] def\n2 index /CharStrings 4 dict dup begin\n/.notdef 9 RD \x10\xbf\x31\x70\x79\xc8\x2f\x06\x80 ND\nend\n",
+        ),
+    ];
+    for (charstrings, written) in &table {
+        let sample = Sample::with_charstrings(rt.alloc(), *charstrings)?.subrs(b"/Subrs [] def\n")?;
+        let text = sample.private()?;
+        assert_eq!(rt; text.as_slice(), *written);
+    }
+    Ok(())
+}
+
+const SHORT: &[u8] = b"%!\neexec\n";
+
+#[test]
+fn files_are_written(rt: HostRuntime) -> Result<(), Fail> {
+    let whole = FontFile::of(SHORT, b"end\n");
+    let open = FontFile {
+        trailer: b"cleartomark\n",
+        end: b"",
+        ..whole
+    };
+    let table: [(FontFile, &[u8]); 2] = [
+        (
+            whole,
+            b"\x80\x01\x09\x00\x00\x00%!\neexec\n\x80\x02\x08\x00\x00\x00\xd9\xd6\x6f\x63\x3a\x4c\x3c\x96\x80\x03",
+        ),
+        (
+            open,
+            b"\x80\x01\x09\x00\x00\x00%!\neexec\n\x80\x02\x08\x00\x00\x00\xd9\xd6\x6f\x63\x3a\x4c\x3c\x96\x80\x01\x0c\x00\x00\x00cleartomark\n",
+        ),
+    ];
+    for (file, bytes) in &table {
+        let written = file.pfb(rt.alloc())?;
+        assert_eq!(rt; written.as_slice(), *bytes);
+    }
+    Ok(())
+}
+
+#[test]
+fn hexadecimal_files_are_written(rt: HostRuntime) -> Result<(), Fail> {
+    let file = FontFile {
+        trailer: b"cleartomark\n",
+        ..FontFile::of(SHORT, b"end\n0123456789")
+    };
+    let binary = file.pfa(rt.alloc())?;
+    assert_eq!(rt;
+        binary.as_slice(),
+        b"%!\neexec\n\xd9\xd6\x6f\x63\x3a\x4c\x3c\x96\xa2\x8c\x7d\xd1\x53\x43\xe5\x48\xc2\x54cleartomark\n".as_slice()
+    );
+    let digits = file.pfa_hexadecimal(rt.alloc())?;
+    assert_eq!(rt;
+        digits.as_slice(),
+        b"%!\neexec\nd9d66\rf633a4\r\nc3c96a\n28c7dd\t 15343e 548c25\r4\ncleartomark\n".as_slice()
+    );
+    Ok(())
+}
+
+/// The sample's file is joined to its clear text and a section that opens to its private text.
+#[test]
+fn the_sample_is_a_font_file(rt: HostRuntime) -> Result<(), Fail> {
+    let sample = Sample::new(rt.alloc())?;
+    let file = sample.pfb()?;
+    let joined = join(rt.alloc(), file.as_slice())?;
+    assert!(rt; joined.pfb && joined.end_segment && !joined.trailing);
+    let section = joined.bytes.strip_prefix(CLEAR).ok_or("the clear text")?;
+    let text = open_eexec(rt.alloc(), section)?;
+    assert_eq!(rt; text.as_slice(), sample.private()?.as_slice());
+    Ok(())
+}
