@@ -9,17 +9,14 @@ mod tokens;
 
 ghost use Rattle.std.specs.Prelude.{◌≡◌, length};
 
-use t1_char::{CharToken, Edition, Stack, Step, command_name, expand};
+use crate::fonts::{font_of, opened};
 use machines::{states_told, trace_told};
 use std::alloc::{AllocError, Global};
 use std::process::Abort;
 use std::test::Fail;
-use t1_font::{Font, Refusal, read_clear, read_font};
+use t1_char::{CharToken, Edition, Stack, Step, command_name, expand};
+use t1_font::{Font, Unread};
 use t1_samples::Sample;
-use t1_seal::Joined;
-
-/// `0 500 hsbw`.
-const HSBW: &[u8] = b"\x8b\xf8\x88\x0d";
 
 /// Adds a number in digits.
 fn push_number(alloc: Global, text: &mut String, number: i64) -> Result<(), AllocError> {
@@ -132,36 +129,10 @@ fn states_of(alloc: Global, steps: &[Step]) -> Result<String, AllocError> {
     Ok(text)
 }
 
-/// What was read, in a box: a function that drops a font of its own takes long to prove.
-fn boxed<T: Drop>(alloc: Global, read: Result<T, Refusal>) -> Result<Box<T>, Refusal> {
-    Ok(Box::new(alloc, read?)?)
-}
-
-/// The font of these texts.
-fn font<'a>(alloc: Global, text: &'a Joined, private: &'a [u8]) -> Result<Box<Font<'a>>, Refusal> {
-    let clear = read_clear(alloc, text)?;
-    boxed(alloc, read_font(alloc, clear, private))
-}
-
 /// The steps of a sample's second glyph.
-fn steps_of(alloc: Global, sample: &Sample) -> Result<Vec<Step>, Refusal> {
-    let text = clear_of(sample)?;
-    let private = sample.private()?;
-    steps_of_texts(alloc, &text, private.as_slice())
-}
-
-/// The clear text of a sample.
-fn clear_of(sample: &Sample) -> Result<Joined, AllocError> {
-    Ok(Joined {
-        bytes: sample.clear()?,
-        pfb: false,
-        end_segment: false,
-        trailing: false,
-    })
-}
-
-fn steps_of_texts(alloc: Global, text: &Joined, private: &[u8]) -> Result<Vec<Step>, Refusal> {
-    let font = font(alloc, text, private)?;
+fn steps_of(alloc: Global, sample: &Sample) -> Result<Vec<Step>, Unread> {
+    let mut file = opened(alloc, sample)?;
+    let font = font_of(alloc, &mut file)?;
     Ok(steps_in(alloc, &font, Edition::One)?)
 }
 
@@ -190,19 +161,19 @@ fn with_subrs(alloc: Global, subrs: &[(u32, &[u8])]) -> Result<Sample, AllocErro
 }
 
 /// The steps of a glyph with this charstring, in a font with these Subrs.
-fn steps_with(alloc: Global, subrs: &[(u32, &[u8])], glyph: &[u8]) -> Result<Vec<Step>, Refusal> {
+fn steps_with(alloc: Global, subrs: &[(u32, &[u8])], glyph: &[u8]) -> Result<Vec<Step>, Unread> {
     let sample = with_subrs(alloc, subrs)?.glyph(b"A", glyph)?;
     steps_of(alloc, &sample)
 }
 
 /// The states of the steps of a glyph with this charstring, in a font with these Subrs.
-fn states_with(alloc: Global, subrs: &[(u32, &[u8])], glyph: &[u8]) -> Result<String, Refusal> {
+fn states_with(alloc: Global, subrs: &[(u32, &[u8])], glyph: &[u8]) -> Result<String, Unread> {
     let steps = steps_with(alloc, subrs, glyph)?;
     Ok(states_of(alloc, &steps)?)
 }
 
 /// The trace of a glyph with this charstring, in a font with these Subrs.
-fn trace_with(alloc: Global, subrs: &[(u32, &[u8])], glyph: &[u8]) -> Result<String, Refusal> {
+fn trace_with(alloc: Global, subrs: &[(u32, &[u8])], glyph: &[u8]) -> Result<String, Unread> {
     let steps = steps_with(alloc, subrs, glyph)?;
     Ok(trace_of(alloc, &steps)?)
 }

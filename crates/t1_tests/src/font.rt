@@ -13,10 +13,11 @@ mod sections;
 mod subrs;
 mod values;
 
-use t1_font::{Encoding, Entry, Font, Key, OpenFont, Refusal, Unread, read_clear, read_font};
+use crate::fonts::{Texts, boxed, pfa};
 use std::alloc::{AllocError, Global};
 use std::process::Abort;
 use std::test::Fail;
+use t1_font::{Encoding, Entry, Key, OpenFont, Refusal, Unread, read_clear};
 use t1_seal::{Joined, join, open_eexec};
 
 /// A clear text that states nothing.
@@ -25,24 +26,9 @@ const NO_CLEAR: &str = "%!\neexec";
 /// A private text that states nothing.
 const NO_PRIVATE: &str = "/CharStrings 0 dict dup begin end";
 
-/// The joined bytes of a file that an end segment closes.
-fn joined(alloc: Global, text: &[u8]) -> Result<Joined, AllocError> {
-    Ok(Joined {
-        bytes: Vec::from_slice(alloc, text)?,
-        pfb: true,
-        end_segment: true,
-        trailing: false,
-    })
-}
-
-/// What was read, in a box: a function that drops a font of its own takes long to prove.
-fn boxed<T: Drop>(alloc: Global, read: Result<T, Refusal>) -> Result<Box<T>, Refusal> {
-    Ok(Box::new(alloc, read?)?)
-}
-
 /// The place where the encrypted section of a file begins.
 fn section_start(alloc: Global, joined: &Joined) -> Result<usize, Refusal> {
-    let clear = boxed(alloc, read_clear(alloc, joined))?;
+    let clear = boxed(alloc, read_clear(alloc, joined)?)?;
     Ok(clear.after())
 }
 
@@ -59,21 +45,7 @@ fn glyphs_of(alloc: Global, bytes: &[u8]) -> Result<usize, Unread> {
     Ok(font.glyphs().len())
 }
 
-/// The two texts of a font.
-#[derive(Drop)]
-struct Texts {
-    clear: Joined,
-    private: Vec<u8>,
-}
-
 impl Texts {
-    fn of(alloc: Global, clear: &[u8], private: &[u8]) -> Result<Texts, AllocError> {
-        Ok(Texts {
-            clear: joined(alloc, clear)?,
-            private: Vec::from_slice(alloc, private)?,
-        })
-    }
-
     /// The texts of a font whose clear text has these lines.
     fn with_clear_lines(alloc: Global, lines: &str) -> Result<Texts, AllocError> {
         let clear = format!(in alloc; "%!\n{lines} eexec")?;
@@ -91,11 +63,6 @@ impl Texts {
         let clear = join(alloc, file)?;
         let private = open_eexec(alloc, section(alloc, &clear)?)?;
         Ok(Texts { clear, private })
-    }
-
-    fn font(&self, alloc: Global) -> Result<Box<Font<'_>>, Refusal> {
-        let clear = read_clear(alloc, &self.clear)?;
-        boxed(alloc, read_font(alloc, clear, self.private.as_slice()))
     }
 
     /// Whether a glyph has that charstring, or isn't there.
@@ -196,7 +163,7 @@ fn refusal_of<T: Drop>(read: Result<T, Refusal>) -> Result<Option<Refusal>, Refu
 
 /// Why a clear text isn't read, if it isn't.
 fn clear_refusal(alloc: Global, text: &[u8]) -> Result<Option<Refusal>, Refusal> {
-    let joined = joined(alloc, text)?;
+    let joined = pfa(alloc, text)?;
     refusal_of(read_clear(alloc, &joined))
 }
 

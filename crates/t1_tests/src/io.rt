@@ -1,9 +1,9 @@
 //! Devices over readers and writers that work, that fail, and that take nothing.
 
-use t1_io::{Fuse, In, Limit, Out, Sink, Source, put_all, put_parts};
 use std::io;
 use std::io::{Read, Write};
 use std::test::Fail;
+use t1_io::{Fuse, In, Limit, Out, Sink, Source, put_all, put_parts};
 
 /// A device whose calls all fail.
 #[derive(Drop)]

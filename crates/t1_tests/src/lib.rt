@@ -4,13 +4,26 @@
 //! this program's own reading of it mean, and what texts say. Expected values are worked out by hand, or come from
 //! another program. The tests of t1check stand in that crate.
 //!
-//! A crate with tests is proved twice, and this one has nothing else to prove.
+//! | module | tests of |
+//! |---|---|
+//! | `io` | t1_io |
+//! | `seal` | t1_seal |
+//! | `samples` | t1_samples |
+//! | `scan` | t1_scan |
+//! | `font` | t1_font |
+//! | `charstrings` | t1_char |
+//! | `rules` | t1_rules, on fonts |
+//! | `report` | t1_report, and t1_rules on charstrings: each rule wants a whole glyph |
+//!
+//! They stand above the libraries since a crate with tests is proved twice, with them and without.
 #![tactic(auto)]
 
 #[cfg(test)]
 mod charstrings;
 #[cfg(test)]
 mod font;
+#[cfg(test)]
+mod fonts;
 #[cfg(test)]
 mod io;
 #[cfg(test)]

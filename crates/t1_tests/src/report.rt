@@ -25,18 +25,18 @@ ghost use Rattle.std.specs.Prelude.{◌≡◌, true};
 ghost use Rattle.t1_report.specs.Faults.{fault_value};
 ghost use Rattle.t1_report.specs.Lines.{IsInFont};
 
-use t1_report::{Fault, Waivers, report, write_fault};
+use crate::fonts::font_of;
 use assembly::charstring;
 use machines::assert_same_steps;
-use std::alloc::Global;
+use std::alloc::{AllocError, Global};
 use std::process::Abort;
 use std::test::Fail;
 use t1_char::Edition;
-use t1_font::{Font, Refusal, read_clear, read_font};
-use t1_io::{Fuse, Limit, Out, Sink};
+use t1_font::{Font, OpenFont};
+use t1_io::{Out, Sink};
+use t1_report::{Fault, Waivers, report, write_fault};
 use t1_rules::Rule;
 use t1_samples::Sample;
-use t1_seal::{Joined, join, open_eexec};
 use walks::assert_walks;
 
 /// A fault without its path.
@@ -48,59 +48,8 @@ struct Told {
     rule: Rule,
 }
 
-/// The two texts of a font.
-#[derive(Drop)]
-struct Texts {
-    clear: Joined,
-    private: Vec<u8>,
-}
-
-/// What was read, in a box: a function that drops a font of its own takes long to prove.
-fn boxed<T: Drop>(alloc: Global, read: Result<T, Refusal>) -> Result<Box<T>, Refusal> {
-    Ok(Box::new(alloc, read?)?)
-}
-
-/// The place where the encrypted section of a file begins.
-fn section_start(alloc: Global, joined: &Joined) -> Result<usize, Refusal> {
-    let clear = boxed(alloc, read_clear(alloc, joined))?;
-    Ok(clear.after())
-}
-
-impl Texts {
-    fn of(alloc: Global, file: &[u8]) -> Result<Texts, Fail> {
-        let clear = join(alloc, file)?;
-        let after = section_start(alloc, &clear)?;
-        let section = clear.bytes.get(after..).ok_or("the section")?;
-        let private = open_eexec(alloc, section)?;
-        Ok(Texts { clear, private })
-    }
-
-    fn font(&self, alloc: Global) -> Result<Box<Font<'_>>, Refusal> {
-        let clear = read_clear(alloc, &self.clear)?;
-        boxed(alloc, read_font(alloc, clear, self.private.as_slice()))
-    }
-
-    fn faults(&self, alloc: Global) -> Result<Vec<Told>, Refusal> {
-        let font = self.font(alloc)?;
-        without_paths(alloc, &font)
-    }
-
-    /// Whether the line of a fault is written, as far as there is room, if the fault stands in the font.
-    fn write(
-        &self,
-        alloc: Global,
-        fault: &Fault,
-        room: usize,
-        text: &mut Vec<u8>,
-    ) -> Result<Option<bool>, Refusal> {
-        let font = self.font(alloc)?;
-        let mut sink = Fuse::sink(Out::new(text), Limit::Bytes(room));
-        Ok(is_written(&mut sink, &font, &Waivers::none(), fault))
-    }
-}
-
 /// The faults of a font.
-fn without_paths(alloc: Global, font: &Font<'_>) -> Result<Vec<Told>, Refusal> {
+fn without_paths(alloc: Global, font: &Font<'_>) -> Result<Vec<Told>, AllocError> {
     let faults = report(alloc, font, &Waivers::none(), Edition::One)?;
     let mut told = Vec::new(alloc);
     for fault in faults.iter() {
@@ -144,9 +93,11 @@ fn is_written<W: Sink>(
     Some(write_fault(sink, font, waivers, fault).is_ok())
 }
 
-/// The faults of the file of a font.
-fn faults_of(alloc: Global, file: &[u8]) -> Result<Vec<Told>, Fail> {
-    Ok(Texts::of(alloc, file)?.faults(alloc)?)
+/// The faults of the font of a file.
+fn faults_of(alloc: Global, bytes: &[u8]) -> Result<Vec<Told>, Fail> {
+    let mut file = OpenFont::open(alloc, bytes)?;
+    let font = font_of(alloc, &mut file)?;
+    Ok(without_paths(alloc, &font)?)
 }
 
 /// Adds the line of a fault.
@@ -162,18 +113,24 @@ fn add_line(
     }
 }
 
-/// From how many bytes on a private text is long: walks execute its glyphs behind each fault again.
-const LONG: usize = 3_000;
+/// From how many bytes on a file is long: walks execute its glyphs behind each fault again.
+const LONG: usize = 3_200;
 
-/// The lines of a font's report; a machine executes its glyphs as the report's lists say, and walks give
-/// the report of a short text, from each mark on.
-fn lines_of(alloc: Global, texts: &Texts) -> Result<String, Fail> {
-    let font = texts.font(alloc)?;
+/// The lines of the report of a file's font; a machine executes its glyphs as the report's lists say, and walks
+/// give the report of a short file, from each mark on.
+fn lines_of(alloc: Global, bytes: &[u8]) -> Result<String, Fail> {
+    let mut file = OpenFont::open(alloc, bytes)?;
+    let font = font_of(alloc, &mut file)?;
     assert_same_steps(alloc, &font)?;
-    if texts.private.len() < LONG {
+    if bytes.len() < LONG {
         assert_walks(alloc, &font)?;
     }
     reported(alloc, &font, &Waivers::none(), Edition::One)
+}
+
+/// The lines of a sample's report.
+fn lines_of_sample(alloc: Global, sample: &Sample) -> Result<String, Fail> {
+    lines_of(alloc, sample.pfb()?.as_slice())
 }
 
 /// The lines of a font's report.
@@ -205,7 +162,7 @@ fn with_subrs(alloc: Global, subrs: &str) -> Result<Sample, Fail> {
 /// The report of a font that breaks no rule but by these Subrs and this glyph A.
 fn lines_with(alloc: Global, subrs: &str, glyph: &str) -> Result<String, Fail> {
     let sample = with_subrs(alloc, subrs)?.glyph(b"A", charstring(alloc, glyph)?.as_slice())?;
-    lines_of(alloc, &Texts::of(alloc, sample.pfb()?.as_slice())?)
+    lines_of_sample(alloc, &sample)
 }
 
 /// A font with Subrs and a glyph A gives the lines beside them.

@@ -13,13 +13,13 @@ mod stems;
 mod subrs;
 mod zones;
 
-use t1_rules::{Mask, font_faults, key_text, places, rule_code};
+use crate::fonts::Texts;
 use std::alloc::{AllocError, Global};
 use std::process::Abort;
 use std::test::Fail;
-use t1_font::{Font, Refusal, read_clear, read_font};
+use t1_font::{Font, Refusal};
+use t1_rules::{Mask, font_faults, key_text, places, rule_code};
 use t1_samples::Sample;
-use t1_seal::Joined;
 
 /// How many keys there are.
 const KEYS: u8 = 22;
@@ -49,16 +49,6 @@ enum Part {
     Subrs,
     /// The glyphs in the CharStrings.
     Glyphs,
-}
-
-/// The bytes of a PFA file.
-fn pfa(alloc: Global, text: &[u8]) -> Result<Joined, AllocError> {
-    Ok(Joined {
-        bytes: Vec::from_slice(alloc, text)?,
-        pfb: false,
-        end_segment: false,
-        trailing: false,
-    })
 }
 
 /// A line for each rule of a set: the key, the index and the rule's code.
@@ -94,35 +84,27 @@ fn lines_of(alloc: Global, font: &Font<'_>) -> Result<String, AllocError> {
     Ok(lines)
 }
 
-/// What was read, in a box: a function that drops a font of its own takes long to prove.
-fn boxed<T: Drop>(alloc: Global, read: Result<T, Refusal>) -> Result<Box<T>, Refusal> {
-    Ok(Box::new(alloc, read?)?)
-}
-
-/// The font of these texts.
-fn font<'a>(alloc: Global, text: &'a Joined, private: &'a [u8]) -> Result<Box<Font<'a>>, Refusal> {
-    let clear = read_clear(alloc, text)?;
-    boxed(alloc, read_font(alloc, clear, private))
-}
-
 /// The lines of the font of these texts.
-fn lines_of_font(alloc: Global, text: &Joined, private: &[u8]) -> Result<String, Refusal> {
-    let font = font(alloc, text, private)?;
+fn lines_of_font(alloc: Global, texts: &Texts) -> Result<String, Refusal> {
+    let font = texts.font(alloc)?;
     Ok(lines_of(alloc, &font)?)
 }
 
 /// The lines of a font whose clear text is a PFA file's.
 fn lines_of_texts(alloc: Global, clear: &str, private: &str) -> Result<String, Refusal> {
-    let text = pfa(alloc, clear.as_bytes())?;
-    lines_of_font(alloc, &text, private.as_bytes())
+    let texts = Texts::of(alloc, clear.as_bytes(), private.as_bytes())?;
+    lines_of_font(alloc, &texts)
 }
 
 /// The lines of the sample with more entries in its Private dictionary.
 fn lines_with(alloc: Global, entries: &str) -> Result<String, Refusal> {
     let sample = Sample::new(alloc)?.key(entries.as_bytes())?;
-    let text = pfa(alloc, sample.clear()?.as_slice())?;
-    let private = sample.private()?;
-    lines_of_font(alloc, &text, private.as_slice())
+    let texts = Texts::of(
+        alloc,
+        sample.clear()?.as_slice(),
+        sample.private()?.as_slice(),
+    )?;
+    lines_of_font(alloc, &texts)
 }
 
 /// The lines of a font with a glyph and this clear text.

@@ -1,7 +1,7 @@
 //! The samples against the same bytes as another program writes them, and against t1_seal's readers.
 
-use t1_samples::{CLEAR, Charstrings, FontFile, Sample, TRAILER, charstring, eexec};
 use std::test::Fail;
+use t1_samples::{CLEAR, Charstrings, FontFile, Sample, TRAILER, charstring, eexec};
 use t1_seal::{join, open_eexec};
 
 #[test]

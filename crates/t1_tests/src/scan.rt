@@ -1,8 +1,8 @@
 //! Texts and their tokens, written by hand.
 
-use t1_scan::{Kind, ScanError, Scanner};
 use std::process::Abort;
 use std::test::Fail;
+use t1_scan::{Kind, ScanError, Scanner};
 
 /// A text is read as just these tokens.
 fn assert_reads(rt: &impl Abort, text: &[u8], expected: &[(Kind, &str)]) {

@@ -1,8 +1,8 @@
 //! Worked inputs, with answers from the format's definition and from another program's cipher.
 
-use t1_seal::{Cipher, Joined, SealError, join, open_eexec};
 use std::alloc::{AllocError, Global};
 use std::test::Fail;
+use t1_seal::{Cipher, Joined, SealError, join, open_eexec};
 
 /// Bytes that `join` takes, and what it answers for them.
 #[derive(Drop)]

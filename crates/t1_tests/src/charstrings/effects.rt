@@ -4,10 +4,10 @@ use super::{states_of, steps_with};
 use std::alloc::Global;
 use std::process::Abort;
 use std::test::Fail;
-use t1_font::Refusal;
+use t1_font::Unread;
 
 /// The last step of a glyph: its stack, its results, its facts.
-fn end_of(alloc: Global, glyph: &[u8]) -> Result<String, Refusal> {
+fn end_of(alloc: Global, glyph: &[u8]) -> Result<String, Unread> {
     let steps = steps_with(alloc, &[], glyph)?;
     let (_, last) = steps.as_slice().split_at(steps.len().saturating_sub(1));
     Ok(states_of(alloc, last)?)

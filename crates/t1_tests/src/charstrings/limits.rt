@@ -1,32 +1,13 @@
 //! Glyphs of as many steps as an edition looks at, of one less, and of more.
 
 use super::machines::{Lines, told_in};
-use super::{HSBW, clear_of, font, steps_in, trace_of, with_subrs};
-use t1_char::Edition;
+use super::{steps_in, trace_of};
+use crate::fonts::{font_of, long_glyph, opened};
 use std::alloc::{AllocError, Global};
 use std::test::Fail;
-use t1_font::{Font, Refusal};
+use t1_char::Edition;
+use t1_font::{Font, Unread};
 use t1_samples::Sample;
-use t1_seal::Joined;
-
-/// Subr 5 of 8,330 times dotsection and return; the glyph `0 500 hsbw`, so many calls of it, so many times
-/// dotsection, and endchar.
-fn long_glyph(alloc: Global, calls: usize, more: usize) -> Result<Sample, AllocError> {
-    let mut subr = Vec::new(alloc);
-    for _ in 0..8330 {
-        subr.extend_from_slice(b"\x0c\x00")?;
-    }
-    subr.extend_from_slice(b"\x0b")?;
-    let mut glyph = Vec::from_slice(alloc, HSBW)?;
-    for _ in 0..calls {
-        glyph.extend_from_slice(b"\x90\x0a")?;
-    }
-    for _ in 0..more {
-        glyph.extend_from_slice(b"\x0c\x00")?;
-    }
-    glyph.extend_from_slice(b"\x0e")?;
-    with_subrs(alloc, &[(5, subr.as_slice())])?.glyph(b"A", glyph.as_slice())
-}
 
 /// What is asked of a long glyph.
 #[derive(Clone, Copy)]
@@ -42,20 +23,9 @@ fn told_of(
     sample: &Sample,
     edition: Edition,
     asked: Asked,
-) -> Result<String, Refusal> {
-    let text = clear_of(sample)?;
-    let private = sample.private()?;
-    told_of_texts(alloc, &text, private.as_slice(), edition, asked)
-}
-
-fn told_of_texts(
-    alloc: Global,
-    text: &Joined,
-    private: &[u8],
-    edition: Edition,
-    asked: Asked,
-) -> Result<String, Refusal> {
-    let font = font(alloc, text, private)?;
+) -> Result<String, Unread> {
+    let mut file = opened(alloc, sample)?;
+    let font = font_of(alloc, &mut file)?;
     Ok(match asked {
         Asked::List => end_of(alloc, &font, edition)?,
         Asked::Ends => told_in(alloc, &font, edition, Lines::Ends)?,

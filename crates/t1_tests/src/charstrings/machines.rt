@@ -1,12 +1,12 @@
 //! A glyph that is executed one step a call: its steps are those of the list, and the end is answered again.
 
-use super::{clear_of, font, glyph_count, push_line, push_state, with_subrs};
-use t1_char::{Answer, Edition, Machine, Numbers, Step, Turn};
+use super::{glyph_count, push_line, push_state, with_subrs};
+use crate::fonts::{font_of, opened};
 use std::alloc::{AllocError, Global};
 use std::test::Fail;
-use t1_font::{Font, Refusal};
+use t1_char::{Answer, Edition, Machine, Numbers, Step, Turn};
+use t1_font::{Font, Unread};
 use t1_samples::Sample;
-use t1_seal::Joined;
 
 /// What is written of steps.
 #[derive(Clone, Copy)]
@@ -24,7 +24,7 @@ pub(super) fn states_told(
     alloc: Global,
     subrs: &[(u32, &[u8])],
     glyph: &[u8],
-) -> Result<String, Refusal> {
+) -> Result<String, Unread> {
     told_with(alloc, subrs, glyph, Lines::States)
 }
 
@@ -33,7 +33,7 @@ pub(super) fn trace_told(
     alloc: Global,
     subrs: &[(u32, &[u8])],
     glyph: &[u8],
-) -> Result<String, Refusal> {
+) -> Result<String, Unread> {
     told_with(alloc, subrs, glyph, Lines::Trace)
 }
 
@@ -42,25 +42,15 @@ fn told_with(
     subrs: &[(u32, &[u8])],
     glyph: &[u8],
     lines: Lines,
-) -> Result<String, Refusal> {
+) -> Result<String, Unread> {
     let sample = with_subrs(alloc, subrs)?.glyph(b"A", glyph)?;
     told_of(alloc, &sample, lines)
 }
 
 /// What a machine tells of a sample's second glyph.
-pub(super) fn told_of(alloc: Global, sample: &Sample, lines: Lines) -> Result<String, Refusal> {
-    let text = clear_of(sample)?;
-    let private = sample.private()?;
-    told_of_texts(alloc, &text, private.as_slice(), lines)
-}
-
-fn told_of_texts(
-    alloc: Global,
-    text: &Joined,
-    private: &[u8],
-    lines: Lines,
-) -> Result<String, Refusal> {
-    let font = font(alloc, text, private)?;
+pub(super) fn told_of(alloc: Global, sample: &Sample, lines: Lines) -> Result<String, Unread> {
+    let mut file = opened(alloc, sample)?;
+    let font = font_of(alloc, &mut file)?;
     Ok(told_in(alloc, &font, Edition::One, lines)?)
 }
 

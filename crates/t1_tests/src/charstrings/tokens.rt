@@ -3,10 +3,10 @@
 ghost use Rattle.std.specs.Prelude.{negsuc, pos, ◌≤ℤ◌};
 
 use super::push_token;
-use t1_char::{CharToken, Command, tokens};
 use std::alloc::{AllocError, Global};
 use std::process::Abort;
 use std::test::Fail;
+use t1_char::{CharToken, Command, tokens};
 
 /// The tokens of plain bytes, each behind a blank.
 fn text_of(alloc: Global, code: &[u8]) -> Result<String, AllocError> {

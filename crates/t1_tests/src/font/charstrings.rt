@@ -1,9 +1,10 @@
 //! The CharStrings of the private text: Type 1 Font Format 1.1, chapters 2 and 6.
 
-use super::{NO_CLEAR, Texts, assert_private_refusals};
-use t1_font::Refusal;
+use super::{NO_CLEAR, assert_private_refusals};
+use crate::fonts::Texts;
 use std::alloc::{AllocError, Global};
 use std::test::Fail;
+use t1_font::Refusal;
 
 /// A font whose CharStrings have these lines.
 fn with_lines(alloc: Global, lines: &str) -> Result<Texts, AllocError> {

@@ -1,8 +1,9 @@
 //! The clear text: Type 1 Font Format 1.1, chapter 2.
 
-use super::{Texts, Value, assert_clear_refusals, joined, section_start};
-use t1_font::{Key, Refusal};
+use super::{Value, assert_clear_refusals, section_start};
+use crate::fonts::{Texts, pfa};
 use std::test::Fail;
+use t1_font::{Key, Refusal};
 
 /// Clear texts, and why each is refused, if it is.
 const TEXTS: &[(&str, Option<Refusal>)] = &[
@@ -49,7 +50,7 @@ const PLACES: &[(&str, usize)] = &[
 #[test]
 fn the_section_begins_behind_the_word(rt: HostRuntime) -> Result<(), Fail> {
     for (text, after) in PLACES {
-        let joined = joined(rt.alloc(), text.as_bytes())?;
+        let joined = pfa(rt.alloc(), text.as_bytes())?;
         let place = section_start(rt.alloc(), &joined)?;
         assert_eq!(rt; place, *after, "{text}");
     }

@@ -1,9 +1,10 @@
 //! The Encoding: Type 1 Font Format 1.1, chapter 2.
 
-use super::{Texts, assert_clear_refusals};
-use t1_font::{Encoding, Refusal};
+use super::assert_clear_refusals;
+use crate::fonts::Texts;
 use std::alloc::{AllocError, Global};
 use std::test::Fail;
+use t1_font::{Encoding, Refusal};
 
 /// A font whose clear text has this Encoding.
 fn with_encoding(alloc: Global, encoding: &str) -> Result<Texts, AllocError> {

@@ -1,9 +1,10 @@
 //! Whole files: the worked font as PFB and PFA, with its section in both forms.
 
-use super::{Counts, Marks, Texts, glyphs_of};
-use t1_font::Unread;
+use super::{Counts, Marks, glyphs_of};
+use crate::fonts::Texts;
 use std::alloc::{AllocError, Global};
 use std::test::Fail;
+use t1_font::Unread;
 use t1_samples::{Charstrings, FontFile, Sample, TRAILER};
 
 /// The worked font, with charstrings encrypted behind four zero bytes and a trailer behind the section.

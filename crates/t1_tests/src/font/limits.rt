@@ -1,9 +1,10 @@
 //! The number of glyphs: 65,535 are read, and one more is refused at its name.
 
-use super::{NO_CLEAR, Texts, refusal_of};
-use t1_font::Refusal;
+use super::{NO_CLEAR, refusal_of};
+use crate::fonts::Texts;
 use std::alloc::{AllocError, Global};
 use std::test::Fail;
+use t1_font::Refusal;
 
 const MOST_GLYPHS: u32 = 65_535;
 

@@ -1,8 +1,9 @@
 //! The private text outside its Subrs and CharStrings: Type 1 Font Format 1.1, chapters 2 and 5.
 
-use super::{Counts, NO_CLEAR, Texts, Value, assert_private_refusals, refusal_of};
-use t1_font::{Key, Refusal};
+use super::{Counts, NO_CLEAR, Value, assert_private_refusals, refusal_of};
+use crate::fonts::Texts;
 use std::test::Fail;
+use t1_font::{Key, Refusal};
 
 /// Keys of a private text, and why it is refused, if it is.
 const KEYS: &[(&str, Option<Refusal>)] = &[

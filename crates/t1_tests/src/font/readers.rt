@@ -1,9 +1,10 @@
 //! Each reader of a font, past its end too.
 
-use super::{Counts, Marks, Texts, Value};
-use t1_font::{Encoding, Key};
+use super::{Counts, Marks, Value};
+use crate::fonts::Texts;
 use std::alloc::Global;
 use std::test::Fail;
+use t1_font::{Encoding, Key};
 use t1_samples::Sample;
 
 /// A clear text with the three keys and two codes, one of them broken.

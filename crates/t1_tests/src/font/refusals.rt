@@ -1,7 +1,7 @@
 //! The texts of refusals.
 
-use t1_font::Refusal;
 use std::test::Fail;
+use t1_font::Refusal;
 
 /// Each refusal, and its text.
 const TEXTS: &[(Refusal, &str)] = &[

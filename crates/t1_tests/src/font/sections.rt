@@ -1,9 +1,10 @@
 //! Where the encrypted section begins and which form it has: Type 1 Font Format 1.1, chapter 7.
 
-use super::{joined, section};
-use t1_font::{Refusal, read_clear};
+use super::section;
+use crate::fonts::pfa;
 use std::alloc::Global;
 use std::test::Fail;
+use t1_font::{Refusal, read_clear};
 use t1_seal::{SealError, join, open_eexec};
 
 /// What is told of a PFA file's section.
@@ -15,7 +16,7 @@ enum Section {
 }
 
 fn section_of(alloc: Global, file: &[u8]) -> Result<Section, Fail> {
-    let joined = joined(alloc, file)?;
+    let joined = pfa(alloc, file)?;
     match open_eexec(alloc, section(alloc, &joined)?) {
         Ok(text) => Ok(Section::Opens(text.len())),
         Err(SealError::TooShort) => Ok(Section::TooShort),

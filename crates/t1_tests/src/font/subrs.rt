@@ -1,8 +1,9 @@
 //! The Subrs of the private text: Type 1 Font Format 1.1, chapters 2 and 8.
 
-use super::{Texts, assert_private_refusals};
-use t1_font::Refusal;
+use super::assert_private_refusals;
+use crate::fonts::Texts;
 use std::test::Fail;
+use t1_font::Refusal;
 
 /// Private texts with broken Subrs, and why each is refused.
 const BROKEN: &[(&str, Refusal)] = &[

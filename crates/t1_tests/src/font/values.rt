@@ -1,10 +1,11 @@
 //! Plain values: Type 1 Font Format 1.1, chapters 2 and 5.
 
-use super::{NO_CLEAR, Texts, Value};
-use t1_font::Key;
+use super::{NO_CLEAR, Value};
+use crate::fonts::Texts;
 use std::alloc::{AllocError, Global};
 use std::process::Abort;
 use std::test::Fail;
+use t1_font::Key;
 
 /// A font whose private text has this value of `/BlueValues`.
 fn with_value(alloc: Global, value: &str) -> Result<Texts, AllocError> {

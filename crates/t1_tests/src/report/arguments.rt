@@ -1,10 +1,9 @@
 //! Tokens and the numbers that they take: each rule is broken, and then just isn't.
 
-use super::{Texts, assert_glyph_lines, lines_of};
+use super::{assert_glyph_lines, lines_of};
 use std::alloc::Global;
 use std::test::Fail;
-use t1_samples::CLEAR;
-use t1_seal::Joined;
+use t1_samples::{CLEAR, FontFile};
 
 /// The report of a font whose charstrings are encrypted, with this lenIV and this glyph A.
 fn encrypted_lines(alloc: Global, len_iv: &str, glyph: &[u8]) -> Result<String, Fail> {
@@ -16,13 +15,8 @@ fn encrypted_lines(alloc: Global, len_iv: &str, glyph: &[u8]) -> Result<String, 
     .into_bytes();
     private.extend_from_slice(glyph)?;
     private.extend_from_slice(b" ND end")?;
-    let clear = Joined {
-        bytes: Vec::from_slice(alloc, CLEAR)?,
-        pfb: false,
-        end_segment: false,
-        trailing: false,
-    };
-    lines_of(alloc, &Texts { clear, private })
+    let file = FontFile::of(CLEAR, private.as_slice()).pfa(alloc)?;
+    lines_of(alloc, file.as_slice())
 }
 
 /// Four encrypted zero bytes, and then nothing or `0 500 hsbw endchar`; under lenIV 0 all bytes count.

@@ -1,6 +1,7 @@
 //! Components of accented characters: each rule is broken, and then just isn't.
 
-use super::seac::{assert_fonts, assert_lines_of_c, lines_of_sample, with_glyphs};
+use super::lines_of_sample;
+use super::seac::{assert_fonts, assert_lines_of_c, with_glyphs};
 use std::alloc::Global;
 use std::test::Fail;
 

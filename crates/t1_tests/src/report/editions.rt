@@ -1,27 +1,23 @@
 //! The two editions of the rule book: stems of one edge, and how many steps are checked.
 
-use super::Texts;
 use super::components::LONG;
 use super::seac::with_glyphs;
 use super::stems::MANY_STEMS;
 use super::walks::{both, walked};
-use t1_report::Waivers;
-use std::alloc::{AllocError, Global};
+use crate::fonts::{font_of, long_glyph, opened};
+use std::alloc::Global;
 use std::process::Abort;
 use std::test::Fail;
 use t1_char::Edition;
-use t1_samples::Sample;
+use t1_report::Waivers;
 
-/// The lines of a font by an edition, in its report and by a walk, and how often the walk asks machines.
-fn told_by(alloc: Global, texts: &Texts, edition: Edition) -> Result<(String, u64), Fail> {
-    let font = texts.font(alloc)?;
-    both(alloc, &font, &Waivers::none(), edition)
-}
-
-/// A font with Subrs and glyphs.
-fn texts_with(alloc: Global, subrs: &str, glyphs: &str) -> Result<Texts, Fail> {
-    let file = with_glyphs(alloc, subrs, glyphs)?.pfb()?;
-    Texts::of(alloc, file.as_slice())
+/// The lines of a font with Subrs and glyphs by the first edition and by the second, in its report and by a walk.
+fn told_by_both(alloc: Global, subrs: &str, glyphs: &str) -> Result<(String, String), Fail> {
+    let mut file = opened(alloc, &with_glyphs(alloc, subrs, glyphs)?)?;
+    let font = font_of(alloc, &mut file)?;
+    let (first, _turns) = both(alloc, &font, &Waivers::none(), Edition::One)?;
+    let (second, _turns) = both(alloc, &font, &Waivers::none(), Edition::Two)?;
+    Ok((first, second))
 }
 
 /// Subrs and glyphs, and the lines by the first edition and by the second.
@@ -30,11 +26,9 @@ type InEditions = (&'static str, &'static str, &'static str, &'static str);
 /// A font with Subrs and glyphs gives the lines beside them.
 fn assert_editions(rt: &impl Abort, alloc: Global, cases: &[InEditions]) -> Result<(), Fail> {
     for (subrs, glyphs, first, second) in cases {
-        let texts = texts_with(alloc, subrs, glyphs)?;
-        let (found, _turns) = told_by(alloc, &texts, Edition::One)?;
-        assert_eq!(rt; found.as_str(), *first, "{glyphs}, edition 1");
-        let (found, _turns) = told_by(alloc, &texts, Edition::Two)?;
-        assert_eq!(rt; found.as_str(), *second, "{glyphs}, edition 2");
+        let (one, two) = told_by_both(alloc, subrs, glyphs)?;
+        assert_eq!(rt; one.as_str(), *first, "{glyphs}, edition 1");
+        assert_eq!(rt; two.as_str(), *second, "{glyphs}, edition 2");
     }
     Ok(())
 }
@@ -146,56 +140,18 @@ fn long_components(rt: HostRuntime) -> Result<(), Fail> {
     assert_editions(&rt, rt.alloc(), COMPONENTS)
 }
 
-/// So many times dotsection behind a front, and an end.
-fn with_dotsections(
+/// The lines of a font whose glyph A calls Subr 5 so often and goes on: in its report by the first edition, and by a
+/// walk by the second, with how often that asks machines.
+fn told_of_a_long_glyph(
     alloc: Global,
-    front: &[u8],
-    count: usize,
-    end: u8,
-) -> Result<Vec<u8>, AllocError> {
-    let mut bytes = Vec::from_slice(alloc, front)?;
-    for _ in 0..count {
-        bytes.extend_from_slice(b"\x0c\x00")?;
-    }
-    bytes.push(end)?;
-    Ok(bytes)
-}
-
-/// `0 500 hsbw` and so many calls of Subr 5.
-fn with_calls(alloc: Global, calls: usize) -> Result<Vec<u8>, AllocError> {
-    let mut bytes = Vec::from_slice(alloc, b"\x8b\xf8\x88\x0d")?;
-    for _ in 0..calls {
-        bytes.extend_from_slice(b"\x90\x0a")?;
-    }
-    Ok(bytes)
-}
-
-/// `0 500 hsbw`, so many calls of Subr 5, so many times dotsection, and endchar.
-fn long_glyph(alloc: Global, calls: usize, more: usize) -> Result<Vec<u8>, AllocError> {
-    let front = with_calls(alloc, calls)?;
-    with_dotsections(alloc, front.as_slice(), more, 0x0e)
-}
-
-/// A font whose Subr 5 takes 8,333 steps with its call, and with this glyph A.
-fn with_long_subr(alloc: Global, glyph: &[u8]) -> Result<Vec<u8>, AllocError> {
-    let subr = with_dotsections(alloc, b"", 8_330, 0x0b)?;
-    Sample::new(alloc)?
-        .subr(5, subr.as_slice())?
-        .glyph(b"A", glyph)?
-        .pfb()
-}
-
-/// A font whose glyph A calls that Subr so often.
-fn with_long_glyph(alloc: Global, calls: usize, more: usize) -> Result<Texts, Fail> {
-    let glyph = long_glyph(alloc, calls, more)?;
-    let file = with_long_subr(alloc, glyph.as_slice())?;
-    Texts::of(alloc, file.as_slice())
-}
-
-/// The lines that a walk by the second edition gives, and how often it asks machines.
-fn walked_by_the_second(alloc: Global, texts: &Texts) -> Result<(String, u64), Fail> {
-    let font = texts.font(alloc)?;
-    walked(alloc, &font, &Waivers::none(), Edition::Two)
+    calls: usize,
+    more: usize,
+) -> Result<(String, (String, u64)), Fail> {
+    let mut file = opened(alloc, &long_glyph(alloc, calls, more)?)?;
+    let font = font_of(alloc, &mut file)?;
+    let (first, _turns) = both(alloc, &font, &Waivers::none(), Edition::One)?;
+    let second = walked(alloc, &font, &Waivers::none(), Edition::Two)?;
+    Ok((first, second))
 }
 
 /// What is told of the limits.
@@ -218,12 +174,10 @@ const LENGTHS: &[(usize, usize, &str, &str, u64)] = &[
 #[test]
 fn long_glyphs(rt: HostRuntime) -> Result<(), Fail> {
     for (calls, more, first, second, turns) in LENGTHS {
-        let texts = with_long_glyph(rt.alloc(), *calls, *more)?;
-        let (found, _turns) = told_by(rt.alloc(), &texts, Edition::One)?;
-        assert_eq!(rt; found.as_str(), *first, "{calls} {more}, edition 1");
-        let (found, asked) = walked_by_the_second(rt.alloc(), &texts)?;
+        let (one, (two, asked)) = told_of_a_long_glyph(rt.alloc(), *calls, *more)?;
+        assert_eq!(rt; one.as_str(), *first, "{calls} {more}, edition 1");
         assert_eq!(rt;
-            (found.as_str(), asked),
+            (two.as_str(), asked),
             (*second, *turns),
             "{calls} {more}, edition 2"
         );

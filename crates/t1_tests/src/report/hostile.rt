@@ -1,13 +1,13 @@
 //! Fonts that are made to take long, to nest deep, or to be great: `report` and a walk tell the same of each.
 
-use super::Texts;
 use super::walks::{FIRST, both, told_in};
-use t1_report::{Mark, Waivers};
+use crate::fonts::{add_times, font_of, opened};
 use std::alloc::{AllocError, Global};
 use std::process::Abort;
 use std::test::Fail;
 use t1_char::Edition;
-use t1_font::{Font, Refusal};
+use t1_font::{OpenFont, Unread};
+use t1_report::{Mark, Waivers};
 use t1_samples::{CLEAR, Charstrings, FontFile, Sample, TRAILER};
 
 /// How many glyphs a font has at most.
@@ -19,9 +19,7 @@ const MOST_TURNS: u64 = 100_001;
 /// A token a hundred times, and return.
 fn hundred_times(alloc: Global, token: [u8; 2]) -> Result<Vec<u8>, AllocError> {
     let mut bytes = Vec::new(alloc);
-    for _ in 0..100 {
-        bytes.extend_from_slice(&token)?;
-    }
+    add_times(&mut bytes, &token, 100)?;
     bytes.push(0x0b)?;
     Ok(bytes)
 }
@@ -46,23 +44,23 @@ fn ten_subrs(alloc: Global) -> Result<Vec<u8>, AllocError> {
 }
 
 /// A font whose glyph A, `0 500 hsbw 0 callsubr endchar`, would take more than 10^20 steps.
-fn of_ten_subrs(alloc: Global) -> Result<Texts, Fail> {
+fn of_ten_subrs(alloc: Global) -> Result<OpenFont, Unread> {
     let lines = ten_subrs(alloc)?;
     let sample = Sample::new(alloc)?
         .subrs(lines.as_slice())?
         .glyph(b"A", b"\x8b\xf8\x88\x0d\x8b\x0a\x0e")?;
-    Texts::of(alloc, sample.pfb()?.as_slice())
+    opened(alloc, &sample)
 }
 
 /// A font whose glyph A divides the least number by -1.
-fn of_a_great_quotient(alloc: Global) -> Result<Texts, Fail> {
+fn of_a_great_quotient(alloc: Global) -> Result<OpenFont, Unread> {
     let glyph = b"\x8b\xf8\x88\x0d\xff\x80\x00\x00\x00\x8a\x0c\x0c\x16\x0e";
     let sample = Sample::new(alloc)?.glyph(b"A", glyph)?;
-    Texts::of(alloc, sample.pfb()?.as_slice())
+    opened(alloc, &sample)
 }
 
 /// A font with lenIV 4, whose glyph A has three cipher bytes.
-fn of_a_short_glyph(alloc: Global) -> Result<Texts, Fail> {
+fn of_a_short_glyph(alloc: Global) -> Result<OpenFont, Fail> {
     let sample = Sample::with_charstrings(alloc, Charstrings::Encrypted(4))?;
     let whole = sample.private()?;
     let front = whole.as_slice().strip_suffix(b"end\n").ok_or("the end")?;
@@ -73,24 +71,22 @@ fn of_a_short_glyph(alloc: Global) -> Result<Texts, Fail> {
         ..FontFile::of(CLEAR, private.as_slice())
     }
     .pfb(alloc)?;
-    Texts::of(alloc, file.as_slice())
+    Ok(OpenFont::open(alloc, file.as_slice())?)
 }
 
 /// A font whose MinFeature is a procedure that nests so deep.
-fn of_a_deep_procedure(alloc: Global, depth: usize) -> Result<Texts, Fail> {
+fn of_a_deep_procedure(alloc: Global, depth: usize) -> Result<OpenFont, Unread> {
     let mut key = Vec::from_slice(alloc, b"/MinFeature ")?;
-    let opened = vec![in alloc; b'{'; depth]?;
-    key.extend_from_slice(opened.as_slice())?;
-    let closed = vec![in alloc; b'}'; depth]?;
-    key.extend_from_slice(closed.as_slice())?;
+    add_times(&mut key, b"{", depth)?;
+    add_times(&mut key, b"}", depth)?;
     key.extend_from_slice(b" def")?;
     let sample = Sample::new(alloc)?.key(key.as_slice())?;
-    Texts::of(alloc, sample.pfb()?.as_slice())
+    opened(alloc, &sample)
 }
 
 /// The lines of a font's report, which a walk gives too.
-fn lines_in(alloc: Global, texts: &Texts) -> Result<String, Fail> {
-    let font = texts.font(alloc)?;
+fn lines_in(alloc: Global, file: &mut OpenFont) -> Result<String, Fail> {
+    let font = font_of(alloc, file)?;
     let (lines, turns) = both(alloc, &font, &Waivers::none(), Edition::One)?;
     if turns > MOST_TURNS.saturating_mul(font.glyphs().len() as u64) {
         return Err(Fail::from("a walk asks machines too often"));
@@ -99,8 +95,13 @@ fn lines_in(alloc: Global, texts: &Texts) -> Result<String, Fail> {
 }
 
 /// A font has these lines, by its report and by a walk.
-fn assert_both(rt: &impl Abort, alloc: Global, texts: &Texts, lines: &str) -> Result<(), Fail> {
-    let found = lines_in(alloc, texts)?;
+fn assert_both(
+    rt: &impl Abort,
+    alloc: Global,
+    file: &mut OpenFont,
+    lines: &str,
+) -> Result<(), Fail> {
+    let found = lines_in(alloc, file)?;
     assert_eq!(rt; found.as_str(), lines);
     Ok(())
 }
@@ -108,11 +109,11 @@ fn assert_both(rt: &impl Abort, alloc: Global, texts: &Texts, lines: &str) -> Re
 /// Glyph A has 100,001 steps that are looked at, the last of them in the last Subr.
 #[test]
 fn ten_subrs_that_call_the_next(rt: HostRuntime) -> Result<(), Fail> {
-    let texts = of_ten_subrs(rt.alloc())?;
+    let mut file = of_ten_subrs(rt.alloc())?;
     assert_both(
         &rt,
         rt.alloc(),
-        &texts,
+        &mut file,
         "1: glyph A 0>1>2>3>4>5>6>7>8>9 100001 L01 step limit\n",
     )
 }
@@ -146,8 +147,8 @@ const AT_THE_LIMIT: &[(Mark, &str)] = &[
 
 #[test]
 fn walks_stop_at_the_limit(rt: HostRuntime) -> Result<(), Fail> {
-    let texts = of_ten_subrs(rt.alloc())?;
-    let font = texts.font(rt.alloc())?;
+    let mut file = of_ten_subrs(rt.alloc())?;
+    let font = font_of(rt.alloc(), &mut file)?;
     for (mark, want) in AT_THE_LIMIT {
         let found = told_in(rt.alloc(), &font, *mark)?;
         assert_eq!(rt; found.as_str(), *want, "from {mark:?}");
@@ -157,49 +158,49 @@ fn walks_stop_at_the_limit(rt: HostRuntime) -> Result<(), Fail> {
 
 #[test]
 fn the_least_number_by_minus_one(rt: HostRuntime) -> Result<(), Fail> {
-    let texts = of_a_great_quotient(rt.alloc())?;
+    let mut file = of_a_great_quotient(rt.alloc())?;
     assert_both(
         &rt,
         rt.alloc(),
-        &texts,
+        &mut file,
         "1: glyph A - 6 C08 quotient out of range\n",
     )
 }
 
 #[test]
 fn a_glyph_shorter_than_len_iv(rt: HostRuntime) -> Result<(), Fail> {
-    let texts = of_a_short_glyph(rt.alloc())?;
+    let mut file = of_a_short_glyph(rt.alloc())?;
     assert_both(
         &rt,
         rt.alloc(),
-        &texts,
+        &mut file,
         "1: glyph A - 1 C01 shorter than lenIV\n2: glyph A - 2 GE01 no endchar\n",
     )
 }
 
 /// Why a font isn't read, if it isn't.
-fn refusal_of(alloc: Global, texts: &Texts) -> Option<Refusal> {
-    match texts.font(alloc) {
+fn refusal_of(alloc: Global, file: &mut OpenFont) -> Option<Unread> {
+    match font_of(alloc, file) {
         Ok(_) => None,
-        Err(refusal) => Some(refusal),
+        Err(unread) => Some(unread),
     }
 }
 
 #[test]
 fn a_procedure_nested_32_deep(rt: HostRuntime) -> Result<(), Fail> {
-    let texts = of_a_deep_procedure(rt.alloc(), 32)?;
+    let mut file = of_a_deep_procedure(rt.alloc(), 32)?;
     assert_both(
         &rt,
         rt.alloc(),
-        &texts,
+        &mut file,
         "1: font MinFeature 0 F08 MinFeature is not {16 16}\n",
     )
 }
 
 #[test]
 fn a_procedure_nested_deeper(rt: HostRuntime) -> Result<(), Fail> {
-    let texts = of_a_deep_procedure(rt.alloc(), 33)?;
-    assert_eq!(rt; refusal_of(rt.alloc(), &texts), Some(Refusal::Unclosed));
+    let mut file = of_a_deep_procedure(rt.alloc(), 33)?;
+    assert_eq!(rt; refusal_of(rt.alloc(), &mut file), Some(Unread::Unclosed));
     Ok(())
 }
 
@@ -208,7 +209,7 @@ const FRONT: &[u8] = b"dup /Private 8 dict dup begin\n/password 5839 def\n/MinFe
 /lenIV -1 def\n/Subrs 6 array\nND\n2 index /CharStrings 65535 dict dup begin\n";
 
 /// A font of so many empty glyphs, g0 and on, without .notdef.
-fn of_empty_glyphs(alloc: Global, count: u32) -> Result<Texts, Fail> {
+fn of_empty_glyphs(alloc: Global, count: u32) -> Result<OpenFont, Unread> {
     let mut private = Vec::from_slice(alloc, FRONT)?;
     for number in 0..count {
         let line = format!(in alloc; "/g{number} 0 RD  ND\n")?;
@@ -216,7 +217,7 @@ fn of_empty_glyphs(alloc: Global, count: u32) -> Result<Texts, Fail> {
     }
     private.extend_from_slice(b"end\n")?;
     let file = FontFile::of(CLEAR, private.as_slice()).pfb(alloc)?;
-    Texts::of(alloc, file.as_slice())
+    OpenFont::open(alloc, file.as_slice())
 }
 
 /// The lines of the font of the most empty glyphs.
@@ -240,8 +241,8 @@ fn are_all_lines(alloc: Global, lines: &str) -> Result<bool, AllocError> {
 /// They are reported, and a walk gives them.
 #[test]
 fn the_most_glyphs(rt: HostRuntime) -> Result<(), Fail> {
-    let texts = of_empty_glyphs(rt.alloc(), MOST_GLYPHS)?;
-    let lines = lines_in(rt.alloc(), &texts)?;
+    let mut file = of_empty_glyphs(rt.alloc(), MOST_GLYPHS)?;
+    let lines = lines_in(rt.alloc(), &mut file)?;
     assert!(rt; are_all_lines(rt.alloc(), lines.as_str())?);
     Ok(())
 }
@@ -298,8 +299,8 @@ const IN_EMPTY_GLYPHS: &[(Mark, &str)] = &[
 
 #[test]
 fn walks_from_marks_in_the_most_glyphs(rt: HostRuntime) -> Result<(), Fail> {
-    let texts = of_empty_glyphs(rt.alloc(), MOST_GLYPHS)?;
-    let font = texts.font(rt.alloc())?;
+    let mut file = of_empty_glyphs(rt.alloc(), MOST_GLYPHS)?;
+    let font = font_of(rt.alloc(), &mut file)?;
     for (mark, want) in IN_EMPTY_GLYPHS {
         let found = told_in(rt.alloc(), &font, *mark)?;
         assert_eq!(rt; found.as_str(), *want, "from {mark:?}");
@@ -309,7 +310,7 @@ fn walks_from_marks_in_the_most_glyphs(rt: HostRuntime) -> Result<(), Fail> {
 
 #[test]
 fn one_glyph_more_is_refused(rt: HostRuntime) -> Result<(), Fail> {
-    let texts = of_empty_glyphs(rt.alloc(), MOST_GLYPHS + 1)?;
-    assert_eq!(rt; refusal_of(rt.alloc(), &texts), Some(Refusal::PastLimit));
+    let mut file = of_empty_glyphs(rt.alloc(), MOST_GLYPHS + 1)?;
+    assert_eq!(rt; refusal_of(rt.alloc(), &mut file), Some(Unread::PastLimit));
     Ok(())
 }

@@ -1,6 +1,7 @@
 //! Glyphs of more than 100,000 steps.
 
-use super::{Texts, charstring, lines_of};
+use super::{charstring, lines_of_sample};
+use crate::fonts::add_times;
 use std::alloc::Global;
 use std::test::Fail;
 use t1_samples::Sample;
@@ -9,16 +10,14 @@ use t1_samples::Sample;
 /// many times dotsection, and return.
 fn lines_of_a_long_glyph(alloc: Global, times: usize, end: &str) -> Result<String, Fail> {
     let mut subr = Vec::new(alloc);
-    for _ in 0..times {
-        subr.extend_from_slice(b"\x0c\x00")?;
-    }
-    subr.extend_from_slice(b"\x0b")?;
+    add_times(&mut subr, b"\x0c\x00", times)?;
+    subr.push(0x0b)?;
     let calls = "5 callsubr 5 callsubr 5 callsubr 5 callsubr 5 callsubr 5 callsubr";
     let words = format!(in alloc; "0 500 hsbw {calls} {calls} {end}")?;
     let sample = Sample::new(alloc)?
         .subr(5, subr.as_slice())?
         .glyph(b"A", charstring(alloc, words.as_str())?.as_slice())?;
-    lines_of(alloc, &Texts::of(alloc, sample.pfb()?.as_slice())?)
+    lines_of_sample(alloc, &sample)
 }
 
 /// Step 100,000 is checked, and the next one isn't, however the glyph goes on: 3 + 12 * 8333 = 99,999 steps

@@ -1,26 +1,40 @@
 //! The line of one fault.
 
-use super::Texts;
-use t1_report::Fault;
+use super::is_written;
+use crate::fonts::{font_of, opened};
 use arrayvec::ArrayVec;
 use std::alloc::Global;
 use std::test::Fail;
+use t1_font::Unread;
+use t1_io::{Fuse, Limit, Out};
+use t1_report::{Fault, Waivers};
 use t1_rules::Rule;
 use t1_samples::Sample;
 
 /// The line of a fault of a font with the glyphs `.notdef`, `A` and one without a name; a mark stands
 /// behind it where the device failed.
 fn line(alloc: Global, fault: &Fault, room: usize) -> Result<Vec<u8>, Fail> {
-    let file = Sample::new(alloc)?
-        .glyph(b"A", b"")?
-        .glyph(b"", b"")?
-        .pfb()?;
+    let sample = Sample::new(alloc)?.glyph(b"A", b"")?.glyph(b"", b"")?;
     let mut text = Vec::new(alloc);
-    let written = Texts::of(alloc, file.as_slice())?.write(alloc, fault, room, &mut text)?;
+    let written = write(alloc, &sample, fault, room, &mut text)?;
     if !written.ok_or("a place in the font")? {
         text.push(b'!')?;
     }
     Ok(text)
+}
+
+/// Whether the line of a fault is written, as far as there is room, if the fault stands in the font.
+fn write(
+    alloc: Global,
+    sample: &Sample,
+    fault: &Fault,
+    room: usize,
+    text: &mut Vec<u8>,
+) -> Result<Option<bool>, Unread> {
+    let mut file = opened(alloc, sample)?;
+    let font = font_of(alloc, &mut file)?;
+    let mut sink = Fuse::sink(Out::new(text), Limit::Bytes(room));
+    Ok(is_written(&mut sink, &font, &Waivers::none(), fault))
 }
 
 /// A fault in a glyph, at a step, while these Subrs are executed.

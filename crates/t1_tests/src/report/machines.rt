@@ -1,10 +1,10 @@
 //! A machine executes each glyph as the list of its steps says, in all fonts of these tests.
 
-use super::Texts;
+use crate::fonts::font_of;
 use std::alloc::{AllocError, Global};
 use std::test::Fail;
 use t1_char::{Edition, Machine, Step, Turn, expand};
-use t1_font::Font;
+use t1_font::{Font, OpenFont};
 use t1_samples::{Charstrings, FontFile, Sample, TRAILER};
 
 /// For each glyph of a font: the machine's steps are those of the list, and then it ends, or tells the limit.
@@ -84,9 +84,9 @@ fn files(alloc: Global) -> Result<Vec<Vec<u8>>, AllocError> {
 
 #[test]
 fn fonts_in_each_kind_of_file(rt: HostRuntime) -> Result<(), Fail> {
-    for file in files(rt.alloc())?.iter() {
-        let texts = Texts::of(rt.alloc(), file.as_slice())?;
-        let font = texts.font(rt.alloc())?;
+    for bytes in files(rt.alloc())?.iter() {
+        let mut file = OpenFont::open(rt.alloc(), bytes.as_slice())?;
+        let font = font_of(rt.alloc(), &mut file)?;
         assert_same_steps(rt.alloc(), &font)?;
     }
     Ok(())

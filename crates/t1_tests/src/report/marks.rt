@@ -2,24 +2,24 @@
 
 ghost use Rattle.t1_rules.specs.Components.{AreOf};
 
-use super::Texts;
-use super::walks::GLYPH;
-use t1_report::{Mark, Waivers, Walk};
+use super::walks::FOUR_FAULTS;
+use crate::fonts::{font_of, opened};
 use std::alloc::{AllocError, Global};
 use std::test::Fail;
 use t1_char::Edition;
-use t1_font::Font;
+use t1_font::{Font, OpenFont, Unread};
+use t1_report::{Mark, Waivers, Walk};
 use t1_rules::{Sidebearings, rule_code};
 use t1_samples::Sample;
 
 /// A font of seven faults: Z07 of its BlueValues and Z01 of its StdHW, C05, C07, W01 and P03 of glyph A,
 /// which is unit 2 and has five steps, and GE01 of the empty glyph B. The glyph .notdef has four steps.
-fn seven_faults(alloc: Global) -> Result<Texts, Fail> {
+fn seven_faults(alloc: Global) -> Result<OpenFont, Unread> {
     let sample = Sample::new(alloc)?
         .key(b"/BlueValues [0 26] def /StdHW 30 def")?
-        .glyph(b"A", GLYPH)?
+        .glyph(b"A", FOUR_FAULTS)?
         .glyph(b"B", b"")?;
-    Texts::of(alloc, sample.pfb()?.as_slice())
+    opened(alloc, &sample)
 }
 
 /// A unit, a step, and the number of a rule.
@@ -156,8 +156,8 @@ const PLACES: &[(&[Place], &str)] = &[
 
 #[test]
 fn walks_from_any_place(rt: HostRuntime) -> Result<(), Fail> {
-    let texts = seven_faults(rt.alloc())?;
-    let font = texts.font(rt.alloc())?;
+    let mut file = seven_faults(rt.alloc())?;
+    let font = font_of(rt.alloc(), &mut file)?;
     for (places, want) in PLACES {
         for place in places.iter() {
             let found = told_behind(rt.alloc(), &font, mark_at(5, *place))?;
@@ -186,8 +186,8 @@ const NUMBERS: &[(u64, &str)] = &[
 
 #[test]
 fn walks_from_any_number(rt: HostRuntime) -> Result<(), Fail> {
-    let texts = seven_faults(rt.alloc())?;
-    let font = texts.font(rt.alloc())?;
+    let mut file = seven_faults(rt.alloc())?;
+    let font = font_of(rt.alloc(), &mut file)?;
     for (number, want) in NUMBERS {
         let found = told_behind(rt.alloc(), &font, mark_at(*number, (2, 4, 44)))?;
         assert_eq!(rt; found.as_str(), *want, "behind {number}");
@@ -219,8 +219,8 @@ const PAST: &[Place] = &[
 
 #[test]
 fn walks_from_past_the_last_fault(rt: HostRuntime) -> Result<(), Fail> {
-    let texts = seven_faults(rt.alloc())?;
-    let font = texts.font(rt.alloc())?;
+    let mut file = seven_faults(rt.alloc())?;
+    let font = font_of(rt.alloc(), &mut file)?;
     for place in PAST {
         for number in [0, 7, u64::MAX] {
             let mark = mark_at(number, *place);

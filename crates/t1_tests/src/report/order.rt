@@ -1,6 +1,6 @@
 //! The order of lines: the font, then glyph by glyph, step by step, rule by rule.
 
-use super::{Texts, charstring, lines_of};
+use super::{charstring, lines_of_sample};
 use std::test::Fail;
 use t1_samples::Sample;
 
@@ -19,7 +19,7 @@ fn lines_rise_by_unit_step_and_rule(rt: HostRuntime) -> Result<(), Fail> {
             charstring(alloc, "0 500 hsbw 1 endchar endchar")?.as_slice(),
         )?
         .glyph(b"", b"")?;
-    let found = lines_of(alloc, &Texts::of(alloc, sample.pfb()?.as_slice())?)?;
+    let found = lines_of_sample(alloc, &sample)?;
     assert_eq!(rt;
         found.as_str(),
         "1: font BlueValues 1 Z07 zone too high for BlueScale\n\

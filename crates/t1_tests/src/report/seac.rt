@@ -1,7 +1,7 @@
 //! Accented characters by a glyph's own steps, their codes and what stands beside them: each rule is broken, and
 //! then just isn't.
 
-use super::{Texts, charstring, lines_of, with_subrs};
+use super::{charstring, lines_of_sample, with_subrs};
 use std::alloc::Global;
 use std::process::Abort;
 use std::test::Fail;
@@ -16,11 +16,6 @@ pub(super) fn with_glyphs(alloc: Global, subrs: &str, glyphs: &str) -> Result<Sa
         }
     }
     Ok(sample)
-}
-
-/// The report of a font.
-pub(super) fn lines_of_sample(alloc: Global, sample: &Sample) -> Result<String, Fail> {
-    lines_of(alloc, &Texts::of(alloc, sample.pfb()?.as_slice())?)
 }
 
 /// Fonts with Subrs and glyphs give the lines beside them.

@@ -2,13 +2,13 @@
 
 ghost use Rattle.t1_rules.specs.Components.{AreOf};
 
-use super::Texts;
-use super::walks::{FIRST, both, told};
-use t1_report::{Mark, WaiverError, Waivers};
+use super::walks::{FIRST, FOUR_FAULTS, both, told};
+use crate::fonts::{font_of, opened};
 use std::alloc::{AllocError, Global};
 use std::test::Fail;
 use t1_char::Edition;
-use t1_font::Font;
+use t1_font::{Font, OpenFont, Unread};
+use t1_report::{Mark, WaiverError, Waivers};
 use t1_rules::{Rule, Sidebearings, rule_code};
 use t1_samples::Sample;
 
@@ -102,9 +102,6 @@ fn texts_that_are_no_waivers(rt: HostRuntime) -> Result<(), Fail> {
     Ok(())
 }
 
-/// The glyph of the number 32001, 0, hmoveto, closepath, endchar.
-const FOUR_FAULTS: &[u8] = b"\xff\x00\x00\x7d\x01\x8b\x16\x09\x0e";
-
 /// The charstring of glyph A, waivers, the report, and how often a walk asks machines: of the glyph, and up to
 /// the first use of each waiver. The glyph `.notdef` takes five turns.
 const TOLD: &[(&[u8], &[u8], &str, u64)] = &[
@@ -132,9 +129,8 @@ const TOLD: &[(&[u8], &[u8], &str, u64)] = &[
 ];
 
 /// A font with this glyph A.
-fn with_glyph(alloc: Global, glyph: &[u8]) -> Result<Texts, Fail> {
-    let file = Sample::new(alloc)?.glyph(b"A", glyph)?.pfb()?;
-    Texts::of(alloc, file.as_slice())
+fn with_glyph(alloc: Global, glyph: &[u8]) -> Result<OpenFont, Unread> {
+    opened(alloc, &Sample::new(alloc)?.glyph(b"A", glyph)?)
 }
 
 /// The waivers of a text.
@@ -151,17 +147,17 @@ fn told_with(alloc: Global, font: &Font<'_>, text: &[u8]) -> Result<(String, u64
     both(alloc, font, &waivers, Edition::One)
 }
 
-/// The same of the texts of a font.
-fn told_of(alloc: Global, texts: &Texts, text: &[u8]) -> Result<(String, u64), Fail> {
-    let font = texts.font(alloc)?;
+/// The same of a font with this glyph A.
+fn told_of(alloc: Global, glyph: &[u8], text: &[u8]) -> Result<(String, u64), Fail> {
+    let mut file = with_glyph(alloc, glyph)?;
+    let font = font_of(alloc, &mut file)?;
     told_with(alloc, &font, text)
 }
 
 #[test]
 fn reports_with_waivers(rt: HostRuntime) -> Result<(), Fail> {
     for (glyph, text, lines, turns) in TOLD {
-        let texts = with_glyph(rt.alloc(), glyph)?;
-        let (found, asked) = told_of(rt.alloc(), &texts, text)?;
+        let (found, asked) = told_of(rt.alloc(), glyph, text)?;
         assert_eq!(rt; (found.as_str(), asked), (*lines, *turns), "{text:?}");
     }
     Ok(())
@@ -258,8 +254,8 @@ fn resumed(alloc: Global, font: &Font<'_>, text: &[u8], mark: Mark) -> Result<St
 
 #[test]
 fn walks_among_waivers(rt: HostRuntime) -> Result<(), Fail> {
-    let texts = with_glyph(rt.alloc(), b"")?;
-    let font = texts.font(rt.alloc())?;
+    let mut file = with_glyph(rt.alloc(), b"")?;
+    let font = font_of(rt.alloc(), &mut file)?;
     for (text, mark, want) in RESUMED {
         let found = resumed(rt.alloc(), &font, text, *mark)?;
         assert_eq!(rt; found.as_str(), *want, "{text:?} from {mark:?}");

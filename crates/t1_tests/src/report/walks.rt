@@ -2,12 +2,13 @@
 
 ghost use Rattle.t1_rules.specs.Components.{AreOf};
 
-use super::{Texts, add_line, reported};
-use t1_report::{Fault, Mark, Waivers, Walk, report};
+use super::{add_line, reported};
+use crate::fonts::{font_of, opened};
 use std::alloc::{AllocError, Global};
 use std::test::Fail;
 use t1_char::Edition;
 use t1_font::Font;
+use t1_report::{Fault, Mark, Waivers, Walk, report};
 use t1_rules::{Sidebearings, rule_code};
 use t1_samples::Sample;
 
@@ -135,8 +136,8 @@ fn gives<'a>(
     walk.next().is_none() && walk.next().is_none()
 }
 
-/// The number 32001, 0, hmoveto, closepath, endchar.
-pub(super) const GLYPH: &[u8] = b"\xff\x00\x00\x7d\x01\x8b\x16\x09\x0e";
+/// The glyph of the number 32001, 0, hmoveto, closepath, endchar.
+pub(super) const FOUR_FAULTS: &[u8] = b"\xff\x00\x00\x7d\x01\x8b\x16\x09\x0e";
 
 /// Marks, the faults behind them, and how often machines were asked behind each.
 const MARKS: &[(Mark, &str)] = &[
@@ -227,12 +228,6 @@ pub(super) fn told<'a>(
     Ok(text)
 }
 
-/// The answers of a font behind a mark.
-fn told_of(alloc: Global, texts: &Texts, mark: Mark) -> Result<String, Fail> {
-    let font = texts.font(alloc)?;
-    Ok(told_in(alloc, &font, mark)?)
-}
-
 /// Six answers behind a mark, each with how often machines were asked.
 pub(super) fn told_in(alloc: Global, font: &Font<'_>, mark: Mark) -> Result<String, AllocError> {
     let sidebearings = Sidebearings::prepare(alloc, font, Edition::One)?;
@@ -241,10 +236,11 @@ pub(super) fn told_in(alloc: Global, font: &Font<'_>, mark: Mark) -> Result<Stri
 
 #[test]
 fn walks_from_any_mark(rt: HostRuntime) -> Result<(), Fail> {
-    let sample = Sample::new(rt.alloc())?.glyph(b"A", GLYPH)?;
-    let texts = Texts::of(rt.alloc(), sample.pfb()?.as_slice())?;
+    let sample = Sample::new(rt.alloc())?.glyph(b"A", FOUR_FAULTS)?;
+    let mut file = opened(rt.alloc(), &sample)?;
+    let font = font_of(rt.alloc(), &mut file)?;
     for (mark, want) in MARKS {
-        let found = told_of(rt.alloc(), &texts, *mark)?;
+        let found = told_in(rt.alloc(), &font, *mark)?;
         assert_eq!(rt; found.as_str(), *want, "from {mark:?}");
     }
     Ok(())

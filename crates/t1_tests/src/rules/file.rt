@@ -1,6 +1,7 @@
 //! Rules on the file: Technical Note 5040.
 
 use super::lines_of_font;
+use crate::fonts::Texts;
 use std::alloc::Global;
 use std::test::Fail;
 use t1_font::Refusal;
@@ -11,14 +12,14 @@ use t1_seal::Joined;
 /// behind it.
 fn lines_of_file(alloc: Global, parts: u8) -> Result<String, Refusal> {
     let sample = Sample::new(alloc)?;
-    let text = Joined {
+    let clear = Joined {
         bytes: sample.clear()?,
         pfb: 0 < parts,
         end_segment: 1 < parts,
         trailing: 2 < parts,
     };
     let private = sample.private()?;
-    lines_of_font(alloc, &text, private.as_slice())
+    lines_of_font(alloc, &Texts { clear, private })
 }
 
 /// How many of the parts a file has, and the lines of its font.
