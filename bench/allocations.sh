@@ -1,11 +1,11 @@
 #!/bin/sh
 # Refuses allocations, the first in a first run, the second in a second, and so on, until a run has none
 # left to refuse: ./bench/allocations.sh
-# First in t1_seal's tests, each a process of its own, by `rt try`. Then in the built program, which a library
-# is loaded into that refuses one. Last, by the same library, in a program that lists a font's tokens, steps and
-# faults; it is proved and built in a folder of its own, over what the crates' out folders keep of earlier proofs.
-# Each refusal has to be told, with nothing else written, and the run without one has to give its own
-# answer; else the script fails. It wants `rt`, `cc` and glibc.
+# First in the tests of t1_seal, each a process of its own, by `rt try`, in a crate that is made of them alone.
+# Then in the built program, which a library is loaded into that refuses one. Last, by the same library, in a
+# program that lists a font's tokens, steps and faults; it is proved and built in a folder of its own, over what
+# the crates' out folders keep of earlier proofs. Each refusal has to be told, with nothing else written, and the
+# run without one has to give its own answer; else the script fails. It wants `rt`, `cc` and glibc.
 set -eu
 top=$(cd "$(dirname "$0")/.." && pwd)
 cases=$top/tests/program
@@ -22,9 +22,15 @@ fail() {
     exit 1
 }
 
-# The tests of t1_seal.
+# The tests of t1_seal, as a crate of their own.
 refuse_in_tests() {
-    cd "$top/crates/t1_seal"
+    mkdir -p "$work/seal/crates/seal_tests/src"
+    cp -Rp "$top/crates/t1_seal" "$work/seal/crates/"
+    cp "$top/crates/t1_tests/src/seal.rt" "$work/seal/crates/seal_tests/src/"
+    printf '#![tactic(auto)]\n\n#[cfg(test)]\nmod seal;\n' >"$work/seal/crates/seal_tests/src/lib.rt"
+    grep '^t1_seal:' "$top/crates.txt" >"$work/seal/crates.txt"
+    echo 'seal_tests: t1_seal' >>"$work/seal/crates.txt"
+    cd "$work/seal/crates/seal_tests"
     count=1
     refused=0
     while ! rt try --test --fail-alloc "$count" >"$log" 2>&1; do
