@@ -1,0 +1,11 @@
+pub mod Cuts
+pub mod Numbers
+pub mod NamesRead
+pub mod Paths
+pub mod Lacking
+pub mod LinesRead
+pub mod LinesTold
+pub mod Exact
+pub mod NamesFound
+pub mod NamesStated
+pub mod NamesKept

@@ -1,0 +1,178 @@
+-- Each turn of a text states only glyphs with names.
+use Rattle.std.proofs.Common.{◌≡◌, ◌&&◌, ℕ, not, true, drop, IsTrue, if◌then◌else◌, Option, Some, None, Ok, rules, IfOk, IfSome, List, length, nat_le, codes, inl, inr}
+use Rattle.std.proofs.lemmas.Bool.{cases_Bool}
+use Rattle.t1_scan.specs.declared.token.Kind.{Kind}
+use Rattle.t1_font.specs.declared.key.Key.{Key}
+use Rattle.t1_font.specs.declared.encoding.Encoding.TheVariants.{Custom, Other}
+use Rattle.t1_font.specs.declared.mode.ClearMode.{ClearMode}
+use Rattle.t1_font.specs.declared.mode.ClearMode.TheVariants as clear_modes
+use Rattle.t1_font.specs.declared.mode.PrivateMode.{PrivateMode}
+use Rattle.t1_font.specs.declared.mode.PrivateMode.TheVariants.{Outside, Subrs, Glyphs}
+use Rattle.t1_font.specs.declared.refusal.Refusal.{Refusal}
+use Rattle.t1_font.specs.declared.refusal.Refusal.TheVariants.{BadCharStrings, BadSubrs, NoEexec}
+use Rattle.t1_font.specs.Readings.{◌>>=◌}
+use Rattle.t1_font.specs.Keys.{same_name, private_key, clear_key}
+use Rattle.t1_font.specs.Tokens.{wanted, token_ahead, natural, whole_up_to, is_number_kind, is_name_kind, name_of, spells, past_word, charstring_at, ◌>?◌}
+use Rattle.t1_font.specs.Fonts.{Stated, FontValue, plain, encoding, code, bad_code, size, subr, glyph}
+use Rattle.t1_font.specs.TextTurns.{TextTurn, over, goes}
+use Rattle.t1_font.specs.ClearText.{clear_value, array_at, encoding_at, encoding_turn, clear_outside, code_statement, code_at, code_turn, code_token, clear_turn, begins}
+use Rattle.t1_font.specs.PrivateText.{has_key, private_value, subrs_at, subrs_turn, glyphs_at, private_outside, subr_at, dup_turn, subrs_token, glyph_turn, glyphs_token, private_turn}
+use Rattle.std.specs.List.{list_all}
+use Rattle.t1_scan.specs.Bytes.{is_regular}
+use Rattle.t1_font.specs.Tokens.{is_word_kind}
+use Rattle.t1_lines.proofs.NamesFound.{NamedFound, wanted_named}
+use Rattle.t1_font.proofs.Compose.{bind, next, either, choose, glance, which, found_or}
+
+-- A statement of a glyph has a name.
+abbrev pub Fits : Stated → Type 0
+Fits (plain k t) = Unit {0}
+Fits (encoding form) = Unit {0}
+Fits (code n name) = Unit {0}
+Fits bad_code = Unit {0}
+Fits (size n) = Unit {0}
+Fits (subr n bytes) = Unit {0}
+Fits (glyph name bytes) = IsTrue (list_all is_regular name)
+
+abbrev pub FitsOne : Option Stated → Type 0
+FitsOne None = Unit {0}
+FitsOne (Some e) = Fits e
+
+abbrev pub Keeps : {M : Type 0} → FontValue → TextTurn M → Type 0
+Keeps v (over rest) = Unit {0}
+Keeps v (goes e mode left) = FitsOne e
+
+module _ (v : FontValue) where
+  private_value_fits : (k : Option Key) (s : List ℕ) → IfOk (private_value k s) (Keeps v)
+  unfolding private_value
+  private_value_fits None s = tt
+  private_value_fits (Some k) s = next (Keeps v) (wanted _ s) _ (λ t. search (rules, either))
+
+  subrs_at_fits : (s : List ℕ) → IfOk (subrs_at s) (Keeps v)
+  unfolding subrs_at
+  subrs_at_fits s =
+      next (Keeps v) (wanted BadSubrs s) _ (λ t.
+      let counted : IfOk (natural BadSubrs 65535 t.kind >>= λ count. past_word BadSubrs (codes "array") t.rest >>= λ left. Ok (goes (Some (size count)) Subrs left)) (Keeps v) =
+      next (Keeps v) (natural BadSubrs 65535 t.kind) _ (λ count.
+      next (Keeps v) (past_word BadSubrs (codes "array") t.rest) (λ left. Ok (goes (Some (size count)) Subrs left)) (λ left. tt)) in
+      search (rules, either, counted))
+
+  subrs_turn_fits : (s : List ℕ) → IfOk (subrs_turn v s) (Keeps v)
+  unfolding subrs_turn
+  subrs_turn_fits s = search (rules, either, subrs_at_fits s)
+
+  glyphs_at_fits : (s : List ℕ) → IfOk (glyphs_at s) (Keeps v)
+  unfolding glyphs_at
+  glyphs_at_fits s =
+      next (Keeps v) (wanted BadCharStrings s) _ (λ t.
+      next (Keeps v) (natural BadCharStrings 65535 t.kind) _ (λ count.
+      next (Keeps v) (past_word BadCharStrings (codes "dict") t.rest) _ (λ a.
+      next (Keeps v) (past_word BadCharStrings (codes "dup") a) _ (λ b.
+      next (Keeps v) (past_word BadCharStrings (codes "begin") b) _ (λ c. tt)))))
+
+  private_outside_fits : (kind : Kind) (text s : List ℕ) → IfOk (private_outside v kind text s) (Keeps v)
+  unfolding private_outside
+  private_outside_fits kind text s =
+      search (rules, either, subrs_turn_fits s, glyphs_at_fits s, private_value_fits (private_key text) s)
+
+  subr_at_fits : (kind : Kind) (s : List ℕ) → IfOk (subr_at kind s) (Keeps v)
+  unfolding subr_at
+  subr_at_fits kind s =
+      next (Keeps v) (natural BadSubrs 65534 kind) _ (λ n.
+      next (Keeps v) (charstring_at BadSubrs s) _ (λ bytes. tt))
+
+  dup_turn_fits : (s : List ℕ) → IfOk (dup_turn s) (Keeps v)
+  unfolding dup_turn
+  dup_turn_fits s =
+      elim (token_ahead s) as (λ r. IfOk (elim r [
+        | None ↦ Ok (goes None Outside s)
+        | Some t ↦ if is_number_kind t.kind then subr_at t.kind t.rest else Ok (goes None Outside s)
+      ]) (Keeps v)) [
+        | None ↦ tt
+        | Some t ↦ either (Keeps v) (is_number_kind t.kind) (subr_at t.kind t.rest) (Ok (goes None Outside s)) (subr_at_fits t.kind t.rest) tt
+      ]
+
+  subrs_token_fits : (kind : Kind) (text s : List ℕ) → IfOk (subrs_token v kind text s) (Keeps v)
+  unfolding subrs_token
+  subrs_token_fits kind text s = search (rules, either, dup_turn_fits s, private_outside_fits kind text s)
+
+  glyph_turn_fits : (name s : List ℕ) → IsTrue (list_all is_regular name) → IfOk (glyph_turn v name s) (Keeps v)
+  unfolding glyph_turn
+  glyph_turn_fits name s named =
+      elim (cases_Bool (nat_le 65535 (length v.glyphs) && not (has_key same_name v.glyphs name))) [
+        | inl y ↦ rw y tt
+        | inr n ↦ rw n (next (Keeps v) (charstring_at BadCharStrings s) (λ bytes. Ok (goes (Some (glyph name bytes.0)) Glyphs bytes.1)) (λ bytes. named))
+      ]
+
+  glyphs_token_fits : (kind : Kind) (text s : List ℕ) → (is_name_kind kind ≡ true → IsTrue (list_all is_regular (drop 1 text))) → IfOk (glyphs_token v kind text s) (Keeps v)
+  unfolding glyphs_token
+  glyphs_token_fits kind text s named =
+      either (Keeps v) (spells (codes "end") kind text) (Ok (over s)) _ tt
+      (either (Keeps v) (is_word_kind kind) (Ok (goes None Glyphs s)) _ tt
+      (elim (cases_Bool (is_name_kind kind)) [
+        | inl y ↦ rw y (glyph_turn_fits (name_of text) s (named y))
+        | inr n ↦ rw n tt
+      ]))
+
+  pub private_fits : (mode : PrivateMode) (s : List ℕ) → IfOk (private_turn v mode s) (Keeps v)
+  unfolding private_turn
+  private_fits Outside s = next (Keeps v) (wanted BadCharStrings s) _ (λ t. private_outside_fits t.kind t.text t.rest)
+  private_fits Subrs s = next (Keeps v) (wanted BadCharStrings s) _ (λ t. subrs_token_fits t.kind t.text t.rest)
+  private_fits Glyphs s = bind NamedFound (Keeps v) (wanted BadCharStrings s) _ (wanted_named BadCharStrings s) (λ t named. glyphs_token_fits t.kind t.text t.rest named)
+
+  clear_value_fits : (k : Option Key) (s : List ℕ) → IfOk (clear_value k s) (Keeps v)
+  unfolding clear_value
+  clear_value_fits None s = tt
+  clear_value_fits (Some k) s = next (Keeps v) (wanted NoEexec s) _ (λ t. tt)
+
+  encoding_at_fits : (s : List ℕ) → IfSome (encoding_at s) (Keeps v)
+  unfolding encoding_at
+  encoding_at_fits s =
+      glance (Keeps v) (token_ahead s) _ (λ t.
+      let custom : IfSome (array_at t.rest >? λ rest. Some (begins Custom clear_modes.Codes rest)) (Keeps v) =
+      glance (Keeps v) (array_at t.rest) (λ rest. Some (begins Custom clear_modes.Codes rest)) (λ rest. tt) in
+      search (rules, which, custom))
+
+  encoding_turn_fits : (s : List ℕ) → IfOk {E = Refusal} (Ok (encoding_turn s)) (Keeps v)
+  unfolding encoding_turn
+  encoding_turn_fits s = found_or (Keeps v) (encoding_at s) (begins Other clear_modes.Outside s) (encoding_at_fits s) tt
+
+  clear_outside_fits : (kind : Kind) (text s : List ℕ) → IfOk (clear_outside kind text s) (Keeps v)
+  unfolding clear_outside
+  clear_outside_fits kind text s = search (rules, either, encoding_turn_fits s, clear_value_fits (clear_key text) s)
+
+  code_statement_fits : (kind : Kind) (text : List ℕ) → Fits (code_statement kind text)
+  unfolding code_statement
+  code_statement_fits kind text =
+      elim (whole_up_to 255 kind) as (λ r. Fits (elim r [ Some n ↦ code n (name_of text) | None ↦ bad_code ])) [
+        | Some n ↦ tt
+        | None ↦ tt
+      ]
+
+  code_at_fits : (s : List ℕ) → IfSome (code_at s) (Keeps v)
+  unfolding code_at
+  code_at_fits s =
+      glance (Keeps v) (token_ahead s) _ (λ number.
+      which (Keeps v) (not (is_number_kind number.kind)) None (token_ahead number.rest >? λ name.
+      if not (is_name_kind name.kind) then None else (
+      token_ahead name.rest >? λ last.
+      if spells (codes "put") last.kind last.text
+      then Some (goes (Some (code_statement number.kind name.text)) clear_modes.Codes last.rest) else None)) tt
+      (glance (Keeps v) (token_ahead number.rest) _ (λ name.
+      which (Keeps v) (not (is_name_kind name.kind)) None (token_ahead name.rest >? λ last.
+      if spells (codes "put") last.kind last.text
+      then Some (goes (Some (code_statement number.kind name.text)) clear_modes.Codes last.rest) else None) tt
+      (glance (Keeps v) (token_ahead name.rest) _ (λ last.
+      which (Keeps v) (spells (codes "put") last.kind last.text) (Some (goes (Some (code_statement number.kind name.text)) clear_modes.Codes last.rest)) None (code_statement_fits number.kind name.text) tt)))))
+
+  code_turn_fits : (s : List ℕ) → Keeps v (code_turn s)
+  unfolding code_turn
+  code_turn_fits s = found_or (Keeps v) (code_at s) (goes None clear_modes.Codes s) (code_at_fits s) tt
+
+  code_token_fits : (kind : Kind) (text s : List ℕ) → Keeps v (code_token kind text s)
+  unfolding code_token
+  code_token_fits kind text s = search (rules, choose (Keeps {M = ClearMode} v), code_turn_fits s)
+
+  pub clear_fits : (mode : ClearMode) (s : List ℕ) → IfOk (clear_turn v mode s) (Keeps v)
+  unfolding clear_turn
+  clear_fits clear_modes.Outside s = next (Keeps v) (wanted NoEexec s) _ (λ t. clear_outside_fits t.kind t.text t.rest)
+  clear_fits clear_modes.Codes s = next (Keeps v) (wanted NoEexec s) _ (λ t. code_token_fits t.kind t.text t.rest)

@@ -1,0 +1,5 @@
+use Rattle.t1_lines.proofs.Exact.{written}
+use Rattle.t1_lines.proofs.laws.faults_are_written_as_lines.Goals as goal
+
+pub returns : goal.returns
+returns c = written

@@ -1,0 +1,4 @@
+pub mod Lines
+pub mod Workings
+pub mod Readings
+pub mod Names

@@ -1,0 +1,97 @@
+-- A line is read word by word.
+use Rattle.std.specs.Prelude.{ℕ, Bool, true, zero, suc, ◌^◌, ◌==◌, ◌&&◌, not, nat_lt, List, [], ◌∷◌, codes, if◌then◌else◌, Option, Some, None, option_map}
+use Rattle.std.specs.Option.{option_and_then}
+use Rattle.std.specs.List.{list_all}
+use Rattle.std.specs.Fmt.{decimal}
+use Rattle.std.specs.Str.Parse.{digits_value}
+use Rattle.t1_scan.specs.Bytes.{is_regular}
+use Rattle.t1_rules.specs.declared.rule.Rule.{Rule}
+use Rattle.t1_font.specs.Keys.{same_name}
+use Rattle.t1_rules.specs.Book.{rule_coded, text_of}
+use Rattle.t1_rules.specs.Keys.{key_texts}
+use Rattle.t1_lines.specs.Lines.{LineValue, at_key, at_step}
+
+-- A byte that isn't this one.
+abbrev pub differs : ℕ → ℕ → Bool
+differs byte c = not (c == byte)
+
+-- What stands before the first such byte, and behind it.
+abbrev pub cut : ℕ → List ℕ → Option (List ℕ × List ℕ)
+cut byte [] = None
+cut byte (c ∷ text) = if c == byte then Some ([], text) else option_map (λ p. (c ∷ p.0, p.1)) (cut byte text)
+
+-- Neither a plus nor a needless zero stands in front.
+abbrev pub begins_plainly : List ℕ → Bool
+begins_plainly [] = true
+begins_plainly (c ∷ []) = not (c == 43)
+begins_plainly (c ∷ d ∷ text) = not (c == 43) && not (c == 48)
+
+-- The number of so many bits whose decimal digits these are.
+unfoldable pub number_of : ℕ → List ℕ → Option ℕ
+number_of bits text =
+    if nat_lt (digits_value 10 text) (2 ^ bits) && same_name (decimal (digits_value 10 text)) text
+    then Some (digits_value 10 text)
+    else None
+
+-- The number of a key of this text.
+abbrev pub key_among : ℕ → List (List ℕ) → List ℕ → Option ℕ
+key_among key [] word = None
+key_among key (text ∷ texts) word = if same_name text word then Some key else key_among (suc key) texts word
+
+unfoldable pub key_of : List ℕ → Option ℕ
+key_of word = key_among 0 key_texts word
+
+-- `RULE TEXT`.
+abbrev pub rule_with : Rule → List ℕ → Option Rule
+rule_with rule text = if same_name (text_of rule) text then Some rule else None
+
+unfoldable pub rule_read : List ℕ → Option Rule
+rule_read text = option_and_then (λ p. option_and_then (λ rule. rule_with rule p.1) (rule_coded p.0)) (cut 32 text)
+
+-- Numbers with `>` between them, at most so many.
+abbrev pub numbers_cut : (List ℕ → Option (List ℕ)) → List ℕ → Option (List ℕ × List ℕ) → Option (List ℕ)
+numbers_cut later text None = option_map (λ n. n ∷ []) (number_of 32 text)
+numbers_cut later text (Some p) =
+    option_and_then (λ n. option_map (λ ns. n ∷ ns) (later p.1)) (number_of 32 p.0)
+
+abbrev pub numbers_read : ℕ → List ℕ → Option (List ℕ)
+numbers_read zero text = None
+numbers_read (suc most) text = numbers_cut (numbers_read most) text (cut 62 text)
+
+unfoldable pub path_read : List ℕ → Option (List ℕ)
+path_read word = if same_name word (codes "-") then Some [] else numbers_read 10 word
+
+-- `KEY INDEX RULE TEXT`.
+unfoldable pub font_line : ℕ → List ℕ → Option LineValue
+font_line number text =
+    option_and_then (λ p. option_and_then (λ q.
+    option_and_then (λ key. option_and_then (λ index. option_map
+    (λ rule. record { number = number; place = at_key key index; rule = rule })
+    (rule_read q.1)) (number_of 16 q.0)) (key_of p.0)) (cut 32 p.1)) (cut 32 text)
+
+-- `NAME PATH STEP RULE TEXT`.
+abbrev pub name_read : List ℕ → Option (List ℕ)
+name_read word = if list_all is_regular word then Some word else None
+
+unfoldable pub glyph_line : ℕ → List ℕ → Option LineValue
+glyph_line number text =
+    option_and_then (λ p. option_and_then (λ q. option_and_then (λ r.
+    option_and_then (λ name. option_and_then (λ path. option_and_then (λ step. option_map
+    (λ rule. record { number = number; place = at_step name path step; rule = rule })
+    (rule_read r.1)) (number_of 32 r.0)) (path_read q.0)) (name_read p.0)) (cut 32 q.1)) (cut 32 p.1)) (cut 32 text)
+
+-- Behind `NUMBER: `.
+unfoldable pub place_line : ℕ → List ℕ → Option LineValue
+place_line number text =
+    option_and_then (λ p.
+    if same_name p.0 (codes "font") then font_line number p.1
+    else if same_name p.0 (codes "glyph") then glyph_line number p.1
+    else None) (cut 32 text)
+
+abbrev pub blank_read : List ℕ → Option (List ℕ)
+blank_read [] = None
+blank_read (c ∷ text) = if c == 32 then Some text else None
+
+unfoldable pub line_read : List ℕ → Option LineValue
+line_read line =
+    option_and_then (λ p. option_and_then (λ n. option_and_then (λ text. place_line n text) (blank_read p.1)) (number_of 64 p.0)) (cut 58 line)

@@ -1,0 +1,37 @@
+//! What a line of a report says.
+
+use arrayvec::ArrayVec;
+use t1_rules::Rule;
+
+/// How deep Subrs are called at most: Type 1 Font Format 1.1, chapter 6.
+pub(crate) const DEEPEST: usize = 10;
+
+/// The numbers of the Subrs that are being executed, the outermost first.
+pub type Path = ArrayVec<u32, DEEPEST>;
+
+/// Where a fault stands.
+#[derive(Debug, PartialEq, Eq, Drop)]
+pub enum Place<'a> {
+    /// A key of the font, by its number, which `t1_rules::key_text` names, and an index.
+    Key {
+        key: u8,
+        index: u16,
+    },
+    /// A step of a glyph, by the glyph's name, and the Subrs that are being executed.
+    Step {
+        name: &'a [u8],
+        path: Path,
+        step: u32,
+    },
+}
+
+/// What a line of a report says. Its text is that of its rule: `t1_rules::rule_text`.
+#[derive(Debug, PartialEq, Eq, Drop)]
+pub struct Line<'a> {
+    /// The line's number in the whole report.
+    pub number: u64,
+    /// Where the rule is broken.
+    pub place: Place<'a>,
+    /// The rule that is broken there.
+    pub rule: Rule,
+}

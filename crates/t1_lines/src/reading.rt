@@ -1,0 +1,113 @@
+//! Lines are read.
+
+ghost use Rattle.std.specs.Prelude.{◌≡◌, option_map};
+ghost use Rattle.t1_lines.specs.Lines.{line_value};
+ghost use Rattle.t1_lines.specs.Readings.{IsReadBack, IsReading};
+ghost use Rattle.t1_lines.specs.Workings.{font_line, glyph_line, line_read, numbers_read, path_read, place_line};
+
+use crate::line::{DEEPEST, Line, Path, Place};
+use crate::names::{is_name, key, rule_with_text};
+use crate::words::{cut, number, small_number, tiny_number};
+use arrayvec::ArrayVec;
+
+/// Numbers of Subrs with `>` between them, at most ten.
+fn numbers(word: &[u8]) -> Option<Path>
+    ensures { option_map (λ p. p.items) result ≡ numbers_read 10 word.now }
+{
+    let mut path = ArrayVec::new();
+    let mut rest = word;
+    for turn in 0..DEEPEST {
+        let Some((front, more)) = cut(b'>', rest) else {
+            path.push(small_number(rest)?);
+            return Some(path);
+        };
+        path.push(small_number(front)?);
+        rest = more;
+    }
+    None
+}
+
+/// The Subrs that are being executed: `5>6`, or `-` where there is none.
+#[tactic(auto, unfolding(crate::specs::Workings::path_read))]
+fn path(word: &[u8]) -> Option<Path>
+    ensures { option_map (λ p. p.items) result ≡ path_read word.now }
+{
+    if word == b"-".as_slice() {
+        return Some(ArrayVec::new());
+    }
+    numbers(word)
+}
+
+/// `KEY INDEX RULE TEXT`, behind `NUMBER: font `.
+#[tactic(auto, unfolding(crate::specs::Workings::font_line))]
+fn font_line<'a>(line_number: u64, text: &'a [u8]) -> Option<Line<'a>>
+    ensures { option_map line_value result ≡ font_line line_number text.now }
+{
+    let (key_word, rest) = cut(b' ', text)?;
+    let (index_word, rest) = cut(b' ', rest)?;
+    let key = key(key_word)?;
+    let index = tiny_number(index_word)?;
+    let rule = rule_with_text(rest)?;
+    Some(Line {
+        number: line_number,
+        place: Place::Key { key, index },
+        rule,
+    })
+}
+
+/// `NAME PATH STEP RULE TEXT`, behind `NUMBER: glyph `.
+#[tactic(auto, unfolding(crate::specs::Workings::glyph_line))]
+fn glyph_line<'a>(line_number: u64, text: &'a [u8]) -> Option<Line<'a>>
+    ensures { option_map line_value result ≡ glyph_line line_number text.now }
+{
+    let (name, rest) = cut(b' ', text)?;
+    let (path_word, rest) = cut(b' ', rest)?;
+    let (step_word, rest) = cut(b' ', rest)?;
+    if !is_name(name) {
+        return None;
+    }
+    let path = path(path_word)?;
+    let step = small_number(step_word)?;
+    let rule = rule_with_text(rest)?;
+    Some(Line {
+        number: line_number,
+        place: Place::Step { name, path, step },
+        rule,
+    })
+}
+
+/// `PLACE RULE TEXT`, behind `NUMBER: `.
+#[tactic(auto, unfolding(crate::specs::Workings::place_line))]
+fn place_line<'a>(line_number: u64, text: &'a [u8]) -> Option<Line<'a>>
+    ensures { option_map line_value result ≡ place_line line_number text.now }
+{
+    let (kind, rest) = cut(b' ', text)?;
+    if kind == b"font".as_slice() {
+        font_line(line_number, rest)
+    } else if kind == b"glyph".as_slice() {
+        glyph_line(line_number, rest)
+    } else {
+        None
+    }
+}
+
+/// `NUMBER: PLACE RULE TEXT`.
+#[tactic(auto, unfolding(crate::specs::Workings::line_read))]
+fn whole_line(line: &[u8]) -> Option<Line<'_>>
+    ensures { option_map line_value result ≡ line_read line.now }
+{
+    let (number_word, rest) = cut(b':', line)?;
+    let line_number = number(number_word)?;
+    let [b' ', text @ ..] = rest else {
+        return None;
+    };
+    place_line(line_number, text)
+}
+
+/// Reads a line of a report, without its line end: None where it is no line that t1check writes.
+pub fn read(line: &[u8]) -> Option<Line<'_>>
+    ensures exact { IsReading line.now (option_map line_value result) }
+    ensures written { IsReadBack line.now (option_map line_value result) }
+{
+    whole_line(line)
+}
