@@ -1,16 +1,18 @@
 -- What is read is exactly what is spelled, and what is written is spelled so.
-use Rattle.std.proofs.Common.{◌≡◌, ◌≤◌, ◌+◌, ◌-◌, ◌/◌, ◌%◌, ◌==◌, ℕ, false, length, List, [], ◌∷◌, ◌++◌, refl, sym, subst, ap, ◌∙◌, inl, inr, arith, Option, Some, decimal, codes}
+use Rattle.std.proofs.Common.{◌≡◌, ◌<◌, ◌+◌, ◌-◌, ◌/◌, ◌%◌, ◌==◌, ℕ, zero, suc, true, length, IsTrue, slice_get, List, [], ◌∷◌, ◌++◌, refl, sym, subst, ap, ◌∙◌, inl, inr, arith, Option, Some, decimal, codes}
 use Rattle.std.proofs.lemmas.Bool.{cases_Bool, eqb-true}
 use Rattle.std.proofs.lemmas.List.{append-nil, append_assoc, append_cancel_right}
-use Rattle.std.proofs.lemmas.Bool.Decides.{nat_tests}
+use Rattle.std.proofs.lemmas.List.Elements.{All-head, All-tail}
+use Rattle.std.specs.List.{list_all}
+use Rattle.t1_scan.specs.Bytes.{is_regular}
 use Rattle.t1_font.specs.Fonts.{FontValue}
 use Rattle.t1_rules.specs.Book.{code_of, text_of}
 use Rattle.t1_rules.specs.Keys.{key_text_of}
 use Rattle.t1_report.specs.Faults.{FaultValue}
 use Rattle.t1_report.specs.Lines.{IsInFont, line_of, place_text, rule_part, glyph_name, path_text}
 use Rattle.t1_report.specs.Waivers.{Waiver}
-use Rattle.t1_lines.specs.Lines.{LineValue, place_in, line_in, place_words, spaced, spelled, IsPlace, IsSmall}
-use Rattle.t1_lines.specs.Names.{HasNames}
+use Rattle.t1_lines.specs.Lines.{FaultLineValue, LineValue, of_fault, place_in, line_in, place_words, spaced, fault_spelled, IsPlace, IsSmall}
+use Rattle.t1_lines.specs.Names.{HasNames, HaveNames}
 use Rattle.t1_lines.proofs.NamesKept.{glyph_named}
 use Rattle.t1_lines.specs.Readings.{IsReading, IsReadBack, IsWritten, IsOne}
 use Rattle.t1_lines.specs.Workings.{line_read}
@@ -32,7 +34,7 @@ spaced-end : (words : List (List ℕ)) (text end : List ℕ) → spaced words te
 spaced-end [] text end = refl
 spaced-end (w ∷ words) text end = append_assoc w (32 ∷ spaced words text) end ∙ ap (λ t. w ++ (32 ∷ t)) (spaced-end words text end)
 
-spelled-end : (l : LineValue) (end : List ℕ) → spelled l ++ end ≡ decimal l.number ++ (58 ∷ 32 ∷ spaced (place_words l.place (code_of l.rule)) (text_of l.rule ++ end))
+spelled-end : (l : FaultLineValue) (end : List ℕ) → fault_spelled l ++ end ≡ decimal l.number ++ (58 ∷ 32 ∷ spaced (place_words l.place (code_of l.rule)) (text_of l.rule ++ end))
 spelled-end l end =
     append_assoc (decimal l.number) (58 ∷ 32 ∷ spaced (place_words l.place (code_of l.rule)) (text_of l.rule)) end
     ∙ ap (λ t. decimal l.number ++ (58 ∷ 32 ∷ t)) (spaced-end (place_words l.place (code_of l.rule)) (text_of l.rule) end)
@@ -46,36 +48,67 @@ glyph-written name path step rest =
     ∙ append_assoc name (32 ∷ []) ((path ++ (32 ∷ (step ++ []))) ++ rest)
     ∙ ap (λ t. name ++ (32 ∷ t)) (key-written path step rest)
 
-no-waiver : (count unit : ℕ) → unit ≤ count → (unit == count + 1) ≡ false
-no-waiver count unit few = grind (arith, nat_tests)
+-- A waiver that is there.
+record IsThere (waivers : List Waiver) (i : ℕ) : Type 0 where
+  pub waiver : Waiver
+  pub found : slice_get waivers i ≡ Some waiver
+  pub named : IsTrue (list_all is_regular waiver.0)
 
-place-written : (font : FontValue) (waivers : List Waiver) (fault : FaultValue) → fault.unit ≤ length font.glyphs
-    → place_text font waivers fault ++ rule_part fault ≡ spaced (place_words (place_in font fault) (code_of fault.rule)) (text_of fault.rule ++ codes "\n")
-place-written font waivers fault few =
+waiver-there : (waivers : List Waiver) (i : ℕ) → i < length waivers → HaveNames waivers → IsThere waivers i
+waiver-there [] i less names = absurd (omega (arith, less))
+waiver-there (w ∷ waivers) zero less names = record { waiver = w; found = refl; named = All-head (λ w. IsTrue (list_all is_regular w.0)) w waivers names }
+waiver-there (w ∷ waivers) (suc i) less names =
+    let later = waiver-there waivers i (omega (arith, less)) (All-tail (λ w. IsTrue (list_all is_regular w.0)) w waivers names) in
+    record { waiver = later.waiver; found = later.found; named = later.named }
+
+waiver-of-fault : (font : FontValue) (waivers : List Waiver) (fault : FaultValue) → HaveNames waivers → IsInFont font waivers fault → (fault.unit == length font.glyphs + 1) ≡ true →
+    IsThere waivers (fault.step - 1)
+waiver-of-fault font waivers fault names there is =
+    let last = there.waiver (eqb-true fault.unit (length font.glyphs + 1) is) in
+    waiver-there waivers (fault.step - 1) (omega (arith, last.1.0, last.1.1)) names
+
+place-written : (font : FontValue) (waivers : List Waiver) (fault : FaultValue) → HaveNames waivers → IsInFont font waivers fault
+    → place_text font waivers fault ++ rule_part fault ≡ spaced (place_words (place_in font waivers fault) (code_of fault.rule)) (text_of fault.rule ++ codes "\n")
+place-written font waivers fault names there =
     elim (cases_Bool (fault.unit == 0)) [
       | inl e ↦ rw e (ap (λ t. codes "font " ++ t) (key-written (key_text_of (fault.step / 65536)) (decimal (fault.step % 65536)) (rule_part fault)))
-      | inr e ↦ (let glyph = no-waiver (length font.glyphs) fault.unit few in
-          rw (e, glyph) (ap (λ t. codes "glyph " ++ t) (glyph-written (glyph_name font (fault.unit - 1)) (path_text fault.path) (decimal fault.step) (rule_part fault))))
+      | inr e ↦ elim (cases_Bool (fault.unit == length font.glyphs + 1)) [
+        | inl is ↦ (
+            let at = waiver-of-fault font waivers fault names there is in
+            let found = at.found in
+            rw (e, is, found) (ap (λ t. codes "waiver " ++ t) (key-written at.waiver.0 (code_of at.waiver.1) (rule_part fault))))
+        | inr is ↦ rw (e, is) (ap (λ t. codes "glyph " ++ t) (glyph-written (glyph_name font (fault.unit - 1)) (path_text fault.path) (decimal fault.step) (rule_part fault)))
+      ]
     ]
 
-line-written : (font : FontValue) (waivers : List Waiver) (fault : FaultValue) → fault.unit ≤ length font.glyphs → line_of font waivers fault ≡ spelled (line_in font fault) ++ codes "\n"
-line-written font waivers fault few =
+line-written : (font : FontValue) (waivers : List Waiver) (fault : FaultValue) → HaveNames waivers → IsInFont font waivers fault
+    → line_of font waivers fault ≡ fault_spelled (line_in font waivers fault) ++ codes "\n"
+line-written font waivers fault names there =
     append_assoc (decimal fault.number) (58 ∷ 32 ∷ []) (place_text font waivers fault ++ rule_part fault)
-    ∙ ap (λ t. decimal fault.number ++ (58 ∷ 32 ∷ t)) (place-written font waivers fault few)
-    ∙ sym (spelled-end (line_in font fault) (codes "\n"))
+    ∙ ap (λ t. decimal fault.number ++ (58 ∷ 32 ∷ t)) (place-written font waivers fault names there)
+    ∙ sym (spelled-end (line_in font waivers fault) (codes "\n"))
 
-place-is : (font : FontValue) (waivers : List Waiver) (fault : FaultValue) → HasNames font → IsInFont font waivers fault → IsSmall fault → IsPlace (place_in font fault)
-place-is font waivers fault names there plain =
+place-is : (font : FontValue) (waivers : List Waiver) (fault : FaultValue) → HasNames font → HaveNames waivers → IsInFont font waivers fault → IsSmall fault
+    → IsPlace (place_in font waivers fault) fault.rule
+place-is font waivers fault glyphs names there plain =
     elim (cases_Bool (fault.unit == 0)) [
       | inl e ↦ (let none : fault.unit ≡ 0 = eqb-true fault.unit 0 e in rw e (there.key none, omega arith))
-      | inr e ↦ (rw e (glyph_named font (fault.unit - 1) names, plain.depth, plain.path, plain.step))
+      | inr e ↦ elim (cases_Bool (fault.unit == length font.glyphs + 1)) [
+        | inl is ↦ (
+            let at = waiver-of-fault font waivers fault names there is in
+            let found = at.found in
+            let last = there.waiver (eqb-true fault.unit (length font.glyphs + 1) is) in
+            rw (e, is, found) (at.named, last.0))
+        | inr is ↦ (rw (e, is) (glyph_named font (fault.unit - 1) glyphs, plain.depth, plain.path, plain.step))
+      ]
     ]
 
 pub written : IsWritten
-written font waivers fault names there few plain = (record { number = plain.number; place = place-is font waivers fault names there plain }, line-written font waivers fault few)
+written font waivers fault glyphs names there plain =
+    (record { number = plain.number; place = place-is font waivers fault glyphs names there plain }, line-written font waivers fault names there)
 
 pub read_back : (line : List ℕ) (read : Option LineValue) → read ≡ line_read line → IsReadBack line read
-read_back line read is font waivers fault names there few plain whole =
-    let told = written font waivers fault names there few plain in
-    let same : spelled (line_in font fault) ≡ line = append_cancel_right _ _ (codes "\n") (sym told.1 ∙ whole) in
-    is ∙ subst (λ t. line_read t ≡ Some (line_in font fault)) same (line-spelled (line_in font fault) told.0)
+read_back line read is font waivers fault glyphs names there plain whole =
+    let told = written font waivers fault glyphs names there plain in
+    let same : fault_spelled (line_in font waivers fault) ≡ line = append_cancel_right _ _ (codes "\n") (sym told.1 ∙ whole) in
+    is ∙ subst (λ t. line_read t ≡ Some (of_fault (line_in font waivers fault))) same (line-spelled (of_fault (line_in font waivers fault)) told.0)

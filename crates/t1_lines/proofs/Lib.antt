@@ -1,11 +1,12 @@
 pub mod Cuts
-pub mod Numbers
-pub mod NamesRead
-pub mod Paths
+pub mod Exact
 pub mod Lacking
 pub mod LinesRead
 pub mod LinesTold
-pub mod Exact
 pub mod NamesFound
-pub mod NamesStated
 pub mod NamesKept
+pub mod NamesRead
+pub mod NamesStated
+pub mod Numbers
+pub mod Paths
+pub mod WaiverNames

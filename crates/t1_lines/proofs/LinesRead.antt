@@ -1,5 +1,5 @@
 -- What is spelled as a line is read as that line.
-use Rattle.std.proofs.Common.{◌≡◌, ◌<◌, ◌≤◌, ◌^◌, ℕ, zero, suc, true, false, List, [], ◌∷◌, ◌++◌, length, refl, subst, ap, ◌∙◌, inl, inr, arith, Some, option_map, decimal, codes, flat_map}
+use Rattle.std.proofs.Common.{◌≡◌, ◌<◌, ◌≤◌, ◌^◌, ℕ, zero, suc, true, false, List, [], ◌∷◌, ◌++◌, length, refl, sym, subst, ap, ◌∙◌, inl, inr, arith, Some, option_map, decimal, codes, flat_map}
 use Rattle.std.proofs.lemmas.Bool.{cases_Bool}
 use Rattle.std.proofs.lemmas.List.{append-nil}
 use Rattle.std.proofs.Math.Pow.{pow_mono}
@@ -7,15 +7,18 @@ use Rattle.std.specs.Option.{option_and_then}
 use Rattle.std.specs.List.{list_all, AllByRecursion}
 use Rattle.t1_scan.specs.Bytes.{is_regular}
 use Rattle.t1_rules.specs.declared.rule.Rule.{Rule}
+use Rattle.t1_rules.specs.declared.rule.Rule.TheVariants.{U01}
 use Rattle.t1_rules.specs.Book.{code_of, text_of}
 use Rattle.t1_rules.specs.Keys.{key_text_of}
 use Rattle.t1_report.specs.Lines.{inner_text, path_text}
-use Rattle.t1_lines.specs.Lines.{LineValue, PlaceValue, at_key, at_step, place_words, spaced, spelled, IsPlace, IsLine}
-use Rattle.t1_lines.specs.Workings.{cut, number_of, rule_read, numbers_cut, numbers_read, path_read, font_line, glyph_line, place_line, line_read}
+use Rattle.t1_lines.specs.declared.refusal.RefusalCode.{RefusalCode}
+use Rattle.t1_lines.specs.RefusalTexts.{refusal_text_of}
+use Rattle.t1_lines.specs.Lines.{FaultLineValue, LineValue, PlaceValue, at_key, at_step, at_waiver, of_fault, of_refusal, place_words, spaced, spelled, IsPlace, IsFaultLine, IsLine}
+use Rattle.t1_lines.specs.Workings.{cut, number_of, rule_read, numbers_cut, numbers_read, path_read, font_line, glyph_line, waiver_line, place_line, told_line, line_read}
 use Rattle.t1_font.specs.Keys.{same_name}
 use Rattle.t1_lines.proofs.Cuts.{cut-append, cut-lacks, lacks}
 use Rattle.t1_lines.proofs.Numbers.{number-decimal, same-refl, same-true}
-use Rattle.t1_lines.proofs.NamesRead.{key-found, rule-found}
+use Rattle.t1_lines.proofs.NamesRead.{key-found, refusal-found, rule-found}
 use Rattle.t1_lines.proofs.Lacking.{lacks-code, lacks-decimal, lacks-key, lacks-name, lacks-path}
 
 -- `RULE TEXT`.
@@ -103,17 +106,53 @@ glyph-spelled number name path step rule regular few all small =
       rule-spelled rule,
     ) refl
 
+-- `NAME RULE U01 TEXT`.
+waiver-spelled : (number : ℕ) (name : List ℕ) (rule : Rule) → list_all is_regular name ≡ true
+    → waiver_line number (name ++ (32 ∷ (code_of rule ++ (32 ∷ (code_of U01 ++ (32 ∷ text_of U01)))))) ≡ Some (record { number = number; place = at_waiver name rule; rule = U01 })
+unfolding waiver_line
+waiver-spelled number name rule regular =
+    rw (
+      cut-append 32 name (code_of rule ++ (32 ∷ (code_of U01 ++ (32 ∷ text_of U01)))) (lacks-name name regular),
+      cut-append 32 (code_of rule) (code_of U01 ++ (32 ∷ text_of U01)) (lacks-code rule),
+      regular,
+      rule-found rule,
+      rule-spelled U01,
+    ) refl
+
 -- `PLACE RULE TEXT`.
-place-spelled : (number : ℕ) (place : PlaceValue) (rule : Rule) → IsPlace place
+place-spelled : (number : ℕ) (place : PlaceValue) (rule : Rule) → IsPlace place rule
     → place_line number (spaced (place_words place (code_of rule)) (text_of rule)) ≡ Some (record { number = number; place = place; rule = rule })
 unfolding place_line
 place-spelled number (at_key key index) rule is = font-spelled number key index rule is.0 is.1
 place-spelled number (at_step name path step) rule is = glyph-spelled number name path step rule is.0 is.1 is.2 is.3
+place-spelled number (at_waiver name waived) rule is =
+    subst (λ r. place_line number (spaced (place_words (at_waiver name waived) (code_of r)) (text_of r)) ≡ Some (record { number = number; place = at_waiver name waived; rule = r }))
+    (sym is.1) (waiver-spelled number name waived is.0)
+
+-- No number is the word of a refusal.
+number-other : (n : ℕ) → n < 2 ^ 64 → same_name (decimal n) (codes "refused") ≡ false
+number-other n small =
+    elim (cases_Bool (same_name (decimal n) (codes "refused"))) [
+      | inl e ↦ (
+          let is : decimal n ≡ codes "refused" = same-true (decimal n) (codes "refused") e in
+          let without : lacks 114 (decimal n) ≡ true = lacks-decimal 114 n small (λ c low high letter. omega (arith, high, letter)) in
+          let never : false ≡ true = subst (λ t. lacks 114 t ≡ true) is without in cc)
+      | inr e ↦ e
+    ]
+
+told-spelled : (l : FaultLineValue) → IsFaultLine l → told_line (decimal l.number) (spaced (place_words l.place (code_of l.rule)) (text_of l.rule)) ≡ Some (of_fault l)
+unfolding told_line
+told-spelled l is =
+    rw (number-other l.number is.number, number-decimal 64 l.number is.number is.number, place-spelled l.number l.place l.rule is.place) refl
+
+refusal-spelled : (code : RefusalCode) → told_line (codes "refused") (refusal_text_of code) ≡ Some (of_refusal code)
+unfolding told_line
+refusal-spelled code = ap (option_map of_refusal) (refusal-found code)
 
 -- A line.
 pub line-spelled : (l : LineValue) → IsLine l → line_read (spelled l) ≡ Some l
 unfolding line_read
-line-spelled l is =
+line-spelled (of_fault l) is =
     let rest = spaced (place_words l.place (code_of l.rule)) (text_of l.rule) in
-    rw (cut-append 58 (decimal l.number) (32 ∷ rest) (lacks-decimal 58 l.number is.number (λ c low high colon. omega (arith, high, colon))), number-decimal 64 l.number is.number is.number)
-    (place-spelled l.number l.place l.rule is.place)
+    rw (cut-append 58 (decimal l.number) (32 ∷ rest) (lacks-decimal 58 l.number is.number (λ c low high colon. omega (arith, high, colon)))) (told-spelled l is)
+line-spelled (of_refusal code) is = refusal-spelled code

@@ -7,17 +7,19 @@ use Rattle.std.specs.Option.{option_and_then}
 use Rattle.std.specs.List.{list_all, AllByRecursion}
 use Rattle.t1_scan.specs.Bytes.{is_regular}
 use Rattle.t1_rules.specs.declared.rule.Rule.{Rule}
-use Rattle.t1_rules.specs.Book.{code_of, rule_coded, text_of}
+use Rattle.t1_rules.specs.declared.rule.Rule.TheVariants.{U01}
+use Rattle.t1_rules.specs.Book.{code_of, number_of as rule_number, rule_coded, text_of}
+use Rattle.t1_rules.proofs.Lemmas.Book.{one_rule as one_rule_by_number}
 use Rattle.t1_rules.specs.Keys.{key_text_of}
 use Rattle.t1_report.specs.Lines.{inner_text, path_text}
-use Rattle.t1_lines.specs.Lines.{LineValue, place_words, spaced, spelled, IsPlace, IsLine}
-use Rattle.t1_lines.specs.Workings.{cut, number_of, key_of, rule_with, rule_read, numbers_cut, numbers_read, path_read, font_line, name_read, glyph_line, place_line, blank_read, line_read}
+use Rattle.t1_lines.specs.Lines.{FaultLineValue, LineValue, at_waiver, of_fault, of_refusal, place_words, spaced, spelled, IsPlace, IsLine}
+use Rattle.t1_lines.specs.Workings.{cut, number_of, key_of, rule_with, rule_read, numbers_cut, numbers_read, path_read, font_line, name_read, glyph_line, waiver_line, place_line, refusal_of, blank_read, told_line, line_read}
 use Rattle.t1_font.specs.Keys.{same_name}
 use Rattle.t1_lines.proofs.Cuts.{cut-joined, some_same}
 use Rattle.t1_lines.proofs.Numbers.{number-read, same-true}
-use Rattle.t1_lines.proofs.NamesRead.{key-read, rule-read}
+use Rattle.t1_lines.proofs.NamesRead.{key-read, refusal-read, rule-read}
 
-map_some : {A B P : Type 0} (f : A → B) (o : Option A) (y : B) → option_map f o ≡ Some y → ((x : A) → o ≡ Some x → f x ≡ y → P) → P
+pub map_some : {A B P : Type 0} (f : A → B) (o : Option A) (y : B) → option_map f o ≡ Some y → ((x : A) → o ≡ Some x → f x ≡ y → P) → P
 map_some f None y e k = cc
 map_some f (Some x) y e k = k x refl (some_same (f x) y e)
 
@@ -90,12 +92,12 @@ path-told word path e =
     ]
 
 -- What is told of a line by what stands behind its number.
-record IsTold (count : ℕ) (words : List ℕ) (l : LineValue) : Type 0 where
+record IsTold (count : ℕ) (words : List ℕ) (l : FaultLineValue) : Type 0 where
   pub number : l.number ≡ count
-  pub place : IsPlace l.place
+  pub place : IsPlace l.place l.rule
   pub text : words ≡ spaced (place_words l.place (code_of l.rule)) (text_of l.rule)
 
-font-told : (number : ℕ) (text : List ℕ) (l : LineValue) → font_line number text ≡ Some l → IsTold number (codes "font" ++ (32 ∷ text)) l
+font-told : (number : ℕ) (text : List ℕ) (l : FaultLineValue) → font_line number text ≡ Some l → IsTold number (codes "font" ++ (32 ∷ text)) l
 unfolding font_line
 font-told number text l e =
     option_and_then_some _ (cut 32 text) l e (λ p cut_key e1.
@@ -118,7 +120,7 @@ name-told word name e =
       | inr is ↦ (let never : None ≡ Some name = rw is at e in cc)
     ]
 
-glyph-told : (number : ℕ) (text : List ℕ) (l : LineValue) → glyph_line number text ≡ Some l → IsTold number (codes "glyph" ++ (32 ∷ text)) l
+glyph-told : (number : ℕ) (text : List ℕ) (l : FaultLineValue) → glyph_line number text ≡ Some l → IsTold number (codes "glyph" ++ (32 ∷ text)) l
 unfolding glyph_line
 glyph-told number text l e =
     option_and_then_some _ (cut 32 text) l e (λ p cut_name e1.
@@ -140,7 +142,32 @@ glyph-told number text l e =
     subst (IsTold number (codes "glyph" ++ (32 ∷ text))) whole
     (record { number = refl; place = (name_told.1, path_told.1, path_told.2, step_told.0); text = ap (λ t. codes "glyph" ++ (32 ∷ t)) all }))))))))
 
-place-told : (number : ℕ) (text : List ℕ) (l : LineValue) → place_line number text ≡ Some l → IsTold number text l
+one_rule : (rule other : Rule) → (rule_number rule == rule_number other) ≡ true → rule ≡ other
+one_rule rule other e = one_rule_by_number rule other (eqb-true (rule_number rule) (rule_number other) e)
+
+waiver-told : (number : ℕ) (text : List ℕ) (l : FaultLineValue) → waiver_line number text ≡ Some l → IsTold number (codes "waiver" ++ (32 ∷ text)) l
+unfolding waiver_line
+waiver-told number text l e =
+    option_and_then_some _ (cut 32 text) l e (λ p cut_name e1.
+    option_and_then_some _ (cut 32 p.1) l e1 (λ q cut_code e2.
+    option_and_then_some _ (name_read p.0) l e2 (λ name is_name e3.
+    option_and_then_some _ (rule_coded q.0) l e3 (λ rule is_rule e4.
+    option_and_then_some _ (rule_read q.1) l e4 (λ broken is_broken e5.
+    let name_told = name-told p.0 name is_name in
+    let made : FaultLineValue = record { number = number; place = at_waiver name rule; rule = broken } in
+    elim (cases_Bool (rule_number broken == rule_number U01)) [
+      | inl is ↦ (
+          let here : Some made ≡ Some l = rw is at e5 in
+          let behind : p.1 ≡ code_of rule ++ (32 ∷ (code_of broken ++ (32 ∷ text_of broken))) =
+          cut-joined 32 p.1 q cut_code ∙ ap (λ w. w ++ (32 ∷ q.1)) (sym (rule-read q.0 rule is_rule)) ∙ ap (λ t. code_of rule ++ (32 ∷ t)) (rule-told q.1 broken is_broken) in
+          let all : text ≡ name ++ (32 ∷ (code_of rule ++ (32 ∷ (code_of broken ++ (32 ∷ text_of broken))))) =
+          cut-joined 32 text p cut_name ∙ ap (λ w. w ++ (32 ∷ p.1)) name_told.0 ∙ ap (λ t. name ++ (32 ∷ t)) behind in
+          subst (IsTold number (codes "waiver" ++ (32 ∷ text))) (some_same made l here)
+          (record { number = refl; place = (name_told.1, one_rule broken U01 is); text = ap (λ t. codes "waiver" ++ (32 ∷ t)) all }))
+      | inr other ↦ (let never : None ≡ Some l = rw other at e5 in cc)
+    ])))))
+
+place-told : (number : ℕ) (text : List ℕ) (l : FaultLineValue) → place_line number text ≡ Some l → IsTold number text l
 unfolding place_line
 place-told number text l e =
     option_and_then_some _ (cut 32 text) l e (λ p cut_kind inner.
@@ -155,7 +182,13 @@ place-told number text l e =
             let here : glyph_line number p.1 ≡ Some l = rw (no_font, is) at inner in
             let kind = same-true p.0 (codes "glyph") is in
             subst (λ t. IsTold number t l) (sym (joined ∙ ap (λ w. w ++ (32 ∷ p.1)) kind)) (glyph-told number p.1 l here))
-        | inr no_glyph ↦ (let never : None ≡ Some l = rw (no_font, no_glyph) at inner in cc)
+        | inr no_glyph ↦ elim (cases_Bool (same_name p.0 (codes "waiver"))) [
+          | inl is ↦ (
+              let here : waiver_line number p.1 ≡ Some l = rw (no_font, no_glyph, is) at inner in
+              let kind = same-true p.0 (codes "waiver") is in
+              subst (λ t. IsTold number t l) (sym (joined ∙ ap (λ w. w ++ (32 ∷ p.1)) kind)) (waiver-told number p.1 l here))
+          | inr no_waiver ↦ (let never : None ≡ Some l = rw (no_font, no_glyph, no_waiver) at inner in cc)
+        ]
       ]
     ])
 
@@ -167,17 +200,35 @@ blank-told (c ∷ text) rest e =
       | inr is ↦ (let never : None ≡ Some rest = rw is at e in cc)
     ]
 
+-- What stands behind the first word and `: `.
+told-told : (word text : List ℕ) (l : LineValue) → told_line word text ≡ Some l → IsLine l × (spelled l ≡ word ++ (58 ∷ 32 ∷ text))
+unfolding told_line
+told-told word text l e =
+    elim (cases_Bool (same_name word (codes "refused"))) [
+      | inl is ↦ (
+          let here : option_map of_refusal (refusal_of text) ≡ Some l = rw is at e in
+          let kind = same-true word (codes "refused") is in
+          map_some of_refusal (refusal_of text) l here (λ code is_code whole.
+          subst (λ k. IsLine k × (spelled k ≡ word ++ (58 ∷ 32 ∷ text))) whole
+          (tt, ap (λ t. codes "refused: " ++ t) (refusal-read text code is_code) ∙ ap (λ w. w ++ (58 ∷ 32 ∷ text)) (sym kind))))
+      | inr other ↦ (
+          let here : option_and_then (λ n. option_map of_fault (place_line n text)) (number_of 64 word) ≡ Some l = rw other at e in
+          option_and_then_some _ (number_of 64 word) l here (λ n is_number e1.
+          map_some of_fault (place_line n text) l e1 (λ f is_fault whole.
+          let number_told = number-read 64 word n is_number in
+          let told = place-told n text f is_fault in
+          let small : f.number < 2 ^ 64 = subst (λ k. k < 2 ^ 64) (sym told.number) number_told.0 in
+          subst (λ k. IsLine k × (spelled k ≡ word ++ (58 ∷ 32 ∷ text))) whole (
+            record { number = small; place = told.place },
+            ap (λ k. decimal k ++ (58 ∷ 32 ∷ spaced (place_words f.place (code_of f.rule)) (text_of f.rule))) told.number ∙ ap (λ t. decimal n ++ (58 ∷ 32 ∷ t)) (sym told.text) ∙ ap (λ w. w ++ (58 ∷ 32 ∷ text)) number_told.1,
+          ))))
+    ]
+
 pub line-told : (line : List ℕ) (l : LineValue) → line_read line ≡ Some l → IsLine l × (spelled l ≡ line)
 unfolding line_read
 line-told line l e =
-    option_and_then_some _ (cut 58 line) l e (λ p cut_number e1.
-    option_and_then_some _ (number_of 64 p.0) l e1 (λ n is_number e2.
-    option_and_then_some _ (blank_read p.1) l e2 (λ text is_blank e3.
-    let number_told = number-read 64 p.0 n is_number in
-    let told = place-told n text l e3 in
-    let all : line ≡ decimal n ++ (58 ∷ 32 ∷ text) =
-    cut-joined 58 line p cut_number ∙ ap (λ w. w ++ (58 ∷ p.1)) (sym number_told.1) ∙ ap (λ t. decimal n ++ (58 ∷ t)) (blank-told p.1 text is_blank) in
-    let small : l.number < 2 ^ 64 = subst (λ k. k < 2 ^ 64) (sym told.number) number_told.0 in (
-      record { number = small; place = told.place },
-      ap (λ k. decimal k ++ (58 ∷ 32 ∷ spaced (place_words l.place (code_of l.rule)) (text_of l.rule))) told.number ∙ ap (λ t. decimal n ++ (58 ∷ 32 ∷ t)) (sym told.text) ∙ sym all,
-    ))))
+    option_and_then_some _ (cut 58 line) l e (λ p cut_word e1.
+    option_and_then_some _ (blank_read p.1) l e1 (λ text is_blank e2.
+    let told = told-told p.0 text l e2 in
+    let all : line ≡ p.0 ++ (58 ∷ 32 ∷ text) = cut-joined 58 line p cut_word ∙ ap (λ t. p.0 ++ (58 ∷ t)) (blank-told p.1 text is_blank) in
+    (told.0, told.1 ∙ sym all)))

@@ -5,7 +5,10 @@ use Rattle.t1_rules.specs.Keys.{key_text_of, key_texts}
 use Rattle.t1_rules.specs.declared.rule.Rule.{Rule}
 use Rattle.t1_rules.specs.declared.rule.Rule.TheVariants.{F01}
 use Rattle.t1_rules.specs.Book.{code_of, coded_in, rule_coded, rules}
-use Rattle.t1_lines.specs.Workings.{key_among, key_of}
+use Rattle.t1_lines.specs.declared.refusal.RefusalCode.{RefusalCode}
+use Rattle.t1_lines.specs.declared.refusal.RefusalCode.TheVariants.{E01}
+use Rattle.t1_lines.specs.RefusalTexts.{refusal_text_of, refusals}
+use Rattle.t1_lines.specs.Workings.{key_among, key_of, refusal_among, refusal_of}
 use Rattle.t1_font.specs.Keys.{same_name}
 use Rattle.t1_lines.proofs.Numbers.{same-true}
 
@@ -90,3 +93,24 @@ coded_in-read code (r ∷ rs) rule e =
 
 pub rule-read : (code : List ℕ) (rule : Rule) → rule_coded code ≡ Some rule → code_of rule ≡ code
 rule-read code rule e = coded_in-read code rules rule e
+
+pub refusal_start : (text : List ℕ) → refusal_among refusals text ≡ refusal_of text
+unfolding refusal_of
+refusal_start text = refl
+
+pub refusal-found : (code : RefusalCode) → refusal_of (refusal_text_of code) ≡ Some code
+unfolding refusal_of
+refusal-found E01 = refl
+refusal-found _ = refl
+
+refusal_among-read : (codes_left : List RefusalCode) (text : List ℕ) (code : RefusalCode) → refusal_among codes_left text ≡ Some code → refusal_text_of code ≡ text
+refusal_among-read [] text code e = cc
+refusal_among-read (c ∷ others) text code e =
+    elim (cases_Bool (same_name (refusal_text_of c) text)) [
+      | inl is ↦ (let here : Some c ≡ Some code = rw is at e in let it : c ≡ code = cc in subst (λ x. refusal_text_of x ≡ text) it (same-true (refusal_text_of c) text is))
+      | inr is ↦ (let there : refusal_among others text ≡ Some code = rw is at e in refusal_among-read others text code there)
+    ]
+
+pub refusal-read : (text : List ℕ) (code : RefusalCode) → refusal_of text ≡ Some code → refusal_text_of code ≡ text
+unfolding refusal_of
+refusal-read text code e = refusal_among-read refusals text code e

@@ -1,4 +1,5 @@
 pub mod Lines
-pub mod Workings
-pub mod Readings
 pub mod Names
+pub mod Readings
+pub mod RefusalTexts
+pub mod Workings

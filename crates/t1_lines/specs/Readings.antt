@@ -1,11 +1,11 @@
 -- What is read, and of which lines.
-use Rattle.std.specs.Prelude.{◌≡◌, ◌↔◌, ◌≤◌, ℕ, List, ◌++◌, codes, length, Option, Some}
+use Rattle.std.specs.Prelude.{◌≡◌, ◌↔◌, List, ℕ, ◌++◌, codes, Option, Some}
 use Rattle.t1_font.specs.Fonts.{FontValue}
 use Rattle.t1_report.specs.Faults.{FaultValue}
 use Rattle.t1_report.specs.Lines.{IsInFont, line_of}
 use Rattle.t1_report.specs.Waivers.{Waiver}
-use Rattle.t1_lines.specs.Lines.{LineValue, IsLine, IsSmall, line_in, spelled}
-use Rattle.t1_lines.specs.Names.{HasNames}
+use Rattle.t1_lines.specs.Lines.{LineValue, of_fault, IsFaultLine, IsLine, IsSmall, fault_spelled, line_in, spelled}
+use Rattle.t1_lines.specs.Names.{HasNames, HaveNames}
 
 -- A line is read exactly where it is spelled so.
 abbrev pub IsReading : List ℕ → Option LineValue → Type 0
@@ -13,13 +13,15 @@ IsReading line read = (l : LineValue) → (read ≡ Some l) ↔ (IsLine l × (sp
 
 -- Where the line is that of a fault, without its end, the fault's number, place and rule are read.
 abbrev pub IsReadBack : List ℕ → Option LineValue → Type 0
-IsReadBack line read = (font : FontValue) (waivers : List Waiver) (fault : FaultValue) → HasNames font → IsInFont font waivers fault →
-    fault.unit ≤ length font.glyphs → IsSmall fault → line_of font waivers fault ≡ line ++ codes "\n" → read ≡ Some (line_in font fault)
+IsReadBack line read = (font : FontValue) (waivers : List Waiver) (fault : FaultValue) → HasNames font → HaveNames waivers →
+    IsInFont font waivers fault → IsSmall fault → line_of font waivers fault ≡ line ++ codes "\n" →
+    read ≡ Some (of_fault (line_in font waivers fault))
 
 -- The line of a fault is one, and is written as it is spelled, ended by byte 10.
 abbrev pub IsWritten : Type 0
-IsWritten = (font : FontValue) (waivers : List Waiver) (fault : FaultValue) → HasNames font → IsInFont font waivers fault →
-    fault.unit ≤ length font.glyphs → IsSmall fault → IsLine (line_in font fault) × (line_of font waivers fault ≡ spelled (line_in font fault) ++ codes "\n")
+IsWritten = (font : FontValue) (waivers : List Waiver) (fault : FaultValue) → HasNames font → HaveNames waivers →
+    IsInFont font waivers fault → IsSmall fault →
+    IsFaultLine (line_in font waivers fault) × (line_of font waivers fault ≡ fault_spelled (line_in font waivers fault) ++ codes "\n")
 
 -- No text is that of two lines.
 abbrev pub IsOne : Type 0

@@ -7,9 +7,12 @@ use Rattle.std.specs.Str.Parse.{digits_value}
 use Rattle.t1_scan.specs.Bytes.{is_regular}
 use Rattle.t1_rules.specs.declared.rule.Rule.{Rule}
 use Rattle.t1_font.specs.Keys.{same_name}
-use Rattle.t1_rules.specs.Book.{rule_coded, text_of}
+use Rattle.t1_rules.specs.declared.rule.Rule.TheVariants.{U01}
+use Rattle.t1_rules.specs.Book.{number_of as rule_number, rule_coded, text_of}
 use Rattle.t1_rules.specs.Keys.{key_texts}
-use Rattle.t1_lines.specs.Lines.{LineValue, at_key, at_step}
+use Rattle.t1_lines.specs.declared.refusal.RefusalCode.{RefusalCode}
+use Rattle.t1_lines.specs.RefusalTexts.{refusal_text_of, refusals}
+use Rattle.t1_lines.specs.Lines.{FaultLineValue, LineValue, at_key, at_step, at_waiver, of_fault, of_refusal}
 
 -- A byte that isn't this one.
 abbrev pub differs : ℕ → ℕ → Bool
@@ -62,7 +65,7 @@ unfoldable pub path_read : List ℕ → Option (List ℕ)
 path_read word = if same_name word (codes "-") then Some [] else numbers_read 10 word
 
 -- `KEY INDEX RULE TEXT`.
-unfoldable pub font_line : ℕ → List ℕ → Option LineValue
+unfoldable pub font_line : ℕ → List ℕ → Option FaultLineValue
 font_line number text =
     option_and_then (λ p. option_and_then (λ q.
     option_and_then (λ key. option_and_then (λ index. option_map
@@ -73,25 +76,50 @@ font_line number text =
 abbrev pub name_read : List ℕ → Option (List ℕ)
 name_read word = if list_all is_regular word then Some word else None
 
-unfoldable pub glyph_line : ℕ → List ℕ → Option LineValue
+unfoldable pub glyph_line : ℕ → List ℕ → Option FaultLineValue
 glyph_line number text =
     option_and_then (λ p. option_and_then (λ q. option_and_then (λ r.
     option_and_then (λ name. option_and_then (λ path. option_and_then (λ step. option_map
     (λ rule. record { number = number; place = at_step name path step; rule = rule })
     (rule_read r.1)) (number_of 32 r.0)) (path_read q.0)) (name_read p.0)) (cut 32 q.1)) (cut 32 p.1)) (cut 32 text)
 
+-- `NAME RULE U01 TEXT`.
+abbrev pub if_unused : Rule → FaultLineValue → Option FaultLineValue
+if_unused rule l = if rule_number rule == rule_number U01 then Some l else None
+
+unfoldable pub waiver_line : ℕ → List ℕ → Option FaultLineValue
+waiver_line number text =
+    option_and_then (λ p. option_and_then (λ q.
+    option_and_then (λ name. option_and_then (λ rule. option_and_then
+    (λ broken. if_unused broken (record { number = number; place = at_waiver name rule; rule = broken }))
+    (rule_read q.1)) (rule_coded q.0)) (name_read p.0)) (cut 32 p.1)) (cut 32 text)
+
 -- Behind `NUMBER: `.
-unfoldable pub place_line : ℕ → List ℕ → Option LineValue
+unfoldable pub place_line : ℕ → List ℕ → Option FaultLineValue
 place_line number text =
     option_and_then (λ p.
     if same_name p.0 (codes "font") then font_line number p.1
     else if same_name p.0 (codes "glyph") then glyph_line number p.1
+    else if same_name p.0 (codes "waiver") then waiver_line number p.1
     else None) (cut 32 text)
+
+-- The refusal of which this is told.
+abbrev pub refusal_among : List RefusalCode → List ℕ → Option RefusalCode
+refusal_among [] text = None
+refusal_among (code ∷ others) text = if same_name (refusal_text_of code) text then Some code else refusal_among others text
+
+unfoldable pub refusal_of : List ℕ → Option RefusalCode
+refusal_of text = refusal_among refusals text
 
 abbrev pub blank_read : List ℕ → Option (List ℕ)
 blank_read [] = None
 blank_read (c ∷ text) = if c == 32 then Some text else None
 
+-- Behind the first word and `: `.
+unfoldable pub told_line : List ℕ → List ℕ → Option LineValue
+told_line word text =
+    if same_name word (codes "refused") then option_map of_refusal (refusal_of text)
+    else option_and_then (λ n. option_map of_fault (place_line n text)) (number_of 64 word)
+
 unfoldable pub line_read : List ℕ → Option LineValue
-line_read line =
-    option_and_then (λ p. option_and_then (λ n. option_and_then (λ text. place_line n text) (blank_read p.1)) (number_of 64 p.0)) (cut 58 line)
+line_read line = option_and_then (λ p. option_and_then (λ text. told_line p.0 text) (blank_read p.1)) (cut 58 line)

@@ -1,6 +1,6 @@
 //! Laws above the definitions: each is the contract of a function without a body.
 
-ghost use Rattle.t1_lines.specs.Names.{FontsHaveNames};
+ghost use Rattle.t1_lines.specs.Names.{FontsHaveNames, WaiversHaveNames};
 ghost use Rattle.t1_lines.specs.Readings.{IsOne, IsWritten};
 
 /// Each fault's line is written as it is spelled.
@@ -18,4 +18,10 @@ pub fn a_text_is_one_line()
 #[tactic(auto, using(crate::proofs::NamesKept::fonts_have_names))]
 pub fn fonts_have_names()
     ensures { FontsHaveNames }
+{}
+
+/// So have those of waivers that were read.
+#[tactic(auto, using(crate::proofs::WaiverNames::waivers_have_names))]
+pub fn waivers_have_names()
+    ensures { WaiversHaveNames }
 {}

@@ -1,5 +1,6 @@
-//! What a line of a report says.
+//! What a line says.
 
+use crate::refusal::RefusalCode;
 use arrayvec::ArrayVec;
 use t1_rules::Rule;
 
@@ -8,6 +9,26 @@ pub(crate) const DEEPEST: usize = 10;
 
 /// The numbers of the Subrs that are being executed, the outermost first.
 pub type Path = ArrayVec<u32, DEEPEST>;
+
+/// What a line says.
+#[derive(Debug, PartialEq, Eq, Drop)]
+pub enum Line<'a> {
+    /// A line of a report: `1: font file 0 F01 no end segment`.
+    Fault(FaultLine<'a>),
+    /// Why there is no report: `refused: E04 no eexec`.
+    Refusal(RefusalCode),
+}
+
+/// What a line of a report says. Its text is that of its rule: `t1_rules::rule_text`.
+#[derive(Debug, PartialEq, Eq, Drop)]
+pub struct FaultLine<'a> {
+    /// The line's number in the whole report.
+    pub number: u64,
+    /// Where the rule is broken.
+    pub place: Place<'a>,
+    /// The rule that is broken there; of a waiver U01.
+    pub rule: Rule,
+}
 
 /// Where a fault stands.
 #[derive(Debug, PartialEq, Eq, Drop)]
@@ -23,15 +44,9 @@ pub enum Place<'a> {
         path: Path,
         step: u32,
     },
-}
-
-/// What a line of a report says. Its text is that of its rule: `t1_rules::rule_text`.
-#[derive(Debug, PartialEq, Eq, Drop)]
-pub struct Line<'a> {
-    /// The line's number in the whole report.
-    pub number: u64,
-    /// Where the rule is broken.
-    pub place: Place<'a>,
-    /// The rule that is broken there.
-    pub rule: Rule,
+    /// A waiver that isn't used, by the glyph's name, and the rule that it waives.
+    Waiver {
+        name: &'a [u8],
+        rule: Rule,
+    },
 }

@@ -1,14 +1,16 @@
 //! Lines are read.
 
 ghost use Rattle.std.specs.Prelude.{◌≡◌, option_map};
-ghost use Rattle.t1_lines.specs.Lines.{line_value};
+ghost use Rattle.t1_lines.specs.Lines.{fault_line_value, line_value};
 ghost use Rattle.t1_lines.specs.Readings.{IsReadBack, IsReading};
-ghost use Rattle.t1_lines.specs.Workings.{font_line, glyph_line, line_read, numbers_read, path_read, place_line};
+ghost use Rattle.t1_lines.specs.Workings.{font_line, glyph_line, line_read, numbers_read, path_read, place_line, told_line, waiver_line};
 
-use crate::line::{DEEPEST, Line, Path, Place};
+use crate::line::{DEEPEST, FaultLine, Line, Path, Place};
 use crate::names::{is_name, key, rule_with_text};
+use crate::refusal::refusal_told;
 use crate::words::{cut, number, small_number, tiny_number};
 use arrayvec::ArrayVec;
+use t1_rules::Rule;
 
 /// Numbers of Subrs with `>` between them, at most ten.
 fn numbers(word: &[u8]) -> Option<Path>
@@ -40,15 +42,15 @@ fn path(word: &[u8]) -> Option<Path>
 
 /// `KEY INDEX RULE TEXT`, behind `NUMBER: font `.
 #[tactic(auto, unfolding(crate::specs::Workings::font_line))]
-fn font_line<'a>(line_number: u64, text: &'a [u8]) -> Option<Line<'a>>
-    ensures { option_map line_value result ≡ font_line line_number text.now }
+fn font_line<'a>(line_number: u64, text: &'a [u8]) -> Option<FaultLine<'a>>
+    ensures { option_map fault_line_value result ≡ font_line line_number text.now }
 {
     let (key_word, rest) = cut(b' ', text)?;
     let (index_word, rest) = cut(b' ', rest)?;
     let key = key(key_word)?;
     let index = tiny_number(index_word)?;
     let rule = rule_with_text(rest)?;
-    Some(Line {
+    Some(FaultLine {
         number: line_number,
         place: Place::Key { key, index },
         rule,
@@ -57,8 +59,8 @@ fn font_line<'a>(line_number: u64, text: &'a [u8]) -> Option<Line<'a>>
 
 /// `NAME PATH STEP RULE TEXT`, behind `NUMBER: glyph `.
 #[tactic(auto, unfolding(crate::specs::Workings::glyph_line))]
-fn glyph_line<'a>(line_number: u64, text: &'a [u8]) -> Option<Line<'a>>
-    ensures { option_map line_value result ≡ glyph_line line_number text.now }
+fn glyph_line<'a>(line_number: u64, text: &'a [u8]) -> Option<FaultLine<'a>>
+    ensures { option_map fault_line_value result ≡ glyph_line line_number text.now }
 {
     let (name, rest) = cut(b' ', text)?;
     let (path_word, rest) = cut(b' ', rest)?;
@@ -69,42 +71,80 @@ fn glyph_line<'a>(line_number: u64, text: &'a [u8]) -> Option<Line<'a>>
     let path = path(path_word)?;
     let step = small_number(step_word)?;
     let rule = rule_with_text(rest)?;
-    Some(Line {
+    Some(FaultLine {
         number: line_number,
         place: Place::Step { name, path, step },
         rule,
     })
 }
 
+/// `NAME RULE U01 TEXT`, behind `NUMBER: waiver `.
+#[tactic(auto, unfolding(crate::specs::Workings::waiver_line))]
+fn waiver_line<'a>(line_number: u64, text: &'a [u8]) -> Option<FaultLine<'a>>
+    ensures { option_map fault_line_value result ≡ waiver_line line_number text.now }
+{
+    let (name, rest) = cut(b' ', text)?;
+    let (code, rest) = cut(b' ', rest)?;
+    if !is_name(name) {
+        return None;
+    }
+    let rule = Rule::from_code(code)?;
+    let broken = rule_with_text(rest)?;
+    if broken == Rule::U01 {
+        Some(FaultLine {
+            number: line_number,
+            place: Place::Waiver { name, rule },
+            rule: broken,
+        })
+    } else {
+        None
+    }
+}
+
 /// `PLACE RULE TEXT`, behind `NUMBER: `.
 #[tactic(auto, unfolding(crate::specs::Workings::place_line))]
-fn place_line<'a>(line_number: u64, text: &'a [u8]) -> Option<Line<'a>>
-    ensures { option_map line_value result ≡ place_line line_number text.now }
+fn place_line<'a>(line_number: u64, text: &'a [u8]) -> Option<FaultLine<'a>>
+    ensures { option_map fault_line_value result ≡ place_line line_number text.now }
 {
     let (kind, rest) = cut(b' ', text)?;
     if kind == b"font".as_slice() {
         font_line(line_number, rest)
     } else if kind == b"glyph".as_slice() {
         glyph_line(line_number, rest)
+    } else if kind == b"waiver".as_slice() {
+        waiver_line(line_number, rest)
     } else {
         None
     }
 }
 
-/// `NUMBER: PLACE RULE TEXT`.
+/// What stands behind `NUMBER: ` or `refused: `.
+#[tactic(auto, unfolding(crate::specs::Workings::told_line))]
+fn told_line<'a>(word: &[u8], text: &'a [u8]) -> Option<Line<'a>>
+    ensures { option_map line_value result ≡ told_line word.now text.now }
+{
+    if word == b"refused".as_slice() {
+        let code = refusal_told(text)?;
+        return Some(Line::Refusal(code));
+    }
+    let line_number = number(word)?;
+    let fault = place_line(line_number, text)?;
+    Some(Line::Fault(fault))
+}
+
+/// `NUMBER: PLACE RULE TEXT` or `refused: CODE TEXT`.
 #[tactic(auto, unfolding(crate::specs::Workings::line_read))]
 fn whole_line(line: &[u8]) -> Option<Line<'_>>
     ensures { option_map line_value result ≡ line_read line.now }
 {
-    let (number_word, rest) = cut(b':', line)?;
-    let line_number = number(number_word)?;
+    let (word, rest) = cut(b':', line)?;
     let [b' ', text @ ..] = rest else {
         return None;
     };
-    place_line(line_number, text)
+    told_line(word, text)
 }
 
-/// Reads a line of a report, without its line end: None where it is no line that t1check writes.
+/// Reads a line of a report or of a refusal, without its line end: None where it is no line that t1check writes.
 pub fn read(line: &[u8]) -> Option<Line<'_>>
     ensures exact { IsReading line.now (option_map line_value result) }
     ensures written { IsReadBack line.now (option_map line_value result) }

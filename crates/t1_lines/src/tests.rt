@@ -1,4 +1,6 @@
-use crate::{Line, Path, Place, read};
+//! Lines by hand, and texts that are none.
+
+use crate::{FaultLine, Line, Path, Place, RefusalCode, read, refusal_text};
 use t1_rules::Rule;
 
 /// Subrs that are being executed.
@@ -12,33 +14,43 @@ fn path_of(numbers: &[u32]) -> Path {
     path
 }
 
-/// Texts that are no lines of a report.
+/// The line of a fault.
+fn fault<'a>(number: u64, place: Place<'a>, rule: Rule) -> Option<Line<'a>> {
+    Some(Line::Fault(FaultLine {
+        number,
+        place,
+        rule,
+    }))
+}
+
+/// Texts that are no lines.
 const OTHERS: &[&str] = &[
     "",
     "1",
     "1:",
     "1: ",
     "1: font file 0 F01",
-    "1: font file 0 F01 ",
     "1: font file 0 F01 no end segment ",
     " 1: font file 0 F01 no end segment",
     "01: font file 0 F01 no end segment",
     "+1: font file 0 F01 no end segment",
-    ": font file 0 F01 no end segment",
     "18446744073709551616: font file 0 F01 no end segment",
     "1: font  0 F01 no end segment",
     "1: font File 0 F01 no end segment",
     "1: font file 65536 F01 no end segment",
     "1: font file 0 F02 no end segment",
-    "1: font file 0 F1 no end segment",
-    "1: glyph A  8 P01 drawing without a move",
     "1: glyph A -> 8 P01 drawing without a move",
     "1: glyph A 5> 8 P01 drawing without a move",
-    "1: glyph A >5 8 P01 drawing without a move",
     "1: glyph A 4294967296 8 P01 drawing without a move",
     "1: glyph A 1>2>3>4>5>6>7>8>9>10>11 8 P01 drawing without a move",
     "1: glyph A/B - 8 P01 drawing without a move",
-    "1: subr A - 8 P01 drawing without a move",
+    "1: waiver A P01 P01 drawing without a move",
+    "1: waiver A P99 U01 waiver not used",
+    "1: waiver A/B P01 U01 waiver not used",
+    "refused: E05",
+    "refused: E04 file too large",
+    "refused: E16 file too large",
+    "Refused: E05 file too large",
 ];
 
 #[test]
@@ -52,61 +64,70 @@ fn other_texts_are_no_lines(rt: HostRuntime) {
 fn lines_of_the_font(rt: HostRuntime) {
     assert_eq!(rt;
         read(b"1: font file 0 F01 no end segment"),
-        Some(Line {
-            number: 1,
-            place: Place::Key { key: 0, index: 0 },
-            rule: Rule::F01
-        })
+        fault(1, Place::Key { key: 0, index: 0 }, Rule::F01)
     );
+    let last = Place::Key {
+        key: 21,
+        index: 65535,
+    };
     assert_eq!(rt;
         read(b"18446744073709551615: font CharStrings 65535 F10 glyph given twice"),
-        Some(Line {
-            number: 18446744073709551615,
-            place: Place::Key {
-                key: 21,
-                index: 65535
-            },
-            rule: Rule::F10
-        })
+        fault(18446744073709551615, last, Rule::F10)
     );
 }
 
 #[test]
 fn lines_of_glyphs(rt: HostRuntime) {
+    let place = Place::Step {
+        name: b"A".as_slice(),
+        path: path_of(&[5, 6]),
+        step: 8,
+    };
     assert_eq!(rt;
         read(b"2: glyph A 5>6 8 P01 drawing without a move"),
-        Some(Line {
-            number: 2,
-            place: Place::Step {
-                name: b"A".as_slice(),
-                path: path_of(&[5, 6]),
-                step: 8
-            },
-            rule: Rule::P01
-        })
+        fault(2, place, Rule::P01)
     );
+    let nameless = Place::Step {
+        name: b"".as_slice(),
+        path: path_of(&[]),
+        step: 100000,
+    };
     assert_eq!(rt;
         read(b"3: glyph  - 100000 L01 step limit"),
-        Some(Line {
-            number: 3,
-            place: Place::Step {
-                name: b"".as_slice(),
-                path: path_of(&[]),
-                step: 100000
-            },
-            rule: Rule::L01
-        })
+        fault(3, nameless, Rule::L01)
     );
+    let deepest = Place::Step {
+        name: b"\xff:".as_slice(),
+        path: path_of(&[1, 2, 3, 4, 5, 6, 7, 8, 9, 4294967295]),
+        step: 4294967295,
+    };
     assert_eq!(rt;
         read(b"4: glyph \xff: 1>2>3>4>5>6>7>8>9>4294967295 4294967295 GE01 no endchar"),
-        Some(Line {
-            number: 4,
-            place: Place::Step {
-                name: b"\xff:".as_slice(),
-                path: path_of(&[1, 2, 3, 4, 5, 6, 7, 8, 9, 4294967295]),
-                step: 4294967295
-            },
-            rule: Rule::GE01
-        })
+        fault(4, deepest, Rule::GE01)
     );
+}
+
+#[test]
+fn lines_of_waivers(rt: HostRuntime) {
+    let place = Place::Waiver {
+        name: b"A".as_slice(),
+        rule: Rule::P01,
+    };
+    assert_eq!(rt;
+        read(b"3: waiver A P01 U01 waiver not used"),
+        fault(3, place, Rule::U01)
+    );
+}
+
+#[test]
+fn lines_of_refusals(rt: HostRuntime) {
+    assert_eq!(rt;
+        read(b"refused: E04 no eexec"),
+        Some(Line::Refusal(RefusalCode::E04))
+    );
+    assert_eq!(rt;
+        read(b"refused: E15 waivers past their limit"),
+        Some(Line::Refusal(RefusalCode::E15))
+    );
+    assert_eq!(rt; refusal_text(RefusalCode::E05), "E05 file too large");
 }

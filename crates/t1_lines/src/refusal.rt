@@ -1,0 +1,101 @@
+//! Why a font, or a file of waivers, is refused.
+
+ghost use Rattle.std.specs.Prelude.{◌≡◌};
+ghost use Rattle.t1_lines.specs.RefusalTexts.{refusal_text_of, refusals};
+ghost use Rattle.t1_lines.specs.Workings.{refusal_of};
+
+/// Why there is no report, by its number.
+#[derive(Clone, Copy, Debug, PartialEq, Eq)]
+pub enum RefusalCode {
+    /// The bytes begin neither as a PFB file nor as a PFA file.
+    E01,
+    /// Where a segment should begin stands something else.
+    E02,
+    /// The bytes end inside a segment.
+    E03,
+    /// The clear text has no word `eexec`.
+    E04,
+    /// The file has more than 16,777,216 bytes.
+    E05,
+    /// Fewer than four bytes are encrypted.
+    E06,
+    /// A token isn't closed, or nests deeper than 32.
+    E07,
+    /// The Subrs are broken.
+    E08,
+    /// The CharStrings are missing or broken.
+    E09,
+    /// `/lenIV` is no whole number from -1 to 64.
+    E10,
+    /// There are too many Subrs or glyphs, or a charstring is too long.
+    E11,
+    /// There is a second `/Subrs`.
+    E12,
+    /// It is a multiple master font.
+    E13,
+    /// A line of the waivers is none.
+    E14,
+    /// The waivers have more than 1,048,576 bytes.
+    E15,
+}
+
+/// All refusals, in the order of their numbers.
+static REFUSALS: [RefusalCode; 15] = [
+    RefusalCode::E01,
+    RefusalCode::E02,
+    RefusalCode::E03,
+    RefusalCode::E04,
+    RefusalCode::E05,
+    RefusalCode::E06,
+    RefusalCode::E07,
+    RefusalCode::E08,
+    RefusalCode::E09,
+    RefusalCode::E10,
+    RefusalCode::E11,
+    RefusalCode::E12,
+    RefusalCode::E13,
+    RefusalCode::E14,
+    RefusalCode::E15,
+];
+
+/// What is told of a refusal: its code and why.
+pub fn refusal_text(code: RefusalCode) -> &'static str
+    ensures { result.now ≡ refusal_text_of code }
+{
+    match code {
+        RefusalCode::E01 => "E01 not a PFA or PFB",
+        RefusalCode::E02 => "E02 bad segment header",
+        RefusalCode::E03 => "E03 segment cut short",
+        RefusalCode::E04 => "E04 no eexec",
+        RefusalCode::E05 => "E05 file too large",
+        RefusalCode::E06 => "E06 encrypted part too short",
+        RefusalCode::E07 => "E07 unclosed or too deeply nested token",
+        RefusalCode::E08 => "E08 Subrs malformed",
+        RefusalCode::E09 => "E09 CharStrings malformed or absent",
+        RefusalCode::E10 => "E10 lenIV out of range",
+        RefusalCode::E11 => "E11 count past its limit",
+        RefusalCode::E12 => "E12 second Subrs",
+        RefusalCode::E13 => "E13 multiple master font",
+        RefusalCode::E14 => "E14 waivers malformed",
+        RefusalCode::E15 => "E15 waivers past their limit",
+    }
+}
+
+/// All refusals.
+fn refusals() -> &'static [RefusalCode]
+    ensures { result.now ≡ refusals }
+{
+    &REFUSALS
+}
+
+/// The refusal of which this is told.
+pub(crate) fn refusal_told(text: &[u8]) -> Option<RefusalCode>
+    ensures { result ≡ refusal_of text.now }
+{
+    for code in refusals() {
+        if refusal_text(*code).as_bytes() == text {
+            return Some(*code);
+        }
+    }
+    None
+}
