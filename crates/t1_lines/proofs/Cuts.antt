@@ -26,7 +26,8 @@ cut_by_front byte (c ∷ text) =
       | inr e ↦ (let more : 1 + n ≡ suc n = omega arith in rw (e, more, cut_by_front byte text) (parts-more c (take n text) (drop n text)))
     ]
 
-pub cut_there : (byte : ℕ) (text front rest more : List ℕ) (c n : ℕ) → n ≡ prefix_len (differs byte) text → front ≡ take n text → rest ≡ drop n text → rest ≡ c ∷ more → Some (front, more) ≡ cut byte text
+pub cut_there : (byte : ℕ) (text front rest more : List ℕ) (c n : ℕ) → n ≡ prefix_len (differs byte) text → front ≡ take n text → rest ≡ drop n text
+    → rest ≡ c ∷ more → Some (front, more) ≡ cut byte text
 cut_there byte text front rest more c n at is_front is_rest is_more =
     sym (cut_by_front byte text ∙ (rw (sym at, sym is_front, sym is_rest, is_more) refl))
 
@@ -34,7 +35,8 @@ empty : (rest : List ℕ) → length rest ≡ 0 → rest ≡ []
 empty [] none = refl
 empty (c ∷ rest) none = absurd (omega (arith, none))
 
-pub cut_nowhere : (byte : ℕ) (text front rest : List ℕ) (n : ℕ) → n ≡ prefix_len (differs byte) text → rest ≡ drop n text → length rest ≡ 0 → None ≡ cut byte text
+pub cut_nowhere : (byte : ℕ) (text front rest : List ℕ) (n : ℕ) → n ≡ prefix_len (differs byte) text → rest ≡ drop n text → length rest ≡ 0
+    → None ≡ cut byte text
 cut_nowhere byte text front rest n at is_rest none =
     let is_empty = empty rest none in
     sym (cut_by_front byte text ∙ (rw (sym at, sym is_rest, is_empty) refl))
@@ -64,7 +66,8 @@ pub cut-joined : (byte : ℕ) (text : List ℕ) (p : List ℕ × List ℕ) → c
 cut-joined byte [] p e = cc
 cut-joined byte (c ∷ text) p e =
     elim (cases_Bool (c == byte)) [
-      | inl at ↦ (let here : Some ([], text) ≡ Some p = rw at at e in let same : c ≡ byte = eqb-true c byte at in let q : List ℕ × List ℕ = ([], text) in let is = some_same q p here in
+      | inl at ↦ (let here : Some ([], text) ≡ Some p = rw at at e in let same : c ≡ byte = eqb-true c byte at in let q : List ℕ × List ℕ = ([], text) in
+          let is = some_same q p here in
           rw (sym is, same) refl)
       | inr at ↦ (
           let there : option_map (λ p. (c ∷ p.0, p.1)) (cut byte text) ≡ Some p = rw at at e in

@@ -34,7 +34,8 @@ spaced-end : (words : List (List ℕ)) (text end : List ℕ) → spaced words te
 spaced-end [] text end = refl
 spaced-end (w ∷ words) text end = append_assoc w (32 ∷ spaced words text) end ∙ ap (λ t. w ++ (32 ∷ t)) (spaced-end words text end)
 
-spelled-end : (l : FaultLineValue) (end : List ℕ) → fault_spelled l ++ end ≡ decimal l.number ++ (58 ∷ 32 ∷ spaced (place_words l.place (code_of l.rule)) (text_of l.rule ++ end))
+spelled-end : (l : FaultLineValue) (end : List ℕ)
+    → fault_spelled l ++ end ≡ decimal l.number ++ (58 ∷ 32 ∷ spaced (place_words l.place (code_of l.rule)) (text_of l.rule ++ end))
 spelled-end l end =
     append_assoc (decimal l.number) (58 ∷ 32 ∷ spaced (place_words l.place (code_of l.rule)) (text_of l.rule)) end
     ∙ ap (λ t. decimal l.number ++ (58 ∷ 32 ∷ t)) (spaced-end (place_words l.place (code_of l.rule)) (text_of l.rule) end)
@@ -61,14 +62,16 @@ waiver-there (w ∷ waivers) (suc i) less names =
     let later = waiver-there waivers i (omega (arith, less)) (All-tail (λ w. IsTrue (list_all is_regular w.0)) w waivers names) in
     record { waiver = later.waiver; found = later.found; named = later.named }
 
-waiver-of-fault : (font : FontValue) (waivers : List Waiver) (fault : FaultValue) → HaveNames waivers → IsInFont font waivers fault → (fault.unit == length font.glyphs + 1) ≡ true →
+waiver-of-fault : (font : FontValue) (waivers : List Waiver) (fault : FaultValue) → HaveNames waivers → IsInFont font waivers fault
+    → (fault.unit == length font.glyphs + 1) ≡ true →
     IsThere waivers (fault.step - 1)
 waiver-of-fault font waivers fault names there is =
     let last = there.waiver (eqb-true fault.unit (length font.glyphs + 1) is) in
     waiver-there waivers (fault.step - 1) (omega (arith, last.1.0, last.1.1)) names
 
 place-written : (font : FontValue) (waivers : List Waiver) (fault : FaultValue) → HaveNames waivers → IsInFont font waivers fault
-    → place_text font waivers fault ++ rule_part fault ≡ spaced (place_words (place_in font waivers fault) (code_of fault.rule)) (text_of fault.rule ++ codes "\n")
+    → place_text font waivers fault ++ rule_part fault
+    ≡ spaced (place_words (place_in font waivers fault) (code_of fault.rule)) (text_of fault.rule ++ codes "\n")
 place-written font waivers fault names there =
     elim (cases_Bool (fault.unit == 0)) [
       | inl e ↦ rw e (ap (λ t. codes "font " ++ t) (key-written (key_text_of (fault.step / 65536)) (decimal (fault.step % 65536)) (rule_part fault)))

@@ -35,7 +35,8 @@ lacks-digits byte (c ∷ ds) apart all =
 pub lacks-decimal : (byte n : ℕ) → n < 2 ^ 64 → ((c : ℕ) → 48 ≤ c → c ≤ 57 → c ≢ byte) → lacks byte (decimal n) ≡ true
 lacks-decimal byte n small apart = lacks-digits byte (decimal n) apart (decimal_is_IsNumeral n small).0.1
 
-pub lacks-inner : (byte : ℕ) (ns : List ℕ) → AllByRecursion (λ n. n < 2 ^ 32) ns → ((c : ℕ) → 48 ≤ c → c ≤ 57 → c ≢ byte) → 62 ≢ byte → lacks byte (flat_map inner_text ns) ≡ true
+pub lacks-inner : (byte : ℕ) (ns : List ℕ) → AllByRecursion (λ n. n < 2 ^ 32) ns → ((c : ℕ) → 48 ≤ c → c ≤ 57 → c ≢ byte) → 62 ≢ byte
+    → lacks byte (flat_map inner_text ns) ≡ true
 lacks-inner byte [] small apart off = refl
 lacks-inner byte (n ∷ ns) small apart off =
     let nil = append-nil (decimal n) in
@@ -46,7 +47,8 @@ lacks-inner byte (n ∷ ns) small apart off =
       | inr e ↦ rw e (lacks-append byte (decimal n ++ []) (flat_map inner_text ns) first (lacks-inner byte ns small.1 apart off))
     ]
 
-pub lacks-path : (byte n : ℕ) (ns : List ℕ) → AllByRecursion (λ n. n < 2 ^ 32) (n ∷ ns) → ((c : ℕ) → 48 ≤ c → c ≤ 57 → c ≢ byte) → 62 ≢ byte → lacks byte (path_text (n ∷ ns)) ≡ true
+pub lacks-path : (byte n : ℕ) (ns : List ℕ) → AllByRecursion (λ n. n < 2 ^ 32) (n ∷ ns) → ((c : ℕ) → 48 ≤ c → c ≤ 57 → c ≢ byte) → 62 ≢ byte
+    → lacks byte (path_text (n ∷ ns)) ≡ true
 lacks-path byte n ns small apart off =
     let below : 2 ^ 32 ≤ 2 ^ 64 = pow_mono {i = 32} {j = 64} (omega arith) in
     lacks-append byte (decimal n) (flat_map inner_text ns) (lacks-decimal byte n (omega (arith, below, small.0)) apart) (lacks-inner byte ns small.1 apart off)

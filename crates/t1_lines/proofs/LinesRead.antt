@@ -42,7 +42,8 @@ pub numbers-spelled : (most n : ℕ) (ns : List ℕ) → suc (length ns) ≤ mos
 numbers-spelled zero n ns few small all = absurd (omega arith)
 numbers-spelled (suc most) n [] few small all =
     let nil = append-nil (decimal n) in
-    rw nil (ap (numbers_cut (numbers_read most) (decimal n)) (cut-lacks 62 (decimal n) (lacks-more n small)) ∙ ap (option_map (λ k. k ∷ [])) (small_number-decimal n small))
+    rw nil (ap (numbers_cut (numbers_read most) (decimal n)) (cut-lacks 62 (decimal n) (lacks-more n small))
+    ∙ ap (option_map (λ k. k ∷ [])) (small_number-decimal n small))
 numbers-spelled (suc most) n (m ∷ ms) few small all =
     let nil = append-nil (decimal m) in
     let later = numbers-spelled most m ms (omega arith) all.0 all.1 in
@@ -76,7 +77,8 @@ lacks-number n small = lacks-decimal 32 n small (λ c low high blank. omega (ari
 
 -- `KEY INDEX RULE TEXT`.
 font-spelled : (number key index : ℕ) (rule : Rule) → key ≤ 21 → index < 2 ^ 16
-    → font_line number (key_text_of key ++ (32 ∷ (decimal index ++ (32 ∷ (code_of rule ++ (32 ∷ text_of rule)))))) ≡ Some (record { number = number; place = at_key key index; rule = rule })
+    → font_line number (key_text_of key ++ (32 ∷ (decimal index ++ (32 ∷ (code_of rule ++ (32 ∷ text_of rule))))))
+    ≡ Some (record { number = number; place = at_key key index; rule = rule })
 unfolding font_line
 font-spelled number key index rule within small =
     let below : 2 ^ 16 ≤ 2 ^ 64 = pow_mono {i = 16} {j = 64} (omega arith) in
@@ -90,8 +92,10 @@ font-spelled number key index rule within small =
     ) refl
 
 -- `NAME PATH STEP RULE TEXT`.
-glyph-spelled : (number : ℕ) (name path : List ℕ) (step : ℕ) (rule : Rule) → list_all is_regular name ≡ true → length path ≤ 10 → AllByRecursion (λ n. n < 2 ^ 32) path → step < 2 ^ 32
-    → glyph_line number (name ++ (32 ∷ (path_text path ++ (32 ∷ (decimal step ++ (32 ∷ (code_of rule ++ (32 ∷ text_of rule)))))))) ≡ Some (record { number = number; place = at_step name path step; rule = rule })
+glyph-spelled : (number : ℕ) (name path : List ℕ) (step : ℕ) (rule : Rule) → list_all is_regular name ≡ true → length path ≤ 10
+    → AllByRecursion (λ n. n < 2 ^ 32) path → step < 2 ^ 32
+    → glyph_line number (name ++ (32 ∷ (path_text path ++ (32 ∷ (decimal step ++ (32 ∷ (code_of rule ++ (32 ∷ text_of rule))))))))
+    ≡ Some (record { number = number; place = at_step name path step; rule = rule })
 unfolding glyph_line
 glyph-spelled number name path step rule regular few all small =
     let below : 2 ^ 32 ≤ 2 ^ 64 = pow_mono {i = 32} {j = 64} (omega arith) in
@@ -108,7 +112,8 @@ glyph-spelled number name path step rule regular few all small =
 
 -- `NAME RULE U01 TEXT`.
 waiver-spelled : (number : ℕ) (name : List ℕ) (rule : Rule) → list_all is_regular name ≡ true
-    → waiver_line number (name ++ (32 ∷ (code_of rule ++ (32 ∷ (code_of U01 ++ (32 ∷ text_of U01)))))) ≡ Some (record { number = number; place = at_waiver name rule; rule = U01 })
+    → waiver_line number (name ++ (32 ∷ (code_of rule ++ (32 ∷ (code_of U01 ++ (32 ∷ text_of U01))))))
+    ≡ Some (record { number = number; place = at_waiver name rule; rule = U01 })
 unfolding waiver_line
 waiver-spelled number name rule regular =
     rw (
@@ -126,7 +131,8 @@ unfolding place_line
 place-spelled number (at_key key index) rule is = font-spelled number key index rule is.0 is.1
 place-spelled number (at_step name path step) rule is = glyph-spelled number name path step rule is.0 is.1 is.2 is.3
 place-spelled number (at_waiver name waived) rule is =
-    subst (λ r. place_line number (spaced (place_words (at_waiver name waived) (code_of r)) (text_of r)) ≡ Some (record { number = number; place = at_waiver name waived; rule = r }))
+    subst (λ r. place_line number (spaced (place_words (at_waiver name waived) (code_of r)) (text_of r))
+    ≡ Some (record { number = number; place = at_waiver name waived; rule = r }))
     (sym is.1) (waiver-spelled number name waived is.0)
 
 -- No number is the word of a refusal.
@@ -140,7 +146,8 @@ number-other n small =
       | inr e ↦ e
     ]
 
-told-spelled : (l : FaultLineValue) → IsFaultLine l → told_line (decimal l.number) (spaced (place_words l.place (code_of l.rule)) (text_of l.rule)) ≡ Some (of_fault l)
+told-spelled : (l : FaultLineValue) → IsFaultLine l
+    → told_line (decimal l.number) (spaced (place_words l.place (code_of l.rule)) (text_of l.rule)) ≡ Some (of_fault l)
 unfolding told_line
 told-spelled l is =
     rw (number-other l.number is.number, number-decimal 64 l.number is.number is.number, place-spelled l.number l.place l.rule is.place) refl

@@ -54,7 +54,8 @@ one-number most n text ns e only =
     let nil = append-nil (decimal n) in
     subst (AreNumbers (suc most) text) only (record { is = sym told.1 ∙ sym nil; few = omega arith; small = (told.0, tt); some = omega arith })
 
-more-numbers : (most n : ℕ) (front more text ms : List ℕ) → text ≡ front ++ (62 ∷ more) → number_of 32 front ≡ Some n → AreNumbers most more ms → AreNumbers (suc most) text (n ∷ ms)
+more-numbers : (most n : ℕ) (front more text ms : List ℕ) → text ≡ front ++ (62 ∷ more) → number_of 32 front ≡ Some n → AreNumbers most more ms
+    → AreNumbers (suc most) text (n ∷ ms)
 more-numbers most n front more text [] joined e later = let some = later.some in absurd (omega (arith, some))
 more-numbers most n front more text (m ∷ ms) joined e later =
     let told = number-read 32 front n e in
@@ -159,7 +160,8 @@ waiver-told number text l e =
       | inl is ↦ (
           let here : Some made ≡ Some l = rw is at e5 in
           let behind : p.1 ≡ code_of rule ++ (32 ∷ (code_of broken ++ (32 ∷ text_of broken))) =
-          cut-joined 32 p.1 q cut_code ∙ ap (λ w. w ++ (32 ∷ q.1)) (sym (rule-read q.0 rule is_rule)) ∙ ap (λ t. code_of rule ++ (32 ∷ t)) (rule-told q.1 broken is_broken) in
+          cut-joined 32 p.1 q cut_code ∙ ap (λ w. w ++ (32 ∷ q.1)) (sym (rule-read q.0 rule is_rule))
+          ∙ ap (λ t. code_of rule ++ (32 ∷ t)) (rule-told q.1 broken is_broken) in
           let all : text ≡ name ++ (32 ∷ (code_of rule ++ (32 ∷ (code_of broken ++ (32 ∷ text_of broken))))) =
           cut-joined 32 text p cut_name ∙ ap (λ w. w ++ (32 ∷ p.1)) name_told.0 ∙ ap (λ t. name ++ (32 ∷ t)) behind in
           subst (IsTold number (codes "waiver" ++ (32 ∷ text))) (some_same made l here)
@@ -196,7 +198,8 @@ blank-told : (text rest : List ℕ) → blank_read text ≡ Some rest → text �
 blank-told [] rest e = cc
 blank-told (c ∷ text) rest e =
     elim (cases_Bool (c == 32)) [
-      | inl is ↦ (let here : Some text ≡ Some rest = rw is at e in let blank = eqb-true c 32 is in let same_rest = some_same text rest here in rw (blank, same_rest) refl)
+      | inl is ↦ (let here : Some text ≡ Some rest = rw is at e in let blank = eqb-true c 32 is in let same_rest = some_same text rest here in
+          rw (blank, same_rest) refl)
       | inr is ↦ (let never : None ≡ Some rest = rw is at e in cc)
     ]
 
@@ -220,7 +223,8 @@ told-told word text l e =
           let small : f.number < 2 ^ 64 = subst (λ k. k < 2 ^ 64) (sym told.number) number_told.0 in
           subst (λ k. IsLine k × (spelled k ≡ word ++ (58 ∷ 32 ∷ text))) whole (
             record { number = small; place = told.place },
-            ap (λ k. decimal k ++ (58 ∷ 32 ∷ spaced (place_words f.place (code_of f.rule)) (text_of f.rule))) told.number ∙ ap (λ t. decimal n ++ (58 ∷ 32 ∷ t)) (sym told.text) ∙ ap (λ w. w ++ (58 ∷ 32 ∷ text)) number_told.1,
+            ap (λ k. decimal k ++ (58 ∷ 32 ∷ spaced (place_words f.place (code_of f.rule)) (text_of f.rule))) told.number
+                ∙ ap (λ t. decimal n ++ (58 ∷ 32 ∷ t)) (sym told.text) ∙ ap (λ w. w ++ (58 ∷ 32 ∷ text)) number_told.1,
           ))))
     ]
 

@@ -37,7 +37,8 @@ no_name b s other e =
           | inl y ↦ (let never : false ≡ true = rw (other, n40, n60, y) at e in cc)
           | inr n123 ↦ elim (cases_Bool (b == 91)) [
             | inl y ↦ (let never : false ≡ true = rw (other, n40, n60, n123, y) at e in cc)
-            | inr n91 ↦ (let number : is_name_kind (number_or_word (number_of (b ∷ s))) ≡ true = rw (other, n40, n60, n123, n91) at e in no_number_name (number_of (b ∷ s)) number)
+            | inr n91 ↦ (let number : is_name_kind (number_or_word (number_of (b ∷ s))) ≡ true = rw (other, n40, n60, n123, n91) at e in
+                no_number_name (number_of (b ∷ s)) number)
           ]
         ]
       ]
@@ -67,7 +68,8 @@ first_named (b ∷ s) =
 pub wanted_named : (ended : Refusal) (s : List ℕ) → IfOk (wanted ended s) NamedFound
 unfolding wanted token_at
 wanted_named ended s =
-    elim (token_of s) as (λ r. IfOk r NamedIf → IfOk (elim r [ Err _ ↦ Err Unclosed | Ok found ↦ elim found [ None ↦ Err ended | Some t ↦ Ok t ] ]) NamedFound) [
+    elim (token_of s) as (λ r. IfOk r NamedIf
+    → IfOk (elim r [ Err _ ↦ Err Unclosed | Ok found ↦ elim found [ None ↦ Err ended | Some t ↦ Ok t ] ]) NamedFound) [
       | Err e ↦ λ _. tt
       | Ok found ↦ elim found as (λ found. NamedIf found → IfOk (elim found [ None ↦ Err ended | Some t ↦ Ok t ]) NamedFound) [
         | None ↦ λ _. tt

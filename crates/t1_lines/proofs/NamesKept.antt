@@ -11,10 +11,11 @@ use Rattle.t1_font.specs.Keys.{same_name}
 use Rattle.t1_font.specs.Readings.{◌>>=◌}
 use Rattle.t1_font.specs.Fonts.{Stated, Marks, FontValue, plain, encoding, code, bad_code, size, subr, glyph, value_of}
 use Rattle.t1_font.specs.Inner.Puts.{put, put_pair}
-use Rattle.t1_font.specs.TextTurns.{TextTurn, over, goes, TextRead, Reader, with_one, stated_within}
+use Rattle.t1_font.specs.TextTurns.{over, goes, TextRead, Reader, with_one, stated_within}
 use Rattle.t1_font.specs.ClearText.{clear_turn, begins_as_font, clear_of}
 use Rattle.t1_font.specs.PrivateText.{private_turn, private_of}
 use Rattle.t1_font.specs.Texts.{font_value_of}
+use Rattle.t1_font.proofs.Running.{follow}
 use Rattle.t1_font.proofs.Stating.{value_step}
 use Rattle.t1_font.proofs.Compose.{either}
 use Rattle.t1_report.specs.Lines.{glyph_name, name_in}
@@ -46,22 +47,19 @@ put_within v (size n) w h = w
 put_within v (subr n bytes) w h = w
 put_within v (glyph name bytes) w h = names_put v.glyphs name bytes h w
 
-abbrev follow : {M : Type 0} → (List Stated → M → List ℕ → Result TextRead Refusal) → List Stated → TextTurn M → Result TextRead Refusal
-follow after before t = elim t [
-  | over rest ↦ Ok (record { stated = before; rest = rest })
-  | goes e next left ↦ after (with_one before e) next left
-]
-
-module _ {M : Type 0} (turn : Reader M) (ended : Refusal) (marks : Marks) (fits : (v : FontValue) (mode : M) (s : List ℕ) → IfOk (turn v mode s) (Keeps v)) where
+module _ {M : Type 0} (turn : Reader M) (ended : Refusal) (marks : Marks) (fits : (v : FontValue) (mode : M) (s : List ℕ)
+    → IfOk (turn v mode s) (Keeps v)) where
   one_within : (before : List Stated) (e : Option Stated) → HasNames (value_of marks before) → FitsOne e → HasNames (value_of marks (with_one before e))
   one_within before None w h = w
   one_within before (Some e) w h = subst HasNames (sym (value_step marks before e)) (put_within (value_of marks before) e w h)
 
-  text_within : (n : ℕ) (before : List Stated) (mode : M) (s : List ℕ) → HasNames (value_of marks before) → IfOk (stated_within turn ended marks n before mode s) (Within marks)
+  text_within : (n : ℕ) (before : List Stated) (mode : M) (s : List ℕ) → HasNames (value_of marks before)
+      → IfOk (stated_within turn ended marks n before mode s) (Within marks)
   unfolding stated_within
   text_within zero before mode s w = tt
   text_within (suc n) before mode s w =
-      elim (turn (value_of marks before) mode s) as (λ r. IfOk r (Keeps (value_of marks before)) → IfOk (r >>= follow (stated_within turn ended marks n) before) (Within marks)) [
+      elim (turn (value_of marks before) mode s) as (λ r. IfOk r (Keeps (value_of marks before))
+      → IfOk (r >>= follow (stated_within turn ended marks n) before) (Within marks)) [
         | Err e ↦ λ _. tt
         | Ok t ↦ elim t as (λ t. Keeps (value_of marks before) t → IfOk (follow (stated_within turn ended marks n) before t) (Within marks)) [
           | over rest ↦ λ _. w

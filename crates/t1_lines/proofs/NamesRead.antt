@@ -18,7 +18,8 @@ key_among-more k i [] word less = absurd (omega arith)
 key_among-more k zero (text ∷ texts) word less = refl
 key_among-more k (suc i) (text ∷ texts) word less = key_among-more k i texts word (omega arith)
 
-pub key_here : (key : ℕ) (word : List ℕ) → key < 22 → key_among key (drop key key_texts) word ≡ key_of word → same_name (key_text_of key) word ≡ true → Some key ≡ key_of word
+pub key_here : (key : ℕ) (word : List ℕ) → key < 22 → key_among key (drop key key_texts) word ≡ key_of word → same_name (key_text_of key) word ≡ true
+    → Some key ≡ key_of word
 key_here key word less so_far here = sym (rw here at (key_among-more key key key_texts word less)) ∙ so_far
 
 pub key_later : (key : ℕ) (word : List ℕ) → key < 22 → key_among key (drop key key_texts) word ≡ key_of word → same_name (key_text_of key) word ≡ false
@@ -59,7 +60,8 @@ key-found (suc (suc (suc (suc (suc (suc (suc (suc (suc (suc (suc (suc (suc (suc 
 key-found (suc (suc (suc (suc (suc (suc (suc (suc (suc (suc (suc (suc (suc (suc (suc (suc (suc (suc (suc (suc (suc (suc k)))))))))))))))))))))) within = absurd (omega arith)
 
 -- What is read is spelled so.
-key_among-read : (k i : ℕ) (texts : List (List ℕ)) (word : List ℕ) → key_among k texts word ≡ Some i → (n : ℕ) × (i ≡ k + n) × (n < length texts) × (slice_index_or texts n [] ≡ word)
+key_among-read : (k i : ℕ) (texts : List (List ℕ)) (word : List ℕ) → key_among k texts word ≡ Some i
+    → (n : ℕ) × (i ≡ k + n) × (n < length texts) × (slice_index_or texts n [] ≡ word)
 key_among-read k i [] word e = cc
 key_among-read k i (text ∷ texts) word e =
     elim (cases_Bool (same_name text word)) [
@@ -103,11 +105,13 @@ unfolding refusal_of
 refusal-found E01 = refl
 refusal-found _ = refl
 
-refusal_among-read : (codes_left : List RefusalCode) (text : List ℕ) (code : RefusalCode) → refusal_among codes_left text ≡ Some code → refusal_text_of code ≡ text
+refusal_among-read : (codes_left : List RefusalCode) (text : List ℕ) (code : RefusalCode) → refusal_among codes_left text ≡ Some code
+    → refusal_text_of code ≡ text
 refusal_among-read [] text code e = cc
 refusal_among-read (c ∷ others) text code e =
     elim (cases_Bool (same_name (refusal_text_of c) text)) [
-      | inl is ↦ (let here : Some c ≡ Some code = rw is at e in let it : c ≡ code = cc in subst (λ x. refusal_text_of x ≡ text) it (same-true (refusal_text_of c) text is))
+      | inl is ↦ (let here : Some c ≡ Some code = rw is at e in let it : c ≡ code = cc in
+          subst (λ x. refusal_text_of x ≡ text) it (same-true (refusal_text_of c) text is))
       | inr is ↦ (let there : refusal_among others text ≡ Some code = rw is at e in refusal_among-read others text code there)
     ]
 

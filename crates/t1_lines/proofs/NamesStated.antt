@@ -103,7 +103,8 @@ module _ (v : FontValue) where
         | inr n ↦ rw n (next (Keeps v) (charstring_at BadCharStrings s) (λ bytes. Ok (goes (Some (glyph name bytes.0)) Glyphs bytes.1)) (λ bytes. named))
       ]
 
-  glyphs_token_fits : (kind : Kind) (text s : List ℕ) → (is_name_kind kind ≡ true → IsTrue (list_all is_regular (drop 1 text))) → IfOk (glyphs_token v kind text s) (Keeps v)
+  glyphs_token_fits : (kind : Kind) (text s : List ℕ) → (is_name_kind kind ≡ true → IsTrue (list_all is_regular (drop 1 text)))
+      → IfOk (glyphs_token v kind text s) (Keeps v)
   unfolding glyphs_token
   glyphs_token_fits kind text s named =
       either (Keeps v) (spells (codes "end") kind text) (Ok (over s)) _ tt

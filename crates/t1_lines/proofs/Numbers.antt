@@ -37,7 +37,8 @@ number-read bits text n e =
     let v = digits_value 10 text in
     elim (cases_Bool (nat_lt v (2 ^ bits))) [
       | inl lt ↦ elim (cases_Bool (same_name (decimal v) text)) [
-        | inl eq ↦ (let got : Some v ≡ Some n = rw (lt, eq) at e in let is : v ≡ n = cc in let small : v < 2 ^ bits = grind (arith, nat_tests) in subst (λ k. (k < 2 ^ bits) × (decimal k ≡ text)) is (small, same-true (decimal v) text eq))
+        | inl eq ↦ (let got : Some v ≡ Some n = rw (lt, eq) at e in let is : v ≡ n = cc in let small : v < 2 ^ bits = grind (arith, nat_tests) in
+            subst (λ k. (k < 2 ^ bits) × (decimal k ≡ text)) is (small, same-true (decimal v) text eq))
         | inr eq ↦ (let got : None ≡ Some n = rw (lt, eq) at e in cc)
       ]
       | inr lt ↦ (let got : None ≡ Some n = rw lt at e in cc)
@@ -52,7 +53,8 @@ number-none bits text never =
     ] refl
 
 pub number-empty : (text : List ℕ) → length text ≡ 0 → number_of 64 text ≡ None
-number-empty text none = number-none 64 text (λ n small e. let some = decimal_nonempty n small in let same : length (decimal n) ≡ length text = ap length e in omega arith)
+number-empty text none = number-none 64 text (λ n small e. let some = decimal_nonempty n small in let same : length (decimal n) ≡ length text = ap length e in
+    omega arith)
 
 pub number-plus : (text : List ℕ) → get_or text 0 0 ≡ 43 → number_of 64 text ≡ None
 number-plus text plus = number-none 64 text (λ n small e.
@@ -65,7 +67,8 @@ pub number-zero : (text : List ℕ) → get_or text 0 0 ≡ 48 → length text �
 number-zero text first longer = number-none 64 text (λ n small e.
     let there : get_or (decimal n) 0 0 ≡ 48 = ap (λ t. get_or t 0 0) e ∙ first in
     elim (cases_Bool (n == 0)) [
-      | inl is ↦ (let zero_is : n ≡ 0 = grind (arith, nat_tests) in let one : length (decimal n) ≡ 1 = ap (λ k. length (decimal k)) zero_is ∙ ap length (decimal_digit 0 (omega arith)) in longer (sym (ap length e) ∙ one))
+      | inl is ↦ (let zero_is : n ≡ 0 = grind (arith, nat_tests) in let one : length (decimal n) ≡ 1 = ap (λ k. length (decimal k)) zero_is
+          ∙ ap length (decimal_digit 0 (omega arith)) in longer (sym (ap length e) ∙ one))
       | inr is ↦ (let more : 0 < n = grind (arith, nat_tests) in let up = first_decimal n more small in omega arith)
     ])
 
@@ -77,7 +80,8 @@ abbrev pub if_ok : {E : Type 0} → Result ℕ E → Option ℕ
 if_ok (Ok n) = Some n
 if_ok (Err e) = None
 
-pub number-parsed : {E : Type 0} (text : List ℕ) (r : Result ℕ E) → ParsesUnsigned 64 10 text r → get_or text 0 0 ≢ 43 → (get_or text 0 0 ≡ 48 → length text ≡ 1) → if_ok r ≡ number_of 64 text
+pub number-parsed : {E : Type 0} (text : List ℕ) (r : Result ℕ E) → ParsesUnsigned 64 10 text r → get_or text 0 0 ≢ 43
+    → (get_or text 0 0 ≡ 48 → length text ≡ 1) → if_ok r ≡ number_of 64 text
 number-parsed {E} text (Ok n) parses plain one =
     let told = parse_plain own {E = E} 64 text (Ok n) parses plain in
     let spelled : decimal (digits_value 10 text) ≡ text = decimal-digits_value own text told.0.0 told.0.1 one told.0.2 in
@@ -98,7 +102,8 @@ begins_otherwise (c ∷ []) e = let plus : c ≡ 43 = grind (arith, nat_tests) i
 begins_otherwise (c ∷ d ∷ text) e =
     elim (cases_Bool (c == 43)) [
       | inl is ↦ (let plus : c ≡ 43 = grind (arith, nat_tests) in number-plus (c ∷ d ∷ text) plus)
-      | inr is ↦ (let other : not (c == 48) ≡ false = rw is at e in let nought : c ≡ 48 = grind (arith, nat_tests) in number-zero (c ∷ d ∷ text) nought (λ one. omega (arith, one)))
+      | inr is ↦ (let other : not (c == 48) ≡ false = rw is at e in let nought : c ≡ 48 = grind (arith, nat_tests) in
+          number-zero (c ∷ d ∷ text) nought (λ one. omega (arith, one)))
     ]
 
 pub not_plus : (text : List ℕ) → begins_plainly text ≡ true → get_or text 0 0 ≢ 43
@@ -119,7 +124,8 @@ one_zero (c ∷ d ∷ text) e nought =
 pub number-here : {E : Type 0} (text : List ℕ) (r : Result ℕ E) → begins_plainly text ≡ true → ParsesUnsigned 64 10 text r → if_ok r ≡ number_of 64 text
 number-here text r plain parses = number-parsed text r parses (not_plus text plain) (one_zero text plain)
 
-pub number-ok : (text digits : List ℕ) (n : ℕ) → digits ≡ text → begins_plainly text ≡ true → ParsesUnsigned {E = ℕ} 64 10 digits (Ok n) → Some n ≡ number_of 64 text
+pub number-ok : (text digits : List ℕ) (n : ℕ) → digits ≡ text → begins_plainly text ≡ true → ParsesUnsigned {E = ℕ} 64 10 digits (Ok n)
+    → Some n ≡ number_of 64 text
 number-ok text digits n same plain parses = number-here {E = ℕ} text (Ok n) plain (subst (λ t. ParsesUnsigned {E = ℕ} 64 10 t (Ok n)) same parses)
 
 pub number-err : (text digits : List ℕ) → digits ≡ text → begins_plainly text ≡ true → ParsesUnsigned {E = ℕ} 64 10 digits (Err 0) → None ≡ number_of 64 text

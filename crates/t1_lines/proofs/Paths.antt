@@ -19,16 +19,19 @@ behind-more items n (Some ns) = ap Some (assoc items n ns)
     assoc (x ∷ items) n ns = ap (λ t. x ∷ t) (assoc items n ns)
 
 -- One turn of the loop.
-pub read-last : (most : ℕ) (text : List ℕ) (o : Option ℕ) → cut 62 text ≡ None → number_of 32 text ≡ o → numbers_read (suc most) text ≡ option_map (λ n. n ∷ []) o
+pub read-last : (most : ℕ) (text : List ℕ) (o : Option ℕ) → cut 62 text ≡ None → number_of 32 text ≡ o
+    → numbers_read (suc most) text ≡ option_map (λ n. n ∷ []) o
 read-last most text o whole is = rw (whole, is) refl
 
-pub read-more : (most n : ℕ) (text front more : List ℕ) → cut 62 text ≡ Some (front, more) → number_of 32 front ≡ Some n → numbers_read (suc most) text ≡ option_map (λ ns. n ∷ ns) (numbers_read most more)
+pub read-more : (most n : ℕ) (text front more : List ℕ) → cut 62 text ≡ Some (front, more) → number_of 32 front ≡ Some n
+    → numbers_read (suc most) text ≡ option_map (λ ns. n ∷ ns) (numbers_read most more)
 read-more most n text front more parts is = rw (parts, is) refl
 
 pub read-bad : (most : ℕ) (text front more : List ℕ) → cut 62 text ≡ Some (front, more) → number_of 32 front ≡ None → numbers_read (suc most) text ≡ None
 read-bad most text front more parts is = rw (parts, is) refl
 
-pub turn_more : (items : List ℕ) (turn n : ℕ) (rest front more : List ℕ) (all : Option (List ℕ)) → turn < 10 → cut 62 rest ≡ Some (front, more) → number_of 32 front ≡ Some n
+pub turn_more : (items : List ℕ) (turn n : ℕ) (rest front more : List ℕ) (all : Option (List ℕ)) → turn < 10 → cut 62 rest ≡ Some (front, more)
+    → number_of 32 front ≡ Some n
     → behind items (numbers_read (10 - turn) rest) ≡ all → behind (items ++ (n ∷ [])) (numbers_read (10 - (turn + 1)) more) ≡ all
 turn_more items turn n rest front more all within parts is before =
     let fuel : 10 - turn ≡ suc (10 - (turn + 1)) = omega arith in

@@ -21,7 +21,8 @@ IsReadBack line read = (font : FontValue) (waivers : List Waiver) (fault : Fault
 abbrev pub IsWritten : Type 0
 IsWritten = (font : FontValue) (waivers : List Waiver) (fault : FaultValue) → HasNames font → HaveNames waivers →
     IsInFont font waivers fault → IsSmall fault →
-    IsFaultLine (line_in font waivers fault) × (line_of font waivers fault ≡ fault_spelled (line_in font waivers fault) ++ codes "\n")
+    IsFaultLine (line_in font waivers fault)
+    × (line_of font waivers fault ≡ fault_spelled (line_in font waivers fault) ++ codes "\n")
 
 -- No text is that of two lines.
 abbrev pub IsOne : Type 0

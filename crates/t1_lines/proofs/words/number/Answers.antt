@@ -6,10 +6,12 @@ pub returns-then-not-begins_plainly : goal.returns-then-not-begins_plainly
 returns-then-not-begins_plainly c = sym (begins_otherwise c.args.text.now (sym c.begins_plainly.ensures ∙ c.if-not-begins_plainly.true))
 
 pub returns-in-Ok-parse : goal.returns-in-Ok-parse
-returns-in-Ok-parse c = number-ok c.args.text.now c.in-Ok.digits.now c.in-Ok-parse.number c.in-Ok.ensures.cases.0 (sym c.begins_plainly.ensures ∙ c.if-not-begins_plainly.false) c.in-Ok-parse.ensures.value.0
+returns-in-Ok-parse c = number-ok c.args.text.now c.in-Ok.digits.now c.in-Ok-parse.number c.in-Ok.ensures.cases.0 (sym c.begins_plainly.ensures
+    ∙ c.if-not-begins_plainly.false) c.in-Ok-parse.ensures.value.0
 
 pub returns-in-Err-parse : goal.returns-in-Err-parse
-returns-in-Err-parse c = number-err c.args.text.now c.in-Ok.digits.now c.in-Ok.ensures.cases.0 (sym c.begins_plainly.ensures ∙ c.if-not-begins_plainly.false) c.in-Err-parse.ensures.value.0
+returns-in-Err-parse c = number-err c.args.text.now c.in-Ok.digits.now c.in-Ok.ensures.cases.0 (sym c.begins_plainly.ensures
+    ∙ c.if-not-begins_plainly.false) c.in-Err-parse.ensures.value.0
 
 pub returns-in-Err : goal.returns-in-Err
 returns-in-Err c = sym (number-utf8 c.args.text.now c.in-Err.ensures.cases.0)
