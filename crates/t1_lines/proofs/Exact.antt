@@ -15,7 +15,7 @@ use Rattle.t1_lines.specs.Lines.{FaultLineValue, LineValue, of_fault, place_in, 
 use Rattle.t1_lines.specs.Names.{HasNames, HaveNames}
 use Rattle.t1_lines.proofs.NamesKept.{glyph_named}
 use Rattle.t1_lines.specs.Readings.{IsReading, IsReadBack, IsWritten, IsOne}
-use Rattle.t1_lines.specs.Workings.{line_read}
+use Rattle.t1_lines.specs.Private.Reading.{line_read}
 use Rattle.t1_lines.proofs.Cuts.{some_same}
 use Rattle.t1_lines.proofs.LinesRead.{line-spelled}
 use Rattle.t1_lines.proofs.LinesTold.{line-told}

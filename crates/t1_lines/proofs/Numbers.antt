@@ -8,7 +8,7 @@ use Rattle.std.proofs.lemmas.Str.Parse.{IsNumeralModel, numerals_by_value, tells
 use Rattle.std.proofs.lemmas.Str.{IsUtf8-from_ascii}
 use Rattle.std.proofs.lemmas.Fmt.{decimal-digits_value, decimal_is_IsNumeral, decimal_digit, decimal_nonempty, first_decimal, IsAscii-decimal}
 use Rattle.std.proofs.Math.Pow.{pow_mono}
-use Rattle.t1_lines.specs.Workings.{begins_plainly, number_of}
+use Rattle.t1_lines.specs.Private.Reading.{begins_plainly, number_of}
 use Rattle.t1_font.specs.Keys.{same_name}
 
 own : IsNumeralModel (AllDigits 10) (digits_value 10)

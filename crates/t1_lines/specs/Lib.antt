@@ -1,5 +1,5 @@
 pub mod Lines
 pub mod Names
+pub mod Private
 pub mod Readings
 pub mod RefusalTexts
-pub mod Workings

@@ -24,8 +24,6 @@ mod line;
 mod names;
 mod reading;
 mod refusal;
-#[cfg(test)]
-mod tests;
 mod words;
 
 pub use laws::{

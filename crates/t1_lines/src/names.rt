@@ -3,7 +3,7 @@
 ghost use Rattle.std.specs.Prelude.{◌≡◌};
 ghost use Rattle.std.specs.List.{list_all};
 ghost use Rattle.t1_scan.specs.Bytes.{is_regular};
-ghost use Rattle.t1_lines.specs.Workings.{key_of, rule_read};
+ghost use Rattle.t1_lines.specs.Private.Reading.{key_of, rule_read};
 
 use crate::words::cut;
 use t1_rules::{Rule, key_text, rule_text};
@@ -25,7 +25,7 @@ pub fn key(word: &[u8]) -> Option<u8>
 }
 
 /// The rule of `RULE TEXT`, where the text is the rule's.
-#[tactic(auto, unfolding(crate::specs::Workings::rule_read))]
+#[tactic(auto, unfolding(crate::specs::Private::Reading::rule_read))]
 pub fn rule_with_text(line: &[u8]) -> Option<Rule>
     ensures { result ≡ rule_read line.now }
 {

@@ -3,7 +3,7 @@
 ghost use Rattle.std.specs.Prelude.{◌≡◌, option_map};
 ghost use Rattle.t1_lines.specs.Lines.{fault_line_value, line_value};
 ghost use Rattle.t1_lines.specs.Readings.{IsReadBack, IsReading};
-ghost use Rattle.t1_lines.specs.Workings.{font_line, glyph_line, line_read, numbers_read, path_read, place_line, told_line, waiver_line};
+ghost use Rattle.t1_lines.specs.Private.Reading.{font_line, glyph_line, line_read, numbers_read, path_read, place_line, told_line, waiver_line};
 
 use crate::line::{DEEPEST, FaultLine, Line, Path, Place};
 use crate::names::{is_name, key, rule_with_text};
@@ -30,7 +30,7 @@ fn numbers(word: &[u8]) -> Option<Path>
 }
 
 /// The Subrs that are being executed: `5>6`, or `-` where there is none.
-#[tactic(auto, unfolding(crate::specs::Workings::path_read))]
+#[tactic(auto, unfolding(crate::specs::Private::Reading::path_read))]
 fn path(word: &[u8]) -> Option<Path>
     ensures { option_map (λ p. p.items) result ≡ path_read word.now }
 {
@@ -41,7 +41,7 @@ fn path(word: &[u8]) -> Option<Path>
 }
 
 /// `KEY INDEX RULE TEXT`, behind `NUMBER: font `.
-#[tactic(auto, unfolding(crate::specs::Workings::font_line))]
+#[tactic(auto, unfolding(crate::specs::Private::Reading::font_line))]
 fn font_line<'a>(line_number: u64, text: &'a [u8]) -> Option<FaultLine<'a>>
     ensures { option_map fault_line_value result ≡ font_line line_number text.now }
 {
@@ -58,7 +58,7 @@ fn font_line<'a>(line_number: u64, text: &'a [u8]) -> Option<FaultLine<'a>>
 }
 
 /// `NAME PATH STEP RULE TEXT`, behind `NUMBER: glyph `.
-#[tactic(auto, unfolding(crate::specs::Workings::glyph_line))]
+#[tactic(auto, unfolding(crate::specs::Private::Reading::glyph_line))]
 fn glyph_line<'a>(line_number: u64, text: &'a [u8]) -> Option<FaultLine<'a>>
     ensures { option_map fault_line_value result ≡ glyph_line line_number text.now }
 {
@@ -79,7 +79,7 @@ fn glyph_line<'a>(line_number: u64, text: &'a [u8]) -> Option<FaultLine<'a>>
 }
 
 /// `NAME RULE U01 TEXT`, behind `NUMBER: waiver `.
-#[tactic(auto, unfolding(crate::specs::Workings::waiver_line))]
+#[tactic(auto, unfolding(crate::specs::Private::Reading::waiver_line))]
 fn waiver_line<'a>(line_number: u64, text: &'a [u8]) -> Option<FaultLine<'a>>
     ensures { option_map fault_line_value result ≡ waiver_line line_number text.now }
 {
@@ -102,7 +102,7 @@ fn waiver_line<'a>(line_number: u64, text: &'a [u8]) -> Option<FaultLine<'a>>
 }
 
 /// `PLACE RULE TEXT`, behind `NUMBER: `.
-#[tactic(auto, unfolding(crate::specs::Workings::place_line))]
+#[tactic(auto, unfolding(crate::specs::Private::Reading::place_line))]
 fn place_line<'a>(line_number: u64, text: &'a [u8]) -> Option<FaultLine<'a>>
     ensures { option_map fault_line_value result ≡ place_line line_number text.now }
 {
@@ -119,7 +119,7 @@ fn place_line<'a>(line_number: u64, text: &'a [u8]) -> Option<FaultLine<'a>>
 }
 
 /// What stands behind `NUMBER: ` or `refused: `.
-#[tactic(auto, unfolding(crate::specs::Workings::told_line))]
+#[tactic(auto, unfolding(crate::specs::Private::Reading::told_line))]
 fn told_line<'a>(word: &[u8], text: &'a [u8]) -> Option<Line<'a>>
     ensures { option_map line_value result ≡ told_line word.now text.now }
 {
@@ -133,7 +133,7 @@ fn told_line<'a>(word: &[u8], text: &'a [u8]) -> Option<Line<'a>>
 }
 
 /// `NUMBER: PLACE RULE TEXT` or `refused: CODE TEXT`.
-#[tactic(auto, unfolding(crate::specs::Workings::line_read))]
+#[tactic(auto, unfolding(crate::specs::Private::Reading::line_read))]
 fn whole_line(line: &[u8]) -> Option<Line<'_>>
     ensures { option_map line_value result ≡ line_read line.now }
 {

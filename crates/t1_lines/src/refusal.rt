@@ -2,7 +2,7 @@
 
 ghost use Rattle.std.specs.Prelude.{◌≡◌};
 ghost use Rattle.t1_lines.specs.RefusalTexts.{refusal_text_of, refusals};
-ghost use Rattle.t1_lines.specs.Workings.{refusal_of};
+ghost use Rattle.t1_lines.specs.Private.Reading.{refusal_of};
 
 /// Why there is no report, by its number.
 #[derive(Clone, Copy, Debug, PartialEq, Eq)]

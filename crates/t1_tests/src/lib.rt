@@ -14,6 +14,7 @@
 //! | `charstrings` | t1_char |
 //! | `rules` | t1_rules, on fonts |
 //! | `report` | t1_report, and t1_rules on charstrings: each rule wants a whole glyph |
+//! | `lines` | t1_lines |
 //!
 //! They stand above the libraries since a crate with tests is proved twice, with them and without.
 #![tactic(auto)]
@@ -26,6 +27,8 @@ mod font;
 mod fonts;
 #[cfg(test)]
 mod io;
+#[cfg(test)]
+mod lines;
 #[cfg(test)]
 mod report;
 #[cfg(test)]

@@ -1,6 +1,6 @@
 use Rattle.std.proofs.Common.{◌≡◌, drop}
 use Rattle.t1_rules.specs.Keys.{key_texts}
-use Rattle.t1_lines.specs.Workings.{key_among, key_of}
+use Rattle.t1_lines.specs.Private.Reading.{key_among, key_of}
 use Rattle.t1_lines.proofs.names.key.Given as goal
 
 abbrev pub invariant-loop-key : goal.invariant-loop-key

@@ -1,5 +1,5 @@
 use Rattle.std.proofs.Common.{◌≡◌, ◌-◌, length}
-use Rattle.t1_lines.specs.Workings.{numbers_read}
+use Rattle.t1_lines.specs.Private.Reading.{numbers_read}
 use Rattle.t1_lines.proofs.Paths.{behind}
 use Rattle.t1_lines.proofs.reading.numbers.Given as goal
 

@@ -1,6 +1,6 @@
 //! Lines by hand, and texts that are none.
 
-use crate::{FaultLine, Line, Path, Place, RefusalCode, read, refusal_text};
+use t1_lines::{FaultLine, Line, Path, Place, RefusalCode, read, refusal_text};
 use t1_rules::Rule;
 
 /// Subrs that are being executed.
