@@ -5,7 +5,8 @@
 #   the same lines for a further one. The example's lines are those that the case wants. Where the example is of charstrings, the
 #   tokens that are written out are those that the program traces in the case's font: `A: ..` and `Subr 5: ..`. A line
 #   `X … (seven times) Y` stands for seven X and one Y.
-# - Each rule and each refusal has its text in the table of its kind, and each rule in its heading too.
+# - Each rule and each refusal has its text in the table of its kind, and each rule in its heading too; t1_lines reads the same texts of
+#   refusals.
 # - Each word of the definitions that a clause of a public function cites stands, between backquotes, in the first column of a row of
 #   docs/DEFINITIONS.md, or beside the rule in a row that begins with a rule's code. Left out is what that page leaves out: words of laws and
 #   of private functions, and types that the code declares. Public are all functions of the program, and of a library those of the modules
@@ -160,10 +161,12 @@ while read -r code text; do
 done <"$scratch/book"
 sed -n 's/^.*"refused: \(E[0-9]*\) \(.*\)\\n",$/\1 \2/p' "$top/crates/t1check/src/refusals.rt" >"$scratch/refusals"
 while read -r code text; do
-    if grep -qF "| $code | $text |" "$rules"; then
-        pass
-    else
+    if ! grep -qF "| $code | $text |" "$rules"; then
         fail "docs/RULES.md: no row of the table says $code $text"
+    elif ! grep -qF "\"$code $text\"" "$top/crates/t1_lines/src/refusal.rt"; then
+        fail "crates/t1_lines/src/refusal.rt: no refusal has the text $code $text"
+    else
+        pass
     fi
 done <"$scratch/refusals"
 [ "$(wc -l <"$scratch/book")" -eq 70 ] || fail "the book's rows aren't read: $(wc -l <"$scratch/book")"

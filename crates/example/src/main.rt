@@ -66,7 +66,10 @@ fn main(rt: HostRuntime) -> Result<(), Failure> {
     let shown = show_next(&rt, &font, mark);
     font.let_go();
     if let Some(mark) = shown? {
-        let text = format!(in rt.alloc(); "{} {} {} {}\n", mark.number, mark.unit, mark.step, mark.rule)?;
+        let text = format!(in rt.alloc();
+            "{} {} {} {}\n",
+            mark.number, mark.unit, mark.step, mark.rule
+        )?;
         fs::write(&rt, kept.as_str(), text.as_str())?;
     }
     Ok(())

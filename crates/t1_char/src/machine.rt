@@ -86,8 +86,13 @@ impl<'a> Model for Machine<'a> {
 
     ghost Value = { MachineView };
 
-    ghost view = { λ m. record { font = m.font.now; glyph = m.glyph; edition = m.edition; counted = m.counted;
-        step = step_value m.frames.step } };
+    ghost view = { λ m. record {
+      font = m.font.now;
+      glyph = m.glyph;
+      edition = m.edition;
+      counted = m.counted;
+      step = step_value m.frames.step;
+    } };
 
     ghost invariant = { λ m. IsAt (limit_of m.edition) (steps_of m.font.now m.glyph) m.font.now m.counted m.answer m.frames
         × (m.limit ≡ limit_of m.edition) };

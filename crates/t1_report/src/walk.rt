@@ -45,9 +45,14 @@ impl<'a> Model for Walk<'a> {
 
     ghost Value = { WalkView };
 
-    ghost view = { λ w. record { font = checked_in w.course.search; waivers = w.course.search.waivers.now;
-        from = w.course.search.from; first = w.course.search.first; mark = w.course.mark;
-        turns = turns_so_far w.course.search } };
+    ghost view = { λ w. record {
+      font = checked_in w.course.search;
+      waivers = w.course.search.waivers.now;
+      from = w.course.search.from;
+      first = w.course.search.first;
+      mark = w.course.mark;
+      turns = turns_so_far w.course.search;
+    } };
 
     ghost invariant = { λ w. IsCourse w.course };
 }

@@ -143,9 +143,9 @@ impl StemWatcher {
         requires token { step.now.token ≡ token }
         ensures { result ≡ (
             (is_command lies_across step.now.token
-                && stems_meet (overlap_by self.now.edition) (stems_of (step_view step.now)) self.now.across.items)
+            && stems_meet (overlap_by self.now.edition) (stems_of (step_view step.now)) self.now.across.items)
             || (is_command stands_upright step.now.token
-                && stems_meet (overlap_by self.now.edition) (stems_of (step_view step.now)) self.now.upright.items)) }
+            && stems_meet (overlap_by self.now.edition) (stems_of (step_view step.now)) self.now.upright.items)) }
     {
         if lies_across(token) {
             own_stems_meet(self.edition, token, step, self.across.as_slice())
