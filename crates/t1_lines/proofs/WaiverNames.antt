@@ -1,9 +1,9 @@
 -- The names of waivers that were read are regular bytes, since each line's is.
-use Rattle.std.proofs.Common.{◌≡◌, ◌==◌, ◌&&◌, ℕ, true, false, cond, Option, Some, None, List, [], ◌∷◌, ◌++◌, drop, take, inl, inr, subst, IsTrue, option_map}
+use Rattle.std.proofs.Common.{◌≡◌, ◌==◌, ℕ, true, false, cond, Option, Some, None, List, [], ◌∷◌, ◌++◌, drop, take, inl, inr, subst, IsTrue}
 use Rattle.std.proofs.lemmas.Bool.{cases_Bool}
 use Rattle.std.proofs.lemmas.List.Elements.{All-nil, All-cons, All-head, All-tail}
 use Rattle.std.proofs.lemmas.Option.{option_and_then_some}
-use Rattle.std.specs.List.{All, list_all, prefix_len}
+use Rattle.std.specs.List.{list_all, prefix_len}
 use Rattle.t1_scan.specs.Bytes.{is_regular}
 use Rattle.t1_scan.proofs.Prefixes.{prefix_all}
 use Rattle.t1_rules.specs.declared.rule.Rule.{Rule}
