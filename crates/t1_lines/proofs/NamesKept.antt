@@ -10,7 +10,7 @@ use Rattle.t1_font.specs.declared.refusal.Refusal.TheVariants.{BadCharStrings, N
 use Rattle.t1_font.specs.Keys.{same_name}
 use Rattle.t1_font.specs.Readings.{◌>>=◌}
 use Rattle.t1_font.specs.Fonts.{Stated, Marks, FontValue, plain, encoding, code, bad_code, size, subr, glyph, value_of}
-use Rattle.t1_font.specs.Inner.Puts.{put, put_pair}
+use Rattle.t1_font.specs.Puts.{put, put_pair}
 use Rattle.t1_font.specs.TextTurns.{over, goes, TextRead, Reader, with_one, stated_within}
 use Rattle.t1_font.specs.ClearText.{clear_turn, begins_as_font, clear_of}
 use Rattle.t1_font.specs.PrivateText.{private_turn, private_of}
