@@ -44,10 +44,11 @@ fn show_next(rt: &HostRuntime, font: &Font<'_>, mark: Mark) -> Result<Option<Mar
     let waivers = Waivers::none();
     let sidebearings = Sidebearings::prepare(rt.alloc(), font, Edition::One)?;
     let mut walk = Walk::resume(font, &sidebearings, &waivers, mark);
-    let Some(fault) = walk.next() else {
-        return Ok(None);
-    };
-    write_fault(&mut Out::new(rt.stdout()), font, &waivers, &fault)?;
+    let fault = walk.next();
+    match fault {
+        Some(fault) => write_fault(&mut Out::new(rt.stdout()), font, &waivers, &fault)?,
+        None => return Ok(None),
+    }
     Ok(Some(walk.mark()))
 }
 
