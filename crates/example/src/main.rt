@@ -1,5 +1,5 @@
-//! Shows the next fault of a font: `example FONT MARK`, and one fault more each time. The file MARK keeps the mark of the fault that was shown
-//! last, four numbers; where it isn't there, the first fault is shown.
+//! Shows the next fault of a font: `example FONT MARK`, and one fault more each time it runs. The file MARK keeps the mark of
+//! the fault that was shown last, four numbers; where it isn't there, the first fault is shown.
 //!
 //! Its line in crates.txt: `example: t1_io t1_char t1_font t1_rules t1_report thiserror`
 #![tactic(auto)]
