@@ -1,4 +1,4 @@
-# Completions of t1check, t1check-all and t1explain for fish.
+# Completions of t1check, t1check-all, t1explain and t1format for fish.
 
 # What t1explain lists; it stands beside a tool that is named by its path.
 function __t1check_codes
@@ -37,8 +37,15 @@ complete -c t1check-all -l force -d 'Overwrite waivers'
 complete -c t1check-all -l baseline -r -F -d 'Tell only what goes beyond known faults'
 complete -c t1check-all -l update-baseline -d 'Make what is found the known faults'
 complete -c t1check-all -l shard -x -d 'Check part I of N of the list'
+complete -c t1check-all -l format -x -a 'jsonl sarif github' -d 'Write lines in a form for other programs'
+complete -c t1check-all -l docs -x -d 'Name the page of each rule below this URL'
 complete -c t1check-all -s h -l help -d 'Print help'
 complete -c t1check-all -l version -d 'Print the commit'
 
 complete -c t1explain -f -a '(__t1check_codes)'
 complete -c t1explain -s h -l help -d 'Print help'
+
+complete -c t1format -f -a 'jsonl sarif github'
+complete -c t1format -l font -x -a '(__t1check_fonts)' -d 'The font of lines without a name'
+complete -c t1format -l docs -x -d 'Name the page of each rule below this URL'
+complete -c t1format -s h -l help -d 'Print help'
