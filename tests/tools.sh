@@ -10,11 +10,14 @@ top=$(CDPATH='' cd -- "$(dirname "$0")/.." && pwd -P) || exit 1
 fonts=$top/tests/program/fonts
 all=$top/bin/t1check-all
 explain=$top/bin/t1explain
-if ! "$top/bin/t1check" --help >/dev/null; then
-    echo "failed: bin/t1check --help, which builds the program"
-    echo "0 passed, 1 failed"
-    exit 1
-fi
+format=$top/bin/t1format
+for tool in t1check t1format; do
+    if ! "$top/bin/$tool" --help >/dev/null; then
+        echo "failed: bin/$tool --help, which builds the program"
+        echo "0 passed, 1 failed"
+        exit 1
+    fi
+done
 scratch=$(mktemp -d) || exit 1
 trap 'rm -rf "$scratch"' EXIT
 trap 'exit 1' HUP INT TERM
@@ -340,6 +343,407 @@ usage '--update-baseline and --shard exclude one another' --update-baseline --ba
 usage '--write-waivers excludes --baseline and --shard' --write-waivers --shard 1/2 glyphs.pfb
 usage '--force wants --write-waivers' --force glyphs.pfb
 
+usage '--format wants jsonl, sarif or github' --format json glyphs.pfb
+usage '--format wants jsonl, sarif or github' --format= glyphs.pfb
+usage '--format wants a value' glyphs.pfb --format
+usage '--docs wants a URL' --format sarif --docs= glyphs.pfb
+usage '--docs wants a URL' --docs --format sarif glyphs.pfb
+usage '--docs wants --format' --docs https://example.org/RULES.md glyphs.pfb
+
+# Lines in forms for other programs. A name has what each form writes in another way: a backslash, bytes below 32, letters beyond
+# ASCII, a byte that makes it no UTF-8, and what parts the properties of a command.
+rm -f edge.pfb
+named=$scratch/named
+mkdir "$named"
+cp "$fonts/F01.pfb" "$named/100%, a:b.pfb"
+cp "$fonts/F01.pfb" "$named/$(printf 'e\303\251\033.pfb')"
+cp "$fonts/F01.pfb" "$named/$(printf 'e\303\251\377.pfb')"
+cp "$fonts/F01.pfb" "$named/$(printf 'return\r.pfb')"
+cd "$odd" || exit 1
+wanted <<'END'
+{"code":"H02","file":"-dash/-x.pfb","name":"A","number":1,"path":[],"step":9,"text":"stems overlap","unit":"glyph"}
+{"code":"K02","file":"a=b.t1","name":"C","number":1,"path":[],"step":9,"text":"seac code not in StandardEncoding","unit":"glyph"}
+{"code":"F01","file":"back\\\\slash.pfb","index":0,"key":"file","number":1,"text":"no end segment","unit":"font"}
+{"code":"F01","file":"b\\xFFd.pfb","index":0,"key":"file","number":1,"text":"no end segment","unit":"font"}
+{"code":"E03","file":"cut.pfa","text":"segment cut short","unit":"refused"}
+{"code":"H02","file":"q'\"uote.PFB","name":"A","number":1,"path":[],"step":9,"text":"stems overlap","unit":"glyph"}
+{"code":"Z05","file":"sub folder/deep/two words.pfb","index":4,"key":"BlueValues","number":1,"text":"zones too near","unit":"font"}
+{"file":"missing.pfb","text":"read failed","unit":"unchecked"}
+--
+missing.pfb: t1check: read failed
+8 fonts: 0 clean, 6 with faults, 1 refused, 1 not checked
+      2 F01
+      2 H02
+      1 K02
+      1 Z05
+END
+try 'a folder as jsonl' 3 "$all" --format jsonl . missing.pfb
+cp "$scratch/out" "$scratch/odd.jsonl"
+wanted <<END
+::warning file=-dash/-x.pfb,line=1,title=H02 stems overlap::1: glyph A - 9 H02 stems overlap
+::warning file=a=b.t1,line=1,title=K02 seac code not in StandardEncoding::1: glyph C - 9 K02 seac code not in StandardEncoding
+::warning file=back\\slash.pfb,line=1,title=F01 no end segment::1: font file 0 F01 no end segment
+::warning file=$byte.pfb,line=1,title=F01 no end segment::1: font file 0 F01 no end segment
+::error file=cut.pfa,line=1,title=E03 segment cut short::refused: E03 segment cut short
+::warning file=q'"uote.PFB,line=1,title=H02 stems overlap::1: glyph A - 9 H02 stems overlap
+::warning file=sub folder/deep/two words.pfb,line=1,title=Z05 zones too near::1: font BlueValues 4 Z05 zones too near
+::error file=missing.pfb,line=1,title=not checked::t1check: read failed
+--
+missing.pfb: t1check: read failed
+END
+try 'a folder as commands' 3 "$all" -q . --format=github missing.pfb
+wanted <<END
+{"code":"F01","file":"100%, a:b.pfb","index":0,"key":"file","number":1,"text":"no end segment","unit":"font"}
+{"code":"F01","file":"$(printf 'e\303\251')\\\\x1B.pfb","index":0,"key":"file","number":1,"text":"no end segment","unit":"font"}
+{"code":"F01","file":"e\\\\xC3\\\\xA9\\\\xFF.pfb","index":0,"key":"file","number":1,"text":"no end segment","unit":"font"}
+{"code":"F01","file":"return\\\\x0D.pfb","index":0,"key":"file","number":1,"text":"no end segment","unit":"font"}
+--
+END
+try 'odd names as jsonl' 1 sh -c "cd '$named' && '$all' -q --format jsonl ."
+wanted <<'END'
+::warning file=100%25%2C a%3Ab.pfb,line=1,title=F01 no end segment::1: font file 0 F01 no end segment
+::warning file=return%0D.pfb,line=1,title=F01 no end segment::1: font file 0 F01 no end segment
+--
+END
+try 'odd names as commands' 1 sh -c "cd '$named' && '$all' -q --format github 100* ret*"
+
+# Prints what a parser reads in a file of JSON: a line a value, the way to it and the value. With `lines` each line is read by
+# itself. Without a parser that runs, forms are compared as texts alone.
+reader=''
+if [ "$(python3 -c 'print(3)' 2>/dev/null)" = 3 ]; then
+    reader=python3
+    cat >"$scratch/read" <<'END'
+import json, sys
+
+def unique(pairs):
+    read = dict(pairs)
+    if len(read) < len(pairs):
+        raise ValueError("a key stands twice")
+    return read
+
+def show(value, way):
+    if value and isinstance(value, (dict, list)):
+        for key, inner in value.items() if isinstance(value, dict) else enumerate(value):
+            show(inner, way + "." + str(key))
+    else:
+        sys.stdout.buffer.write((way + " " + json.dumps(value, ensure_ascii=False) + "\n").encode())
+
+text = open(sys.argv[1], "rb").read().decode()
+for number, part in enumerate(text.split("\n")[:-1] if sys.argv[2:] else [text]):
+    show(json.loads(part, object_pairs_hook=unique), str(number) if sys.argv[2:] else "")
+END
+elif [ "$(node -e 'console.log(3)' 2>/dev/null)" = 3 ]; then
+    reader=node
+    cat >"$scratch/read" <<'END'
+const [file, lines] = process.argv.slice(2)
+const show = (value, way) => {
+    if (value && typeof value === "object" && Object.keys(value).length > 0)
+        for (const key of Object.keys(value)) show(value[key], way + "." + key)
+    else console.log(way + " " + JSON.stringify(value))
+}
+const text = new TextDecoder("utf-8", { fatal: true }).decode(require("fs").readFileSync(file))
+const parts = lines ? text.split("\n").slice(0, -1) : [text]
+parts.forEach((part, number) => show(JSON.parse(part), lines ? String(number) : ""))
+END
+else
+    echo 'skipped: JSON read by a parser, since neither python3 nor node runs here'
+fi
+
+# Compares what is read in a document of SARIF: its version and whether all was checked, how many fonts were not, then rule and
+# level of each result; `misplaced` where its index is another rule's, `unmarked` where it has no fingerprint of its own, `unplaced`
+# without a place in a file. NAME FILE
+try_document() {
+    [ -n "$reader" ] || return 0
+    if ! "$reader" "$scratch/read" "$2" >"$scratch/values" 2>"$scratch/err"; then
+        fail "$1: no JSON"
+        cat "$scratch/err"
+        return
+    fi
+    try "$1" 0 awk '
+        {
+            value = substr($0, length($1) + 2)
+            gsub(/^"|"$/, "", value)
+            count = split($1, way, ".")
+        }
+        $1 == ".version" { version = value }
+        $1 ~ /^\.runs\.[1-9]/ { version = "several runs of " version }
+        $1 == ".runs.0.tool.driver.name" { name = value }
+        $1 ~ /^\.runs\.0\.tool\.driver\.rules\.[0-9]+\.id$/ { rule[way[7]] = value }
+        $1 == ".runs.0.results" && value == "[]" { listed = 1 }
+        $1 ~ /^\.runs\.0\.results\.[0-9]/ { listed = 1 }
+        $1 ~ /^\.runs\.0\.results\.[0-9]+\.ruleId$/ { id[results++] = value }
+        $1 ~ /^\.runs\.0\.results\.[0-9]+\.ruleIndex$/ { place[way[5]] = value }
+        $1 ~ /^\.runs\.0\.results\.[0-9]+\.level$/ { level[way[5]] = value }
+        $1 ~ /^\.runs\.0\.results\.[0-9]+\.partialFingerprints\.t1check\/v1$/ { mark[way[5]] = value }
+        $1 ~ /^\.runs\.0\.results\.[0-9]+\.locations\.0\.physicalLocation\.artifactLocation\.uri$/ { file[way[5]] = value }
+        $1 ~ /^\.runs\.0\.results\.[0-9]+\.message\.text$/ { text[way[5]] = value }
+        $1 == ".runs.0.invocations.0.executionSuccessful" { successful = value }
+        $1 ~ /^\.runs\.0\.invocations\.0\.toolExecutionNotifications\.[0-9]+\.message\.text$/ { unchecked++ }
+        END {
+            print version, name, successful, unchecked + 0, (listed ? "listed" : "no list")
+            for (i = 0; i < results; i++) {
+                line = id[i] " " level[i]
+                if (!(i in place) || rule[place[i]] != id[i]) line = line " misplaced"
+                if (mark[i] == "" || seen[mark[i]]++) line = line " unmarked"
+                if (file[i] == "" || text[i] == "") line = line " unplaced"
+                print line
+            }
+        }
+    ' "$scratch/values"
+}
+
+wanted <<'END'
+--
+missing.pfb: t1check: read failed
+END
+"$all" -q --format sarif . missing.pfb >"$scratch/odd.sarif" 2>"$scratch/odd.err"
+[ $? -eq 3 ] || fail 'a folder as sarif: another status'
+try 'what a document leaves on standard error' 0 sh -c "cat '$scratch/odd.err' >&2"
+wanted <<'END'
+2.1.0 t1check false 1 listed
+H02 warning
+K02 warning
+F01 warning
+F01 warning
+E03 error
+H02 warning
+Z05 warning
+--
+END
+try_document 'a folder as sarif' "$scratch/odd.sarif"
+wanted <<'END'
+8
+--
+END
+if [ -n "$reader" ]; then
+    try 'jsonl by a parser' 0 sh -c "'$reader' '$scratch/read' '$scratch/odd.jsonl' lines | grep -c '^[0-7]\.unit '"
+    # Where the rules' pages are is told of each rule, with --docs alone.
+    wanted <<'END'
+--
+END
+    try 'no pages of rules' 1 grep helpUri "$scratch/values"
+    "$all" -q --format sarif --docs https://example.org/RULES.md . >"$scratch/docs.sarif"
+    "$reader" "$scratch/read" "$scratch/docs.sarif" >"$scratch/values"
+    sed -n 's/^\.runs\.0\.tool\.driver\.rules\.[0-9]*\.id "\([A-Z0-9]*\)"$/\1/p' "$scratch/values" >"$scratch/codes"
+    while read -r code; do
+        printf 'https://example.org/RULES.md#%s\n' \
+            "$(sed -n "s/^### \($code .*\)/\1/p" "$top/docs/RULES.md" | tr 'A-Z ' 'a-z-' | tr -cd 'a-z0-9_\n-')"
+    done <"$scratch/codes" >"$scratch/anchors"
+    sed -n 's/^\.runs\.0\.tool\.driver\.rules\.[0-9]*\.helpUri "\(.*\)"$/\1/p' "$scratch/values" >"$scratch/pages"
+    try 'pages of rules' 0 diff "$scratch/anchors" "$scratch/pages"
+    wanted <<'END'
+https://example.org/RULES.md#e03-segment-cut-short
+https://example.org/RULES.md#k02-seac-code-not-in-standardencoding
+--
+END
+    try 'pages of two of them' 0 grep -e '#e03-' -e '#k02-' "$scratch/pages"
+fi
+cd "$scratch" || exit 1
+
+# Where nothing is told, or a part of the list has no font, a document is written and nothing else.
+wanted <<'END'
+--
+END
+for form in jsonl github; do
+    try "nothing as $form" 0 "$all" -q --format "$form" --only L01 glyphs.pfb
+    try "an empty shard as $form" 0 "$all" --format "$form" --shard 1/2 glyphs.pfb
+    try "known faults are written, with $form" 0 "$all" -q --baseline now --update-baseline --format "$form" glyphs.pfb
+done
+wanted <<'END'
+2.1.0 t1check true 0 listed
+--
+END
+"$all" -q --format sarif --only L01 glyphs.pfb >"$scratch/document"
+[ $? -eq 0 ] || fail 'nothing as sarif: another status'
+try_document 'nothing as sarif' "$scratch/document"
+"$all" --format sarif --shard 1/2 glyphs.pfb >"$scratch/document"
+[ $? -eq 0 ] || fail 'an empty shard as sarif: another status'
+try_document 'an empty shard as sarif' "$scratch/document"
+"$all" -q --format sarif --baseline now --update-baseline glyphs.pfb >"$scratch/document"
+[ $? -eq 0 ] || fail 'known faults are written, with sarif: another status'
+try_document 'known faults are written, with sarif' "$scratch/document"
+wanted <<'END'
+{"code":"Z07","file":"glyphs.pfb","index":1,"key":"BlueValues","number":1,"text":"zone too high for BlueScale","unit":"font"}
+{"code":"Z01","file":"glyphs.pfb","index":0,"key":"StdHW","number":2,"text":"value of another kind","unit":"font"}
+--
+t1check-all: lines of a font itself can not be waived
+END
+try 'waivers are written, with jsonl' 1 "$all" -q --write-waivers --format jsonl glyphs.pfb
+echo 'A H02' >glyphs.pfb.waivers
+wanted <<'END'
+{"code":"U01","file":"glyphs.pfb","name":"A","number":6,"text":"waiver not used","unit":"waiver","waived":"H02"}
+--
+END
+try 'a waiver that is not used, as jsonl' 1 "$all" -q --only U01 --format jsonl glyphs.pfb
+rm -f glyphs.pfb.waivers
+
+# What was not even found is told in the form, too.
+wanted <<'END'
+{"text":"a name with a line end is passed over","unit":"unchecked"}
+{"code":"Z05","file":"one.pfb","index":4,"key":"BlueValues","number":1,"text":"zones too near","unit":"font"}
+--
+t1check-all: a name with a line end is passed over
+END
+try 'a name with a line end, as jsonl' 3 sh -c "cd '$scratch/lines' && '$all' -q --format jsonl ."
+
+# Shards in a form: one behind the other they are the whole, of which each line has one.
+"$all" -q --format jsonl "$fonts" >whole.jsonl 2>/dev/null
+: >joined
+for part in 1 2 3 4; do
+    "$all" -q --format jsonl --shard "$part/4" "$fonts" >>joined 2>/dev/null
+done
+wanted <<'END'
+--
+END
+try 'shards as jsonl' 0 cmp whole.jsonl joined
+[ "$(wc -l <whole.jsonl)" -eq "$(wc -l <whole)" ] || fail 'shards as jsonl: not an object a line'
+
+# t1format by itself, on lines that stand in $scratch/lines.in. NAME STATUS WORD...
+try_form() {
+    try_name=$1 try_status=$2
+    shift 2
+    # shellcheck disable=SC2016
+    try "$try_name" "$try_status" sh -c 'exec "$@" <lines.in' sh "$format" "$@"
+}
+cat >lines.in <<END
+1: font file 0 F01 no end segment
+2: glyph A 5>6 8 P01 drawing without a move
+3: waiver A P01 U01 waiver not used
+refused: E03 segment cut short
+t1check: read failed
+a b.pfb: 18: glyph B 5 12 P01 drawing without a move
+a b.pfb: 19: waiver B H02 U01 waiver not used
+a b.pfb: refused: E14 waivers malformed
+a b.pfb: t1check: ended by signal 11
+1: glyph  - 9 H02 stems overlap
+1: glyph a"\\b - 9 H02 stems overlap
+1: glyph $(printf '\303\251\033\177') - 9 H02 stems overlap
+1: glyph $(printf '\303\251\377') - 9 H02 stems overlap
+END
+wanted <<END
+{"code":"F01","index":0,"key":"file","number":1,"text":"no end segment","unit":"font"}
+{"code":"P01","name":"A","number":2,"path":[5,6],"step":8,"text":"drawing without a move","unit":"glyph"}
+{"code":"U01","name":"A","number":3,"text":"waiver not used","unit":"waiver","waived":"P01"}
+{"code":"E03","text":"segment cut short","unit":"refused"}
+{"text":"read failed","unit":"unchecked"}
+{"code":"P01","file":"a b.pfb","name":"B","number":18,"path":[5],"step":12,"text":"drawing without a move","unit":"glyph"}
+{"code":"U01","file":"a b.pfb","name":"B","number":19,"text":"waiver not used","unit":"waiver","waived":"H02"}
+{"code":"E14","file":"a b.pfb","text":"waivers malformed","unit":"refused"}
+{"file":"a b.pfb","text":"ended by signal 11","unit":"unchecked"}
+{"code":"H02","name":"","number":1,"path":[],"step":9,"text":"stems overlap","unit":"glyph"}
+{"code":"H02","name":"a\\"\\\\\\\\b","number":1,"path":[],"step":9,"text":"stems overlap","unit":"glyph"}
+{"code":"H02","name":"$(printf '\303\251')\\\\x1B\\\\x7F","number":1,"path":[],"step":9,"text":"stems overlap","unit":"glyph"}
+{"code":"H02","name":"\\\\xC3\\\\xA9\\\\xFF","number":1,"path":[],"step":9,"text":"stems overlap","unit":"glyph"}
+--
+END
+try_form 'each unit as jsonl' 0 jsonl
+if [ -n "$reader" ]; then
+    cp "$scratch/out" units.jsonl
+    wanted <<'END'
+1.path.0 5
+1.path.1 6
+--
+END
+    try 'Subrs by a parser' 0 sh -c "'$reader' '$scratch/read' units.jsonl lines | grep '^1\.path'"
+fi
+wanted <<'END'
+2.1.0 t1check false 2 listed
+F01 warning
+P01 warning
+U01 warning
+E03 error
+P01 warning
+U01 warning
+E14 error
+H02 warning
+H02 warning
+H02 warning
+H02 warning
+--
+END
+"$format" sarif --font one.pfb <lines.in >"$scratch/document"
+[ $? -eq 0 ] || fail 'each unit as sarif: another status'
+try_document 'each unit as sarif' "$scratch/document"
+sed -n '1,2p; 4,6p; 8,9p' lines.in >some
+mv some lines.in
+wanted <<'END'
+{"code":"F01","file":"-one.pfb","index":0,"key":"file","number":1,"text":"no end segment","unit":"font"}
+{"code":"P01","file":"-one.pfb","name":"A","number":2,"path":[5,6],"step":8,"text":"drawing without a move","unit":"glyph"}
+{"code":"E03","file":"-one.pfb","text":"segment cut short","unit":"refused"}
+{"file":"-one.pfb","text":"read failed","unit":"unchecked"}
+{"code":"P01","file":"a b.pfb","name":"B","number":18,"path":[5],"step":12,"text":"drawing without a move","unit":"glyph"}
+{"code":"E14","file":"a b.pfb","text":"waivers malformed","unit":"refused"}
+{"file":"a b.pfb","text":"ended by signal 11","unit":"unchecked"}
+--
+END
+try_form 'lines of one font as jsonl' 0 jsonl --font=-one.pfb
+wanted <<'END'
+::warning file=one%2Ctwo.pfb,line=1,title=F01 no end segment::1: font file 0 F01 no end segment
+::warning file=one%2Ctwo.pfb,line=1,title=P01 drawing without a move::2: glyph A 5>6 8 P01 drawing without a move
+::error file=one%2Ctwo.pfb,line=1,title=E03 segment cut short::refused: E03 segment cut short
+::error file=one%2Ctwo.pfb,line=1,title=not checked::t1check: read failed
+::warning file=a b.pfb,line=1,title=P01 drawing without a move::18: glyph B 5 12 P01 drawing without a move
+::error file=a b.pfb,line=1,title=E14 waivers malformed::refused: E14 waivers malformed
+::error file=a b.pfb,line=1,title=not checked::t1check: ended by signal 11
+--
+END
+try_form 'lines of one font as commands' 0 --font one,two.pfb github
+
+# A line that is none is told and passed over, and all others are written.
+cat >lines.in <<'END'
+a.pfb: 1: font file 0 F01 no end segment
+1 font: 0 clean, 1 with faults, 0 refused, 0 not checked
+a.pfb: refused: E03 segment cut short
+
+a.pfb: 1: glyph A - 9 H02
+a.pfb: 1: glyph A - 9 H02 stems overlap
+END
+wanted <<'END'
+{"code":"F01","file":"a.pfb","index":0,"key":"file","number":1,"text":"no end segment","unit":"font"}
+{"code":"E03","file":"a.pfb","text":"segment cut short","unit":"refused"}
+{"code":"H02","file":"a.pfb","name":"A","number":1,"path":[],"step":9,"text":"stems overlap","unit":"glyph"}
+--
+t1format: line 2: no line of t1check
+t1format: line 4: no line of t1check
+t1format: line 5: no line of t1check
+END
+try_form 'lines that are none' 3 jsonl
+"$format" sarif <lines.in >"$scratch/document" 2>"$scratch/told"
+[ $? -eq 3 ] || fail 'lines that are none, as sarif: another status'
+wanted <<'END'
+F01 warning
+E03 error
+H02 warning
+--
+END
+[ -z "$reader" ] || try 'lines that are none, as sarif' 0 sh -c "'$reader' '$scratch/read' '$scratch/document' |
+    sed -n 's/^\.runs\.0\.results\.[0-9]*\.ruleId \"\(.*\)\"/\1/p; s/^\.runs\.0\.results\.[0-9]*\.level \"\(.*\)\"/\1/p' | paste -d ' ' - -"
+wanted <<'END'
+--
+END
+: >lines.in
+try_form 'no line as jsonl' 0 jsonl
+try_form 'no line as commands' 0 github
+wanted <<'END'
+2.1.0 t1check true 0 listed
+--
+END
+"$format" sarif </dev/null >"$scratch/document"
+[ $? -eq 0 ] || fail 'no line as sarif: another status'
+try_document 'no line as sarif' "$scratch/document"
+
+# Usage faults of t1format, whose words are not compared: nothing is written, something is told.
+for words in '' 'json' 'jsonl sarif' '--form jsonl' 'jsonl --font' 'sarif --docs' 'jsonl --font a --font b'; do
+    # shellcheck disable=SC2086
+    "$format" $words </dev/null >"$scratch/out" 2>"$scratch/err"
+    given=$?
+    if [ "$given" -eq 3 ] && [ ! -s "$scratch/out" ] && [ -s "$scratch/err" ]; then
+        passed=$((passed + 1))
+    else
+        fail "t1format $words: status $given"
+    fi
+done
+
 # A program in t1check's place that writes a line and then waits, ends itself by a signal, or with a status of its own.
 stand=$scratch/stand
 mkdir -p "$stand/bin" "$stand/docs" "$stand/crates/t1check/out" "$scratch/tmp"
@@ -354,10 +758,11 @@ case \$kind in
     crash) kill -SEGV \$\$ ;;
     line) echo '1: font file 0 F01 no end segment'; exit 1 ;;
     seven) exit 7 ;;
+    words) echo 'words of its own' >&2; exit 9 ;;
 esac
 END
 chmod +x "$stand/bin/t1check" "$stand/crates/t1check/out/t1check"
-for kind in wait crash line seven; do
+for kind in wait crash line seven words; do
     echo "$kind" >"$kind.pfb"
 done
 wanted <<'END'
@@ -367,6 +772,49 @@ crash.pfb: t1check: ended by signal 11
 seven.pfb: t1check: ended with status 7
 END
 try 'a program that crashes' 3 "$stand/bin/t1check-all" -q -j1 crash.pfb line.pfb seven.pfb
+
+# What t1format gets: one in its place writes its words, then what it reads, and fails where it is asked for sarif.
+mkdir -p "$stand/crates/t1format/out"
+printf '#!/bin/sh\n' >"$stand/bin/t1format"
+cat >"$stand/crates/t1format/out/t1format" <<'END'
+#!/bin/sh
+printf '<%s>\n' "$@"
+cat
+[ "$1" != sarif ]
+END
+chmod +x "$stand/bin/t1format" "$stand/crates/t1format/out/t1format"
+wanted <<'END'
+<jsonl>
+crash.pfb: t1check: ended by signal 11
+line.pfb: 1: font file 0 F01 no end segment
+words.pfb: t1check: words of its own
+--
+crash.pfb: t1check: ended by signal 11
+words.pfb: words of its own
+END
+try 'what t1format gets' 3 "$stand/bin/t1check-all" -q -j1 --format jsonl crash.pfb line.pfb words.pfb
+wanted <<'END'
+<github>
+<--docs>
+<https://example.org/it's "$HOME" here>
+--
+END
+# shellcheck disable=SC2016
+try 'what t1format is told' 0 "$stand/bin/t1check-all" -q --only L --format github \
+    --docs 'https://example.org/it'\''s "$HOME" here' line.pfb
+wanted <<'END'
+<sarif>
+line.pfb: 1: font file 0 F01 no end segment
+--
+t1check-all: write failed
+END
+try 'a t1format that fails' 3 "$stand/bin/t1check-all" -q --format sarif line.pfb
+wanted <<'END'
+<sarif>
+--
+t1check-all: write failed
+END
+try 'a t1format that fails in an empty shard' 3 "$stand/bin/t1check-all" -q --format sarif --shard 1/2 line.pfb
 
 # Whether nothing is left of a run that was ended: no process, no file.
 nothing_left() {
@@ -423,6 +871,16 @@ if [ -c /dev/full ]; then
         fail "a full device: status $given"
     fi
     nothing_left 'a full device'
+    for form in jsonl sarif; do
+        TMPDIR=$scratch/tmp "$all" -q --format "$form" glyphs.pfb 2>given >/dev/full
+        given=$?
+        if [ "$given" -eq 3 ] && grep -qx 't1check-all: write failed' given; then
+            passed=$((passed + 1))
+        else
+            fail "a full device, with $form: status $given"
+        fi
+        nothing_left "a full device, with $form"
+    done
 else
     echo 'skipped: a full device, since there is no /dev/full'
 fi
@@ -470,10 +928,13 @@ try 'the list of rules and refusals' 0 sh -c "'$explain' | wc -l | tr -d ' '"
 # Installing, from a copy of what is to be put, so that nothing else of the repository is needed. In the place of man and zsh stand
 # two that name the folders which they look through.
 copy=$scratch/copy
-mkdir -p "$copy/crates/t1check/out" "$copy/docs" "$scratch/shells" "$scratch/home"
+mkdir -p "$copy/docs" "$scratch/shells" "$scratch/home"
 cp -R "$top/bin" "$top/man" "$top/completions" "$copy/"
-cp "$top/crates/t1check/out/t1check" "$copy/crates/t1check/out/"
-: >"$copy/crates/t1check/out/built"
+for tool in t1check t1format; do
+    mkdir -p "$copy/crates/$tool/out"
+    cp "$top/crates/$tool/out/$tool" "$copy/crates/$tool/out/"
+    : >"$copy/crates/$tool/out/built"
+done
 cp "$top/docs/RULES.md" "$copy/docs/"
 cat >"$scratch/shells/man" <<'END'
 #!/bin/sh
@@ -498,7 +959,7 @@ try 'installing where something fails' 3 "$copy/bin/install" --prefix "$prefix"
 [ ! -e "$scratch/in stalled" ] || fail 'installing where something fails leaves something'
 cp "$top/man/rules.sh" "$copy/man/"
 wanted <<END
-t1check, t1check-all and t1explain are in $prefix/bin.
+t1check, t1check-all, t1explain and t1format are in $prefix/bin.
 A shell still needs, in the file that it reads when it starts:
 export PATH='$quoted/bin':"\$PATH"
 export MANPATH='$quoted/share/man':"\${MANPATH-}"
@@ -508,7 +969,7 @@ fpath=('$quoted/share/zsh/site-functions' \$fpath)    # zsh, before compinit
 END
 try 'installing' 0 env PATH="$scratch/shells:$PATH" "$copy/bin/install" --prefix "$prefix"
 wanted <<END
-t1check, t1check-all and t1explain are in $prefix/bin.
+t1check, t1check-all, t1explain and t1format are in $prefix/bin.
 --
 END
 try 'installing once more, where shells find it' 0 env PATH="$prefix/bin:$scratch/shells:$PATH" LOOKS="$prefix/share" \
@@ -518,15 +979,19 @@ wanted <<'END'
 ./bin/t1check
 ./bin/t1check-all
 ./bin/t1explain
+./bin/t1format
 ./share/bash-completion/completions/t1check
 ./share/bash-completion/completions/t1check-all
 ./share/bash-completion/completions/t1explain
+./share/bash-completion/completions/t1format
 ./share/fish/vendor_completions.d/t1check-all.fish
 ./share/fish/vendor_completions.d/t1check.fish
 ./share/fish/vendor_completions.d/t1explain.fish
+./share/fish/vendor_completions.d/t1format.fish
 ./share/man/man1/t1check-all.1
 ./share/man/man1/t1check.1
 ./share/man/man1/t1explain.1
+./share/man/man1/t1format.1
 ./share/man/man7/t1check-rules.7
 ./share/t1check/RULES.md
 ./share/t1check/commit
@@ -545,6 +1010,14 @@ wanted <<'END'
 --
 END
 try 'an installed t1check' 1 "$prefix/bin/t1check" --after 2 --max 1 glyphs.pfb
+wanted <<'END'
+{"code":"P03","file":"glyphs.pfb","name":"A","number":3,"path":[5],"step":6,"text":"closepath without a path","unit":"glyph"}
+--
+END
+try 'an installed t1check-all with jsonl' 1 "$prefix/bin/t1check-all" -q --only P03 --format jsonl glyphs.pfb
+echo '3: glyph A 5 6 P03 closepath without a path' >lines.in
+try 'an installed t1format' 0 sh -c "\"$prefix/bin/t1format\" jsonl --font glyphs.pfb <lines.in"
+try 't1format of the repository, by a link' 0 sh -c "ln -s '$format' form && ./form jsonl --font glyphs.pfb <lines.in"
 wanted <<'END'
 E06 encrypted part too short
 
@@ -566,7 +1039,7 @@ printf '.TH A 1 2026-01-01\n.SH NAME\na \\- b\n' >"$scratch/a.1"
 readers=''
 man --warnings -E UTF-8 -l -Tutf8 -Z "$scratch/a.1" >/dev/null 2>&1 && readers='man --warnings -E UTF-8 -l -Tutf8 -Z' ||
     echo 'skipped: manual pages read by man, since man-db is not here'
-pages="man1/t1check.1 man1/t1check-all.1 man1/t1explain.1 man7/t1check-rules.7"
+pages="man1/t1check.1 man1/t1check-all.1 man1/t1explain.1 man1/t1format.1 man7/t1check-rules.7"
 wanted <<'END'
 --
 END
@@ -585,7 +1058,7 @@ options() {
         for (i = 1; i <= count; i++) if (words[i] ~ /^-/ && words[i] != "-h") print words[i]
     }' | sort
 }
-for tool in t1check t1check-all; do
+for tool in t1check t1check-all t1format; do
     options "$tool" >"$scratch/options"
     sed -n '/^.SH OPTIONS/,/^.SH EXIT/p' "$prefix/share/man/man1/$tool.1" | grep '^\.B' | tr -d '\\",' | tr ' ' '\n' | grep '^-' |
         grep -vx -e -h | sort >"$scratch/paged"
@@ -624,7 +1097,14 @@ ask t1check-all --only = H02,Z1
 ask t1check-all --except L
 ask t1explain H0
 ask "$1/bin/t1explain" H02 e0
-for tool in t1check t1check-all; do
+ask t1check-all --format s
+ask t1check-all --format = ''
+ask t1check-all --docs f
+ask t1format ''
+ask t1format --f
+ask t1format --font f
+ask t1format --docs f
+for tool in t1check t1check-all t1format; do
     COMP_WORDS=("$tool" -) COMP_CWORD=1
     _t1check "$tool" - "$tool"
     printf '%s\n' "${COMPREPLY[@]}" | sort >"$tool.options"
@@ -643,10 +1123,17 @@ t1check-all,--only,=,H02,Z1:H02,Z10,H02,Z11
 t1check-all,--except,L:L,L01
 t1explain,H0:H01,H02,H03,H04
 $prefix/bin/t1explain,H02,e0:E01,E02,E03,E04,E05,E06,E07,E08,E09
+t1check-all,--format,s:sarif
+t1check-all,--format,=,:jsonl,sarif,github
+t1check-all,--docs,f:
+t1format,:jsonl,sarif,github
+t1format,--f:--font
+t1format,--font,f:font.pfb
+t1format,--docs,f:
 --
 END
     try 'completions of bash' 0 bash "$scratch/ask.bash" "$prefix"
-    for tool in t1check t1check-all; do
+    for tool in t1check t1check-all t1format; do
         options "$tool" >"$scratch/options"
         wanted <<'END'
 --
@@ -661,7 +1148,8 @@ if command -v fish >/dev/null; then
         # shellcheck disable=SC2016
         PATH=$prefix/bin:$PATH XDG_DATA_DIRS=$prefix/share:/usr/local/share:/usr/share fish -c 'complete -C $argv[1]' "$1"
     }
-    for line in 't1check --ed' 't1check --edition ' 't1check f' 't1check tw' 't1check --waive f' 't1check-all --only H02,Z1' 't1explain h0'; do
+    for line in 't1check --ed' 't1check --edition ' 't1check f' 't1check tw' 't1check --waive f' 't1check-all --only H02,Z1' 't1explain h0' \
+        't1check-all --format ' 't1format s' 't1format --font f'; do
         ask "$line"
     done >"$scratch/told" 2>&1
     wanted <<'END'
@@ -678,10 +1166,15 @@ H01	stem after drawing
 H02	stems overlap
 H03	stem of zero width
 H04	unequal stem3
+github	Write lines in a form for other programs
+jsonl	Write lines in a form for other programs
+sarif	Write lines in a form for other programs
+sarif
+font.pfb
 --
 END
     try 'completions of fish' 0 cat "$scratch/told"
-    for tool in t1check t1check-all; do
+    for tool in t1check t1check-all t1format; do
         options "$tool" >"$scratch/options"
         ask "$tool -" | cut -f 1 | grep -vx -e -h | sort >"$scratch/completed"
         wanted <<'END'
@@ -709,7 +1202,8 @@ await() {
 await 0
 number=0
 for keys in $'t1check --ed\t' $'t1check --edition \t\t' $'t1check f\t' $'t1check tw\t' $'t1check-all --only H02,Z1\t\t' \
-    $'t1check-all --except=L\t\t' $'t1explain h0\t\t\t' "${(q)1}/bin/t1explain GE"$'\t'; do
+    $'t1check-all --except=L\t\t' $'t1explain h0\t\t\t' "${(q)1}/bin/t1explain GE"$'\t' \
+    $'t1check-all --format \t\t' $'t1format s\t' $'t1format --font f\t'; do
     zpty -w -n shell $keys$'\C-g'
     await $((++number))
 done
@@ -725,6 +1219,9 @@ t1check-all --only H02,Z11,
 t1check-all --except=L,
 t1explain H03
 $(zsh -fc 'print -r -- ${(q)1}' zsh "$prefix")/bin/t1explain GE01
+t1check-all --format jsonl
+t1format sarif
+t1format --font font.pfb
 --
 END
     try 'completions of zsh' 0 zsh -f "$scratch/ask.zsh" "$prefix"
@@ -765,8 +1262,8 @@ mkdir -p "$scratch/before/share/man"
 DESTDIR="$scratch/before" "$top/bin/install" --prefix "/" >given
 DESTDIR="$scratch/before/stage" "$top/bin/install" --prefix /usr/local >>given
 wanted <<END
-t1check, t1check-all and t1explain are in $scratch/before/bin.
-t1check, t1check-all and t1explain are in $scratch/before/stage/usr/local/bin.
+t1check, t1check-all, t1explain and t1format are in $scratch/before/bin.
+t1check, t1check-all, t1explain and t1format are in $scratch/before/stage/usr/local/bin.
 --
 END
 try 'installing with DESTDIR' 0 cat given
