@@ -449,56 +449,55 @@ else
     echo 'skipped: JSON read by a parser, since neither python3 nor node runs here'
 fi
 
-# Compares what is read in a document of SARIF: its version and whether all was checked, how many fonts were not, then rule and
-# level of each result; `misplaced` where its index is another rule's, `unmarked` where it has no fingerprint of its own, `unplaced`
-# without a place in a file. NAME FILE
+# Runs a command, and prints what its document of SARIF says: version, program, whether all was checked, how many fonts were not,
+# and whether there is a list of results; then rule and level of each result. It is `misplaced` where its index is another rule's,
+# `unmarked` where it has no fingerprint of its own, `unplaced` without a text and a file.
+cat >"$scratch/digest.awk" <<'END'
+{
+    value = substr($0, length($1) + 2)
+    gsub(/^"|"$/, "", value)
+    count = split($1, way, ".")
+}
+$1 == ".version" { version = value }
+$1 ~ /^\.runs\.[1-9]/ { version = "several runs of " version }
+$1 == ".runs.0.tool.driver.name" { name = value }
+$1 ~ /^\.runs\.0\.tool\.driver\.rules\.[0-9]+\.id$/ { rule[way[7]] = value }
+$1 == ".runs.0.results" && value == "[]" { listed = 1 }
+$1 ~ /^\.runs\.0\.results\.[0-9]/ { listed = 1 }
+$1 ~ /^\.runs\.0\.results\.[0-9]+\.ruleId$/ { id[results++] = value }
+$1 ~ /^\.runs\.0\.results\.[0-9]+\.ruleIndex$/ { place[way[5]] = value }
+$1 ~ /^\.runs\.0\.results\.[0-9]+\.level$/ { level[way[5]] = value }
+$1 ~ /^\.runs\.0\.results\.[0-9]+\.partialFingerprints\.t1check\/v1$/ { mark[way[5]] = value }
+$1 ~ /^\.runs\.0\.results\.[0-9]+\.locations\.0\.physicalLocation\.artifactLocation\.uri$/ { file[way[5]] = value }
+$1 ~ /^\.runs\.0\.results\.[0-9]+\.message\.text$/ { text[way[5]] = value }
+$1 == ".runs.0.invocations.0.executionSuccessful" { successful = value }
+$1 ~ /^\.runs\.0\.invocations\.0\.toolExecutionNotifications\.[0-9]+\.message\.text$/ { unchecked++ }
+END {
+    print version, name, successful, unchecked + 0, (listed ? "listed" : "no list")
+    for (i = 0; i < results; i++) {
+        line = id[i] " " level[i]
+        if (!(i in place) || rule[place[i]] != id[i]) line = line " misplaced"
+        if (mark[i] == "" || seen[mark[i]]++) line = line " unmarked"
+        if (file[i] == "" || text[i] == "") line = line " unplaced"
+        print line
+    }
+}
+END
+cat >"$scratch/digest" <<'END'
+scratch=$1 reader=$2
+shift 2
+"$@" >"$scratch/document"
+status=$?
+"$reader" "$scratch/read" "$scratch/document" >"$scratch/values" && awk -f "$scratch/digest.awk" <"$scratch/values"
+exit "$status"
+END
+# As try, of a document.
 try_document() {
-    [ -n "$reader" ] || return 0
-    if ! "$reader" "$scratch/read" "$2" >"$scratch/values" 2>"$scratch/err"; then
-        fail "$1: no JSON"
-        cat "$scratch/err"
-        return
-    fi
-    try "$1" 0 awk '
-        {
-            value = substr($0, length($1) + 2)
-            gsub(/^"|"$/, "", value)
-            count = split($1, way, ".")
-        }
-        $1 == ".version" { version = value }
-        $1 ~ /^\.runs\.[1-9]/ { version = "several runs of " version }
-        $1 == ".runs.0.tool.driver.name" { name = value }
-        $1 ~ /^\.runs\.0\.tool\.driver\.rules\.[0-9]+\.id$/ { rule[way[7]] = value }
-        $1 == ".runs.0.results" && value == "[]" { listed = 1 }
-        $1 ~ /^\.runs\.0\.results\.[0-9]/ { listed = 1 }
-        $1 ~ /^\.runs\.0\.results\.[0-9]+\.ruleId$/ { id[results++] = value }
-        $1 ~ /^\.runs\.0\.results\.[0-9]+\.ruleIndex$/ { place[way[5]] = value }
-        $1 ~ /^\.runs\.0\.results\.[0-9]+\.level$/ { level[way[5]] = value }
-        $1 ~ /^\.runs\.0\.results\.[0-9]+\.partialFingerprints\.t1check\/v1$/ { mark[way[5]] = value }
-        $1 ~ /^\.runs\.0\.results\.[0-9]+\.locations\.0\.physicalLocation\.artifactLocation\.uri$/ { file[way[5]] = value }
-        $1 ~ /^\.runs\.0\.results\.[0-9]+\.message\.text$/ { text[way[5]] = value }
-        $1 == ".runs.0.invocations.0.executionSuccessful" { successful = value }
-        $1 ~ /^\.runs\.0\.invocations\.0\.toolExecutionNotifications\.[0-9]+\.message\.text$/ { unchecked++ }
-        END {
-            print version, name, successful, unchecked + 0, (listed ? "listed" : "no list")
-            for (i = 0; i < results; i++) {
-                line = id[i] " " level[i]
-                if (!(i in place) || rule[place[i]] != id[i]) line = line " misplaced"
-                if (mark[i] == "" || seen[mark[i]]++) line = line " unmarked"
-                if (file[i] == "" || text[i] == "") line = line " unplaced"
-                print line
-            }
-        }
-    ' "$scratch/values"
+    try_name=$1 try_status=$2
+    shift 2
+    [ -z "$reader" ] || try "$try_name" "$try_status" sh "$scratch/digest" "$scratch" "$reader" "$@"
 }
 
-wanted <<'END'
---
-missing.pfb: t1check: read failed
-END
-"$all" -q --format sarif . missing.pfb >"$scratch/odd.sarif" 2>"$scratch/odd.err"
-[ $? -eq 3 ] || fail 'a folder as sarif: another status'
-try 'what a document leaves on standard error' 0 sh -c "cat '$scratch/odd.err' >&2"
 wanted <<'END'
 2.1.0 t1check false 1 listed
 H02 warning
@@ -509,8 +508,9 @@ E03 error
 H02 warning
 Z05 warning
 --
+missing.pfb: t1check: read failed
 END
-try_document 'a folder as sarif' "$scratch/odd.sarif"
+try_document 'a folder as sarif' 3 "$all" -q --format sarif . missing.pfb
 wanted <<'END'
 8
 --
@@ -553,15 +553,9 @@ wanted <<'END'
 2.1.0 t1check true 0 listed
 --
 END
-"$all" -q --format sarif --only L01 glyphs.pfb >"$scratch/document"
-[ $? -eq 0 ] || fail 'nothing as sarif: another status'
-try_document 'nothing as sarif' "$scratch/document"
-"$all" --format sarif --shard 1/2 glyphs.pfb >"$scratch/document"
-[ $? -eq 0 ] || fail 'an empty shard as sarif: another status'
-try_document 'an empty shard as sarif' "$scratch/document"
-"$all" -q --format sarif --baseline now --update-baseline glyphs.pfb >"$scratch/document"
-[ $? -eq 0 ] || fail 'known faults are written, with sarif: another status'
-try_document 'known faults are written, with sarif' "$scratch/document"
+try_document 'nothing as sarif' 0 "$all" -q --format sarif --only L01 glyphs.pfb
+try_document 'an empty shard as sarif' 0 "$all" --format sarif --shard 1/2 glyphs.pfb
+try_document 'known faults are written, with sarif' 0 "$all" -q --format sarif --baseline now --update-baseline glyphs.pfb
 wanted <<'END'
 {"code":"Z07","file":"glyphs.pfb","index":1,"key":"BlueValues","number":1,"text":"zone too high for BlueScale","unit":"font"}
 {"code":"Z01","file":"glyphs.pfb","index":0,"key":"StdHW","number":2,"text":"value of another kind","unit":"font"}
@@ -598,12 +592,13 @@ END
 try 'shards as jsonl' 0 cmp whole.jsonl joined
 [ "$(wc -l <whole.jsonl)" -eq "$(wc -l <whole)" ] || fail 'shards as jsonl: not an object a line'
 
-# t1format by itself, on lines that stand in $scratch/lines.in. NAME STATUS WORD...
+# t1format by itself, on lines that stand in lines.in. NAME STATUS WORD...
+printf '#!/bin/sh\nexec "%s" "$@" <lines.in\n' "$format" >"$scratch/form"
+chmod +x "$scratch/form"
 try_form() {
     try_name=$1 try_status=$2
     shift 2
-    # shellcheck disable=SC2016
-    try "$try_name" "$try_status" sh -c 'exec "$@" <lines.in' sh "$format" "$@"
+    try "$try_name" "$try_status" "$scratch/form" "$@"
 }
 cat >lines.in <<END
 1: font file 0 F01 no end segment
@@ -661,9 +656,7 @@ H02 warning
 H02 warning
 --
 END
-"$format" sarif --font one.pfb <lines.in >"$scratch/document"
-[ $? -eq 0 ] || fail 'each unit as sarif: another status'
-try_document 'each unit as sarif' "$scratch/document"
+try_document 'each unit as sarif' 0 "$scratch/form" sarif --font one.pfb
 sed -n '1,2p; 4,6p; 8,9p' lines.in >some
 mv some lines.in
 wanted <<'END'
@@ -708,16 +701,18 @@ t1format: line 4: no line of t1check
 t1format: line 5: no line of t1check
 END
 try_form 'lines that are none' 3 jsonl
-"$format" sarif <lines.in >"$scratch/document" 2>"$scratch/told"
-[ $? -eq 3 ] || fail 'lines that are none, as sarif: another status'
 wanted <<'END'
 F01 warning
 E03 error
 H02 warning
 --
+t1format: line 2: no line of t1check
+t1format: line 4: no line of t1check
+t1format: line 5: no line of t1check
 END
-[ -z "$reader" ] || try 'lines that are none, as sarif' 0 sh -c "'$reader' '$scratch/read' '$scratch/document' |
-    sed -n 's/^\.runs\.0\.results\.[0-9]*\.ruleId \"\(.*\)\"/\1/p; s/^\.runs\.0\.results\.[0-9]*\.level \"\(.*\)\"/\1/p' | paste -d ' ' - -"
+# shellcheck disable=SC2016
+[ -z "$reader" ] || try 'lines that are none, as sarif' 0 \
+    sh -c 'sh "$0/digest" "$0" "$1" "$0/form" sarif | sed 1d' "$scratch" "$reader"
 wanted <<'END'
 --
 END
@@ -728,9 +723,7 @@ wanted <<'END'
 2.1.0 t1check true 0 listed
 --
 END
-"$format" sarif </dev/null >"$scratch/document"
-[ $? -eq 0 ] || fail 'no line as sarif: another status'
-try_document 'no line as sarif' "$scratch/document"
+try_document 'no line as sarif' 0 "$scratch/form" sarif
 
 # Usage faults of t1format, whose words are not compared: nothing is written, something is told.
 for words in '' 'json' 'jsonl sarif' '--form jsonl' 'jsonl --font' 'sarif --docs' 'jsonl --font a --font b'; do
@@ -1017,7 +1010,9 @@ END
 try 'an installed t1check-all with jsonl' 1 "$prefix/bin/t1check-all" -q --only P03 --format jsonl glyphs.pfb
 echo '3: glyph A 5 6 P03 closepath without a path' >lines.in
 try 'an installed t1format' 0 sh -c "\"$prefix/bin/t1format\" jsonl --font glyphs.pfb <lines.in"
-try 't1format of the repository, by a link' 0 sh -c "ln -s '$format' form && ./form jsonl --font glyphs.pfb <lines.in"
+mkdir "$scratch/linked"
+ln -s "$format" "$scratch/linked/format"
+try 't1format of the repository, by a link' 0 sh -c 'linked/format jsonl --font glyphs.pfb <lines.in'
 wanted <<'END'
 E06 encrypted part too short
 
@@ -1030,7 +1025,6 @@ Example: a file that ends behind `currentfile eexec`.
 Cure: take it from its source again.
 --
 END
-mkdir "$scratch/linked"
 ln -s "$prefix/bin/t1explain" "$scratch/linked/explain"
 try 'an installed t1explain, by a link' 0 "$scratch/linked/explain" e06
 
