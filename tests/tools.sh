@@ -773,6 +773,7 @@ cat >"$stand/crates/t1format/out/t1format" <<'END'
 #!/bin/sh
 printf '<%s>\n' "$@"
 cat
+echo end
 [ "$1" != sarif ]
 END
 chmod +x "$stand/bin/t1format" "$stand/crates/t1format/out/t1format"
@@ -781,6 +782,7 @@ wanted <<'END'
 crash.pfb: t1check: ended by signal 11
 line.pfb: 1: font file 0 F01 no end segment
 words.pfb: t1check: words of its own
+end
 --
 crash.pfb: t1check: ended by signal 11
 words.pfb: words of its own
@@ -790,6 +792,7 @@ wanted <<'END'
 <github>
 <--docs>
 <https://example.org/it's "$HOME" here>
+end
 --
 END
 # shellcheck disable=SC2016
@@ -798,12 +801,14 @@ try 'what t1format is told' 0 "$stand/bin/t1check-all" -q --only L --format gith
 wanted <<'END'
 <sarif>
 line.pfb: 1: font file 0 F01 no end segment
+end
 --
 t1check-all: write failed
 END
 try 'a t1format that fails' 3 "$stand/bin/t1check-all" -q --format sarif line.pfb
 wanted <<'END'
 <sarif>
+end
 --
 t1check-all: write failed
 END
@@ -838,21 +843,26 @@ if [ -n "$($with sh -c 'kill -s INT $$; echo ignored' 2>/dev/null)" ] || ! $with
 fi
 cp wait.pfb wait2.pfb
 for signal in $signals; do
-    : >"$scratch/running"
-    # The signal comes once both fonts are being checked.
-    (
-        while [ "$(wc -l <"$scratch/running")" -lt 2 ]; do sleep 1; done
-        kill -s "$signal" "$(cat "$scratch/main")"
-    ) &
-    # shellcheck disable=SC2086
-    TMPDIR=$scratch/tmp $with sh -c "echo \$\$ >'$scratch/main'; exec '$stand/bin/t1check-all' -j2 wait.pfb wait2.pfb" 2>/dev/null
-    given=$?
-    wait
-    case $signal$given in
-        INT130 | TERM143) passed=$((passed + 1)) ;;
-        *) fail "$signal: status $given" ;;
-    esac
-    nothing_left "$signal"
+    for form in '' '--format jsonl'; do
+        : >"$scratch/running"
+        # The signal comes once both fonts are being checked.
+        (
+            while [ "$(wc -l <"$scratch/running")" -lt 2 ]; do sleep 1; done
+            kill -s "$signal" "$(cat "$scratch/main")"
+        ) &
+        # shellcheck disable=SC2086
+        TMPDIR=$scratch/tmp $with sh -c "echo \$\$ >'$scratch/main'
+            exec '$stand/bin/t1check-all' -j2 $form wait.pfb wait2.pfb" >given 2>/dev/null
+        status=$?
+        wait
+        case $signal$status in
+            INT130 | TERM143) passed=$((passed + 1)) ;;
+            *) fail "$signal $form: status $status" ;;
+        esac
+        nothing_left "$signal $form"
+        # A document isn't closed as if all fonts had their place in it.
+        [ "$(cat given)" = "${form:+<jsonl>}" ] || fail "$signal $form: $(cat given)"
+    done
 done
 if [ -c /dev/full ]; then
     : >"$scratch/running"
