@@ -6,7 +6,7 @@
 #   tokens that are written out are those that the program traces in the case's font: `A: ..` and `Subr 5: ..`. A line
 #   `X … (seven times) Y` stands for seven X and one Y.
 # - Each rule and each refusal has its text in the table of its kind, and each rule in its heading too; t1_lines reads the same texts of
-#   refusals.
+#   refusals. The pages that t1_format keeps are those of docs/RULES.md.
 # - Each word of the definitions that a clause of a public function cites stands, between backquotes, in the first column of a row of
 #   docs/DEFINITIONS.md, or beside the rule in a row that begins with a rule's code. Left out is what that page leaves out: words of laws and
 #   of private functions, and types that the code declares. Public are all functions of the program, and of a library those of the modules
@@ -171,6 +171,12 @@ while read -r code text; do
 done <"$scratch/refusals"
 [ "$(wc -l <"$scratch/book")" -eq 70 ] || fail "the book's rows aren't read: $(wc -l <"$scratch/book")"
 [ "$(wc -l <"$scratch/refusals")" -eq 15 ] || fail "the refusals' texts aren't read: $(wc -l <"$scratch/refusals")"
+
+if sh "$top/crates/t1_format/pages.sh" | cmp -s - "$top/crates/t1_format/src/pages.rt"; then
+    pass
+else
+    fail "crates/t1_format/src/pages.rt: crates/t1_format/pages.sh writes another one of docs/RULES.md"
+fi
 
 # The files whose public functions others call.
 list_public() {
