@@ -1,0 +1,5 @@
+pub mod Objects
+pub mod Private
+pub mod Shown
+pub mod Tellings
+pub mod Writing

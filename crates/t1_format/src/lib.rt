@@ -1,0 +1,37 @@
+//! The lines of t1check and t1check-all in the forms that other programs read: lines of JSON, SARIF 2.1.0, and the commands
+//! by which a workflow of GitHub is told of a fault.
+//!
+//! [`read_told`] reads a line: that of one font, or with the font's name in front, or why a font wasn't checked. [`write_object`]
+//! writes it as an object in a line of its own, [`Sarif`] as a result in a document, [`write_command`] as a command.
+//!
+//! What is promised, for all bytes:
+//!
+//! - What is read is spelled as the line is, and a line that is spelled so is read.
+//! - The line of JSON is the compact text of the object that the line read stands for, and nothing else.
+//! - Each is written before the next one is read: memory doesn't grow with the lines, but for fonts that weren't checked, of
+//!   which a document keeps at most a thousand.
+//!
+//! The documents of SARIF and GitHub's commands are shown by tests alone.
+//!
+//! ```
+//! match read_told(b"a.pfb: 1: glyph A - 9 H02 stems overlap") {
+//!     Some(told) => write_object(alloc, &mut out, &told)?,
+//!     None => println!(rt; "no line of t1check")?,
+//! }
+//! ```
+#![tactic(auto)]
+
+mod commands;
+mod error;
+mod names;
+mod objects;
+mod pages;
+mod sarif;
+mod told;
+
+pub use commands::write_command;
+pub use error::FormatError;
+pub use names::shown;
+pub use objects::{object, write_object};
+pub use sarif::Sarif;
+pub use told::{Told, What, read_told};

@@ -1,0 +1,138 @@
+//! The command line, by clap.
+
+use clap::error::ErrorKind;
+use clap::{Arg, Command};
+use std::alloc::{AllocError, Global};
+use std::convert::AsStr;
+
+const ABOUT: &str = "\
+Reads lines of t1check or t1check-all, and what couldn't be checked, from standard input,
+and writes them as another program wants them.";
+
+const AFTER_HELP: &str = "\
+Forms:
+  jsonl   a line of JSON for each line, an object
+  sarif   one document of SARIF 2.1.0
+  github  a command for each line, by which a workflow of GitHub shows it at the font
+
+Exit status:
+  0  all was written
+  3  a line is none of these and was passed over, usage error, a device failed, or
+     memory ran out
+
+Examples:
+  t1check font.pfb 2>&1 | t1format jsonl --font font.pfb
+  t1check-all -q --format sarif fonts >fonts.sarif";
+
+/// How lines are written.
+#[derive(Clone, Copy, Debug, PartialEq, Eq)]
+pub enum Form {
+    /// A line of JSON each.
+    JsonLines,
+    /// One document of SARIF.
+    Sarif,
+    /// A command of a workflow of GitHub each.
+    GitHub,
+}
+
+/// What is to be written, and what isn't in the lines.
+#[derive(Drop)]
+pub struct Options {
+    /// How lines are written.
+    pub form: Form,
+    /// The font of lines that name none.
+    pub font: Option<String>,
+    /// The address of the page of all rules.
+    pub docs: Option<String>,
+}
+
+/// What the words of the command line ask for.
+#[derive(Drop)]
+pub enum Asked {
+    Format(Options),
+    Help(String),
+}
+
+/// The form of this name.
+fn form_named(name: &str) -> Option<Form> {
+    match name {
+        "jsonl" => Some(Form::JsonLines),
+        "sarif" => Some(Form::Sarif),
+        "github" => Some(Form::GitHub),
+        _ => None,
+    }
+}
+
+fn command<'a>(alloc: Global) -> Result<Command<'a>, AllocError> {
+    let form = Arg::new(alloc, "form")
+        .value_name("FORM")
+        .required(true)
+        .help("jsonl, sarif or github");
+    let font = Arg::new(alloc, "font")
+        .long("font")
+        .value_name("NAME")
+        .help("The font of lines that name none");
+    let docs = Arg::new(alloc, "docs").long("docs").value_name("URL").help(
+        "Where the page of all rules stands, for links to each rule in SARIF",
+    );
+    Command::new(alloc, "t1format")
+        .about(ABOUT)
+        .after_help(AFTER_HELP)
+        .arg(font)?
+        .arg(docs)?
+        .arg(form)
+}
+
+/// A copy of the text that an argument was given.
+fn owned(alloc: Global, text: Option<&str>) -> Result<Option<String>, AllocError> {
+    match text {
+        Some(text) => Ok(Some(String::from_str(alloc, text)?)),
+        None => Ok(None),
+    }
+}
+
+/// What clap tells: help, or what is wrong with the words; none where memory ran out.
+fn told(alloc: Global, error: &clap::Error) -> Result<Asked, Option<String>> {
+    let kind = error.kind();
+    if kind == ErrorKind::OutOfMemory {
+        return Err(None);
+    }
+    let Ok(text) = error.to_string(alloc) else {
+        return Err(None);
+    };
+    if kind == ErrorKind::DisplayHelp {
+        Ok(Asked::Help(text))
+    } else {
+        Err(Some(text))
+    }
+}
+
+/// What is told of a form that there isn't.
+fn unknown_form(alloc: Global, name: &str) -> Option<String> {
+    format!(in alloc;
+        "error: there is no form '{name}': jsonl, sarif or github\n\nFor more information, try '--help'.\n"
+    ).ok()
+}
+
+/// Reads the words of the command line, the program's name first. What is wrong with them is the error, none where memory ran
+/// out.
+pub fn read_words<S: AsStr>(alloc: Global, words: &[S]) -> Result<Asked, Option<String>> {
+    let Ok(command) = command(alloc) else {
+        return Err(None);
+    };
+    let matches = match command.try_get_matches_from(words) {
+        Ok(matches) => matches,
+        Err(error) => return told(alloc, &error),
+    };
+    let name = matches.get_str("form").unwrap_or("");
+    let Some(form) = form_named(name) else {
+        return Err(unknown_form(alloc, name));
+    };
+    let (Ok(font), Ok(docs)) = (
+        owned(alloc, matches.get_str("font")),
+        owned(alloc, matches.get_str("docs")),
+    ) else {
+        return Err(None);
+    };
+    Ok(Asked::Format(Options { form, font, docs }))
+}
