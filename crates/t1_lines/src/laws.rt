@@ -1,7 +1,11 @@
 //! Laws above the definitions: each is the contract of a function without a body.
 
+ghost use Rattle.t1_report.specs.Faults.{fault_value};
+ghost use Rattle.t1_lines.specs.Lines.{IsSmall};
 ghost use Rattle.t1_lines.specs.Names.{FontsHaveNames, WaiversHaveNames};
 ghost use Rattle.t1_lines.specs.Readings.{IsOne, IsWritten};
+
+use t1_report::Fault;
 
 /// Each fault's line is written as it is spelled.
 pub fn faults_are_written_as_lines()
@@ -13,6 +17,19 @@ pub fn faults_are_written_as_lines()
 pub fn a_text_is_one_line()
     ensures { IsOne }
 {}
+
+/// Each fault's numbers are of 64 and 32 bits, and at most ten Subrs are being executed at it.
+pub fn faults_are_small(fault: &Fault)
+    ensures { IsSmall (fault_value fault.now) }
+{
+    // What the fields' types allow is known of a field that is read.
+    let _number = fault.number;
+    let _step = fault.step;
+    let path = fault.path.as_slice();
+    for number in path {
+        let _number = *number;
+    }
+}
 
 /// The glyphs of a font that was read have names without blanks and delimiters.
 #[tactic(auto, using(crate::proofs::NamesKept::fonts_have_names))]

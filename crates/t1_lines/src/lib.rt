@@ -27,7 +27,8 @@ mod refusal;
 mod words;
 
 pub use laws::{
-    a_text_is_one_line, faults_are_written_as_lines, fonts_have_names, waivers_have_names,
+    a_text_is_one_line, faults_are_small, faults_are_written_as_lines, fonts_have_names,
+    waivers_have_names,
 };
 pub use line::{FaultLine, Line, Path, Place};
 pub use reading::read;
