@@ -532,8 +532,8 @@ END
     sed -n 's/^\.runs\.0\.tool\.driver\.rules\.[0-9]*\.helpUri "\(.*\)"$/\1/p' "$scratch/values" >"$scratch/pages"
     try 'pages of rules' 0 diff "$scratch/anchors" "$scratch/pages"
     wanted <<'END'
-https://example.org/RULES.md#e03-segment-cut-short
 https://example.org/RULES.md#k02-seac-code-not-in-standardencoding
+https://example.org/RULES.md#e03-segment-cut-short
 --
 END
     try 'pages of two of them' 0 grep -e '#e03-' -e '#k02-' "$scratch/pages"
