@@ -2,7 +2,7 @@
 # Writes docs/RULES.md as the manual page t1check-rules(7).
 #
 # Of a table each row becomes an item: its first cell, then the others, the further ones each behind its column's heading.
-# Links become their texts, and the list of contents is left out.
+# Links become their texts. The list of contents is left out, and so are columns of definitions, for which one needs the sources at hand.
 set -u
 LC_ALL=C
 export LC_ALL
@@ -106,6 +106,7 @@ awk '
         print ".TP"
         fill(cell[1], " \\")
         for (i = 2; i <= count; i++) {
+            if (heading[i] ~ /^\[definition\]/) continue
             if (i > 2) print ".br"
             fill((i > 2 || heading[1] == "" ? heading[i] ": " : "") cell[i])
         }

@@ -7,12 +7,18 @@
 #   `X … (seven times) Y` stands for seven X and one Y.
 # - Each rule and each refusal has its text in the table of its kind, and each rule in its heading too; t1_lines reads the same texts of
 #   refusals. The pages that t1_format keeps are those of docs/RULES.md.
+# - Each rule stands in all places that docs/ARCHITECTURE.md names for it; one that lacks rules is told with their codes. A file that has all
+#   of them is named there. The definitions in a rule's row of docs/RULES.md are in the files that stand behind them, and the first of them
+#   is cited where specs/ says what breaks the rule. Above each row in specs/ stands a source.
 # - Each word of the definitions that a clause of a public function cites stands, between backquotes, in the first column of a row of
-#   docs/DEFINITIONS.md, or beside the rule in a row that begins with a rule's code. Left out is what that page leaves out: words of laws and
-#   of private functions, and types that the code declares. Public are all functions of the program, and of a library those of the modules
-#   whose items it hands on.
+#   docs/DEFINITIONS.md, or in the last one of a rule's row in docs/RULES.md; and each word that stands in the former is defined. Left out is
+#   what docs/DEFINITIONS.md leaves out: words of laws and of private functions, and types that the code declares. Public are all functions
+#   of the program, and of a library those of the modules whose items it hands on.
 # - The README's lines for an editor are lines of crates/example.
-# - Each link between the pages leads to a file, and to a heading where it names one.
+# - Each link between the pages leads to a file, and to a heading where it names one. Each file of crates/, docs/ and tests/ that a page
+#   names is there.
+#
+# Where the program can't be built, which counts as a failure, examples are compared with the cases alone.
 set -u
 LC_ALL=C
 export LC_ALL
@@ -22,16 +28,10 @@ program=$top/crates/t1check/out/t1check
 cases=$top/tests/program
 rules=$top/docs/RULES.md
 
-# Rules whose first example isn't read as charstrings: what it shows is a file, entries of a dictionary, bytes, more tokens than are
-# written out, or a waiver.
-unread='F01 F02 F03 F04 F05 F06 F07 F08 F09 F10 F11 F12 F13 F14 Z01 Z02 Z03 Z04 Z05 Z06 Z07 Z08 Z09 Z10 Z11
-C01 C02 C06 L01 U01'
+# Rules on charstrings whose examples aren't read as such, as those of F and Z aren't: they show bytes, more tokens than are written out,
+# or a waiver.
+unread='C01 C02 C06 L01 U01'
 
-if ! "$top/bin/t1check" --help >/dev/null; then
-    echo "failed: bin/t1check --help, which builds the program"
-    echo "0 passed, 1 failed"
-    exit 1
-fi
 scratch=$(mktemp -d) || exit 1
 trap 'rm -rf "$scratch"' EXIT
 trap 'exit 1' HUP INT TERM
@@ -45,6 +45,12 @@ pass() {
 fail() {
     failed=$((failed + 1))
     printf 'failed: %s\n' "$*"
+}
+
+built=yes
+"$top/bin/t1check" --help >/dev/null || {
+    built=''
+    fail 'bin/t1check --help, which builds the program'
 }
 
 # The examples below the rules' headings, a line each: the rule's code, the example's number, then the line.
@@ -124,7 +130,9 @@ try_example() {
     [ -f "$case" ] || { fail "docs/RULES.md: no case has the lines of example $2 of $1"; return; }
     sed -n 's/^out: //p' "$case" | cmp -s - "$scratch/lines" ||
         { fail "docs/RULES.md: example $2 of $1 has other lines than ${case##*/}"; return; }
-    case " $(echo $unread) " in *" $1 "*) pass; return ;; esac
+    case $1 in F* | Z*) pass; return ;; esac
+    case " $unread " in *" $1 "*) pass; return ;; esac
+    [ -n "$built" ] || return
     font=$(sed -n 's/^word: //p' "$case" | sed -n '$p')
     glyph=A
     while IFS= read -r line; do
@@ -147,7 +155,7 @@ while read -r code number; do
 done <"$scratch/examples"
 
 # The texts of the rules and the refusals, as the code has them.
-sed -n 's/^    (Rule::[A-Z0-9]*, "\([A-Z0-9]*\)", "\(.*\)"),$/\1 \2/p' "$top/crates/t1_rules/src/book.rt" >"$scratch/book"
+sed -n 's/^    (Rule::\([A-Z0-9]*\), "\1", "\(.*\)"),$/\1 \2/p' "$top/crates/t1_rules/src/book.rt" >"$scratch/book"
 while read -r code text; do
     if ! grep -qF "| $code | $text |" "$rules"; then
         fail "docs/RULES.md: no row of the table says $code $text"
@@ -177,6 +185,150 @@ if sh "$top/crates/t1_format/pages.sh" | cmp -s - "$top/crates/t1_format/src/pag
 else
     fail "crates/t1_format/src/pages.rt: crates/t1_format/pages.sh writes another one of docs/RULES.md"
 fi
+
+# The places in which each rule stands.
+specs=$top/crates/t1_rules/specs
+told=$top/crates/t1_report/specs/Reports.antt
+tests=$top/crates/t1_tests/src
+report_tests=$top/crates/t1_report_tests/src
+cut -d ' ' -f 1 "$scratch/book" >"$scratch/codes"
+sort "$scratch/codes" >"$scratch/sorted"
+
+# Compares the codes of a place, on standard input, with $scratch/codes or $scratch/sorted.
+compare_codes() {
+    cat >"$scratch/place"
+    if cmp -s "$scratch/$2" "$scratch/place"; then
+        pass
+    else
+        fail "$1: not the rules of the book:" \
+            "$(diff "$scratch/$2" "$scratch/place" | sed -n 's/^</without/p; s/^>/with/p' | tr '\n' ' ' | sed 's/ $//')"
+    fi
+}
+
+# The codes of rules, each once, among the words of files or of standard input.
+codes_in() {
+    grep -ohw '[A-Z][A-Z]*[0-9][0-9]' "$@" | sort -u | grep -xF -f "$scratch/codes"
+}
+
+# The rows of the tables of specs/, each with the comment above it.
+list_rows() {
+    awk '/^ *(∷ )?(font_row|row|of_step) [A-Z]+[0-9]+ / { sub(/^ *(∷ )?/, ""); print above; print }
+        { above = $0 }' "$specs/FontRules.antt" "$specs/StepRules.antt"
+}
+
+# What says where a rule is violated: its row, and of L01 and U01 the definition that names it.
+list_breaches() {
+    list_rows | sed -n 's/^[a-z_]* \([A-Z]*[0-9][0-9]\) /\1 /p'
+    awk '/^[a-z].* pub [a-z_]* :/ { name = $3 }
+        match($0, /number_of [A-Z]+[0-9]+ == n/) { print substr($0, RSTART + 10, RLENGTH - 15), name }' "$told"
+}
+
+# The definitions in the rows of docs/RULES.md: code, number, word and file.
+list_definitions() {
+    sed -n 's/^| \([A-Z]*[0-9][0-9]\) | .* | .* | .* | \([^|]*\) |$/\1 \2/p' "$rules" | awk '{
+        number = held = 0
+        count = split($0, parts, "`")
+        for (i = 2; i < count; i += 2) {
+            split(parts[i], name, " ")
+            words[held++] = name[1]
+            file = parts[i + 1]
+            if (!sub(/^ in /, "", file)) continue
+            sub(/,.*/, "", file)
+            for (j = 0; j < held; j++) print $1, ++number, words[j], file
+            held = 0
+        }
+    }'
+}
+
+# The rules of the contents of docs/RULES.md, with those between `C01 to C09`.
+list_contents() {
+    sed -n 's/^- \[.*\](#[a-z0-9-]*): \([A-Z]*[0-9][0-9]\)/\1/p' "$rules" | awk -F ', ' '{
+        for (i = 1; i <= NF; i++) {
+            count = split($i, ends, " to ")
+            letters = ends[1]
+            sub(/[0-9]*$/, "", letters)
+            for (n = substr(ends[1], length(letters) + 1) + 0; n <= substr(ends[count], length(letters) + 1) + 0; n++)
+                printf "%s%02d\n", letters, n
+        }
+    }' | grep -v '^E[0-9]'
+}
+
+# The rules whose case wants their line, of the font of their name.
+list_cases() {
+    while read -r code text; do
+        case=$cases/$code.case
+        [ -f "$cases/fonts/$code.pfb" ] && grep -qx "word: $code.pfb" "$case" &&
+            sed -n 's/^out: [0-9][0-9]*: .* \([A-Z][A-Z]*[0-9][0-9] .*\)/\1/p' "$case" | grep -qxF "$code $text" && echo "$code"
+    done <"$scratch/book"
+}
+
+sed -n '/^pub enum Rule {$/,/^}$/s/^    \([A-Z]*[0-9][0-9]\).*,$/\1/p' "$top/crates/t1_rules/src/rule.rt" >"$scratch/list"
+compare_codes crates/t1_rules/src/rule.rt codes <"$scratch/list"
+sed -n 's/^entry_of \([A-Z]*[0-9][0-9]\) = .*/\1/p' "$specs/Book.antt" >"$scratch/list"
+compare_codes 'crates/t1_rules/specs/Book.antt, entry_of' codes <"$scratch/list"
+sed -n '/^rules =$/,/\[\]$/p' "$specs/Book.antt" | grep -o '[A-Z]*[0-9][0-9]' >"$scratch/list"
+compare_codes 'crates/t1_rules/specs/Book.antt, rules' codes <"$scratch/list"
+list_breaches >"$scratch/breaches"
+cut -d ' ' -f 1 "$scratch/breaches" | sort >"$scratch/list"
+compare_codes 'crates/t1_rules/specs: FontRules.antt, StepRules.antt; crates/t1_report/specs/Reports.antt' sorted <"$scratch/list"
+{
+    list_rows | sed -n '/^ *-- .*\(Type 1 Font Format, chapter [0-9]*\|Technical Note [0-9]*, section [0-9.]*\|Own\)\.$/{ n; p; }' |
+        sed 's/^[a-z_]* \([A-Z]*[0-9][0-9]\) .*/\1/'
+    printf 'L01\nU01\n'
+} | sort >"$scratch/list"
+compare_codes 'crates/t1_rules/specs: FontRules.antt, StepRules.antt, the sources' sorted <"$scratch/list"
+grep -oh 'Rule::[A-Z]*[0-9][0-9]' "$top"/crates/t1_rules/src/font_rules/*.rt "$top"/crates/t1_rules/src/step_rules/*.rt \
+    "$top/crates/t1_rules/src/sidebearings.rt" "$top/crates/t1_report/src/violations.rt" "$top/crates/t1_report/src/usage.rt" |
+    sed 's/^Rule:://' | sort -u >"$scratch/list"
+compare_codes 'the code in crates/t1_rules/src and crates/t1_report/src' sorted <"$scratch/list"
+find "$tests/rules" "$report_tests" -name '*.rt' ! -name book.rt ! -name mask.rt -exec cat {} + | codes_in >"$scratch/list"
+compare_codes 'the tests in crates/t1_tests/src and crates/t1_report_tests/src' sorted <"$scratch/list"
+sed -n 's/^| \([A-Z]*[0-9][0-9]\) | .* | .* | .* | .* |$/\1/p' "$rules" >"$scratch/list"
+compare_codes 'docs/RULES.md, the table' codes <"$scratch/list"
+sed -n 's/^### \([A-Z]*[0-9][0-9]\) .*/\1/p' "$rules" | grep -v '^E[0-9]' >"$scratch/list"
+compare_codes 'docs/RULES.md, the headings' codes <"$scratch/list"
+list_contents >"$scratch/list"
+compare_codes 'docs/RULES.md, the contents' codes <"$scratch/list"
+sed -n 's/^        code: "\(.*\)",$/\1/p' "$top/crates/t1_format/src/pages.rt" | grep -v '^E[0-9]' >"$scratch/list"
+compare_codes crates/t1_format/src/pages.rt codes <"$scratch/list"
+list_cases >"$scratch/list"
+compare_codes 'tests/program, cases of the rules and their fonts' codes <"$scratch/list"
+
+# Other files that have all rules.
+sed -n '/^## From a rule/,/^## t1_io/p' "$top/docs/ARCHITECTURE.md" >"$scratch/passage"
+(cd "$top" && find README.md bin completions crates docs man tests bench -name out -prune -o -type f -exec grep -lw U01 {} +) >"$scratch/files"
+while IFS= read -r file; do
+    codes_in "$top/$file" | cmp -s - "$scratch/sorted" || continue
+    if grep -qF -e "$file" "$scratch/passage"; then
+        pass
+    else
+        fail "docs/ARCHITECTURE.md: $file has all rules, and isn't among their places"
+    fi
+done <"$scratch/files"
+
+# Whether the words of a row are defined where it says, and the first is that of what breaks the rule.
+try_definitions() {
+    sed -n "s/^$1 //p" "$scratch/definitions" >"$scratch/words"
+    breach=$(sed -n "s/^$1 //p" "$scratch/breaches")
+    while read -r number word file; do
+        case $file in
+            crates/*) path=$top/$file.antt ;;
+            *) path=$specs/$file.antt ;;
+        esac
+        case $breach in
+            *font.$word*) ;;
+            *) grep -q "^[a-z]* *pub $word :" "$path" || { fail "docs/RULES.md: $1: $file doesn't define $word"; return; } ;;
+        esac
+        [ "$number" -ne 1 ] || printf '%s\n' "$breach" | grep -qw -e "$word" ||
+            { fail "docs/RULES.md: $1: what breaks it isn't said by $word"; return; }
+    done <"$scratch/words"
+    if [ -s "$scratch/words" ]; then pass; else fail "docs/RULES.md: $1 has no definition"; fi
+}
+
+list_definitions >"$scratch/definitions"
+while read -r code; do
+    try_definitions "$code"
+done <"$scratch/codes"
 
 # The files whose public functions others call.
 list_public() {
@@ -229,8 +381,11 @@ list_cited() {
 }
 
 # A word of specs/Private that a public contract cites has no row, and so is told.
-awk -F '|' '/^\| *[A-Z]+[0-9]+ *\|/ { print $4; next } /^\|/ { print $2 }' "$top/docs/DEFINITIONS.md" |
-    grep -o '`[^`]*`' | tr -d '`' | tr ' ' '\n' | sort -u >"$scratch/listed"
+awk -F '|' '/^\|/ { print $2 }' "$top/docs/DEFINITIONS.md" | grep -o '`[^`]*`' | tr -d '`' | sort -u >"$scratch/defining"
+{
+    cat "$scratch/defining"
+    cut -d ' ' -f 3 "$scratch/definitions"
+} | sort -u >"$scratch/listed"
 list_public >"$scratch/public"
 # shellcheck disable=SC2046
 list_cited $(cat "$scratch/public") >"$scratch/cited"
@@ -242,6 +397,19 @@ while read -r word; do
     fi
 done <"$scratch/cited"
 [ "$(wc -l <"$scratch/cited")" -gt 100 ] || fail "the words of contracts aren't read: $(wc -l <"$scratch/cited")"
+# Definitions, their fields and cases, and types that the code declares.
+find "$top"/crates/*/specs -name '*.antt' -exec sed -n \
+    -e 's/^[a-z]* *pub record \([A-Za-z0-9_]*\).*/\1/p' -e 's/^[a-z]* *pub data \([A-Za-z0-9_]*\).*/\1/p' \
+    -e 's/^[a-z ]*pub \([A-Za-z0-9_]*\) :.*/\1/p' -e 's/^  \([A-Za-z0-9_]*\) :.*/\1/p' {} + >"$scratch/all"
+find "$top"/crates/*/src -name '*.rt' -exec sed -n 's/^pub[()a-z]* [a-z]* \([A-Z][A-Za-z]*\).*/\1/p' {} + >>"$scratch/all"
+sort -u "$scratch/all" >"$scratch/defined"
+while read -r word; do
+    if grep -qxF -e "$word" "$scratch/defined"; then
+        pass
+    else
+        fail "docs/DEFINITIONS.md: nothing in crates/*/specs defines $word"
+    fi
+done <"$scratch/defining"
 
 # The README's lines for an editor stand in the example.
 sed -n '/^## In an editor$/,/^## /s/^    //p' "$top/README.md" >"$scratch/editor"
@@ -274,6 +442,15 @@ for page in "$top/README.md" "$top"/docs/*.md; do
             pass
         fi
     done <"$scratch/links"
+    grep -o '\(crates\|docs\|tests\)/[A-Za-z0-9_/.-]*[A-Za-z0-9_]' "$page" | sort -u >"$scratch/named"
+    while IFS= read -r file; do
+        case $file in */NAME/* | */out/*) continue ;; esac
+        if [ -e "$top/$file" ] || [ -e "$top/$file.antt" ]; then
+            pass
+        else
+            fail "${page#"$top"/}: there is no $file"
+        fi
+    done <"$scratch/named"
 done
 
 printf '%d passed, %d failed\n' "$passed" "$failed"

@@ -6,7 +6,7 @@ use Rattle.t1_char.specs.declared.argument.OthersubrCall.TheVariants.{FlexEnd, F
 use Rattle.t1_char.specs.declared.command.Command.TheVariants.{Callothersubr}
 use Rattle.t1_char.specs.declared.token.CharToken.{CharToken}
 use Rattle.t1_char.specs.declared.token.CharToken.TheVariants.{Command}
-use Rattle.t1_char.specs.Numbers.{clamped}
+use Rattle.t1_char.specs.Numbers.{clamped, unit}
 use Rattle.t1_char.specs.Stacks.{from_top}
 use Rattle.t1_char.specs.Steps.{StepView}
 
@@ -21,7 +21,7 @@ is_callothersubr _ = false
 
 -- The number is that whole number.
 abbrev pub is_whole : ℕ → ℤ → Bool
-is_whole n z = int_eq z (pos (n * 65536))
+is_whole n z = int_eq z (pos (n * unit))
 
 -- The step calls the OtherSubr of this number with so many arguments, which are there.
 abbrev pub calls_othersubr : ℕ → ℕ → StepView → Bool

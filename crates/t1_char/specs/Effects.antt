@@ -1,12 +1,12 @@
 -- What a token does. Type 1 Font Format 1.1, chapter 6 (the commands) and chapter 8 (OtherSubrs); what
 -- is done where a charstring is faulty is this project's own.
-use Rattle.std.specs.Prelude.{ℕ, ℤ, ◌==◌, ◌||◌, ◌&&◌, nat_lt, nat_le, if◌then◌else◌, Bool, true, false, Option, Some, None, List, [], ◌∷◌, ◌++◌, length, drop}
+use Rattle.std.specs.Prelude.{ℕ, ℤ, ◌-◌, ◌==◌, ◌||◌, ◌&&◌, nat_lt, nat_le, if◌then◌else◌, Bool, true, false, Option, Some, None, List, [], ◌∷◌, ◌++◌, length, drop}
 use Rattle.t1_char.specs.declared.command.Command.{Command as Commands}
 use Rattle.t1_char.specs.declared.command.Command.TheVariants.{Endchar, Seac, Div, Callsubr, Return, Callothersubr, Pop}
 use Rattle.t1_char.specs.declared.token.CharToken.{CharToken}
 use Rattle.t1_char.specs.declared.token.CharToken.TheVariants.{Number, Command, Unknown, Unknown12, Cut, Short, End}
 use Rattle.t1_char.specs.Numbers.{units, quotient, natural}
-use Rattle.t1_char.specs.Stacks.{put, from_top, without, topmost}
+use Rattle.t1_char.specs.Stacks.{most_numbers, put, from_top, without, topmost}
 
 -- What a run holds: the numbers on the stack, bottom first, and the results of the last call of an
 -- OtherSubr that wait for pop, first result first.
@@ -33,6 +33,10 @@ pub record Effect : Type 0 where
 -- The most calls that are open at a time.
 abbrev pub most_calls : ℕ
 most_calls = 10
+
+-- The most results of an OtherSubr: a full stack but for its count and number.
+abbrev pub most_results : ℕ
+most_results = most_numbers - 2
 
 -- What the commands do: seven things.
 pub data Work : Type 0 where

@@ -1,10 +1,11 @@
 -- Steps that a machine can go over: numbers that the stack has room for.
 use Rattle.std.specs.Prelude.{◌≡◌, ℕ, ◌<◌, ◌≤◌, ◌&&◌, nat_lt, Bool, true, Some, List, length, slice_get}
+use Rattle.t1_char.specs.Stacks.{most_numbers}
 use Rattle.t1_char.specs.Steps.{StepView, is_number}
 
 -- A number that doesn't come to a full stack.
 abbrev pub is_kept_number : StepView → Bool
-is_kept_number step = is_number step.token && nat_lt (length step.stack) 24
+is_kept_number step = is_number step.token && nat_lt (length step.stack) most_numbers
 
 -- Behind n steps stands such a number, within the limit.
 pub record IsPassed (limit : ℕ) (steps : List StepView) (n : ℕ) : Type 0 where

@@ -25,11 +25,6 @@ since_from a b front (s ∷ ss) =
 abbrev pub since : Test → Test → List StepView → Bool
 since a b steps = since_from a b [] steps
 
--- The steps after the last such, all where there is none.
-abbrev pub after_last : (StepView → Bool) → List StepView → List StepView
-after_last a [] = []
-after_last a (s ∷ ss) = if list_any a ss then after_last a ss else (if a s then ss else s ∷ ss)
-
 -- The last such step.
 abbrev pub last_of : (StepView → Bool) → List StepView → Option StepView
 last_of a [] = None

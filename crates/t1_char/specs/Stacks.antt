@@ -1,9 +1,13 @@
 -- The stack of numbers, bottom first. Type 1 Font Format 1.1, chapter 6.
 use Rattle.std.specs.Prelude.{ℕ, ℤ, pos, ◌-◌, nat_lt, if◌then◌else◌, List, [], ◌∷◌, ◌++◌, length, reverse, take, drop, slice_index_or}
 
+-- The most numbers that a stack holds.
+abbrev pub most_numbers : ℕ
+most_numbers = 24
+
 -- One number more on top; a 25th is dropped.
 abbrev pub put : List ℤ → ℤ → List ℤ
-put stack z = if nat_lt (length stack) 24 then stack ++ z ∷ [] else stack
+put stack z = if nat_lt (length stack) most_numbers then stack ++ z ∷ [] else stack
 
 -- The number so many below the top; 0 where there is none. That there is one is the caller's to see to.
 abbrev pub from_top : List ℤ → ℕ → ℤ

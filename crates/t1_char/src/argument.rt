@@ -5,11 +5,9 @@ ghost use Rattle.t1_char.specs.Arguments.{argument, calls_othersubr, is_flex_end
 ghost use Rattle.t1_char.specs.Numbers.{clamped};
 ghost use Rattle.t1_char.specs.StepValues.{step_view};
 
+use crate::numbers::{GREATEST, UNIT};
 use crate::step::Step;
 use crate::token::is_callothersubr;
-
-/// 32000 in units of 1/65536.
-const GREATEST: i32 = 32000 * 65536;
 
 /// Which of the OtherSubrs of flex and hint replacement a step calls, with the count that it wants.
 #[derive(Clone, Copy, Debug, PartialEq, Eq)]
@@ -98,18 +96,12 @@ impl Step {
 fn clamped(number: i64) -> i32
     ensures { result ≡ clamped number }
 {
-    if number > i64::from(GREATEST) {
-        GREATEST
-    } else if number < -i64::from(GREATEST) {
-        -GREATEST
-    } else {
-        number as i32
-    }
+    number.clamp(-GREATEST, GREATEST) as i32
 }
 
 /// Whether a number on the stack is that whole number.
 fn is_whole(whole: u16, number: i64) -> bool
     ensures { result ≡ is_whole whole number }
 {
-    number == i64::from(whole) * 65536
+    number == i64::from(whole) * UNIT
 }

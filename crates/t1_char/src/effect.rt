@@ -3,7 +3,7 @@
 
 ghost use Rattle.std.specs.Prelude.{◌≡◌, ◌≤◌, false, length, true};
 ghost use Rattle.t1_char.specs.declared.token.CharToken.TheVariants.{Number};
-ghost use Rattle.t1_char.specs.Effects.{after_othersubr, call_of, divided, effect, effect_of, popped, results, work_of, working};
+ghost use Rattle.t1_char.specs.Effects.{after_othersubr, call_of, divided, effect, effect_of, most_results, popped, results, work_of, working};
 ghost use Rattle.t1_char.specs.Stacks.{topmost, without};
 ghost use Rattle.t1_char.specs.Private.Actions.{IsNested, action_of, named_of, state_of, work_view};
 ghost use Rattle.t1_char.specs.Private.Plain.{IsPlainEffect, is_clearing};
@@ -11,13 +11,17 @@ ghost use Rattle.t1_char.specs.Private.Plain.{IsPlainEffect, is_clearing};
 use crate::action::{Action, Work, work_of};
 use crate::command::Command;
 use crate::numbers::{natural, quotient, units};
-use crate::stack::Stack;
+use crate::stack::{MOST_NUMBERS, Stack};
+use crate::step::MOST_CALLS;
 use crate::subr::Subr;
 use crate::token::CharToken;
 use arrayvec::ArrayVec;
 
+/// An OtherSubr has at most so many results: a full stack but for its count and number.
+const MOST_RESULTS: usize = MOST_NUMBERS - 2;
+
 /// The results of the last call of an OtherSubr that wait for pop, first result first.
-pub(crate) type Waiting = ArrayVec<i64, 22>;
+pub(crate) type Waiting = ArrayVec<i64, MOST_RESULTS>;
 
 /// Executes a token, where `named` is the Subr that the top of the stack names, and `depth` is how many
 /// calls are open.
@@ -157,7 +161,7 @@ fn call<'a>(stack: &mut Stack, named: Option<Subr<'a>>, depth: usize) -> Action<
         stack.take_off(1);
     }
     match named {
-        Some(subr) if depth < 10 => Action::Calls(subr),
+        Some(subr) if depth < MOST_CALLS => Action::Calls(subr),
         _ => Action::Goes,
     }
 }
@@ -182,14 +186,15 @@ fn call_othersubr(stack: &mut Stack, waiting: &mut Waiting)
 /// Gives an OtherSubr its arguments, so many, and keeps its results.
 fn hand_over(stack: &mut Stack, waiting: &mut Waiting, number: Option<u32>, count: usize)
     requires there { count ≤ length stack.old }
-    requires room { length stack.old ≤ 22 }
+    requires room { length stack.old ≤ most_results }
     ensures stack { stack.new ≡ without count stack.old }
     ensures waiting { waiting.new.items ≡ results number (topmost count stack.old) }
 {
     waiting.clear();
     let numbers = stack.as_slice();
     let results = results(number, &numbers[numbers.len() - count..]);
-    let _kept = waiting.try_extend_from_slice(results);
+    // They fit: the stack held no more, but for the count and the number.
+    let _fits = waiting.try_extend_from_slice(results);
     stack.take_off(count);
 }
 

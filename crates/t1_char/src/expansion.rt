@@ -16,11 +16,11 @@ use crate::cursor::Cursor;
 use crate::edition::Edition;
 use crate::effect::{Waiting, apply};
 use crate::stack::Stack;
-use crate::step::{Path, Step, copy_of, is_last, named_at};
+use crate::step::{Path, Step, is_last, named_at};
 use crate::token::CharToken;
 use arrayvec::ArrayVec;
 use std::alloc::{AllocError, Global};
-use t1_font::Font;
+use t1_font::{Font, copy_of};
 
 /// The steps of a glyph, by its place, from the first on: all, or those up to the first past the limit of the edition.
 ///

@@ -17,7 +17,7 @@ use crate::cursor::Cursor;
 use crate::effect::{Waiting, apply, apply_plain, put_number};
 use crate::machine::Numbers;
 use crate::stack::Stack;
-use crate::step::{Step, is_last, named_at};
+use crate::step::{MOST_CALLS, Step, is_last, named_at};
 use crate::subr::Subr;
 use crate::token::{CharToken, is_callsubr};
 use arrayvec::ArrayVec;
@@ -30,7 +30,7 @@ pub(crate) struct Frames<'a> {
     /// Behind the step's token.
     current: Cursor<'a>,
     /// The charstrings that called, the glyph's first, each behind its callsubr.
-    callers: ArrayVec<Cursor<'a>, 10>,
+    callers: ArrayVec<Cursor<'a>, MOST_CALLS>,
     /// The Subr that the step calls, where its token is callsubr.
     named: Option<Subr<'a>>,
     waiting: Waiting,

@@ -61,9 +61,9 @@ pub use laws::{
     steps_follow_the_tokens, steps_go_on, steps_tell_calls_and_ends, written_charstrings_are_read,
 };
 pub use machine::{Answer, Machine, Numbers, Turn};
-pub use numbers::{cut_quotient, natural};
+pub use numbers::{GREATEST, UNIT, cut_quotient, natural};
 pub use seacs::{steps_lack_seac, subrs_lack_seac};
-pub use stack::Stack;
-pub use step::{Path, Step};
+pub use stack::{MOST_NUMBERS, Stack};
+pub use step::{MOST_CALLS, Path, Step};
 pub use token::{CharToken, is_callothersubr, is_callsubr, is_end, is_return};
 pub use token_list::tokens;

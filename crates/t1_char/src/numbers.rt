@@ -4,10 +4,11 @@
 ghost use Rattle.std.specs.Prelude.{◌≡◌, ◌≢◌, pos};
 ghost use Rattle.t1_char.specs.Numbers.{clamped, cut_quotient, natural, quotient, units};
 
-const UNIT: i64 = 65536;
+/// 1, in units of 1/65536.
+pub const UNIT: i64 = 65_536;
 
-/// The greatest quotient, 32000.
-const GREATEST: i64 = 32000 * 65536;
+/// The greatest number that is kept, 32000, in units of 1/65536; the least is its negative.
+pub const GREATEST: i64 = 32_000 * UNIT;
 
 /// A number of a charstring in units of 1/65536.
 pub(crate) fn units(number: i32) -> i64
@@ -40,13 +41,7 @@ pub fn cut_quotient(dividend: i64, divisor: i64) -> i128
 fn clamped(number: i128) -> i64
     ensures { result ≡ clamped number }
 {
-    if number > i128::from(GREATEST) {
-        GREATEST
-    } else if number < -i128::from(GREATEST) {
-        -GREATEST
-    } else {
-        number as i64
-    }
+    number.clamp(-i128::from(GREATEST), i128::from(GREATEST)) as i64
 }
 
 /// The number as a count or the number of a Subr, where it is whole and not negative.
@@ -57,8 +52,8 @@ pub fn natural(number: i64) -> Option<u32>
         return None;
     }
     let natural = number as u64;
-    if natural % 65536 == 0 && natural < 1 << 48 {
-        Some((natural / 65536) as u32)
+    if natural % UNIT as u64 == 0 && natural < 1 << 48 {
+        Some((natural / UNIT as u64) as u32)
     } else {
         None
     }

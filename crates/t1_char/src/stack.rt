@@ -1,30 +1,31 @@
 //! The stack of numbers: Type 1 Font Format 1.1, chapter 6.
 
 ghost use Rattle.std.specs.Prelude.{◌≡◌, ◌≤◌, ◌<◌, [], length, nat_eq, nat_le};
-ghost use Rattle.t1_char.specs.Stacks.{from_top, put, without};
+ghost use Rattle.t1_char.specs.Stacks.{from_top, most_numbers, put, without};
 
 use std::marker::Model;
 
-/// The most numbers that a stack holds.
-const MOST: usize = 24;
+/// The most numbers that a stack holds: Type 1 Font Format 1.1, chapter 6.
+pub const MOST_NUMBERS: usize = 24;
 
 /// The numbers on the stack, bottom first, at most 24, in units of 1/65536.
 ///
 /// What is taken off isn't overwritten, so that emptying it costs nothing.
 #[derive(Drop)]
 pub struct Stack {
-    cells: [i64; MOST],
+    cells: [i64; MOST_NUMBERS],
     len: usize,
 }
 
 impl Model for Stack {
     ghost use Rattle.std.specs.Prelude.{ℤ, List, ◌≤◌, take};
+    ghost use Rattle.t1_char.specs.Stacks.{most_numbers};
 
     ghost Value = { List ℤ };
 
     ghost view = { λ s. take s.len s.cells };
 
-    ghost invariant = { λ s. s.len ≤ 24 };
+    ghost invariant = { λ s. s.len ≤ most_numbers };
 }
 
 impl Stack {
@@ -33,7 +34,7 @@ impl Stack {
         ensures { result ≡ [] }
     {
         Stack {
-            cells: [0; MOST],
+            cells: [0; MOST_NUMBERS],
             len: 0,
         }
     }
@@ -41,7 +42,7 @@ impl Stack {
     /// The numbers, bottom first.
     pub fn as_slice(&self) -> &[i64]
         ensures numbers { result.now ≡ self.now }
-        ensures most { length self.now ≤ 24 }
+        ensures most { length self.now ≤ most_numbers }
     {
         &self.cells[..self.len]
     }
@@ -49,7 +50,7 @@ impl Stack {
     /// How many numbers there are.
     pub fn len(&self) -> usize
         ensures len { result ≡ length self.now }
-        ensures most { length self.now ≤ 24 }
+        ensures most { length self.now ≤ most_numbers }
     {
         self.len
     }
@@ -64,9 +65,9 @@ impl Stack {
     /// Whether there is no room for one more.
     #[inline(always)]
     pub(crate) fn is_full(&self) -> bool
-        ensures { result ≡ nat_le 24 (length self.now) }
+        ensures { result ≡ nat_le most_numbers (length self.now) }
     {
-        self.len >= MOST
+        self.len >= MOST_NUMBERS
     }
 
     /// A stack of the same numbers.
@@ -90,7 +91,7 @@ impl Stack {
     pub(crate) fn put(&mut self, number: i64)
         ensures { self.new ≡ put self.old number }
     {
-        if self.len < MOST {
+        if self.len < MOST_NUMBERS {
             self.cells[self.len] = number;
             self.len += 1;
         }

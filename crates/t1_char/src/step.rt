@@ -13,8 +13,11 @@ use crate::token::{CharToken, is_callsubr, is_end, is_return};
 use arrayvec::ArrayVec;
 use t1_font::Font;
 
+/// How many calls of Subrs are open at most: Type 1 Font Format 1.1, chapter 6.
+pub const MOST_CALLS: usize = 10;
+
 /// The Subrs that are being executed, the outermost first.
-pub type Path = ArrayVec<u32, 10>;
+pub type Path = ArrayVec<u32, MOST_CALLS>;
 
 /// One token of a glyph that is executed.
 #[derive(Drop)]
@@ -49,15 +52,6 @@ pub(crate) fn named_at<'a>(font: &'a Font<'a>, token: CharToken, stack: &Stack) 
             Some(code) => Some(Subr { number, code }),
         },
     }
-}
-
-/// A path of the same Subrs.
-pub(crate) fn copy_of(path: &Path) -> Path
-    ensures { result.items ≡ path.now.items }
-{
-    let mut copy = ArrayVec::new();
-    let _copied = copy.try_extend_from_slice(path.as_slice());
-    copy
 }
 
 /// Whether what follows a token is End alone, or, in a Subr, return and End.

@@ -14,7 +14,7 @@ use Rattle.t1_font.specs.declared.mode.PrivateMode.TheVariants.{Outside, Subrs}
 use Rattle.t1_font.specs.declared.refusal.Refusal.{Refusal}
 use Rattle.t1_font.specs.declared.refusal.Refusal.TheVariants.{BadCharStrings, BadLenIv}
 use Rattle.t1_font.specs.Keys.{private_key, same_name}
-use Rattle.t1_font.specs.Tokens.{billion, is_word_kind, is_name_kind}
+use Rattle.t1_font.specs.Tokens.{is_word_kind, is_name_kind}
 use Rattle.t1_font.specs.Fonts.{Stated, Marks, FontValue, value_of, plain}
 use Rattle.t1_font.specs.TextTurns.{TextRead, goes, with_one, stated_in}
 use Rattle.t1_font.specs.PrivateText.{is_len_iv, is_len_iv_key, private_value, private_outside, subrs_token, private_turn}
@@ -23,6 +23,7 @@ use Rattle.t1_font.specs.Laws.UsualPrivateText.{PrivateItem, key, other_name, ot
 use Rattle.t1_font.proofs.Shorter.{private_shortens}
 use Rattle.t1_font.proofs.Steps.{goes_on}
 use Rattle.t1_font.proofs.WrittenRead.{is_other, wanted_is, last_token, parts, whole_number, whole_up_to_kind}
+use Rattle.t1_scan.specs.Numbers.{billion}
 
 -- A token outside, and among the Subrs.
 pub outside : (v : FontValue) (s : List ℕ) (t : Plain) (left : List ℕ) → BeginsWith s t left → private_turn v Outside s ≡ private_outside v (meant t) (spelled t) left

@@ -15,10 +15,11 @@ use Rattle.t1_font.specs.declared.refusal.Refusal.{Refusal}
 use Rattle.t1_font.specs.declared.refusal.Refusal.TheVariants.{PastLimit}
 use Rattle.t1_font.specs.declared.key.Key.{Key}
 use Rattle.t1_font.specs.Keys.{same_name}
-use Rattle.t1_font.specs.Tokens.{token_at, wanted, token_ahead, billion, whole, whole_up_to, natural, is_word_kind, is_number_kind, past_word, raw_of, charstring_at}
+use Rattle.t1_font.specs.Tokens.{token_at, wanted, token_ahead, whole, whole_up_to, natural, is_word_kind, is_number_kind, past_word, raw_of, charstring_at}
 use Rattle.t1_font.specs.Laws.Written.{Piece, token, raw, IsWritten, IsWhole, Charstring, charstring_pieces, IsCharstring}
 use Rattle.t1_font.proofs.Steps.{found}
 use Rattle.t1_font.proofs.Tables.{name_exact}
+use Rattle.t1_scan.specs.Numbers.{billion}
 
 -- A token, and what follows it.
 abbrev pub seen : Plain → List ℕ → Found

@@ -1,6 +1,6 @@
 -- The clear text, to the word eexec (Type 1 Font Format, chapter 2): the plain keys with their values,
 -- and the Encoding.
-use Rattle.std.specs.Prelude.{ℕ, Bool, false, Option, Some, None, Result, Ok, Err, List, [], ◌*◌, ◌==◌, if◌then◌else◌, codes, not, pos}
+use Rattle.std.specs.Prelude.{ℕ, Bool, false, Option, Some, None, Result, Ok, Err, List, [], ◌*◌, ◌-◌, ◌==◌, if◌then◌else◌, codes, not, pos}
 use Rattle.t1_scan.specs.declared.token.Kind.{Kind}
 use Rattle.t1_scan.specs.declared.token.Kind.TheVariants.{Number}
 use Rattle.t1_seal.specs.Segments.{begins_pfa}
@@ -13,9 +13,11 @@ use Rattle.t1_font.specs.declared.refusal.Refusal.TheVariants.{NoEexec, Multiple
 use Rattle.t1_font.specs.Readings.{◌>>=◌}
 use Rattle.t1_font.specs.declared.key.Key.{Key}
 use Rattle.t1_font.specs.Keys.{clear_key, same_name}
-use Rattle.t1_font.specs.Tokens.{billion, wanted, token_ahead, whole_up_to, spells, is_name_kind, is_number_kind, name_of, ◌>?◌}
+use Rattle.t1_font.specs.Tokens.{wanted, token_ahead, whole_up_to, spells, is_name_kind, is_number_kind, name_of, ◌>?◌}
 use Rattle.t1_font.specs.Fonts.{Stated, Marks, FontValue, plain, encoding, code, bad_code}
 use Rattle.t1_font.specs.TextTurns.{TextTurn, over, goes, pass, TextRead, stated_in}
+use Rattle.t1_font.specs.Bounds.{code_count}
+use Rattle.t1_scan.specs.Numbers.{billion}
 
 -- A plain key takes the next token as its value, whatever it is.
 unfoldable pub clear_value : Option Key → List ℕ → Result (TextTurn ClearMode) Refusal
@@ -26,7 +28,7 @@ clear_value (Some k) rest =
 
 -- The number 256.
 abbrev pub is_code_count : Kind → Bool
-is_code_count (Number (pos n)) = n == 256 * billion
+is_code_count (Number (pos n)) = n == code_count * billion
 is_code_count _ = false
 
 -- An Encoding of a form begins.
@@ -59,7 +61,7 @@ clear_outside kind text rest =
 
 -- A code with its name; one that isn't whole from 0 to 255 sets nothing.
 unfoldable pub code_statement : Kind → List ℕ → Stated
-code_statement kind text = elim (whole_up_to 255 kind) [ Some n ↦ code n (name_of text) | None ↦ bad_code ]
+code_statement kind text = elim (whole_up_to (code_count - 1) kind) [ Some n ↦ code n (name_of text) | None ↦ bad_code ]
 
 -- What follows dup: a number, a name and the word put.
 unfoldable pub code_at : List ℕ → Option (TextTurn ClearMode)

@@ -1,3 +1,4 @@
+pub mod Blanks
 pub mod BrokenPrivateText
 pub mod BrokenTexts
 pub mod Example

@@ -1,3 +1,4 @@
+pub mod Bounds
 pub mod ClearText
 pub mod Entries
 pub mod FontFiles

@@ -1,6 +1,6 @@
 -- The private text, to the end of its CharStrings (Type 1 Font Format, chapters 2, 5 and 6): the plain
 -- keys of Private with their values, the Subrs, the glyphs.
-use Rattle.std.specs.Prelude.{ℕ, suc, Bool, true, false, Option, Some, None, Result, Ok, Err, List, ◌==◌, ◌&&◌, ◌||◌, if◌then◌else◌, codes, not, length, is_some, nat_le, negsuc}
+use Rattle.std.specs.Prelude.{ℕ, suc, Bool, true, false, Option, Some, None, Result, Ok, Err, List, ◌==◌, ◌&&◌, ◌||◌, if◌then◌else◌, codes, not, length, is_some, nat_le, negsuc, ◌-◌}
 use Rattle.std.specs.List.{list_any}
 use Rattle.t1_scan.specs.declared.token.Kind.{Kind}
 use Rattle.t1_scan.specs.declared.token.Kind.TheVariants.{Number}
@@ -12,9 +12,11 @@ use Rattle.t1_font.specs.declared.refusal.Refusal.{Refusal}
 use Rattle.t1_font.specs.declared.refusal.Refusal.TheVariants.{BadSubrs, BadCharStrings, BadLenIv, PastLimit, SecondSubrs}
 use Rattle.t1_font.specs.Readings.{◌>>=◌}
 use Rattle.t1_font.specs.Keys.{private_key, same_name}
-use Rattle.t1_font.specs.Tokens.{billion, token_at, wanted, token_ahead, whole_up_to, natural, spells, is_word_kind, is_name_kind, is_number_kind, is_array_kind, name_of, inside_of, past_word, charstring_at}
+use Rattle.t1_font.specs.Tokens.{token_at, wanted, token_ahead, whole_up_to, natural, spells, is_word_kind, is_name_kind, is_number_kind, is_array_kind, name_of, inside_of, past_word, charstring_at}
 use Rattle.t1_font.specs.Fonts.{Stated, Marks, FontValue, plain, size, subr, glyph}
 use Rattle.t1_font.specs.TextTurns.{TextTurn, over, goes, pass, TextRead, stated_in}
+use Rattle.t1_font.specs.Bounds.{most_glyphs, most_subrs, greatest_len_iv}
+use Rattle.t1_scan.specs.Numbers.{billion}
 
 abbrev pub is_minus_one : Kind → Bool
 is_minus_one (Number (negsuc n)) = suc n == billion
@@ -22,7 +24,7 @@ is_minus_one _ = false
 
 -- A lenIV is a whole number from -1 to 64.
 unfoldable pub is_len_iv : Kind → Bool
-is_len_iv kind = is_minus_one kind || is_some (whole_up_to 64 kind)
+is_len_iv kind = is_minus_one kind || is_some (whole_up_to greatest_len_iv kind)
 
 abbrev pub is_len_iv_key : Key → Bool
 is_len_iv_key LenIv = true
@@ -46,7 +48,7 @@ subrs_at rest =
     wanted BadSubrs rest >>= λ t.
     if is_array_kind t.kind
     then (if is_blank_text (inside_of t.text) then Ok (goes (Some (size 0)) Outside t.rest) else Err BadSubrs)
-    else (natural BadSubrs 65535 t.kind >>= λ n.
+    else (natural BadSubrs most_subrs t.kind >>= λ n.
     past_word BadSubrs (codes "array") t.rest >>= λ left.
     Ok (goes (Some (size n)) Subrs left))
 
@@ -58,7 +60,7 @@ subrs_turn v rest = if is_some v.size then Err SecondSubrs else subrs_at rest
 unfoldable pub glyphs_at : List ℕ → Result (TextTurn PrivateMode) Refusal
 glyphs_at rest =
     wanted BadCharStrings rest >>= λ t.
-    natural BadCharStrings 65535 t.kind >>= λ n.
+    natural BadCharStrings most_glyphs t.kind >>= λ n.
     past_word BadCharStrings (codes "dict") t.rest >>= λ a.
     past_word BadCharStrings (codes "dup") a >>= λ b.
     past_word BadCharStrings (codes "begin") b >>= λ c.
@@ -75,7 +77,7 @@ private_outside v kind text rest =
 -- A Subr: dup, its number, the count of its bytes, a word, one byte and the bytes.
 unfoldable pub subr_at : Kind → List ℕ → Result (TextTurn PrivateMode) Refusal
 subr_at kind rest =
-    natural BadSubrs 65534 kind >>= λ n.
+    natural BadSubrs (most_subrs - 1) kind >>= λ n.
     charstring_at BadSubrs rest >>= λ bytes.
     Ok (goes (Some (subr n bytes.0)) Subrs bytes.1)
 
@@ -100,7 +102,7 @@ has_key eq ps k = list_any (λ p. eq k p.0) ps
 -- A glyph: its name, the count of its bytes, a word, one byte and the bytes.
 unfoldable pub glyph_turn : FontValue → List ℕ → List ℕ → Result (TextTurn PrivateMode) Refusal
 glyph_turn v name rest =
-    if nat_le 65535 (length v.glyphs) && not (has_key same_name v.glyphs name) then Err PastLimit
+    if nat_le most_glyphs (length v.glyphs) && not (has_key same_name v.glyphs name) then Err PastLimit
     else (charstring_at BadCharStrings rest >>= λ bytes.
     Ok (goes (Some (glyph name bytes.0)) Glyphs bytes.1))
 

@@ -8,6 +8,8 @@ use Rattle.t1_font.specs.declared.refusal.Refusal.{Refusal}
 use Rattle.t1_font.specs.declared.refusal.Refusal.TheVariants.{Unclosed, PastLimit}
 use Rattle.t1_font.specs.Readings.{◌>>=◌}
 use Rattle.t1_font.specs.Keys.{same_name}
+use Rattle.t1_font.specs.Bounds.{longest_charstring}
+use Rattle.t1_scan.specs.Numbers.{billion}
 
 -- The first token of a text, and what follows it.
 unfoldable pub token_at : List ℕ → Result (Option Found) ScanError
@@ -39,10 +41,6 @@ is_number_kind _ = false
 abbrev pub is_array_kind : Kind → Bool
 is_array_kind Array = true
 is_array_kind _ = false
-
--- A number's value is counted in billionths.
-abbrev pub billion : ℕ
-billion = 1000000000
 
 -- The whole number of 0 or more that so many billionths are.
 abbrev pub whole_of : ℤ → Option ℕ
@@ -90,7 +88,7 @@ past_word bad word s = wanted bad s >>= λ t. if spells word t.kind t.text then 
 -- The bytes of a charstring: their count, any word, one byte, and so many; and the rest.
 unfoldable pub charstring_at : Refusal → List ℕ → Result (List ℕ × List ℕ) Refusal
 charstring_at bad s =
-    wanted bad s >>= λ count. natural bad 65535 count.kind >>= λ len.
+    wanted bad s >>= λ count. natural bad longest_charstring count.kind >>= λ len.
     wanted bad count.rest >>= λ word.
     if is_word_kind word.kind then some_raw bad (raw_of len word.rest) else Err bad
 

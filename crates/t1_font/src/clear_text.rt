@@ -7,6 +7,7 @@ ghost use Rattle.t1_font.specs.Private.Readings.{Is};
 ghost use Rattle.t1_font.specs.Private.Statements.{statement_view, turn_view};
 ghost use Rattle.t1_font.specs.Private.Tokens.{Sees};
 
+use crate::bounds::CODES;
 use crate::encoding::Encoding;
 use crate::key::{Key, clear_key};
 use crate::mode::ClearMode;
@@ -14,12 +15,6 @@ use crate::refusal::Refusal;
 use crate::statement::{Statement, Turn};
 use crate::tokens::{BILLION, is_name, is_number, is_word, name, token_ahead, wanted, whole_up_to};
 use t1_scan::Kind;
-
-/// How many codes an encoding has, as `/Encoding` counts them.
-const CODES: i64 = 256;
-
-/// The greatest code.
-const LAST_CODE: u32 = 255;
 
 /// Takes a plain key's value, whatever it is.
 #[tactic(auto, unfolding(crate::specs::ClearText::clear_value))]
@@ -38,7 +33,7 @@ fn is_code_count(kind: Kind) -> bool
     ensures { result ≡ is_code_count kind }
 {
     match kind {
-        Kind::Number(value) => value == CODES * BILLION,
+        Kind::Number(value) => value == i64::from(CODES) * BILLION,
         _ => false,
     }
 }
@@ -124,7 +119,7 @@ fn clear_outside<'a>(
 fn code_statement<'a>(kind: Kind, text: &'a [u8]) -> Statement<'a>
     ensures { statement_view result ≡ code_statement kind text.now }
 {
-    match whole_up_to(LAST_CODE, kind) {
+    match whole_up_to(CODES - 1, kind) {
         Some(code) => Statement::Code(code, name(text)),
         None => Statement::BadCode,
     }

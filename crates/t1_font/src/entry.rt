@@ -6,6 +6,8 @@ ghost use Rattle.t1_font.specs.Private.Items.{item_view};
 ghost use Rattle.t1_font.specs.LenIv.{len_iv_of};
 ghost use Rattle.t1_font.specs.Values.{item_at, item_of, list_value, value_of_token};
 
+use crate::bounds::GREATEST_LEN_IV;
+use crate::copies::copy_of;
 use crate::tokens::{BILLION, first, inside};
 use arrayvec::ArrayVec;
 use t1_scan::Kind;
@@ -56,21 +58,12 @@ impl Entry {
             return DEFAULT_LEN_IV;
         };
         let whole = *value / BILLION;
-        if whole >= -1 && whole <= 64 {
+        if whole >= -1 && whole <= i64::from(GREATEST_LEN_IV) {
             whole as i8
         } else {
             DEFAULT_LEN_IV
         }
     }
-}
-
-/// The same numbers once more.
-fn copy_of(first: &ArrayVec<i64, 16>) -> ArrayVec<i64, 16>
-    ensures { result.items ≡ first.now.items }
-{
-    let mut copy = ArrayVec::new();
-    let _ = copy.try_extend_from_slice(first.as_slice());
-    copy
 }
 
 /// What a list has next.

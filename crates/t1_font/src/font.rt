@@ -15,6 +15,7 @@ ghost use Rattle.t1_font.specs.Values.{absent};
 ghost use Rattle.t1_font.specs.Views.{bytes_of, name_pair, number_pair};
 ghost use Rattle.t1_font.specs.declared.key.Key.TheVariants.{LenIv};
 ghost use Rattle.t1_font.specs.declared.refusal.Refusal.TheVariants.{Memory};
+ghost use Rattle.t1_font.specs.Bounds.{most_glyphs};
 
 use crate::encoding::Encoding;
 use crate::entry::{Entry, value};
@@ -46,6 +47,7 @@ pub struct Font<'a> {
 impl<'a> Model for Font<'a> {
     ghost use Rattle.std.specs.Prelude.{◌≤◌, length, map};
     ghost use Rattle.t1_font.specs.Fonts.{FontValue};
+    ghost use Rattle.t1_font.specs.Bounds.{most_glyphs};
     ghost use Rattle.t1_font.specs.Views.{name_pair, names_now, number_pair};
 
     ghost Value = { FontValue };
@@ -64,7 +66,7 @@ impl<'a> Model for Font<'a> {
       extra = f.extra;
     } };
 
-    ghost invariant = { λ f. length f.glyphs.entries ≤ 65535 };
+    ghost invariant = { λ f. length f.glyphs.entries ≤ most_glyphs };
 }
 
 impl<'a> Font<'a> {
@@ -91,7 +93,7 @@ impl<'a> Font<'a> {
     /// The glyphs, in the order of their first appearance, each with its last charstring: at most 65,535.
     pub fn glyphs(&self) -> &IndexMap<&'a [u8], &'a [u8]>
         ensures entries { map name_pair result.now.entries ≡ self.now.glyphs }
-        ensures few { length self.now.glyphs ≤ 65535 }
+        ensures few { length self.now.glyphs ≤ most_glyphs }
     {
         &self.glyphs
     }

@@ -1,5 +1,6 @@
 //! Laws of the definitions, each on a call that does nothing.
 
+ghost use Rattle.t1_font.specs.Laws.Blanks.{BlanksAgree};
 ghost use Rattle.t1_font.specs.Laws.Keys.{DifferentStay, TwiceIsAgain};
 ghost use Rattle.t1_font.specs.Laws.Statements.{OneMore, ReadAsStated};
 ghost use Rattle.t1_font.specs.declared.mode.ClearMode.{ClearMode};
@@ -85,4 +86,9 @@ pub fn words_between_entries()
     ensures private { WordsPassInPrivate }
     ensures subrs { WordsPassInSubrs }
     ensures glyphs { WordsPassInGlyphs }
+{}
+
+/// The bytes that may stand between hexadecimal digits of an encrypted section are the blanks between tokens.
+pub fn blanks_of_sections_and_tokens()
+    ensures { BlanksAgree }
 {}

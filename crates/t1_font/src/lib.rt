@@ -21,8 +21,10 @@
 //! ```
 #![tactic(auto)]
 
+mod bounds;
 mod clear;
 mod clear_text;
+mod copies;
 mod encoding;
 mod entry;
 mod font;
@@ -41,15 +43,17 @@ mod tokens;
 mod unread;
 mod value_laws;
 
+pub use bounds::{CODES, LONGEST_CHARSTRING, MOST_GLYPHS, MOST_SUBRS};
 pub use clear::{Clear, read_clear, read_font};
+pub use copies::copy_of;
 pub use encoding::Encoding;
 pub use entry::Entry;
 pub use font::Font;
 pub use key::Key;
 pub use laws::{
-    blanks_between_entries, different_keys, idle_additions, one_more_statement,
-    reading_by_statements, repeated_keys, small_usual_font, usual_clear_texts, usual_fonts,
-    usual_private_texts, words_between_entries,
+    blanks_between_entries, blanks_of_sections_and_tokens, different_keys, idle_additions,
+    one_more_statement, reading_by_statements, repeated_keys, small_usual_font, usual_clear_texts,
+    usual_fonts, usual_private_texts, words_between_entries,
 };
 pub use limit_laws::limits_of_fonts;
 pub use open_font::OpenFont;
@@ -58,5 +62,6 @@ pub use refusal_laws::{
     each_part_has_its_refusals, early_ends, long_charstrings, refusals_of_texts,
     small_broken_texts, unclosed_tokens,
 };
+pub use tokens::BILLION;
 pub use unread::Unread;
 pub use value_laws::lists_by_tokens;

@@ -3,6 +3,7 @@
 ghost use Rattle.std.specs.Prelude.{◌≡◌, ◌≤◌, IfOk, MatchResult, Ok, length};
 ghost use Rattle.t1_font.specs.FontFiles.{IsUnread, font_in, text_in};
 ghost use Rattle.t1_seal.specs.Joined.{joined_text};
+ghost use Rattle.t1_font.specs.Bounds.{most_glyphs};
 
 use crate::clear::{read_clear, read_font};
 use crate::font::Font;
@@ -50,7 +51,7 @@ impl OpenFont {
     /// It's to be asked once: what it lends for the font, nobody knows the value of behind the call.
     pub fn font(&mut self, alloc: Global) -> Result<Font<'_>, Unread>
         ensures gives { MatchResult result (λ font. self.old ≡ Ok font) (λ e. IsUnread e self.old) }
-        ensures few { IfOk result (λ font. length font.glyphs ≤ 65535) }
+        ensures few { IfOk result (λ font. length font.glyphs ≤ most_glyphs) }
     {
         read_texts(alloc, &self.joined, &mut self.private)
     }
@@ -64,7 +65,7 @@ fn read_texts<'a>(
 ) -> Result<Font<'a>, Unread>
     ensures gives { MatchResult result (λ font. text_in (joined_text joined.now) ≡ Ok font)
         (λ e. IsUnread e (text_in (joined_text joined.now))) }
-    ensures few { IfOk result (λ font. length font.glyphs ≤ 65535) }
+    ensures few { IfOk result (λ font. length font.glyphs ≤ most_glyphs) }
 {
     let clear = read_clear(alloc, joined)?;
     let (_, section) = joined.bytes.as_slice().split_at(clear.after());

@@ -5,6 +5,7 @@ ghost use Rattle.t1_font.specs.PrivateText.{dup_turn, glyph_turn, glyphs_at, gly
 ghost use Rattle.t1_font.specs.Private.Readings.{Is};
 ghost use Rattle.t1_font.specs.Private.Statements.{turn_view};
 
+use crate::bounds::{GREATEST_LEN_IV, MOST_GLYPHS, MOST_SUBRS};
 use crate::font::Font;
 use crate::key::{Key, private_key};
 use crate::mode::PrivateMode;
@@ -16,14 +17,8 @@ use crate::tokens::{
 };
 use t1_scan::Kind;
 
-/// A head counts at most so many Subrs or glyphs, and a font has at most so many glyphs.
-const MOST: u32 = 65_535;
-
 /// The greatest number of a Subr.
-const LAST_SUBR: u32 = 65_534;
-
-/// The greatest lenIV.
-const GREATEST_LEN_IV: u32 = 64;
+const LAST_SUBR: u32 = MOST_SUBRS - 1;
 
 /// Whether a number is the least lenIV, which says that charstrings aren't encrypted.
 fn is_minus_one(kind: Kind) -> bool
@@ -98,7 +93,7 @@ fn subrs_at<'a>(text: &'a [u8]) -> Result<Turn<'a, PrivateMode>, Refusal>
         }
         return Ok(Turn::Goes(Some(Statement::Size(0)), PrivateMode::Outside, rest));
     }
-    let size = natural(Refusal::BadSubrs, MOST, token.kind)?;
+    let size = natural(Refusal::BadSubrs, MOST_SUBRS, token.kind)?;
     let rest = past_word(rest, Refusal::BadSubrs, b"array")?;
     Ok(Turn::Goes(Some(Statement::Size(size)), PrivateMode::Subrs, rest))
 }
@@ -121,7 +116,7 @@ fn glyphs_at<'a>(text: &'a [u8]) -> Result<Turn<'a, PrivateMode>, Refusal>
     ensures { Is turn_view result (glyphs_at text.now) }
 {
     let (count, rest) = wanted(text, Refusal::BadCharStrings)?;
-    natural(Refusal::BadCharStrings, MOST, count.kind)?;
+    natural(Refusal::BadCharStrings, MOST_GLYPHS, count.kind)?;
     let rest = past_word(rest, Refusal::BadCharStrings, b"dict")?;
     let rest = past_word(rest, Refusal::BadCharStrings, b"dup")?;
     let rest = past_word(rest, Refusal::BadCharStrings, b"begin")?;
@@ -206,7 +201,7 @@ fn glyph_turn<'a>(
 ) -> Result<Turn<'a, PrivateMode>, Refusal>
     ensures { Is turn_view result (glyph_turn font.now name.now text.now) }
 {
-    if font.glyph_count() >= MOST as usize && !font.has_glyph(name) {
+    if font.glyph_count() >= MOST_GLYPHS as usize && !font.has_glyph(name) {
         return Err(Refusal::PastLimit);
     }
     let (bytes, rest) = charstring(text, Refusal::BadCharStrings)?;

@@ -6,14 +6,12 @@ ghost use Rattle.t1_font.specs.Private.Readings.{Is};
 ghost use Rattle.t1_font.specs.Tokens.{charstring_at, inside_of, is_array_kind, is_name_kind, is_number_kind, is_word_kind, name_of, natural, past_word, raw_of, some_raw, spells, token_ahead, wanted, whole, whole_up_to};
 ghost use Rattle.t1_font.specs.Private.Tokens.{IsFirst, Sees, found_of};
 
+use crate::bounds::LONGEST_CHARSTRING;
 use crate::refusal::Refusal;
 use t1_scan::{Kind, ScanError, Scanner, Token};
 
 /// A number's value is counted in billionths.
-pub(crate) const BILLION: i64 = 1_000_000_000;
-
-/// A charstring has at most so many bytes.
-const LONGEST_CHARSTRING: u32 = 65_535;
+pub const BILLION: i64 = t1_scan::BILLION as i64;
 
 /// The first token, if one is left.
 #[inline(always)]

@@ -1,5 +1,5 @@
 -- When a fuse blows, and how much it lets through.
-use Rattle.std.specs.Prelude.{ℕ, ◌-◌, ◌==◌, nat_lt, min, Bool, true, false, Result, Ok, Err}
+use Rattle.std.specs.Prelude.{◌≡◌, ◌⊎◌, ℕ, ◌-◌, ◌==◌, nat_lt, min, Bool, true, false, Result, Ok, Err, IsErr, OnErr}
 use Rattle.t1_io.specs.declared.limit.Limit.{Limit}
 use Rattle.t1_io.specs.declared.limit.Limit.TheVariants.{Bytes, Calls, BytesPerCall}
 
@@ -31,3 +31,14 @@ lets_some_through (BytesPerCall k) = nat_lt 0 k
 abbrev pub count_of : {E : Type 0} → Result ℕ E → ℕ
 count_of (Ok n) = n
 count_of (Err e) = 0
+
+-- What a call of a fuse does to its limit and its device, of which a call had failed before and behind or hadn't, where
+-- so many bytes were moved. One that has blown fails the call and leaves the device alone; a call fails only where the
+-- fuse has blown or the device has failed, and wherever the device fails that hadn't; and the fuse burns by what was moved.
+pub record Burns {D A E : Type 0} (old new : Limit) (device left : D) (failed fails_now : Bool) (count : ℕ) (result : Result A E)
+    : Type 0 where
+  pub blown : has_blown old ≡ true → IsErr result
+  pub still : has_blown old ≡ true → left ≡ device
+  pub fails : OnErr result ((has_blown old ≡ true) ⊎ (fails_now ≡ true))
+  pub passed_on : failed ≡ false → fails_now ≡ true → IsErr result
+  pub burnt : new ≡ burnt old count

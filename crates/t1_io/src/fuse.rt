@@ -1,9 +1,10 @@
 //! Devices that fail on purpose, for tests.
 
-ghost use Rattle.std.specs.Prelude.{◌≡◌, ◌≤◌, ◌⊎◌, true, false, length, IfOk, OnErr, IsErr};
+ghost use Rattle.std.specs.Prelude.{◌≡◌, ◌≤◌, true, length, IfOk};
 ghost use Rattle.t1_io.specs.Devices.{Flushes, Puts, Takes};
-ghost use Rattle.t1_io.specs.Limits.{has_blown, let_through, burnt, lets_some_through, count_of};
+ghost use Rattle.t1_io.specs.Limits.{Burns, count_of, let_through, lets_some_through};
 
+use crate::counts::{PutCounts, TakeCounts};
 use crate::{Broken, Limit, Sink, Source};
 
 /// A device over another one that fails at a chosen place, or moves few bytes a call: for tests.
@@ -15,10 +16,8 @@ pub struct Fuse<D> {
     pub device: D,
     /// What is left of the fuse.
     pub limit: Limit,
-    takes: u64,
-    late_takes: u64,
-    failed_puts: u64,
-    failed: bool,
+    taken: TakeCounts,
+    put: PutCounts,
     ghost moves: { lets_some_through limit ≡ true },
 }
 
@@ -57,49 +56,44 @@ impl<D> Fuse<D> {
         requires { lets_some_through limit ≡ true }
         ensures device { result.device ≡ device }
         ensures limit { result.limit ≡ limit }
-        ensures takes { result.takes ≡ 0 }
-        ensures late_takes { result.late_takes ≡ 0 }
-        ensures failed_puts { result.failed_puts ≡ 0 }
-        ensures failed { result.failed ≡ failed }
+        ensures taken { result.taken ≡ record { takes = 0; late_takes = 0; failed = failed } }
+        ensures put { result.put ≡ record { failed_puts = 0; failed = failed } }
     {
         Fuse {
             device,
             limit,
-            takes: 0,
-            late_takes: 0,
-            failed_puts: 0,
-            failed,
+            taken: TakeCounts {
+                takes: 0,
+                late_takes: 0,
+                failed,
+            },
+            put: PutCounts {
+                failed_puts: 0,
+                failed,
+            },
         }
     }
 }
 
 impl<D: Source> Source for Fuse<D> {
     ghost state = { λ fuse. record (D.state fuse.device) {
-      takes = fuse.takes;
-      late_takes = fuse.late_takes;
-      failed = fuse.failed;
+      takes = fuse.taken.takes;
+      late_takes = fuse.taken.late_takes;
+      failed = fuse.taken.failed;
     } };
 
     fn take(&mut self, buffer: &mut [u8]) -> Result<usize, Broken>
         ensures takes { Takes (⟦<Fuse<D> as Source>⟧.state self.old)
             (⟦<Fuse<D> as Source>⟧.state self.new) buffer.new result }
 
-        ensures blown { has_blown self.old.limit ≡ true → IsErr result }
-        ensures still { has_blown self.old.limit ≡ true → self.new.device ≡ self.old.device }
-        ensures fails { OnErr result ((has_blown self.old.limit ≡ true)
-            ⊎ ((D.state self.new.device).failed ≡ true)) }
-        ensures passed_on { (D.state self.old.device).failed ≡ false
-            → (D.state self.new.device).failed ≡ true → IsErr result }
+        ensures burns { Burns self.old.limit self.new.limit self.old.device self.new.device
+            (D.state self.old.device).failed (D.state self.new.device).failed (count_of result) result }
         ensures moved { IfOk result (λ n. n ≤ let_through self.old.limit (length buffer.new)) }
-        ensures burnt { self.new.limit ≡ burnt self.old.limit (count_of result) }
     {
-        self.takes = self.takes.saturating_add(1);
-        if self.failed {
-            self.late_takes = self.late_takes.saturating_add(1);
-        }
+        self.taken.count();
         if self.limit.has_blown() {
             self.limit = self.limit.burnt(0);
-            self.failed = true;
+            self.taken.failed = true;
             return Err(Broken);
         }
         let room = self.limit.let_through(buffer.len());
@@ -110,40 +104,34 @@ impl<D: Source> Source for Fuse<D> {
             }
             Err(broken) => {
                 self.limit = self.limit.burnt(0);
-                self.failed = true;
+                self.taken.failed = true;
                 Err(broken)
             }
         }
     }
 
     fn has_failed(&self) -> bool {
-        self.failed
+        self.taken.failed
     }
 }
 
 impl<D: Sink> Sink for Fuse<D> {
     ghost state = { λ fuse. record (D.state fuse.device) {
-      failed_puts = fuse.failed_puts;
-      failed = fuse.failed;
+      failed_puts = fuse.put.failed_puts;
+      failed = fuse.put.failed;
     } };
 
     fn put(&mut self, bytes: &[u8]) -> Result<usize, Broken>
         ensures puts { Puts (⟦<Fuse<D> as Sink>⟧.state self.old)
             (⟦<Fuse<D> as Sink>⟧.state self.new) bytes.now result }
 
-        ensures blown { has_blown self.old.limit ≡ true → IsErr result }
-        ensures still { has_blown self.old.limit ≡ true → self.new.device ≡ self.old.device }
-        ensures fails { OnErr result ((has_blown self.old.limit ≡ true)
-            ⊎ ((D.state self.new.device).failed ≡ true)) }
-        ensures passed_on { (D.state self.old.device).failed ≡ false
-            → (D.state self.new.device).failed ≡ true → IsErr result }
+        ensures burns { Burns self.old.limit self.new.limit self.old.device self.new.device
+            (D.state self.old.device).failed (D.state self.new.device).failed (count_of result) result }
         ensures moved { IfOk result (λ n. n ≤ let_through self.old.limit (length bytes.now)) }
-        ensures burnt { self.new.limit ≡ burnt self.old.limit (count_of result) }
     {
         if self.limit.has_blown() {
             self.limit = self.limit.burnt(0);
-            self.failed_puts = self.failed_puts.saturating_add(1);
-            self.failed = true;
+            self.put.fail();
             return Err(Broken);
         }
         let room = self.limit.let_through(bytes.len());
@@ -154,8 +142,7 @@ impl<D: Sink> Sink for Fuse<D> {
             }
             Err(broken) => {
                 self.limit = self.limit.burnt(0);
-                self.failed_puts = self.failed_puts.saturating_add(1);
-                self.failed = true;
+                self.put.fail();
                 Err(broken)
             }
         }
@@ -165,28 +152,23 @@ impl<D: Sink> Sink for Fuse<D> {
         ensures flushes { Flushes (⟦<Fuse<D> as Sink>⟧.state self.old)
             (⟦<Fuse<D> as Sink>⟧.state self.new) result }
 
-        ensures blown { has_blown self.old.limit ≡ true → IsErr result }
-        ensures still { has_blown self.old.limit ≡ true → self.new.device ≡ self.old.device }
-        ensures fails { OnErr result ((has_blown self.old.limit ≡ true)
-            ⊎ ((D.state self.new.device).failed ≡ true)) }
-        ensures passed_on { (D.state self.old.device).failed ≡ false
-            → (D.state self.new.device).failed ≡ true → IsErr result }
-        ensures burnt { self.new.limit ≡ burnt self.old.limit 0 }
+        ensures burns { Burns self.old.limit self.new.limit self.old.device self.new.device
+            (D.state self.old.device).failed (D.state self.new.device).failed 0 result }
     {
         let blown = self.limit.has_blown();
         self.limit = self.limit.burnt(0);
         if blown {
-            self.failed = true;
+            self.put.failed = true;
             return Err(Broken);
         }
         let flushed = self.device.flush();
         if flushed.is_err() {
-            self.failed = true;
+            self.put.failed = true;
         }
         flushed
     }
 
     fn has_failed(&self) -> bool {
-        self.failed
+        self.put.failed
     }
 }

@@ -22,6 +22,7 @@
 #![tactic(auto)]
 
 mod broken;
+mod counts;
 mod fuse;
 mod limit;
 mod sink;

@@ -4,6 +4,7 @@ ghost use Rattle.std.specs.Prelude.{◌≡◌, true, false};
 ghost use Rattle.t1_io.specs.Devices.{Flushes, Puts, SinkState};
 
 use crate::Broken;
+use crate::counts::PutCounts;
 use std::io::Write;
 
 /// A device that takes bytes.
@@ -30,8 +31,7 @@ pub struct Out<W: Write> {
     writer: W,
     flushed: bool,
     flushes: u64,
-    failed_puts: u64,
-    failed: bool,
+    counts: PutCounts,
 }
 
 impl<W: Write> Out<W> {
@@ -50,8 +50,10 @@ impl<W: Write> Out<W> {
             writer,
             flushed: true,
             flushes: 0,
-            failed_puts: 0,
-            failed: false,
+            counts: PutCounts {
+                failed_puts: 0,
+                failed: false,
+            },
         }
     }
 }
@@ -61,8 +63,8 @@ impl<W: Write> Sink for Out<W> {
       written = W.contents sink.writer;
       flushed = sink.flushed;
       flushes = sink.flushes;
-      failed_puts = sink.failed_puts;
-      failed = sink.failed;
+      failed_puts = sink.counts.failed_puts;
+      failed = sink.counts.failed;
     } };
 
     fn put(&mut self, bytes: &[u8]) -> Result<usize, Broken> {
@@ -73,8 +75,7 @@ impl<W: Write> Sink for Out<W> {
                 Ok(count)
             }
             _ => {
-                self.failed_puts = self.failed_puts.saturating_add(1);
-                self.failed = true;
+                self.counts.fail();
                 Err(Broken)
             }
         }
@@ -88,13 +89,13 @@ impl<W: Write> Sink for Out<W> {
                 Ok(())
             }
             Err(_) => {
-                self.failed = true;
+                self.counts.failed = true;
                 Err(Broken)
             }
         }
     }
 
     fn has_failed(&self) -> bool {
-        self.failed
+        self.counts.failed
     }
 }

@@ -4,6 +4,7 @@ ghost use Rattle.std.specs.Prelude.{◌≡◌, false};
 ghost use Rattle.t1_io.specs.Devices.{SourceState, Takes};
 
 use crate::Broken;
+use crate::counts::TakeCounts;
 use std::io::Read;
 
 /// A device that gives bytes until its end.
@@ -25,9 +26,7 @@ pub trait Source {
 #[derive(Drop)]
 pub struct In<R: Read> {
     reader: R,
-    takes: u64,
-    late_takes: u64,
-    failed: bool,
+    counts: TakeCounts,
 }
 
 impl<R: Read> In<R> {
@@ -42,9 +41,11 @@ impl<R: Read> In<R> {
     {
         In {
             reader,
-            takes: 0,
-            late_takes: 0,
-            failed: false,
+            counts: TakeCounts {
+                takes: 0,
+                late_takes: 0,
+                failed: false,
+            },
         }
     }
 }
@@ -52,26 +53,23 @@ impl<R: Read> In<R> {
 impl<R: Read> Source for In<R> {
     ghost state = { λ source. record {
       left = R.remaining source.reader;
-      takes = source.takes;
-      late_takes = source.late_takes;
-      failed = source.failed;
+      takes = source.counts.takes;
+      late_takes = source.counts.late_takes;
+      failed = source.counts.failed;
     } };
 
     fn take(&mut self, buffer: &mut [u8]) -> Result<usize, Broken> {
-        self.takes = self.takes.saturating_add(1);
-        if self.failed {
-            self.late_takes = self.late_takes.saturating_add(1);
-        }
+        self.counts.count();
         match self.reader.read(buffer) {
             Ok(count) => Ok(count),
             Err(_) => {
-                self.failed = true;
+                self.counts.failed = true;
                 Err(Broken)
             }
         }
     }
 
     fn has_failed(&self) -> bool {
-        self.failed
+        self.counts.failed
     }
 }

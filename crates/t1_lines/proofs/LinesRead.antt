@@ -9,7 +9,7 @@ use Rattle.t1_scan.specs.Bytes.{is_regular}
 use Rattle.t1_rules.specs.declared.rule.Rule.{Rule}
 use Rattle.t1_rules.specs.declared.rule.Rule.TheVariants.{U01}
 use Rattle.t1_rules.specs.Book.{code_of, text_of}
-use Rattle.t1_rules.specs.Keys.{key_text_of}
+use Rattle.t1_rules.specs.Keys.{key_text_of, key_count, index_count}
 use Rattle.t1_report.specs.Lines.{inner_text, path_text}
 use Rattle.t1_lines.specs.declared.refusal.RefusalCode.{RefusalCode}
 use Rattle.t1_lines.specs.RefusalTexts.{refusal_text_of}
@@ -76,7 +76,7 @@ lacks-number : (n : ℕ) → n < 2 ^ 64 → lacks 32 (decimal n) ≡ true
 lacks-number n small = lacks-decimal 32 n small (λ c low high blank. omega (arith, low, blank))
 
 -- `KEY INDEX RULE TEXT`.
-font-spelled : (number key index : ℕ) (rule : Rule) → key ≤ 21 → index < 2 ^ 16
+font-spelled : (number key index : ℕ) (rule : Rule) → key < key_count → index < index_count
     → font_line number (key_text_of key ++ (32 ∷ (decimal index ++ (32 ∷ (code_of rule ++ (32 ∷ text_of rule))))))
     ≡ Some (record { number = number; place = at_key key index; rule = rule })
 unfolding font_line

@@ -1,7 +1,7 @@
 -- The names of keys and the codes of rules, read back.
 use Rattle.std.proofs.Common.{◌≡◌, ◌+◌, ◌<◌, ◌≤◌, ℕ, zero, suc, true, false, if◌then◌else◌, List, [], ◌∷◌, drop, length, refl, sym, subst, ◌∙◌, inl, inr, arith, Some, slice_index_or, add-one}
 use Rattle.std.proofs.lemmas.Bool.{cases_Bool}
-use Rattle.t1_rules.specs.Keys.{key_text_of, key_texts}
+use Rattle.t1_rules.specs.Keys.{key_text_of, key_texts, key_count}
 use Rattle.t1_rules.specs.declared.rule.Rule.{Rule}
 use Rattle.t1_rules.specs.declared.rule.Rule.TheVariants.{F01}
 use Rattle.t1_rules.specs.Book.{code_of, coded_in, rule_coded, rules}
@@ -33,7 +33,7 @@ unfolding key_of
 key_start word = refl
 
 -- What is spelled so is read so.
-pub key-found : (key : ℕ) → key ≤ 21 → key_of (key_text_of key) ≡ Some key
+pub key-found : (key : ℕ) → key < key_count → key_of (key_text_of key) ≡ Some key
 unfolding key_of
 key-found zero within = refl
 key-found (suc zero) within = refl
@@ -72,7 +72,7 @@ key_among-read k i (text ∷ texts) word e =
           (suc told.0, omega (arith, told.1), omega (arith, told.2), told.3))
     ]
 
-pub key-read : (word : List ℕ) (key : ℕ) → key_of word ≡ Some key → (key ≤ 21) × (key_text_of key ≡ word)
+pub key-read : (word : List ℕ) (key : ℕ) → key_of word ≡ Some key → (key < key_count) × (key_text_of key ≡ word)
 unfolding key_of
 key-read word key e =
     let told = key_among-read 0 key key_texts word e in

@@ -7,7 +7,7 @@ use Rattle.t1_font.specs.Fonts.{FontValue}
 use Rattle.t1_rules.specs.declared.rule.Rule.{Rule}
 use Rattle.t1_rules.specs.declared.rule.Rule.TheVariants.{U01}
 use Rattle.t1_rules.specs.Book.{code_of, text_of}
-use Rattle.t1_rules.specs.Keys.{key_text_of}
+use Rattle.t1_rules.specs.Keys.{key_text_of, index_count, key_count}
 use Rattle.t1_report.specs.Faults.{FaultValue}
 use Rattle.t1_report.specs.Lines.{glyph_name, path_text}
 use Rattle.t1_report.specs.Waivers.{Waiver}
@@ -18,6 +18,7 @@ use Rattle.t1_lines.specs.declared.line.Place.{Place}
 use Rattle.t1_lines.specs.declared.line.Place.TheVariants as places
 use Rattle.t1_lines.specs.declared.refusal.RefusalCode.{RefusalCode}
 use Rattle.t1_lines.specs.RefusalTexts.{refusal_text_of}
+use Rattle.t1_char.specs.Effects.{most_calls}
 
 -- A key of the font, by its number, with an index; a glyph, by its name, with the Subrs that are being
 -- executed and the step; or a waiver, by its name and its rule.
@@ -71,9 +72,9 @@ spelled (of_refusal code) = codes "refused: " ++ refusal_text_of code
 -- A key is one of the 22. A name has no blank and no delimiter, and at most ten Subrs are being executed. At a waiver
 -- U01 is broken.
 abbrev pub IsPlace : PlaceValue → Rule → Type 0
-IsPlace (at_key key index) broken = (key ≤ 21) × (index < 2 ^ 16)
+IsPlace (at_key key index) broken = (key < key_count) × (index < index_count)
 IsPlace (at_step name path step) broken =
-    IsTrue (list_all is_regular name) × (length path ≤ 10) × AllByRecursion (λ n. n < 2 ^ 32) path × (step < 2 ^ 32)
+    IsTrue (list_all is_regular name) × (length path ≤ most_calls) × AllByRecursion (λ n. n < 2 ^ 32) path × (step < 2 ^ 32)
 IsPlace (at_waiver name rule) broken = IsTrue (list_all is_regular name) × (broken ≡ U01)
 
 pub record IsFaultLine (l : FaultLineValue) : Type 0 where
@@ -91,7 +92,7 @@ waiver_in (Some w) = at_waiver w.0 w.1
 
 abbrev pub place_in : FontValue → List Waiver → FaultValue → PlaceValue
 place_in font waivers fault =
-    if fault.unit == 0 then at_key (fault.step / 65536) (fault.step % 65536)
+    if fault.unit == 0 then at_key (fault.step / index_count) (fault.step % index_count)
     else (if fault.unit == length font.glyphs + 1 then waiver_in (slice_get waivers (fault.step - 1))
     else at_step (glyph_name font (fault.unit - 1)) fault.path fault.step)
 
@@ -104,4 +105,4 @@ pub record IsSmall (fault : FaultValue) : Type 0 where
   pub number : fault.number < 2 ^ 64
   pub step : fault.step < 2 ^ 32
   pub path : AllByRecursion (λ n. n < 2 ^ 32) fault.path
-  pub depth : length fault.path ≤ 10
+  pub depth : length fault.path ≤ most_calls

@@ -30,6 +30,6 @@ pub use laws::{
     a_text_is_one_line, faults_are_small, faults_are_written_as_lines, fonts_have_names,
     waivers_have_names,
 };
-pub use line::{FaultLine, Line, Path, Place};
+pub use line::{FaultLine, Line, Place};
 pub use reading::read;
 pub use refusal::{RefusalCode, refusal_text};

@@ -1,14 +1,8 @@
 //! What a line says.
 
 use crate::refusal::RefusalCode;
-use arrayvec::ArrayVec;
+use t1_char::Path;
 use t1_rules::Rule;
-
-/// How deep Subrs are called at most: Type 1 Font Format 1.1, chapter 6.
-pub(crate) const DEEPEST: usize = 10;
-
-/// The numbers of the Subrs that are being executed, the outermost first.
-pub type Path = ArrayVec<u32, DEEPEST>;
 
 /// What a line says.
 #[derive(Debug, PartialEq, Eq, Drop)]

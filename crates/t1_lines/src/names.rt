@@ -6,11 +6,8 @@ ghost use Rattle.t1_scan.specs.Bytes.{is_regular};
 ghost use Rattle.t1_lines.specs.Private.Reading.{key_of, rule_read};
 
 use crate::words::cut;
-use t1_rules::{Rule, key_text, rule_text};
+use t1_rules::{KEYS, Rule, key_text, rule_text};
 use t1_scan::is_regular;
-
-/// How many keys have names.
-const KEYS: u8 = 22;
 
 /// The number of the key of this name.
 pub fn key(word: &[u8]) -> Option<u8>

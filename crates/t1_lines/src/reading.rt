@@ -1,24 +1,26 @@
 //! Lines are read.
 
 ghost use Rattle.std.specs.Prelude.{◌≡◌, option_map};
+ghost use Rattle.t1_char.specs.Effects.{most_calls};
 ghost use Rattle.t1_lines.specs.Lines.{fault_line_value, line_value};
 ghost use Rattle.t1_lines.specs.Readings.{IsReadBack, IsReading};
 ghost use Rattle.t1_lines.specs.Private.Reading.{font_line, glyph_line, line_read, numbers_read, path_read, place_line, told_line, waiver_line};
 
-use crate::line::{DEEPEST, FaultLine, Line, Path, Place};
+use crate::line::{FaultLine, Line, Place};
 use crate::names::{is_name, key, rule_with_text};
 use crate::refusal::refusal_told;
 use crate::words::{cut, number, small_number, tiny_number};
 use arrayvec::ArrayVec;
+use t1_char::{MOST_CALLS, Path};
 use t1_rules::Rule;
 
 /// Numbers of Subrs with `>` between them, at most ten.
 fn numbers(word: &[u8]) -> Option<Path>
-    ensures { option_map (λ p. p.items) result ≡ numbers_read 10 word.now }
+    ensures { option_map (λ p. p.items) result ≡ numbers_read most_calls word.now }
 {
     let mut path = ArrayVec::new();
     let mut rest = word;
-    for turn in 0..DEEPEST {
+    for turn in 0..MOST_CALLS {
         let Some((front, more)) = cut(b'>', rest) else {
             path.push(small_number(rest)?);
             return Some(path);

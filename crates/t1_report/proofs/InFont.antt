@@ -50,7 +50,7 @@ waiver_told font waivers step rule is =
 pub in_font : (font : CheckedFont) (waivers : List Waiver) (fault : FaultValue) → IsViolationOf (IsTold font waivers) (path_at font) fault → IsInFont font.value waivers fault
 in_font font waivers fault is = record {
   unit = told_within font waivers fault.unit fault.step (number_of fault.rule) is.violated;
-  key = λ first. key_within font waivers fault.unit fault.step (number_of fault.rule) first is.violated;
+  key = λ first. omega (arith, key_within font waivers fault.unit fault.step (number_of fault.rule) first is.violated);
   waiver = λ behind. waiver_told font waivers fault.step fault.rule (sym (told_of_waiver font waivers fault.unit fault.step (number_of fault.rule) behind) ∙ is.violated);
 }
 

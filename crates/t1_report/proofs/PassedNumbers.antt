@@ -38,7 +38,7 @@ use Rattle.t1_report.specs.Private.Units.{IsQuiet, IsRun}
 use Rattle.t1_report.specs.Walks.{turns_of_glyph}
 use Rattle.t1_report.proofs.Broken.{at_step, both_kinds, rules_by, within_limit}
 use Rattle.t1_report.proofs.GlyphSteps.{take_next}
-use Rattle.t1_report.proofs.RunSteps.{IsRunAt, IsTold, count_at_end, run_at, run_of, told_end, told_limit, told_step}
+use Rattle.t1_report.proofs.RunSteps.{IsRunAt, IsTold, count_at_end, run_at, run_of, told_at, told_end}
 
 -- Calm watchers stand for what is behind such numbers.
 stands_more : (edition : Edition) (w : Watches) (limit : ℕ) (all : List StepView) (k : ℕ) → IsCalm w → IsPassed limit all k → WatchesStandFor edition w (take k all) → WatchesStandFor edition w (take (k + 1) all)
@@ -207,9 +207,9 @@ told_behind : (numbers : Numbers) (m new : MachineView) (answer : Answer) (step 
     → (asked : IsAsked numbers m new (answer_view answer new.step)) → IsTold font glyph asked.before new.counted step
 told_behind numbers m new Ended step font glyph of_font of_glyph near on here asked = let no : true ≡ false = on in cc
 told_behind numbers m new answers.Step step font glyph of_font of_glyph near on here asked =
-    told_step (behind m asked.before) font glyph new.counted step of_font of_glyph (near_font m font asked.before of_font asked.least asked.passed near) asked.counted (ap stepped here ∙ asked.turn)
+    told_at (behind m asked.before) font glyph new.counted step of_font of_glyph (near_font m font asked.before of_font asked.least asked.passed near) asked.counted (inl (ap stepped here ∙ asked.turn))
 told_behind numbers m new Limit step font glyph of_font of_glyph near on here asked =
-    told_limit (behind m asked.before) font glyph new.counted step of_font of_glyph (near_font m font asked.before of_font asked.least asked.passed near) asked.counted (ap limited here ∙ asked.turn)
+    told_at (behind m asked.before) font glyph new.counted step of_font of_glyph (near_font m font asked.before of_font asked.least asked.passed near) asked.counted (inr (ap limited here ∙ asked.turn))
 
 -- The same with all that is known in front of the step.
 pub record IsTurn (font : CheckedFont) (glyph unit from n counted : ℕ) (w : Watches) (step : Step) : Type 0 where

@@ -1,5 +1,5 @@
 -- A glyph whose steps a machine tells: what is broken at each, and that nothing is behind the last.
-use Rattle.std.proofs.Common.{◌≡◌, ℕ, ◌+◌, ◌<◌, ◌≤◌, inl, inr, if◌then◌else◌, nat_lt, Bool, true, false, Some, List, [], ◌∷◌, ◌++◌, slice_get, length, length-take, take, refl, sym, ap, subst, ◌∙◌, le-ltb, arith}
+use Rattle.std.proofs.Common.{◌≡◌, ◌⊎◌, ℕ, ◌+◌, ◌<◌, ◌≤◌, inl, inr, if◌then◌else◌, nat_lt, Bool, true, false, Some, List, [], ◌∷◌, ◌++◌, slice_get, length, length-take, take, refl, sym, ap, subst, ◌∙◌, le-ltb, arith}
 use Rattle.std.proofs.lemmas.Bool.{cases_lt, ltb-true, ltb-false}
 use Rattle.std.proofs.lemmas.List.{take_all}
 use Rattle.t1_char.specs.Editions.{limit_of}
@@ -7,7 +7,7 @@ use Rattle.t1_char.specs.declared.step.Step.{Step}
 use Rattle.t1_char.specs.Steps.{StepView, steps_of}
 use Rattle.t1_char.specs.StepValues.{step_view, step_value}
 use Rattle.t1_char.specs.Turns.{MachineView, stepped, ended, limited, turn_at, counted_after}
-use Rattle.t1_char.proofs.TurnsTaken.{IsStepped, IsLimited, IsOver, stepped_is, limited_is, ended_is}
+use Rattle.t1_char.proofs.TurnsTaken.{Executes, IsStepped, IsLimited, IsOver, same_count, same_turn, stepped_is, limited_is, ended_is}
 use Rattle.t1_report.specs.Checked.{CheckedFont, checked, executed, step_limit}
 use Rattle.t1_rules.specs.declared.mask.Mask.{Mask}
 use Rattle.t1_rules.specs.declared.rule.Rule.{Rule}
@@ -134,13 +134,10 @@ pub record IsTold (font : CheckedFont) (glyph n counted : ℕ) (step : Step) : T
   pub counted_is : counted ≡ n + 1
   pub turns : counted ≤ turns_of_glyph font glyph
 
-same_turn : (m : MachineView) (font : CheckedFont) (glyph : ℕ) → executed m ≡ font → m.glyph ≡ glyph → turn_at (limit_of m.edition) (steps_of m.font m.glyph) m.counted ≡ turn_at (step_limit font) (steps_of font.value glyph) m.counted
-same_turn m font glyph of_font of_glyph =
-    ap (λ (f : CheckedFont). turn_at (step_limit f) (steps_of f.value m.glyph) m.counted) of_font ∙ ap (λ g. turn_at (step_limit font) (steps_of font.value g) m.counted) of_glyph
-
-same_count : (m : MachineView) (font : CheckedFont) (glyph counted : ℕ) → executed m ≡ font → m.glyph ≡ glyph → counted ≡ counted_after (limit_of m.edition) (steps_of m.font m.glyph) m.counted → counted ≡ counted_after (step_limit font) (steps_of font.value glyph) m.counted
-same_count m font glyph counted of_font of_glyph is =
-    is ∙ ap (λ (f : CheckedFont). counted_after (step_limit f) (steps_of f.value m.glyph) m.counted) of_font ∙ ap (λ g. counted_after (step_limit font) (steps_of font.value g) m.counted) of_glyph
+-- A machine that executes a glyph of a checked font.
+executing : (m : MachineView) (font : CheckedFont) (glyph : ℕ) → executed m ≡ font → m.glyph ≡ glyph → Executes font.edition font.value glyph m
+executing m font glyph of_font of_glyph =
+    record { edition_is = ap (λ (f : CheckedFont). f.edition) of_font; font_is = ap (λ (f : CheckedFont). f.value) of_font; glyph_is = of_glyph }
 
 -- A machine of the same font and edition.
 pub same_executed : (new old : MachineView) → new.font ≡ old.font → new.edition ≡ old.edition → executed new ≡ executed old
@@ -152,36 +149,47 @@ count_near limit all n near = ap (λ b. if b then n else n + 1) (le-ltb (length 
 count_limited : (limit : ℕ) (all : List StepView) (n : ℕ) → n ≤ limit → limit < length all → counted_after limit all n ≡ n + 1
 count_limited limit all n near within = count_near limit all n (omega (arith, near, within, length-take limit all))
 
--- A machine that was asked at most as often as the limit, by what it answered.
-pub told_step : (m : MachineView) (font : CheckedFont) (glyph counted : ℕ) (step : Step) → executed m ≡ font → m.glyph ≡ glyph → m.counted ≤ step_limit font
-    → counted ≡ counted_after (limit_of m.edition) (steps_of m.font m.glyph) m.counted → stepped (step_value step) ≡ turn_at (limit_of m.edition) (steps_of m.font m.glyph) m.counted → IsTold font glyph m.counted counted step
-told_step m font glyph counted step of_font of_glyph near count turn =
-    let is : IsStepped (step_limit font) (steps_of font.value glyph) m.counted (step_value step) = stepped_is (step_limit font) (steps_of font.value glyph) m.counted (step_value step) (turn ∙ same_turn m font glyph of_font of_glyph) in
-    let once : counted ≡ m.counted + 1 = same_count m font glyph counted of_font of_glyph count ∙ is.counted in
+-- A step or the limit that was told behind n others.
+told_by : (font : CheckedFont) (glyph n : ℕ) (step : Step) → n ≤ step_limit font
+    → IsStepped (step_limit font) (steps_of font.value glyph) n (step_value step) ⊎ IsLimited (step_limit font) (steps_of font.value glyph) n (step_value step)
+    → IsTold font glyph n (counted_after (step_limit font) (steps_of font.value glyph) n) step
+told_by font glyph n step near (inl is) =
     record {
-      listed = listed_stepped (step_limit font) (steps_of font.value glyph) m.counted step is;
+      listed = listed_stepped (step_limit font) (steps_of font.value glyph) n step is;
+      counted_is = is.counted;
+      turns = subst (λ k. k ≤ turns_of_glyph font glyph) (sym is.counted) (turns_stepped font glyph n step is);
+    }
+told_by font glyph n step near (inr is) =
+    let once = count_limited (step_limit font) (steps_of font.value glyph) n near is.within in
+    record {
+      listed = listed_limited (step_limit font) (steps_of font.value glyph) n step near is;
       counted_is = once;
-      turns = subst (λ k. k ≤ turns_of_glyph font glyph) (sym once) (turns_stepped font glyph m.counted step is);
+      turns = subst (λ k. k ≤ turns_of_glyph font glyph) (sym once) (turns_limited font glyph n step near is);
     }
 
-pub told_limit : (m : MachineView) (font : CheckedFont) (glyph counted : ℕ) (step : Step) → executed m ≡ font → m.glyph ≡ glyph → m.counted ≤ step_limit font
-    → counted ≡ counted_after (limit_of m.edition) (steps_of m.font m.glyph) m.counted → limited (step_value step) ≡ turn_at (limit_of m.edition) (steps_of m.font m.glyph) m.counted → IsTold font glyph m.counted counted step
-told_limit m font glyph counted step of_font of_glyph near count turn =
-    let is : IsLimited (step_limit font) (steps_of font.value glyph) m.counted (step_value step) = limited_is (step_limit font) (steps_of font.value glyph) m.counted (step_value step) (turn ∙ same_turn m font glyph of_font of_glyph) in
-    let once : counted ≡ m.counted + 1 = same_count m font glyph counted of_font of_glyph count ∙ count_limited (step_limit font) (steps_of font.value glyph) m.counted near is.within in
-    record {
-      listed = listed_limited (step_limit font) (steps_of font.value glyph) m.counted step near is;
-      counted_is = once;
-      turns = subst (λ k. k ≤ turns_of_glyph font glyph) (sym once) (turns_limited font glyph m.counted step near is);
-    }
+-- A machine that was asked at most as often as the limit, and answered a step or the limit.
+pub told_at : (m : MachineView) (font : CheckedFont) (glyph counted : ℕ) (step : Step) → executed m ≡ font → m.glyph ≡ glyph → m.counted ≤ step_limit font
+    → counted ≡ counted_after (limit_of m.edition) (steps_of m.font m.glyph) m.counted
+    → (stepped (step_value step) ≡ turn_at (limit_of m.edition) (steps_of m.font m.glyph) m.counted)
+    ⊎ (limited (step_value step) ≡ turn_at (limit_of m.edition) (steps_of m.font m.glyph) m.counted)
+    → IsTold font glyph m.counted counted step
+told_at m font glyph counted step of_font of_glyph near count answered =
+    let same = executing m font glyph of_font of_glyph in
+    let turn = same_turn font.edition m font.value glyph same in
+    subst (λ n. IsTold font glyph m.counted n step) (sym (count ∙ same_count font.edition m font.value glyph same))
+    (told_by font glyph m.counted step near
+    (elim answered [
+      | inl is ↦ inl (stepped_is (step_limit font) (steps_of font.value glyph) m.counted (step_value step) (is ∙ turn))
+      | inr is ↦ inr (limited_is (step_limit font) (steps_of font.value glyph) m.counted (step_value step) (is ∙ turn))
+    ]))
 
 pub told_end : (m : MachineView) (font : CheckedFont) (glyph : ℕ) → executed m ≡ font → m.glyph ≡ glyph → ended ≡ turn_at (limit_of m.edition) (steps_of m.font m.glyph) m.counted → IsOver (step_limit font) (steps_of font.value glyph) m.counted
-told_end m font glyph of_font of_glyph turn = ended_is (step_limit font) (steps_of font.value glyph) m.counted (turn ∙ same_turn m font glyph of_font of_glyph)
+told_end m font glyph of_font of_glyph turn = ended_is (step_limit font) (steps_of font.value glyph) m.counted (turn ∙ same_turn font.edition m font.value glyph (executing m font glyph of_font of_glyph))
 
 pub count_at_end : (m : MachineView) (font : CheckedFont) (glyph counted : ℕ) → executed m ≡ font → m.glyph ≡ glyph → IsOver (step_limit font) (steps_of font.value glyph) m.counted → m.counted ≤ turns_of_glyph font glyph
     → counted ≡ counted_after (limit_of m.edition) (steps_of m.font m.glyph) m.counted → counted ≡ turns_of_glyph font glyph
 count_at_end m font glyph counted of_font of_glyph over few count =
-    turns_over font glyph m.counted counted over few (same_count m font glyph counted of_font of_glyph count)
+    turns_over font glyph m.counted counted over few (count ∙ same_count font.edition m font.value glyph (executing m font glyph of_font of_glyph))
 
 -- A run of this glyph of this font.
 pub record IsRunAt (font : CheckedFont) (glyph counted : ℕ) (watches : Watches) : Type 0 where

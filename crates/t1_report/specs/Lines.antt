@@ -1,9 +1,9 @@
 -- The line of a fault.
-use Rattle.std.specs.Prelude.{◌≡◌, ℕ, ◌==◌, ◌/◌, ◌%◌, ◌-◌, ◌≤◌, List, [], ◌∷◌, ◌++◌, codes, length, if◌then◌else◌, Option, Some, None, slice_get, ◌+◌}
+use Rattle.std.specs.Prelude.{◌≡◌, ℕ, ◌==◌, ◌/◌, ◌%◌, ◌-◌, ◌≤◌, List, [], ◌∷◌, ◌++◌, codes, length, if◌then◌else◌, Option, Some, None, slice_get, ◌+◌, ◌<◌}
 use Rattle.std.specs.List.{concat, flat_map}
 use Rattle.std.specs.Fmt.{decimal}
 use Rattle.t1_font.specs.Fonts.{FontValue}
-use Rattle.t1_rules.specs.Keys.{key_text_of}
+use Rattle.t1_rules.specs.Keys.{key_text_of, index_count, key_count}
 use Rattle.t1_rules.specs.Book.{code_of, text_of}
 use Rattle.t1_report.specs.Faults.{FaultValue}
 use Rattle.t1_rules.specs.declared.rule.Rule.TheVariants.{U01}
@@ -11,7 +11,7 @@ use Rattle.t1_report.specs.Waivers.{Waiver}
 
 -- `font KEY INDEX`, by the step.
 abbrev pub key_place : ℕ → List ℕ
-key_place step = concat (codes "font " ∷ key_text_of (step / 65536) ∷ codes " " ∷ decimal (step % 65536) ∷ [])
+key_place step = concat (codes "font " ∷ key_text_of (step / index_count) ∷ codes " " ∷ decimal (step % index_count) ∷ [])
 
 -- A Subr that is called from another.
 abbrev pub inner_text : ℕ → List ℕ
@@ -61,5 +61,5 @@ line_of font waivers fault =
 -- The fault stands in the font at one of its keys, in one of its glyphs, or it is a waiver that isn't used.
 pub record IsInFont (font : FontValue) (waivers : List Waiver) (fault : FaultValue) : Type 0 where
   pub unit : fault.unit ≤ length font.glyphs + 1
-  pub key : fault.unit ≡ 0 → fault.step / 65536 ≤ 21
+  pub key : fault.unit ≡ 0 → fault.step / index_count < key_count
   pub waiver : fault.unit ≡ length font.glyphs + 1 → (fault.rule ≡ U01) × ((1 ≤ fault.step) × (fault.step ≤ length waivers))

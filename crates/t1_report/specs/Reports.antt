@@ -13,6 +13,7 @@ use Rattle.t1_report.specs.Checked.{CheckedFont, step_limit}
 use Rattle.t1_report.specs.Faults.{FaultValue}
 use Rattle.t1_report.specs.Lines.{glyph_name}
 use Rattle.t1_report.specs.Waivers.{Waiver, is_waived}
+use Rattle.t1_rules.specs.Keys.{index_count}
 
 -- A place and a rule: unit 0 is the font, whose step is 65,536 times a key's number plus an index.
 pub record Place : Type 0 where
@@ -55,7 +56,7 @@ rules_of font = charstring_rules font.edition (components_of (step_limit font) f
 -- The rule of a number is broken at a unit and a step: in the font at the key and the index of the step, in a
 -- glyph at one of its steps, which count from 1.
 unfoldable pub is_broken : CheckedFont → ℕ → ℕ → ℕ → Bool
-is_broken font zero step n = violated font_rules n font.value (step / 65536) (step % 65536)
+is_broken font zero step n = violated font_rules n font.value (step / index_count) (step % index_count)
 is_broken font (suc glyph) zero n = false
 is_broken font (suc glyph) (suc i) n =
     nat_lt glyph (length font.value.glyphs)

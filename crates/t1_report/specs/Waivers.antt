@@ -7,6 +7,10 @@ use Rattle.t1_rules.specs.declared.rule.Rule.{Rule}
 use Rattle.t1_rules.specs.declared.rule.Rule.TheVariants.{C01, L01}
 use Rattle.t1_rules.specs.Book.{number_of, rule_coded}
 
+-- The most bytes of a text of waivers, and so the most waivers.
+abbrev pub largest_waivers : ℕ
+largest_waivers = 1048576
+
 abbrev pub Waiver : Type 0
 Waiver = List ℕ × Rule
 

@@ -1,10 +1,7 @@
 //! Faults: a rule that a font breaks, and where.
 
-use arrayvec::ArrayVec;
+use t1_char::Path;
 use t1_rules::Rule;
-
-/// How deep Subrs are called at most: Type 1 Font Format 1.1, chapter 6.
-pub(crate) const DEEPEST: usize = 10;
 
 /// A rule that a font breaks, and where.
 #[derive(Debug, PartialEq, Eq, Drop)]
@@ -19,5 +16,5 @@ pub struct Fault {
     pub rule: Rule,
     /// The numbers of the Subrs that are being executed at the step, the outermost first; none in the
     /// font.
-    pub path: ArrayVec<u32, DEEPEST>,
+    pub path: Path,
 }

@@ -32,6 +32,7 @@ mod marks;
 mod reporting;
 mod traces;
 mod usage;
+mod violations;
 mod waivers;
 mod walk;
 

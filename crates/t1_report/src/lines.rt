@@ -1,18 +1,18 @@
 //! The lines of a report.
 
-ghost use Rattle.std.specs.Prelude.{◌≡◌, ◌≤◌, ◌/◌};
+ghost use Rattle.std.specs.Prelude.{◌≡◌, ◌≤◌, ◌/◌, ◌<◌};
 ghost use Rattle.std.specs.List.{flat_map};
 ghost use Rattle.t1_io.specs.Devices.{Writes};
 ghost use Rattle.t1_report.specs.Faults.{fault_value};
 ghost use Rattle.t1_report.specs.Lines.{IsInFont, glyph_name, glyph_place, inner_text, key_place, line_of, path_text, place_text, waiver_place};
+ghost use Rattle.t1_rules.specs.Keys.{index_count, key_count};
 
 use crate::decimal::Decimal;
 use crate::faults::Fault;
-use crate::reporting::STEPS_OF_A_KEY;
 use crate::waivers::Waivers;
 use t1_font::Font;
 use t1_io::{Broken, Sink, put_all, put_parts};
-use t1_rules::{key_text, rule_code, rule_text};
+use t1_rules::{INDEXES, key_text, rule_code, rule_text};
 
 /// Writes the line of a fault: `1: font file 0 F01 no end segment`, or of a glyph
 /// `2: glyph A 5>6 8 P01 drawing without a move`, or of a waiver `3: waiver A P01 U01 waiver not used`. The fault
@@ -63,11 +63,11 @@ fn write_place<W: Sink>(
 
 /// Writes the key and the index of a step of the font.
 fn write_key_place<W: Sink>(sink: &mut W, step: u32) -> Result<(), Broken>
-    requires { step / 65536 ≤ 21 }
+    requires { step / index_count < key_count }
     ensures { Writes (W.state sink.old) (W.state sink.new) (key_place step) result }
 {
-    let key = (step / STEPS_OF_A_KEY) as u8;
-    let index = Decimal::new(u64::from(step % STEPS_OF_A_KEY));
+    let key = (step / INDEXES) as u8;
+    let index = Decimal::new(u64::from(step % INDEXES));
     put_parts(
         sink,
         &[b"font ", key_text(key).as_bytes(), b" ", index.digits()],

@@ -13,33 +13,29 @@ ghost use Rattle.t1_report.specs.Reports.{IsReport, step_breaks};
 ghost use Rattle.t1_report.specs.Private.Fronts.{IsFront};
 ghost use Rattle.t1_report.specs.Private.Reporting.{HaveSeen, IsNextStep, HasTold};
 ghost use Rattle.t1_rules.specs.Components.{AreOf};
-ghost use Rattle.t1_rules.specs.Keys.{places_of};
+ghost use Rattle.t1_rules.specs.Keys.{places_of, index_count, key_count};
 ghost use Rattle.t1_rules.specs.Mask.{has};
 ghost use Rattle.t1_rules.specs.StepRules.{charstring_rules};
-ghost use Rattle.t1_report.specs.Waivers.{Waiver};
+ghost use Rattle.t1_report.specs.Waivers.{Waiver, largest_waivers};
+ghost use Rattle.t1_font.specs.Bounds.{most_glyphs};
 
-use crate::faults::{DEEPEST, Fault};
+use crate::violations::broken_at;
+use crate::faults::Fault;
 use crate::lines::glyph_name;
 use crate::usage::check_waiver;
 use crate::waivers::Waivers;
 use arrayvec::ArrayVec;
 use std::alloc::{AllocError, Global};
-use t1_char::{Edition, Step, expand};
-use t1_font::Font;
-use t1_rules::{Mask, Rule, Sidebearings, Watch, Watches, font_faults, places};
-
-/// How many keys a font has a place for.
-const KEYS: u8 = 22;
-
-/// How many steps each key of the font has.
-pub(crate) const STEPS_OF_A_KEY: u32 = 65_536;
+use t1_char::{Edition, Path, expand};
+use t1_font::{Font, copy_of};
+use t1_rules::{INDEXES, KEYS, Mask, Sidebearings, Watch, Watches, font_faults, places};
 
 /// Where faults stand: a unit, a step, and the Subrs that are being executed there.
 #[derive(Clone, Copy)]
 struct FaultPlace<'a> {
     unit: u32,
     step: u32,
-    path: &'a [u32],
+    path: &'a Path,
 }
 
 /// All violations in a font and its glyphs that aren't waived, in the order of their places, and behind them the
@@ -75,16 +71,17 @@ fn add_key(
     waivers: &Waivers<'_>,
     key: u8,
 ) -> Result<(), AllocError>
-    requires key { key < 22 }
+    requires key { key < key_count }
     ensures { OnOk result ((edition : Editions) →
-        IsFront (checked font.now edition) waivers.now 0 (65536 * key) 0 (faults_of faults.old.items) →
-        IsFront (checked font.now edition) waivers.now 0 (65536 * (key + 1)) 0 (faults_of faults.new.items)) }
+        IsFront (checked font.now edition) waivers.now 0 (index_count * key) 0 (faults_of faults.old.items) →
+        IsFront (checked font.now edition) waivers.now 0 (index_count * (key + 1)) 0 (faults_of faults.new.items)) }
 {
+    let path = ArrayVec::new();
     for index in 0..places(font, key) {
         let place = FaultPlace {
             unit: 0,
-            step: STEPS_OF_A_KEY * u32::from(key) + index,
-            path: &[],
+            step: INDEXES * u32::from(key) + index,
+            path: &path,
         };
         add_faults(faults, place, font_faults(font, key, index))?;
     }
@@ -102,7 +99,7 @@ fn add_glyph(
 ) -> Result<(), AllocError>
     requires sidebearings { AreOf font.now sidebearings.now }
     requires glyph { glyph < length font.now.glyphs }
-    requires few { length font.now.glyphs ≤ 65535 }
+    requires few { length font.now.glyphs ≤ most_glyphs }
     requires front { IsFront (checked font.now sidebearings.now.edition) waivers.now (glyph + 1) 0 0
         (faults_of faults.old.items) }
     ensures { OnOk result (IsFront (checked font.now sidebearings.now.edition) waivers.now (glyph + 2) 0 0
@@ -117,7 +114,7 @@ fn add_glyph(
         let place = FaultPlace {
             unit: glyph as u32 + 1,
             step: step.number,
-            path: step.path.as_slice(),
+            path: &step.path,
         };
         let broken = broken_at(&mut watches, sidebearings, limit, step);
         add_faults(faults, place, waivers.left(name, broken))?;
@@ -135,54 +132,26 @@ fn add_waiver(
 ) -> Result<(), AllocError>
     requires sidebearings { AreOf font.now sidebearings.now }
     requires place { place < length waivers.now }
-    requires few { length font.now.glyphs ≤ 65535 }
-    requires few_waivers { length waivers.now ≤ 1048576 }
+    requires few { length font.now.glyphs ≤ most_glyphs }
+    requires few_waivers { length waivers.now ≤ largest_waivers }
     requires front { IsFront (checked font.now sidebearings.now.edition) waivers.now (length font.now.glyphs + 1) (place + 1) 0
         (faults_of faults.old.items) }
-    ensures { OnOk result (IsFront (checked font.now sidebearings.now.edition) waivers.now (length font.now.glyphs + 1) (place + 2) 0
-        (faults_of faults.new.items)) }
+    ensures { OnOk result (IsFront (checked font.now sidebearings.now.edition) waivers.now (length font.now.glyphs + 1)
+        (place + 2) 0 (faults_of faults.new.items)) }
 {
+    let path = ArrayVec::new();
     let fault = FaultPlace {
         unit: font.glyphs().len() as u32 + 1,
         step: place as u32 + 1,
-        path: &[],
+        path: &path,
     };
     let check = check_waiver(&*font, &*sidebearings, waivers, place);
     add_faults(faults, fault, check.rules)?;
     Ok(())
 }
 
-/// The rules that the next step of a glyph breaks: the first step past the limit of the edition breaks the
-/// rule on the limit, and no other.
-#[inline(always)]
-pub(crate) fn broken_at(
-    watches: &mut Watches,
-    sidebearings: &Sidebearings,
-    limit: u32,
-    step: &Step,
-) -> Mask
-    requires limit { limit ≡ limit_of sidebearings.now.edition }
-    requires next { (before : List StepView) × IsNextStep sidebearings.now.edition watches.old before step.now }
-    ensures broken { (before : List StepView) → IsNextStep sidebearings.now.edition watches.old before step.now →
-        (n : ℕ) → has result n
-        ≡ step_breaks (limit_of sidebearings.now.edition)
-        (charstring_rules sidebearings.now.edition sidebearings.now.components) n
-        (before ++ step_view step.now ∷ []) (length before) }
-    ensures seen { (before : List StepView) → IsNextStep sidebearings.now.edition watches.old before step.now →
-        HaveSeen sidebearings.now.edition watches.new (before ++ step_view step.now ∷ []) }
-{
-    if limit < step.number {
-        return Mask::empty().with(Rule::L01, true);
-    }
-    let token = step.token;
-    watches
-        .see_as(token, step)
-        .join(sidebearings.see_as(token, step))
-}
-
 /// Adds the faults of a place, by the numbers of their rules.
 fn add_faults(faults: &mut Vec<Fault>, place: FaultPlace<'_>, told: Mask) -> Result<(), AllocError>
-    requires path { length place.path.now ≤ 10 }
     ensures { OnOk result ((font : CheckedFont) (waivers : List Waiver) → HasTold font waivers place.entry told →
         IsFront font waivers place.entry.unit place.entry.step 0 (faults_of faults.old.items) →
         IsFront font waivers place.entry.unit (place.entry.step + 1) 0 (faults_of faults.new.items)) }
@@ -199,14 +168,4 @@ fn add_faults(faults: &mut Vec<Fault>, place: FaultPlace<'_>, told: Mask) -> Res
         floor = rule.number();
     }
     Ok(())
-}
-
-/// A path of these Subrs.
-pub(crate) fn copy_of(subrs: &[u32]) -> ArrayVec<u32, DEEPEST>
-    requires { length subrs.now ≤ 10 }
-    ensures { result.items ≡ subrs.now }
-{
-    let mut copy = ArrayVec::new();
-    let _copied = copy.try_extend_from_slice(subrs);
-    copy
 }

@@ -8,6 +8,9 @@ ghost use Rattle.t1_report.specs.Private.Units.{turns_if_any};
 ghost use Rattle.t1_rules.specs.Book.{number_of};
 ghost use Rattle.t1_rules.specs.Components.{AreOf};
 ghost use Rattle.t1_rules.specs.Mask.{has};
+ghost use Rattle.t1_font.specs.Bounds.{most_glyphs};
+ghost use Rattle.t1_char.specs.Editions.{limit_of};
+ghost use Rattle.t1_char.specs.declared.edition.Edition.TheVariants.{Two};
 
 use crate::waivers::Waivers;
 use crate::walk::glyph_run::GlyphRun;
@@ -36,11 +39,11 @@ pub(crate) fn check_waiver<'a>(
     place: usize,
 ) -> Check
     requires sidebearings { AreOf font.now sidebearings.now }
-    requires few { length font.now.glyphs ≤ 65535 }
+    requires few { length font.now.glyphs ≤ most_glyphs }
     ensures rules { (n : ℕ) → has result.rules n
         ≡ tells_unused (checked font.now sidebearings.now.edition) waivers.now (place + 1) n }
     ensures turns { result.turns ≡ turns_if_any (checked font.now sidebearings.now.edition) (slice_get waivers.now place) }
-    ensures few { result.turns ≤ 1000001 }
+    ensures few { result.turns ≤ limit_of Two + 1 }
 {
     let Some((name, rule)) = waivers.pair(place) else {
         return Check {
@@ -58,10 +61,10 @@ pub(crate) fn check_waiver<'a>(
 /// Whether a waiver is used: its glyph is run again, up to the first step that breaks its rule.
 fn use_of<'a>(font: &'a Font<'a>, sidebearings: &'a Sidebearings, name: &[u8], rule: Rule) -> Use
     requires sidebearings { AreOf font.now sidebearings.now }
-    requires few { length font.now.glyphs ≤ 65535 }
+    requires few { length font.now.glyphs ≤ most_glyphs }
     ensures used { result.used ≡ is_used (checked font.now sidebearings.now.edition) (name.now, rule) }
     ensures turns { result.turns ≡ turns_of_waiver (checked font.now sidebearings.now.edition) (name.now, rule) }
-    ensures few { result.turns ≤ 1000001 }
+    ensures few { result.turns ≤ limit_of Two + 1 }
 {
     let Some(glyph) = glyph_named(font, name) else {
         return Use {

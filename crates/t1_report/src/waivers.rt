@@ -4,7 +4,7 @@ ghost use Rattle.std.specs.Prelude.{◌≡◌, ◌≤◌, ◌+◌, ℕ, [], ◌&
 ghost use Rattle.std.specs.List.{prefix_len};
 ghost use Rattle.indexmap.specs.IndexSet.{index_set_len};
 ghost use Rattle.t1_report.specs.WaiverViews.{IsReadAs, waiver_if_any, waivers_now};
-ghost use Rattle.t1_report.specs.Waivers.{Waiver, is_waivable, is_waived, line_read, waiver_of, waivers_of};
+ghost use Rattle.t1_report.specs.Waivers.{Waiver, is_waivable, is_waived, line_read, waiver_of, waivers_of, largest_waivers};
 ghost use Rattle.t1_report.specs.declared.waivers.WaiverError.TheVariants.{Memory};
 ghost use Rattle.t1_rules.specs.Book.{number_of};
 ghost use Rattle.t1_rules.specs.Mask.{has};
@@ -49,12 +49,13 @@ impl<'a> Model for Waivers<'a> {
     ghost use Rattle.std.specs.Prelude.{◌≤◌, List, length};
     ghost use Rattle.t1_report.specs.WaiverViews.{kept_waivers};
     ghost use Rattle.t1_report.specs.Waivers.{Waiver};
+    ghost use Rattle.t1_report.specs.Waivers.{largest_waivers};
 
     ghost Value = { List Waiver };
 
     ghost view = { λ w. kept_waivers w.pairs };
 
-    ghost invariant = { λ w. length (kept_waivers w.pairs) ≤ 1048576 };
+    ghost invariant = { λ w. length (kept_waivers w.pairs) ≤ largest_waivers };
 }
 
 impl<'a> Waivers<'a> {
@@ -67,7 +68,7 @@ impl<'a> Waivers<'a> {
 
     /// The waivers of a text of at most 1,048,576 bytes: a line each, as in `A C05`.
     pub fn read(alloc: Global, text: &'a [u8]) -> Result<Waivers<'a>, WaiverError>
-        requires { length text.now ≤ 1048576 }
+        requires { length text.now ≤ largest_waivers }
         ensures { IsReadAs (λ w. w) (waivers_of text.now) result }
     {
         let mut pairs = IndexSet::new(alloc);
@@ -85,7 +86,7 @@ impl<'a> Waivers<'a> {
     /// How many there are.
     pub fn len(&self) -> usize
         ensures len { result ≡ length self.now }
-        ensures few { result ≤ 1048576 }
+        ensures few { result ≤ largest_waivers }
     {
         match &self.pairs {
             Some(pairs) => pairs.len(),

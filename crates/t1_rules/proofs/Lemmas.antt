@@ -14,6 +14,7 @@ pub mod FlexCounts
 pub mod FlexPairs
 pub mod FontRules
 pub mod GlyphPlaces
+pub mod KeyRows
 pub mod Keys
 pub mod KnownCalls
 pub mod Mask

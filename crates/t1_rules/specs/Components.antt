@@ -10,7 +10,9 @@ use Rattle.t1_font.specs.Fonts.{FontValue}
 use Rattle.t1_font.specs.Keys.{same_name}
 use Rattle.t1_rules.specs.declared.sidebearings.Component.{Component}
 use Rattle.t1_rules.specs.StandardEncoding.{standard_name}
-use Rattle.t1_rules.specs.StepRules.Tokens.{is_seac, sets_width}
+use Rattle.t1_rules.specs.StepRules.Tokens.{sets_width}
+use Rattle.t1_font.specs.Bounds.{code_count}
+use Rattle.t1_char.specs.Seacs.{is_seac}
 
 -- A component: whether it is there, the first argument of its first hsbw or sbw, and whether it has a
 -- seac of its own.
@@ -51,7 +53,7 @@ component_at limit font code = component_named limit font (standard_name code)
 
 -- The components of all codes.
 unfoldable pub components_of : ℕ → FontValue → List Component
-components_of limit font = map (component_at limit font) (range_with_len 0 256)
+components_of limit font = map (component_at limit font) (range_with_len 0 code_count)
 
 -- The components of all codes of a font, and the edition by whose limit they were looked at.
 pub record ComponentsView : Type 0 where

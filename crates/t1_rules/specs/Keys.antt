@@ -7,6 +7,14 @@ use Rattle.t1_font.specs.declared.key.Key.TheVariants.{FontType, PaintType, Uniq
 use Rattle.t1_font.specs.Keys.{index_of}
 use Rattle.t1_font.specs.Fonts.{FontValue}
 use Rattle.t1_font.specs.Values.{Value, absent}
+use Rattle.t1_font.specs.Bounds.{code_count}
+
+-- How many keys there are, and how many indexes a key has at most.
+abbrev pub key_count : ℕ
+key_count = 22
+
+abbrev pub index_count : ℕ
+index_count = 65536
 
 -- What is said of the file as a whole.
 abbrev pub file_key : ℕ
@@ -62,11 +70,11 @@ list_limit_of _ = 0
 -- How many indexes the Subrs have: past the greatest number of one, and at most 65,536.
 abbrev pub subr_places : List (ℕ × List ℕ) → ℕ
 subr_places [] = 0
-subr_places (subr ∷ subrs) = max (min (subr.0 + 1) 65536) (subr_places subrs)
+subr_places (subr ∷ subrs) = max (min (subr.0 + 1) index_count) (subr_places subrs)
 
 -- One for each glyph, and index 0 where there is none.
 abbrev pub glyph_places : FontValue → ℕ
-glyph_places font = max 1 (min (length font.glyphs) 65536)
+glyph_places font = max 1 (min (length font.glyphs) index_count)
 
 -- A key: what it is called, and how many indexes it has, from 0 on, at which a font can have a fault.
 pub record KeyRow : Type 0 where
@@ -91,7 +99,7 @@ key_rows =
     ∷ key_row (codes "FontType") of_entry
     ∷ key_row (codes "PaintType") of_entry
     ∷ key_row (codes "UniqueID") of_entry
-    ∷ key_row (codes "Encoding") (λ font. 256)
+    ∷ key_row (codes "Encoding") (λ font. code_count)
     ∷ key_row (codes "PrivateUniqueID") of_entry
     ∷ key_row (codes "password") of_entry
     ∷ key_row (codes "MinFeature") of_entry

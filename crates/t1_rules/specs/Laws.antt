@@ -1,5 +1,6 @@
 -- Statements of laws, which the functions of src/laws.rt prove.
 pub mod Arguments
+pub mod Book
 pub mod Calls
 pub mod Components
 pub mod Editions

@@ -1,6 +1,7 @@
 -- Words that private contracts alone cite: no clause of a public function rests on them.
 pub mod BookRows
 pub mod Edges
+pub mod KeyKinds
 pub mod KeyTests
 pub mod Quiet
 pub mod Seac

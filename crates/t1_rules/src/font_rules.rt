@@ -2,19 +2,22 @@
 
 ghost use Rattle.std.specs.Prelude.{◌≡◌, ℕ};
 ghost use Rattle.t1_rules.specs.FontRules.{font_rules, violated};
+ghost use Rattle.t1_rules.specs.Keys.{key_number};
 ghost use Rattle.t1_rules.specs.Mask.{has};
+ghost use Rattle.t1_rules.specs.Private.KeyKinds.{kind_number};
 
 mod encoding;
 mod entries;
 mod file;
 mod glyphs;
-mod hints;
+pub(crate) mod hints;
 mod ids;
 mod stems;
 mod subrs;
 mod values;
 mod zones;
 
+use crate::keys::{KeyKind, kind_of};
 use crate::mask::Mask;
 use encoding::encoding_faults;
 use entries::{font_type_faults, min_feature_faults, paint_type_faults, password_faults};
@@ -28,34 +31,57 @@ use t1_font::{Font, Key};
 use zones::{high_zone_faults, low_zone_faults};
 
 /// The font rules that are broken at a key and an index: 0 for what is said of the key as a whole, and
-/// else a place in its list of numbers, a code, a Subr's number or a glyph's. There is none past key 21
-/// or index 65,535.
+/// else a place in its list of numbers, a code, a Subr's number or a glyph's. There is none past the last
+/// key or index.
 pub fn font_faults(font: &Font<'_>, key: u8, index: u32) -> Mask
     ensures { (n : ℕ) → has result n ≡ violated font_rules n font.now key index }
 {
+    match kind_of(key) {
+        Some(kind) => faults_at(font, kind, index),
+        None => Mask::empty(),
+    }
+}
+
+/// The same at what stands at a key.
+fn faults_at(font: &Font<'_>, kind: KeyKind, index: u32) -> Mask
+    ensures { (n : ℕ) → has result n ≡ violated font_rules n font.now (kind_number kind) index }
+{
+    match kind {
+        KeyKind::File => file_faults(font, index),
+        KeyKind::Value(key) => value_faults(font, key, index),
+        KeyKind::Encoding => encoding_faults(font, index),
+        KeyKind::Subrs => subr_faults(font, index),
+        KeyKind::CharStrings => glyph_faults(font, index),
+    }
+}
+
+/// The same of the value of a plain key.
+fn value_faults(font: &Font<'_>, key: Key, index: u32) -> Mask
+    ensures { (n : ℕ) → has result n ≡ violated font_rules n font.now (key_number key) index }
+{
     match key {
-        0 => file_faults(font, index),
-        1 => font_type_faults(font, index),
-        2 => paint_type_faults(font, index),
-        3 => unique_id_faults(font, index),
-        4 => encoding_faults(font, index),
-        5 => private_unique_id_faults(font, index),
-        6 => password_faults(font, index),
-        7 => min_feature_faults(font, index),
-        8 => Mask::empty(),
-        9 => high_zone_faults(font, Key::BlueValues, index),
-        10 => low_zone_faults(font, Key::OtherBlues, Key::BlueValues, index),
-        11 => high_zone_faults(font, Key::FamilyBlues, index),
-        12 => low_zone_faults(font, Key::FamilyOtherBlues, Key::FamilyBlues, index),
-        13 => number_faults(font, Key::BlueScale, index),
-        14 => number_faults(font, Key::BlueShift, index),
-        15 => number_faults(font, Key::BlueFuzz, index),
-        16 => width_faults(font, Key::StdHw, index),
-        17 => width_faults(font, Key::StdVw, index),
-        18 => snap_faults(font, Key::StemSnapH, Key::StdHw, index),
-        19 => snap_faults(font, Key::StemSnapV, Key::StdVw, index),
-        20 => subr_faults(font, index),
-        21 => glyph_faults(font, index),
-        22..=255 => Mask::empty(),
+        Key::FontType => font_type_faults(font, index),
+        Key::PaintType => paint_type_faults(font, index),
+        Key::UniqueId => unique_id_faults(font, index),
+        Key::PrivateUniqueId => private_unique_id_faults(font, index),
+        Key::Password => password_faults(font, index),
+        Key::MinFeature => min_feature_faults(font, index),
+        Key::LenIv => Mask::empty(),
+        Key::BlueValues => high_zone_faults(font, Key::BlueValues, index),
+        Key::OtherBlues => low_zone_faults(font, Key::OtherBlues, Key::BlueValues, index),
+        Key::FamilyBlues => high_zone_faults(font, Key::FamilyBlues, index),
+        Key::FamilyOtherBlues => low_zone_faults(
+            font,
+            Key::FamilyOtherBlues,
+            Key::FamilyBlues,
+            index,
+        ),
+        Key::BlueScale => number_faults(font, Key::BlueScale, index),
+        Key::BlueShift => number_faults(font, Key::BlueShift, index),
+        Key::BlueFuzz => number_faults(font, Key::BlueFuzz, index),
+        Key::StdHw => width_faults(font, Key::StdHw, index),
+        Key::StdVw => width_faults(font, Key::StdVw, index),
+        Key::StemSnapH => snap_faults(font, Key::StemSnapH, Key::StdHw, index),
+        Key::StemSnapV => snap_faults(font, Key::StemSnapV, Key::StdVw, index),
     }
 }

@@ -1,44 +1,141 @@
-//! The keys that a font's faults stand at: what they are called, and how many indexes each has.
+//! The keys that a font's faults stand at: what they are called, what stands there, and how many indexes each has.
 
-ghost use Rattle.std.specs.Prelude.{◌≡◌};
-ghost use Rattle.t1_rules.specs.Keys.{glyph_places, key_text_of, places_of, subr_places};
+ghost use Rattle.std.specs.Prelude.{◌≡◌, ◌≤◌, ◌+◌, IfNone, IfSome, map};
+ghost use Rattle.std.specs.List.{range_with_len};
+ghost use Rattle.t1_font.specs.Fonts.{FontValue};
+ghost use Rattle.t1_rules.specs.Keys.{glyph_places, key_count, key_number, key_text_of, key_texts, list_limit_of, places_of, subr_places};
+ghost use Rattle.t1_rules.specs.Private.KeyKinds.{kind_number};
 
-use t1_font::Font;
+use crate::font_rules::hints::list_limit_of;
+use t1_font::{CODES, Font, Key};
+
+/// How many keys there are.
+pub const KEYS: u8 = 22;
+
+/// How many indexes a key has at most.
+pub const INDEXES: u32 = 65_536;
+
+/// What stands at a key.
+#[derive(Clone, Copy)]
+pub(crate) enum KeyKind {
+    /// The file as a whole.
+    File,
+    /// The value of a plain key.
+    Value(Key),
+    /// The Encoding, by codes.
+    Encoding,
+    /// The Subrs, by their numbers.
+    Subrs,
+    /// The CharStrings, by the places of the glyphs.
+    CharStrings,
+}
+
+/// A key: what it is called in a line of the report, and what stands there.
+type Row = (&'static str, KeyKind);
+
+/// The keys, in the order of their numbers, of which the first is 0.
+static KEY_ROWS: [Row; KEYS as usize] = [
+    ("file", KeyKind::File),
+    ("FontType", KeyKind::Value(Key::FontType)),
+    ("PaintType", KeyKind::Value(Key::PaintType)),
+    ("UniqueID", KeyKind::Value(Key::UniqueId)),
+    ("Encoding", KeyKind::Encoding),
+    ("PrivateUniqueID", KeyKind::Value(Key::PrivateUniqueId)),
+    ("password", KeyKind::Value(Key::Password)),
+    ("MinFeature", KeyKind::Value(Key::MinFeature)),
+    ("lenIV", KeyKind::Value(Key::LenIv)),
+    ("BlueValues", KeyKind::Value(Key::BlueValues)),
+    ("OtherBlues", KeyKind::Value(Key::OtherBlues)),
+    ("FamilyBlues", KeyKind::Value(Key::FamilyBlues)),
+    ("FamilyOtherBlues", KeyKind::Value(Key::FamilyOtherBlues)),
+    ("BlueScale", KeyKind::Value(Key::BlueScale)),
+    ("BlueShift", KeyKind::Value(Key::BlueShift)),
+    ("BlueFuzz", KeyKind::Value(Key::BlueFuzz)),
+    ("StdHW", KeyKind::Value(Key::StdHw)),
+    ("StdVW", KeyKind::Value(Key::StdVw)),
+    ("StemSnapH", KeyKind::Value(Key::StemSnapH)),
+    ("StemSnapV", KeyKind::Value(Key::StemSnapV)),
+    ("Subrs", KeyKind::Subrs),
+    ("CharStrings", KeyKind::CharStrings),
+];
+
+/// The rows of the keys.
+fn rows() -> &'static [Row]
+    ensures texts { map (λ row. row.0.now) result.now ≡ key_texts }
+    ensures kinds { map (λ row. kind_number row.1) result.now ≡ range_with_len 0 key_count }
+{
+    &KEY_ROWS
+}
 
 /// What a key is called in a line of the report: 0 is the file, 1 to 21 are entries of the font's
-/// dictionaries. It is empty past 21.
+/// dictionaries. It is empty past the last one.
 pub fn key_text(key: u8) -> &'static str
     ensures { result.now ≡ key_text_of key }
 {
-    match key {
-        0 => "file",
-        1 => "FontType",
-        2 => "PaintType",
-        3 => "UniqueID",
-        4 => "Encoding",
-        5 => "PrivateUniqueID",
-        6 => "password",
-        7 => "MinFeature",
-        8 => "lenIV",
-        9 => "BlueValues",
-        10 => "OtherBlues",
-        11 => "FamilyBlues",
-        12 => "FamilyOtherBlues",
-        13 => "BlueScale",
-        14 => "BlueShift",
-        15 => "BlueFuzz",
-        16 => "StdHW",
-        17 => "StdVW",
-        18 => "StemSnapH",
-        19 => "StemSnapV",
-        20 => "Subrs",
-        21 => "CharStrings",
-        22..=255 => "",
+    match rows().get(usize::from(key)) {
+        Some(row) => row.0,
+        None => "",
     }
 }
 
-/// How many indexes a key has at most.
-pub(crate) const INDEXES: u32 = 65_536;
+/// What stands at a key, if there is one of this number.
+pub(crate) fn kind_of(key: u8) -> Option<KeyKind>
+    ensures some { IfSome result (λ kind. kind_number kind ≡ key) }
+    ensures none { IfNone result (key_count ≤ key) }
+{
+    match rows().get(usize::from(key)) {
+        Some(row) => Some(row.1),
+        None => None,
+    }
+}
+
+/// How many indexes of a key can have a fault, from 0 on: there is none past them.
+pub fn places(font: &Font<'_>, key: u8) -> u32
+    ensures { result ≡ places_of font.now key }
+{
+    match kind_of(key) {
+        Some(kind) => kind.places(font),
+        None => 0,
+    }
+}
+
+impl KeyKind {
+    /// How many indexes can have a fault.
+    fn places(self, font: &Font<'_>) -> u32
+        ensures { result ≡ places_of font.now (kind_number self) }
+    {
+        match self {
+            KeyKind::File => 1,
+            KeyKind::Value(key) => value_places(key),
+            KeyKind::Encoding => CODES,
+            KeyKind::Subrs => subr_places(font),
+            KeyKind::CharStrings => glyph_places(font),
+        }
+    }
+}
+
+/// How many indexes of a list: one for each number that it can have, and one for the first that is too much.
+fn list_places(key: Key) -> u32
+    ensures { result ≡ list_limit_of key + 1 }
+{
+    list_limit_of(key) as u32 + 1
+}
+
+/// How many of a plain key: one, for what is said of it as a whole, unless it is a list. No rule speaks of lenIV.
+fn value_places(key: Key) -> u32
+    ensures { (font : FontValue) → result ≡ places_of font (key_number key) }
+{
+    match key {
+        Key::LenIv => 0,
+        Key::BlueValues => list_places(Key::BlueValues),
+        Key::OtherBlues => list_places(Key::OtherBlues),
+        Key::FamilyBlues => list_places(Key::FamilyBlues),
+        Key::FamilyOtherBlues => list_places(Key::FamilyOtherBlues),
+        Key::StemSnapH => list_places(Key::StemSnapH),
+        Key::StemSnapV => list_places(Key::StemSnapV),
+        _ => 1,
+    }
+}
 
 /// How many indexes of the Subrs can have a fault: up to the greatest number.
 fn subr_places(font: &Font<'_>) -> u32
@@ -64,36 +161,5 @@ fn glyph_places(font: &Font<'_>) -> u32
         INDEXES
     } else {
         (count as u32).max(1)
-    }
-}
-
-/// How many indexes of a key can have a fault, from 0 on: there is none past them.
-pub fn places(font: &Font<'_>, key: u8) -> u32
-    ensures { result ≡ places_of font.now key }
-{
-    match key {
-        0 => 1,
-        1 => 1,
-        2 => 1,
-        3 => 1,
-        4 => 256,
-        5 => 1,
-        6 => 1,
-        7 => 1,
-        8 => 0,
-        9 => 15,
-        10 => 11,
-        11 => 15,
-        12 => 11,
-        13 => 1,
-        14 => 1,
-        15 => 1,
-        16 => 1,
-        17 => 1,
-        18 => 13,
-        19 => 13,
-        20 => subr_places(font),
-        21 => glyph_places(font),
-        22..=255 => 0,
     }
 }

@@ -1,5 +1,6 @@
 //! Laws of the definitions, each on a call that does nothing.
 
+ghost use Rattle.t1_rules.specs.Laws.Book.{EachRuleStands, NoMoreRulesStand};
 ghost use Rattle.t1_rules.specs.Laws.Arguments.{KeptIsNotPast, NoneAreTooManyAtTheTop, NumbersOverflowAt24, OthersHaveNoArguments, TooFewAreFewerThanWanted, TooManyAreMoreThanArguments};
 ghost use Rattle.t1_rules.specs.Laws.Calls.{SoundCallsGoIn};
 ghost use Rattle.t1_rules.specs.Laws.FontRules.{AbsentEntriesBreakNothing, BrokenIsInTheBook, NothingIsBrokenPastLast, NothingIsBrokenPastPlaces, RuleNumbersAreInOrder};
@@ -291,4 +292,11 @@ pub fn codes_are_judged_by_their_names()
     ensures wrong { WrongCodesAreTold }
     ensures unnamed { UnnamedCodesAreTold }
     ensures seac { SeacAloneHasCodes }
+{}
+
+/// The list of all rules has each rule at its number, and no other.
+#[tactic(auto, using(crate::proofs::Lemmas::Book::listed))]
+pub fn rules_are_in_the_book()
+    ensures each { EachRuleStands }
+    ensures no_more { NoMoreRulesStand }
 {}

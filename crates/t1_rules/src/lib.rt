@@ -44,6 +44,7 @@
 
 mod book;
 mod font_rules;
+mod glyph_names;
 mod keys;
 mod laws;
 mod mask;
@@ -56,7 +57,8 @@ mod watches;
 
 pub use book::{rule_code, rule_text};
 pub use font_rules::font_faults;
-pub use keys::{key_text, places};
+pub use glyph_names::glyph_named;
+pub use keys::{INDEXES, KEYS, key_text, places};
 pub use laws::{
     absent_entries_are_fine, arguments_count_from_the_bottom, codes_are_judged_by_their_names,
     codes_are_whole_to_255, components_are_found_by_their_names,
@@ -66,7 +68,7 @@ pub use laws::{
     letters_name_themselves, numbers_are_counted, numbers_rise_where_none_falls,
     one_step_starts_without_width, other_counts_are_no_flex, othersubr_calls_are_one_of_five,
     paths_are_by_places, points_are_put, pops_of_nothing_change_nothing, replacements_are_followed,
-    rules_are_on_zones, rules_have_their_numbers, rules_have_their_places,
+    rules_are_in_the_book, rules_are_on_zones, rules_have_their_numbers, rules_have_their_places,
     setcurrentpoint_follows_flex, short_forms_lead_as_far, sound_calls_go_in,
     standard_encoding_names_149_codes, stems_are_late_behind_drawing,
     stems_overlap_where_they_share_a_place, step_rules_have_their_numbers, three_stems_are_even,
@@ -74,7 +76,7 @@ pub use laws::{
 };
 pub use mask::Mask;
 pub use rule::Rule;
-pub use sidebearings::{Sidebearings, glyph_named};
+pub use sidebearings::Sidebearings;
 pub use step_rules::arguments::ArgumentWatcher;
 pub use step_rules::calls::CallWatcher;
 pub use step_rules::flex::FlexWatcher;

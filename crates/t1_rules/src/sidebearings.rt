@@ -12,6 +12,7 @@ ghost use Rattle.t1_rules.specs.StepRules.{breaks, component_rules};
 ghost use Rattle.t1_rules.specs.StepRules.Seac.{accent, base, component_of_code, differs_in_sidebearing, is_another, is_lacking, is_named, is_without_sidebearing, lacks_component, lacks_sidebearing, nests};
 ghost use Rattle.t1_rules.specs.Private.Seac.{with_step};
 
+use crate::glyph_names::glyph_named;
 use crate::mask::Mask;
 use crate::rule::Rule;
 use crate::standard_encoding::standard_name;
@@ -22,10 +23,7 @@ use std::marker::Model;
 use t1_char::{
     Answer, CharToken, Edition, Machine, Numbers, Step, steps_lack_seac, subrs_lack_seac,
 };
-use t1_font::Font;
-
-/// How many codes there are.
-const CODES: u16 = 256;
+use t1_font::{CODES, Font};
 
 /// What the rules ask of a component.
 #[derive(Clone, Copy, Debug, PartialEq, Eq)]
@@ -226,14 +224,6 @@ fn component_named(font: &Font<'_>, name: &str, edition: Edition, plain_subrs: b
         Some(glyph) => component_of_glyph(&*font, glyph, edition, plain_subrs),
         None => Component::MISSING,
     }
-}
-
-/// The place of the glyph of a name in the font's CharStrings.
-pub fn glyph_named(font: &Font<'_>, name: &[u8]) -> Option<usize>
-    ensures place { result ≡ glyph_named font.now name.now }
-    ensures within { IfSome result (λ glyph. glyph < length font.now.glyphs) }
-{
-    font.glyphs().get_index_of(&name)
 }
 
 /// What a glyph is as a component, by its steps up to the limit. Where surely none is a seac, the first

@@ -20,10 +20,7 @@ use crate::step_rules::seac::SeacWatcher;
 use crate::step_rules::stems::StemWatcher;
 use crate::step_rules::tokens::call_of;
 use crate::watch::Watch;
-use t1_char::{CharToken, Command, Edition, OthersubrCall, Step};
-
-/// How many numbers a stack holds.
-const FULL: usize = 24;
+use t1_char::{CharToken, Command, Edition, MOST_NUMBERS, OthersubrCall, Step};
 
 /// Watches for the rules from C01 to O04, K01, K02 and K06, which a glyph's own steps decide.
 #[derive(Drop)]
@@ -111,7 +108,7 @@ impl Watches {
             (n : ℕ) → has result n ≡ breaks (step_rules edition) n before (step_view step.now) }
     {
         if self.is_calm() {
-            if step.stack.len() < FULL {
+            if step.stack.len() < MOST_NUMBERS {
                 return Mask::empty();
             }
         }

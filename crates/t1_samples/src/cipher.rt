@@ -5,16 +5,7 @@ ghost use Rattle.t1_seal.specs.Cipher.{charstring_start, eexec_start};
 ghost use Rattle.t1_seal.specs.Laws.Cipher.{encrypted};
 
 use std::alloc::{AllocError, Global};
-
-const EEXEC_START: u16 = 55665;
-
-const CHARSTRING_START: u16 = 4330;
-
-const MULTIPLIER: u32 = 52845;
-
-const ADDEND: u32 = 22719;
-
-const STATES: u32 = 1 << 16;
+use t1_seal::Cipher;
 
 /// The cipher bytes of an encrypted section: of four bytes that are discarded, and the private text.
 pub fn eexec(alloc: Global, discarded: [u8; 4], text: &[u8]) -> Result<Vec<u8>, AllocError>
@@ -22,7 +13,7 @@ pub fn eexec(alloc: Global, discarded: [u8; 4], text: &[u8]) -> Result<Vec<u8>, 
 {
     let mut plain = Vec::from_slice(alloc, &discarded)?;
     plain.extend_from_slice(text)?;
-    encrypt(alloc, EEXEC_START, plain.as_slice())
+    encrypt(alloc, Cipher::eexec(), plain.as_slice())
 }
 
 /// The cipher bytes of a charstring: of zero bytes, as many as `/lenIV` says, and its plain bytes.
@@ -32,20 +23,17 @@ pub fn charstring(alloc: Global, zeros: u8, bytes: &[u8]) -> Result<Vec<u8>, All
 {
     let mut plain = vec![in alloc; 0u8; usize::from(zeros)]?;
     plain.extend_from_slice(bytes)?;
-    encrypt(alloc, CHARSTRING_START, plain.as_slice())
+    encrypt(alloc, Cipher::charstring(), plain.as_slice())
 }
 
 /// The cipher bytes of plain bytes, from a state on.
-fn encrypt(alloc: Global, start: u16, plain: &[u8]) -> Result<Vec<u8>, AllocError>
-    ensures { IfOk result (λ cipher. cipher.items ≡ encrypted start plain.now) }
+fn encrypt(alloc: Global, start: Cipher, plain: &[u8]) -> Result<Vec<u8>, AllocError>
+    ensures { IfOk result (λ cipher. cipher.items ≡ encrypted start.r plain.now) }
 {
     let mut state = start;
     let mut cipher = Vec::with_capacity(alloc, plain.len())?;
     for byte in plain {
-        let sealed = byte ^ (state >> 8) as u8;
-        let sum = (u32::from(sealed) + u32::from(state)) * MULTIPLIER + ADDEND;
-        state = (sum % STATES) as u16;
-        cipher.push(sealed)?;
+        cipher.push(state.seal(*byte))?;
     }
     Ok(cipher)
 }

@@ -5,9 +5,12 @@
 //!   and with what a test adds: keys, an Encoding, Subrs, glyphs.
 //! - [`FontFile`] puts two texts into a file, PFB or PFA, the private text encrypted.
 //! - [`eexec`] and [`charstring`] encrypt.
+//! - [`opened`] and [`font_of`] read a font back; [`long_glyph`] has one of many steps.
+//! - [`add_fault`] lists the rules that a font breaks, as the tables of all tests do.
 //!
 //! What is promised: what is encrypted is what the standard's formula gives, so that deciphering it gives
-//! the bytes back. Each call returns, and fails for want of memory alone.
+//! the bytes back. Each call returns, and fails for want of memory alone, but `opened` and `font_of` also where
+//! t1_font refuses the bytes.
 //!
 //! ```
 //! let file = Sample::new(alloc)?
@@ -19,9 +22,15 @@
 #![tactic(auto)]
 
 mod cipher;
+mod faults;
 mod file;
+mod long;
+mod reading;
 mod sample;
 
 pub use cipher::{charstring, eexec};
+pub use faults::add_fault;
 pub use file::{END_SEGMENT, FontFile, TRAILER};
+pub use long::{add_times, long_glyph};
+pub use reading::{boxed, font_of, opened};
 pub use sample::{CLEAR, Charstrings, NOTDEF, Sample};

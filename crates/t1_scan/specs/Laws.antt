@@ -4,7 +4,7 @@ use Rattle.std.specs.Char.{digit_value}
 use Rattle.std.specs.Str.Parse.{digits_value, AllDigits}
 use Rattle.t1_scan.specs.declared.error.ScanError.TheVariants.{Unclosed}
 use Rattle.t1_scan.specs.Bytes.{is_blank}
-use Rattle.t1_scan.specs.Numbers.{number_of, scaled}
+use Rattle.t1_scan.specs.Numbers.{number_of, scaled, billion}
 use Rattle.t1_scan.specs.Tokens.{Found, token_of}
 use Rattle.t1_scan.specs.Spelling.{Plain, Sign, spelled, meant, depth_of, is_plain, is_decimal, is_radix, sign_text, signed, fraction_text, decimals_of}
 use Rattle.t1_scan.specs.Texts.{are_blanks, BeginsWith, IsReading, Lexeme, lexeme_of, IsReadAs, IsCoveredBy, AreReadable, written, HaveBytes}
@@ -48,13 +48,13 @@ DecimalValue = (sign : Sign) (whole : List ℕ) (fraction : Option (List ℕ)) �
 abbrev pub RadixValue : Type 0
 RadixValue = (base digits : List ℕ) → is_radix base digits ≡ true →
     number_of (base ++ (35 ∷ digits)) ≡
-    Some (pos (digits_value (digits_value 10 base) digits * 1000000000))
+    Some (pos (digits_value (digits_value 10 base) digits * billion))
 
 -- at most nine digits before the point, leading zeros not counted, is a value below a billion
 abbrev pub NineDigits : Type 0
 NineDigits = ((ds : List ℕ) → digits_value 10 (48 ∷ ds) ≡ digits_value 10 ds)
     × ((d : ℕ) (ds : List ℕ) → AllDigits 10 (d ∷ ds) → 0 < digit_value d →
-    (digits_value 10 (d ∷ ds) < 1000000000) ↔ (length (d ∷ ds) ≤ 9))
+    (digits_value 10 (d ∷ ds) < billion) ↔ (length (d ∷ ds) ≤ 9))
 
 -- the tokens of a text cover it but for blanks and comments
 abbrev pub Covers : Type 0

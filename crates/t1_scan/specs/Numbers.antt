@@ -7,9 +7,12 @@ use Rattle.std.specs.Char.{digit_value}
 use Rattle.std.specs.Str.Parse.{digits_value}
 use Rattle.t1_scan.specs.Bytes.{is_decimal_digit}
 
--- a number is below a billion
+-- A number is below a billion, and its value is counted in billionths.
+abbrev pub billion : ℕ
+billion = 1000000000
+
 abbrev pub below_billion : ℕ → Option ℕ
-below_billion n = if nat_lt n 1000000000 then Some n else None
+below_billion n = if nat_lt n billion then Some n else None
 
 -- the digits before a point, and what follows them
 abbrev pub whole_part : List ℕ → List ℕ
@@ -25,12 +28,12 @@ is_fraction (b ∷ s) = b == 46 && list_all is_decimal_digit s
 
 -- all the digits as one number, in billionths: the decimals past the ninth are cut
 unfoldable pub scaled : List ℕ → List ℕ → ℕ
-scaled whole decimals = digits_value 10 (whole ++ decimals) * 1000000000 / 10 ^ length decimals
+scaled whole decimals = digits_value 10 (whole ++ decimals) * billion / 10 ^ length decimals
 
 -- that number, if what stands before the point is below a billion
 unfoldable pub value_of : List ℕ → List ℕ → Option ℕ
 value_of whole decimals =
-    if nat_lt (digits_value 10 whole) 1000000000 then Some (scaled whole decimals) else None
+    if nat_lt (digits_value 10 whole) billion then Some (scaled whole decimals) else None
 
 -- digits with at most one point and at least one digit
 unfoldable pub magnitude_of : List ℕ → Option ℕ
@@ -59,8 +62,8 @@ in_base base digits =
     && nat_le base 36
     && not (length digits == 0)
     && are_in_base base digits
-    && nat_lt (digits_value base digits) 1000000000
-    then Some (pos (digits_value base digits * 1000000000))
+    && nat_lt (digits_value base digits) billion
+    then Some (pos (digits_value base digits * billion))
     else None
 
 -- a base in decimal, `#`, and digits of that base

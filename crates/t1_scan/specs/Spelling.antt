@@ -6,7 +6,7 @@ use Rattle.std.specs.Str.Parse.{digits_value}
 use Rattle.t1_scan.specs.declared.token.Kind.{Kind}
 use Rattle.t1_scan.specs.declared.token.Kind.TheVariants.{Number, Name, Word, Text, Proc, Array}
 use Rattle.t1_scan.specs.Bytes.{is_line_end, is_regular, is_decimal_digit}
-use Rattle.t1_scan.specs.Numbers.{scaled, are_in_base, number_of}
+use Rattle.t1_scan.specs.Numbers.{scaled, are_in_base, number_of, billion}
 
 -- the inside of a string
 pub data Letters : Type 0 where
@@ -151,7 +151,7 @@ abbrev pub meant : Plain → Kind
 meant (name _) = Name
 meant (word _) = Word
 meant (decimal sign whole fraction) = Number (signed sign (scaled whole (decimals_of fraction)))
-meant (radix base digits) = Number (pos (digits_value (digits_value 10 base) digits * 1000000000))
+meant (radix base digits) = Number (pos (digits_value (digits_value 10 base) digits * billion))
 meant (single _) = Word
 meant double_open = Word
 meant double_close = Word
@@ -172,7 +172,7 @@ is_decimal whole fraction =
     list_all is_decimal_digit whole
     && list_all is_decimal_digit (decimals_of fraction)
     && not (length whole + length (decimals_of fraction) == 0)
-    && nat_lt (digits_value 10 whole) 1000000000
+    && nat_lt (digits_value 10 whole) billion
 
 -- a base from 2 to 36, and digits of it, below a billion
 abbrev pub is_radix : List ℕ → List ℕ → Bool
@@ -183,7 +183,7 @@ is_radix base digits =
     && nat_le (digits_value 10 base) 36
     && not (length digits == 0)
     && are_in_base (digits_value 10 base) digits
-    && nat_lt (digits_value (digits_value 10 base) digits) 1000000000
+    && nat_lt (digits_value (digits_value 10 base) digits) billion
 
 abbrev pub is_plain : Plain → Bool
 is_plain (name run) = list_all is_regular run

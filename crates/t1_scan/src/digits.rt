@@ -5,7 +5,7 @@ ghost use Rattle.std.specs.List.{list_all};
 ghost use Rattle.std.specs.Char.{digit_value};
 ghost use Rattle.std.specs.Str.Parse.{digits_value};
 ghost use Rattle.t1_scan.specs.Bytes.{is_decimal_digit};
-ghost use Rattle.t1_scan.specs.Numbers.{are_in_base, below_billion};
+ghost use Rattle.t1_scan.specs.Numbers.{are_in_base, below_billion, billion};
 ghost use Rattle.t1_scan.specs.Reading.{AreDigits};
 
 use crate::bytes::{is_decimal_digit, is_regular};
@@ -46,7 +46,7 @@ pub fn small_value(base: u64, digits: &[u8]) -> Option<u64>
     requires low { 1 ≤ base }
     requires high { base ≤ 36 }
     ensures value { result ≡ below_billion (digits_value base digits.now) }
-    ensures bound { IfSome result (λ n. n < 1000000000) }
+    ensures bound { IfSome result (λ n. n < billion) }
 {
     let mut value = 0;
     for b in digits {
@@ -62,8 +62,8 @@ pub fn small_value(base: u64, digits: &[u8]) -> Option<u64>
 #[tactic(auto, using(crate::proofs::Values::billionths_more))]
 pub fn billionths(decimals: &[u8]) -> u64
     requires { IsTrue (list_all is_decimal_digit decimals.now) }
-    ensures value { result ≡ digits_value 10 decimals.now * 1000000000 / 10 ^ length decimals.now }
-    ensures bound { result < 1000000000 }
+    ensures value { result ≡ digits_value 10 decimals.now * billion / 10 ^ length decimals.now }
+    ensures bound { result < billion }
 {
     let mut value = 0;
     let mut unit = BILLION / 10;
@@ -77,8 +77,8 @@ pub fn billionths(decimals: &[u8]) -> u64
 /// How many billionths a whole number has.
 #[inline(always)]
 pub fn billionths_in(whole: u64) -> i64
-    requires { whole < 1000000000 }
-    ensures { result ≡ pos (whole * 1000000000) }
+    requires { whole < billion }
+    ensures { result ≡ pos (whole * billion) }
 {
     (whole * BILLION) as i64
 }
@@ -88,7 +88,7 @@ pub fn billionths_in(whole: u64) -> i64
 #[tactic(auto, using(std::proofs::lemmas::Int::Digits::digits_value_more, crate::proofs::PlainTokens::run_more, crate::proofs::PlainTokens::digits_more))]
 pub fn digits_alone(text: &[u8]) -> Option<(usize, u64)>
     ensures alone { IfSome result (λ p. AreDigits text.now p.0 p.1) }
-    ensures bound { IfSome result (λ p. p.1 < 1000000000) }
+    ensures bound { IfSome result (λ p. p.1 < billion) }
     ensures within { IfSome result (λ p. p.0 ≤ length text.now) }
 {
     let mut value = 0;

@@ -39,6 +39,7 @@ mod strings;
 mod token;
 
 pub use bytes::is_regular;
+pub use digits::BILLION;
 pub use error::ScanError;
 pub use laws::{
     deep_tokens_are_refused, nine_digits_are_below_a_billion, nothing_else_is_read,

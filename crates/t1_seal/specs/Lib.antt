@@ -3,5 +3,6 @@ pub mod Eexec
 pub mod Joined
 pub mod Laws
 pub mod Private
+pub mod Readings
 pub mod SealError
 pub mod Segments

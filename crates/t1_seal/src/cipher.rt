@@ -23,7 +23,7 @@ pub struct Cipher {
 
 impl Cipher {
     /// The cipher at the start of an eexec section.
-    pub(crate) fn eexec() -> Cipher
+    pub fn eexec() -> Cipher
         ensures { result.r ≡ eexec_start }
     {
         Cipher { r: EEXEC_START }
@@ -55,5 +55,14 @@ impl Cipher {
         let sum = (u32::from(byte) + u32::from(self.r)) * MULTIPLIER + ADDEND;
         self.r = (sum % STATES) as u16;
         plain
+    }
+    /// The cipher byte of the next plain byte: the way back from [`Cipher::next`].
+    pub fn seal(&mut self, byte: u8) -> u8
+        ensures byte { result ≡ bit_xor byte (self.old.r / 256) }
+        ensures next { self.new.r ≡ next_state self.old.r result }
+    {
+        let sealed = byte ^ (self.r >> 8) as u8;
+        self.next(sealed);
+        sealed
     }
 }

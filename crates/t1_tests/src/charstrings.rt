@@ -1,4 +1,5 @@
-//! What the tests of charstrings share: fonts of made glyphs and Subrs, and steps as text.
+//! What the tests of charstrings share: fonts of made glyphs and Subrs, and steps as text: Type 1 Font Format 1.1,
+//! chapters 6 and 8.
 
 mod arguments;
 mod effects;
@@ -9,14 +10,13 @@ mod tokens;
 
 ghost use Rattle.std.specs.Prelude.{◌≡◌, length};
 
-use crate::fonts::{font_of, opened};
-use machines::{states_told, trace_told};
+use machines::{Lines, told_with};
 use std::alloc::{AllocError, Global};
 use std::process::Abort;
 use std::test::Fail;
 use t1_char::{CharToken, Edition, Stack, Step, command_name, expand};
 use t1_font::{Font, Unread};
-use t1_samples::Sample;
+use t1_samples::{Sample, font_of, opened};
 
 /// Adds a number in digits.
 fn push_number(alloc: Global, text: &mut String, number: i64) -> Result<(), AllocError> {
@@ -130,10 +130,10 @@ fn states_of(alloc: Global, steps: &[Step]) -> Result<String, AllocError> {
 }
 
 /// The steps of a sample's second glyph.
-fn steps_of(alloc: Global, sample: &Sample) -> Result<Vec<Step>, Unread> {
+fn steps_of(alloc: Global, sample: &Sample, edition: Edition) -> Result<Vec<Step>, Unread> {
     let mut file = opened(alloc, sample)?;
     let font = font_of(alloc, &mut file)?;
-    Ok(steps_in(alloc, &font, Edition::One)?)
+    Ok(steps_in(alloc, &font, edition)?)
 }
 
 /// How many glyphs a font has.
@@ -163,7 +163,7 @@ fn with_subrs(alloc: Global, subrs: &[(u32, &[u8])]) -> Result<Sample, AllocErro
 /// The steps of a glyph with this charstring, in a font with these Subrs.
 fn steps_with(alloc: Global, subrs: &[(u32, &[u8])], glyph: &[u8]) -> Result<Vec<Step>, Unread> {
     let sample = with_subrs(alloc, subrs)?.glyph(b"A", glyph)?;
-    steps_of(alloc, &sample)
+    steps_of(alloc, &sample, Edition::One)
 }
 
 /// The states of the steps of a glyph with this charstring, in a font with these Subrs.
@@ -186,7 +186,7 @@ fn assert_states(rt: &impl Abort, alloc: Global, cases: &[Case<'_>]) -> Result<(
     for (subrs, glyph, want) in cases {
         let states = states_with(alloc, subrs, glyph)?;
         assert_eq!(rt; states.as_str(), *want, "of {glyph:?}");
-        let told = states_told(alloc, subrs, glyph)?;
+        let told = told_with(alloc, subrs, glyph, Lines::States)?;
         assert_eq!(rt; told.as_str(), *want, "of {glyph:?}, by a machine");
     }
     Ok(())
@@ -197,7 +197,7 @@ fn assert_traces(rt: &impl Abort, alloc: Global, cases: &[Case<'_>]) -> Result<(
     for (subrs, glyph, want) in cases {
         let trace = trace_with(alloc, subrs, glyph)?;
         assert_eq!(rt; trace.as_str(), *want, "of {glyph:?}");
-        let told = trace_told(alloc, subrs, glyph)?;
+        let told = told_with(alloc, subrs, glyph, Lines::Trace)?;
         assert_eq!(rt; told.as_str(), *want, "of {glyph:?}, by a machine");
     }
     Ok(())

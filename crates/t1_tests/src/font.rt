@@ -13,11 +13,12 @@ mod sections;
 mod subrs;
 mod values;
 
-use crate::fonts::{Texts, boxed, pfa};
+use crate::fonts::{Texts, pfa};
 use std::alloc::{AllocError, Global};
 use std::process::Abort;
 use std::test::Fail;
 use t1_font::{Encoding, Entry, Key, OpenFont, Refusal, Unread, read_clear};
+use t1_samples::boxed;
 use t1_seal::{Joined, join, open_eexec};
 
 /// A clear text that states nothing.

@@ -1,4 +1,5 @@
-//! Devices over readers and writers that work, that fail, and that take nothing.
+//! Devices over readers and writers that work, that fail, and that take nothing: t1_io. No chapter of a standard
+//! speaks of them.
 
 use std::io;
 use std::io::{Read, Write};

@@ -1,4 +1,5 @@
-//! Tests of the libraries, from the devices up to the report: one module a library, by its public items alone.
+//! Tests of the libraries, from the devices up to the rules on fonts: one module a library, by its public items alone.
+//! Those of reports, and of rules on charstrings, are in t1_report_tests, so that both are proved side by side.
 //!
 //! What stands here is what proofs don't show: that calls succeed, that the definitions say what the standard and
 //! this program's own reading of it mean, and what texts say. Expected values are worked out by hand, or come from
@@ -13,8 +14,9 @@
 //! | `font` | t1_font |
 //! | `charstrings` | t1_char |
 //! | `rules` | t1_rules, on fonts |
-//! | `report` | t1_report, and t1_rules on charstrings: each rule wants a whole glyph |
 //! | `lines` | t1_lines |
+//!
+//! `fonts` is what several of them read.
 //!
 //! They stand above the libraries since a crate with tests is proved twice, with them and without.
 #![tactic(auto)]
@@ -29,8 +31,6 @@ mod fonts;
 mod io;
 #[cfg(test)]
 mod lines;
-#[cfg(test)]
-mod report;
 #[cfg(test)]
 mod rules;
 #[cfg(test)]

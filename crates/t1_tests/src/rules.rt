@@ -1,4 +1,5 @@
-//! What the tests of font rules share: a font that breaks none, and what others say of a key.
+//! What the tests of font rules share: a font that breaks none, and what others say of a key. A row of a table has a
+//! part of a font and the faults in short: `BlueValues 1 Z07` is Z07 at index 1 of that key.
 
 mod book;
 mod encoding;
@@ -19,7 +20,7 @@ use std::process::Abort;
 use std::test::Fail;
 use t1_font::{Font, Refusal};
 use t1_rules::{Mask, font_faults, key_text, places, rule_code};
-use t1_samples::Sample;
+use t1_samples::{Sample, add_fault};
 
 /// How many keys there are.
 const KEYS: u8 = 22;
@@ -51,10 +52,10 @@ enum Part {
     Glyphs,
 }
 
-/// A line for each rule of a set: the key, the index and the rule's code.
-fn add_lines(
+/// Adds a fault for each rule of a set: the key, the index and the rule's code.
+fn add_faults(
     alloc: Global,
-    lines: &mut String,
+    faults: &mut String,
     key: u8,
     index: u32,
     mask: Mask,
@@ -66,97 +67,103 @@ fn add_lines(
         };
         let key = key_text(key);
         let code = rule_code(rule);
-        let line = format!(in alloc; "{key} {index} {code}\n")?;
-        lines.push_str(line.as_str())?;
+        let fault = format!(in alloc; "{key} {index} {code}")?;
+        add_fault(faults, fault.as_str())?;
         floor = rule.number();
     }
     Ok(())
 }
 
-/// The lines of all that a font breaks, in the order of the report.
-fn lines_of(alloc: Global, font: &Font<'_>) -> Result<String, AllocError> {
-    let mut lines = String::new(alloc);
+/// All that a font breaks, in the order of the report.
+fn faults_of(alloc: Global, font: &Font<'_>) -> Result<String, AllocError> {
+    let mut faults = String::new(alloc);
     for key in 0..KEYS {
         for index in 0..places(font, key) {
-            add_lines(alloc, &mut lines, key, index, font_faults(font, key, index))?;
+            add_faults(
+                alloc,
+                &mut faults,
+                key,
+                index,
+                font_faults(font, key, index),
+            )?;
         }
     }
-    Ok(lines)
+    Ok(faults)
 }
 
-/// The lines of the font of these texts.
-fn lines_of_font(alloc: Global, texts: &Texts) -> Result<String, Refusal> {
+/// The faults of the font of these texts.
+fn faults_of_font(alloc: Global, texts: &Texts) -> Result<String, Refusal> {
     let font = texts.font(alloc)?;
-    Ok(lines_of(alloc, &font)?)
+    Ok(faults_of(alloc, &font)?)
 }
 
-/// The lines of a font whose clear text is a PFA file's.
-fn lines_of_texts(alloc: Global, clear: &str, private: &str) -> Result<String, Refusal> {
+/// The faults of a font whose clear text is a PFA file's.
+fn faults_of_texts(alloc: Global, clear: &str, private: &str) -> Result<String, Refusal> {
     let texts = Texts::of(alloc, clear.as_bytes(), private.as_bytes())?;
-    lines_of_font(alloc, &texts)
+    faults_of_font(alloc, &texts)
 }
 
-/// The lines of the sample with more entries in its Private dictionary.
-fn lines_with(alloc: Global, entries: &str) -> Result<String, Refusal> {
+/// The faults of the sample with more entries in its Private dictionary.
+fn faults_with(alloc: Global, entries: &str) -> Result<String, Refusal> {
     let sample = Sample::new(alloc)?.key(entries.as_bytes())?;
     let texts = Texts::of(
         alloc,
         sample.clear()?.as_slice(),
         sample.private()?.as_slice(),
     )?;
-    lines_of_font(alloc, &texts)
+    faults_of_font(alloc, &texts)
 }
 
-/// The lines of a font with a glyph and this clear text.
-fn lines_of_clear(alloc: Global, clear: &str) -> Result<String, Refusal> {
+/// The faults of a font with a glyph and this clear text.
+fn faults_of_clear(alloc: Global, clear: &str) -> Result<String, Refusal> {
     let private = format!(in alloc;
         "{ENTRIES}\n/CharStrings 1 dict dup begin\n/.notdef 0 RD  ND\nend"
     )?;
-    lines_of_texts(alloc, clear, private.as_str())
+    faults_of_texts(alloc, clear, private.as_str())
 }
 
-/// The lines of a font with these codes of a custom Encoding.
-fn lines_of_codes(alloc: Global, codes: &str) -> Result<String, Refusal> {
+/// The faults of a font with these codes of a custom Encoding.
+fn faults_of_codes(alloc: Global, codes: &str) -> Result<String, Refusal> {
     let clear = format!(in alloc;
         "%!\n/FontType 1 def /PaintType 0 def /Encoding 256 array {codes} def eexec"
     )?;
     let private = format!(in alloc; "{ENTRIES} {GLYPHS}")?;
-    lines_of_texts(alloc, clear.as_str(), private.as_str())
+    faults_of_texts(alloc, clear.as_str(), private.as_str())
 }
 
-/// The lines of a font with these Subrs.
-fn lines_of_subrs(alloc: Global, subrs: &str) -> Result<String, Refusal> {
+/// The faults of a font with these Subrs.
+fn faults_of_subrs(alloc: Global, subrs: &str) -> Result<String, Refusal> {
     let private = format!(in alloc; "{ENTRIES} /Subrs {subrs} ND {GLYPHS}")?;
-    lines_of_texts(alloc, CLEAR, private.as_str())
+    faults_of_texts(alloc, CLEAR, private.as_str())
 }
 
-/// The lines of a font with these glyphs.
-fn lines_of_glyphs(alloc: Global, glyphs: &str) -> Result<String, Refusal> {
+/// The faults of a font with these glyphs.
+fn faults_of_glyphs(alloc: Global, glyphs: &str) -> Result<String, Refusal> {
     let private = format!(in alloc; "{ENTRIES} /CharStrings 3 dict dup begin {glyphs} end")?;
-    lines_of_texts(alloc, CLEAR, private.as_str())
+    faults_of_texts(alloc, CLEAR, private.as_str())
 }
 
-/// The lines of a font with this text as a part.
-fn lines_with_part(alloc: Global, part: Part, text: &str) -> Result<String, Refusal> {
+/// The faults of a font with this text as a part.
+fn faults_with_part(alloc: Global, part: Part, text: &str) -> Result<String, Refusal> {
     match part {
-        Part::ClearText => lines_of_clear(alloc, text),
-        Part::Codes => lines_of_codes(alloc, text),
-        Part::Entries => lines_with(alloc, text),
-        Part::Subrs => lines_of_subrs(alloc, text),
-        Part::Glyphs => lines_of_glyphs(alloc, text),
+        Part::ClearText => faults_of_clear(alloc, text),
+        Part::Codes => faults_of_codes(alloc, text),
+        Part::Entries => faults_with(alloc, text),
+        Part::Subrs => faults_of_subrs(alloc, text),
+        Part::Glyphs => faults_of_glyphs(alloc, text),
     }
 }
 
-/// A font with each of these texts as that part gives the lines beside it.
-fn assert_lines(
+/// A font with each of these texts as that part breaks the rules beside it.
+fn assert_faults(
     rt: &impl Abort,
     alloc: Global,
     part: Part,
     cases: &[(&str, &str)],
 ) -> Result<(), Fail> {
-    for (text, lines) in cases {
-        let found = lines_with_part(alloc, part, text)?;
-        assert_eq!(rt; found.as_str(), *lines, "{text}");
+    for (text, faults) in cases {
+        let found = faults_with_part(alloc, part, text)?;
+        assert_eq!(rt; found.as_str(), *faults, "{text}");
     }
     Ok(())
 }

@@ -1,4 +1,5 @@
-//! The samples against the same bytes as another program writes them, and against t1_seal's readers.
+//! The samples against the same bytes as another program writes them, and against t1_seal's readers: Type 1 Font
+//! Format 1.1, chapters 2, 5 and 7, and Technical Note 5040.
 
 use std::test::Fail;
 use t1_samples::{CLEAR, Charstrings, FontFile, Sample, TRAILER, charstring, eexec};

@@ -1,4 +1,4 @@
-//! Texts and their tokens, written by hand.
+//! Texts and their tokens, written by hand: Type 1 Font Format 1.1, chapters 2 and 10.
 
 use std::process::Abort;
 use std::test::Fail;

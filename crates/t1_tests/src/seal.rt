@@ -1,4 +1,5 @@
-//! Worked inputs, with answers from the format's definition and from another program's cipher.
+//! Worked inputs, with answers from the format's definition and from another program's cipher: Type 1 Font Format
+//! 1.1, chapter 7, and Technical Note 5040.
 
 use std::alloc::{AllocError, Global};
 use std::test::Fail;

@@ -1,7 +1,7 @@
 -- Waivers that the options ask for: what their text is read as, and what is done to its source.
 use Rattle.std.specs.Prelude.{◌≡◌, ℕ, Bool, true, false, nat_lt, if◌then◌else◌, List, [], length, Option, None, Some, Result, Ok, Err}
 use Rattle.t1_io.specs.Devices.{SourceState}
-use Rattle.t1_report.specs.Waivers.{Waiver, waivers_of}
+use Rattle.t1_report.specs.Waivers.{Waiver, waivers_of, largest_waivers}
 use Rattle.t1check.specs.declared.asked.Options.{Options}
 use Rattle.t1check.specs.declared.refusals.WaiverRefusal.{WaiverRefusal}
 use Rattle.t1check.specs.declared.refusals.WaiverRefusal.TheVariants.{Malformed, PastLimit}
@@ -13,7 +13,7 @@ as_waivers (Some waivers) = Ok waivers
 
 -- The waivers that a text is read as, or the one reason why it isn't: its size comes first.
 unfoldable pub waivers_in : List ℕ → Result (List Waiver) WaiverRefusal
-waivers_in text = if nat_lt 1048576 (length text) then Err PastLimit else as_waivers (waivers_of text)
+waivers_in text = if nat_lt largest_waivers (length text) then Err PastLimit else as_waivers (waivers_of text)
 
 -- Waivers are asked for where their file is named and no trace is.
 abbrev pub is_asked : {A B : Type 0} → Option A → Option B → Bool
@@ -44,4 +44,4 @@ pub record IsUnbroken (asked : Bool) (old new : SourceState) : Type 0 where
 pub record IsHeard (asked : Bool) (old new : SourceState) : Type 0 where
   pub unasked : asked ≡ false → new ≡ old
   pub failed : new.failed ≡ old.failed
-  pub whole : asked ≡ true → StopsAt 1048576 old new ⊥
+  pub whole : asked ≡ true → StopsAt largest_waivers old new ⊥

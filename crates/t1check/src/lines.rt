@@ -10,6 +10,8 @@ ghost use Rattle.t1_report.specs.Walks.{IsSoFar};
 ghost use Rattle.t1_rules.specs.Components.{AreOf};
 ghost use Rattle.t1check.specs.Answers.{selection, status_of};
 ghost use Rattle.t1check.specs.Lines.{lines_of};
+ghost use Rattle.t1_font.specs.Bounds.{most_glyphs};
+ghost use Rattle.t1_report.specs.Waivers.{largest_waivers};
 
 use crate::asked::Options;
 use crate::status::Status;
@@ -27,8 +29,8 @@ pub fn write_report<'a, W: Sink>(
     waivers: &'a Waivers<'a>,
     options: &Options,
 ) -> Result<Status, Broken>
-    requires few { length font.now.glyphs ≤ 65535 }
-    requires few_waivers { length waivers.now ≤ 1048576 }
+    requires few { length font.now.glyphs ≤ most_glyphs }
+    requires few_waivers { length waivers.now ≤ largest_waivers }
     requires sidebearings { AreOf font.now sidebearings.now }
     requires edition { sidebearings.now.edition ≡ options.now.edition }
     ensures delivers { (faults : List FaultValue) → IsReport (checked font.now options.now.edition) waivers.now faults →
@@ -48,8 +50,8 @@ pub fn write_report<'a, W: Sink>(
 
 /// Goes past so many faults, or past all.
 fn pass(walk: &mut Walk<'_>, count: u64)
-    requires few { length walk.old.font.value.glyphs ≤ 65535 }
-    requires few_waivers { length walk.old.waivers ≤ 1048576 }
+    requires few { length walk.old.font.value.glyphs ≤ most_glyphs }
+    requires few_waivers { length walk.old.waivers ≤ largest_waivers }
     ensures font { walk.new.font ≡ walk.old.font }
     ensures waivers { walk.new.waivers ≡ walk.old.waivers }
     ensures passed { (faults : List FaultValue) → IsReport walk.old.font walk.old.waivers faults →
@@ -73,8 +75,8 @@ fn write_lines<W: Sink>(
 ) -> Result<Status, Broken>
     requires font { walk.font ≡ checked font.now options.now.edition }
     requires waivers { walk.waivers ≡ waivers.now }
-    requires few { length font.now.glyphs ≤ 65535 }
-    requires few_waivers { length waivers.now ≤ 1048576 }
+    requires few { length font.now.glyphs ≤ most_glyphs }
+    requires few_waivers { length waivers.now ≤ largest_waivers }
     ensures writes { (faults : List FaultValue) (k : ℕ) → IsReport (checked font.now options.now.edition) waivers.now faults →
         IsSoFar faults k walk.entry.mark → Writes (W.state sink.old) (W.state sink.new)
         (lines_of font.now waivers.now (take (unwrap_or options.now.max (2 ^ 64 - 1)) (drop k faults))) result }

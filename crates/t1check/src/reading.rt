@@ -1,6 +1,7 @@
 //! Reading a source to its end, within a limit.
 
 ghost use Rattle.std.specs.Prelude.{◌≡◌, ◌≤◌, ◌+◌, false};
+ghost use Rattle.t1check.specs.FontFiles.{largest_file};
 ghost use Rattle.t1check.specs.Input.{TakesAtMost};
 ghost use Rattle.t1check.specs.Private.Reading.{Gathers};
 
@@ -29,7 +30,7 @@ pub enum Input {
 /// Reads to the end of the source, in as few calls as it allows, and no further than one byte past the most
 /// that it may have.
 pub(crate) fn read_all<R: Source>(alloc: Global, source: &mut R, most: usize) -> Input
-    requires most { most ≤ 16777216 }
+    requires most { most ≤ largest_file }
     ensures gathers { Gathers most (R.state source.old) (R.state source.new) result }
     ensures takes { (R.state source.new).takes ≤ (R.state source.old).takes + (most + 1) }
     ensures taken { TakesAtMost (most + 1) (R.state source.old).left (R.state source.new).left }

@@ -13,9 +13,11 @@ ghost use Rattle.t1check.specs.Input.{TakesAtMost, ReadsAtMost, StopsAt};
 ghost use Rattle.t1check.specs.Lines.{lines_of};
 ghost use Rattle.t1check.specs.Refusals.{told_of};
 ghost use Rattle.t1check.specs.Traces.{trace_of};
-ghost use Rattle.t1_report.specs.Waivers.{waivers_of};
+ghost use Rattle.t1_report.specs.Waivers.{waivers_of, largest_waivers};
 ghost use Rattle.t1check.specs.Waived.{as_waivers};
 ghost use Rattle.t1check.specs.Private.WaiverTexts.{GivesText};
+ghost use Rattle.t1_font.specs.Bounds.{most_glyphs};
+ghost use Rattle.t1check.specs.FontFiles.{largest_file};
 
 use crate::asked::Options;
 use crate::lines::write_report;
@@ -47,7 +49,7 @@ pub fn run<R: Source, V: Source, W: Sink, E: Sink>(
     ensures reads { (R.state source.new).takes ≤ (R.state source.old).takes + 16777217 }
     ensures taken { TakesAtMost 16777217 (R.state source.old).left (R.state source.new).left }
     ensures stops { (R.state source.new).late_takes ≡ (R.state source.old).late_takes }
-    ensures whole { StopsAt 16777216 (R.state source.old) (R.state source.new)
+    ensures whole { StopsAt largest_file (R.state source.old) (R.state source.new)
         (EndsForMemory (E.state errors.old) (E.state errors.new) result) }
     ensures waivers { ReadsAtMost 1048577 (V.state waivers.old) (V.state waivers.new) }
 {
@@ -93,7 +95,7 @@ fn show<V: Source, W: Sink, E: Sink>(
     out: &mut W,
     errors: &mut E,
 ) -> Status
-    requires { length font.now.glyphs ≤ 65535 }
+    requires { length font.now.glyphs ≤ most_glyphs }
     ensures shows { Shows options.now font.now (V.state waivers.old) (V.state waivers.new)
         (W.state out.old) (W.state out.new) (E.state errors.old) (E.state errors.new) result }
     ensures waivers { ReadsAtMost 1048577 (V.state waivers.old) (V.state waivers.new) }
@@ -116,7 +118,7 @@ fn show_report<V: Source, W: Sink, E: Sink>(
     out: &mut W,
     errors: &mut E,
 ) -> Status
-    requires few { length font.now.glyphs ≤ 65535 }
+    requires few { length font.now.glyphs ≤ most_glyphs }
     requires no_trace { options.now.trace ≡ None }
     ensures shows { Shows options.now font.now (V.state waivers.old) (V.state waivers.new)
         (W.state out.old) (W.state out.new) (E.state errors.old) (E.state errors.new) result }
@@ -151,8 +153,8 @@ fn report_waived<W: Sink, E: Sink>(
     out: &mut W,
     errors: &mut E,
 ) -> Status
-    requires few { length font.now.glyphs ≤ 65535 }
-    requires text { length text.now ≤ 1048576 }
+    requires few { length font.now.glyphs ≤ most_glyphs }
+    requires text { length text.now ≤ largest_waivers }
     ensures { Reports options.now font.now (as_waivers (waivers_of text.now))
         (W.state out.old) (W.state out.new) (E.state errors.old) (E.state errors.new) result }
 {
@@ -190,8 +192,8 @@ fn give_report<'a, W: Sink, E: Sink>(
     out: &mut W,
     errors: &mut E,
 ) -> Status
-    requires few { length font.now.glyphs ≤ 65535 }
-    requires few_waivers { length waivers.now ≤ 1048576 }
+    requires few { length font.now.glyphs ≤ most_glyphs }
+    requires few_waivers { length waivers.now ≤ largest_waivers }
     requires sidebearings { AreOf font.now sidebearings.now }
     requires edition { sidebearings.now.edition ≡ options.now.edition }
     ensures { (faults : List FaultValue) → IsReport (checked font.now options.now.edition) waivers.now faults →

@@ -1,7 +1,8 @@
 -- Laws of what came before a step.
 use Rattle.std.specs.Prelude.{◌≡◌, ℕ, ◌<◌, ◌&&◌, ◌||◌, not, if◌then◌else◌, Bool, true, Some, List, [], ◌∷◌, ◌++◌, slice_get, take}
 use Rattle.t1_char.specs.Steps.{StepView}
-use Rattle.t1_char.specs.Since.{Test, any_so_far, since, after_last, last_of}
+use Rattle.t1_char.specs.Since.{Test, any_so_far, since, last_of}
+use Rattle.t1_font.specs.Fonts.{after_last}
 
 -- One step more: such a step came, or is this one; an a came with no b after it, or this is an a, or one
 -- came and this is no b; what stands after the last such, and the last such itself.

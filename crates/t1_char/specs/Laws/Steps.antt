@@ -6,8 +6,9 @@ use Rattle.t1_char.specs.declared.command.Command.TheVariants.{Callsubr, Return}
 use Rattle.t1_char.specs.declared.token.CharToken.{CharToken}
 use Rattle.t1_char.specs.declared.token.CharToken.TheVariants.{Command, End}
 use Rattle.t1_char.specs.Charstrings.{code_at, subr_in, tokens_in}
-use Rattle.t1_char.specs.Effects.{State, Action, goes, calls, returns, finishes, is_finishing}
+use Rattle.t1_char.specs.Effects.{State, Action, goes, calls, returns, finishes, is_finishing, most_calls, most_results}
 use Rattle.t1_char.specs.Numbers.{units}
+use Rattle.t1_char.specs.Stacks.{most_numbers}
 use Rattle.t1_char.specs.Steps.{StepView, at_start, effect_at, is_callsubr, is_end, step_at, steps_of}
 
 -- What finishes the glyph at any depth, and End outside Subrs.
@@ -41,9 +42,9 @@ NothingFollows = (font : FontValue) (glyph : ℕ) (front rest : List StepView) (
 
 -- The bounds of a step.
 pub record IsBounded (step : StepView) : Type 0 where
-  pub path : length step.path ≤ 10
-  pub stack : length step.stack ≤ 24
-  pub waiting : step.waiting ≤ 22
+  pub path : length step.path ≤ most_calls
+  pub stack : length step.stack ≤ most_numbers
+  pub waiting : step.waiting ≤ most_results
 
 abbrev pub StepsAreBounded : Type 0
 StepsAreBounded = (font : FontValue) (glyph : ℕ) → All IsBounded (steps_of font glyph)

@@ -7,6 +7,7 @@ use Rattle.t1_char.specs.declared.token.CharToken.{CharToken}
 use Rattle.t1_char.specs.declared.token.CharToken.TheVariants.{Number}
 use Rattle.t1_char.specs.Effects.{CalledSubr, Work, clears, goes, effect, effect_of}
 use Rattle.t1_char.specs.Passing.{ArePassed}
+use Rattle.t1_char.specs.Stacks.{most_numbers}
 use Rattle.t1_char.specs.Steps.{StepView, step_at}
 use Rattle.t1_char.specs.Private.Actions.{state_of}
 use Rattle.t1_char.specs.Private.Cursors.{tokens_left}
@@ -28,12 +29,12 @@ pub record PassesNumber (ahead behind : Cursor) (old new : List ℤ) : Type 0 wh
   pub number : ℤ
   pub token : tokens_left ahead ≡ Number number ∷ tokens_left behind
   pub plain : IsPlainEffect (Number number) old new
-  pub room : length old < 24
+  pub room : length old < most_numbers
 
 -- The next step was a number that the stack has room for, and was executed.
 pub record GoesOverOne (font : FontValue) (f new : Frames) : Type 0 where
   pub number : ℤ
-  pub room : length f.step.stack < 24
+  pub room : length f.step.stack < most_numbers
   pub behind : steps_behind font f
       ≡ step_at font f.step.path.items (Number number) (tokens_left new.current) (state_in f) ∷ steps_behind font new
   pub path : new.step.path.items ≡ f.step.path.items

@@ -1,6 +1,6 @@
 -- Where a private text in the usual form (Type 1 Font Format, chapters 2, 5 and 6) breaks off, or goes
 -- wrong: what stands in front of that place, all of it as it should be, and what is due there.
-use Rattle.std.specs.Prelude.{◌≡◌, ◌≤◌, ℕ, false, Some, List, [], ◌∷◌, ◌++◌, codes, flat_map, length}
+use Rattle.std.specs.Prelude.{◌≡◌, ◌≤◌, ℕ, false, Some, List, [], ◌∷◌, ◌++◌, codes, flat_map, length, ◌-◌}
 use Rattle.std.specs.List.{All}
 use Rattle.t1_scan.specs.Spelling.{Plain, name, word}
 use Rattle.t1_scan.specs.Texts.{are_blanks, BeginsWith}
@@ -12,6 +12,7 @@ use Rattle.t1_font.specs.Fonts.{firsts}
 use Rattle.t1_font.specs.Keys.{private_key, same_name}
 use Rattle.t1_font.specs.Laws.Written.{Piece, token, IsWritten, IsWhole}
 use Rattle.t1_font.specs.Laws.UsualPrivateText.{PrivateItem, private_pieces, IsPrivateItem, IsNoDup, SubrItem, SubrsPart, some_subrs, subrs_pieces, IsSubrsPart, GlyphItem, glyph_pieces, glyph_names, IsGlyphItem, IsCount}
+use Rattle.t1_font.specs.Bounds.{most_glyphs, most_subrs, longest_charstring}
 
 -- What is left has more than blanks and comments, but begins with no token: one isn't closed, or nests
 -- too deep.
@@ -59,7 +60,7 @@ subrs_start_pieces (subrs_count n count) = token (name (codes "Subrs")) ∷ toke
 
 abbrev pub IsSubrsStart : SubrsStart → Type 0
 IsSubrsStart subrs_name = Unit {0}
-IsSubrsStart (subrs_count n count) = IsWhole count n × (n ≤ 65535)
+IsSubrsStart (subrs_count n count) = IsWhole count n × (n ≤ most_subrs)
 
 -- Of a charstring: nothing; the count n of its bytes.
 pub data CharstringStart : Type 0 where
@@ -72,7 +73,7 @@ charstring_start_pieces (its_length n count) = token count ∷ []
 
 abbrev pub IsCharstringStart : CharstringStart → Type 0
 IsCharstringStart no_length = Unit {0}
-IsCharstringStart (its_length n count) = IsWhole count n × (n ≤ 65535)
+IsCharstringStart (its_length n count) = IsWhole count n × (n ≤ longest_charstring)
 
 -- Of a Subr: nothing; the word dup; dup, its number n, and what is there of its charstring.
 pub data SubrStart : Type 0 where
@@ -89,7 +90,7 @@ subr_start_pieces (subr_number n number c) =
 abbrev pub IsSubrStart : SubrStart → Type 0
 IsSubrStart no_subr = Unit {0}
 IsSubrStart lone_dup = Unit {0}
-IsSubrStart (subr_number n number c) = IsWhole number n × (n ≤ 65534) × IsCharstringStart c
+IsSubrStart (subr_number n number c) = IsWhole number n × (n ≤ most_subrs - 1) × IsCharstringStart c
 
 -- Of the CharStrings' head: their name; then their count; then dict; then dup.
 pub data GlyphsStart : Type 0 where
@@ -156,7 +157,7 @@ begun_pieces (among_glyphs o count items k) =
 
 -- There are at most 65,535 glyphs, the one that is begun among them.
 abbrev pub AreFew : List GlyphItem → GlyphStart → Type 0
-AreFew items k = length (firsts same_name (flat_map glyph_names items ++ glyph_start_names k)) ≤ 65535
+AreFew items k = length (firsts same_name (flat_map glyph_names items ++ glyph_start_names k)) ≤ most_glyphs
 
 abbrev pub AreBegun : Begun → Type 0
 AreBegun (in_keys o k) = IsOpening o × IsKeyStart k

@@ -10,6 +10,7 @@ use Rattle.t1_font.specs.Tokens.{is_number_kind, whole}
 use Rattle.t1_font.specs.Laws.Written.{IsWhole}
 use Rattle.t1_font.specs.Laws.UsualPrivateText.{PrivateItem, SubrItem, GlyphItem, StatesNoCharstring}
 use Rattle.t1_font.specs.Laws.BrokenPrivateText.{Begun, IsBegun, IsUnclosed, missing, Opening, among_subrs, among_glyphs, lone_dup, subr_number, glyph_name, no_length, its_length}
+use Rattle.t1_font.specs.Bounds.{longest_charstring}
 
 -- Where only blanks and comments are left, the refusal is that of what is missing.
 abbrev pub EndsTooSoon : Type 0
@@ -44,13 +45,13 @@ SubrTooLong = (marks : Marks) (before : List Stated) (front : List PrivateItem) 
     (items : List SubrItem) (i len : ℕ) (number bytes : Plain) (s mid left : List ℕ) →
     StatesNoCharstring before →
     IsBegun (among_subrs front n count items (subr_number i number no_length)) s mid →
-    BeginsWith mid bytes left → IsWhole bytes len → 65535 < len → private_of marks before s ≡ Err PastLimit
+    BeginsWith mid bytes left → IsWhole bytes len → longest_charstring < len → private_of marks before s ≡ Err PastLimit
 
 abbrev pub GlyphTooLong : Type 0
 GlyphTooLong = (marks : Marks) (before : List Stated) (o : Opening) (count : Plain) (items : List GlyphItem)
     (run : List ℕ) (len : ℕ) (bytes : Plain) (s mid left : List ℕ) → StatesNoCharstring before →
     IsBegun (among_glyphs o count items (glyph_name run no_length)) s mid →
-    BeginsWith mid bytes left → IsWhole bytes len → 65535 < len → private_of marks before s ≡ Err PastLimit
+    BeginsWith mid bytes left → IsWhole bytes len → longest_charstring < len → private_of marks before s ≡ Err PastLimit
 
 -- A Subr's number that isn't whole from 0, as -1 or 0.5, whatever follows, as a count past its limit.
 abbrev pub SubrNumberFirst : Type 0

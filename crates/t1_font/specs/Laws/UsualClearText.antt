@@ -1,6 +1,6 @@
 -- A clear text in the usual form (Type 1 Font Format, chapter 2), item by item: how each is written,
 -- and what it states.
-use Rattle.std.specs.Prelude.{◌≡◌, ◌≤◌, ◌&&◌, ℕ, Bool, true, false, None, Some, List, [], ◌∷◌, ◌++◌, codes, filter, flat_map}
+use Rattle.std.specs.Prelude.{◌≡◌, ◌≤◌, ◌&&◌, ℕ, Bool, true, false, None, Some, List, [], ◌∷◌, ◌++◌, codes, filter, flat_map, ◌-◌}
 use Rattle.std.specs.List.{All}
 use Rattle.t1_scan.specs.Spelling.{Plain, name, word, meant}
 use Rattle.t1_scan.specs.Texts.{lexeme_of}
@@ -11,6 +11,7 @@ use Rattle.t1_font.specs.Tokens.{is_name_kind, is_number_kind}
 use Rattle.t1_font.specs.Fonts.{Stated, plain, encoding, code}
 use Rattle.t1_font.specs.ClearText.{begins_as_font}
 use Rattle.t1_font.specs.Laws.Written.{Piece, token, IsWritten, IsWhole, is_word_of}
+use Rattle.t1_font.specs.Bounds.{code_count}
 
 -- What stands in a custom encoding: a group of dup, the code n as a number, a name and put; a token that
 -- states nothing; the word dup alone. Names are given without their slash.
@@ -45,7 +46,7 @@ ends_group _ = false
 -- A group's code is whole, from 0 to 255; a lone dup stands in front of no such three tokens.
 abbrev pub AreCodeItems : List CodeItem → Type 0
 AreCodeItems [] = Unit {0}
-AreCodeItems (group n number run ∷ items) = IsWhole number n × (n ≤ 255) × AreCodeItems items
+AreCodeItems (group n number run ∷ items) = IsWhole number n × (n ≤ code_count - 1) × AreCodeItems items
 AreCodeItems (between_groups t ∷ items) = PassesInCodes t × AreCodeItems items
 AreCodeItems (lone_dup ∷ items) = (ends_group items ≡ false) × AreCodeItems items
 
@@ -91,7 +92,7 @@ pub record PassesInClear (t : Plain) : Type 0 where
 abbrev pub IsClearItem : ClearItem → Type 0
 IsClearItem (key k run value) = clear_key (47 ∷ run) ≡ Some k
 IsClearItem standard = Unit {0}
-IsClearItem (custom count items) = IsWhole count 256 × AreCodeItems items
+IsClearItem (custom count items) = IsWhole count code_count × AreCodeItems items
 IsClearItem (other_name run) = IsOtherClearName run
 IsClearItem (other_token t) = PassesInClear t
 

@@ -1,6 +1,6 @@
 -- A private text in the usual form (Type 1 Font Format, chapters 2, 5 and 6), item by item: how each is
 -- written, and what it states.
-use Rattle.std.specs.Prelude.{◌≡◌, ◌≤◌, ◌*◌, ◌⊎◌, ℕ, Bool, pos, negsuc, true, false, None, Some, List, [], ◌∷◌, ◌++◌, codes, filter, flat_map, length}
+use Rattle.std.specs.Prelude.{◌≡◌, ◌≤◌, ◌*◌, ◌⊎◌, ℕ, Bool, pos, negsuc, true, false, None, Some, List, [], ◌∷◌, ◌++◌, codes, filter, flat_map, length, ◌-◌}
 use Rattle.std.specs.List.{All}
 use Rattle.t1_scan.specs.declared.token.Kind.{Kind}
 use Rattle.t1_scan.specs.declared.token.Kind.TheVariants.{Number, Word}
@@ -9,9 +9,11 @@ use Rattle.t1_scan.specs.Texts.{lexeme_of, are_blanks}
 use Rattle.t1_font.specs.declared.key.Key.{Key}
 use Rattle.t1_font.specs.declared.key.Key.TheVariants.{LenIv}
 use Rattle.t1_font.specs.Keys.{private_key, same_name}
-use Rattle.t1_font.specs.Tokens.{billion, is_name_kind}
+use Rattle.t1_font.specs.Tokens.{is_name_kind}
 use Rattle.t1_font.specs.Fonts.{Stated, plain, size, subr, glyph, size_of, glyph_of, firsts}
 use Rattle.t1_font.specs.Laws.Written.{Piece, token, IsWritten, IsWhole, is_word_of, Charstring, charstring_pieces, IsCharstring}
+use Rattle.t1_font.specs.Bounds.{most_glyphs, most_subrs, greatest_len_iv}
+use Rattle.t1_scan.specs.Numbers.{billion}
 
 -- What stands before and behind the Subrs: a plain key k, by its name without the slash, with its value
 -- of one token; another name; another token.
@@ -32,7 +34,7 @@ private_states (other_token t) = []
 
 -- A lenIV is a whole number from -1 to 64.
 abbrev pub IsLenIv : Kind → Type 0
-IsLenIv kind = (kind ≡ Number (negsuc 999999999)) ⊎ ((n : ℕ) × (n ≤ 64) × (kind ≡ Number (pos (n * billion))))
+IsLenIv kind = (kind ≡ Number (negsuc 999999999)) ⊎ ((n : ℕ) × (n ≤ greatest_len_iv) × (kind ≡ Number (pos (n * billion))))
 
 -- Any token is a value, but for lenIV's.
 abbrev pub FitsKey : Key → Kind → Type 0
@@ -72,7 +74,7 @@ subr_states (between_subrs t) = []
 
 -- A Subr's number is at most 65,534. Any word but dup states nothing, so any serve as NP and ND.
 abbrev pub IsSubrItem : SubrItem → Type 0
-IsSubrItem (subr_entry n number c) = IsWhole number n × (n ≤ 65534) × IsCharstring c
+IsSubrItem (subr_entry n number c) = IsWhole number n × (n ≤ most_subrs - 1) × IsCharstring c
 IsSubrItem (between_subrs t) = (meant t ≡ Word) × (is_word_of (codes "dup") t ≡ false)
 
 -- The Subrs: none; /Subrs and an array with nothing but blanks and comments in it; /Subrs, the count n,
@@ -97,7 +99,7 @@ subrs_states (some_subrs n count items) = size n ∷ flat_map subr_states items
 abbrev pub IsSubrsPart : SubrsPart → Type 0
 IsSubrsPart no_subrs = Unit {0}
 IsSubrsPart (empty_subrs body) = are_blanks false (body_text body) ≡ true
-IsSubrsPart (some_subrs n count items) = IsWhole count n × (n ≤ 65535) × All IsSubrItem items
+IsSubrsPart (some_subrs n count items) = IsWhole count n × (n ≤ most_subrs) × All IsSubrItem items
 
 -- What stands among the glyphs: a name and a charstring; a word.
 pub data GlyphItem : Type 0 where
@@ -148,11 +150,11 @@ all_private_states p =
     flat_map private_states p.front ++ (subrs_states p.subrs
     ++ (flat_map private_states p.back ++ flat_map glyph_states p.glyphs))
 
--- A whole number that is at most 65,535.
+-- A whole number of glyphs that a font can have.
 pub record IsCount (t : Plain) : Type 0 where
   pub value : ℕ
   pub whole : IsWhole t value
-  pub small : value ≤ 65535
+  pub small : value ≤ most_glyphs
 
 -- The parts' items are as they should be. There are at most 65,535 glyphs; one that is given again
 -- counts once.
@@ -163,7 +165,7 @@ pub record IsUsualParts (p : PrivateParts) : Type 0 where
   pub no_dup : All IsNoDup p.back
   pub count : IsCount p.count
   pub glyphs : All IsGlyphItem p.glyphs
-  pub few : length (firsts same_name (flat_map glyph_names p.glyphs)) ≤ 65535
+  pub few : length (firsts same_name (flat_map glyph_names p.glyphs)) ≤ most_glyphs
 
 -- A text is written with these parts, and the rest follows its word end.
 pub record IsUsualPrivate (p : PrivateParts) (s rest : List ℕ) : Type 0 where

@@ -3,7 +3,9 @@ use Rattle.std.specs.Prelude.{◌≡◌, ◌≤◌, ◌*◌, ℕ, pos, Bool, Lis
 use Rattle.t1_scan.specs.declared.token.Kind.TheVariants.{Number, Word}
 use Rattle.t1_scan.specs.Spelling.{Plain, spelled, meant}
 use Rattle.t1_scan.specs.Texts.{BeginsWith}
-use Rattle.t1_font.specs.Tokens.{billion, spells}
+use Rattle.t1_font.specs.Tokens.{spells}
+use Rattle.t1_font.specs.Bounds.{longest_charstring}
+use Rattle.t1_scan.specs.Numbers.{billion}
 
 -- A piece of a text: a token, behind any blanks and comments; or one byte and then these bytes,
 -- whatever they are.
@@ -42,5 +44,5 @@ charstring_pieces c = token c.count ∷ token c.read_word ∷ raw c.separator c.
 -- isn't regular, since a word of regular bytes ends only there.
 pub record IsCharstring (c : Charstring) : Type 0 where
   pub counted : IsWhole c.count (length c.bytes)
-  pub short : length c.bytes ≤ 65535
+  pub short : length c.bytes ≤ longest_charstring
   pub reads : meant c.read_word ≡ Word

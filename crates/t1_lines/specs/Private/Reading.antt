@@ -13,6 +13,7 @@ use Rattle.t1_rules.specs.Keys.{key_texts}
 use Rattle.t1_lines.specs.declared.refusal.RefusalCode.{RefusalCode}
 use Rattle.t1_lines.specs.RefusalTexts.{refusal_text_of, refusals}
 use Rattle.t1_lines.specs.Lines.{FaultLineValue, LineValue, at_key, at_step, at_waiver, of_fault, of_refusal}
+use Rattle.t1_char.specs.Effects.{most_calls}
 
 -- A byte that isn't this one.
 abbrev pub differs : ℕ → ℕ → Bool
@@ -62,7 +63,7 @@ numbers_read zero text = None
 numbers_read (suc most) text = numbers_cut (numbers_read most) text (cut 62 text)
 
 unfoldable pub path_read : List ℕ → Option (List ℕ)
-path_read word = if same_name word (codes "-") then Some [] else numbers_read 10 word
+path_read word = if same_name word (codes "-") then Some [] else numbers_read most_calls word
 
 -- `KEY INDEX RULE TEXT`.
 unfoldable pub font_line : ℕ → List ℕ → Option FaultLineValue

@@ -5,18 +5,20 @@ use Rattle.t1_report.specs.Checked.{CheckedFont}
 use Rattle.t1_report.specs.Faults.{FaultValue}
 use Rattle.t1_report.specs.Reports.{IsReport}
 use Rattle.t1_report.specs.Walks.{AreLater, HasNoneLater, IsNext, IsSoFar, first_mark, mark_of}
-use Rattle.t1_report.specs.Waivers.{Waiver}
+use Rattle.t1_report.specs.Waivers.{Waiver, largest_waivers}
+use Rattle.t1_font.specs.Bounds.{most_glyphs}
 
 -- After the first mark they are the report.
 abbrev pub AreTheReport : Type 0
-AreTheReport = (font : CheckedFont) (waivers : List Waiver) (faults : List FaultValue) → length font.value.glyphs ≤ 65535 →
-    length waivers ≤ 1048576 → AreLater font waivers first_mark faults ↔ IsReport font waivers faults
+AreTheReport = (font : CheckedFont) (waivers : List Waiver) (faults : List FaultValue) → length font.value.glyphs ≤ most_glyphs →
+    length waivers ≤ largest_waivers → AreLater font waivers first_mark faults ↔ IsReport font waivers faults
 
 -- After the mark of a fault they are those behind it in the report.
 abbrev pub AreTheRest : Type 0
 AreTheRest =
     (font : CheckedFont) (waivers : List Waiver) (faults : List FaultValue) (k : ℕ) (fault : FaultValue) (rest : List FaultValue) →
-    length font.value.glyphs ≤ 65535 → length waivers ≤ 1048576 → IsReport font waivers faults → slice_get faults k ≡ Some fault →
+    length font.value.glyphs ≤ most_glyphs → length waivers ≤ largest_waivers →
+    IsReport font waivers faults → slice_get faults k ≡ Some fault →
     AreLater font waivers (mark_of fault) rest ↔ (rest ≡ drop (k + 1) faults)
 
 -- At the first mark no fault of the report was given so far.
@@ -28,7 +30,8 @@ NoneIsGivenAtFirst = (faults : List FaultValue) → IsSoFar faults 0 first_mark
 abbrev pub MarksGoOnCounting : Type 0
 MarksGoOnCounting =
     (font : CheckedFont) (waivers : List Waiver) (faults : List FaultValue) (k : ℕ) (mark : Mark) (fault : FaultValue) →
-    length font.value.glyphs ≤ 65535 → length waivers ≤ 1048576 → IsReport font waivers faults → IsSoFar faults k mark →
+    length font.value.glyphs ≤ most_glyphs → length waivers ≤ largest_waivers →
+    IsReport font waivers faults → IsSoFar faults k mark →
     IsNext font waivers mark fault → (slice_get faults k ≡ Some fault) × IsSoFar faults (k + 1) (mark_of fault)
 
 -- Where none is next, all were given.
@@ -47,7 +50,8 @@ LeadTo font waivers mark (fault ∷ given) last =
 abbrev pub GivenAreTheFront : Type 0
 GivenAreTheFront = (font : CheckedFont) (waivers : List Waiver) (faults : List FaultValue) (k : ℕ) (mark : Mark)
     (given : List FaultValue) (last : Mark) →
-    length font.value.glyphs ≤ 65535 → length waivers ≤ 1048576 → IsReport font waivers faults → IsSoFar faults k mark →
+    length font.value.glyphs ≤ most_glyphs → length waivers ≤ largest_waivers →
+    IsReport font waivers faults → IsSoFar faults k mark →
     LeadTo font waivers mark given last →
     (given ≡ take (length given) (drop k faults)) × IsSoFar faults (k + length given) last
 
@@ -55,5 +59,6 @@ GivenAreTheFront = (font : CheckedFont) (waivers : List Waiver) (faults : List F
 abbrev pub AreBehindTheCount : Type 0
 AreBehindTheCount =
     (font : CheckedFont) (waivers : List Waiver) (faults : List FaultValue) (k : ℕ) (mark : Mark) (rest : List FaultValue) →
-    length font.value.glyphs ≤ 65535 → length waivers ≤ 1048576 → IsReport font waivers faults → IsSoFar faults k mark →
+    length font.value.glyphs ≤ most_glyphs → length waivers ≤ largest_waivers →
+    IsReport font waivers faults → IsSoFar faults k mark →
     AreLater font waivers mark rest ↔ (rest ≡ drop k faults)

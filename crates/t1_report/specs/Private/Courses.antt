@@ -1,6 +1,6 @@
 -- What a walk has in hand.
 use Rattle.std.specs.Prelude.{◌≡◌, ℕ, ◌+◌, ◌<◌, ◌≤◌, ◌⊎◌, true}
-use Rattle.t1_rules.specs.Book.{number_of}
+use Rattle.t1_rules.specs.Book.{number_of, last_number}
 use Rattle.t1_rules.specs.Mask.{has}
 use Rattle.t1_report.specs.declared.marks.Mark.{Mark}
 use Rattle.t1_report.specs.declared.walk.course.Course.{Course}
@@ -17,7 +17,7 @@ IsInHand found p = (p.unit ≡ found.unit) × (p.step ≡ found.step) × (has fo
 -- The floor of a place: of the rules that are broken there those of a greater number come after the mark, and no others. (It is
 -- the mark's rule at the mark's own place, 0 behind it, and past all rules in front of it.)
 pub record IsFloor (mark : Mark) (unit step floor : ℕ) : Type 0 where
-  pub above : (r : ℕ) → floor < r → r ≤ 70 → Comes (spot mark.unit mark.step mark.rule) (spot unit step r)
+  pub above : (r : ℕ) → floor < r → r ≤ last_number → Comes (spot mark.unit mark.step mark.rule) (spot unit step r)
   pub below : (r : ℕ) → 0 < r → Comes (spot mark.unit mark.step mark.rule) (spot unit step r) → floor < r
 
 -- The rules in hand are broken at the place before the next one that is searched; every violation after the

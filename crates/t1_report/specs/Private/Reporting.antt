@@ -16,7 +16,7 @@ use Rattle.t1_report.specs.Waivers.{Waiver}
 -- The set has the rules that are told at a place, and the place has its path.
 pub record HasTold (font : CheckedFont) (waivers : List Waiver) (place : FaultPlace) (told : Mask) : Type 0 where
   pub rules : (n : ℕ) → has told n ≡ is_told font waivers place.unit place.step n
-  pub path : place.path.now ≡ path_in font.value place.unit place.step
+  pub path : place.path.now.items ≡ path_in font.value place.unit place.step
 
 -- The watchers have seen these steps, unless there are more than the limit.
 abbrev pub HaveSeen : Edition → Watches → List StepView → Type 0

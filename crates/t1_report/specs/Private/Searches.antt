@@ -15,7 +15,8 @@ use Rattle.t1_report.specs.Private.Units.{IsFontPlaces, IsRun, font_step}
 use Rattle.t1_report.specs.Walks.{turns_before, first_asked, turns_asked, turns_of_unit}
 use Rattle.t1_rules.specs.declared.rule.Rule.{Rule}
 use Rattle.t1_rules.specs.Book.{number_of}
-use Rattle.t1_report.specs.Waivers.{Waiver}
+use Rattle.t1_report.specs.Waivers.{Waiver, largest_waivers}
+use Rattle.t1_font.specs.Bounds.{most_glyphs}
 
 -- The place doesn't come before a unit and a step.
 abbrev pub IsFrom : ℕ → ℕ → ℕ → ℕ → Type 0
@@ -113,7 +114,7 @@ pub record IsGlyphPart (font : CheckedFont) (from unit passed : ℕ) (run : Glyp
   pub font_is : executed run.machine ≡ font
   pub runs : IsRun run.machine run.watches
   pub passed_are : passed ≡ turns_before font from unit
-  pub few : length font.value.glyphs ≤ 65535
+  pub few : length font.value.glyphs ≤ most_glyphs
 
 -- The waivers: those before the next one were asked, from the first that the search asks on.
 pub record IsWaiverPart (font : CheckedFont) (waivers : List Waiver) (from first_step unit passed checked next : ℕ) : Type 0 where
@@ -124,13 +125,13 @@ pub record IsWaiverPart (font : CheckedFont) (waivers : List Waiver) (from first
   pub passed_are : passed ≡ turns_before font from unit
   pub begun : (first_asked font waivers from first_step < next) ⊎ (length waivers < next)
   pub checked_are : checked ≡ turns_asked font waivers from first_step (next - 1)
-  pub few : length font.value.glyphs ≤ 65535
-  pub few_waivers : length waivers ≤ 1048576
+  pub few : length font.value.glyphs ≤ most_glyphs
+  pub few_waivers : length waivers ≤ largest_waivers
 
 pub record IsOver (font : CheckedFont) (from unit passed : ℕ) : Type 0 where
   pub past : length font.value.glyphs + 1 < unit
   pub passed_are : passed ≡ turns_before font from (length font.value.glyphs + 1)
-  pub few : length font.value.glyphs ≤ 65535
+  pub few : length font.value.glyphs ≤ most_glyphs
 
 abbrev pub IsPart : CheckedFont → List Waiver → ℕ → ℕ → ℕ → ℕ → ℕ → Part → Type 0
 IsPart font waivers from first unit passed checked (Font places) = IsFontPart font from unit passed places × (checked ≡ 0)
@@ -138,11 +139,21 @@ IsPart font waivers from first unit passed checked (Glyph run) = IsGlyphPart fon
 IsPart font waivers from first unit passed checked (Waivers next) = IsWaiverPart font waivers from first unit passed checked next
 IsPart font waivers from first unit passed checked Over =
     IsOver font from unit passed
-    × ((checked ≡ turns_asked font waivers from first (length waivers)) × (length waivers ≤ 1048576))
+    × ((checked ≡ turns_asked font waivers from first (length waivers)) × (length waivers ≤ largest_waivers))
 
 -- The font, and the edition of its sidebearings.
 abbrev pub checked_in : Search → CheckedFont
 checked_in s = checked s.font.now s.sidebearings.now.edition
+
+-- What a search keeps: the font, the edition and the waivers, and the unit and the step that it began with.
+pub record Aim : Type 0 where
+  pub font : CheckedFont
+  pub waivers : List Waiver
+  pub from : ℕ
+  pub first : ℕ
+
+abbrev pub aim_of : Search → Aim
+aim_of s = record { font = checked_in s; waivers = s.waivers.now; from = s.from; first = s.first }
 
 pub record IsSearch (s : Search) : Type 0 where
   pub part_is : IsPart (checked_in s) s.waivers.now s.from s.first s.unit s.passed s.checked s.part

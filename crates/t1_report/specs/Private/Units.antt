@@ -4,7 +4,7 @@ use Rattle.t1_char.specs.Steps.{steps_of}
 use Rattle.t1_font.specs.Fonts.{FontValue}
 use Rattle.t1_rules.specs.declared.rule.Rule.{Rule}
 use Rattle.t1_rules.specs.Book.{number_of}
-use Rattle.t1_rules.specs.Keys.{places_of}
+use Rattle.t1_rules.specs.Keys.{places_of, index_count, key_count}
 use Rattle.t1_rules.specs.Mask.{has}
 use Rattle.t1_rules.specs.declared.watches.Watches.{Watches}
 use Rattle.t1_char.specs.Turns.{MachineView}
@@ -35,11 +35,11 @@ pub record IsFirst (font : CheckedFont) (unit from : ℕ) (found : Found) : Type
 
 -- The next place of the font to be asked.
 abbrev pub font_step : FontPlaces → ℕ
-font_step p = 65536 * p.key + p.index
+font_step p = index_count * p.key + p.index
 
 pub record IsFontPlaces (font : FontValue) (p : FontPlaces) : Type 0 where
-  pub key : p.key ≤ 22
-  pub index : p.index ≤ 65536
+  pub key : p.key ≤ key_count
+  pub index : p.index ≤ index_count
   pub places : p.places ≡ places_of font p.key
 
 -- The machine told no more of its glyph than there is, and the watchers have seen what it told up to the limit.

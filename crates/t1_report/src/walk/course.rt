@@ -5,18 +5,17 @@ ghost use Rattle.t1_report.specs.Courses.{mark_after, turns_after};
 ghost use Rattle.t1_report.specs.Private.Courses.{IsCourse, IsFloor, turns_so_far};
 ghost use Rattle.t1_report.specs.Faults.{fault_value};
 ghost use Rattle.t1_report.specs.Checked.{checked, step_limit};
-ghost use Rattle.t1_report.specs.Private.Searches.{checked_in};
+ghost use Rattle.t1_report.specs.Private.Searches.{aim_of, checked_in};
 ghost use Rattle.t1_report.specs.Walks.{HasNoneLater, IsNext, mark_of, number_behind};
 ghost use Rattle.t1_rules.specs.Components.{AreOf};
 
 use crate::faults::Fault;
 use crate::marks::Mark;
-use crate::reporting::copy_of;
 use crate::waivers::Waivers;
 use crate::walk::found::Found;
 use crate::walk::search::Search;
 use arrayvec::ArrayVec;
-use t1_font::Font;
+use t1_font::{Font, copy_of};
 use t1_rules::{Mask, Rule, Sidebearings};
 
 /// A search, the place that it found last, and the mark.
@@ -37,10 +36,12 @@ impl<'a> Course<'a> {
     ) -> Course<'a>
         requires { AreOf font.now sidebearings.now }
         ensures course { IsCourse result }
-        ensures font { checked_in result.search ≡ checked font.now sidebearings.now.edition }
-        ensures waivers { result.search.waivers.now ≡ waivers.now }
-        ensures from { result.search.from ≡ mark.unit }
-        ensures first { result.search.first ≡ mark.step }
+        ensures aim { aim_of result.search ≡ record {
+          font = checked font.now sidebearings.now.edition;
+          waivers = waivers.now;
+          from = mark.unit;
+          first = mark.step;
+        } }
         ensures mark { result.mark ≡ mark }
         ensures turns { turns_so_far result.search ≡ 0 }
     {
@@ -81,10 +82,7 @@ impl<'a> Course<'a> {
         ensures turns { turns_so_far self.new.search ≡ turns_after (checked_in self.old.search) self.old.search.waivers.now
             self.old.search.from self.old.search.first result }
         ensures course { IsCourse self.new }
-        ensures font { checked_in self.new.search ≡ checked_in self.old.search }
-        ensures waivers { self.new.search.waivers.now ≡ self.old.search.waivers.now }
-        ensures from { self.new.search.from ≡ self.old.search.from }
-        ensures first { self.new.search.first ≡ self.old.search.first }
+        ensures aim { aim_of self.new.search ≡ aim_of self.old.search }
     {
         loop {
             let floor = floor(self.mark, self.found.unit, self.found.step);
@@ -130,7 +128,7 @@ fn fault_in(found: &Found, rule: Rule, number: u64) -> Fault
         unit: found.unit,
         step: found.step,
         rule,
-        path: copy_of(found.path.as_slice()),
+        path: copy_of(&found.path),
     }
 }
 

@@ -4,16 +4,13 @@ ghost use Rattle.std.specs.Prelude.{◌≡◌, ◌≤◌, ◌+◌, ◌*◌, Matc
 ghost use Rattle.t1_char.specs.declared.edition.Edition.{Edition as Editions};
 ghost use Rattle.t1_report.specs.Checked.{checked};
 ghost use Rattle.t1_report.specs.Private.Units.{IsFirst, IsFontPlaces, IsQuietFrom, font_step};
+ghost use Rattle.t1_rules.specs.Keys.{key_count};
 
-use crate::reporting::STEPS_OF_A_KEY;
 use crate::walk::found::Found;
 use crate::walk::glyph_run::has_rules;
 use arrayvec::ArrayVec;
 use t1_font::Font;
-use t1_rules::{font_faults, places};
-
-/// How many keys a font has a place for.
-const KEYS: u8 = 22;
+use t1_rules::{INDEXES, KEYS, font_faults, places};
 
 /// The next place of the font that is to be asked.
 #[derive(Clone, Copy)]
@@ -30,7 +27,7 @@ impl FontPlaces {
         ensures places { IsFontPlaces font.now result }
         ensures step { font_step result ≤ step }
     {
-        let key = step / STEPS_OF_A_KEY;
+        let key = step / INDEXES;
         if key >= u32::from(KEYS) {
             return FontPlaces {
                 key: KEYS,
@@ -40,7 +37,7 @@ impl FontPlaces {
         }
         FontPlaces {
             key: key as u8,
-            index: step % STEPS_OF_A_KEY,
+            index: step % INDEXES,
             places: places(font, key as u8),
         }
     }
@@ -51,7 +48,7 @@ impl FontPlaces {
         ensures found { (edition : Editions) →
             MatchOption result (IsQuietFrom (checked font.now edition) 0 (font_step self.old))
             (λ found. IsFirst (checked font.now edition) 0 (font_step self.old) found) }
-        ensures step { MatchOption result (self.new.key ≡ 22) (λ found. font_step self.new ≡ found.step + 1) }
+        ensures step { MatchOption result (self.new.key ≡ key_count) (λ found. font_step self.new ≡ found.step + 1) }
         ensures places { IsFontPlaces font.now self.new }
     {
         while self.key < KEYS {
@@ -62,7 +59,7 @@ impl FontPlaces {
                 if has_rules(rules) {
                     return Some(Found {
                         unit: 0,
-                        step: STEPS_OF_A_KEY * u32::from(self.key) + index,
+                        step: INDEXES * u32::from(self.key) + index,
                         path: ArrayVec::new(),
                         rules,
                     });

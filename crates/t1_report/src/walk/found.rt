@@ -1,7 +1,6 @@
 //! The place where a walk stands.
 
-use crate::faults::DEEPEST;
-use arrayvec::ArrayVec;
+use t1_char::Path;
 use t1_rules::Mask;
 
 /// A place where rules are broken.
@@ -9,7 +8,7 @@ use t1_rules::Mask;
 pub(crate) struct Found {
     pub(crate) unit: u32,
     pub(crate) step: u32,
-    pub(crate) path: ArrayVec<u32, DEEPEST>,
+    pub(crate) path: Path,
     /// The rules that are broken there.
     pub(crate) rules: Mask,
 }

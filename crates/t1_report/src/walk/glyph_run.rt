@@ -8,11 +8,13 @@ ghost use Rattle.t1_rules.specs.Components.{AreOf};
 ghost use Rattle.t1_rules.specs.Mask.{HasNoneAbove};
 ghost use Rattle.t1_rules.specs.Watches.{IsCalm};
 ghost use Rattle.t1_char.specs.declared.machine.Numbers.TheVariants.{Passed};
+ghost use Rattle.t1_char.specs.Editions.{limit_of};
+ghost use Rattle.t1_char.specs.declared.edition.Edition.TheVariants.{Two};
 
-use crate::reporting::{broken_at, copy_of};
+use crate::violations::broken_at;
 use crate::walk::found::Found;
 use t1_char::{Edition, Machine, Numbers};
-use t1_font::Font;
+use t1_font::{Font, copy_of};
 use t1_rules::{Mask, Sidebearings, Watch, Watches};
 
 /// The machine of a glyph, and the watchers that saw its steps.
@@ -52,7 +54,7 @@ impl<'a> GlyphRun<'a> {
     /// How many steps were asked for.
     pub(crate) fn counted(&self) -> u32
         ensures counted { result ≡ self.now.machine.counted }
-        ensures most { result ≤ 1000001 }
+        ensures most { result ≤ limit_of Two + 1 }
     {
         self.machine.counted()
     }
@@ -109,7 +111,7 @@ fn next_broken(
             return Some(Found {
                 unit,
                 step: step.number,
-                path: copy_of(step.path.as_slice()),
+                path: copy_of(&step.path),
                 rules,
             });
         }

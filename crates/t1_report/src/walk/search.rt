@@ -3,11 +3,14 @@
 ghost use Rattle.std.specs.Prelude.{◌≡◌, ◌≤◌, ◌<◌, ◌+◌, ◌*◌, false, MatchOption, length, ◌-◌, ◌&&◌, ℕ, not};
 ghost use Rattle.t1_report.specs.Checked.{checked, step_limit};
 ghost use Rattle.t1_report.specs.Reports.{Place, IsTold};
-ghost use Rattle.t1_report.specs.Private.Searches.{checked_in, HasNoneFrom, IsFirstPlace, IsOfFont, IsSearch, is_over, step_of_part, turns_in, IsDone, IsFirstTold, IsPartBegun, TellsNoneFrom};
+ghost use Rattle.t1_report.specs.Private.Searches.{aim_of, checked_in, HasNoneFrom, IsFirstPlace, IsOfFont, IsSearch, is_over, step_of_part, turns_in, IsDone, IsFirstTold, IsPartBegun, TellsNoneFrom};
 ghost use Rattle.t1_rules.specs.Components.{AreOf};
 ghost use Rattle.t1_report.specs.Lines.{glyph_name};
-ghost use Rattle.t1_report.specs.Waivers.{is_waived};
+ghost use Rattle.t1_report.specs.Waivers.{is_waived, largest_waivers};
 ghost use Rattle.t1_rules.specs.Mask.{has};
+ghost use Rattle.t1_font.specs.Bounds.{most_glyphs};
+ghost use Rattle.t1_char.specs.Editions.{limit_of};
+ghost use Rattle.t1_char.specs.declared.edition.Edition.TheVariants.{Two};
 
 use crate::lines::glyph_name;
 use crate::usage::check_waiver;
@@ -58,10 +61,12 @@ impl<'a> Search<'a> {
     ) -> Search<'a>
         requires { AreOf font.now sidebearings.now }
         ensures search { IsSearch result }
-        ensures font { checked_in result ≡ checked font.now sidebearings.now.edition }
-        ensures waivers { result.waivers.now ≡ waivers.now }
-        ensures from { result.from ≡ unit }
-        ensures first { result.first ≡ step }
+        ensures aim { aim_of result ≡ record {
+          font = checked font.now sidebearings.now.edition;
+          waivers = waivers.now;
+          from = unit;
+          first = step;
+        } }
         ensures unit { result.unit ≡ unit }
         ensures turns { result.passed + turns_in result.part + result.checked ≡ 0 }
         ensures behind { (p : Place) → IsTold (checked font.now sidebearings.now.edition) waivers.now p → p.unit ≡ unit →
@@ -100,10 +105,7 @@ impl<'a> Search<'a> {
         ensures behind { MatchOption result (length self.old.font.now.glyphs + 1 < self.new.unit)
             (λ found. (self.new.unit ≡ found.unit) × (step_of_part self.new.part ≡ found.step + 1)) }
         ensures search { IsSearch self.new }
-        ensures font { checked_in self.new ≡ checked_in self.old }
-        ensures waivers { self.new.waivers.now ≡ self.old.waivers.now }
-        ensures from { self.new.from ≡ self.old.from }
-        ensures first { self.new.first ≡ self.old.first }
+        ensures aim { aim_of self.new ≡ aim_of self.old }
     {
         while !self.is_over() {
             if let Some(found) = self.next_in_unit() {
@@ -143,10 +145,7 @@ impl<'a> Search<'a> {
         ensures search { IsSearch self.new }
         ensures under_way { is_over self.new.part ≡ false }
         ensures unit { self.new.unit ≡ self.old.unit }
-        ensures font { checked_in self.new ≡ checked_in self.old }
-        ensures waivers { self.new.waivers.now ≡ self.old.waivers.now }
-        ensures from { self.new.from ≡ self.old.from }
-        ensures first { self.new.first ≡ self.old.first }
+        ensures aim { aim_of self.new ≡ aim_of self.old }
     {
         match &mut self.part {
             Part::Font(places) => places.next(self.font),
@@ -186,10 +185,7 @@ impl<'a> Search<'a> {
         ensures search { IsSearch self.new }
         ensures unit { self.new.unit ≡ self.old.unit + 1 }
         ensures start { step_of_part self.new.part ≤ 1 }
-        ensures font { checked_in self.new ≡ checked_in self.old }
-        ensures waivers { self.new.waivers.now ≡ self.old.waivers.now }
-        ensures from { self.new.from ≡ self.old.from }
-        ensures first { self.new.first ≡ self.old.first }
+        ensures aim { aim_of self.new ≡ aim_of self.old }
     {
         let glyph = self.unit as usize;
         self.passed += self.turns_in_part();
@@ -200,7 +196,7 @@ impl<'a> Search<'a> {
 
     fn turns_in_part(&self) -> u64
         ensures turns { result ≡ turns_in self.now.part }
-        ensures most { result ≤ 1000001 }
+        ensures most { result ≤ limit_of Two + 1 }
     {
         match &self.part {
             Part::Glyph(run) => u64::from(run.counted()),
@@ -218,8 +214,8 @@ fn unit_part<'a>(
     edition: Edition,
 ) -> Part<'a>
     ensures part { IsPartBegun (checked font.now edition) waivers.now glyph step result }
-    ensures few { length font.now.glyphs ≤ 65535 }
-    ensures few_waivers { length waivers.now ≤ 1048576 }
+    ensures few { length font.now.glyphs ≤ most_glyphs }
+    ensures few_waivers { length waivers.now ≤ largest_waivers }
 {
     let mut part = Part::Over;
     begin(&mut part, font, waivers, glyph, step, edition);
@@ -237,8 +233,8 @@ fn begin<'a>(
 )
     requires { IsOfFont font.now part.old }
     ensures part { IsPartBegun (checked font.now edition) waivers.now glyph step part.new }
-    ensures few { length font.now.glyphs ≤ 65535 }
-    ensures few_waivers { length waivers.now ≤ 1048576 }
+    ensures few { length font.now.glyphs ≤ most_glyphs }
+    ensures few_waivers { length waivers.now ≤ largest_waivers }
 {
     let count = font.glyphs().len();
     let last = waivers.len() as u32 + 1;

@@ -3,9 +3,10 @@ use Rattle.std.proofs.Common.{◌≡◌, ℕ, zero, suc, ◌+◌, if◌then◌el
 use Rattle.std.proofs.lemmas.List.{reverse-append}
 use Rattle.std.proofs.lemmas.List.Sums.{sum_by-append}
 use Rattle.std.proofs.Math.Seq.{take-append-add}
-use Rattle.t1_char.specs.Since.{after_last, was}
+use Rattle.t1_char.specs.Since.{was}
 use Rattle.t1_char.specs.Steps.{StepView}
 use Rattle.t1_char.proofs.LookingBack.{after_last_goes_on}
+use Rattle.t1_font.specs.Fonts.{after_last}
 
 pub was_last : (test : StepView → Bool) (before : List StepView) (t : StepView) → was 0 test (before ++ t ∷ []) ≡ test t
 was_last test before t = rw (reverse-append before (t ∷ [])) refl

@@ -1,5 +1,5 @@
 -- The rules, their numbers and the rows of the book.
-use Rattle.std.proofs.Common.{◌≡◌, ◌<◌, ◌≤◌, ◌-◌, ℕ, refl, sym, ap, ◌∙◌, arith, slice_index_or, zero, suc, ◌+◌, ◌&&◌, ◌==◌, Bool, true, false, List, [], ◌∷◌, map, length, subst, Option, None, Some, cond, drop}
+use Rattle.std.proofs.Common.{slice_get, ◌≡◌, ◌<◌, ◌≤◌, ◌-◌, ℕ, refl, sym, ap, ◌∙◌, arith, slice_index_or, zero, suc, ◌+◌, ◌&&◌, ◌==◌, Bool, true, false, List, [], ◌∷◌, map, length, subst, Option, None, Some, cond, drop}
 use Rattle.t1_rules.specs.declared.rule.Rule.{Rule}
 use Rattle.t1_rules.specs.declared.rule.Rule.TheVariants.{F01, L01}
 use Rattle.t1_rules.specs.Private.BookRows.{row_coded, row_view, rows}
@@ -22,6 +22,10 @@ in_book _ = (omega arith, omega arith)
 found : (rule : Rule) → slice_index_or rules (number_of rule - 1) L01 ≡ rule
 found F01 = refl
 found _ = refl
+
+pub listed : (rule : Rule) → slice_get rules (number_of rule - 1) ≡ Some rule
+listed F01 = refl
+listed _ = refl
 
 pub one_rule : (a b : Rule) → number_of a ≡ number_of b → a ≡ b
 one_rule a b same = sym (found a) ∙ ap (λ (n : ℕ). slice_index_or rules (n - 1) L01) same ∙ found b

@@ -7,13 +7,13 @@ use Rattle.std.proofs.lemmas.List.Folds.{list_any-append}
 use Rattle.t1_char.specs.declared.command.Command.TheVariants.{Seac}
 use Rattle.t1_char.specs.declared.token.CharToken.{CharToken}
 use Rattle.t1_char.specs.declared.token.CharToken.TheVariants.{Command}
-use Rattle.t1_char.specs.Seacs.{is_seac as has_it, step_is_seac}
+use Rattle.t1_char.specs.Seacs.{is_seac as has_it, step_is_seac, is_seac}
 use Rattle.t1_char.specs.Arguments.{argument}
 use Rattle.t1_char.specs.Steps.{StepView}
 use Rattle.t1_font.specs.Fonts.{FontValue}
 use Rattle.t1_rules.specs.declared.sidebearings.Component.{Component}
 use Rattle.t1_rules.specs.Components.{component_in, component_named, component_of_glyph, glyph_named, first_sidebearing, is_seac_step}
-use Rattle.t1_rules.specs.StepRules.Tokens.{is_seac, sets_width}
+use Rattle.t1_rules.specs.StepRules.Tokens.{sets_width}
 use Rattle.t1_rules.specs.Private.Seac.{sidebearing_with, with_step}
 
 -- One step more of a component.

@@ -10,9 +10,8 @@ use Rattle.t1_char.specs.declared.edition.Edition.{Edition}
 use Rattle.t1_char.specs.declared.edition.Edition.TheVariants.{One, Two}
 use Rattle.t1_char.specs.Arguments.{is_hint_replacement}
 use Rattle.t1_char.specs.Editions.{limit_of}
-use Rattle.t1_char.specs.Since.{after_last}
 use Rattle.t1_char.specs.Steps.{StepView, steps_of}
-use Rattle.t1_font.specs.Fonts.{FontValue}
+use Rattle.t1_font.specs.Fonts.{FontValue, after_last}
 use Rattle.t1_rules.specs.declared.rule.Rule.TheVariants.{H02}
 use Rattle.t1_rules.specs.declared.sidebearings.Component.{Component}
 use Rattle.t1_rules.specs.declared.step_rules.stems.Stem.{Stem}
@@ -23,11 +22,12 @@ use Rattle.t1_rules.specs.StandardEncoding.{standard_name}
 use Rattle.t1_rules.specs.StepRules.{StepRule, row, argument_rules, call_rules, charstring_rules, component_rules, flex_rules, othersubr_rules, path_rules, seac_rules, stem_rules, step_rules, breaks}
 use Rattle.t1_rules.specs.StepRules.Seac.{accent_code, base_code, component_of_code, is_lacking, is_named, lacks_component}
 use Rattle.t1_rules.specs.StepRules.Stems.{has_one_edge, hint_set, lies_across, one_overlaps, overlap_by, overlap_in, sets_overlapping, stands_upright, stems_in, stems_meet, stems_of, two_overlap}
-use Rattle.t1_rules.specs.StepRules.Tokens.{is_command, is_seac}
+use Rattle.t1_rules.specs.StepRules.Tokens.{is_command}
 use Rattle.t1_rules.proofs.Lemmas.ComponentLaws.{map_same}
 use Rattle.t1_rules.proofs.Lemmas.Overlaps.{overlap_is_mutual}
 use Rattle.t1_rules.proofs.Lemmas.StepRules.{none_broken, row_decides}
 use Rattle.t1_rules.proofs.Lemmas.Stems.{hint_set_goes_on}
+use Rattle.t1_char.specs.Seacs.{is_seac}
 
 neither : (a b : Bool) → (a || b) ≡ false → (a ≡ false) × (b ≡ false)
 neither false false none = (refl, refl)

@@ -3,7 +3,7 @@ use Rattle.std.proofs.Common.{◌≡◌, ℕ, suc, ℤ, pos, ◌+◌, ◌≤◌,
 use Rattle.std.proofs.lemmas.Int.{ints}
 use Rattle.std.proofs.Math.Bool.{and-true}
 use Rattle.t1_char.specs.Arguments.{is_flex_start, is_flex_point, is_flex_end}
-use Rattle.t1_char.specs.Since.{after_last, last_of}
+use Rattle.t1_char.specs.Since.{last_of}
 use Rattle.t1_char.specs.Steps.{StepView}
 use Rattle.t1_char.proofs.LookingBack.{after_last_goes_on, last_goes_on, since_goes_on}
 use Rattle.t1_rules.specs.declared.step_rules.flex.FlexWatcher.{FlexWatcher}
@@ -15,6 +15,7 @@ use Rattle.t1_rules.specs.StepRules.Tokens.{is_move, is_pop, sets_point}
 use Rattle.t1_rules.specs.Watches.{FlexStandsFor, IsNear}
 use Rattle.t1_rules.proofs.Lemmas.Tokens.{IsNoCommand}
 use Rattle.t1_rules.proofs.Lemmas.Before.{counted_on, was_last, was_before}
+use Rattle.t1_font.specs.Fonts.{after_last}
 
 -- Points are equal where both coordinates are.
 same_point : (a b c d : ℤ) → a ≡ c → b ≡ d → at a b ≡ at c d

@@ -4,11 +4,11 @@ use Rattle.std.specs.Int.{int_max}
 use Rattle.std.proofs.lemmas.Int.{ints, clamps}
 use Rattle.std.proofs.lemmas.List.{length-take}
 use Rattle.t1_char.specs.Arguments.{is_hint_replacement}
-use Rattle.t1_char.specs.Since.{after_last}
 use Rattle.t1_rules.specs.declared.step_rules.stems.Stem.{Stem}
 use Rattle.t1_rules.specs.Laws.Stems.{ShareAPlace, StemsOverlapWhereTheyShareAPlace, OverlapIsMutual, SignsHaveNoSay, ReplacementsEmptyHintSets, HintSetsAreBounded}
 use Rattle.t1_rules.specs.StepRules.Stems.{lower, overlap, stems_in}
 use Rattle.t1_rules.proofs.Lemmas.Stems.{hint_set_goes_on}
+use Rattle.t1_font.specs.Fonts.{after_last}
 
 shared : (one other : Stem) → overlap one other ≡ true → ShareAPlace one other
 shared one other meet = record {

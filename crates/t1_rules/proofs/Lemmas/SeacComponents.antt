@@ -19,13 +19,14 @@ use Rattle.t1_rules.specs.Laws.StepRules.{violates}
 use Rattle.t1_rules.specs.StandardEncoding.{standard_name}
 use Rattle.t1_rules.specs.StepRules.{component_rules}
 use Rattle.t1_rules.specs.StepRules.Seac.{component_of_code, differs_in_sidebearing, is_another, is_lacking, is_named, is_unnamed, is_without_sidebearing, lacks_component, lacks_sidebearing, nests, seac_code}
-use Rattle.t1_rules.specs.StepRules.Tokens.{is_seac, sets_width}
+use Rattle.t1_rules.specs.StepRules.Tokens.{sets_width}
 use Rattle.t1_rules.specs.Private.StepTests.{IsCommand}
 use Rattle.t1_rules.proofs.Lemmas.Book.{both}
 use Rattle.t1_rules.proofs.Lemmas.Components.{named_by_letters}
 use Rattle.t1_rules.proofs.Lemmas.Rows.{k01_row, k02_row}
 use Rattle.t1_rules.proofs.Lemmas.SeacLaws.{codes_are_whole_to_255}
 use Rattle.t1_rules.proofs.Lemmas.StepRules.{row_decides}
+use Rattle.t1_char.specs.Seacs.{is_seac}
 
 -- ---- rows
 

@@ -5,7 +5,6 @@ use Rattle.std.proofs.lemmas.Grind.{flat_map-append}
 use Rattle.t1_char.specs.declared.command.Command.{Command as Commands}
 use Rattle.t1_char.specs.declared.edition.Edition.{Edition}
 use Rattle.t1_char.specs.Arguments.{is_flex_start, is_flex_end, is_hint_replacement}
-use Rattle.t1_char.specs.Since.{after_last}
 use Rattle.t1_char.specs.Steps.{StepView}
 use Rattle.t1_char.proofs.LookingBack.{after_last_goes_on, since_goes_on}
 use Rattle.t1_rules.specs.declared.step_rules.stems.StemWatcher.{StemWatcher}
@@ -15,6 +14,7 @@ use Rattle.t1_rules.specs.StepRules.Tokens.{is_command, is_line, is_pop}
 use Rattle.t1_rules.specs.Watches.{StemsStandFor}
 use Rattle.t1_rules.specs.Private.Stems.{IsQuietForStems, kept_after}
 use Rattle.t1_rules.proofs.Lemmas.Before.{take_more, was_last, was_before}
+use Rattle.t1_font.specs.Fonts.{after_last}
 
 -- The hint set of a direction.
 pub hint_set_goes_on : (direction : Commands → Bool) (before : List StepView) (t : StepView) → hint_set direction (before ++ t ∷ []) ≡ kept_after direction (hint_set direction before) t

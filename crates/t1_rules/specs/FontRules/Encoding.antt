@@ -6,6 +6,7 @@ use Rattle.t1_font.specs.declared.encoding.Encoding.TheVariants.{Absent, Standar
 use Rattle.t1_font.specs.Fonts.{FontValue}
 use Rattle.t1_font.specs.Keys.{same_name}
 use Rattle.t1_rules.specs.FontRules.Glyphs.{not_defined, has_glyph}
+use Rattle.t1_font.specs.Bounds.{code_count}
 
 -- It isn't there, or of another form.
 abbrev pub is_no_form : Encoding → Bool
@@ -29,4 +30,4 @@ is_missing font (Some name) = not (same_name name not_defined) && not (has_glyph
 -- A custom Encoding gives the code a name that no glyph has; codes are below 256.
 abbrev pub encodes_missing : FontValue → ℕ → Bool
 encodes_missing font code =
-    nat_lt code 256 && is_custom font.encoding && is_missing font (lookup (nat_eq code) font.codes)
+    nat_lt code code_count && is_custom font.encoding && is_missing font (lookup (nat_eq code) font.codes)

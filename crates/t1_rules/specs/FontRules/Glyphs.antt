@@ -3,6 +3,7 @@ use Rattle.std.specs.Prelude.{ℕ, ◌&&◌, Bool, nat_lt, List, codes, length}
 use Rattle.std.specs.List.{list_any}
 use Rattle.t1_font.specs.Fonts.{FontValue, is_glyph_twice}
 use Rattle.t1_font.specs.Keys.{same_name}
+use Rattle.t1_rules.specs.Keys.{index_count}
 
 -- The glyph that stands for all that are missing.
 abbrev pub not_defined : List ℕ
@@ -15,4 +16,4 @@ has_glyph font name = list_any (λ glyph. same_name name glyph.0) font.glyphs
 -- The font states the glyph of a number twice; a number that a fault can stand at is below 65,536.
 abbrev pub is_glyph_given_twice : FontValue → ℕ → Bool
 is_glyph_given_twice font glyph =
-    nat_lt glyph 65536 && nat_lt glyph (length font.glyphs) && is_glyph_twice font glyph
+    nat_lt glyph index_count && nat_lt glyph (length font.glyphs) && is_glyph_twice font glyph

@@ -6,7 +6,8 @@ use Rattle.t1_font.specs.declared.key.Key.TheVariants.{UniqueId, PrivateUniqueId
 use Rattle.t1_font.specs.Fonts.{FontValue}
 use Rattle.t1_font.specs.Values.{Value, absent, number, numbers, other}
 use Rattle.t1_rules.specs.Keys.{value_at}
-use Rattle.t1_rules.specs.FontRules.Values.{billion, is_absent}
+use Rattle.t1_rules.specs.FontRules.Values.{is_absent}
+use Rattle.t1_scan.specs.Numbers.{billion}
 
 -- The two UniqueIDs, that of the clear text and that of the Private dictionary.
 abbrev pub id_keys : List Key

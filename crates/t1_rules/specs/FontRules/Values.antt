@@ -2,10 +2,7 @@
 use Rattle.std.specs.Prelude.{ℕ, ◌*◌, ◌==◌, ◌&&◌, Bool, true, false, ℤ, pos, List, [], ◌∷◌, take}
 use Rattle.std.specs.Ordering.{int_eq}
 use Rattle.t1_font.specs.Values.{Value, absent, number, numbers, other}
-
--- How many units one has.
-abbrev pub billion : ℕ
-billion = 1000000000
+use Rattle.t1_scan.specs.Numbers.{billion}
 
 -- One, in the unit of a product of two numbers.
 abbrev pub product_one : ℤ

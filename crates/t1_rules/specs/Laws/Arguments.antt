@@ -11,6 +11,7 @@ use Rattle.t1_rules.specs.declared.rule.Rule.TheVariants.{C04, C05, C06}
 use Rattle.t1_rules.specs.Laws.StepRules.{violates}
 use Rattle.t1_rules.specs.StepRules.Arguments.{is_past}
 use Rattle.t1_rules.specs.Private.StepTests.{IsCommand}
+use Rattle.t1_char.specs.Stacks.{most_numbers}
 
 -- A number is past the range exactly where it isn't kept as it is.
 abbrev pub KeptIsNotPast : Type 0
@@ -64,4 +65,4 @@ pub data Brings (step : StepView) : Type 0 where
 abbrev pub NumbersOverflowAt24 : Type 0
 NumbersOverflowAt24 =
     (edition : Edition) (before : List StepView) (step : StepView) →
-    (violates edition C06 before step ≡ true) ↔ (Brings step × (length step.stack ≡ 24))
+    (violates edition C06 before step ≡ true) ↔ (Brings step × (length step.stack ≡ most_numbers))

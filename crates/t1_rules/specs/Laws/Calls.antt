@@ -5,7 +5,7 @@ use Rattle.t1_char.specs.declared.command.Command.TheVariants.{Callsubr}
 use Rattle.t1_char.specs.declared.edition.Edition.{Edition}
 use Rattle.t1_char.specs.declared.token.CharToken.{CharToken}
 use Rattle.t1_char.specs.declared.token.CharToken.TheVariants.{Command}
-use Rattle.t1_char.specs.Effects.{State, Action, goes, calls, returns, finishes}
+use Rattle.t1_char.specs.Effects.{State, Action, goes, calls, returns, finishes, most_calls}
 use Rattle.t1_char.specs.Steps.{StepView, effect_at, step_at}
 use Rattle.t1_rules.specs.declared.rule.Rule.TheVariants.{S01, S02}
 use Rattle.t1_rules.specs.Laws.StepRules.{violates}
@@ -26,7 +26,7 @@ callsubr_at font path behind state = step_at font path (Command Callsubr) behind
 abbrev pub SoundCallsGoIn : Type 0
 SoundCallsGoIn =
     (edition : Edition) (font : FontValue) (path : List ℕ) (behind : List CharToken) (state : State)
-    (before : List StepView) → 0 < length state.stack → length path ≤ 10 →
+    (before : List StepView) → 0 < length state.stack → length path ≤ most_calls →
     goes_in (effect_at font path (Command Callsubr) state).action
     ≡ (not (violates edition S01 before (callsubr_at font path behind state))
     && not (violates edition S02 before (callsubr_at font path behind state)))

@@ -9,13 +9,14 @@ use Rattle.t1_font.specs.Fonts.{FontValue}
 use Rattle.t1_font.specs.Keys.{same_name}
 use Rattle.t1_rules.specs.Components.{component_in, component_named, components_of}
 use Rattle.t1_rules.specs.StandardEncoding.{standard_encoding, standard_name}
+use Rattle.t1_font.specs.Bounds.{code_count}
 
 -- StandardEncoding has 256 codes, of which 149 have a name, and no name stands at two codes.
 abbrev pub has_letters : List ℕ → Bool
 has_letters name = not (length name == 0)
 
 abbrev pub CodesAreCounted : Type 0
-CodesAreCounted = length standard_encoding ≡ 256
+CodesAreCounted = length standard_encoding ≡ code_count
 
 abbrev pub NamesAreCounted : Type 0
 NamesAreCounted = count_by has_letters standard_encoding ≡ 149

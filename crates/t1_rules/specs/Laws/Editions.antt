@@ -14,7 +14,7 @@ use Rattle.t1_rules.specs.Book.{number_of}
 use Rattle.t1_rules.specs.Components.{components_of, glyph_named}
 use Rattle.t1_rules.specs.StandardEncoding.{standard_name}
 use Rattle.t1_rules.specs.StepRules.{StepRule, breaks, charstring_rules, step_rules}
-use Rattle.t1_rules.specs.StepRules.Stems.{has_one_edge, hint_set, lies_across, overlap_by, stands_upright, stems_in, stems_of}
+use Rattle.t1_rules.specs.StepRules.Stems.{has_one_edge, hint_set, lies_across, overlap_by, stands_upright, stems_in, stems_of, most_stems}
 use Rattle.t1_rules.specs.StepRules.Tokens.{is_command}
 
 -- ---- stems of one edge
@@ -37,7 +37,7 @@ abbrev pub StemsAreKept : Type 0
 StemsAreKept =
     (direction : Commands → Bool) (before : List StepView) (step : StepView) →
     is_hint_replacement step ≡ false → is_command direction step.token ≡ true →
-    hint_set direction (before ++ step ∷ []) ≡ take 96 (hint_set direction before ++ stems_of step)
+    hint_set direction (before ++ step ∷ []) ≡ take most_stems (hint_set direction before ++ stems_of step)
 
 -- A step sets a stem of one edge.
 abbrev pub sets_one_edge : StepView → Bool

@@ -1,11 +1,11 @@
 -- Laws of the table of font rules.
-use Rattle.std.specs.Prelude.{◌≡◌, ℕ, ◌<◌, ◌≤◌, ◌⊎◌, true, false, map}
+use Rattle.std.specs.Prelude.{◌≡◌, ℕ, ◌≤◌, ◌⊎◌, true, false, map}
 use Rattle.std.specs.List.{range_with_len}
 use Rattle.t1_font.specs.Fonts.{FontValue}
 use Rattle.t1_font.specs.Values.{absent}
 use Rattle.t1_font.specs.declared.key.Key.{Key}
 use Rattle.t1_rules.specs.declared.rule.Rule.TheVariants.{Z01}
-use Rattle.t1_rules.specs.Keys.{key_number, places_of, value_at}
+use Rattle.t1_rules.specs.Keys.{key_number, places_of, value_at, key_count, index_count}
 use Rattle.t1_rules.specs.Book.{last_number, number_of}
 use Rattle.t1_rules.specs.FontRules.{font_rules, violated}
 
@@ -28,7 +28,7 @@ NothingIsBrokenPastPlaces =
 -- Nothing is broken past the last key, nor past the last index.
 abbrev pub NothingIsBrokenPastLast : Type 0
 NothingIsBrokenPastLast =
-    (font : FontValue) (key index : ℕ) → (21 < key) ⊎ (65535 < index) → (n : ℕ) →
+    (font : FontValue) (key index : ℕ) → (key_count ≤ key) ⊎ (index_count ≤ index) → (n : ℕ) →
     violated font_rules n font key index ≡ false
 
 -- A rule on hint entries isn't broken at an entry that isn't there.

@@ -18,12 +18,13 @@ use Rattle.t1_rules.specs.StepRules.{breaks, component_rules}
 use Rattle.t1_rules.specs.StepRules.Seac.{seac_code, is_named, is_unnamed}
 use Rattle.t1_rules.specs.StepRules.Tokens.{sets_width}
 use Rattle.t1_rules.specs.Private.StepTests.{IsCommand}
+use Rattle.t1_font.specs.Bounds.{code_count}
 
 -- ---- codes
 
 -- A number is a code exactly where it is a whole number from 0 to 255.
 pub record IsCode (z : ℤ) (code : ℕ) : Type 0 where
-  pub below : code < 256
+  pub below : code < code_count
   pub whole : z ≡ units (pos code)
 
 abbrev pub CodesAreWholeTo255 : Type 0

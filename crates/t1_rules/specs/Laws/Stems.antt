@@ -8,7 +8,7 @@ use Rattle.t1_char.specs.Steps.{StepView}
 use Rattle.t1_rules.specs.declared.rule.Rule.TheVariants.{H04}
 use Rattle.t1_rules.specs.declared.step_rules.stems.Stem.{Stem}
 use Rattle.t1_rules.specs.Laws.StepRules.{violates}
-use Rattle.t1_rules.specs.StepRules.Stems.{hint_set, lies_across, lower, overlap, stands_upright, upper}
+use Rattle.t1_rules.specs.StepRules.Stems.{hint_set, lies_across, lower, overlap, stands_upright, upper, most_stems}
 use Rattle.t1_rules.specs.Private.StepTests.{IsCommand}
 
 -- A place lies in a stem: from the lower edge on, and below the upper one; in units of 1/65536.
@@ -42,7 +42,7 @@ ReplacementsEmptyHintSets =
     is_hint_replacement step ≡ true → hint_set direction (before ++ step ∷ []) ≡ []
 
 abbrev pub HintSetsAreBounded : Type 0
-HintSetsAreBounded = (direction : Commands → Bool) (before : List StepView) → length (hint_set direction before) ≤ 96
+HintSetsAreBounded = (direction : Commands → Bool) (before : List StepView) → length (hint_set direction before) ≤ most_stems
 
 -- The commands of a direction: that of one stem, and that of three.
 pub data AreOf : (Commands → Bool) → Commands → Commands → Type 0 where
@@ -58,14 +58,14 @@ abbrev pub OneStemIsKept : Type 0
 OneStemIsKept =
     (direction : Commands → Bool) (one three : Commands) (before : List StepView) (step : StepView) →
     AreOf direction one three → IsCommand step one →
-    hint_set direction (before ++ step ∷ []) ≡ take 96 (hint_set direction before ++ stem step.stack 0 1 ∷ [])
+    hint_set direction (before ++ step ∷ []) ≡ take most_stems (hint_set direction before ++ stem step.stack 0 1 ∷ [])
 
 abbrev pub ThreeStemsAreKept : Type 0
 ThreeStemsAreKept =
     (direction : Commands → Bool) (one three : Commands) (before : List StepView) (step : StepView) →
     AreOf direction one three → IsCommand step three →
     hint_set direction (before ++ step ∷ [])
-    ≡ take 96 (hint_set direction before ++ stem step.stack 0 1 ∷ stem step.stack 2 3 ∷ stem step.stack 4 5 ∷ [])
+    ≡ take most_stems (hint_set direction before ++ stem step.stack 0 1 ∷ stem step.stack 2 3 ∷ stem step.stack 4 5 ∷ [])
 
 abbrev pub OthersLeaveHintSets : Type 0
 OthersLeaveHintSets =

@@ -1,5 +1,5 @@
 -- Tokens, arguments and numbers: where a step breaks C01 to C09. Type 1 Font Format 1.1, chapters 6 and 7.
-use Rattle.std.specs.Prelude.{ℕ, ℤ, pos, negsuc, ◌==◌, ◌&&◌, ◌||◌, not, nat_lt, nat_le, int_lt, Bool, false, Option, Some, None, List, length, take}
+use Rattle.std.specs.Prelude.{ℕ, ℤ, pos, ◌==◌, ◌&&◌, ◌||◌, not, nat_lt, nat_le, int_lt, Bool, false, Option, Some, None, List, length, take}
 use Rattle.std.specs.List.{list_any}
 use Rattle.std.specs.Ordering.{int_eq}
 use Rattle.t1_char.specs.declared.command.Command.{Command as Commands}
@@ -7,8 +7,8 @@ use Rattle.t1_char.specs.declared.command.Command.TheVariants.{Callsubr, Div, Ca
 use Rattle.t1_char.specs.declared.token.CharToken.{CharToken}
 use Rattle.t1_char.specs.declared.token.CharToken.TheVariants.{Command}
 use Rattle.t1_char.specs.Commands.{arguments_of}
-use Rattle.t1_char.specs.Numbers.{cut_quotient}
-use Rattle.t1_char.specs.Stacks.{from_top}
+use Rattle.t1_char.specs.Numbers.{cut_quotient, greatest, least}
+use Rattle.t1_char.specs.Stacks.{from_top, most_numbers}
 use Rattle.t1_char.specs.Steps.{StepView, is_number}
 use Rattle.t1_rules.specs.StepRules.Tokens.{is_div, is_pop}
 
@@ -41,11 +41,11 @@ has_too_many_arguments _ stack = false
 -- One number more comes to a stack of 24.
 abbrev pub overflows : StepView → Bool
 overflows step =
-    (is_number step.token || (is_pop step.token && nat_lt 0 step.waiting)) && length step.stack == 24
+    (is_number step.token || (is_pop step.token && nat_lt 0 step.waiting)) && length step.stack == most_numbers
 
--- A number is past 32000 in absolute value: 2097152000 is 32000 in units of 1/65536.
+-- A number is past 32000 in absolute value.
 abbrev pub is_past : ℤ → Bool
-is_past z = int_lt (pos 2097152000) z || int_lt z (negsuc 2097151999)
+is_past z = int_lt greatest z || int_lt z least
 
 -- One of the arguments is; numbers above them on the stack are none.
 abbrev pub one_is_past : Option ℕ → List ℤ → Bool

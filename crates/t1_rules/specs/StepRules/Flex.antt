@@ -7,13 +7,14 @@ use Rattle.t1_char.specs.declared.command.Command.TheVariants.{Vmoveto, Rlineto,
 use Rattle.t1_char.specs.declared.token.CharToken.{CharToken}
 use Rattle.t1_char.specs.declared.token.CharToken.TheVariants.{Command}
 use Rattle.t1_char.specs.Arguments.{argument, is_flex_start, is_flex_point, is_flex_end}
-use Rattle.t1_char.specs.Since.{after_last, last_of, was}
+use Rattle.t1_char.specs.Since.{last_of, was}
 use Rattle.t1_char.specs.Stacks.{from_top}
 use Rattle.t1_char.specs.Steps.{StepView}
 use Rattle.t1_rules.specs.declared.step_rules.flex.Point.{Point}
 use Rattle.t1_rules.specs.StepRules.Paths.{in_flex}
 use Rattle.t1_rules.specs.StepRules.Stems.{popping}
 use Rattle.t1_rules.specs.StepRules.Tokens.{clears, is_move, is_hsbw, is_setcurrentpoint, sets_point}
+use Rattle.t1_font.specs.Fonts.{after_last}
 
 abbrev pub at : ℤ → ℤ → Point
 at x y = record { x = x; y = y }

@@ -11,12 +11,14 @@ use Rattle.t1_rules.specs.Components.{missing}
 use Rattle.t1_rules.specs.StandardEncoding.{standard_name}
 use Rattle.t1_rules.specs.StepRules.Paths.{drawing}
 use Rattle.t1_rules.specs.StepRules.Stems.{is_stem}
-use Rattle.t1_rules.specs.StepRules.Tokens.{closes, is_move, is_seac}
+use Rattle.t1_rules.specs.StepRules.Tokens.{closes, is_move}
+use Rattle.t1_font.specs.Bounds.{code_count}
+use Rattle.t1_char.specs.Seacs.{is_seac}
 
 -- A number as a code: whole, from 0 to 255.
 abbrev pub code_among : Option ℕ → Option ℕ
 code_among None = None
-code_among (Some n) = if nat_lt n 256 then Some n else None
+code_among (Some n) = if nat_lt n code_count then Some n else None
 
 -- An argument of seac as a code.
 abbrev pub seac_code : ℤ → Option ℕ

@@ -10,11 +10,13 @@ use Rattle.t1_char.specs.declared.edition.Edition.{Edition}
 use Rattle.t1_char.specs.declared.edition.Edition.TheVariants.{One, Two}
 use Rattle.t1_char.specs.declared.token.CharToken.{CharToken}
 use Rattle.t1_char.specs.Arguments.{argument, is_hint_replacement}
-use Rattle.t1_char.specs.Since.{since, after_last, was}
+use Rattle.t1_char.specs.Since.{since, was}
 use Rattle.t1_char.specs.Steps.{StepView, is_callsubr}
 use Rattle.t1_rules.specs.declared.step_rules.stems.Stem.{Stem}
 use Rattle.t1_rules.specs.StepRules.Paths.{drawing}
 use Rattle.t1_rules.specs.StepRules.Tokens.{is_command, is_pop}
+use Rattle.t1_char.specs.Numbers.{unit}
+use Rattle.t1_font.specs.Fonts.{after_last}
 
 -- The two directions: hstem and hstem3 lie across the glyph, vstem and vstem3 stand upright.
 abbrev pub lies_across : Commands → Bool
@@ -50,9 +52,13 @@ stems_of step =
 abbrev pub stems_in : (Commands → Bool) → StepView → List Stem
 stems_in direction step = if is_command direction step.token then stems_of step else []
 
+-- The most stems of a hint set.
+abbrev pub most_stems : ℕ
+most_stems = 96
+
 -- The hint set of a direction: the first 96 stems since the last hint replacement.
 abbrev pub hint_set : (Commands → Bool) → List StepView → List Stem
-hint_set direction before = take 96 (flat_map (stems_in direction) (after_last is_hint_replacement before))
+hint_set direction before = take most_stems (flat_map (stems_in direction) (after_last is_hint_replacement before))
 
 -- Two stems overlap where the greater of the lower edges is below the lesser of the upper edges.
 abbrev pub lower : Stem → ℤ
@@ -68,7 +74,7 @@ overlap one other = int_lt (int_max (lower one) (lower other)) (int_min (upper o
 -- second edition it overlaps nothing.
 abbrev pub has_one_edge : Stem → Bool
 has_one_edge stem =
-    int_eq stem.width (neg_ℤ (pos (20 * 65536))) || int_eq stem.width (neg_ℤ (pos (21 * 65536)))
+    int_eq stem.width (neg_ℤ (pos (20 * unit))) || int_eq stem.width (neg_ℤ (pos (21 * unit)))
 
 abbrev pub overlap_by : Edition → Stem → Stem → Bool
 overlap_by One one other = overlap one other

@@ -76,7 +76,3 @@ is_setcurrentpoint _ = false
 -- A command that says where the current point is.
 abbrev pub sets_point : CharToken → Bool
 sets_point token = sets_width token || is_setcurrentpoint token
-
-abbrev pub is_seac : CharToken → Bool
-is_seac (Command Seac) = true
-is_seac _ = false

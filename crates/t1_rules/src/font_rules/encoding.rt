@@ -10,10 +10,7 @@ ghost use Rattle.t1_rules.specs.Mask.{has};
 use crate::font_rules::glyphs::{NOT_DEFINED, has_glyph};
 use crate::mask::Mask;
 use crate::rule::Rule;
-use t1_font::{Encoding, Font};
-
-/// How many codes an encoding has.
-const CODES: u32 = 256;
+use t1_font::{CODES, Encoding, Font};
 
 /// Whether an Encoding isn't there, or of another form.
 fn is_no_form(encoding: Encoding) -> bool

@@ -8,10 +8,9 @@ ghost use Rattle.t1_rules.specs.FontRules.Ids.{differ, is_past_range, is_whole_t
 ghost use Rattle.t1_rules.specs.Keys.{key_number};
 ghost use Rattle.t1_rules.specs.Mask.{has};
 
-use crate::font_rules::values::ONE;
 use crate::mask::Mask;
 use crate::rule::Rule;
-use t1_font::{Entry, Font, Key};
+use t1_font::{BILLION, Entry, Font, Key};
 
 /// The greatest UniqueID.
 const LAST_ID: i64 = 16_777_215;
@@ -20,7 +19,7 @@ const LAST_ID: i64 = 16_777_215;
 fn is_id(number: i64) -> bool
     ensures { result ≡ is_whole_to 16777215 number }
 {
-    number >= 0 && number % ONE == 0 && number <= LAST_ID * ONE
+    number >= 0 && number % BILLION == 0 && number <= LAST_ID * BILLION
 }
 
 /// Whether a UniqueID is there, and no whole number in its range.

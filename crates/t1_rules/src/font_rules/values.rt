@@ -4,17 +4,14 @@ ghost use Rattle.std.specs.Prelude.{◌≡◌};
 ghost use Rattle.t1_font.specs.Entries.{entry_view};
 ghost use Rattle.t1_rules.specs.FontRules.Values.{count_in, first_in, is_sixteen_twice, is_the_number, number_or};
 
-use t1_font::Entry;
-
-/// One, in the unit of numbers.
-pub(crate) const ONE: i64 = 1_000_000_000;
+use t1_font::{BILLION, Entry};
 
 /// Whether a value is this whole number.
 pub(crate) fn is_the_number(whole: u32, value: &Entry) -> bool
     ensures { result ≡ is_the_number whole (entry_view value.now) }
 {
     match value {
-        Entry::Number(number) => *number == i64::from(whole) * ONE,
+        Entry::Number(number) => *number == i64::from(whole) * BILLION,
         Entry::Absent | Entry::Numbers { .. } | Entry::Other => false,
     }
 }
@@ -27,7 +24,7 @@ pub(crate) fn is_sixteen_twice(value: &Entry) -> bool
         return false;
     };
     match first.as_slice() {
-        [one, other, ..] => (*count == 2) & (*one == 16 * ONE) & (*other == 16 * ONE),
+        [one, other, ..] => (*count == 2) & (*one == 16 * BILLION) & (*other == 16 * BILLION),
         _ => false,
     }
 }

@@ -11,13 +11,13 @@ ghost use Rattle.t1_rules.specs.Private.Edges.{zone_of};
 ghost use Rattle.t1_rules.specs.Private.KeyTests.{broken_among, high_zone_tests, low_zone_tests, zone_tests};
 
 use crate::font_rules::hints::{falls_at, has_too_many, is_of_another_kind, list_limit_of};
-use crate::font_rules::values::{ONE, count_in, first_in, number_or};
+use crate::font_rules::values::{count_in, first_in, number_or};
 use crate::mask::Mask;
 use crate::rule::Rule;
-use t1_font::{Entry, Font, Key};
+use t1_font::{BILLION, Entry, Font, Key};
 
 /// One, in the unit of a product of two numbers.
-const PRODUCT_ONE: i128 = ONE as i128 * ONE as i128;
+const PRODUCT_ONE: i128 = BILLION as i128 * BILLION as i128;
 
 /// BlueScale where the font doesn't give it: 0.039625.
 const USUAL_SCALE: i64 = 39_625_000;
@@ -33,7 +33,7 @@ pub(crate) struct Edges {
 fn distance(font: &Font<'_>) -> i128
     ensures { result ≡ distance font.now }
 {
-    2 * i128::from(number_or(ONE, font.value(Key::BlueFuzz))) + i128::from(ONE)
+    2 * i128::from(number_or(BILLION, font.value(Key::BlueFuzz))) + i128::from(BILLION)
 }
 
 /// BlueScale.

@@ -14,13 +14,9 @@ ghost use Rattle.t1_rules.specs.Private.StepTests.{IsCommand, breaks_by_count, b
 use crate::mask::Mask;
 use crate::rule::Rule;
 use crate::watch::Watch;
-use t1_char::{CharToken, Command, Edition, OthersubrCall, Step, cut_quotient};
-
-/// The greatest absolute value of an argument and of a quotient, 32000, in units of 1/65536.
-const GREATEST: i64 = 32000 * 65536;
-
-/// How many numbers a stack holds.
-const FULL: usize = 24;
+use t1_char::{
+    CharToken, Command, Edition, GREATEST, MOST_NUMBERS, OthersubrCall, Step, cut_quotient,
+};
 
 /// Watches for C01 to C09, which a step alone decides.
 #[derive(Clone, Copy, Debug, PartialEq, Eq)]
@@ -57,7 +53,7 @@ fn faults(token: CharToken, step: &Step) -> Mask
         has result n ≡ breaks argument_rules n before (step_view step.now) }
 {
     match token {
-        CharToken::Number(_) => Mask::empty().with(Rule::C06, step.stack.len() == FULL),
+        CharToken::Number(_) => Mask::empty().with(Rule::C06, step.stack.len() == MOST_NUMBERS),
         CharToken::Command(command) => command_faults(command, step),
         CharToken::Unknown(_) | CharToken::Unknown12(_) => Mask::empty().with(Rule::C03, true),
         CharToken::Cut => Mask::empty().with(Rule::C02, true),
@@ -78,7 +74,7 @@ fn command_faults(command: Command, step: &Step) -> Mask
         Command::Div => division_faults(step),
         Command::Pop => Mask::empty().with(
             Rule::C06,
-            (0 < step.waiting) & (step.stack.len() == FULL),
+            (0 < step.waiting) & (step.stack.len() == MOST_NUMBERS),
         ),
         Command::Callothersubr => Mask::empty().with(Rule::C04, step.stack.len() < 2),
         Command::Callsubr => Mask::empty().with(Rule::C04, step.stack.len() < 1),

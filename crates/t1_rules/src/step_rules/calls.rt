@@ -13,10 +13,9 @@ use crate::mask::Mask;
 use crate::rule::Rule;
 use crate::step_rules::tokens::is_finishing;
 use crate::watch::Watch;
-use t1_char::{CharToken, Edition, OthersubrCall, Step, is_callsubr, is_end, is_return};
-
-/// How many calls are open at most.
-const MOST_CALLS: usize = 10;
+use t1_char::{
+    CharToken, Edition, MOST_CALLS, OthersubrCall, Step, is_callsubr, is_end, is_return,
+};
 
 /// Watches for S01 to S04, GE01 and GE02, which a step alone decides.
 #[derive(Clone, Copy, Debug, PartialEq, Eq)]

@@ -1,7 +1,6 @@
-//! Sums and comparisons of numbers in units of 1/65536.
+//! Sums and comparisons of numbers in units of 1/65536, each with what the prover is told of it.
 
-ghost use Rattle.std.specs.Prelude.{◌≡◌, ◌+ℤ◌, ◌*ℤ◌, int_lt, not, pos};
-ghost use Rattle.std.specs.Int.{int_max, int_min};
+ghost use Rattle.std.specs.Prelude.{◌≡◌, ◌+ℤ◌, ◌*ℤ◌, not, pos};
 ghost use Rattle.std.specs.Ordering.{int_eq};
 ghost use Rattle.t1_rules.specs.Watches.{IsWithin, reach};
 ghost use Rattle.t1_rules.specs.Private.Sums.{SumFits};
@@ -24,22 +23,4 @@ pub(crate) fn differ(one: i64, other: i64) -> bool
     ensures { result ≡ not (int_eq one other) }
 {
     one != other
-}
-
-pub(crate) fn lesser(one: i64, other: i64) -> i64
-    ensures { result ≡ int_min one other }
-{
-    one.min(other)
-}
-
-pub(crate) fn greater(one: i64, other: i64) -> i64
-    ensures { result ≡ int_max one other }
-{
-    one.max(other)
-}
-
-pub(crate) fn is_below(one: i64, other: i64) -> bool
-    ensures { result ≡ int_lt one other }
-{
-    one < other
 }

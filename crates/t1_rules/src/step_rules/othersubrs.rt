@@ -14,7 +14,7 @@ use crate::mask::Mask;
 use crate::rule::Rule;
 use crate::step_rules::tokens::{ends_flex, gives_flex_point, replaces_hints, starts_flex};
 use crate::watch::Watch;
-use t1_char::{CharToken, Command, Edition, OthersubrCall, Step, natural};
+use t1_char::{CharToken, Command, Edition, OthersubrCall, Step, UNIT, natural};
 
 /// Watches for O01 to O04, which a step alone decides.
 #[derive(Clone, Copy, Debug, PartialEq, Eq)]
@@ -128,6 +128,3 @@ fn is_counter_control(number: i64) -> bool
 {
     (number == 12 * UNIT) | (number == 13 * UNIT)
 }
-
-/// 1 in units of 1/65536.
-const UNIT: i64 = 65536;

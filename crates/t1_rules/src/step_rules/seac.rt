@@ -20,6 +20,7 @@ use crate::step_rules::stems::is_stem;
 use crate::step_rules::tokens::{closes, ends_flex, is_command, is_move, is_seac, starts_flex};
 use crate::watch::Watch;
 use t1_char::{CharToken, Edition, OthersubrCall, Step, natural};
+use t1_font::CODES;
 
 /// Watches for K01, K02 and K06.
 #[derive(Clone, Copy, Debug, PartialEq, Eq)]
@@ -148,7 +149,7 @@ fn seac_code(number: i32) -> Option<u8>
     ensures { result ≡ seac_code number }
 {
     match natural(i64::from(number)) {
-        Some(code) if code < 256 => Some(code as u8),
+        Some(code) if code < CODES => Some(code as u8),
         _ => None,
     }
 }

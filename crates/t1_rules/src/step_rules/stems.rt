@@ -11,27 +11,30 @@ ghost use Rattle.t1_char.specs.Steps.{StepView};
 ghost use Rattle.t1_char.specs.StepValues.{step_view};
 ghost use Rattle.t1_rules.specs.Mask.{has};
 ghost use Rattle.t1_rules.specs.StepRules.{breaks, stem_rules};
-ghost use Rattle.t1_rules.specs.StepRules.Stems.{are_unequal, has_no_width, has_one_edge, is_off_middle, is_stem, is_triple, lies_across, lower, one_overlaps, overlap, overlap_by, sets_unequal, stands_upright, stem_at, stems_meet, stems_of, two_overlap, twice_middle, upper};
+ghost use Rattle.t1_rules.specs.StepRules.Stems.{are_unequal, has_no_width, has_one_edge, is_off_middle, is_stem, is_triple, lies_across, lower, one_overlaps, overlap, overlap_by, sets_unequal, stands_upright, stem_at, stems_meet, stems_of, two_overlap, twice_middle, upper, most_stems};
 ghost use Rattle.t1_rules.specs.StepRules.Tokens.{is_command, is_line};
 ghost use Rattle.t1_rules.specs.Watches.{IsWithin, StemsStandFor, reach};
 ghost use Rattle.t1_rules.specs.Private.Stems.{IsQuietForStems, kept_after};
+ghost use Rattle.t1_char.specs.Stacks.{most_numbers};
 
 use crate::mask::Mask;
 use crate::rule::Rule;
-use crate::step_rules::numbers::{differ, greater, is_below, lesser, sum, twice};
+use crate::step_rules::numbers::{differ, sum, twice};
 use crate::step_rules::paths::draws;
 use crate::step_rules::tokens::{ends_flex, is_line, is_pop, replaces_hints, starts_flex};
 use crate::watch::Watch;
 use arrayvec::ArrayVec;
-use t1_char::{CharToken, Command, Edition, OthersubrCall, Step, is_callothersubr, is_callsubr};
+use t1_char::{
+    CharToken, Command, Edition, OthersubrCall, Step, UNIT, is_callothersubr, is_callsubr,
+};
 
 /// How many stems a hint set has at most, in each direction.
 const MOST_STEMS: usize = 96;
 
 /// The widths that stand for one edge, in units of 1/65536.
-const TOP_EDGE: i32 = -20 * 65_536;
+const TOP_EDGE: i64 = -20 * UNIT;
 
-const BOTTOM_EDGE: i32 = -21 * 65_536;
+const BOTTOM_EDGE: i64 = -21 * UNIT;
 
 /// A stem hint: where it begins, and how far it reaches from there, up or down, in units of 1/65536.
 #[derive(Clone, Copy, Debug, Default, PartialEq, Eq)]
@@ -203,14 +206,14 @@ impl Stem {
         ensures { result ≡ lower self }
     {
         let position = i64::from(self.position);
-        lesser(position, position + i64::from(self.width))
+        position.min(position + i64::from(self.width))
     }
 
     fn upper(self) -> i64
         ensures { result ≡ upper self }
     {
         let position = i64::from(self.position);
-        greater(position, position + i64::from(self.width))
+        position.max(position + i64::from(self.width))
     }
 
     /// Whether two stems share more than an edge; in the second edition one of one edge shares nothing.
@@ -235,7 +238,8 @@ impl Stem {
     fn has_one_edge(self) -> bool
         ensures { result ≡ has_one_edge self }
     {
-        (self.width == TOP_EDGE) | (self.width == BOTTOM_EDGE)
+        let width = i64::from(self.width);
+        (width == TOP_EDGE) | (width == BOTTOM_EDGE)
     }
 
     /// Twice the place of its middle.
@@ -257,10 +261,7 @@ impl Stem {
 fn spans_meet(one_lower: i64, one_upper: i64, other_lower: i64, other_upper: i64) -> bool
     ensures { result ≡ int_lt (int_max one_lower other_lower) (int_min one_upper other_upper) }
 {
-    is_below(
-        greater(one_lower, other_lower),
-        lesser(one_upper, other_upper),
-    )
+    one_lower.max(other_lower) < one_upper.min(other_upper)
 }
 
 /// Whether none of these rules speaks of a token, and it changes neither a hint set nor what was drawn.
@@ -298,7 +299,7 @@ fn is_triple(token: CharToken) -> bool
 
 /// The stem of two arguments.
 fn stem_at(step: &Step, place: usize) -> Stem
-    requires { place < 24 }
+    requires { place < most_numbers }
     ensures { result ≡ stem_at step.now.stack place }
 {
     Stem {
@@ -332,7 +333,7 @@ fn own_stems_meet(edition: Edition, token: CharToken, step: &Step, kept: &[Stem]
 #[inline(always)]
 fn keep_own(kept: &mut Stems, token: CharToken, step: &Step)
     requires token { step.now.token ≡ token }
-    ensures { kept.new.items ≡ take 96 (kept.old.items ++ stems_of (step_view step.now)) }
+    ensures { kept.new.items ≡ take most_stems (kept.old.items ++ stems_of (step_view step.now)) }
 {
     if is_triple(token) {
         keep(kept, &three_stems(step));
@@ -344,9 +345,10 @@ fn keep_own(kept: &mut Stems, token: CharToken, step: &Step)
 /// Keeps stems, as long as there are fewer than 96.
 #[inline(never)]
 fn keep(kept: &mut Stems, stems: &[Stem])
-    ensures { kept.new.items ≡ take 96 (kept.old.items ++ stems.now) }
+    ensures { kept.new.items ≡ take most_stems (kept.old.items ++ stems.now) }
 {
-    let _room = kept.try_extend_from_slice(first(kept.remaining_capacity(), stems));
+    // They fit: there are no more than there is room for.
+    let _fits = kept.try_extend_from_slice(first(kept.remaining_capacity(), stems));
 }
 
 /// The first stems, so many or all.

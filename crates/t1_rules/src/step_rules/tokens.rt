@@ -4,7 +4,8 @@ ghost use Rattle.std.specs.Prelude.{◌≡◌, true};
 ghost use Rattle.t1_char.specs.Arguments.{is_flex_end, is_flex_point, is_flex_start, is_hint_replacement, othersubr_call};
 ghost use Rattle.t1_char.specs.Effects.{is_finishing};
 ghost use Rattle.t1_char.specs.StepValues.{step_view};
-ghost use Rattle.t1_rules.specs.StepRules.Tokens.{clears, closes, is_command, is_hsbw, is_line, is_move, is_pop, is_seac, is_setcurrentpoint, sets_point, sets_width};
+ghost use Rattle.t1_rules.specs.StepRules.Tokens.{clears, closes, is_command, is_hsbw, is_line, is_move, is_pop, is_setcurrentpoint, sets_point, sets_width};
+ghost use Rattle.t1_char.specs.Seacs.{is_seac};
 
 use t1_char::{CharToken, Command, OthersubrCall, Step, is_callothersubr};
 

@@ -1,4 +1,4 @@
-//! What commands and OtherSubrs are given.
+//! What commands and OtherSubrs are given: Type 1 Font Format 1.1, chapters 6 and 8.
 
 use super::steps_with;
 use std::alloc::Global;

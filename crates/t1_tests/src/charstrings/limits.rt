@@ -1,43 +1,20 @@
-//! Glyphs of as many steps as an edition looks at, of one less, and of more.
+//! Glyphs of as many steps as an edition looks at, of one less, and of more. No chapter of the standard has the limit.
 
-use super::machines::{Lines, told_in};
-use super::{steps_in, trace_of};
-use crate::fonts::{font_of, long_glyph, opened};
-use std::alloc::{AllocError, Global};
+use super::machines::{Lines, told_of};
+use super::{steps_of, trace_of};
+use std::alloc::Global;
 use std::test::Fail;
 use t1_char::Edition;
-use t1_font::{Font, Unread};
-use t1_samples::Sample;
+use t1_font::Unread;
+use t1_samples::{Sample, long_glyph};
 
-/// What is asked of a long glyph.
-#[derive(Clone, Copy)]
-enum Asked {
-    /// How many steps are listed, and the line of the last.
-    List,
-    /// What a machine answers behind the steps, three times, with the count of calls.
-    Ends,
-}
-
-fn told_of(
-    alloc: Global,
-    sample: &Sample,
-    edition: Edition,
-    asked: Asked,
-) -> Result<String, Unread> {
-    let mut file = opened(alloc, sample)?;
-    let font = font_of(alloc, &mut file)?;
-    Ok(match asked {
-        Asked::List => end_of(alloc, &font, edition)?,
-        Asked::Ends => told_in(alloc, &font, edition, Lines::Ends)?,
-    })
-}
-
-fn end_of(alloc: Global, font: &Font<'_>, edition: Edition) -> Result<String, AllocError> {
-    let steps = steps_in(alloc, font, edition)?;
+/// How many steps of a sample's second glyph are listed, and the line of the last.
+fn end_of_list(alloc: Global, sample: &Sample, edition: Edition) -> Result<String, Unread> {
+    let steps = steps_of(alloc, sample, edition)?;
     let count = steps.len();
     let (_, last) = steps.as_slice().split_at(count.saturating_sub(1));
     let line = trace_of(alloc, last)?;
-    format!(in alloc; "{count} listed, {line}")
+    Ok(format!(in alloc; "{count} listed, {line}")?)
 }
 
 /// The edition, how many calls, how many times dotsection more, and what is listed.
@@ -53,8 +30,8 @@ const LISTED: &[(Edition, usize, usize, &str)] = &[
 fn steps_are_listed_to_the_first_past_the_limit(rt: HostRuntime) -> Result<(), Fail> {
     for (edition, calls, more, want) in LISTED {
         let sample = long_glyph(rt.alloc(), *calls, *more)?;
-        let told = told_of(rt.alloc(), &sample, *edition, Asked::List)?;
-        assert_eq!(rt; told.as_str(), *want);
+        let listed = end_of_list(rt.alloc(), &sample, *edition)?;
+        assert_eq!(rt; listed.as_str(), *want);
     }
     Ok(())
 }
@@ -82,7 +59,7 @@ const ENDED: &[(Edition, usize, usize, &str)] = &[
 fn the_end_and_the_limit_are_told_again(rt: HostRuntime) -> Result<(), Fail> {
     for (edition, calls, more, answer) in ENDED {
         let sample = long_glyph(rt.alloc(), *calls, *more)?;
-        let told = told_of(rt.alloc(), &sample, *edition, Asked::Ends)?;
+        let told = told_of(rt.alloc(), &sample, *edition, Lines::Ends)?;
         let want = format!(in rt.alloc(); "{answer}{answer}{answer}")?;
         assert_eq!(rt; told.as_str(), want.as_str());
     }

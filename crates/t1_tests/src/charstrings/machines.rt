@@ -1,12 +1,12 @@
-//! A glyph that is executed one step a call: its steps are those of the list, and the end is answered again.
+//! A glyph that is executed one step a call: its steps are those of the list, and the end is answered again. Type 1
+//! Font Format 1.1, chapter 6.
 
 use super::{glyph_count, push_line, push_state, with_subrs};
-use crate::fonts::{font_of, opened};
 use std::alloc::{AllocError, Global};
 use std::test::Fail;
 use t1_char::{Answer, Edition, Machine, Numbers, Step, Turn};
 use t1_font::{Font, Unread};
-use t1_samples::Sample;
+use t1_samples::{Sample, font_of, opened};
 
 /// What is written of steps.
 #[derive(Clone, Copy)]
@@ -19,43 +19,31 @@ pub(super) enum Lines {
     Passed,
 }
 
-/// The states of the steps of a glyph with this charstring, as a machine tells them.
-pub(super) fn states_told(
-    alloc: Global,
-    subrs: &[(u32, &[u8])],
-    glyph: &[u8],
-) -> Result<String, Unread> {
-    told_with(alloc, subrs, glyph, Lines::States)
-}
-
-/// The trace of a glyph with this charstring, as a machine tells it.
-pub(super) fn trace_told(
-    alloc: Global,
-    subrs: &[(u32, &[u8])],
-    glyph: &[u8],
-) -> Result<String, Unread> {
-    told_with(alloc, subrs, glyph, Lines::Trace)
-}
-
-fn told_with(
+/// What a machine tells of a glyph with this charstring.
+pub(super) fn told_with(
     alloc: Global,
     subrs: &[(u32, &[u8])],
     glyph: &[u8],
     lines: Lines,
 ) -> Result<String, Unread> {
     let sample = with_subrs(alloc, subrs)?.glyph(b"A", glyph)?;
-    told_of(alloc, &sample, lines)
+    told_of(alloc, &sample, Edition::One, lines)
 }
 
 /// What a machine tells of a sample's second glyph.
-pub(super) fn told_of(alloc: Global, sample: &Sample, lines: Lines) -> Result<String, Unread> {
+pub(super) fn told_of(
+    alloc: Global,
+    sample: &Sample,
+    edition: Edition,
+    lines: Lines,
+) -> Result<String, Unread> {
     let mut file = opened(alloc, sample)?;
     let font = font_of(alloc, &mut file)?;
-    Ok(told_in(alloc, &font, Edition::One, lines)?)
+    Ok(told_in(alloc, &font, edition, lines)?)
 }
 
-/// What is told of the second glyph.
-pub(super) fn told_in(
+/// What is told of a font's second glyph.
+fn told_in(
     alloc: Global,
     font: &Font<'_>,
     edition: Edition,

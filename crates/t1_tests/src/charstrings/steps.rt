@@ -1,10 +1,11 @@
-//! Steps of glyphs: calls, returns, ends, and the two facts of each step.
+//! Steps of glyphs: calls, returns, ends, and the two facts of each step. Type 1 Font Format 1.1, chapter 6.
 
 use super::machines::{Lines, told_of};
 use super::{Case, assert_states, assert_traces, states_of, steps_of, steps_with, trace_of};
 use std::alloc::{AllocError, Global};
 use std::process::Abort;
 use std::test::Fail;
+use t1_char::Edition;
 use t1_samples::{Charstrings, Sample};
 
 /// A Subr that calls itself.
@@ -91,12 +92,12 @@ fn calling(alloc: Global, charstrings: Charstrings, subr: &[u8]) -> Result<Sampl
 
 /// The list of a sample's second glyph has these states, and a machine tells them too.
 fn assert_both(rt: &impl Abort, alloc: Global, sample: &Sample, want: &str) -> Result<(), Fail> {
-    let steps = steps_of(alloc, sample)?;
+    let steps = steps_of(alloc, sample, Edition::One)?;
     assert_eq!(rt; states_of(alloc, &steps)?.as_str(), want);
-    let told = told_of(alloc, sample, Lines::States)?;
+    let told = told_of(alloc, sample, Edition::One, Lines::States)?;
     assert_eq!(rt; told.as_str(), want, "by a machine");
     let trace = trace_of(alloc, &steps)?;
-    let told = told_of(alloc, sample, Lines::Trace)?;
+    let told = told_of(alloc, sample, Edition::One, Lines::Trace)?;
     assert_eq!(rt; told.as_str(), trace.as_str(), "by a machine");
     Ok(())
 }
@@ -114,9 +115,9 @@ fn enciphered_fonts(rt: HostRuntime) -> Result<(), Fail> {
     let want = "1 - 0\n2 - 500\n3 - hsbw\n4 - 5\n5 - callsubr\n6 5 return\n7 - endchar\n";
     for charstrings in CIPHERS {
         let sample = calling(rt.alloc(), *charstrings, b"\x0b")?;
-        let steps = steps_of(rt.alloc(), &sample)?;
+        let steps = steps_of(rt.alloc(), &sample, Edition::One)?;
         assert_eq!(rt; trace_of(rt.alloc(), &steps)?.as_str(), want);
-        let told = told_of(rt.alloc(), &sample, Lines::Trace)?;
+        let told = told_of(rt.alloc(), &sample, Edition::One, Lines::Trace)?;
         assert_eq!(rt; told.as_str(), want, "by a machine");
     }
     Ok(())

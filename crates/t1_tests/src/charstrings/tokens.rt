@@ -1,4 +1,4 @@
-//! Tokens of charstrings, as the standard writes them.
+//! Tokens of charstrings: Type 1 Font Format 1.1, chapter 6.
 
 ghost use Rattle.std.specs.Prelude.{negsuc, pos, ◌≤ℤ◌};
 

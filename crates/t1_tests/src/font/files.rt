@@ -1,4 +1,5 @@
-//! Whole files: the worked font as PFB and PFA, with its section in both forms.
+//! Whole files: the worked font as PFB and PFA, with its section in both forms. Technical Note 5040, and Type 1 Font
+//! Format 1.1, chapter 7.
 
 use super::{Counts, Marks, glyphs_of};
 use crate::fonts::Texts;

@@ -1,4 +1,4 @@
-//! The number of glyphs: 65,535 are read, and one more is refused at its name.
+//! The number of glyphs: 65,535 are read, and one more is refused at its name. No chapter of the standard has this limit.
 
 use super::{NO_CLEAR, refusal_of};
 use crate::fonts::Texts;

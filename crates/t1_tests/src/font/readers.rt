@@ -1,4 +1,4 @@
-//! Each reader of a font, past its end too.
+//! Each reader of a font, past its end too: Type 1 Font Format 1.1, chapters 2 and 5.
 
 use super::{Counts, Marks, Value};
 use crate::fonts::Texts;

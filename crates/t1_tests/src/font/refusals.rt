@@ -1,4 +1,4 @@
-//! The texts of refusals.
+//! The texts of refusals, which no chapter of the standard has.
 
 use std::test::Fail;
 use t1_font::Refusal;

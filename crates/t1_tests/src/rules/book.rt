@@ -1,4 +1,4 @@
-//! The book of rules: numbers, codes and texts.
+//! The book of rules: numbers, codes and texts, which no chapter of the standard has.
 
 use t1_rules::{Rule, rule_text};
 

@@ -1,24 +1,24 @@
 //! Rules on the CharStrings: Type 1 Font Format 1.1, chapter 2.
 
-use super::{Part, assert_lines};
+use super::{Part, assert_faults};
 use std::test::Fail;
 
-/// The glyphs in the CharStrings, and the lines of a font with them.
+/// The glyphs in the CharStrings, and the faults of a font with them.
 const GIVEN: &[(&str, &str)] = &[
     ("/.notdef 0 RD  ND /A 0 RD  ND /B 0 RD  ND", ""),
-    ("/A 0 RD  ND", "CharStrings 0 F09\n"),
+    ("/A 0 RD  ND", "CharStrings 0 F09"),
     (
         "/.notdef 0 RD  ND /A 0 RD  ND /A 0 RD  ND",
-        "CharStrings 1 F10\n",
+        "CharStrings 1 F10",
     ),
     (
         "/A 0 RD  ND /B 0 RD  ND /A 0 RD  ND",
-        "CharStrings 0 F09\nCharStrings 0 F10\n",
+        "CharStrings 0 F09, CharStrings 0 F10",
     ),
 ];
 
 /// Glyphs count from 0, in the order of their first appearance.
 #[test]
 fn glyphs_given_twice(rt: HostRuntime) -> Result<(), Fail> {
-    assert_lines(&rt, rt.alloc(), Part::Glyphs, GIVEN)
+    assert_faults(&rt, rt.alloc(), Part::Glyphs, GIVEN)
 }

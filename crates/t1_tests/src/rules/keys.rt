@@ -1,4 +1,4 @@
-//! What the keys of a report are called.
+//! What the keys of a report are called: Type 1 Font Format 1.1, chapters 2 and 5.
 
 use t1_rules::key_text;
 

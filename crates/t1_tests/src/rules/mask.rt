@@ -1,4 +1,4 @@
-//! Sets of rules.
+//! Sets of rules, which no chapter of the standard has.
 
 use t1_rules::{Mask, Rule, rule_code};
 

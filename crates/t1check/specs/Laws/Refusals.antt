@@ -6,7 +6,7 @@ use Rattle.t1_font.specs.declared.unread.Unread.{Unread}
 use Rattle.t1_font.specs.declared.unread.Unread.TheVariants.{Memory}
 use Rattle.t1check.specs.declared.refusals.Reason.{Reason}
 use Rattle.t1check.specs.declared.refusals.Reason.TheVariants.{TooLarge, Font}
-use Rattle.t1check.specs.FontFiles.{font_of}
+use Rattle.t1check.specs.FontFiles.{font_of, largest_file}
 
 -- Of a file, which is too large or not: E05, or of its first part that can't be read.
 abbrev pub IsOfSized : Bool → List ℕ → Reason → Type 0
@@ -14,7 +14,7 @@ IsOfSized true bytes reason = reason ≡ TooLarge
 IsOfSized false bytes reason = (unread : Unread) × ((reason ≡ Font unread) × IsOfJoined (joined_of bytes) unread)
 
 abbrev pub IsOfFile : List ℕ → Reason → Type 0
-IsOfFile bytes reason = IsOfSized (nat_lt 16777216 (length bytes)) bytes reason
+IsOfFile bytes reason = IsOfSized (nat_lt largest_file (length bytes)) bytes reason
 
 -- A file is refused for its size or for the first part that can't be read, by a refusal of that part.
 abbrev pub RefusedByPart : Type 0

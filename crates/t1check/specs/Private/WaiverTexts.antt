@@ -1,7 +1,7 @@
 -- The text of waivers, read or not.
 use Rattle.std.specs.Prelude.{◌≡◌, ◌≤◌, ℕ, Bool, true, List, length, Option, Err}
 use Rattle.t1_io.specs.Devices.{SourceState}
-use Rattle.t1_report.specs.Waivers.{waivers_of}
+use Rattle.t1_report.specs.Waivers.{waivers_of, largest_waivers}
 use Rattle.t1check.specs.declared.refusals.WaiverRefusal.TheVariants.{PastLimit}
 use Rattle.t1check.specs.declared.reading.Input.{Input}
 use Rattle.t1check.specs.declared.reading.Input.TheVariants.{Bytes, TooLarge, Broken, NoMemory}
@@ -9,7 +9,7 @@ use Rattle.t1check.specs.Waived.{AreWaived, as_waivers, IsHeard, IsUnbroken}
 
 -- The text of waivers, few enough bytes, or none where none are asked for; or why there is none.
 abbrev pub IsText : Bool → Option (List ℕ) → List ℕ → Type 0
-IsText asked text bytes = (length bytes ≤ 1048576) × AreWaived asked text (as_waivers (waivers_of bytes))
+IsText asked text bytes = (length bytes ≤ largest_waivers) × AreWaived asked text (as_waivers (waivers_of bytes))
 
 -- What reading that text gives.
 abbrev pub GivesText : Bool → SourceState → SourceState → Input → Type 0

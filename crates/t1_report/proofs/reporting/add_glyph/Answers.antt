@@ -62,7 +62,7 @@ loop-step-preserved c =
                 ∙ sym (at_step font (glyph + 1) step.number glyph place n refl is.number c.requires.glyph))
                 ∙ ap (λ name. is_broken font (glyph + 1) step.number n && not (is_waived c.args.waivers.now name n)) c.glyph_name-name.ensures
                 ∙ sym (told_in_glyph font c.args.waivers.now (glyph + 1) glyph step.number n refl c.requires.glyph);
-            path = c.as_slice.ensures.value ∙ sym (path_at_step font.value (glyph + 1) step.number glyph place refl is.number c.requires.glyph ∙ ap path_of_step is.there);
+            path = sym (path_at_step font.value (glyph + 1) step.number glyph place refl is.number c.requires.glyph ∙ ap path_of_step is.there);
           })
           (subst (λ (s : ℕ). IsFront font c.args.waivers.now (glyph + 1) s 0 (faults_of c.loop-step.faults.items)) (sym is.number) c.loop-step.invariant.front));
     }

@@ -27,7 +27,7 @@ loop-index-preserved c =
           (c.in_ok-add_faults.ensures (checked c.args.font.now edition) c.args.waivers.now
           (record {
             rules = λ n. c.font_faults.ensures n ∙ sym (told_in_font (checked c.args.font.now edition) c.args.waivers.now (65536 * c.from.result + c.loop-index.index) n ∙ ap (λ (s : ℕ). is_broken (checked c.args.font.now edition) 0 s n) step ∙ in_font (checked c.args.font.now edition) c.args.key c.loop-index.index n less);
-            path = sym (no_path c.args.font.now (65536 * c.from.result + c.loop-index.index));
+            path = c.new-path.ensures ∙ sym (no_path c.args.font.now (65536 * c.from.result + c.loop-index.index));
           })
           (subst (λ (s : ℕ). IsFront (checked c.args.font.now edition) c.args.waivers.now 0 s 0 (faults_of c.loop-index.faults.items)) (sym step) (c.loop-index.invariant.front edition front)));
     }

@@ -19,6 +19,6 @@ returns c =
     (c.in_ok-add_faults.ensures font waivers
     (record {
       rules = λ n. c.check_waiver-check.ensures.rules n ∙ sym (told_of_waiver font waivers (c.len.result + 1) (c.args.place + 1) n unit);
-      path = sym (no_path_behind font.value (c.len.result + 1) (c.args.place + 1) (omega (arith, unit)));
+      path = c.new-path.ensures ∙ sym (no_path_behind font.value (c.len.result + 1) (c.args.place + 1) (omega (arith, unit)));
     })
     (subst (λ (u : ℕ). IsFront font waivers u (c.args.place + 1) 0 (faults_of c.args.faults.now.items)) (sym unit) c.requires.front)))

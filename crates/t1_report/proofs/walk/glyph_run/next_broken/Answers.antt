@@ -67,7 +67,7 @@ returns-then-has_rules-clause-found c =
     let agrees = step_agrees font c.args.unit glyph n step c.args.sidebearings.now c.broken_at-rules.result c.requires.unit c.requires.run.there turn.told.listed c.requires.sidebearings c.requires.edition
     (λ k. c.broken_at-rules.ensures.broken (take n (steps_of font.value glyph)) next k) in
     found_at font c.args.unit glyph (c.args.machine.now.counted + 1) n step _ c.requires.run.there c.requires.unit turn.told.listed (omega (arith, c.loop-machine.invariant.least, turn.least)) turn.stands.quiet
-    refl refl (c.copy_of.ensures ∙ c.as_slice.ensures.value) agrees
+    refl refl c.copy_of.ensures agrees
 
 pub returns-then-has_rules-clause-counted : goal.returns-then-has_rules-clause-counted
 returns-then-has_rules-clause-counted c = (turn_broken c).told.counted_is ∙ sym (turn_broken c).told.listed.number

@@ -1,5 +1,5 @@
 use Rattle.std.proofs.Common.{subst}
-use Rattle.t1_report.specs.Checked.{checked}
+use Rattle.t1_report.specs.Private.Searches.{Aim}
 use Rattle.t1_report.specs.Reports.{IsTold}
 use Rattle.t1_report.proofs.Hands.{hand_begun}
 use Rattle.t1_report.proofs.walk.course.Course.from.Goals as goal
@@ -9,5 +9,5 @@ returns-clause-course c =
     record {
       searches = c.from.ensures.search;
       hand = hand_begun c.from.result _ c.args.mark c.empty.ensures c.from.ensures.unit
-          (λ p is at past. c.from.ensures.behind p (subst (λ w. IsTold (checked c.args.font.now c.args.sidebearings.now.edition) w p) c.from.ensures.waivers (subst (λ font. IsTold font c.from.result.waivers.now p) c.from.ensures.font is)) at past);
+          (λ p is at past. c.from.ensures.behind p (subst (λ (aim : Aim). IsTold aim.font aim.waivers p) c.from.ensures.aim is) at past);
     }

@@ -1,6 +1,5 @@
 use Rattle.std.proofs.Common.{◌+◌, ◌<◌, length, ap, sym, subst, ◌∙◌}
-use Rattle.t1_report.specs.Checked.{CheckedFont}
-use Rattle.t1_report.specs.Private.Searches.{checked_in}
+use Rattle.t1_report.specs.Private.Searches.{Aim, checked_in}
 use Rattle.t1_report.specs.Private.Courses.{HasInHand}
 use Rattle.t1_report.specs.Faults.{fault_value}
 use Rattle.t1_report.specs.Walks.{HasNoneLater, IsNext, turns_at, turns_in_all}
@@ -11,11 +10,10 @@ pub returns-in-Some-clause-next : goal.returns-in-Some-clause-next
 returns-in-Some-clause-next c =
     let now = c.loop-rule.self in
     let fault = c.fault_in-fault.result in
-    subst (λ waivers. IsNext (checked_in c.args.self.now.search) waivers c.args.self.now.mark (fault_value fault)) c.loop-rule.invariant.waivers
-    (subst (λ font. IsNext font now.search.waivers.now c.args.self.now.mark (fault_value fault)) c.loop-rule.invariant.font
+    subst (λ (aim : Aim). IsNext aim.font aim.waivers c.args.self.now.mark (fault_value fault)) c.loop-rule.invariant.aim
     (subst (λ mark. IsNext (checked_in now.search) now.search.waivers.now mark (fault_value fault)) c.loop-rule.invariant.mark
     (next_fault now.search now.found now.mark c.floor-floor.result c.in-Some.rule fault c.loop-rule.invariant.course.hand c.floor-floor.ensures c.in-Some.ensures
-    (record { number_is = c.fault_in-fault.ensures.number; unit_is = c.fault_in-fault.ensures.unit; step_is = c.fault_in-fault.ensures.step; rule_is = c.fault_in-fault.ensures.rule; path_is = c.fault_in-fault.ensures.path }))))
+    (record { number_is = c.fault_in-fault.ensures.number; unit_is = c.fault_in-fault.ensures.unit; step_is = c.fault_in-fault.ensures.step; rule_is = c.fault_in-fault.ensures.rule; path_is = c.fault_in-fault.ensures.path })))
 
 pub returns-in-Some-clause-turns : goal.returns-in-Some-clause-turns
 returns-in-Some-clause-turns c =
@@ -23,10 +21,7 @@ returns-in-Some-clause-turns c =
     let fault = c.fault_in-fault.result in
     turns_found now.search now.found now.mark c.in-Some.rule fault c.loop-rule.invariant.course.searches c.loop-rule.invariant.course.hand c.in-Some.ensures.is_in
     (record { number_is = c.fault_in-fault.ensures.number; unit_is = c.fault_in-fault.ensures.unit; step_is = c.fault_in-fault.ensures.step; rule_is = c.fault_in-fault.ensures.rule; path_is = c.fault_in-fault.ensures.path })
-    ∙ ap (λ font. turns_at font now.search.waivers.now now.search.from now.search.first fault.unit fault.step) c.loop-rule.invariant.font
-    ∙ ap (λ waivers. turns_at (checked_in c.args.self.now.search) waivers now.search.from now.search.first fault.unit fault.step) c.loop-rule.invariant.waivers
-    ∙ ap (λ from. turns_at (checked_in c.args.self.now.search) c.args.self.now.search.waivers.now from now.search.first fault.unit fault.step) c.loop-rule.invariant.from
-    ∙ ap (λ first. turns_at (checked_in c.args.self.now.search) c.args.self.now.search.waivers.now c.args.self.now.search.from first fault.unit fault.step) c.loop-rule.invariant.first
+    ∙ ap (λ (aim : Aim). turns_at aim.font aim.waivers aim.from aim.first fault.unit fault.step) c.loop-rule.invariant.aim
 
 pub returns-in-Some-clause-course : goal.returns-in-Some-clause-course
 returns-in-Some-clause-course c =
@@ -43,7 +38,7 @@ returns-in-Some-clause-course c =
 pub loop-rule-smaller : goal.loop-rule-smaller
 loop-rule-smaller c =
     let now = c.loop-rule.self in
-    fewer_places now.search c.next.new.self c.in-Some-next.found c.loop-rule.invariant.course.searches c.next.ensures.font c.in-Some-next.ensures.found c.in-Some-next.ensures.behind
+    fewer_places now.search c.next.new.self c.in-Some-next.found c.loop-rule.invariant.course.searches (ap (λ (aim : Aim). aim.font) c.next.ensures.aim) c.in-Some-next.ensures.found c.in-Some-next.ensures.behind
 
 pub loop-rule-preserved : goal.loop-rule-preserved
 loop-rule-preserved c =
@@ -52,31 +47,24 @@ loop-rule-preserved c =
       course = record {
         searches = c.next.ensures.search;
         hand = hand_found now.search c.next.new.self now.found c.in-Some-next.found now.mark c.floor-floor.result c.loop-rule.invariant.course.hand c.floor-floor.ensures c.in_default.ensures
-            c.next.ensures.font c.next.ensures.waivers c.in-Some-next.ensures.found c.in-Some-next.ensures.behind;
+            (ap (λ (aim : Aim). aim.font) c.next.ensures.aim) (ap (λ (aim : Aim). aim.waivers) c.next.ensures.aim) c.in-Some-next.ensures.found c.in-Some-next.ensures.behind;
       };
-      font = c.next.ensures.font ∙ c.loop-rule.invariant.font;
-      waivers = c.next.ensures.waivers ∙ c.loop-rule.invariant.waivers;
-      from = c.next.ensures.from ∙ c.loop-rule.invariant.from;
-      first = c.next.ensures.first ∙ c.loop-rule.invariant.first;
+      aim = c.next.ensures.aim ∙ c.loop-rule.invariant.aim;
       mark = c.loop-rule.invariant.mark;
     }
 
 pub returns-in-None-clause-next : goal.returns-in-None-clause-next
 returns-in-None-clause-next c =
     let now = c.loop-rule.self in
-    subst (λ waivers. HasNoneLater (checked_in c.args.self.now.search) waivers c.args.self.now.mark) c.loop-rule.invariant.waivers
-    (subst (λ font. HasNoneLater font now.search.waivers.now c.args.self.now.mark) c.loop-rule.invariant.font
+    subst (λ (aim : Aim). HasNoneLater aim.font aim.waivers c.args.self.now.mark) c.loop-rule.invariant.aim
     (subst (λ mark. HasNoneLater (checked_in now.search) now.search.waivers.now mark) c.loop-rule.invariant.mark
-    (hand_none now.search now.found now.mark c.floor-floor.result c.loop-rule.invariant.course.hand c.floor-floor.ensures c.in_default.ensures c.in-None.ensures.found)))
+    (hand_none now.search now.found now.mark c.floor-floor.result c.loop-rule.invariant.course.hand c.floor-floor.ensures c.in_default.ensures c.in-None.ensures.found))
 
 pub returns-in-None-clause-turns : goal.returns-in-None-clause-turns
 returns-in-None-clause-turns c =
     let new = c.next.new.self in
-    turns_over new c.next.ensures.search (subst (λ (font : CheckedFont). length font.value.glyphs + 1 < new.unit) (sym c.next.ensures.font) c.in-None.ensures.behind)
-    ∙ ap (λ (font : CheckedFont). turns_in_all font new.waivers.now new.from new.first) (c.next.ensures.font ∙ c.loop-rule.invariant.font)
-    ∙ ap (λ waivers. turns_in_all (checked_in c.args.self.now.search) waivers new.from new.first) (c.next.ensures.waivers ∙ c.loop-rule.invariant.waivers)
-    ∙ ap (λ from. turns_in_all (checked_in c.args.self.now.search) c.args.self.now.search.waivers.now from new.first) (c.next.ensures.from ∙ c.loop-rule.invariant.from)
-    ∙ ap (λ first. turns_in_all (checked_in c.args.self.now.search) c.args.self.now.search.waivers.now c.args.self.now.search.from first) (c.next.ensures.first ∙ c.loop-rule.invariant.first)
+    turns_over new c.next.ensures.search (subst (λ (aim : Aim). length aim.font.value.glyphs + 1 < new.unit) (sym c.next.ensures.aim) c.in-None.ensures.behind)
+    ∙ ap (λ (aim : Aim). turns_in_all aim.font aim.waivers aim.from aim.first) (c.next.ensures.aim ∙ c.loop-rule.invariant.aim)
 
 pub returns-in-None-clause-course : goal.returns-in-None-clause-course
 returns-in-None-clause-course c =
@@ -85,7 +73,6 @@ returns-in-None-clause-course c =
     record {
       searches = c.next.ensures.search;
       hand = hand_empty new _ now.mark c.empty-self.ensures
-          (subst (λ waivers. HasNoneLater (checked_in new) waivers now.mark) (sym c.next.ensures.waivers)
-          (subst (λ font. HasNoneLater font now.search.waivers.now now.mark) (sym c.next.ensures.font)
-          (hand_none now.search now.found now.mark c.floor-floor.result c.loop-rule.invariant.course.hand c.floor-floor.ensures c.in_default.ensures c.in-None.ensures.found)));
+          (subst (λ (aim : Aim). HasNoneLater aim.font aim.waivers now.mark) (sym c.next.ensures.aim)
+          (hand_none now.search now.found now.mark c.floor-floor.result c.loop-rule.invariant.course.hand c.floor-floor.ensures c.in_default.ensures c.in-None.ensures.found));
     }

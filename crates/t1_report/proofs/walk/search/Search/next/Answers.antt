@@ -1,7 +1,6 @@
 use Rattle.std.proofs.Common.{◌<◌, ◌∙◌, length, sym, subst, arith, ◌+◌}
 use Rattle.t1_report.proofs.Units.{next_passed, none_past, over_past}
-use Rattle.t1_report.specs.Checked.{CheckedFont}
-use Rattle.t1_report.specs.Private.Searches.{checked_in, step_of_part, TellsNoneFrom}
+use Rattle.t1_report.specs.Private.Searches.{Aim, checked_in, step_of_part, TellsNoneFrom}
 use Rattle.t1_report.proofs.walk.search.Search.next.Goals as goal
 
 pub loop-self-preserved : goal.loop-self-preserved
@@ -11,13 +10,9 @@ loop-self-preserved c =
     let new = c.next_unit.new.self in
     record {
       search = c.next_unit.ensures.search;
-      font = c.next_unit.ensures.font ∙ c.next_in_unit.ensures.font ∙ c.loop-self.invariant.font;
-      waivers = c.next_unit.ensures.waivers ∙ c.next_in_unit.ensures.waivers ∙ c.loop-self.invariant.waivers;
-      from = c.next_unit.ensures.from ∙ c.next_in_unit.ensures.from ∙ c.loop-self.invariant.from;
-      first = c.next_unit.ensures.first ∙ c.next_in_unit.ensures.first ∙ c.loop-self.invariant.first;
+      aim = c.next_unit.ensures.aim ∙ c.next_in_unit.ensures.aim ∙ c.loop-self.invariant.aim;
       passed = next_passed (checked_in s) s.waivers.now s.unit (step_of_part s.part) now.unit (step_of_part now.part) new.unit (step_of_part new.part) c.loop-self.invariant.passed
-          (subst (λ waivers. TellsNoneFrom (checked_in s) waivers now.unit (step_of_part now.part)) c.loop-self.invariant.waivers
-          (subst (λ font. TellsNoneFrom font now.waivers.now now.unit (step_of_part now.part)) c.loop-self.invariant.font c.in_default.ensures.found))
+          (subst (λ (aim : Aim). TellsNoneFrom aim.font aim.waivers now.unit (step_of_part now.part)) c.loop-self.invariant.aim c.in_default.ensures.found)
           (omega (arith, c.next_unit.ensures.unit, c.next_in_unit.ensures.unit)) c.next_unit.ensures.start;
     }
 
@@ -26,4 +21,4 @@ returns-clause-found c =
     let s = c.args.self.now in
     let now = c.loop-self.self in
     none_past (checked_in s) s.waivers.now s.unit (step_of_part s.part) now.unit (step_of_part now.part) c.loop-self.invariant.passed
-    (subst (λ (f : CheckedFont). length f.value.glyphs + 1 < now.unit) c.loop-self.invariant.font (over_past (checked_in now) now.waivers.now now.from now.first now.unit now.passed now.checked now.part c.loop-self.invariant.search.part_is (sym c.loop-self-test.ensures)))
+    (subst (λ (aim : Aim). length aim.font.value.glyphs + 1 < now.unit) c.loop-self.invariant.aim (over_past (checked_in now) now.waivers.now now.from now.first now.unit now.passed now.checked now.part c.loop-self.invariant.search.part_is (sym c.loop-self-test.ensures)))

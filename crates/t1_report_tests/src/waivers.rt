@@ -1,0 +1,266 @@
+//! Waivers: how they are read, what they leave of a report, and walks among those that aren't used. No chapter of
+//! the standard has them.
+
+ghost use Rattle.t1_rules.specs.Components.{AreOf};
+
+use crate::reports::lines_of;
+use crate::walks::{FIRST, FOUR_FAULTS, both, six_answers};
+use std::alloc::{AllocError, Global};
+use std::test::Fail;
+use t1_char::Edition;
+use t1_font::{Font, OpenFont, Unread};
+use t1_report::{Mark, WaiverError, Waivers};
+use t1_rules::{Rule, Sidebearings, rule_code};
+use t1_samples::{Sample, font_of, opened};
+
+/// The pairs of waivers, each with a bar behind it; a mark stands in front where one isn't among them.
+fn pairs_of(alloc: Global, waivers: &Waivers<'_>) -> Result<Vec<u8>, AllocError> {
+    let mut text = Vec::new(alloc);
+    for place in 0..waivers.len() {
+        if let Some((name, rule)) = waivers.pair(place) {
+            if !waivers.waives(name, rule) || waivers.waives(name, Rule::U01) {
+                text.push(b'!')?;
+            }
+            text.extend_from_slice(name)?;
+            text.push(b' ')?;
+            text.extend_from_slice(rule_code(rule).as_bytes())?;
+            text.push(b'|')?;
+        }
+    }
+    if waivers.pair(waivers.len()).is_some() {
+        text.push(b'!')?;
+    }
+    Ok(text)
+}
+
+/// The pairs that a text is read as.
+fn pairs_in(alloc: Global, text: &[u8]) -> Result<Option<Vec<u8>>, AllocError> {
+    if text.len() > 1_048_576 {
+        return Ok(None);
+    }
+    match Waivers::read(alloc, text) {
+        Ok(waivers) => Ok(Some(pairs_of(alloc, &waivers)?)),
+        Err(WaiverError::Malformed) => Ok(None),
+        Err(WaiverError::Memory) => Err(AllocError),
+    }
+}
+
+/// Texts that are read, and the pairs in them.
+const READ: &[(&[u8], &[u8])] = &[
+    (b"", b""),
+    (b"\n\n", b""),
+    (b"\r", b""),
+    (b"\r\n\r\n", b""),
+    (b"A GE01", b"A GE01|"),
+    (b"A GE01\n", b"A GE01|"),
+    (b"A GE01\r\n", b"A GE01|"),
+    (b"A GE01\r", b"A GE01|"),
+    (b"A GE01\nA C05\n\nB C05\nA C05\n", b"A GE01|A C05|B C05|"),
+    (b" GE01\n", b" GE01|"),
+    (b"\x80\xff GE01", b"\x80\xff GE01|"),
+    (b"A C01\nA L01", b"A C01|A L01|"),
+    (b"A K07\nA W01", b"A K07|A W01|"),
+];
+
+#[test]
+fn texts_that_are_waivers(rt: HostRuntime) -> Result<(), Fail> {
+    for (text, pairs) in READ {
+        let found = pairs_in(rt.alloc(), text)?.ok_or("waivers")?;
+        assert_eq!(rt; found.as_slice(), *pairs, "{text:?}");
+    }
+    let none = pairs_of(rt.alloc(), &Waivers::none())?;
+    assert!(rt; none.is_empty() && Waivers::none().len() == 0);
+    Ok(())
+}
+
+/// Texts that aren't waivers.
+const MALFORMED: &[&[u8]] = &[
+    b"A",
+    b" ",
+    b"A ",
+    b"A F01",
+    b"A Z11",
+    b"A U01",
+    b"A C10",
+    b"A ge01",
+    b"A GE01 ",
+    b"A  GE01",
+    b"A\tGE01",
+    b"A\0GE01",
+    b"/A GE01",
+    b"A B GE01",
+    b"A GE01\r\r\n",
+    b"A GE01\nB\n",
+    b"A GE01\n\0\n",
+    b"A GE01,",
+];
+
+#[test]
+fn texts_that_are_no_waivers(rt: HostRuntime) -> Result<(), Fail> {
+    for text in MALFORMED {
+        assert!(rt; pairs_in(rt.alloc(), text)?.is_none(), "{text:?}");
+    }
+    Ok(())
+}
+
+/// The charstring of glyph A, waivers, the report, and how often a walk asks machines: of the glyph, and up to
+/// the first use of each waiver. The glyph `.notdef` takes five turns.
+const REPORTS: &[(&[u8], &[u8], &str, u64)] = &[
+    (b"", b"A GE01\n", "", 8),
+    (
+        b"",
+        b"A GE01\nA C05\nB C05\nA C05\n",
+        "1: waiver A C05 U01 waiver not used\n2: waiver B C05 U01 waiver not used\n",
+        10,
+    ),
+    (
+        FOUR_FAULTS,
+        b"A C05",
+        "1: glyph A - 3 C07 number out of range\n\
+2: glyph A - 3 W01 hsbw or sbw not first\n\
+3: glyph A - 4 P03 closepath without a path\n",
+        14,
+    ),
+    (
+        FOUR_FAULTS,
+        b"A P03\nA C05\nA W01\nA C07\n.notdef C05",
+        "1: waiver .notdef C05 U01 waiver not used\n",
+        29,
+    ),
+];
+
+/// A font with this glyph A.
+fn with_glyph(alloc: Global, glyph: &[u8]) -> Result<OpenFont, Unread> {
+    opened(alloc, &Sample::new(alloc)?.glyph(b"A", glyph)?)
+}
+
+/// The waivers of a text.
+fn waivers_in(alloc: Global, text: &[u8]) -> Result<Waivers<'_>, Fail> {
+    if text.len() > 1_048_576 {
+        return Err(Fail::from("a long text"));
+    }
+    Waivers::read(alloc, text).map_err(|_| Fail::from("waivers"))
+}
+
+/// The lines with waivers, and how often a walk asks machines.
+fn lines_with(alloc: Global, font: &Font<'_>, text: &[u8]) -> Result<(String, u64), Fail> {
+    let waivers = waivers_in(alloc, text)?;
+    let (faults, turns) = both(alloc, font, &waivers, Edition::One)?;
+    Ok((lines_of(alloc, font, &waivers, faults.as_slice())?, turns))
+}
+
+/// The same of a font with this glyph A.
+fn lines_of_glyph(alloc: Global, glyph: &[u8], text: &[u8]) -> Result<(String, u64), Fail> {
+    let mut file = with_glyph(alloc, glyph)?;
+    let font = font_of(alloc, &mut file)?;
+    lines_with(alloc, &font, text)
+}
+
+#[test]
+fn reports_with_waivers(rt: HostRuntime) -> Result<(), Fail> {
+    for (glyph, text, lines, turns) in REPORTS {
+        let (found, asked) = lines_of_glyph(rt.alloc(), glyph, text)?;
+        assert_eq!(rt; (found.as_str(), asked), (*lines, *turns), "{text:?}");
+    }
+    Ok(())
+}
+
+/// Waivers of a font whose glyph A is empty, a mark's number, unit, step and rule, and six answers behind it,
+/// each with how often machines were asked: from the mark's glyph on, and for the waivers from the mark's on.
+const RESUMED: &[(&[u8], Mark, &str)] = &[
+    (
+        b"A GE01\nA C05\nB C05\nA C05\n",
+        Mark {
+            number: 1,
+            unit: 3,
+            step: 2,
+            rule: 70,
+        },
+        "2 U01 2, none 2, none 2, none 2, none 2, none 2, ",
+    ),
+    (
+        b"A GE01\nA C05\nB C05\nA C05\n",
+        Mark {
+            number: 0,
+            unit: 3,
+            step: 2,
+            rule: 69,
+        },
+        "1 U01 2, 2 U01 2, none 2, none 2, none 2, none 2, ",
+    ),
+    (
+        b"A GE01\nA C05\nB C05\nA C05\n",
+        Mark {
+            number: 5,
+            unit: 3,
+            step: 0,
+            rule: 0,
+        },
+        "6 U01 3, 7 U01 3, none 3, none 3, none 3, none 3, ",
+    ),
+    (
+        b"A GE01\nA C05\nB C05\nA C05\n",
+        Mark {
+            number: 5,
+            unit: 3,
+            step: 4,
+            rule: 0,
+        },
+        "none 0, none 0, none 0, none 0, none 0, none 0, ",
+    ),
+    (
+        b"A GE01\nA C05\nB C05\nA C05\n",
+        Mark {
+            number: 5,
+            unit: 4,
+            step: 0,
+            rule: 0,
+        },
+        "none 0, none 0, none 0, none 0, none 0, none 0, ",
+    ),
+    (
+        b"A GE01\n",
+        Mark {
+            number: 7,
+            unit: 2,
+            step: 1,
+            rule: 39,
+        },
+        "none 3, none 3, none 3, none 3, none 3, none 3, ",
+    ),
+    (
+        b"A C05\n",
+        FIRST,
+        "1 GE01 6, 2 U01 9, none 9, none 9, none 9, none 9, ",
+    ),
+];
+
+/// The six answers, of the sidebearings of a font.
+fn resumed_by<'a>(
+    alloc: Global,
+    font: &'a Font<'a>,
+    sidebearings: &'a Sidebearings,
+    text: &[u8],
+    mark: Mark,
+) -> Result<String, Fail>
+    requires { AreOf font.now sidebearings.now }
+{
+    let waivers = waivers_in(alloc, text)?;
+    Ok(six_answers(alloc, &*font, &*sidebearings, &waivers, mark)?)
+}
+
+fn resumed(alloc: Global, font: &Font<'_>, text: &[u8], mark: Mark) -> Result<String, Fail> {
+    let sidebearings = Sidebearings::prepare(alloc, font, Edition::One)?;
+    resumed_by(alloc, &*font, &sidebearings, text, mark)
+}
+
+#[test]
+fn walks_among_waivers(rt: HostRuntime) -> Result<(), Fail> {
+    let mut file = with_glyph(rt.alloc(), b"")?;
+    let font = font_of(rt.alloc(), &mut file)?;
+    for (text, mark, want) in RESUMED {
+        let found = resumed(rt.alloc(), &font, text, *mark)?;
+        assert_eq!(rt; found.as_str(), *want, "{text:?} from {mark:?}");
+    }
+    Ok(())
+}
