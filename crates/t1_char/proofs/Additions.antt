@@ -6,7 +6,8 @@ use Rattle.t1_char.specs.Steps.{StepView, Run, first, only, after, and_then}
 use Rattle.t1_char.specs.Private.Steps.{GoesOn, IsExpanded}
 
 -- One step of the rest was added.
-pub goes_more : (front : List StepView) (run : Run) (steps : List StepView) (step : StepView) (rest : Run) → GoesOn front run steps (first step rest) → GoesOn front run (steps ++ step ∷ []) rest
+pub goes_more : (front : List StepView) (run : Run) (steps : List StepView) (step : StepView) (rest : Run)
+    → GoesOn front run steps (first step rest) → GoesOn front run (steps ++ step ∷ []) rest
 goes_more front run steps step rest h =
     record {
       steps_are = h.steps_are ∙ sym (append_assoc steps (step ∷ []) rest.steps);
@@ -15,7 +16,8 @@ goes_more front run steps step rest h =
     }
 
 -- The last step was added.
-pub goes_out : (most : ℕ) (front : List StepView) (run : Run) (steps : List StepView) (step : StepView) (finished : Bool) (s : State) → length (steps ++ step ∷ []) ≤ most → GoesOn front run steps (only step finished s) → IsExpanded most front run (steps ++ step ∷ []) finished s
+pub goes_out : (most : ℕ) (front : List StepView) (run : Run) (steps : List StepView) (step : StepView) (finished : Bool) (s : State)
+    → length (steps ++ step ∷ []) ≤ most → GoesOn front run steps (only step finished s) → IsExpanded most front run (steps ++ step ∷ []) finished s
 goes_out most front run steps step finished s room h =
     record {
       steps_are = sym (take_all most (steps ++ step ∷ []) room) ∙ ap (take most) (sym h.steps_are);
@@ -31,7 +33,8 @@ take_short most xs short = take_all most xs (omega (arith, length-take most xs))
 pub and_then_front : (run : Run) (next : State → Run) → (more : List StepView) × ((and_then run next).steps ≡ run.steps ++ more)
 and_then_front run next = by_finished run.finished run.steps next run.state
   where
-    by_finished : (b : Bool) (steps : List StepView) (next : State → Run) (s : State) → (more : List StepView) × ((cond b (record { steps = steps; finished = b; state = s }) (after steps (next s))).steps ≡ steps ++ more)
+    by_finished : (b : Bool) (steps : List StepView) (next : State → Run) (s : State) → (more : List StepView)
+        × ((cond b (record { steps = steps; finished = b; state = s }) (after steps (next s))).steps ≡ steps ++ more)
     by_finished true steps next s = ([], sym (append-nil steps))
     by_finished false steps next s = ((next s).steps, refl)
 
@@ -43,7 +46,8 @@ pub record Called (most : ℕ) (front : List StepView) (run : Run) (steps : List
   pub added : IsExpanded most before inner steps finished s
 
 -- The call filled the list.
-pub called_full : (most : ℕ) (front : List StepView) (run : Run) (steps : List StepView) (finished : Bool) (s : State) (next : State → Run) → most ≤ length steps → Called most front run steps finished s next → IsExpanded most front run steps finished s
+pub called_full : (most : ℕ) (front : List StepView) (run : Run) (steps : List StepView) (finished : Bool) (s : State) (next : State → Run)
+    → most ≤ length steps → Called most front run steps finished s next → IsExpanded most front run steps finished s
 called_full most front run steps finished s next full h =
     let more : List StepView = (and_then_front h.inner next).0 in
     let both : List StepView = h.before ++ h.inner.steps in
@@ -58,7 +62,8 @@ called_full most front run steps finished s next full h =
     }
 
 -- All that the call has was added.
-called_whole : (most : ℕ) (front : List StepView) (run : Run) (steps : List StepView) (finished : Bool) (s : State) (next : State → Run) → length steps < most → (h : Called most front run steps finished s next) → steps ≡ h.before ++ h.inner.steps
+called_whole : (most : ℕ) (front : List StepView) (run : Run) (steps : List StepView) (finished : Bool) (s : State) (next : State → Run) → length steps < most
+    → (h : Called most front run steps finished s next) → steps ≡ h.before ++ h.inner.steps
 called_whole most front run steps finished s next short h =
     let both : List StepView = h.before ++ h.inner.steps in
     let count : length steps ≡ length (take most both) = ap (λ l. length l) h.added.steps_are in
@@ -71,7 +76,8 @@ open_run : (run : Run) (next : State → Run) → run.finished ≡ false → and
 open_run run next is = ap (λ b. cond b run (after run.steps (next run.state))) is
 
 -- It finished the glyph.
-pub called_finished : (most : ℕ) (front : List StepView) (run : Run) (steps : List StepView) (s : State) (next : State → Run) → length steps < most → Called most front run steps true s next → IsExpanded most front run steps true s
+pub called_finished : (most : ℕ) (front : List StepView) (run : Run) (steps : List StepView) (s : State) (next : State → Run) → length steps < most
+    → Called most front run steps true s next → IsExpanded most front run steps true s
 called_finished most front run steps s next short h =
     let is : and_then h.inner next ≡ h.inner = finished_run h.inner next (sym (h.added.finished_is short)) in
     let all : front ++ run.steps ≡ h.before ++ h.inner.steps = h.goes_on.steps_are ∙ ap (λ r. h.before ++ r.steps) is in
@@ -82,7 +88,8 @@ called_finished most front run steps s next short h =
     }
 
 -- It didn't, and what follows it is to come.
-pub called_open : (most : ℕ) (front : List StepView) (run : Run) (steps : List StepView) (s : State) (next : State → Run) → length steps < most → Called most front run steps false s next → GoesOn front run steps (next s)
+pub called_open : (most : ℕ) (front : List StepView) (run : Run) (steps : List StepView) (s : State) (next : State → Run) → length steps < most
+    → Called most front run steps false s next → GoesOn front run steps (next s)
 called_open most front run steps s next short h =
     let is : and_then h.inner next ≡ after h.inner.steps (next s) =
     open_run h.inner next (sym (h.added.finished_is short)) ∙ ap (λ x. after h.inner.steps (next x)) (sym (h.added.state_is short)) in

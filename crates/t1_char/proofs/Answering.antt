@@ -21,13 +21,15 @@ limits_are_told limit steps step is = turn_above limit steps limit (omega arith)
 
 -- Past what is told the count stays, and so does the answer.
 stays : (limit : ℕ) (steps : List StepView) (n : ℕ) → length (take limit steps) < n
-    → (turn_at limit steps (counted_after limit steps n) ≡ turn_at limit steps n) × (counted_after limit steps (counted_after limit steps n) ≡ counted_after limit steps n)
+    → (turn_at limit steps (counted_after limit steps n) ≡ turn_at limit steps n)
+    × (counted_after limit steps (counted_after limit steps n) ≡ counted_after limit steps n)
 stays limit steps n past =
     let count = count_stays limit steps n past in
     (ap (turn_at limit steps) count, ap (counted_after limit steps) count)
 
 -- At the first end or limit all steps up to the limit were told.
-at_last : (limit : ℕ) (steps : List StepView) (n : ℕ) → n ≤ length (take limit steps) → is_last_answer (turn_at limit steps n) ≡ true → n ≡ length (take limit steps)
+at_last : (limit : ℕ) (steps : List StepView) (n : ℕ) → n ≤ length (take limit steps) → is_last_answer (turn_at limit steps n) ≡ true
+    → n ≡ length (take limit steps)
 at_last limit steps n near last =
     elim (cases_lt n (length (take limit steps))) [
       | inr all ↦ omega (arith, near, all)

@@ -49,9 +49,11 @@ handed_within other (Some count) s few waiting = by_count (nat_le count (length 
 othersubr_within : (s : State) → IsWithin s → IsWithin (after_othersubr s)
 othersubr_within s within = by_length (nat_lt (length s.stack) 2)
   where
-    by_length : (b : Bool) → IsWithin (cond b s (handed_over (natural (from_top s.stack 0)) (natural (from_top s.stack 1)) (record s { stack = without 2 s.stack })))
+    by_length : (b : Bool) → IsWithin (cond b s
+        (handed_over (natural (from_top s.stack 0)) (natural (from_top s.stack 1)) (record s { stack = without 2 s.stack })))
     by_length true = within
-    by_length false = handed_within (natural (from_top s.stack 0)) (natural (from_top s.stack 1)) (record s { stack = without 2 s.stack }) (two_less s.stack within.stack) within.waiting
+    by_length false = handed_within (natural (from_top s.stack 0)) (natural (from_top s.stack 1)) (record s { stack = without 2 s.stack })
+        (two_less s.stack within.stack) within.waiting
 
 popped_within : (stack waiting : List ℤ) → length stack ≤ 24 → length waiting ≤ 22 → IsWithin (popped stack waiting)
 popped_within stack [] few waiting = record { stack = few; waiting = omega arith }
@@ -83,7 +85,8 @@ abbrev IsBoundedRun : Run → Type 0
 IsBoundedRun run = AreBounded run.steps × IsWithin run.state
 
 led_bounded : (step : StepView) (x : State) (a : Action) (behind : State → Run) (called : ℕ → List ℕ → State → Run) → IsBounded step → IsWithin x →
-    ((y : State) → IsWithin y → IsBoundedRun (behind y)) → ((k : ℕ) (code : List ℕ) (y : State) → IsWithin y → IsBoundedRun (called k code y)) → IsBoundedRun (led_to step x a behind called)
+    ((y : State) → IsWithin y → IsBoundedRun (behind y)) → ((k : ℕ) (code : List ℕ) (y : State) → IsWithin y → IsBoundedRun (called k code y))
+    → IsBoundedRun (led_to step x a behind called)
 led_bounded step x goes behind called is within one other = ((is, (one x within).0), (one x within).1)
 led_bounded step x (calls k code) behind called is within one other = ((is, (other k code x within).0), (other k code x within).1)
 led_bounded step x returns behind called is within one other = ((is, tt), within)
@@ -96,14 +99,17 @@ bounded_both (step ∷ steps) more these those = (these.0, bounded_both steps mo
 bounded_then : (run : Run) (next : State → Run) → IsBoundedRun run → ((x : State) → IsWithin x → IsBoundedRun (next x)) → IsBoundedRun (and_then run next)
 bounded_then run next one rest = by_finished run.finished run.steps run.state one
   where
-    by_finished : (b : Bool) (steps : List StepView) (x : State) → AreBounded steps × IsWithin x → IsBoundedRun (cond b (record { steps = steps; finished = b; state = x }) (after steps (next x)))
+    by_finished : (b : Bool) (steps : List StepView) (x : State) → AreBounded steps × IsWithin x
+        → IsBoundedRun (cond b (record { steps = steps; finished = b; state = x }) (after steps (next x)))
     by_finished true steps x these = these
     by_finished false steps x these = (bounded_both steps (next x).steps these.0 (rest x these.1).0, (rest x these.1).1)
 
-step_bounded : (font : FontValue) (path : List ℕ) (t : CharToken) (ts : List CharToken) (s : State) → length path ≤ 10 → IsWithin s → IsBounded (step_at font path t ts s)
+step_bounded : (font : FontValue) (path : List ℕ) (t : CharToken) (ts : List CharToken) (s : State) → length path ≤ 10 → IsWithin s
+    → IsBounded (step_at font path t ts s)
 step_bounded font path t ts s short within = record { path = short; stack = within.stack; waiting = within.waiting }
 
-bounded_of : (font : FontValue) (n : ℕ) (path : List ℕ) (ts : List CharToken) (s : State) → length path + n ≡ 10 → IsWithin s → IsBoundedRun (expansion font n path ts s)
+bounded_of : (font : FontValue) (n : ℕ) (path : List ℕ) (ts : List CharToken) (s : State) → length path + n ≡ 10 → IsWithin s
+    → IsBoundedRun (expansion font n path ts s)
 unfolding expansion
 bounded_of font n path [] s deep within = (tt, within)
 bounded_of font zero path (t ∷ ts) s deep within =
@@ -126,4 +132,5 @@ each_bounded (step ∷ steps) these (suc k) d lt = each_bounded steps these.1 k 
 pub steps_are_bounded : StepsAreBounded
 unfolding steps_of
 steps_are_bounded font glyph k d lt =
-    each_bounded _ (bounded_of font most_calls [] (tokens_in font (code_at font glyph)) at_start refl (record { stack = omega arith; waiting = omega arith })).0 k d lt
+    each_bounded _ (bounded_of font most_calls [] (tokens_in font (code_at font glyph)) at_start refl (record { stack = omega arith; waiting = omega arith })).0
+    k d lt

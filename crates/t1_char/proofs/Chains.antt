@@ -49,7 +49,8 @@ charstrings_have font code = tokens_have (random_of (len_iv_in font)) code
 
 -- ---- a call is made at a depth below ten
 
-called_below : (t : CharToken) (named : Option CalledSubr) (depth : ℕ) (s : State) (k : ℕ) (code : List ℕ) → (effect_of t named depth s).action ≡ calls k code → depth < 10
+called_below : (t : CharToken) (named : Option CalledSubr) (depth : ℕ) (s : State) (k : ℕ) (code : List ℕ) → (effect_of t named depth s).action ≡ calls k code
+    → depth < 10
 called_below (Command Callsubr) None depth s k code e = let no : goes ≡ calls k code = e in cc
 called_below (Command Callsubr) (Some subr) depth s k code e = by_depth (nat_lt depth most_calls) refl e
   where
@@ -84,7 +85,8 @@ chain_both font [] ys path s middle x last left one other =
 chain_both font (step ∷ xs) ys path s middle x last left one other =
     (one.0, chain_both font xs ys _ _ middle x last left one.1 other)
 
-goes_on : (font : FontValue) (steps : List StepView) (path : List ℕ) (s : State) (last : List ℕ) (left : State) → Chain font path s steps last left → GoOnFrom font path s steps
+goes_on : (font : FontValue) (steps : List StepView) (path : List ℕ) (s : State) (last : List ℕ) (left : State) → Chain font path s steps last left
+    → GoOnFrom font path s steps
 goes_on font [] path s last left chain = tt
 goes_on font (step ∷ steps) path s last left chain = (chain.0, goes_on font steps _ _ last left chain.1)
 
@@ -107,7 +109,8 @@ up_one path k =
 stands : (font : FontValue) (path : List ℕ) (t : CharToken) (ts : List CharToken) (s : State) → StandsIn (step_at font path t ts s) path s
 stands font path t ts s = record { path_is = refl; stack_is = refl; waiting_is = refl }
 
-led_chain : (font : FontValue) (path : List ℕ) (t : CharToken) (ts : List CharToken) (s : State) (a : Action) (behind : State → Run) (called : ℕ → List ℕ → State → Run)
+led_chain : (font : FontValue) (path : List ℕ) (t : CharToken) (ts : List CharToken) (s : State) (a : Action) (behind : State → Run)
+    (called : ℕ → List ℕ → State → Run)
     → (effect_at font path t s).action ≡ a
     → ((y : State) → a ≡ goes → ChainsRun font path y (behind y) (up path))
     → ((k : ℕ) (code : List ℕ) (y : State) → a ≡ calls k code → ChainsRun font (path ++ k ∷ []) y (called k code y) (up path))
@@ -118,8 +121,17 @@ led_chain font path t ts s goes behind called is one other =
     (rest.0, ((stands font path t ts s, subst (λ a. Chain font (path_behind path a) x (behind x).steps rest.0 (behind x).state) (sym is) rest.1.0), rest.1.1))
 led_chain font path t ts s (calls k code) behind called is one other =
     let x : State = (effect_at font path t s).state in
-    let rest = other k code x refl in
-    (rest.0, ((stands font path t ts s, subst (λ a. Chain font (path_behind path a) x (called k code x).steps rest.0 (called k code x).state) (sym is) rest.1.0), rest.1.1))
+    let rest = other k code x refl in (
+      rest.0,
+      (
+        (
+          stands font path t ts s,
+          subst (λ a. Chain font (path_behind path a) x (called k code x).steps rest.0 (called k code x).state)
+              (sym is) rest.1.0,
+        ),
+        rest.1.1,
+      ),
+    )
 led_chain font path t ts s returns behind called is one other =
     (up path, ((stands font path t ts s, (ap (path_behind path) is, refl)), λ e. refl))
 led_chain font path t ts s finishes behind called is one other =
@@ -129,13 +141,21 @@ chains_then : (font : FontValue) (path : List ℕ) (s : State) (run : Run) (next
     → ChainsRun font path s run middle → ((x : State) → ChainsRun font middle x (next x) target) → ChainsRun font path s (and_then run next) target
 chains_then font path s run next middle target one rest = by_finished run.finished run.steps run.state one
   where
-    by_finished : (b : Bool) (steps : List StepView) (x : State) → Chains font path s steps b x middle → ChainsRun font path s (cond b (record { steps = steps; finished = b; state = x }) (after steps (next x))) target
+    by_finished : (b : Bool) (steps : List StepView) (x : State) → Chains font path s steps b x middle
+        → ChainsRun font path s (cond b (record { steps = steps; finished = b; state = x }) (after steps (next x))) target
     by_finished true steps x these = (these.0, (these.1.0, λ e. let no : true ≡ false = e in cc))
     by_finished false steps x these =
-        let those = rest x in
-        (those.0, (chain_both font steps (next x).steps path s middle x those.0 (next x).state (subst (λ p. Chain font path s steps p x) (these.1.1 refl) these.1.0) those.1.0, those.1.1))
+        let those = rest x in (
+          those.0,
+          (
+            chain_both font steps (next x).steps path s middle x those.0 (next x).state
+                (subst (λ p. Chain font path s steps p x) (these.1.1 refl) these.1.0) those.1.0,
+            those.1.1,
+          ),
+        )
 
-chain_of : (font : FontValue) (n : ℕ) (path : List ℕ) (ts : List CharToken) (s : State) → length path + n ≡ 10 → HasEnd ts → ChainsRun font path s (expansion font n path ts s) (up path)
+chain_of : (font : FontValue) (n : ℕ) (path : List ℕ) (ts : List CharToken) (s : State) → length path + n ≡ 10 → HasEnd ts
+    → ChainsRun font path s (expansion font n path ts s) (up path)
 unfolding expansion
 chain_of font n path [] s deep ends = absurd ends
 chain_of font zero path (t ∷ ts) s deep ends =
@@ -145,7 +165,8 @@ chain_of font zero path (t ∷ ts) s deep ends =
 chain_of font (suc n) path (t ∷ ts) s deep ends =
     led_chain font path t ts s (effect_at font path t s).action _ _ refl
     (λ y is. chain_of font (suc n) path ts y deep (end_behind t ts ends (open_by t (named_at font t s.stack) (length path) s (subst IsInner (sym is) tt))))
-    (λ k code y is. chains_then font (path ++ k ∷ []) y (expansion font n (path ++ k ∷ []) (tokens_in font code) y) (λ z. expansion font (suc n) path ts z) path (up path)
+    (λ k code y is. chains_then font (path ++ k ∷ []) y (expansion font n (path ++ k ∷ []) (tokens_in font code) y)
+    (λ z. expansion font (suc n) path ts z) path (up path)
     (subst (λ p. ChainsRun font (path ++ k ∷ []) y (expansion font n (path ++ k ∷ []) (tokens_in font code) y) p) (up_one path k)
     (chain_of font n (path ++ k ∷ []) (tokens_in font code) y (omega (arith, length-append path (k ∷ []))) (charstrings_have font code)))
     (λ z. chain_of font (suc n) path ts z deep (end_behind t ts ends (open_by t (named_at font t s.stack) (length path) s (subst IsInner (sym is) tt)))))

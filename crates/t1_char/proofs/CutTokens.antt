@@ -144,18 +144,26 @@ broken_low v rest low cut = by_test (eqb v 12) refl
     by_test false is = absurd (no_plain v (command_of v) (by_form v rest (whole (plain_code v (command_of v))) (rw (lt-ltb v 32 low, is) refl) cut))
 
 broken_positive : (v : ℕ) (rest : List ℕ) → 247 ≤ v → v < 251 → token_at v rest ≡ Cut → BreaksOff (v ∷ rest)
-broken_positive v [] low high cut = from_spelled v [] (0 ∷ []) (Number (pos ((v - 247) * 256 + 0 + 108))) (some_list 0 []) (positive_back v 0 [] low high (omega arith))
-broken_positive v (w ∷ rest) low high cut = absurd (no_number _ (by_form v (w ∷ rest) (two (λ x. Number (pos ((v - 247) * 256 + x + 108)))) (form_positive v low high) cut))
+broken_positive v [] low high cut = from_spelled v [] (0 ∷ []) (Number (pos ((v - 247) * 256 + 0 + 108))) (some_list 0 [])
+    (positive_back v 0 [] low high (omega arith))
+broken_positive v (w ∷ rest) low high cut =
+    absurd (no_number _ (by_form v (w ∷ rest) (two (λ x. Number (pos ((v - 247) * 256 + x + 108)))) (form_positive v low high) cut))
 
 broken_negative : (v : ℕ) (rest : List ℕ) → 251 ≤ v → v < 255 → token_at v rest ≡ Cut → BreaksOff (v ∷ rest)
-broken_negative v [] low high cut = from_spelled v [] (0 ∷ []) (Number (neg_ℤ (pos ((v - 251) * 256 + 0 + 108)))) (some_list 0 []) (negative_back v 0 [] low high (omega arith))
-broken_negative v (w ∷ rest) low high cut = absurd (no_number _ (by_form v (w ∷ rest) (two (λ x. Number (neg_ℤ (pos ((v - 251) * 256 + x + 108))))) (form_negative v low high) cut))
+broken_negative v [] low high cut = from_spelled v [] (0 ∷ []) (Number (neg_ℤ (pos ((v - 251) * 256 + 0 + 108)))) (some_list 0 [])
+    (negative_back v 0 [] low high (omega arith))
+broken_negative v (w ∷ rest) low high cut =
+    absurd (no_number _ (by_form v (w ∷ rest) (two (λ x. Number (neg_ℤ (pos ((v - 251) * 256 + x + 108))))) (form_negative v low high) cut))
 
 broken_long : (rest : List ℕ) → AreFit rest → token_at 255 rest ≡ Cut → BreaksOff (255 ∷ rest)
-broken_long [] fit cut = from_spelled 255 [] (0 ∷ 0 ∷ 0 ∷ 0 ∷ []) _ (some_list 0 (0 ∷ 0 ∷ 0 ∷ [])) (long_back 0 0 0 0 [] (omega arith) (omega arith) (omega arith) (omega arith))
-broken_long (a ∷ []) fit cut = from_spelled 255 (a ∷ []) (0 ∷ 0 ∷ 0 ∷ []) _ (some_list 0 (0 ∷ 0 ∷ [])) (long_back a 0 0 0 [] fit.0 (omega arith) (omega arith) (omega arith))
-broken_long (a ∷ b ∷ []) fit cut = from_spelled 255 (a ∷ b ∷ []) (0 ∷ 0 ∷ []) _ (some_list 0 (0 ∷ [])) (long_back a b 0 0 [] fit.0 fit.1.0 (omega arith) (omega arith))
-broken_long (a ∷ b ∷ c ∷ []) fit cut = from_spelled 255 (a ∷ b ∷ c ∷ []) (0 ∷ []) _ (some_list 0 []) (long_back a b c 0 [] fit.0 fit.1.0 fit.1.1.0 (omega arith))
+broken_long [] fit cut = from_spelled 255 [] (0 ∷ 0 ∷ 0 ∷ 0 ∷ []) _ (some_list 0 (0 ∷ 0 ∷ 0 ∷ []))
+    (long_back 0 0 0 0 [] (omega arith) (omega arith) (omega arith) (omega arith))
+broken_long (a ∷ []) fit cut = from_spelled 255 (a ∷ []) (0 ∷ 0 ∷ 0 ∷ []) _ (some_list 0 (0 ∷ 0 ∷ []))
+    (long_back a 0 0 0 [] fit.0 (omega arith) (omega arith) (omega arith))
+broken_long (a ∷ b ∷ []) fit cut = from_spelled 255 (a ∷ b ∷ []) (0 ∷ 0 ∷ []) _ (some_list 0 (0 ∷ []))
+    (long_back a b 0 0 [] fit.0 fit.1.0 (omega arith) (omega arith))
+broken_long (a ∷ b ∷ c ∷ []) fit cut = from_spelled 255 (a ∷ b ∷ c ∷ []) (0 ∷ []) _ (some_list 0 [])
+    (long_back a b c 0 [] fit.0 fit.1.0 fit.1.1.0 (omega arith))
 broken_long (a ∷ b ∷ c ∷ d ∷ rest) fit cut = absurd (no_number _ cut)
 
 broken_at : (v : ℕ) (rest : List ℕ) → v < 256 → AreFit rest → token_at v rest ≡ Cut → BreaksOff (v ∷ rest)
@@ -183,7 +191,8 @@ no_cut_left : (ts rest : List CharToken) → [] ≡ ts ++ Cut ∷ rest → ⊥
 no_cut_left [] rest e = cc
 no_cut_left (t ∷ ts) rest e = cc
 
-cut_back : (most : ℕ) (code : List ℕ) (ts rest : List CharToken) → length code ≤ most → AreFit code → AreUncut ts → tokens_of code ≡ ts ++ Cut ∷ rest → IsBrokenOff ts code rest
+cut_back : (most : ℕ) (code : List ℕ) (ts rest : List CharToken) → length code ≤ most → AreFit code → AreUncut ts → tokens_of code ≡ ts ++ Cut ∷ rest
+    → IsBrokenOff ts code rest
 unfolding tokens_behind
 cut_back most [] [] rest short fit uncut is = absurd (end_is_whole (head_same End Cut [] rest is))
 cut_back most [] (t ∷ ts) rest short fit uncut is = absurd (no_cut_left ts rest (tail_same End t [] (ts ++ Cut ∷ rest) is))
@@ -196,7 +205,8 @@ cut_back (suc most) (v ∷ bytes) [] rest short fit uncut is =
       split = refl;
       before = nothing_left;
       cut = broken;
-      ends = sym (tail_same (token_at v bytes) Cut (tokens_behind (more_of v) bytes) rest is) ∙ behind_short (more_of v) bytes (omega (arith, short_of v bytes broken));
+      ends = sym (tail_same (token_at v bytes) Cut (tokens_behind (more_of v) bytes) rest is)
+          ∙ behind_short (more_of v) bytes (omega (arith, short_of v bytes broken));
     }
 cut_back (suc most) (v ∷ bytes) (t ∷ ts) rest short fit uncut is =
     let same : token_at v bytes ≡ t = head_same (token_at v bytes) t (tokens_behind (more_of v) bytes) (ts ++ Cut ∷ rest) is in

@@ -5,7 +5,8 @@ use Rattle.t1_seal.proofs.States.{starts_at_the_start, state_runs_along}
 use Rattle.t1_seal.proofs.Deciphering.{decrypted-push}
 use Rattle.t1_char.specs.Private.Cursors.{deciphered}
 
-deciphered_behind : (start : ℕ) (front rest : List ℕ) → decrypted start (front ++ rest) ≡ decrypted start front ++ deciphered (Some (state_after start front)) rest
+deciphered_behind : (start : ℕ) (front rest : List ℕ) → decrypted start (front ++ rest) ≡ decrypted start front ++ deciphered
+    (Some (state_after start front)) rest
 unfolding deciphered
 deciphered_behind start front [] = ap (decrypted start) (append-nil front) ∙ sym (append-nil (decrypted start front))
 deciphered_behind start front (c ∷ rest) =

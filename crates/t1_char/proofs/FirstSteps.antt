@@ -19,7 +19,8 @@ pub record IsEmpty (listing : Listing) : Type 0 where
   pub stack : listing.stack ≡ []
   pub waiting : listing.waiting.items ≡ []
 
-run_is : (glyph : ℕ) (begun : Listing) (from : Cursor) → IsEmpty begun → tokens_left from ≡ tokens_in begun.font.now (code_at begun.font.now glyph) → (run_from begun from).steps ≡ steps_of begun.font.now glyph
+run_is : (glyph : ℕ) (begun : Listing) (from : Cursor) → IsEmpty begun → tokens_left from ≡ tokens_in begun.font.now (code_at begun.font.now glyph)
+    → (run_from begun from).steps ≡ steps_of begun.font.now glyph
 unfolding steps_of
 run_is glyph begun from empty tokens =
     ap (λ p. (expansion begun.font.now (most_calls - length p) p (tokens_left from) (state_of begun.stack begun.waiting.items)).steps) empty.path
@@ -27,7 +28,8 @@ run_is glyph begun from empty tokens =
     ∙ ap (λ w. (expansion begun.font.now most_calls [] (tokens_left from) (state_of [] w)).steps) empty.waiting
     ∙ ap (λ ts. (expansion begun.font.now most_calls [] ts at_start).steps) tokens
 
-pub listed_from_nothing : (limit glyph : ℕ) (begun : Listing) (from : Cursor) (items : List Step) (finished : Bool) (s : State) → IsEmpty begun → tokens_left from ≡ tokens_in begun.font.now (code_at begun.font.now glyph) →
+pub listed_from_nothing : (limit glyph : ℕ) (begun : Listing) (from : Cursor) (items : List Step) (finished : Bool) (s : State) → IsEmpty begun
+    → tokens_left from ≡ tokens_in begun.font.now (code_at begun.font.now glyph) →
     IsExpanded (limit + 1) (steps_in begun) (run_from begun from) (map step_view items) finished s → AreNumbered items →
     map step_value items ≡ first_steps limit begun.font.now glyph
 unfolding first_steps

@@ -17,14 +17,16 @@ Ends (step ∷ steps) finished = (finishes_at step.token step.path ≡ true → 
 abbrev EndsRun : Run → Type 0
 EndsRun run = Ends run.steps run.finished
 
-acts : (t : CharToken) (named : Option CalledSubr) (path : List ℕ) (s : State) → finishes_at t path ≡ true → (effect_of t named (length path) s).action ≡ finishes
+acts : (t : CharToken) (named : Option CalledSubr) (path : List ℕ) (s : State) → finishes_at t path ≡ true
+    → (effect_of t named (length path) s).action ≡ finishes
 acts End named [] s h = refl
 acts (Command Endchar) named path s h = refl
 acts (Command Seac) named path s h = refl
 acts _ named [] s h = cc
 acts _ named (_ ∷ _) s h = cc
 
-led_ends : (step : StepView) (x : State) (a : Action) (behind : State → Run) (called : ℕ → List ℕ → State → Run) → (finishes_at step.token step.path ≡ true → a ≡ finishes) →
+led_ends : (step : StepView) (x : State) (a : Action) (behind : State → Run) (called : ℕ → List ℕ → State → Run)
+    → (finishes_at step.token step.path ≡ true → a ≡ finishes) →
     ((y : State) → EndsRun (behind y)) → ((k : ℕ) (code : List ℕ) (y : State) → EndsRun (called k code y)) → EndsRun (led_to step x a behind called)
 led_ends step x goes behind called is one other = (λ h. absurd (not_goes (is h)), one x)
   where
@@ -51,7 +53,8 @@ ends_both (step ∷ steps) more finished none rest = (λ h. absurd (not_finished
 ends_then : (run : Run) (next : State → Run) → EndsRun run → ((x : State) → EndsRun (next x)) → EndsRun (and_then run next)
 ends_then run next one rest = by_finished run.finished run.steps run.state one
   where
-    by_finished : (b : Bool) (steps : List StepView) (x : State) → Ends steps b → EndsRun (cond b (record { steps = steps; finished = b; state = x }) (after steps (next x)))
+    by_finished : (b : Bool) (steps : List StepView) (x : State) → Ends steps b
+        → EndsRun (cond b (record { steps = steps; finished = b; state = x }) (after steps (next x)))
     by_finished true steps x ends = ends
     by_finished false steps x ends = ends_both steps (next x).steps (next x).finished ends (rest x)
 
@@ -67,7 +70,8 @@ ends_of font (suc n) path (t ∷ ts) s =
     (λ k code y. ends_then (expansion font n (path ++ k ∷ []) (tokens_in font code) y) (λ z. expansion font (suc n) path ts z)
     (ends_of font n (path ++ k ∷ []) (tokens_in font code) y) (λ z. ends_of font (suc n) path ts z))
 
-last_in : (front rest : List StepView) (step : StepView) (finished : Bool) → Ends (front ++ step ∷ rest) finished → finishes_at step.token step.path ≡ true → rest ≡ []
+last_in : (front rest : List StepView) (step : StepView) (finished : Bool) → Ends (front ++ step ∷ rest) finished → finishes_at step.token step.path ≡ true
+    → rest ≡ []
 last_in [] rest step finished ends h = (ends.0 h).0
 last_in (x ∷ front) rest step finished ends h = last_in front rest step finished ends.1 h
 

@@ -15,22 +15,26 @@ no_more depth t (u ∷ []) goes_on no_return = ap (λ b. b && is_end u) no_retur
 no_more depth t (u ∷ v ∷ rest) goes_on no_return = refl
 
 -- The token behind: it is the end; it isn't, in the glyph itself; it is neither the end nor a return.
-pub last_at_end : (depth : ℕ) (token t : CharToken) (left rest : List CharToken) → is_end token ≡ false → left ≡ t ∷ behind_token t rest → is_end t ≡ true → is_last depth (behind_token token left) ≡ true
+pub last_at_end : (depth : ℕ) (token t : CharToken) (left rest : List CharToken) → is_end token ≡ false → left ≡ t ∷ behind_token t rest → is_end t ≡ true
+    → is_last depth (behind_token token left) ≡ true
 last_at_end depth token t left rest goes_on is ends =
     ap (λ b. is_last depth (cond b [] left)) goes_on ∙ ap (is_last depth) is ∙ ap (λ b. is_last depth (t ∷ cond b [] rest)) ends ∙ ends
 
-pub last_in_glyph : (depth : ℕ) (token t : CharToken) (left rest : List CharToken) → is_end token ≡ false → left ≡ t ∷ behind_token t rest → is_end t ≡ false → depth ≡ 0 → is_last depth (behind_token token left) ≡ false
+pub last_in_glyph : (depth : ℕ) (token t : CharToken) (left rest : List CharToken) → is_end token ≡ false → left ≡ t ∷ behind_token t rest → is_end t ≡ false
+    → depth ≡ 0 → is_last depth (behind_token token left) ≡ false
 last_in_glyph depth token t left rest goes_on is more no_depth =
     ap (λ b. is_last depth (cond b [] left)) goes_on ∙ ap (is_last depth) is
     ∙ no_more depth t (behind_token t rest) more (ap (λ d. nat_lt 0 d && is_return t) no_depth)
 
-pub last_before_other : (depth : ℕ) (token t : CharToken) (left rest : List CharToken) → is_end token ≡ false → left ≡ t ∷ behind_token t rest → is_end t ≡ false → is_return t ≡ false → is_last depth (behind_token token left) ≡ false
+pub last_before_other : (depth : ℕ) (token t : CharToken) (left rest : List CharToken) → is_end token ≡ false → left ≡ t ∷ behind_token t rest
+    → is_end t ≡ false → is_return t ≡ false → is_last depth (behind_token token left) ≡ false
 last_before_other depth token t left rest goes_on is more no_return =
     ap (λ b. is_last depth (cond b [] left)) goes_on ∙ ap (is_last depth) is
     ∙ no_more depth t (behind_token t rest) more (and_false (nat_lt 0 depth) (is_return t) no_return)
 
 -- A return in a Subr, and what stands behind it.
-two_tokens : (depth : ℕ) (t u : CharToken) (rest : List CharToken) → is_end t ≡ false → (nat_lt 0 depth && is_return t) ≡ true → is_last depth (t ∷ u ∷ behind_token u rest) ≡ is_end u
+two_tokens : (depth : ℕ) (t u : CharToken) (rest : List CharToken) → is_end t ≡ false → (nat_lt 0 depth && is_return t) ≡ true
+    → is_last depth (t ∷ u ∷ behind_token u rest) ≡ is_end u
 two_tokens depth t u rest more returns = two_by (is_end u) refl rest
   where
     two_by : (b : Bool) → is_end u ≡ b → (rest : List CharToken) → is_last depth (t ∷ u ∷ cond b [] rest) ≡ b
@@ -38,7 +42,8 @@ two_tokens depth t u rest more returns = two_by (is_end u) refl rest
     two_by false e [] = ap (λ r. r && is_end u) returns ∙ e
     two_by false e (v ∷ rest) = refl
 
-pub last_behind_return : (depth : ℕ) (token t u : CharToken) (left rest more_left : List CharToken) → is_end token ≡ false → left ≡ t ∷ behind_token t rest → is_end t ≡ false → 0 < depth → is_return t ≡ true → rest ≡ u ∷ behind_token u more_left → is_last depth (behind_token token left) ≡ is_end u
+pub last_behind_return : (depth : ℕ) (token t u : CharToken) (left rest more_left : List CharToken) → is_end token ≡ false → left ≡ t ∷ behind_token t rest
+    → is_end t ≡ false → 0 < depth → is_return t ≡ true → rest ≡ u ∷ behind_token u more_left → is_last depth (behind_token token left) ≡ is_end u
 last_behind_return depth token t u left rest more_left goes_on is more deep returns then =
     ap (λ b. is_last depth (cond b [] left)) goes_on ∙ ap (is_last depth) is
     ∙ ap (λ b. is_last depth (t ∷ cond b [] rest)) more

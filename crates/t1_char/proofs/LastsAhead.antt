@@ -81,7 +81,8 @@ five_other b (c ∷ d ∷ e ∷ rest) = refl
 
 not_last : (depth : ℕ) (f : Form) (b : ℕ) (rest : List ℕ) → Opens f → is_last depth (completed f (b ∷ rest) ∷ tokens_behind (more_in f) (b ∷ rest)) ≡ false
 unfolding tokens_behind
-not_last depth (whole token) b rest opens = third_follows depth token (completed (form_of b) rest) (tokens_behind (more_in (form_of b)) rest) (more_behind (more_in (form_of b)) rest)
+not_last depth (whole token) b rest opens = third_follows depth token (completed (form_of b) rest) (tokens_behind (more_in (form_of b)) rest)
+    (more_behind (more_in (form_of b)) rest)
 not_last depth (two token) b rest opens = other_follows depth (token b) (tokens_behind 1 (b ∷ rest)) (more_behind 1 (b ∷ rest)) (opens b)
 not_last depth five b rest opens = other_follows depth (long_number (b ∷ rest)) (tokens_behind 4 (b ∷ rest)) (more_behind 4 (b ∷ rest)) (five_other b rest)
 
@@ -91,11 +92,13 @@ bytes_follow depth [] more = absurd (omega (arith, more))
 bytes_follow depth (a ∷ []) more = absurd (omega (arith, more))
 bytes_follow depth (a ∷ b ∷ rest) more = not_last depth (form_of a) b rest (form_opens a)
 
-tokens_follow : (depth : ℕ) (short : Bool) (bytes : List ℕ) → 1 < length bytes → is_last depth (if short then Short ∷ tokens_of bytes else tokens_of bytes) ≡ false
+tokens_follow : (depth : ℕ) (short : Bool) (bytes : List ℕ) → 1 < length bytes
+    → is_last depth (if short then Short ∷ tokens_of bytes else tokens_of bytes) ≡ false
 tokens_follow depth true bytes more = other_follows depth Short (tokens_of bytes) (more_behind 0 bytes) refl
 tokens_follow depth false bytes more = bytes_follow depth bytes more
 
-pub last_nowhere : (depth : ℕ) (token : CharToken) (cursor : Cursor) → 1 < length (bytes_left cursor) → is_last depth (behind_token token (tokens_left cursor)) ≡ false
+pub last_nowhere : (depth : ℕ) (token : CharToken) (cursor : Cursor) → 1 < length (bytes_left cursor)
+    → is_last depth (behind_token token (tokens_left cursor)) ≡ false
 last_nowhere depth token cursor more = by_end (is_end token)
   where
     by_end : (b : Bool) → is_last depth (cond b [] (tokens_left cursor)) ≡ false

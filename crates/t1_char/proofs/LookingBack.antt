@@ -9,7 +9,8 @@ any_from_more : (e : Test) (front ss : List StepView) (t : StepView) → any_fro
 any_from_more e front [] t = grind (arith, append-nil)
 any_from_more e front (s ∷ ss) t = grind (arith, append_assoc, any_from_more e (front ++ s ∷ []) ss t)
 
-since_from_more : (a b : Test) (front ss : List StepView) (t : StepView) → since_from a b front (ss ++ t ∷ []) ≡ (a (front ++ ss) t || (since_from a b front ss && not (b (front ++ ss) t)))
+since_from_more : (a b : Test) (front ss : List StepView) (t : StepView) → since_from a b front (ss ++ t ∷ [])
+    ≡ (a (front ++ ss) t || (since_from a b front ss && not (b (front ++ ss) t)))
 since_from_more a b front [] t = grind (arith, append-nil)
 since_from_more a b front (s ∷ ss) t = grind (arith, append_assoc, since_from_more a b (front ++ s ∷ []) ss t, any_from_more b (front ++ s ∷ []) ss t)
 

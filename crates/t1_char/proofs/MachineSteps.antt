@@ -26,13 +26,15 @@ use Rattle.t1_char.proofs.Additions.{and_then_front}
 use Rattle.t1_char.proofs.TurnTests.{turn_by_limit}
 
 -- The step of the first token stands first, whatever it does.
-led_by : (step : StepView) (s : State) (action : Action) (behind : State → Run) (called : ℕ → List ℕ → State → Run) → (rest : List StepView) × ((led_to step s action behind called).steps ≡ step ∷ rest)
+led_by : (step : StepView) (s : State) (action : Action) (behind : State → Run) (called : ℕ → List ℕ → State → Run) → (rest : List StepView)
+    × ((led_to step s action behind called).steps ≡ step ∷ rest)
 led_by step s goes behind called = ((behind s).steps, refl)
 led_by step s (calls number code) behind called = ((called number code s).steps, refl)
 led_by step s returns behind called = ([], refl)
 led_by step s finishes behind called = ([], refl)
 
-expansion_leads : (font : FontValue) (n : ℕ) (path : List ℕ) (t : CharToken) (ts : List CharToken) (s : State) → (rest : List StepView) × ((expansion font n path (t ∷ ts) s).steps ≡ step_at font path t ts s ∷ rest)
+expansion_leads : (font : FontValue) (n : ℕ) (path : List ℕ) (t : CharToken) (ts : List CharToken) (s : State) → (rest : List StepView)
+    × ((expansion font n path (t ∷ ts) s).steps ≡ step_at font path t ts s ∷ rest)
 unfolding expansion
 expansion_leads font zero path t ts s =
     led_by (step_at font path t ts s) (effect_at font path t s).state (effect_at font path t s).action
@@ -42,7 +44,8 @@ expansion_leads font (suc n) path t ts s =
     (λ left. expansion font (suc n) path ts left)
     (λ number code left. and_then (expansion font n (path ++ number ∷ []) (tokens_in font code) left) (λ x. expansion font (suc n) path ts x))
 
-rest_leads : (font : FontValue) (path : List ℕ) (t : CharToken) (ts : List CharToken) (frames : List Frame) (s : State) → (rest : List StepView) × ((rest_of font (frame path (t ∷ ts) ∷ frames) s).steps ≡ step_at font path t ts s ∷ rest)
+rest_leads : (font : FontValue) (path : List ℕ) (t : CharToken) (ts : List CharToken) (frames : List Frame) (s : State) → (rest : List StepView)
+    × ((rest_of font (frame path (t ∷ ts) ∷ frames) s).steps ≡ step_at font path t ts s ∷ rest)
 unfolding rest_of
 rest_leads font path t ts frames s =
     let run : Run = expansion font (most_calls - length path) path (t ∷ ts) s in
@@ -90,10 +93,12 @@ is_within (suc n) (_ ∷ steps) rest step is = omega (arith, is_within n steps r
 
 -- Answers and counts.
 pub turn_below : (limit : ℕ) (steps : List StepView) (n : ℕ) → n < limit → turn_at limit steps n ≡ step_or_end n (slice_get steps n)
-turn_below limit steps n below = turn_by_limit limit steps n ∙ ap (λ b. cond b (step_or_end n (slice_get steps n)) (limit_or_end limit (slice_get steps limit))) (lt-ltb n limit below)
+turn_below limit steps n below = turn_by_limit limit steps n
+    ∙ ap (λ b. cond b (step_or_end n (slice_get steps n)) (limit_or_end limit (slice_get steps limit))) (lt-ltb n limit below)
 
 pub turn_above : (limit : ℕ) (steps : List StepView) (n : ℕ) → limit ≤ n → turn_at limit steps n ≡ limit_or_end limit (slice_get steps limit)
-turn_above limit steps n above = turn_by_limit limit steps n ∙ ap (λ b. cond b (step_or_end n (slice_get steps n)) (limit_or_end limit (slice_get steps limit))) (le-ltb n limit above)
+turn_above limit steps n above = turn_by_limit limit steps n
+    ∙ ap (λ b. cond b (step_or_end n (slice_get steps n)) (limit_or_end limit (slice_get steps limit))) (le-ltb n limit above)
 
 -- Past all steps the end is answered.
 pub turn_past : (limit : ℕ) (steps : List StepView) (n : ℕ) → length steps ≤ limit → length steps ≤ n → turn_at limit steps n ≡ ended
@@ -115,11 +120,13 @@ pub record Answers (limit : ℕ) (steps : List StepView) (font : FontValue) (n :
   pub turn : answer_view answer (step_value f.step) ≡ turn_at limit steps n
   pub count : n + 1 ≡ counted_after limit steps n
 
-pub still_goes_on : (limit : ℕ) (steps : List StepView) (font : FontValue) (n : ℕ) (answer : Answer) (f : Frames) → answer ≡ Step → IsAt limit steps font n answer f → GoesOnFrom limit steps font n f
+pub still_goes_on : (limit : ℕ) (steps : List StepView) (font : FontValue) (n : ℕ) (answer : Answer) (f : Frames) → answer ≡ Step
+    → IsAt limit steps font n answer f → GoesOnFrom limit steps font n f
 still_goes_on limit steps font n answer f is at = subst (λ a. IsAt limit steps font n a f) is at
 
 -- The run doesn't go on.
-pub answers_end : (limit : ℕ) (steps : List StepView) (font : FontValue) (n : ℕ) (f new : Frames) → GoesOnFrom limit steps font n f → steps_from font f ≡ step_here font f ∷ [] → Answers limit steps font n Ended new
+pub answers_end : (limit : ℕ) (steps : List StepView) (font : FontValue) (n : ℕ) (f new : Frames) → GoesOnFrom limit steps font n f
+    → steps_from font f ≡ step_here font f ∷ [] → Answers limit steps font n Ended new
 answers_end limit steps font n f new h over =
     let few : length steps ≤ n = no_more n steps (ap tail_of (sym h.steps_are ∙ over)) in
     record {
@@ -133,7 +140,8 @@ answers_end limit steps font n f new h over =
     }
 
 -- The step in hand was executed.
-pub behind_executed : (limit : ℕ) (steps : List StepView) (font : FontValue) (n : ℕ) (f new : Frames) → GoesOnFrom limit steps font n f → steps_from font f ≡ step_here font f ∷ steps_behind font new → length new.step.path.items ≡ length new.callers.items
+pub behind_executed : (limit : ℕ) (steps : List StepView) (font : FontValue) (n : ℕ) (f new : Frames) → GoesOnFrom limit steps font n f
+    → steps_from font f ≡ step_here font f ∷ steps_behind font new → length new.step.path.items ≡ length new.callers.items
     → IsBehind limit steps font n new
 behind_executed limit steps font n f new h over even =
     record { even = even; steps_are = sym (ap tail_of (sym h.steps_are ∙ over)); near = h.near; within = h.within }
@@ -145,13 +153,15 @@ pub record IsNext (font : FontValue) (n : ℕ) (f new : Frames) : Type 0 where
   pub step_is : step_view new.step ≡ step_here font new
   pub number : new.step.number ≡ n + 1
 
-next_is : (limit : ℕ) (steps : List StepView) (font : FontValue) (n : ℕ) (f new : Frames) → IsBehind limit steps font n f → IsNext font n f new → drop n steps ≡ step_here font new ∷ (leads font new).0
+next_is : (limit : ℕ) (steps : List StepView) (font : FontValue) (n : ℕ) (f new : Frames) → IsBehind limit steps font n f → IsNext font n f new
+    → drop n steps ≡ step_here font new ∷ (leads font new).0
 next_is limit steps font n f new h next = sym h.steps_are ∙ sym next.behind ∙ (leads font new).1
 
 same_step : (font : FontValue) (n : ℕ) (f new : Frames) → IsNext font n f new → step_of_number (n + 1) (step_here font new) ≡ step_value new.step
 same_step font n f new next = ap (λ step. step_of_number (n + 1) step) (sym next.step_is) ∙ ap (λ k. step_of_number k (step_view new.step)) (sym next.number)
 
-pub answers_step : (limit : ℕ) (steps : List StepView) (font : FontValue) (n : ℕ) (f new : Frames) → IsBehind limit steps font n f → IsNext font n f new → n + 1 ≤ limit → Answers limit steps font n Step new
+pub answers_step : (limit : ℕ) (steps : List StepView) (font : FontValue) (n : ℕ) (f new : Frames) → IsBehind limit steps font n f → IsNext font n f new
+    → n + 1 ≤ limit → Answers limit steps font n Step new
 answers_step limit steps font n f new h next near =
     let rest : List StepView = (leads font new).0 in
     let there : drop n steps ≡ step_here font new ∷ rest = next_is limit steps font n f new h next in
@@ -159,15 +169,18 @@ answers_step limit steps font n f new h next near =
     record {
       stands = record {
         ready = next.ready;
-        steps_are = (leads font new).1 ∙ ap (λ l. step_here font new ∷ l) (sym (ap (λ k. drop k steps) one_more ∙ drop_next n steps rest (step_here font new) there));
+        steps_are = (leads font new).1 ∙ ap (λ l. step_here font new ∷ l)
+            (sym (ap (λ k. drop k steps) one_more ∙ drop_next n steps rest (step_here font new) there));
         near = near;
         within = is_within n steps rest (step_here font new) there;
       };
-      turn = sym (turn_below limit steps n (omega (arith, near)) ∙ ap (step_or_end n) (get_there n steps rest (step_here font new) there) ∙ ap stepped (same_step font n f new next));
+      turn = sym (turn_below limit steps n (omega (arith, near)) ∙ ap (step_or_end n) (get_there n steps rest (step_here font new) there)
+          ∙ ap stepped (same_step font n f new next));
       count = count_on limit steps n (omega (arith, near, h.within, length-take limit steps));
     }
 
-pub answers_limit : (limit : ℕ) (steps : List StepView) (font : FontValue) (n : ℕ) (f new : Frames) → IsBehind limit steps font n f → IsNext font n f new → limit < n + 1 → Answers limit steps font n Limit new
+pub answers_limit : (limit : ℕ) (steps : List StepView) (font : FontValue) (n : ℕ) (f new : Frames) → IsBehind limit steps font n f → IsNext font n f new
+    → limit < n + 1 → Answers limit steps font n Limit new
 answers_limit limit steps font n f new h next past =
     let rest : List StepView = (leads font new).0 in
     let there : drop n steps ≡ step_here font new ∷ rest = next_is limit steps font n f new h next in
@@ -191,7 +204,8 @@ pub record GoneOver (limit : ℕ) (steps : List StepView) (font : FontValue) (n 
   pub passed : IsPassed limit steps n
   pub behind : IsBehind limit steps font (n + 1) new
 
-pub gone_over : (limit : ℕ) (steps : List StepView) (font : FontValue) (n : ℕ) (f new : Frames) → IsBehind limit steps font n f → GoesOverOne font f new → n < limit → GoneOver limit steps font n new
+pub gone_over : (limit : ℕ) (steps : List StepView) (font : FontValue) (n : ℕ) (f new : Frames) → IsBehind limit steps font n f → GoesOverOne font f new
+    → n < limit → GoneOver limit steps font n new
 gone_over limit steps font n f new h over near =
     let step : StepView = step_at font f.step.path.items (Number over.number) (tokens_left new.current) (state_in f) in
     let rest : List StepView = steps_behind font new in
@@ -216,7 +230,8 @@ gone_over limit steps font n f new h over near =
 pub over_none : (limit : ℕ) (font : FontValue) (n : ℕ) (f : Frames) → GoesOver limit font n f n f
 over_none limit font n f = λ steps behind. record { least = omega arith; passed = λ k from to. absurd (omega (arith, from, to)); behind = behind }
 
-pub over_one_more : (limit : ℕ) (font : FontValue) (n m : ℕ) (f g new : Frames) → GoesOver limit font n f m g → GoesOverOne font g new → m < limit → GoesOver limit font n f (m + 1) new
+pub over_one_more : (limit : ℕ) (font : FontValue) (n m : ℕ) (f g new : Frames) → GoesOver limit font n f m g → GoesOverOne font g new → m < limit
+    → GoesOver limit font n f (m + 1) new
 over_one_more limit font n m f g new over one near = λ steps behind.
     let so_far = over steps behind in
     let more = gone_over limit steps font m g new so_far.behind one near in
@@ -232,11 +247,21 @@ over_one_more limit font n m f g new over one near = λ steps behind.
     }
 
 -- What was asked, by what the answer leaves.
-pub asked_none : (numbers : Numbers) (limit : ℕ) (steps : List StepView) (font : FontValue) (n : ℕ) (answer : Answer) (f : Frames) → Answers limit steps font n answer f → IsAskedBehind numbers limit steps n (n + 1) (answer_view answer (step_value f.step))
+pub asked_none : (numbers : Numbers) (limit : ℕ) (steps : List StepView) (font : FontValue) (n : ℕ) (answer : Answer) (f : Frames)
+    → Answers limit steps font n answer f → IsAskedBehind numbers limit steps n (n + 1) (answer_view answer (step_value f.step))
 asked_none numbers limit steps font n answer f answers =
-    record { before = n; least = omega arith; passed = λ k from to. absurd (omega (arith, from, to)); told = λ is. refl; turn = answers.turn; counted = answers.count }
+    record {
+      before = n;
+      least = omega arith;
+      passed = λ k from to. absurd (omega (arith, from, to));
+      told = λ is. refl;
+      turn =
+          answers.turn;
+      counted = answers.count;
+    }
 
-pub asked_behind : (numbers : Numbers) (limit : ℕ) (steps : List StepView) (font : FontValue) (n before : ℕ) (f : Frames) (answer : Answer) (new : Frames) → HasGoneOver limit steps font n before f → (numbers ≡ Told → before ≡ n) → Answers limit steps font before answer new
+pub asked_behind : (numbers : Numbers) (limit : ℕ) (steps : List StepView) (font : FontValue) (n before : ℕ) (f : Frames) (answer : Answer) (new : Frames)
+    → HasGoneOver limit steps font n before f → (numbers ≡ Told → before ≡ n) → Answers limit steps font before answer new
     → IsAskedBehind numbers limit steps n (before + 1) (answer_view answer (step_value new.step))
 asked_behind numbers limit steps font n before f answer new over told answers =
     record { before = before; least = over.least; passed = over.passed; told = told; turn = answers.turn; counted = answers.count }
@@ -248,6 +273,7 @@ pub record IsRead (font : FontValue) (f executed passed new : Frames) (limit n b
   pub over : GoesOver limit font n executed before passed
   pub next : IsNext font before passed new
 
-pub gone_behind : (limit : ℕ) (steps : List StepView) (font : FontValue) (n before : ℕ) (f executed passed new : Frames) → GoesOnFrom limit steps font n f → IsRead font f executed passed new limit n before → HasGoneOver limit steps font n before passed
+pub gone_behind : (limit : ℕ) (steps : List StepView) (font : FontValue) (n before : ℕ) (f executed passed new : Frames) → GoesOnFrom limit steps font n f
+    → IsRead font f executed passed new limit n before → HasGoneOver limit steps font n before passed
 gone_behind limit steps font n before f executed passed new h read =
     read.over steps (behind_executed limit steps font n f executed h read.executed_is read.even)

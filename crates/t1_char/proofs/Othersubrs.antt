@@ -24,7 +24,8 @@ two_off s waiting c o =
     let rest : without 2 (s ++ c ∷ o ∷ []) ≡ s = grind (arith, common_steps) in
     rw (enough, top, second, rest) refl
 
-given : (below arguments waiting : List ℤ) (other : ℕ) → handed_over (Some other) (Some (length arguments)) (state (below ++ arguments) waiting) ≡ state below (results (Some other) arguments)
+given : (below arguments waiting : List ℤ) (other : ℕ) → handed_over (Some other) (Some (length arguments)) (state (below ++ arguments) waiting) ≡ state below
+    (results (Some other) arguments)
 given below arguments waiting other =
     let count : length (below ++ arguments) - length arguments ≡ length below = omega (arith, length-append below arguments) in
     let there : leb (length arguments) (length (below ++ arguments)) ≡ true = grind (arith, common_steps) in

@@ -11,7 +11,8 @@ use Rattle.t1_char.specs.Steps.{Run, StepView, effect_at, step_at, led_to, expan
 use Rattle.t1_char.specs.Laws.Steps.{finishes_at, up_to, token_and_path, calls_nothing, PlainGlyphsGoOn}
 
 -- Outside Subrs a token that calls nothing finishes the glyph or goes on.
-action_plain : (t : CharToken) (named : Option CalledSubr) (s : State) → calls_nothing t ≡ true → (effect_of t named 0 s).action ≡ cond (finishes_at t []) finishes goes
+action_plain : (t : CharToken) (named : Option CalledSubr) (s : State) → calls_nothing t ≡ true → (effect_of t named 0 s).action
+    ≡ cond (finishes_at t []) finishes goes
 action_plain (Command Callsubr) named s h = cc
 action_plain _ named s h = refl
 
@@ -21,12 +22,15 @@ outside t = (t, [])
 abbrev finishing : CharToken → Bool
 finishing t = finishes_at t []
 
-led_plain : (b : Bool) (t : CharToken) (step : StepView) (x : State) (behind : State → Run) (called : ℕ → List ℕ → State → Run) (ts : List CharToken) → token_and_path step ≡ outside t →
-    map token_and_path (behind x).steps ≡ map outside ts → map token_and_path (led_to step x (cond b finishes goes) behind called).steps ≡ map outside (cond b (t ∷ []) (t ∷ ts))
+led_plain : (b : Bool) (t : CharToken) (step : StepView) (x : State) (behind : State → Run) (called : ℕ → List ℕ → State → Run) (ts : List CharToken)
+    → token_and_path step ≡ outside t →
+    map token_and_path (behind x).steps ≡ map outside ts → map token_and_path (led_to step x (cond b finishes goes) behind called).steps
+    ≡ map outside (cond b (t ∷ []) (t ∷ ts))
 led_plain true t step x behind called ts is rest = ap (λ p. p ∷ []) is
 led_plain false t step x behind called ts is rest = ap (λ p. p ∷ map token_and_path (behind x).steps) is ∙ ap (λ l. outside t ∷ l) rest
 
-plain_from : (font : FontValue) (n : ℕ) (ts : List CharToken) (s : State) → AllPass calls_nothing ts → map token_and_path (expansion font n [] ts s).steps ≡ map outside (up_to finishing ts)
+plain_from : (font : FontValue) (n : ℕ) (ts : List CharToken) (s : State) → AllPass calls_nothing ts → map token_and_path (expansion font n [] ts s).steps
+    ≡ map outside (up_to finishing ts)
 unfolding expansion
 plain_from font n [] s none = refl
 plain_from font zero (t ∷ ts) s none =
@@ -34,13 +38,16 @@ plain_from font zero (t ∷ ts) s none =
     let behind : State → Run = λ y. expansion font zero [] ts y in
     let called : ℕ → List ℕ → State → Run = λ k code y. expansion font zero [] ts y in
     ap (λ a. map token_and_path (led_to (step_at font [] t ts s) x a behind called).steps) (action_plain t _ s (none 0 t (omega arith)))
-    ∙ led_plain (finishing t) t (step_at font [] t ts s) x behind called (up_to finishing ts) refl (plain_from font zero ts x (λ k d lt. none (suc k) d (omega arith)))
+    ∙ led_plain (finishing t) t (step_at font [] t ts s) x behind called (up_to finishing ts) refl
+    (plain_from font zero ts x (λ k d lt. none (suc k) d (omega arith)))
 plain_from font (suc n) (t ∷ ts) s none =
     let x : State = (effect_at font [] t s).state in
     let behind : State → Run = λ y. expansion font (suc n) [] ts y in
-    let called : ℕ → List ℕ → State → Run = λ k code y. and_then (expansion font n ([] ++ k ∷ []) (tokens_in font code) y) (λ z. expansion font (suc n) [] ts z) in
+    let called : ℕ → List ℕ → State → Run = λ k code y. and_then (expansion font n ([] ++ k ∷ []) (tokens_in font code) y)
+    (λ z. expansion font (suc n) [] ts z) in
     ap (λ a. map token_and_path (led_to (step_at font [] t ts s) x a behind called).steps) (action_plain t _ s (none 0 t (omega arith)))
-    ∙ led_plain (finishing t) t (step_at font [] t ts s) x behind called (up_to finishing ts) refl (plain_from font (suc n) ts x (λ k d lt. none (suc k) d (omega arith)))
+    ∙ led_plain (finishing t) t (step_at font [] t ts s) x behind called (up_to finishing ts) refl
+    (plain_from font (suc n) ts x (λ k d lt. none (suc k) d (omega arith)))
 
 pub plain_glyphs_go_on : PlainGlyphsGoOn
 unfolding steps_of

@@ -16,7 +16,8 @@ pub record IsSpelled (v : ℕ) (rest : List ℕ) (token : CharToken) (left : Lis
   pub split : v ∷ rest ≡ front ++ left
 
 -- Choices one after another.
-chosen : (P : Commands → Type 0) (b : Bool) (x : Commands) (other : Option Commands) → (b ≡ true → P x) → ((c : Commands) → other ≡ Some c → P c) → (c : Commands) → cond b (Some x) other ≡ Some c → P c
+chosen : (P : Commands → Type 0) (b : Bool) (x : Commands) (other : Option Commands) → (b ≡ true → P x) → ((c : Commands) → other ≡ Some c → P c)
+    → (c : Commands) → cond b (Some x) other ≡ Some c → P c
 chosen P true x other here there c h = let same : x ≡ c = cc in subst P same (here refl)
 chosen P false x other here there c h = there c h
 
@@ -115,7 +116,8 @@ negative_back v w rest low high byte =
       split = ap (λ x. x ∷ w ∷ rest) (sym first) ∙ ap (λ y. (n / 256 + 251) ∷ y ∷ rest) (sym second);
     }
 
-pub long_back : (a b c d : ℕ) (rest : List ℕ) → a < 256 → b < 256 → c < 256 → d < 256 → IsSpelled 255 (a ∷ b ∷ c ∷ d ∷ rest) (Number (signed_of (((a * 256 + b) * 256 + c) * 256 + d))) rest
+pub long_back : (a b c d : ℕ) (rest : List ℕ) → a < 256 → b < 256 → c < 256 → d < 256
+    → IsSpelled 255 (a ∷ b ∷ c ∷ d ∷ rest) (Number (signed_of (((a * 256 + b) * 256 + c) * 256 + d))) rest
 long_back a b c d rest fits_a fits_b fits_c fits_d =
     let n : ℕ = ((a * 256 + b) * 256 + c) * 256 + d in
     let first : n / 2 ^ 24 ≡ a = omega arith in

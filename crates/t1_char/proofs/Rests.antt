@@ -16,7 +16,8 @@ use Rattle.t1_char.proofs.Expanding.{run_goes, run_calls, run_returns, run_finis
 first_then : (step : StepView) (run : Run) (next : State → Run) → and_then (first step run) next ≡ first step (and_then run next)
 first_then step run next = by_finished run.finished run.steps run.state
   where
-    by_finished : (b : Bool) (steps : List StepView) (s : State) → cond b (first step (record { steps = steps; finished = b; state = s })) (after (step ∷ steps) (next s)) ≡ first step (cond b (record { steps = steps; finished = b; state = s }) (after steps (next s)))
+    by_finished : (b : Bool) (steps : List StepView) (s : State) → cond b (first step (record { steps = steps; finished = b; state = s }))
+        (after (step ∷ steps) (next s)) ≡ first step (cond b (record { steps = steps; finished = b; state = s }) (after steps (next s)))
     by_finished true steps s = refl
     by_finished false steps s = refl
 
@@ -26,7 +27,8 @@ then_nothing run = by_finished run.finished run.steps run.state
     with_steps : Bool → State → List StepView → Run
     with_steps b s steps = record { steps = steps; finished = b; state = s }
 
-    by_finished : (b : Bool) (steps : List StepView) (s : State) → cond b (record { steps = steps; finished = b; state = s }) (after steps (nothing s)) ≡ record { steps = steps; finished = b; state = s }
+    by_finished : (b : Bool) (steps : List StepView) (s : State) → cond b (record { steps = steps; finished = b; state = s }) (after steps (nothing s))
+        ≡ record { steps = steps; finished = b; state = s }
     by_finished true steps s = refl
     by_finished false steps s = ap (with_steps false s) (append-nil steps)
 
@@ -37,26 +39,33 @@ then_again run f next = by_finished run.finished run.steps run.state
     with_steps : Bool → State → List StepView → Run
     with_steps b s steps = record { steps = steps; finished = b; state = s }
 
-    joined : (front : List StepView) (b : Bool) (steps : List StepView) (s : State) → and_then (after front (record { steps = steps; finished = b; state = s })) next ≡ after front (and_then (record { steps = steps; finished = b; state = s }) next)
+    joined : (front : List StepView) (b : Bool) (steps : List StepView) (s : State) → and_then (after front (record { steps = steps; finished = b; state = s }))
+        next ≡ after front (and_then (record { steps = steps; finished = b; state = s }) next)
     joined front true steps s = refl
     joined front false steps s = ap (with_steps (next s).finished (next s).state) (append_assoc front steps (next s).steps)
 
-    by_finished : (b : Bool) (steps : List StepView) (s : State) → and_then (and_then (record { steps = steps; finished = b; state = s }) f) next ≡ and_then (record { steps = steps; finished = b; state = s }) (λ x. and_then (f x) next)
+    by_finished : (b : Bool) (steps : List StepView) (s : State) → and_then (and_then (record { steps = steps; finished = b; state = s }) f) next
+        ≡ and_then (record { steps = steps; finished = b; state = s }) (λ x. and_then (f x) next)
     by_finished true steps s = refl
     by_finished false steps s = joined steps (f s).finished (f s).steps (f s).state
 
 -- The glyph's own frame stands for the whole expansion.
-pub rest_of_one : (font : FontValue) (path : List ℕ) (ts : List CharToken) (s : State) → rest_of font (frame path ts ∷ []) s ≡ expansion font (most_calls - length path) path ts s
+pub rest_of_one : (font : FontValue) (path : List ℕ) (ts : List CharToken) (s : State) → rest_of font (frame path ts ∷ []) s ≡ expansion font
+    (most_calls - length path) path ts s
 unfolding rest_of
 rest_of_one font path ts s = then_nothing (expansion font (most_calls - length path) path ts s)
 
-pub rest_goes : (font : FontValue) (path : List ℕ) (t : CharToken) (ts : List CharToken) (frames : List Frame) (s x : State) → effect_at font path t s ≡ effect x goes → rest_of font (frame path (t ∷ ts) ∷ frames) s ≡ first (step_at font path t ts s) (rest_of font (frame path ts ∷ frames) x)
+pub rest_goes : (font : FontValue) (path : List ℕ) (t : CharToken) (ts : List CharToken) (frames : List Frame) (s x : State)
+    → effect_at font path t s ≡ effect x goes → rest_of font (frame path (t ∷ ts) ∷ frames) s ≡ first (step_at font path t ts s)
+    (rest_of font (frame path ts ∷ frames) x)
 unfolding rest_of
 rest_goes font path t ts frames s x is =
     ap (λ run. and_then run (λ y. rest_of font frames y)) (run_goes font (most_calls - length path) path t ts s x is)
     ∙ first_then (step_at font path t ts s) (expansion font (most_calls - length path) path ts x) (λ y. rest_of font frames y)
 
-pub rest_calls : (font : FontValue) (path : List ℕ) (t : CharToken) (ts : List CharToken) (frames : List Frame) (s x : State) (number : ℕ) (code : List ℕ) → length path < most_calls → effect_at font path t s ≡ effect x (calls number code) → rest_of font (frame path (t ∷ ts) ∷ frames) s ≡ first (step_at font path t ts s) (rest_of font (frame (path ++ number ∷ []) (tokens_in font code) ∷ frame path ts ∷ frames) x)
+pub rest_calls : (font : FontValue) (path : List ℕ) (t : CharToken) (ts : List CharToken) (frames : List Frame) (s x : State) (number : ℕ) (code : List ℕ)
+    → length path < most_calls → effect_at font path t s ≡ effect x (calls number code) → rest_of font (frame path (t ∷ ts) ∷ frames) s
+    ≡ first (step_at font path t ts s) (rest_of font (frame (path ++ number ∷ []) (tokens_in font code) ∷ frame path ts ∷ frames) x)
 unfolding rest_of
 rest_calls font path t ts frames s x number code deep is =
     let n : ℕ = most_calls - length (path ++ number ∷ []) in
@@ -70,25 +79,29 @@ rest_calls font path t ts frames s x number code deep is =
     ∙ ap (first (step_at font path t ts s)) (then_again inner (λ y. expansion font (suc n) path ts y) below)
     ∙ ap (λ k. first (step_at font path t ts s) (and_then inner (λ y. and_then (expansion font k path ts y) below))) (sym one_more)
 
-pub rest_returns : (font : FontValue) (path : List ℕ) (t : CharToken) (ts : List CharToken) (frames : List Frame) (s x : State) → effect_at font path t s ≡ effect x returns → rest_of font (frame path (t ∷ ts) ∷ frames) s ≡ first (step_at font path t ts s) (rest_of font frames x)
+pub rest_returns : (font : FontValue) (path : List ℕ) (t : CharToken) (ts : List CharToken) (frames : List Frame) (s x : State)
+    → effect_at font path t s ≡ effect x returns → rest_of font (frame path (t ∷ ts) ∷ frames) s ≡ first (step_at font path t ts s) (rest_of font frames x)
 unfolding rest_of
 rest_returns font path t ts frames s x is =
     ap (λ run. and_then run (λ y. rest_of font frames y)) (run_returns font (most_calls - length path) path t ts s x is)
 
-pub rest_finishes : (font : FontValue) (path : List ℕ) (t : CharToken) (ts : List CharToken) (frames : List Frame) (s x : State) → effect_at font path t s ≡ effect x finishes → rest_of font (frame path (t ∷ ts) ∷ frames) s ≡ only (step_at font path t ts s) true x
+pub rest_finishes : (font : FontValue) (path : List ℕ) (t : CharToken) (ts : List CharToken) (frames : List Frame) (s x : State)
+    → effect_at font path t s ≡ effect x finishes → rest_of font (frame path (t ∷ ts) ∷ frames) s ≡ only (step_at font path t ts s) true x
 unfolding rest_of
 rest_finishes font path t ts frames s x is =
     ap (λ run. and_then run (λ y. rest_of font frames y)) (run_finishes font (most_calls - length path) path t ts s x is)
 
 -- Callers keep their paths where the path grows.
-callers_keep : (path : List ℕ) (number n : ℕ) (callers : List Cursor) → n + length callers ≤ length path → callers_of (path ++ number ∷ []) n callers ≡ callers_of path n callers
+callers_keep : (path : List ℕ) (number n : ℕ) (callers : List Cursor) → n + length callers ≤ length path
+    → callers_of (path ++ number ∷ []) n callers ≡ callers_of path n callers
 unfolding callers_of
 callers_keep path number n [] short = refl
 callers_keep path number n (caller ∷ callers) short =
     ap (λ frames. frames ++ frame (take n (path ++ number ∷ [])) (tokens_left caller) ∷ []) (callers_keep path number (n + 1) callers (omega arith))
     ∙ ap (λ front. callers_of path (n + 1) callers ++ frame front (tokens_left caller) ∷ []) (take-append-le n path (number ∷ []) (omega arith))
 
-last_caller : (path : List ℕ) (n : ℕ) (callers : List Cursor) (caller : Cursor) → callers_of path n (callers ++ caller ∷ []) ≡ frame (take (n + length callers) path) (tokens_left caller) ∷ callers_of path n callers
+last_caller : (path : List ℕ) (n : ℕ) (callers : List Cursor) (caller : Cursor) → callers_of path n (callers ++ caller ∷ [])
+    ≡ frame (take (n + length callers) path) (tokens_left caller) ∷ callers_of path n callers
 unfolding callers_of
 last_caller path n [] caller = ap (λ k. frame (take k path) (tokens_left caller) ∷ []) (omega arith)
 last_caller path n (first ∷ callers) caller =
@@ -97,7 +110,8 @@ last_caller path n (first ∷ callers) caller =
     ∙ ap (λ k. frame (take k path) (tokens_left caller) ∷ callers_of path (n + 1) callers ++ frame (take n path) (tokens_left first) ∷ []) same
 
 -- The caller on top of the others.
-pub caller_on_top : (path : List ℕ) (number : ℕ) (callers : List Cursor) (caller : Cursor) → length path ≡ length callers → callers_of (path ++ number ∷ []) 0 (callers ++ caller ∷ []) ≡ frame path (tokens_left caller) ∷ callers_of path 0 callers
+pub caller_on_top : (path : List ℕ) (number : ℕ) (callers : List Cursor) (caller : Cursor) → length path ≡ length callers
+    → callers_of (path ++ number ∷ []) 0 (callers ++ caller ∷ []) ≡ frame path (tokens_left caller) ∷ callers_of path 0 callers
 caller_on_top path number callers caller even =
     let same : 0 + length callers ≡ length path = omega (arith, even) in
     last_caller (path ++ number ∷ []) 0 callers caller

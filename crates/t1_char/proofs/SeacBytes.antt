@@ -73,7 +73,10 @@ not_seac : (v : ℕ) (rest : List ℕ) → has_pair v rest ≡ false → is_seac
 not_seac v rest none = by_form (nat_lt v 32) (v == 12) (nat_lt v 247) (nat_lt v 251) (nat_lt v 255) refl
   where
     by_form : (low escape one two_up two_down : Bool) → (v == 12) ≡ escape
-        → is_seac (completed (cond low (cond escape (two (λ w. escaped_code w (escaped_of w))) (whole (plain_code v (command_of v)))) (cond one (whole (Number (pos v -ℤ pos 139))) (cond two_up (two (λ w. Number (pos ((v - 247) * 256 + w + 108)))) (cond two_down (two (λ w. Number (neg_ℤ (pos ((v - 251) * 256 + w + 108))))) five)))) rest) ≡ false
+        → is_seac (completed (cond low (cond escape (two (λ w. escaped_code w (escaped_of w))) (whole (plain_code v (command_of v))))
+        (cond one (whole (Number (pos v -ℤ pos 139)))
+        (cond two_up (two (λ w. Number (pos ((v - 247) * 256 + w + 108))))
+        (cond two_down (two (λ w. Number (neg_ℤ (pos ((v - 251) * 256 + w + 108))))) five)))) rest) ≡ false
     by_form true true _ _ _ is = escaped_behind v rest is none
     by_form true false _ _ _ is = plain_token v (command_of v) (plain_other v)
     by_form false _ true _ _ is = refl

@@ -52,7 +52,9 @@ any_at e front [] k at = absurd (nowhere e front k at)
 any_at e front (s ∷ ss) zero at = ap (λ b. b || any_from e (front ++ s ∷ []) ss) (at_here e front ss s at)
 any_at e front (s ∷ ss) (suc k) at = or_true (e front s) _ (any_at e (front ++ s ∷ []) ss k (sooner e front ss s k at))
 
-any_by : (e : Test) (front ss : List StepView) (s : StepView) (x : Bool) → e front s ≡ x → (any_from e (front ++ s ∷ []) ss ≡ true → (k : ℕ) × IsBehind e (front ++ s ∷ []) ss k) → (x || any_from e (front ++ s ∷ []) ss) ≡ true → (k : ℕ) × IsBehind e front (s ∷ ss) k
+any_by : (e : Test) (front ss : List StepView) (s : StepView) (x : Bool) → e front s ≡ x
+    → (any_from e (front ++ s ∷ []) ss ≡ true → (k : ℕ) × IsBehind e (front ++ s ∷ []) ss k) → (x || any_from e (front ++ s ∷ []) ss) ≡ true → (k : ℕ)
+    × IsBehind e front (s ∷ ss) k
 any_by e front ss s true is rest h = (0, here e front ss s is)
 any_by e front ss s false is rest h = (suc (rest h).0, later e front ss s (rest h).0 (rest h).1)
 
@@ -68,7 +70,8 @@ none_later e front ss none = by_any (any_from e front ss) refl
     by_any false is = is
 
 -- In both directions, behind a front.
-after_rest : (a b : Test) (front ss : List StepView) (s : StepView) (rest : IsSinceBehind a b (front ++ s ∷ []) ss) (k : ℕ) → suc rest.place < k → IsBehind b front (s ∷ ss) k → ⊥
+after_rest : (a b : Test) (front ss : List StepView) (s : StepView) (rest : IsSinceBehind a b (front ++ s ∷ []) ss) (k : ℕ) → suc rest.place < k
+    → IsBehind b front (s ∷ ss) k → ⊥
 after_rest a b front ss s rest zero lt at = absurd (omega arith)
 after_rest a b front ss s rest (suc k) lt at = rest.lasts k (omega arith) (sooner b front ss s k at)
 
@@ -80,7 +83,8 @@ after_here : (b : Test) (front ss : List StepView) (s : StepView) → any_from b
 after_here b front ss s none zero lt at = absurd (omega arith)
 after_here b front ss s none (suc k) lt at = not_both _ none (any_at b (front ++ s ∷ []) ss k (sooner b front ss s k at))
 
-told_by : (a b : Test) (front ss : List StepView) (s : StepView) (x y : Bool) → a front s ≡ x → any_from b (front ++ s ∷ []) ss ≡ y → (since_from a b (front ++ s ∷ []) ss ≡ true → IsSinceBehind a b (front ++ s ∷ []) ss) →
+told_by : (a b : Test) (front ss : List StepView) (s : StepView) (x y : Bool) → a front s ≡ x → any_from b (front ++ s ∷ []) ss ≡ y
+    → (since_from a b (front ++ s ∷ []) ss ≡ true → IsSinceBehind a b (front ++ s ∷ []) ss) →
     ((x && not y) || since_from a b (front ++ s ∷ []) ss) ≡ true → IsSinceBehind a b front (s ∷ ss)
 told_by a b front ss s true false is none rest h = record { place = 0; begins = here a front ss s is; lasts = after_here b front ss s none }
 told_by a b front ss s true true is none rest h = in_rest a b front ss s (rest h)
@@ -90,7 +94,8 @@ told : (a b : Test) (front ss : List StepView) → since_from a b front ss ≡ t
 told a b front [] h = absurd (not_both false refl h)
 told a b front (s ∷ ss) h = told_by a b front ss s (a front s) (any_from b (front ++ s ∷ []) ss) refl refl (λ r. told a b (front ++ s ∷ []) ss r) h
 
-shown : (a b : Test) (front ss : List StepView) (place : ℕ) → IsBehind a front ss place → ((k : ℕ) → place < k → IsBehind b front ss k → ⊥) → since_from a b front ss ≡ true
+shown : (a b : Test) (front ss : List StepView) (place : ℕ) → IsBehind a front ss place → ((k : ℕ) → place < k → IsBehind b front ss k → ⊥)
+    → since_from a b front ss ≡ true
 shown a b front [] place begins lasts = absurd (nowhere a front place begins)
 shown a b front (s ∷ ss) zero begins lasts =
     let none : any_from b (front ++ s ∷ []) ss ≡ false = none_later b (front ++ s ∷ []) ss (λ k at. lasts (suc k) (omega arith) (later b front ss s k at)) in

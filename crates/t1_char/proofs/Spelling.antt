@@ -51,7 +51,8 @@ read_negative n rest most =
     reads_by v ((n % 256) ∷ rest) (two (λ w. Number (neg_ℤ (pos ((v - 251) * 256 + w + 108))))) (form_negative v (omega arith) (omega arith))
     ∙ ap (λ x. Number (neg_ℤ (pos x)) ∷ tokens_of rest) value
 
-read_long : (n : ℕ) (rest : List ℕ) → n < 2 ^ 32 → tokens_of (255 ∷ (n / 2 ^ 24) ∷ (n / 2 ^ 16 % 256) ∷ (n / 2 ^ 8 % 256) ∷ (n % 256) ∷ rest) ≡ Number (signed_of n) ∷ tokens_of rest
+read_long : (n : ℕ) (rest : List ℕ) → n < 2 ^ 32 → tokens_of (255 ∷ (n / 2 ^ 24) ∷ (n / 2 ^ 16 % 256) ∷ (n / 2 ^ 8 % 256) ∷ (n % 256) ∷ rest)
+    ≡ Number (signed_of n) ∷ tokens_of rest
 unfolding tokens_behind
 read_long n rest most =
     let value : ((n / 2 ^ 24 * 256 + n / 2 ^ 16 % 256) * 256 + n / 2 ^ 8 % 256) * 256 + n % 256 ≡ n = omega arith in

@@ -28,7 +28,8 @@ ActionLacks font (calls number code) = has_seac font code ≡ false
 ActionLacks font returns = Unit {0}
 ActionLacks font finishes = Unit {0}
 
-of_lookup : (font : FontValue) (subrs : List (ℕ × List ℕ)) (number : ℕ) → list_any (subr_has_seac font) subrs ≡ false → NamedLacks font (with_code number (lookup (nat_eq number) subrs))
+of_lookup : (font : FontValue) (subrs : List (ℕ × List ℕ)) (number : ℕ) → list_any (subr_has_seac font) subrs ≡ false
+    → NamedLacks font (with_code number (lookup (nat_eq number) subrs))
 of_lookup font [] number none = tt
 of_lookup font (subr ∷ subrs) number none = by_number (nat_eq number subr.0) (or_parts _ _ none).0 (of_lookup font subrs number (or_parts _ _ none).1)
   where
@@ -63,7 +64,8 @@ of_back font otherwise depth lacks = by_depth (nat_lt 0 depth)
     by_depth true = tt
     by_depth false = lacks
 
-of_work : (font : FontValue) (w : Work) (named : Option CalledSubr) (depth : ℕ) (s : State) → NamedLacks font named → ActionLacks font (working w named depth s).action
+of_work : (font : FontValue) (w : Work) (named : Option CalledSubr) (depth : ℕ) (s : State) → NamedLacks font named
+    → ActionLacks font (working w named depth s).action
 of_work font clears named depth s lacks = tt
 of_work font finishes_glyph named depth s lacks = tt
 of_work font divides named depth s lacks = tt
@@ -72,7 +74,8 @@ of_work font returns_back named depth s lacks = of_back font goes depth tt
 of_work font calls_othersubr named depth s lacks = tt
 of_work font pops named depth s lacks = tt
 
-of_effect : (font : FontValue) (t : CharToken) (named : Option CalledSubr) (depth : ℕ) (s : State) → NamedLacks font named → ActionLacks font (effect_of t named depth s).action
+of_effect : (font : FontValue) (t : CharToken) (named : Option CalledSubr) (depth : ℕ) (s : State) → NamedLacks font named
+    → ActionLacks font (effect_of t named depth s).action
 of_effect font (Number z) named depth s lacks = tt
 of_effect font (Command c) named depth s lacks = of_work font (work_of c) named depth s lacks
 of_effect font (Unknown _) named depth s lacks = tt
@@ -84,8 +87,10 @@ of_effect font End named depth s lacks = of_back font finishes depth tt
 both_lack : (steps more : List StepView) → Lacks steps → Lacks more → Lacks (steps ++ more)
 both_lack steps more these those = list_any-append step_is_seac steps more ∙ rw (these, those) refl
 
-led_lacks : (font : FontValue) (step : StepView) (x : State) (a : Action) (behind : State → Run) (called : ℕ → List ℕ → State → Run) → step_is_seac step ≡ false → ActionLacks font a
-    → ((y : State) → Lacks (behind y).steps) → ((k : ℕ) (code : List ℕ) (y : State) → has_seac font code ≡ false → Lacks (called k code y).steps) → Lacks (led_to step x a behind called).steps
+led_lacks : (font : FontValue) (step : StepView) (x : State) (a : Action) (behind : State → Run) (called : ℕ → List ℕ → State → Run) → step_is_seac step ≡ false
+    → ActionLacks font a
+    → ((y : State) → Lacks (behind y).steps) → ((k : ℕ) (code : List ℕ) (y : State) → has_seac font code ≡ false → Lacks (called k code y).steps)
+    → Lacks (led_to step x a behind called).steps
 led_lacks font step x goes behind called is lacks one other = rw (is, one x) refl
 led_lacks font step x (calls k code) behind called is lacks one other = rw (is, other k code x lacks) refl
 led_lacks font step x returns behind called is lacks one other = rw is refl
@@ -94,11 +99,13 @@ led_lacks font step x finishes behind called is lacks one other = rw is refl
 then_lacks : (run : Run) (next : State → Run) → Lacks run.steps → ((x : State) → Lacks (next x).steps) → Lacks (and_then run next).steps
 then_lacks run next one rest = by_finished run.finished run.steps run.state one
   where
-    by_finished : (b : Bool) (steps : List StepView) (x : State) → Lacks steps → Lacks (cond b (record { steps = steps; finished = b; state = x }) (after steps (next x))).steps
+    by_finished : (b : Bool) (steps : List StepView) (x : State) → Lacks steps
+        → Lacks (cond b (record { steps = steps; finished = b; state = x }) (after steps (next x))).steps
     by_finished true steps x these = these
     by_finished false steps x these = both_lack steps (next x).steps these (rest x)
 
-from_tokens : (font : FontValue) → subrs_have_seac font ≡ false → (n : ℕ) (path : List ℕ) (ts : List CharToken) (s : State) → list_any is_seac ts ≡ false → Lacks (expansion font n path ts s).steps
+from_tokens : (font : FontValue) → subrs_have_seac font ≡ false → (n : ℕ) (path : List ℕ) (ts : List CharToken) (s : State) → list_any is_seac ts ≡ false
+    → Lacks (expansion font n path ts s).steps
 unfolding expansion
 from_tokens font none n path [] s lack = refl
 from_tokens font none zero path (t ∷ ts) s lack =
@@ -113,6 +120,7 @@ from_tokens font none (suc n) path (t ∷ ts) s lack =
     (from_tokens font none n (path ++ k ∷ []) (tokens_in font code) y those)
     (λ z. from_tokens font none (suc n) path ts z (or_parts _ _ lack).1))
 
-pub steps_lack_seac : (font : FontValue) (glyph : ℕ) → subrs_have_seac font ≡ false → has_seac font (code_at font glyph) ≡ false → list_any step_is_seac (steps_of font glyph) ≡ false
+pub steps_lack_seac : (font : FontValue) (glyph : ℕ) → subrs_have_seac font ≡ false → has_seac font (code_at font glyph) ≡ false
+    → list_any step_is_seac (steps_of font glyph) ≡ false
 unfolding steps_of
 steps_lack_seac font glyph none own = from_tokens font none most_calls [] (tokens_in font (code_at font glyph)) at_start own

@@ -79,7 +79,8 @@ top_of (z ∷ zs) some =
     get_or-reverse (z ∷ zs) 0 (pos 0) (omega arith) ∙ ap (λ n. slice_index_or (z ∷ zs) n (pos 0)) place in
     (take (length zs) (z ∷ zs), with_top z zs ∙ ap (λ x. take (length zs) (z ∷ zs) ++ x ∷ []) (sym top))
 
-code_there : (font : FontValue) (t : CharToken) (stack : List ℤ) (number : ℕ) (found : Option (List ℕ)) → subr_in font number ≡ found → is_some (with_code number found) ≡ true
+code_there : (font : FontValue) (t : CharToken) (stack : List ℤ) (number : ℕ) (found : Option (List ℕ)) → subr_in font number ≡ found
+    → is_some (with_code number found) ≡ true
     → t ≡ Command Callsubr → 0 < length stack → from_top stack 0 ≡ units (pos number) → CallsASubr font t stack number
 code_there font t stack number None is h token some top = let no : false ≡ true = h in cc
 code_there font t stack number (Some code) is h token some top =
@@ -110,4 +111,11 @@ top_is below z = grind (arith, common_steps)
 pub called_subrs_are_found : CalledSubrsAreFound
 called_subrs_are_found font path t behind s number few calls =
     let there : 0 < length (calls.below ++ units (pos number) ∷ []) = omega (arith, length-append calls.below (units (pos number) ∷ [])) in
-    rw (calls.token, calls.stack_is, lt-ltb 0 (length (calls.below ++ units (pos number) ∷ [])) there, top_is calls.below (units (pos number)), natural_of number few, calls.there) refl
+    rw (
+      calls.token,
+      calls.stack_is,
+      lt-ltb 0 (length (calls.below ++ units (pos number) ∷ [])) there,
+      top_is calls.below (units (pos number)),
+      natural_of number few,
+      calls.there,
+    ) refl

@@ -111,7 +111,8 @@ not_more : (ts : List CharToken) → [] ≡ ts ++ End ∷ [] → ⊥
 not_more [] h = cc
 not_more (t ∷ ts) h = cc
 
-back : (most : ℕ) (bytes : List ℕ) (ts : List CharToken) → length bytes ≤ most → AreFit bytes → AreUncut ts → tokens_of bytes ≡ ts ++ End ∷ [] → AreWritten ts bytes
+back : (most : ℕ) (bytes : List ℕ) (ts : List CharToken) → length bytes ≤ most → AreFit bytes → AreUncut ts → tokens_of bytes ≡ ts ++ End ∷ []
+    → AreWritten ts bytes
 unfolding tokens_behind
 back most [] [] short fit uncut is = nothing_left
 back most [] (t ∷ ts) short fit uncut is = absurd (not_more ts (tail_same End t [] (ts ++ End ∷ []) is))

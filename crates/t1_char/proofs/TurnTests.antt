@@ -12,7 +12,8 @@ turn_by_limit limit steps n =
     elim (cases_lt n (length (take limit steps))) [
       | inl left ↦
           let below : n < limit = omega (arith, left, length-take limit steps) in
-          ap (λ b. cond b (step_or_end n (slice_get steps n)) (limit_or_end limit (slice_get steps limit))) (lt-ltb n (length (take limit steps)) left ∙ sym (lt-ltb n limit below))
+          ap (λ b. cond b (step_or_end n (slice_get steps n)) (limit_or_end limit (slice_get steps limit)))
+          (lt-ltb n (length (take limit steps)) left ∙ sym (lt-ltb n limit below))
       | inr none ↦
           ap (λ b. cond b (step_or_end n (slice_get steps n)) (limit_or_end limit (slice_get steps limit))) (le-ltb n (length (take limit steps)) none)
           ∙ elim (cases_lt n limit) [

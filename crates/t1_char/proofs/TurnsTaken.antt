@@ -51,12 +51,14 @@ stepped_is limit steps n answer is = by_place (nat_lt n limit) (slice_get steps 
           within = less;
           there = get ∙ ap (λ (x : StepView). Some x) (sym (ap (λ a. a.step) same));
           more = take_more (take limit steps) n step less
-              ∙ ap (λ x. take n (take limit steps) ++ x ∷ []) (get_or-take limit steps n step below ∙ get_or_from_slice_get steps n step step get ∙ sym (ap (λ a. a.step) same));
+              ∙ ap (λ x. take n (take limit steps) ++ x ∷ []) (get_or-take limit steps n step below ∙ get_or_from_slice_get steps n step step get
+              ∙ sym (ap (λ a. a.step) same));
           number = ap (λ a. a.number) same;
           counted = ap (λ b. cond b n (n + 1)) (le-ltb (length (take limit steps)) n (omega (arith, less)));
         }
 
-    by_place : (b : Bool) (o : Option StepView) → nat_lt n limit ≡ b → slice_get steps n ≡ o → stepped answer ≡ cond b (step_or_end n o) (limit_or_end limit (slice_get steps limit)) → IsStepped limit steps n answer
+    by_place : (b : Bool) (o : Option StepView) → nat_lt n limit ≡ b → slice_get steps n ≡ o → stepped answer ≡ cond b (step_or_end n o)
+        (limit_or_end limit (slice_get steps limit)) → IsStepped limit steps n answer
     by_place true (Some step) below get is = of_step step (ltb-true n limit below) get (ap (step_in answer) is)
     by_place true None below get is = absurd (true≢false (ap is_step is))
     by_place false o above get is = absurd (true≢false (ap is_step is ∙ no_limit limit (slice_get steps limit)))
@@ -90,22 +92,28 @@ pub record Executes (edition : Edition) (font : FontValue) (glyph : ℕ) (m : Ma
   pub font_is : m.font ≡ font
   pub glyph_is : m.glyph ≡ glyph
 
-pub same_turn : (edition : Edition) (m : MachineView) (font : FontValue) (glyph : ℕ) → Executes edition font glyph m → turn_at (limit_of m.edition) (steps_of m.font m.glyph) m.counted ≡ turn_at (limit_of edition) (steps_of font glyph) m.counted
+pub same_turn : (edition : Edition) (m : MachineView) (font : FontValue) (glyph : ℕ) → Executes edition font glyph m
+    → turn_at (limit_of m.edition) (steps_of m.font m.glyph) m.counted ≡ turn_at (limit_of edition) (steps_of font glyph) m.counted
 same_turn edition m font glyph same =
     ap (λ e. turn_at (limit_of e) (steps_of m.font m.glyph) m.counted) same.edition_is
     ∙ ap (λ f. turn_at (limit_of edition) (steps_of f m.glyph) m.counted) same.font_is
     ∙ ap (λ g. turn_at (limit_of edition) (steps_of font g) m.counted) same.glyph_is
 
-pub same_count : (edition : Edition) (m : MachineView) (font : FontValue) (glyph : ℕ) → Executes edition font glyph m → counted_after (limit_of m.edition) (steps_of m.font m.glyph) m.counted ≡ counted_after (limit_of edition) (steps_of font glyph) m.counted
+pub same_count : (edition : Edition) (m : MachineView) (font : FontValue) (glyph : ℕ) → Executes edition font glyph m
+    → counted_after (limit_of m.edition) (steps_of m.font m.glyph) m.counted ≡ counted_after (limit_of edition) (steps_of font glyph) m.counted
 same_count edition m font glyph same =
     ap (λ e. counted_after (limit_of e) (steps_of m.font m.glyph) m.counted) same.edition_is
     ∙ ap (λ f. counted_after (limit_of edition) (steps_of f m.glyph) m.counted) same.font_is
     ∙ ap (λ g. counted_after (limit_of edition) (steps_of font g) m.counted) same.glyph_is
 
-pub machine_stepped : (edition : Edition) (m : MachineView) (font : FontValue) (glyph : ℕ) (answer : NumberedStep) → Executes edition font glyph m → stepped answer ≡ turn_at (limit_of m.edition) (steps_of m.font m.glyph) m.counted → IsStepped (limit_of edition) (steps_of font glyph) m.counted answer
-machine_stepped edition m font glyph answer same is = stepped_is (limit_of edition) (steps_of font glyph) m.counted answer (is ∙ same_turn edition m font glyph same)
+pub machine_stepped : (edition : Edition) (m : MachineView) (font : FontValue) (glyph : ℕ) (answer : NumberedStep) → Executes edition font glyph m
+    → stepped answer ≡ turn_at (limit_of m.edition) (steps_of m.font m.glyph) m.counted → IsStepped (limit_of edition) (steps_of font glyph) m.counted answer
+machine_stepped edition m font glyph answer same is = stepped_is (limit_of edition) (steps_of font glyph) m.counted answer
+    (is ∙ same_turn edition m font glyph same)
 
-pub machine_counted : (edition : Edition) (m : MachineView) (font : FontValue) (glyph : ℕ) (answer : NumberedStep) (counted : ℕ) → Executes edition font glyph m → IsStepped (limit_of edition) (steps_of font glyph) m.counted answer → counted ≡ counted_after (limit_of m.edition) (steps_of m.font m.glyph) m.counted → counted ≡ m.counted + 1
+pub machine_counted : (edition : Edition) (m : MachineView) (font : FontValue) (glyph : ℕ) (answer : NumberedStep) (counted : ℕ) → Executes edition font glyph m
+    → IsStepped (limit_of edition) (steps_of font glyph) m.counted answer → counted ≡ counted_after (limit_of m.edition) (steps_of m.font m.glyph) m.counted
+    → counted ≡ m.counted + 1
 machine_counted edition m font glyph answer counted same stepped_to is = is ∙ same_count edition m font glyph same ∙ stepped_to.counted
 
 not_step : (turn : Turns) → ((step : Bor Steps) → turn ≡ Step step → ⊥) → is_step (turn_value turn) ≡ false
@@ -113,7 +121,9 @@ not_step (Step step) other = absurd (other step refl)
 not_step Ended other = refl
 not_step (Limit step) other = refl
 
-pub machine_over : (edition : Edition) (m : MachineView) (font : FontValue) (glyph : ℕ) (turn : Turns) → Executes edition font glyph m → ((step : Bor Steps) → turn ≡ Step step → ⊥) → turn_value turn ≡ turn_at (limit_of m.edition) (steps_of m.font m.glyph) m.counted → take m.counted (take (limit_of edition) (steps_of font glyph)) ≡ take (limit_of edition) (steps_of font glyph)
+pub machine_over : (edition : Edition) (m : MachineView) (font : FontValue) (glyph : ℕ) (turn : Turns) → Executes edition font glyph m
+    → ((step : Bor Steps) → turn ≡ Step step → ⊥) → turn_value turn ≡ turn_at (limit_of m.edition) (steps_of m.font m.glyph) m.counted
+    → take m.counted (take (limit_of edition) (steps_of font glyph)) ≡ take (limit_of edition) (steps_of font glyph)
 machine_over edition m font glyph turn same other is =
     take_all m.counted (take (limit_of edition) (steps_of font glyph))
     (turns_over (limit_of edition) (steps_of font glyph) m.counted (ap is_step (sym (is ∙ same_turn edition m font glyph same)) ∙ not_step turn other))
@@ -124,7 +134,8 @@ no_step answers.Step step other = absurd (other refl)
 no_step answers.Ended step other = refl
 no_step answers.Limit step other = refl
 
-pub answered_over : (limit : ℕ) (steps : List StepView) (n : ℕ) (answer : Answer) (step : NumberedStep) → (answer ≡ answers.Step → ⊥) → answer_view answer step ≡ turn_at limit steps n → take n (take limit steps) ≡ take limit steps
+pub answered_over : (limit : ℕ) (steps : List StepView) (n : ℕ) (answer : Answer) (step : NumberedStep) → (answer ≡ answers.Step → ⊥)
+    → answer_view answer step ≡ turn_at limit steps n → take n (take limit steps) ≡ take limit steps
 answered_over limit steps n answer step other is =
     take_all n (take limit steps) (turns_over limit steps n (ap is_step (sym is) ∙ no_step answer step other))
 
@@ -132,7 +143,8 @@ answered_over limit steps n answer step other is =
 abbrev pub behind : MachineView → ℕ → MachineView
 behind m calls = record { font = m.font; glyph = m.glyph; edition = m.edition; counted = calls; step = m.step }
 
-pub executes_behind : (edition : Edition) (m : MachineView) (font : FontValue) (glyph calls : ℕ) → Executes edition font glyph m → Executes edition font glyph (behind m calls)
+pub executes_behind : (edition : Edition) (m : MachineView) (font : FontValue) (glyph calls : ℕ) → Executes edition font glyph m
+    → Executes edition font glyph (behind m calls)
 executes_behind edition m font glyph calls same = record { edition_is = same.edition_is; font_is = same.font_is; glyph_is = same.glyph_is }
 
 -- How many calls are left.
@@ -163,7 +175,8 @@ pub ended_is : (limit : ℕ) (steps : List StepView) (n : ℕ) → ended ≡ tur
 unfolding is_end
 ended_is limit steps n is = by_place (nat_lt n limit) (slice_get steps n) (slice_get steps limit) refl refl refl (is ∙ turn_by_limit limit steps n)
   where
-    by_place : (b : Bool) (o p : Option StepView) → nat_lt n limit ≡ b → slice_get steps n ≡ o → slice_get steps limit ≡ p → ended ≡ cond b (step_or_end n o) (limit_or_end limit p) → IsOver limit steps n
+    by_place : (b : Bool) (o p : Option StepView) → nat_lt n limit ≡ b → slice_get steps n ≡ o → slice_get steps limit ≡ p
+        → ended ≡ cond b (step_or_end n o) (limit_or_end limit p) → IsOver limit steps n
     by_place true None p below get past is =
         let all : length steps ≤ n = get_none steps n get in
         record { few = omega (arith, all, ltb-true n limit below); all = all }
@@ -198,7 +211,8 @@ limited_is limit steps n answer is = by_place (nat_lt n limit) (slice_get steps 
           number = ap (λ a. a.number) same;
         }
 
-    by_place : (b : Bool) (o p : Option StepView) → nat_lt n limit ≡ b → slice_get steps limit ≡ p → limited answer ≡ cond b (step_or_end n o) (limit_or_end limit p) → IsLimited limit steps n answer
+    by_place : (b : Bool) (o p : Option StepView) → nat_lt n limit ≡ b → slice_get steps limit ≡ p → limited answer ≡ cond b (step_or_end n o)
+        (limit_or_end limit p) → IsLimited limit steps n answer
     by_place true None p below past is = absurd (true≢false (ap is_limit is))
     by_place true (Some step) p below past is = absurd (true≢false (ap is_limit is))
     by_place false o None above past is = absurd (true≢false (ap is_limit is))

@@ -58,7 +58,8 @@ one_subr = (refl, omega arith, All-nil IsSubrItem)
 abbrev to_dup : List (List ℕ)
 to_dup = [] ∷ space ∷ space ∷ space ∷ []
 
-dup_begun : (left : List ℕ) → are_apart to_dup (begun_pieces (among lone_dup)) left ≡ true → IsBegun (among lone_dup) (text_with to_dup (begun_pieces (among lone_dup)) left) left
+dup_begun : (left : List ℕ) → are_apart to_dup (begun_pieces (among lone_dup)) left ≡ true
+    → IsBegun (among lone_dup) (text_with to_dup (begun_pieces (among lone_dup)) left) left
 dup_begun left h = record { parts = (All-nil IsPrivateItem, one_subr, tt); written = is_written to_dup (begun_pieces (among lone_dup)) left h }
 
 abbrev to_number : List (List ℕ)
@@ -71,7 +72,8 @@ zero_is_good : IsSubrStart (subr_number 0 (digits (codes "0")) no_length)
 unfolding scaled magnitude_of value_of decimal_of radix_of
 zero_is_good = (refl, omega arith, tt)
 
-number_begun : (left : List ℕ) → are_apart to_number (begun_pieces zero_subr) left ≡ true → IsBegun zero_subr (text_with to_number (begun_pieces zero_subr) left) left
+number_begun : (left : List ℕ) → are_apart to_number (begun_pieces zero_subr) left ≡ true
+    → IsBegun zero_subr (text_with to_number (begun_pieces zero_subr) left) left
 number_begun left h = record { parts = (All-nil IsPrivateItem, one_subr, zero_is_good); written = is_written to_number (begun_pieces zero_subr) left h }
 
 abbrev one_glyph : Begun
@@ -84,7 +86,8 @@ one_counted : IsCount (digits (codes "1"))
 unfolding scaled magnitude_of value_of decimal_of radix_of
 one_counted = record { value = 1; whole = refl; small = omega arith }
 
-glyph_begun : (left : List ℕ) → are_apart to_name (begun_pieces one_glyph) left ≡ true → IsBegun one_glyph (text_with to_name (begun_pieces one_glyph) left) left
+glyph_begun : (left : List ℕ) → are_apart to_name (begun_pieces one_glyph) left ≡ true
+    → IsBegun one_glyph (text_with to_name (begun_pieces one_glyph) left) left
 glyph_begun left h =
     let few : 1 ≤ 65535 = omega arith in
     record { parts = (is_nothing, one_counted, All-nil IsGlyphItem, tt, few); written = is_written to_name (begun_pieces one_glyph) left h }
@@ -130,15 +133,18 @@ module _ (marks : Marks) where
 
   subr_is_long : private_of marks [] (codes "/Subrs 1 array dup 0 70000 ") ≡ Err PastLimit
   unfolding scaled magnitude_of value_of decimal_of radix_of
-  subr_is_long = subr_too_long marks [] [] 1 (digits (codes "1")) [] 0 70000 (digits (codes "0")) (digits (codes "70000")) (codes "/Subrs 1 array dup 0 70000 ") long space nothing_before (number_begun long refl) long_begins long_is_whole past_limit
+  subr_is_long = subr_too_long marks [] [] 1 (digits (codes "1")) [] 0 70000 (digits (codes "0")) (digits (codes "70000")) (codes "/Subrs 1 array dup 0 70000 ")
+      long space nothing_before (number_begun long refl) long_begins long_is_whole past_limit
 
   number_is_first : private_of marks [] (codes "/Subrs 1 array dup -1 70000 ") ≡ Err BadSubrs
   unfolding scaled magnitude_of value_of decimal_of radix_of
-  number_is_first = subr_number_first marks [] [] 1 (digits (codes "1")) [] minus_one (codes "/Subrs 1 array dup -1 70000 ") (codes " -1 70000 ") long nothing_before (dup_begun (codes " -1 70000 ") refl) minus_begins minus_is_number minus_is_not_whole
+  number_is_first = subr_number_first marks [] [] 1 (digits (codes "1")) [] minus_one (codes "/Subrs 1 array dup -1 70000 ") (codes " -1 70000 ") long
+      nothing_before (dup_begun (codes " -1 70000 ") refl) minus_begins minus_is_number minus_is_not_whole
 
   glyph_is_long : private_of marks [] (codes "/CharStrings 1 dict dup begin /a 70000 ") ≡ Err PastLimit
   unfolding scaled magnitude_of value_of decimal_of radix_of
-  glyph_is_long = glyph_too_long marks [] nothing (digits (codes "1")) [] (codes "a") 70000 (digits (codes "70000")) (codes "/CharStrings 1 dict dup begin /a 70000 ") long space nothing_before (glyph_begun long refl) long_begins long_is_whole past_limit
+  glyph_is_long = glyph_too_long marks [] nothing (digits (codes "1")) [] (codes "a") 70000 (digits (codes "70000"))
+      (codes "/CharStrings 1 dict dup begin /a 70000 ") long space nothing_before (glyph_begun long refl) long_begins long_is_whole past_limit
 
 pub small_texts_break : SmallTextsBreak
 small_texts_break marks = (

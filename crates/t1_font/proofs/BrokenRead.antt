@@ -78,12 +78,14 @@ natural_past bad limit n kind h long =
     ap (natural_by bad limit) h ∙ rw past refl
 
 -- What is refused of an entry's charstring.
-too_long : (bad : Refusal) (s : List ℕ) (t : Plain) (left : List ℕ) (len : ℕ) → BeginsWith s t left → IsWhole t len → 65535 < len → charstring_at bad s ≡ Err PastLimit
+too_long : (bad : Refusal) (s : List ℕ) (t : Plain) (left : List ℕ) (len : ℕ) → BeginsWith s t left → IsWhole t len → 65535 < len
+    → charstring_at bad s ≡ Err PastLimit
 unfolding charstring_at
 too_long bad s t left len h is long =
     rw (wanted_is bad s t left h, natural_past bad 65535 len (meant t) (whole_is t len is) long) refl
 
-cut_off : (bad : Refusal) (s : List ℕ) (count : Plain) (mid : List ℕ) (w : Plain) (left : List ℕ) (len : ℕ) → BeginsWith s count mid → IsWhole count len → len ≤ 65535 → BeginsWith mid w left → meant w ≡ Word → length left ≤ len → charstring_at bad s ≡ Err bad
+cut_off : (bad : Refusal) (s : List ℕ) (count : Plain) (mid : List ℕ) (w : Plain) (left : List ℕ) (len : ℕ) → BeginsWith s count mid → IsWhole count len
+    → len ≤ 65535 → BeginsWith mid w left → meant w ≡ Word → length left ≤ len → charstring_at bad s ≡ Err bad
 unfolding charstring_at raw_of
 cut_off bad s count mid w left len h is small k is_word short =
     let reads : is_word_kind (meant w) ≡ true = rw is_word refl in
@@ -95,13 +97,15 @@ unfolding subr_at
 bad_number t s none = rw (natural_none BadSubrs 65534 (meant t) none) refl
 
 -- What is refused of an entry, by what is refused of its charstring.
-subr_fails : (v : FontValue) (n : ℕ) (number : Plain) (s mid left : List ℕ) (e : Refusal) → IsWhole number n → n ≤ 65534 → BeginsWith s (word (codes "dup")) mid → BeginsWith mid number left → charstring_at BadSubrs left ≡ Err e → private_turn v Subrs s ≡ Err e
+subr_fails : (v : FontValue) (n : ℕ) (number : Plain) (s mid left : List ℕ) (e : Refusal) → IsWhole number n → n ≤ 65534 → BeginsWith s (word (codes "dup")) mid
+    → BeginsWith mid number left → charstring_at BadSubrs left ≡ Err e → private_turn v Subrs s ≡ Err e
 unfolding subr_at
 subr_fails v n number s mid left e is small h k fails =
     subrs_read.dup_among v s mid h ∙ subrs_read.number_is n number mid left is k
     ∙ rw (natural_is BadSubrs 65534 n number is small, fails) refl
 
-glyph_fails : (v : FontValue) (run s left : List ℕ) (e : Refusal) → HasRoom v run → BeginsWith s (name run) left → charstring_at BadCharStrings left ≡ Err e → private_turn v Glyphs s ≡ Err e
+glyph_fails : (v : FontValue) (run s left : List ℕ) (e : Refusal) → HasRoom v run → BeginsWith s (name run) left → charstring_at BadCharStrings left ≡ Err e
+    → private_turn v Glyphs s ≡ Err e
 unfolding glyph_turn
 glyph_fails v run s left e room h fails = glyphs_read.name_among_glyphs v s run left h ∙ rw (room, fails) refl
 
@@ -114,7 +118,8 @@ module _ (f : Refusal → Refusal) (left : List ℕ) (lacks : Lacks f left) wher
   unfolding past_word
   word_lacks bad bytes = rw (lacks.wants bad) refl
 
-  charstring_lacks : (bad : Refusal) (c : CharstringStart) (s : List ℕ) → IsCharstringStart c → IsWritten s (charstring_start_pieces c) left → charstring_at bad s ≡ Err (f bad)
+  charstring_lacks : (bad : Refusal) (c : CharstringStart) (s : List ℕ) → IsCharstringStart c → IsWritten s (charstring_start_pieces c) left
+      → charstring_at bad s ≡ Err (f bad)
   unfolding charstring_at
   charstring_lacks bad no_length s is h = rw (h, lacks.wants bad) refl
   charstring_lacks bad (its_length n count) s is h =
@@ -126,7 +131,8 @@ module _ (f : Refusal → Refusal) (left : List ℕ) (lacks : Lacks f left) wher
   value_lacks _ run = rw (lacks.wants BadCharStrings) refl
 
   -- In the head of the Subrs, and of the CharStrings.
-  subrs_lack : (v : FontValue) (k : SubrsStart) (s : List ℕ) → is_some v.size ≡ false → IsSubrsStart k → IsWritten s (subrs_start_pieces k) left → private_turn v Outside s ≡ Err (f BadSubrs)
+  subrs_lack : (v : FontValue) (k : SubrsStart) (s : List ℕ) → is_some v.size ≡ false → IsSubrsStart k → IsWritten s (subrs_start_pieces k) left
+      → private_turn v Outside s ≡ Err (f BadSubrs)
   unfolding subrs_at
   subrs_lack v subrs_name s none is h =
       keys_read.outside v s (name (codes "Subrs")) left (last_token s (name (codes "Subrs")) left h)
@@ -134,30 +140,66 @@ module _ (f : Refusal → Refusal) (left : List ℕ) (lacks : Lacks f left) wher
   subrs_lack v (subrs_count n count) s none is h =
       keys_read.outside v s (name (codes "Subrs")) h.0 h.1
       ∙ subrs_read.subrs_name v h.0 none
-      ∙ rw (wanted_is BadSubrs h.0 count left (last_token h.0 count left h.2), subrs_read.no_array count n is.0, natural_is BadSubrs 65535 n count is.0 is.1, word_lacks BadSubrs (codes "array")) refl
+      ∙ rw (
+        wanted_is BadSubrs h.0 count left (last_token h.0 count left h.2),
+        subrs_read.no_array count n is.0,
+        natural_is BadSubrs 65535 n count is.0 is.1,
+        word_lacks BadSubrs (codes "array"),
+      ) refl
 
-  head_lacks : (k : GlyphsStart) (s mid : List ℕ) → IsGlyphsStart k → IsWritten s (glyphs_start_pieces k) left → (mid : List ℕ) × BeginsWith s (name (codes "CharStrings")) mid × (glyphs_at mid ≡ Err (f BadCharStrings))
+  head_lacks : (k : GlyphsStart) (s mid : List ℕ) → IsGlyphsStart k → IsWritten s (glyphs_start_pieces k) left → (mid : List ℕ)
+      × BeginsWith s (name (codes "CharStrings")) mid × (glyphs_at mid ≡ Err (f BadCharStrings))
   unfolding glyphs_at
   head_lacks glyphs_name s mid is h = (left, last_token s (name (codes "CharStrings")) left h, rw (lacks.wants BadCharStrings) refl)
-  head_lacks (glyphs_count count) s mid is h =
-      (h.0, h.1, rw (wanted_is BadCharStrings h.0 count left (last_token h.0 count left h.2), natural_is BadCharStrings 65535 is.value count is.whole is.small, word_lacks BadCharStrings (codes "dict")) refl)
-  head_lacks (glyphs_dict count) s mid is h =
-      (h.0, h.1, rw (wanted_is BadCharStrings h.0 count h.2.0 h.2.1, natural_is BadCharStrings 65535 is.value count is.whole is.small, past_word_is BadCharStrings (codes "dict") h.2.0 left (last_token h.2.0 (word (codes "dict")) left h.2.2), word_lacks BadCharStrings (codes "dup")) refl)
-  head_lacks (glyphs_dup count) s mid is h =
-      (h.0, h.1, rw (wanted_is BadCharStrings h.0 count h.2.0 h.2.1, natural_is BadCharStrings 65535 is.value count is.whole is.small, past_word_is BadCharStrings (codes "dict") h.2.0 h.2.2.0 h.2.2.1, past_word_is BadCharStrings (codes "dup") h.2.2.0 left (last_token h.2.2.0 (word (codes "dup")) left h.2.2.2), word_lacks BadCharStrings (codes "begin")) refl)
+  head_lacks (glyphs_count count) s mid is h = (
+    h.0,
+    h.1,
+    rw (
+      wanted_is BadCharStrings h.0 count left (last_token h.0 count left h.2),
+      natural_is BadCharStrings 65535 is.value count is.whole is.small,
+      word_lacks BadCharStrings (codes "dict"),
+    ) refl,
+  )
+  head_lacks (glyphs_dict count) s mid is h = (
+    h.0,
+    h.1,
+    rw (
+      wanted_is BadCharStrings h.0 count h.2.0 h.2.1,
+      natural_is BadCharStrings 65535 is.value count is.whole is.small,
+      past_word_is
+          BadCharStrings (codes "dict") h.2.0 left (last_token h.2.0 (word (codes "dict")) left h.2.2),
+      word_lacks BadCharStrings (codes "dup"),
+    ) refl,
+  )
+  head_lacks (glyphs_dup count) s mid is h = (
+    h.0,
+    h.1,
+    rw (
+      wanted_is BadCharStrings h.0 count h.2.0 h.2.1,
+      natural_is BadCharStrings 65535 is.value count is.whole is.small,
+      past_word_is
+          BadCharStrings (codes "dict") h.2.0 h.2.2.0 h.2.2.1,
+      past_word_is BadCharStrings (codes "dup") h.2.2.0 left
+          (last_token h.2.2.0 (word (codes "dup")) left h.2.2.2),
+      word_lacks BadCharStrings (codes "begin"),
+    ) refl,
+  )
 
 -- A name where a key may stand: among the Subrs it is read as outside.
-name_is : (still : Bool) (v : FontValue) (s run left : List ℕ) → BeginsWith s (name run) left → private_turn v (mode_of still) s ≡ private_outside v Name (47 ∷ run) left
+name_is : (still : Bool) (v : FontValue) (s run left : List ℕ) → BeginsWith s (name run) left → private_turn v (mode_of still) s
+    ≡ private_outside v Name (47 ∷ run) left
 name_is true v s run left h = keys_read.name_among v s run left h
 name_is false v s run left h = keys_read.outside v s (name run) left h
 
 key_of : (v : FontValue) (k : Key) (run s : List ℕ) → private_key (47 ∷ run) ≡ Some k → private_outside v Name (47 ∷ run) s ≡ private_value (Some k) s
 key_of v k run s is =
-    keys_read.name_outside v (47 ∷ run) s (is_other private_key (47 ∷ run) (codes "/Subrs") k keys_read.no_subrs_key is) (is_other private_key (47 ∷ run) (codes "/CharStrings") k keys_read.no_glyphs_key is)
+    keys_read.name_outside v (47 ∷ run) s (is_other private_key (47 ∷ run) (codes "/Subrs") k keys_read.no_subrs_key is)
+    (is_other private_key (47 ∷ run) (codes "/CharStrings") k keys_read.no_glyphs_key is)
     ∙ ap (λ o. private_value o s) is
 
 module _ (marks : Marks) where
-  fails : (before : List Stated) (mode : PrivateMode) (s : List ℕ) (e : Refusal) → private_turn (value_of marks before) mode s ≡ Err e → read marks before mode s ≡ Err e
+  fails : (before : List Stated) (mode : PrivateMode) (s : List ℕ) (e : Refusal) → private_turn (value_of marks before) mode s ≡ Err e
+      → read marks before mode s ≡ Err e
   fails before mode s e h = refused private_turn BadCharStrings private_shortens marks before mode s e h
 
   -- What stands in front of the CharStrings was read.
@@ -167,7 +209,8 @@ module _ (marks : Marks) where
     none : flat_map glyph_of after ≡ []
     is : read marks before Outside s ≡ read marks after (mode_of still) left
 
-  opened : (o : Opening) (before : List Stated) (s left : List ℕ) → IsOpening o → StatesNoCharstring before → IsWritten s (opening_pieces o) left → Opened before s left
+  opened : (o : Opening) (before : List Stated) (s left : List ℕ) → IsOpening o → StatesNoCharstring before → IsWritten s (opening_pieces o) left
+      → Opened before s left
   opened o before s left is none h =
       let a = parts s (flat_map private_pieces o.front) (subrs_pieces o.subrs ++ flat_map private_pieces o.back) left h in
       let b = parts a.left (subrs_pieces o.subrs) (flat_map private_pieces o.back) left a.back in
@@ -181,7 +224,8 @@ module _ (marks : Marks) where
       record {
         still = last.0;
         after = ((before ++ keys) ++ subrs) ++ others;
-        none = none_of_both glyph_of ((before ++ keys) ++ subrs) others (none_of_both glyph_of (before ++ keys) subrs no_glyph (subrs_no_glyph o.subrs)) (keys_no_glyph o.back);
+        none = none_of_both glyph_of ((before ++ keys) ++ subrs) others
+            (none_of_both glyph_of (before ++ keys) subrs no_glyph (subrs_no_glyph o.subrs)) (keys_no_glyph o.back);
         is = front_read marks o.front before s a.left is.front a.front ∙ first.1 ∙ last.1;
       }
 
@@ -190,7 +234,9 @@ module _ (marks : Marks) where
     after : List Stated
     is : read marks before Outside s ≡ read marks after Subrs left
 
-  some_read : (front : List PrivateItem) (n : ℕ) (count : Plain) (items : List SubrItem) (before : List Stated) (s mid left : List ℕ) → All IsPrivateItem front → IsSubrsPart (some_subrs n count items) → StatesNoCharstring before → IsWritten s (flat_map private_pieces front) mid → IsWritten mid (subrs_pieces (some_subrs n count items)) left → AmongSubrs before s left
+  some_read : (front : List PrivateItem) (n : ℕ) (count : Plain) (items : List SubrItem) (before : List Stated) (s mid left : List ℕ) → All IsPrivateItem front
+      → IsSubrsPart (some_subrs n count items) → StatesNoCharstring before → IsWritten s (flat_map private_pieces front) mid
+      → IsWritten mid (subrs_pieces (some_subrs n count items)) left → AmongSubrs before s left
   some_read front n count items before s mid left are is none h k =
       let keys = flat_map private_states front in
       let no_size = none_of_both size_of before keys none.no_size (keys_no_size front) in
@@ -203,51 +249,76 @@ module _ (marks : Marks) where
     few : length (firsts same_name (names_of after ++ names)) ≤ 65535
     is : read marks before Outside s ≡ read marks after Glyphs left
 
-  many_read : (o : Opening) (count : Plain) (items : List GlyphItem) (names : List (List ℕ)) (before : List Stated) (s mid left : List ℕ) → IsOpening o → IsCount count → All IsGlyphItem items → length (firsts same_name (flat_map glyph_names items ++ names)) ≤ 65535 → StatesNoCharstring before → IsWritten s (opening_pieces o) mid → (behind : List ℕ) → IsWritten mid (head_pieces count) behind → IsWritten behind (flat_map glyph_pieces items) left → AmongGlyphs before s left names
+  many_read : (o : Opening) (count : Plain) (items : List GlyphItem) (names : List (List ℕ)) (before : List Stated) (s mid left : List ℕ) → IsOpening o
+      → IsCount count → All IsGlyphItem items → length (firsts same_name (flat_map glyph_names items ++ names)) ≤ 65535 → StatesNoCharstring before
+      → IsWritten s (opening_pieces o) mid → (behind : List ℕ) → IsWritten mid (head_pieces count) behind → IsWritten behind (flat_map glyph_pieces items)
+      left → AmongGlyphs before s left names
   many_read o count items names before s mid left is counted are few none h behind k w =
       let first = opened o before s mid is none h in
       let named : names_of first.after ≡ [] = rw first.none refl in
-      let fits : length (firsts same_name (names_of first.after ++ flat_map glyph_names items)) ≤ 65535 = rw named (let less = fewer names (flat_map glyph_names items) in omega (arith, less, few)) in
-      let header : glyphs_read.Header count k.0 behind = record { a = k.2.0; b = k.2.2.0; c = k.2.2.2.0; number = k.2.1; dict = k.2.2.1; dup = k.2.2.2.1; begin = last_token k.2.2.2.0 (word (codes "begin")) behind k.2.2.2.2 } in
-      let all : names_of (first.after ++ flat_map glyph_states items) ≡ flat_map glyph_names items = names_more first.after (flat_map glyph_states items) ∙ rw named (glyphs_read.items_names items) in
+      let fits : length (firsts same_name (names_of first.after ++ flat_map glyph_names items)) ≤ 65535 =
+      rw named (let less = fewer names (flat_map glyph_names items) in omega (arith, less, few)) in
+      let header : glyphs_read.Header count k.0 behind = record {
+        a = k.2.0;
+        b = k.2.2.0;
+        c = k.2.2.2.0;
+        number = k.2.1;
+        dict = k.2.2.1;
+        dup =
+            k.2.2.2.1;
+        begin = last_token k.2.2.2.0 (word (codes "begin")) behind k.2.2.2.2;
+      } in
+      let all : names_of (first.after ++ flat_map glyph_states items) ≡ flat_map glyph_names items = names_more first.after (flat_map glyph_states items)
+      ∙ rw named (glyphs_read.items_names items) in
       record {
         after = first.after ++ flat_map glyph_states items;
         few = rw all few;
         is = first.is
-            ∙ on marks first.after (mode_of first.still) mid None Glyphs behind (glyphs_read.name_turn first.still (value_of marks first.after) mid k.0 k.1 ∙ glyphs_read.header_is count k.0 behind counted header)
+            ∙ on marks first.after (mode_of first.still) mid None Glyphs behind (glyphs_read.name_turn first.still (value_of marks first.after) mid k.0 k.1
+            ∙ glyphs_read.header_is count k.0 behind counted header)
             ∙ glyphs_read.items_read marks items first.after behind left are fits w;
       }
 
-  key_lacks : (f : Refusal → Refusal) (left : List ℕ) (lacks : Lacks f left) (still : Bool) (v : FontValue) (k : KeyStart) (s : List ℕ) → IsKeyStart k → IsWritten s (key_start_pieces k) left → private_turn v (mode_of still) s ≡ Err (f (missing_value k))
+  key_lacks : (f : Refusal → Refusal) (left : List ℕ) (lacks : Lacks f left) (still : Bool) (v : FontValue) (k : KeyStart) (s : List ℕ) → IsKeyStart k
+      → IsWritten s (key_start_pieces k) left → private_turn v (mode_of still) s ≡ Err (f (missing_value k))
   key_lacks f left lacks still v no_key s is h = rw h (turn_lacks f left lacks v (mode_of still))
   key_lacks f left lacks still v (key_name k run) s is h =
       name_is still v s run left (last_token s (name run) left h) ∙ key_of v k run left is ∙ value_lacks f left lacks k run
 
-  subr_lacks : (f : Refusal → Refusal) (left : List ℕ) (lacks : Lacks f left) (k : SubrStart) (before : List Stated) (s : List ℕ) → IsSubrStart k → IsWritten s (subr_start_pieces k) left → read marks before Subrs s ≡ Err (f (missing_subr k))
+  subr_lacks : (f : Refusal → Refusal) (left : List ℕ) (lacks : Lacks f left) (k : SubrStart) (before : List Stated) (s : List ℕ) → IsSubrStart k
+      → IsWritten s (subr_start_pieces k) left → read marks before Subrs s ≡ Err (f (missing_subr k))
   unfolding dup_turn
   subr_lacks f left lacks no_subr before s is h = fails before Subrs s (f BadCharStrings) (rw h (turn_lacks f left lacks (value_of marks before) Subrs))
   subr_lacks f left lacks lone_dup before s is h =
-      on marks before Subrs s None Outside left (subrs_read.dup_among (value_of marks before) s left (last_token s (word (codes "dup")) left h) ∙ ap (subrs_read.behind_dup left) lacks.ahead)
+      on marks before Subrs s None Outside left (subrs_read.dup_among (value_of marks before) s left (last_token s (word (codes "dup")) left h)
+      ∙ ap (subrs_read.behind_dup left) lacks.ahead)
       ∙ fails before Outside left (f BadCharStrings) (turn_lacks f left lacks (value_of marks before) Outside)
   subr_lacks f left lacks (subr_number n number c) before s is h =
-      fails before Subrs s (f BadSubrs) (subr_fails (value_of marks before) n number s h.0 h.2.0 (f BadSubrs) is.0 is.1 h.1 h.2.1 (charstring_lacks f left lacks BadSubrs c h.2.0 is.2 h.2.2))
+      fails before Subrs s (f BadSubrs) (subr_fails (value_of marks before) n number s h.0 h.2.0 (f BadSubrs) is.0 is.1 h.1 h.2.1
+      (charstring_lacks f left lacks BadSubrs c h.2.0 is.2 h.2.2))
 
-  glyph_lacks : (f : Refusal → Refusal) (left : List ℕ) (lacks : Lacks f left) (k : GlyphStart) (before : List Stated) (s : List ℕ) → IsGlyphStart k → length (firsts same_name (names_of before ++ glyph_start_names k)) ≤ 65535 → IsWritten s (glyph_start_pieces k) left → private_turn (value_of marks before) Glyphs s ≡ Err (f BadCharStrings)
+  glyph_lacks : (f : Refusal → Refusal) (left : List ℕ) (lacks : Lacks f left) (k : GlyphStart) (before : List Stated) (s : List ℕ) → IsGlyphStart k
+      → length (firsts same_name (names_of before ++ glyph_start_names k)) ≤ 65535 → IsWritten s (glyph_start_pieces k) left
+      → private_turn (value_of marks before) Glyphs s ≡ Err (f BadCharStrings)
   glyph_lacks f left lacks no_glyph before s is few h = rw h (turn_lacks f left lacks (value_of marks before) Glyphs)
   glyph_lacks f left lacks (glyph_name run c) before s is few h =
-      glyph_fails (value_of marks before) run s h.0 (f BadCharStrings) (has_room marks before run [] few) h.1 (charstring_lacks f left lacks BadCharStrings c h.0 is h.2)
+      glyph_fails (value_of marks before) run s h.0 (f BadCharStrings) (has_room marks before run [] few) h.1
+      (charstring_lacks f left lacks BadCharStrings c h.0 is h.2)
 
-  lacking : (f : Refusal → Refusal) (b : Begun) (before : List Stated) (s left : List ℕ) → Lacks f left → AreBegun b → StatesNoCharstring before → IsWritten s (begun_pieces b) left → read marks before Outside s ≡ Err (f (missing b))
+  lacking : (f : Refusal → Refusal) (b : Begun) (before : List Stated) (s left : List ℕ) → Lacks f left → AreBegun b → StatesNoCharstring before
+      → IsWritten s (begun_pieces b) left → read marks before Outside s ≡ Err (f (missing b))
   lacking f (in_keys o k) before s left lacks are none h =
       let a = parts s (opening_pieces o) (key_start_pieces k) left h in
       let first = opened o before s a.left are.0 none a.front in
-      first.is ∙ fails first.after (mode_of first.still) a.left (f (missing_value k)) (key_lacks f left lacks first.still (value_of marks first.after) k a.left are.1 a.back)
+      first.is ∙ fails first.after (mode_of first.still) a.left (f (missing_value k))
+      (key_lacks f left lacks first.still (value_of marks first.after) k a.left are.1 a.back)
   lacking f (in_subrs front k) before s left lacks are none h =
       let a = parts s (flat_map private_pieces front) (subrs_start_pieces k) left h in
       let keys = flat_map private_states front in
       let no_size = none_of_both size_of before keys none.no_size (keys_no_size front) in
       front_read marks front before s a.left are.0 a.front
-      ∙ fails (before ++ keys) Outside a.left (f BadSubrs) (subrs_lack f left lacks (value_of marks (before ++ keys)) k a.left (subrs_read.no_size marks (before ++ keys) no_size) are.1 a.back)
+      ∙ fails (before ++ keys) Outside a.left (f BadSubrs)
+      (subrs_lack f left lacks (value_of marks (before ++ keys)) k a.left (subrs_read.no_size marks (before ++ keys) no_size) are.1 a.back)
   lacking f (among_subrs front n count items k) before s left lacks are none h =
       let a = parts s (flat_map private_pieces front) (subrs_pieces (some_subrs n count items) ++ subr_start_pieces k) left h in
       let b = parts a.left (subrs_pieces (some_subrs n count items)) (subr_start_pieces k) left a.back in
@@ -257,7 +328,8 @@ module _ (marks : Marks) where
       let a = parts s (opening_pieces o) (glyphs_start_pieces k) left h in
       let first = opened o before s a.left are.0 none a.front in
       let head = head_lacks f left lacks k a.left left are.1 a.back in
-      first.is ∙ fails first.after (mode_of first.still) a.left (f BadCharStrings) (glyphs_read.name_turn first.still (value_of marks first.after) a.left head.0 head.1 ∙ head.2)
+      first.is ∙ fails first.after (mode_of first.still) a.left (f BadCharStrings)
+      (glyphs_read.name_turn first.still (value_of marks first.after) a.left head.0 head.1 ∙ head.2)
   lacking f (among_glyphs o count items k) before s left lacks are none h =
       let a = parts s (opening_pieces o) (head_pieces count ++ (flat_map glyph_pieces items ++ glyph_start_pieces k)) left h in
       let b = parts a.left (head_pieces count) (flat_map glyph_pieces items ++ glyph_start_pieces k) left a.back in
@@ -275,7 +347,9 @@ unclosed_token marks before b s left none is broken = lacking marks (λ _. Unclo
 
 -- An entry whose charstring is refused.
 module _ (marks : Marks) (before : List Stated) (none : StatesNoCharstring before) where
-  subr_refused : (front : List PrivateItem) (n : ℕ) (count : Plain) (items : List SubrItem) (i : ℕ) (number : Plain) (c : CharstringStart) (s left : List ℕ) (e : Refusal) → IsBegun (among_subrs front n count items (subr_number i number c)) s left → ((mid : List ℕ) → IsWritten mid (charstring_start_pieces c) left → charstring_at BadSubrs mid ≡ Err e) → private_of marks before s ≡ Err e
+  subr_refused : (front : List PrivateItem) (n : ℕ) (count : Plain) (items : List SubrItem) (i : ℕ) (number : Plain) (c : CharstringStart) (s left : List ℕ)
+      (e : Refusal) → IsBegun (among_subrs front n count items (subr_number i number c)) s left
+      → ((mid : List ℕ) → IsWritten mid (charstring_start_pieces c) left → charstring_at BadSubrs mid ≡ Err e) → private_of marks before s ≡ Err e
   unfolding private_of
   subr_refused front n count items i number c s left e is h =
       let a = parts s (flat_map private_pieces front) (subrs_pieces (some_subrs n count items) ++ subr_start_pieces (subr_number i number c)) left is.written in
@@ -283,9 +357,12 @@ module _ (marks : Marks) (before : List Stated) (none : StatesNoCharstring befor
       let first = some_read marks front n count items before s a.left b.left is.parts.0 is.parts.1 none a.front b.front in
       let w = b.back in
       let good = is.parts.2 in
-      first.is ∙ fails marks first.after Subrs b.left e (subr_fails (value_of marks first.after) i number b.left w.0 w.2.0 e good.0 good.1 w.1 w.2.1 (h w.2.0 w.2.2))
+      first.is ∙ fails marks first.after Subrs b.left e
+      (subr_fails (value_of marks first.after) i number b.left w.0 w.2.0 e good.0 good.1 w.1 w.2.1 (h w.2.0 w.2.2))
 
-  glyph_refused : (o : Opening) (count : Plain) (items : List GlyphItem) (run : List ℕ) (c : CharstringStart) (s left : List ℕ) (e : Refusal) → IsBegun (among_glyphs o count items (glyph_name run c)) s left → ((mid : List ℕ) → IsWritten mid (charstring_start_pieces c) left → charstring_at BadCharStrings mid ≡ Err e) → private_of marks before s ≡ Err e
+  glyph_refused : (o : Opening) (count : Plain) (items : List GlyphItem) (run : List ℕ) (c : CharstringStart) (s left : List ℕ) (e : Refusal)
+      → IsBegun (among_glyphs o count items (glyph_name run c)) s left
+      → ((mid : List ℕ) → IsWritten mid (charstring_start_pieces c) left → charstring_at BadCharStrings mid ≡ Err e) → private_of marks before s ≡ Err e
   unfolding private_of
   glyph_refused o count items run c s left e is h =
       let start = glyph_start_pieces (glyph_name run c) in
@@ -295,7 +372,8 @@ module _ (marks : Marks) (before : List Stated) (none : StatesNoCharstring befor
       let are = is.parts in
       let first = many_read marks o count items (run ∷ []) before s a.left d.left are.0 are.1 are.2 are.4 none a.front b.left b.front d.front in
       let w = d.back in
-      first.is ∙ fails marks first.after Glyphs d.left e (glyph_fails (value_of marks first.after) run d.left w.0 e (has_room marks first.after run [] first.few) w.1 (h w.0 w.2))
+      first.is ∙ fails marks first.after Glyphs d.left e
+      (glyph_fails (value_of marks first.after) run d.left w.0 e (has_room marks first.after run [] first.few) w.1 (h w.0 w.2))
 
 pub subr_cut_off : SubrCutOff
 subr_cut_off marks before front n count items i len number bytes read_word s mid left none is h is_word short =

@@ -36,11 +36,13 @@ no_weights_key : clear_key (codes "/WeightVector") ≡ None
 unfolding clear_key
 no_weights_key = refl
 
-name_outside : (text rest : List ℕ) → same_name text (codes "/WeightVector") ≡ false → same_name text (codes "/Encoding") ≡ false → clear_outside Name text rest ≡ clear_value (clear_key text) rest
+name_outside : (text rest : List ℕ) → same_name text (codes "/WeightVector") ≡ false → same_name text (codes "/Encoding") ≡ false → clear_outside Name text rest
+    ≡ clear_value (clear_key text) rest
 unfolding clear_outside
 name_outside text rest a b = rw (a, b) refl
 
-value_is : (k : Key) (s : List ℕ) (value : Plain) (left : List ℕ) → BeginsWith s value left → clear_value (Some k) s ≡ Ok (goes (Some (plain k (lexeme_of value))) Outside left)
+value_is : (k : Key) (s : List ℕ) (value : Plain) (left : List ℕ) → BeginsWith s value left
+    → clear_value (Some k) s ≡ Ok (goes (Some (plain k (lexeme_of value))) Outside left)
 unfolding clear_value
 value_is k s value left h = rw (wanted_is NoEexec s value left h) refl
 
@@ -48,10 +50,12 @@ none_is : (s : List ℕ) → clear_value None s ≡ Ok (goes None Outside s)
 unfolding clear_value
 none_is s = refl
 
-key_turn : (v : FontValue) (k : Key) (run : List ℕ) (value : Plain) (s left : List ℕ) → clear_key (47 ∷ run) ≡ Some k → IsWritten s (token (name run) ∷ token value ∷ []) left → clear_turn v Outside s ≡ Ok (goes (Some (plain k (lexeme_of value))) Outside left)
+key_turn : (v : FontValue) (k : Key) (run : List ℕ) (value : Plain) (s left : List ℕ) → clear_key (47 ∷ run) ≡ Some k
+    → IsWritten s (token (name run) ∷ token value ∷ []) left → clear_turn v Outside s ≡ Ok (goes (Some (plain k (lexeme_of value))) Outside left)
 key_turn v k run value s left is h =
     outside v s (name run) h.0 h.1
-    ∙ name_outside (47 ∷ run) h.0 (is_other clear_key (47 ∷ run) (codes "/WeightVector") k no_weights_key is) (is_other clear_key (47 ∷ run) (codes "/Encoding") k no_encoding_key is)
+    ∙ name_outside (47 ∷ run) h.0 (is_other clear_key (47 ∷ run) (codes "/WeightVector") k no_weights_key is)
+    (is_other clear_key (47 ∷ run) (codes "/Encoding") k no_encoding_key is)
     ∙ ap (λ k. clear_value k h.0) is
     ∙ value_is k h.0 value left (last_token h.0 value left h.2)
 
@@ -62,7 +66,8 @@ name_turn v run s left is h =
     ∙ ap (λ k. clear_value k left) is.no_key
     ∙ none_is left
 
-token_turn : (v : FontValue) (s : List ℕ) (t : Plain) (left : List ℕ) → PassesInClear t → BeginsWith s t left → clear_turn v Outside s ≡ Ok (goes None Outside left)
+token_turn : (v : FontValue) (s : List ℕ) (t : Plain) (left : List ℕ) → PassesInClear t → BeginsWith s t left
+    → clear_turn v Outside s ≡ Ok (goes None Outside left)
 unfolding clear_outside
 token_turn v s t left is h = outside v s t left h ∙ rw (is.not_eexec, is.no_name) refl
 
@@ -94,20 +99,24 @@ array_is : (s left : List ℕ) → BeginsWith s (word (codes "array")) left → 
 unfolding array_at
 array_is s left h = rw (ahead_is s (word (codes "array")) left h) refl
 
-custom_at : (count : Plain) (s mid left : List ℕ) → IsWhole count 256 → BeginsWith s count mid → BeginsWith mid (word (codes "array")) left → encoding_at s ≡ Some (goes (Some (encoding Custom)) Codes left)
+custom_at : (count : Plain) (s mid left : List ℕ) → IsWhole count 256 → BeginsWith s count mid → BeginsWith mid (word (codes "array")) left
+    → encoding_at s ≡ Some (goes (Some (encoding Custom)) Codes left)
 unfolding encoding_at
 custom_at count s mid left is h k =
     rw (ahead_is s count mid h, whole_is_no_word count 256 is, count_is count is, array_is mid left k) refl
 
-custom_is : (count : Plain) (s mid left : List ℕ) → IsWhole count 256 → BeginsWith s count mid → BeginsWith mid (word (codes "array")) left → encoding_turn s ≡ goes (Some (encoding Custom)) Codes left
+custom_is : (count : Plain) (s mid left : List ℕ) → IsWhole count 256 → BeginsWith s count mid → BeginsWith mid (word (codes "array")) left
+    → encoding_turn s ≡ goes (Some (encoding Custom)) Codes left
 unfolding encoding_turn
 custom_is count s mid left is h k = ap (found_or s) (custom_at count s mid left is h k)
 
 module _ (marks : Marks) where
-  nothing_more : (before : List Stated) (s : List ℕ) → stated_in clear_turn NoEexec marks before Outside s ≡ stated_in clear_turn NoEexec marks (before ++ []) Outside s
+  nothing_more : (before : List Stated) (s : List ℕ) → stated_in clear_turn NoEexec marks before Outside s ≡ stated_in clear_turn NoEexec
+      marks (before ++ []) Outside s
   nothing_more before s = ap (λ es. stated_in clear_turn NoEexec marks es Outside s) (sym (append-nil before))
 
-  item_read : (item : ClearItem) (before : List Stated) (s left : List ℕ) → IsClearItem item → IsWritten s (clear_pieces item) left → stated_in clear_turn NoEexec marks before Outside s ≡ stated_in clear_turn NoEexec marks (before ++ clear_states item) Outside left
+  item_read : (item : ClearItem) (before : List Stated) (s left : List ℕ) → IsClearItem item → IsWritten s (clear_pieces item) left
+      → stated_in clear_turn NoEexec marks before Outside s ≡ stated_in clear_turn NoEexec marks (before ++ clear_states item) Outside left
   item_read (key k run value) before s left is h =
       goes_on clear_turn NoEexec clear_shortens marks before Outside s (Some (plain k (lexeme_of value))) Outside left
       (key_turn (value_of marks before) k run value s left is h)
@@ -120,13 +129,16 @@ module _ (marks : Marks) where
       ∙ codes_read marks items (before ++ encoding Custom ∷ []) h.2.2.0 left is.1 h.2.2.2
       ∙ ap (λ es. stated_in clear_turn NoEexec marks es Outside left) (append_assoc before (encoding Custom ∷ []) (flat_map code_states items))
   item_read (other_name run) before s left is h =
-      goes_on clear_turn NoEexec clear_shortens marks before Outside s None Outside left (name_turn (value_of marks before) run s left is (last_token s (name run) left h))
+      goes_on clear_turn NoEexec clear_shortens marks before Outside s None Outside left
+      (name_turn (value_of marks before) run s left is (last_token s (name run) left h))
       ∙ nothing_more before left
   item_read (other_token t) before s left is h =
-      goes_on clear_turn NoEexec clear_shortens marks before Outside s None Outside left (token_turn (value_of marks before) s t left is (last_token s t left h))
+      goes_on clear_turn NoEexec clear_shortens marks before Outside s None Outside left
+      (token_turn (value_of marks before) s t left is (last_token s t left h))
       ∙ nothing_more before left
 
-  items_read : (items : List ClearItem) (before : List Stated) (s left : List ℕ) → All IsClearItem items → IsWritten s (flat_map clear_pieces items) left → stated_in clear_turn NoEexec marks before Outside s ≡ stated_in clear_turn NoEexec marks (before ++ all_clear_states items) Outside left
+  items_read : (items : List ClearItem) (before : List Stated) (s left : List ℕ) → All IsClearItem items → IsWritten s (flat_map clear_pieces items) left
+      → stated_in clear_turn NoEexec marks before Outside s ≡ stated_in clear_turn NoEexec marks (before ++ all_clear_states items) Outside left
   items_read [] before s left are h =
       ap (λ text. stated_in clear_turn NoEexec marks before Outside text) h ∙ nothing_more before left
   items_read (item ∷ items) before s left are h =
@@ -140,5 +152,6 @@ unfolding clear_of
 reads_usual_clear marks items s rest usual =
     let p = parts s (flat_map clear_pieces items) (token (word (codes "eexec")) ∷ []) rest usual.written in
     let read = items_read marks items [] s p.left usual.usual p.front
-    ∙ is_over clear_turn NoEexec clear_shortens marks (all_clear_states items) Outside p.left rest (eexec_turn (value_of marks (all_clear_states items)) p.left rest (last_token p.left (word (codes "eexec")) rest p.back)) in
+    ∙ is_over clear_turn NoEexec clear_shortens marks (all_clear_states items) Outside p.left rest
+    (eexec_turn (value_of marks (all_clear_states items)) p.left rest (last_token p.left (word (codes "eexec")) rest p.back)) in
     rw usual.begins read

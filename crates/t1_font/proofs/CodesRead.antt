@@ -43,12 +43,20 @@ code_statement_is : (n : ℕ) (number : Plain) (run : List ℕ) → IsWhole numb
 unfolding code_statement
 code_statement_is n number run h le = ap (λ (r : Option ℕ). elim r [ Some m ↦ code m run | None ↦ bad_code ]) (whole_up_to_is 255 n number h le)
 
-group_at : (n : ℕ) (number : Plain) (run s mid last left : List ℕ) → IsWhole number n → n ≤ 255 → BeginsWith s number mid → BeginsWith mid (name run) last → BeginsWith last (word (codes "put")) left → code_at s ≡ Some (goes (Some (code n run)) Codes left)
+group_at : (n : ℕ) (number : Plain) (run s mid last left : List ℕ) → IsWhole number n → n ≤ 255 → BeginsWith s number mid → BeginsWith mid (name run) last
+    → BeginsWith last (word (codes "put")) left → code_at s ≡ Some (goes (Some (code n run)) Codes left)
 unfolding code_at
 group_at n number run s mid last left is small h k l =
-    rw (ahead_is s number mid h, whole_is_number number n is, ahead_is mid (name run) last k, ahead_is last (word (codes "put")) left l, code_statement_is n number run is small) refl
+    rw (
+      ahead_is s number mid h,
+      whole_is_number number n is,
+      ahead_is mid (name run) last k,
+      ahead_is last (word (codes "put")) left l,
+      code_statement_is n number run is small,
+    ) refl
 
-group_is : (n : ℕ) (number : Plain) (run s mid last left : List ℕ) → IsWhole number n → n ≤ 255 → BeginsWith s number mid → BeginsWith mid (name run) last → BeginsWith last (word (codes "put")) left → code_turn s ≡ goes (Some (code n run)) Codes left
+group_is : (n : ℕ) (number : Plain) (run s mid last left : List ℕ) → IsWhole number n → n ≤ 255 → BeginsWith s number mid → BeginsWith mid (name run) last
+    → BeginsWith last (word (codes "put")) left → code_turn s ≡ goes (Some (code n run)) Codes left
 unfolding code_turn
 group_is n number run s mid last left is small h k l = ap (found_or s) (group_at n number run s mid last left is small h k l)
 
@@ -57,11 +65,13 @@ no_number : (s : List ℕ) (t : Plain) (left : List ℕ) → BeginsWith s t left
 unfolding code_at
 no_number s t left h other = rw (ahead_is s t left h, other) refl
 
-no_name : (s : List ℕ) (a : Plain) (mid : List ℕ) (b : Plain) (left : List ℕ) → BeginsWith s a mid → BeginsWith mid b left → is_number_kind (meant a) ≡ true → is_name_kind (meant b) ≡ false → code_at s ≡ None
+no_name : (s : List ℕ) (a : Plain) (mid : List ℕ) (b : Plain) (left : List ℕ) → BeginsWith s a mid → BeginsWith mid b left → is_number_kind (meant a) ≡ true
+    → is_name_kind (meant b) ≡ false → code_at s ≡ None
 unfolding code_at
 no_name s a mid b left h k number other = rw (ahead_is s a mid h, number, ahead_is mid b left k, other) refl
 
-no_put : (s : List ℕ) (a : Plain) (mid : List ℕ) (b : Plain) (last : List ℕ) (c : Plain) (left : List ℕ) → BeginsWith s a mid → BeginsWith mid b last → BeginsWith last c left → is_number_kind (meant a) ≡ true → is_name_kind (meant b) ≡ true → is_word_of (codes "put") c ≡ false → code_at s ≡ None
+no_put : (s : List ℕ) (a : Plain) (mid : List ℕ) (b : Plain) (last : List ℕ) (c : Plain) (left : List ℕ) → BeginsWith s a mid → BeginsWith mid b last
+    → BeginsWith last c left → is_number_kind (meant a) ≡ true → is_name_kind (meant b) ≡ true → is_word_of (codes "put") c ≡ false → code_at s ≡ None
 unfolding code_at
 no_put s a mid b last c left h k l number a_name other = rw (ahead_is s a mid h, number, ahead_is mid b last k, a_name, ahead_is last c left l, other) refl
 
@@ -84,14 +94,16 @@ leads (between_groups t ∷ items) s left h = (h.0, h.1)
 leads (lone_dup ∷ items) s left h = (h.0, h.1)
 
 -- What follows a number and a name is not put, and what follows a number is no name.
-not_put : (a b : Plain) (items : List CodeItem) → is_number_kind (meant a) ≡ true → is_name_kind (meant b) ≡ true → ends_group (between_groups a ∷ between_groups b ∷ items) ≡ false → is_word_of (codes "put") (lead items) ≡ false
+not_put : (a b : Plain) (items : List CodeItem) → is_number_kind (meant a) ≡ true → is_name_kind (meant b) ≡ true
+    → ends_group (between_groups a ∷ between_groups b ∷ items) ≡ false → is_word_of (codes "put") (lead items) ≡ false
 unfolding lead
 not_put a b [] number a_name none = refl
 not_put a b (group n x run ∷ items) number a_name none = refl
 not_put a b (between_groups c ∷ items) number a_name none = rw (number, a_name) at none
 not_put a b (lone_dup ∷ items) number a_name none = refl
 
-behind_number : (items : List CodeItem) (s : List ℕ) (a : Plain) (mid left : List ℕ) → BeginsWith s a mid → is_number_kind (meant a) ≡ true → ends_group (between_groups a ∷ items) ≡ false → IsWritten mid (to_def items) left → code_at s ≡ None
+behind_number : (items : List CodeItem) (s : List ℕ) (a : Plain) (mid left : List ℕ) → BeginsWith s a mid → is_number_kind (meant a) ≡ true
+    → ends_group (between_groups a ∷ items) ≡ false → IsWritten mid (to_def items) left → code_at s ≡ None
 behind_number [] s a mid left h number none w = no_name s a mid (word (codes "def")) w.0 h w.1 number refl
 behind_number (group n x run ∷ items) s a mid left h number none w = no_name s a mid (word (codes "dup")) w.0 h w.1 number refl
 behind_number (lone_dup ∷ items) s a mid left h number none w = no_name s a mid (word (codes "dup")) w.0 h w.1 number refl
@@ -119,11 +131,13 @@ module _ (marks : Marks) where
   abbrev read : List Stated → ClearMode → List ℕ → Result TextRead Refusal
   read before mode s = stated_in clear_turn NoEexec marks before mode s
 
-  on : (before : List Stated) (s : List ℕ) (e : Option Stated) (next : ClearMode) (left : List ℕ) → clear_turn (value_of marks before) Codes s ≡ Ok (goes e next left) → read before Codes s ≡ read (with_one before e) next left
+  on : (before : List Stated) (s : List ℕ) (e : Option Stated) (next : ClearMode) (left : List ℕ) → clear_turn (value_of marks before) Codes s
+      ≡ Ok (goes e next left) → read before Codes s ≡ read (with_one before e) next left
   on before s e next left h = goes_on clear_turn NoEexec clear_shortens marks before Codes s e next left h
 
   -- A custom encoding is read behind its array, to its def.
-  pub codes_read : (items : List CodeItem) (before : List Stated) (s left : List ℕ) → AreCodeItems items → IsWritten s (to_def items) left → read before Codes s ≡ read (before ++ flat_map code_states items) Outside left
+  pub codes_read : (items : List CodeItem) (before : List Stated) (s left : List ℕ) → AreCodeItems items → IsWritten s (to_def items) left
+      → read before Codes s ≡ read (before ++ flat_map code_states items) Outside left
   codes_read [] before s left are h =
       on before s None Outside left (def_turn (value_of marks before) s left (last_token s (word (codes "def")) left h))
       ∙ ap (λ es. read es Outside left) (sym (append-nil before))

@@ -5,7 +5,8 @@ use Rattle.t1_font.specs.Readings.{◌>>=◌}
 use Rattle.t1_font.specs.Tokens.{◌>?◌}
 
 -- What follows something that was read.
-pub bind : {A B : Type 0} (P : A → Type 0) (Q : B → Type 0) (r : Result A Refusal) (f : A → Result B Refusal) → IfOk r P → ((x : A) → P x → IfOk (f x) Q) → IfOk (r >>= f) Q
+pub bind : {A B : Type 0} (P : A → Type 0) (Q : B → Type 0) (r : Result A Refusal) (f : A → Result B Refusal) → IfOk r P → ((x : A) → P x → IfOk (f x) Q)
+    → IfOk (r >>= f) Q
 bind P Q (Ok x) f h k = k x h
 bind P Q (Err e) f h k = tt
 
@@ -23,7 +24,8 @@ choose Q true x y h k = h
 choose Q false x y h k = k
 
 -- What follows something that was looked at.
-pub look : {A B : Type 0} (P : A → Type 0) (Q : B → Type 0) (r : Option A) (f : A → Option B) → IfSome r P → ((x : A) → P x → IfSome (f x) Q) → IfSome (r >? f) Q
+pub look : {A B : Type 0} (P : A → Type 0) (Q : B → Type 0) (r : Option A) (f : A → Option B) → IfSome r P → ((x : A) → P x → IfSome (f x) Q)
+    → IfSome (r >? f) Q
 look P Q (Some x) f h k = k x h
 look P Q None f h k = tt
 

@@ -48,4 +48,9 @@ module _ {K : Type 0} (eq : K → K → Bool) (e : IsExact eq) where
 
 pub different_stay : DifferentStay
 unfolding value_of
-different_stay marks es = (table_same nat_eq nat_exact [] (flat_map subr_of es), table_same same_name name_exact [] (flat_map glyph_of es), table_same nat_eq nat_exact [] (flat_map code_of (after_last is_encoding es)))
+different_stay marks es = (
+  table_same nat_eq nat_exact [] (flat_map subr_of es),
+  table_same same_name name_exact [] (flat_map glyph_of es),
+  table_same nat_eq
+      nat_exact [] (flat_map code_of (after_last is_encoding es)),
+)

@@ -16,7 +16,8 @@ use Rattle.t1_font.proofs.ClearItemsRead.{reads_usual_clear}
 use Rattle.t1_font.proofs.PrivateRead.{reads_usual_private}
 
 -- The value of what a text is read as.
-value_is : (marks : Marks) (r : Result TextRead Refusal) (es : List Stated) (rest : List ℕ) → r ≡ Ok (record { stated = es; rest = rest }) → font_value_of marks r ≡ Ok (value_of marks es)
+value_is : (marks : Marks) (r : Result TextRead Refusal) (es : List Stated) (rest : List ℕ) → r ≡ Ok (record { stated = es; rest = rest })
+    → font_value_of marks r ≡ Ok (value_of marks es)
 value_is marks r es rest h = ap (font_value_of marks) h
 
 -- The clear text's entries state what its items do.
@@ -74,7 +75,8 @@ additions_in_private marks before p q s rest text end none a b same =
     ∙ sym (value_is marks (private_of marks before text) (before ++ private.all_private_states q) end (reads_usual_private marks before q text end none b))
 
 -- A clear text states no charstring.
-codes_none : {A : Type 0} (f : Stated → List A) → ((n : ℕ) (run : List ℕ) → f (code n run) ≡ []) → (items : List clear.CodeItem) → flat_map f (flat_map clear.code_states items) ≡ []
+codes_none : {A : Type 0} (f : Stated → List A) → ((n : ℕ) (run : List ℕ) → f (code n run) ≡ []) → (items : List clear.CodeItem)
+    → flat_map f (flat_map clear.code_states items) ≡ []
 codes_none f none [] = refl
 codes_none f none (clear.group n number run ∷ items) = rw (none n run) (codes_none f none items)
 codes_none f none (clear.between_groups t ∷ items) = codes_none f none items
@@ -85,7 +87,8 @@ no_size [] = refl
 no_size (clear.key k run value ∷ items) = no_size items
 no_size (clear.standard ∷ items) = no_size items
 no_size (clear.custom count codes ∷ items) =
-    flat_map-append size_of (flat_map clear.code_states codes) (clear.all_clear_states items) ∙ rw (codes_none size_of (λ n run. refl) codes, no_size items) refl
+    flat_map-append size_of (flat_map clear.code_states codes) (clear.all_clear_states items)
+    ∙ rw (codes_none size_of (λ n run. refl) codes, no_size items) refl
 no_size (clear.other_name run ∷ items) = no_size items
 no_size (clear.other_token t ∷ items) = no_size items
 
@@ -94,7 +97,8 @@ no_glyph [] = refl
 no_glyph (clear.key k run value ∷ items) = no_glyph items
 no_glyph (clear.standard ∷ items) = no_glyph items
 no_glyph (clear.custom count codes ∷ items) =
-    flat_map-append glyph_of (flat_map clear.code_states codes) (clear.all_clear_states items) ∙ rw (codes_none glyph_of (λ n run. refl) codes, no_glyph items) refl
+    flat_map-append glyph_of (flat_map clear.code_states codes) (clear.all_clear_states items)
+    ∙ rw (codes_none glyph_of (λ n run. refl) codes, no_glyph items) refl
 no_glyph (clear.other_name run ∷ items) = no_glyph items
 no_glyph (clear.other_token t ∷ items) = no_glyph items
 

@@ -15,7 +15,8 @@ record IsClearOf (marks : Marks) (read : Result TextRead Refusal) (clear : Clear
   is : read ≡ Ok text
   font : clear.font ≡ value_of marks text.stated
 
-cleared : (marks : Marks) (s : List ℕ) (read : Result TextRead Refusal) (clear : ClearValue) → clear_value_of marks s read ≡ Ok clear → IsClearOf marks read clear
+cleared : (marks : Marks) (s : List ℕ) (read : Result TextRead Refusal) (clear : ClearValue) → clear_value_of marks s read ≡ Ok clear
+    → IsClearOf marks read clear
 cleared marks s (Err e) clear h = cc
 cleared marks s (Ok text) clear h =
     let same = ap (λ (r : Result ClearValue Refusal). elim r [ Ok c ↦ c.font | Err e ↦ value_of marks text.stated ]) h in

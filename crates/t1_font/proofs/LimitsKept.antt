@@ -48,16 +48,20 @@ put_within v (subr n bytes) w h = record { codes = w.codes; subrs = keys_put (λ
 put_within v (glyph name bytes) w h = record { codes = w.codes; subrs = w.subrs; glyphs = room_put v.glyphs name bytes w.glyphs h; size = w.size }
 
 -- A text whose turns state what fits leaves a value within the limits.
-module _ {M : Type 0} (turn : Reader M) (ended : Refusal) (marks : Marks) (fits : (v : FontValue) (mode : M) (s : List ℕ) → IfOk (turn v mode s) (Keeps v)) where
-  one_within : (before : List Stated) (e : Option Stated) → IsWithinLimits (value_of marks before) → FitsOne (value_of marks before) e → IsWithinLimits (value_of marks (with_one before e))
+module _ {M : Type 0} (turn : Reader M) (ended : Refusal) (marks : Marks) (fits : (v : FontValue) (mode : M) (s : List ℕ)
+    → IfOk (turn v mode s) (Keeps v)) where
+  one_within : (before : List Stated) (e : Option Stated) → IsWithinLimits (value_of marks before) → FitsOne (value_of marks before) e
+      → IsWithinLimits (value_of marks (with_one before e))
   one_within before None w h = w
   one_within before (Some e) w h = subst IsWithinLimits (sym (value_step marks before e)) (put_within (value_of marks before) e w h)
 
-  text_within : (n : ℕ) (before : List Stated) (mode : M) (s : List ℕ) → IsWithinLimits (value_of marks before) → IfOk (stated_within turn ended marks n before mode s) (Within marks)
+  text_within : (n : ℕ) (before : List Stated) (mode : M) (s : List ℕ) → IsWithinLimits (value_of marks before)
+      → IfOk (stated_within turn ended marks n before mode s) (Within marks)
   unfolding stated_within
   text_within zero before mode s w = tt
   text_within (suc n) before mode s w =
-      elim (turn (value_of marks before) mode s) as (λ r. IfOk r (Keeps (value_of marks before)) → IfOk (r >>= follow (stated_within turn ended marks n) before) (Within marks)) [
+      elim (turn (value_of marks before) mode s) as
+      (λ r. IfOk r (Keeps (value_of marks before)) → IfOk (r >>= follow (stated_within turn ended marks n) before) (Within marks)) [
         | Err e ↦ λ _. tt
         | Ok t ↦ elim t as (λ t. Keeps (value_of marks before) t → IfOk (follow (stated_within turn ended marks n) before t) (Within marks)) [
           | over rest ↦ λ _. w
@@ -72,7 +76,8 @@ start_within marks = record { codes = All-nil (λ p. p.0 < 256); subrs = All-nil
 
 clear_within : (marks : Marks) (s : List ℕ) → IfOk (clear_of marks s) (Within marks)
 unfolding clear_of
-clear_within marks s = either (Within marks) (begins_as_font s) (stated_within clear_turn NoEexec marks (suc (length s)) [] clear_modes.Outside s) (Err NoEexec) (text_within clear_turn NoEexec marks clear_fits (suc (length s)) [] clear_modes.Outside s (start_within marks)) tt
+clear_within marks s = either (Within marks) (begins_as_font s) (stated_within clear_turn NoEexec marks (suc (length s)) [] clear_modes.Outside s) (Err NoEexec)
+    (text_within clear_turn NoEexec marks clear_fits (suc (length s)) [] clear_modes.Outside s (start_within marks)) tt
 
 private_within : (marks : Marks) (before : List Stated) (s : List ℕ) → IsWithinLimits (value_of marks before) → IfOk (private_of marks before s) (Within marks)
 unfolding private_of
@@ -91,7 +96,8 @@ value_within marks (Err e) w = tt
 pub fonts_within_limits : FontsWithinLimits
 fonts_within_limits marks text private_text clear v first second =
     let start : Within marks clear = rw first at (clear_within marks text) in
-    let after : IsWithinLimits v = rw second at (value_within marks (private_of marks clear.stated private_text) (private_within marks clear.stated private_text start)) in
+    let after : IsWithinLimits v = rw second at
+    (value_within marks (private_of marks clear.stated private_text) (private_within marks clear.stated private_text start)) in
     after
 
 -- A key past the limit is not among keys within it.

@@ -42,7 +42,8 @@ unfolding numbers_within
 within_zero s = refl
 
 -- Numbers alone give their values.
-gives_values : (n : ℕ) (s : List ℕ) (ts : List Lexeme) (values : List ℤ) → length s < n → IsReadAs s ts → kinds_of ts ≡ map Number values → numbers_within n s ≡ Some values
+gives_values : (n : ℕ) (s : List ℕ) (ts : List Lexeme) (values : List ℤ) → length s < n → IsReadAs s ts → kinds_of ts ≡ map Number values
+    → numbers_within n s ≡ Some values
 gives_values zero s ts values less read same = absurd (omega arith)
 gives_values (suc n) s [] [] less read same = within_is n s ∙ ap (numbers_from (numbers_within n)) (item_end s read)
 gives_values (suc n) s [] (z ∷ values) less read same = cc
@@ -58,7 +59,8 @@ gives_values (suc n) s (t ∷ ts) (z ∷ values) less read same =
     ∙ ap (number_first z) later
 
 -- Behind another token there is no value.
-of_kind : (k : Kind) (rest : List ℕ) (n : ℕ) → (not (is_number_kind k) ≡ true) ⊎ (numbers_within n rest ≡ None) → numbers_from (numbers_within n) (item_of k rest) ≡ None
+of_kind : (k : Kind) (rest : List ℕ) (n : ℕ) → (not (is_number_kind k) ≡ true) ⊎ (numbers_within n rest ≡ None)
+    → numbers_from (numbers_within n) (item_of k rest) ≡ None
 of_kind (Number z) rest n (inl h) = cc
 of_kind (Number z) rest n (inr h) = ap (number_first z) h
 of_kind Name rest n h = refl
@@ -86,7 +88,8 @@ pushed : (z : ℤ) (later : Option (List ℤ)) (values : List ℤ) → number_fi
 pushed z None values h = cc
 pushed z (Some more) values h = (more, refl, cc)
 
-number_is : (n : ℕ) (k : Kind) (rest : List ℕ) (values : List ℤ) → numbers_from (numbers_within n) (item_of k rest) ≡ Some values → (z : ℤ) × (more : List ℤ) × (k ≡ Number z) × (numbers_within n rest ≡ Some more) × (values ≡ z ∷ more)
+number_is : (n : ℕ) (k : Kind) (rest : List ℕ) (values : List ℤ) → numbers_from (numbers_within n) (item_of k rest) ≡ Some values → (z : ℤ) × (more : List ℤ)
+    × (k ≡ Number z) × (numbers_within n rest ≡ Some more) × (values ≡ z ∷ more)
 number_is n (Number z) rest values h =
     let p = pushed z (numbers_within n rest) values h in (z, p.0, refl, p.1, p.2)
 number_is n Name rest values h = cc
@@ -103,7 +106,8 @@ read_as_numbers zero s values h = absurd (none_or_values (numbers_within zero s)
 read_as_numbers (suc n) s values h =
     let next : numbers_from (numbers_within n) (item_at s) ≡ Some values = sym (within_is n s) ∙ h in
     elim (token_of s) as (λ r. token_of s ≡ r → IsReadAsNumbers s values) [
-      | Err e ↦ λ is. absurd (none_or_values (numbers_from (numbers_within n) (item_at s)) values (ap (numbers_from (numbers_within n)) (item_refused s e is)) next)
+      | Err e ↦ λ is. absurd (none_or_values (numbers_from (numbers_within n) (item_at s)) values
+          (ap (numbers_from (numbers_within n)) (item_refused s e is)) next)
       | Ok found ↦ elim found as (λ found. token_of s ≡ Ok found → IsReadAsNumbers s values) [
         | None ↦ λ is.
             (let here : Some [] ≡ Some values = sym (ap (numbers_from (numbers_within n)) (item_end s is)) ∙ next in
@@ -193,7 +197,8 @@ body_read body ts h = read_written (body_text body) ts h.rest h.tokens h.ends
 
 pub written_numbers : WrittenNumbers
 written_numbers body ts values h same =
-    both body (numbers (length values) (take 16 values)) (counts_numbers (body_text body) values (record { tokens = map lexeme_of ts; read = body_read body ts h; kinds = same }))
+    both body (numbers (length values) (take 16 values))
+    (counts_numbers (body_text body) values (record { tokens = map lexeme_of ts; read = body_read body ts h; kinds = same }))
 
 pub written_others : WrittenOthers
 written_others body ts h one =

@@ -23,13 +23,14 @@ of_kind Array rest n h = tt
 
 item_less : (s : List ℕ) → RestOfItem (length s) (item_at s)
 unfolding item_at
-item_less s = elim (token_at s) as (λ r. token_at s ≡ r → RestOfItem (length s) (elim r [ Err _ ↦ is_other | Ok found ↦ elim found [ None ↦ ends | Some t ↦ item_of t.kind t.rest ] ])) [
-  | Err x ↦ λ h. tt
-  | Ok found ↦ elim found as (λ found. token_at s ≡ Ok found → RestOfItem (length s) (elim found [ None ↦ ends | Some t ↦ item_of t.kind t.rest ])) [
-    | None ↦ λ h. tt
-    | Some t ↦ λ h. of_kind t.kind t.rest (length s) (is_shorter s t.rest (token_behind s t h))
-  ]
-] refl
+item_less s = elim (token_at s) as (λ r. token_at s ≡ r
+    → RestOfItem (length s) (elim r [ Err _ ↦ is_other | Ok found ↦ elim found [ None ↦ ends | Some t ↦ item_of t.kind t.rest ] ])) [
+      | Err x ↦ λ h. tt
+      | Ok found ↦ elim found as (λ found. token_at s ≡ Ok found → RestOfItem (length s) (elim found [ None ↦ ends | Some t ↦ item_of t.kind t.rest ])) [
+        | None ↦ λ h. tt
+        | Some t ↦ λ h. of_kind t.kind t.rest (length s) (is_shorter s t.rest (token_behind s t h))
+      ]
+    ] refl
 
 pub number_less : (s rest : List ℕ) (z : ℤ) → is_number z rest ≡ item_at s → length rest < length s
 number_less s rest z h = rw (← h) at (item_less s)
@@ -59,11 +60,13 @@ take_front zero xs ys = refl
 take_front (suc n) [] ys = refl
 take_front (suc n) (x ∷ xs) ys = ap (λ zs. x ∷ zs) (take_front n xs ys)
 
-list_after_more : (count : ℕ) (first : List ℤ) (z : ℤ) (more : Option (List ℤ)) → list_after (count + 1) (take 16 (first ++ z ∷ [])) more ≡ list_after count first (number_first z more)
+list_after_more : (count : ℕ) (first : List ℤ) (z : ℤ) (more : Option (List ℤ)) → list_after (count + 1) (take 16 (first ++ z ∷ [])) more ≡ list_after
+    count first (number_first z more)
 list_after_more count first z None = refl
 list_after_more count first z (Some zs) =
     let counts : count + 1 + length zs ≡ count + suc (length zs) = omega arith in
-    let kept : take 16 (take 16 (first ++ z ∷ []) ++ zs) ≡ take 16 (first ++ (z ∷ zs)) = take_front 16 (first ++ z ∷ []) zs ∙ ap (take 16) (append_assoc first (z ∷ []) zs) in
+    let kept : take 16 (take 16 (first ++ z ∷ []) ++ zs) ≡ take 16 (first ++ (z ∷ zs)) = take_front 16 (first ++ z ∷ []) zs
+    ∙ ap (take 16) (append_assoc first (z ∷ []) zs) in
     rw (counts, kept) refl
 
 take_all : {A : Type 0} (n : ℕ) (xs : List A) → length xs ≤ n → take n (xs ++ []) ≡ xs
@@ -73,7 +76,8 @@ take_all (suc n) [] h = refl
 take_all (suc n) (x ∷ xs) h = ap (λ ys. x ∷ ys) (take_all n xs (omega arith))
 
 -- The list ends here.
-pub list_after_end : (count : ℕ) (first : List ℤ) (s : List ℕ) → length first ≤ 16 → ends ≡ item_at s → list_after count first (numbers_of s) ≡ numbers count first
+pub list_after_end : (count : ℕ) (first : List ℤ) (s : List ℕ) → length first ≤ 16 → ends ≡ item_at s
+    → list_after count first (numbers_of s) ≡ numbers count first
 list_after_end count first s h e =
     let same : count + 0 ≡ count = omega arith in
     rw (numbers_step s, ← e) (rw (same, take_all 16 first h) refl)
@@ -83,7 +87,8 @@ pub list_after_other : (count : ℕ) (first : List ℤ) (s : List ℕ) → is_ot
 list_after_other count first s e = rw (numbers_step s, ← e) refl
 
 -- A number more was passed.
-pub list_after_number : (count : ℕ) (first : List ℤ) (z : ℤ) (s rest : List ℕ) → is_number z rest ≡ item_at s → list_after (count + 1) (take 16 (first ++ z ∷ [])) (numbers_of rest) ≡ list_after count first (numbers_of s)
+pub list_after_number : (count : ℕ) (first : List ℤ) (z : ℤ) (s rest : List ℕ) → is_number z rest ≡ item_at s
+    → list_after (count + 1) (take 16 (first ++ z ∷ [])) (numbers_of rest) ≡ list_after count first (numbers_of s)
 list_after_number count first z s rest e = rw (numbers_step s, ← e) (list_after_more count first z (numbers_of rest))
 
 -- A list that is full takes no more.

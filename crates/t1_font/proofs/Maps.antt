@@ -13,7 +13,8 @@ module _ {K K' V V' : Type 0} (eq : K → K → Bool) (eq' : K' → K' → Bool)
   entries_put [] k v = refl
   entries_put (e ∷ es) k v =
       rw (same k e.0)
-      (elim (eq' (f k) (f e.0)) as (λ b. map (pair_by f g) (cond b ((e.0, v) ∷ es) (e ∷ insert_entry eq es k v)) ≡ cond b ((f e.0, g v) ∷ map (pair_by f g) es) (pair_by f g e ∷ put_pair eq' (map (pair_by f g) es) (f k) (g v))) [
+      (elim (eq' (f k) (f e.0)) as (λ b. map (pair_by f g) (cond b ((e.0, v) ∷ es) (e ∷ insert_entry eq es k v)) ≡ cond b ((f e.0, g v) ∷ map (pair_by f g) es)
+      (pair_by f g e ∷ put_pair eq' (map (pair_by f g) es) (f k) (g v))) [
         | true ↦ refl
         | false ↦ ap (λ ps. pair_by f g e ∷ ps) (entries_put es k v)
       ])

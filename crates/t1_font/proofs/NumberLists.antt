@@ -49,7 +49,8 @@ sign_idle false plus = refl
 sign_idle true minus = refl
 sign_idle false minus = refl
 
-fraction_idle : (inside : Bool) (fraction : Option (List ℕ)) → list_all is_decimal_digit (decimals_of fraction) ≡ true → list_all (is_idle inside) (fraction_text fraction) ≡ true
+fraction_idle : (inside : Bool) (fraction : Option (List ℕ)) → list_all is_decimal_digit (decimals_of fraction) ≡ true
+    → list_all (is_idle inside) (fraction_text fraction) ≡ true
 fraction_idle inside None h = refl
 fraction_idle true (Some decimals) h = digits_idle true decimals h
 fraction_idle false (Some decimals) h = digits_idle false decimals h
@@ -70,7 +71,8 @@ number_idle inside (radix base digits) z h k =
     let parts = radix_parts base digits h in
     let small = small_base base digits parts in
     all_both (is_idle inside) base (35 ∷ digits) (digits_idle inside base parts.front)
-    (radix_behind inside digits (all_by (λ b. nat_lt (digit_value b) (digits_value 10 base)) (is_idle inside) (λ b e. in_base_idle inside b (digits_value 10 base) small e) digits parts.behind))
+    (radix_behind inside digits (all_by (λ b. nat_lt (digit_value b) (digits_value 10 base)) (is_idle inside)
+    (λ b e. in_base_idle inside b (digits_value 10 base) small e) digits parts.behind))
 number_idle inside (name run) z h k = cc
 number_idle inside (word run) z h k = cc
 number_idle inside (single b) z h k = cc
@@ -81,16 +83,19 @@ number_idle inside (angled bytes) z h k = cc
 number_idle inside (braced body) z h k = cc
 number_idle inside (bracketed body) z h k = cc
 
-continued_idle : (inside : Bool) (blank : ℕ) (ts : List Plain) (values : List ℤ) → is_blank blank ≡ true → AreReadable ts → kinds_of (map lexeme_of ts) ≡ map Number values → list_all (is_idle inside) (continued blank ts) ≡ true
+continued_idle : (inside : Bool) (blank : ℕ) (ts : List Plain) (values : List ℤ) → is_blank blank ≡ true → AreReadable ts → kinds_of (map lexeme_of ts)
+    ≡ map Number values → list_all (is_idle inside) (continued blank ts) ≡ true
 continued_idle inside blank [] values h r same = refl
 continued_idle inside blank (t ∷ ts) [] h r same = cc
 continued_idle inside blank (t ∷ ts) (z ∷ values) h r same =
     let kind : meant t ≡ Number z = cc in
     let more : kinds_of (map lexeme_of ts) ≡ map Number values = cc in
-    let later = all_both (is_idle inside) (spelled t) (continued blank ts) (number_idle inside t z r.0.plain kind) (continued_idle inside blank ts values h r.1 more) in
+    let later = all_both (is_idle inside) (spelled t) (continued blank ts) (number_idle inside t z r.0.plain kind)
+    (continued_idle inside blank ts values h r.1 more) in
     rw (blank_idle inside blank h, later) refl
 
-written_idle : (inside : Bool) (blank : ℕ) (ts : List Plain) (values : List ℤ) → is_blank blank ≡ true → AreReadable ts → kinds_of (map lexeme_of ts) ≡ map Number values → list_all (is_idle inside) (written blank ts) ≡ true
+written_idle : (inside : Bool) (blank : ℕ) (ts : List Plain) (values : List ℤ) → is_blank blank ≡ true → AreReadable ts → kinds_of (map lexeme_of ts)
+    ≡ map Number values → list_all (is_idle inside) (written blank ts) ≡ true
 written_idle inside blank [] values h r same = refl
 written_idle inside blank (t ∷ ts) [] h r same = cc
 written_idle inside blank (t ∷ ts) (z ∷ values) h r same =

@@ -24,7 +24,8 @@ private_refused : (read : Result FontValue Refusal) → ((e : Refusal) → read 
 private_refused (Ok font) h = tt
 private_refused (Err e) h = (e, (h e refl, refl))
 
-section_refused : (marks : Marks) (before : List Stated) (section : Result (List ℕ) SealError) → ((e : SealError) → section ≡ Err e → e ≡ seal.TooShort) → IfErr (private_next marks before section) (IsOfSection section)
+section_refused : (marks : Marks) (before : List Stated) (section : Result (List ℕ) SealError) → ((e : SealError) → section ≡ Err e → e ≡ seal.TooShort)
+    → IfErr (private_next marks before section) (IsOfSection section)
 section_refused marks before (Ok text) h = private_refused (font_read marks before text) (font_read_refusals marks before text)
 section_refused marks before (Err e) h = rw (h e refl) refl
 
@@ -36,7 +37,8 @@ too_short : (bytes : List ℕ) (e : SealError) → private_text_of bytes ≡ Err
 unfolding private_text_of opened
 too_short bytes e h = chosen (nat_lt (length (cipher_bytes (section_of bytes))) 4) _ e h
 
-texts_refused : (marks : Marks) (read : Result TextRead Refusal) → ((e : Refusal) → read ≡ Err e → IsClearRefusal e) → IfErr (section_next marks read) (IsOfTexts read)
+texts_refused : (marks : Marks) (read : Result TextRead Refusal) → ((e : Refusal) → read ≡ Err e → IsClearRefusal e)
+    → IfErr (section_next marks read) (IsOfTexts read)
 texts_refused marks (Ok clear) h = section_refused marks clear.stated (private_text_of clear.rest) (too_short clear.rest)
 texts_refused marks (Err e) h = (e, (h e refl, refl))
 

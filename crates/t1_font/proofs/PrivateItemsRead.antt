@@ -26,7 +26,8 @@ use Rattle.t1_font.proofs.WrittenRead.{is_other, wanted_is, last_token, parts, w
 use Rattle.t1_scan.specs.Numbers.{billion}
 
 -- A token outside, and among the Subrs.
-pub outside : (v : FontValue) (s : List ℕ) (t : Plain) (left : List ℕ) → BeginsWith s t left → private_turn v Outside s ≡ private_outside v (meant t) (spelled t) left
+pub outside : (v : FontValue) (s : List ℕ) (t : Plain) (left : List ℕ) → BeginsWith s t left
+    → private_turn v Outside s ≡ private_outside v (meant t) (spelled t) left
 unfolding private_turn
 outside v s t left h = rw (wanted_is BadCharStrings s t left h) refl
 
@@ -48,7 +49,8 @@ pub no_glyphs_key : private_key (codes "/CharStrings") ≡ None
 unfolding private_key
 no_glyphs_key = refl
 
-pub name_outside : (v : FontValue) (text rest : List ℕ) → same_name text (codes "/Subrs") ≡ false → same_name text (codes "/CharStrings") ≡ false → private_outside v Name text rest ≡ private_value (private_key text) rest
+pub name_outside : (v : FontValue) (text rest : List ℕ) → same_name text (codes "/Subrs") ≡ false → same_name text (codes "/CharStrings") ≡ false
+    → private_outside v Name text rest ≡ private_value (private_key text) rest
 unfolding private_outside
 name_outside v text rest a b = rw (a, b) refl
 
@@ -63,7 +65,8 @@ fits : (k : Key) (kind : Kind) → FitsKey k kind → (is_len_iv_key k && not (i
 fits LenIv kind h = rw (len_iv_is kind h) refl
 fits _ kind h = refl
 
-value_is : (k : Key) (s : List ℕ) (value : Plain) (left : List ℕ) → FitsKey k (meant value) → BeginsWith s value left → private_value (Some k) s ≡ Ok (goes (Some (plain k (lexeme_of value))) Outside left)
+value_is : (k : Key) (s : List ℕ) (value : Plain) (left : List ℕ) → FitsKey k (meant value) → BeginsWith s value left
+    → private_value (Some k) s ≡ Ok (goes (Some (plain k (lexeme_of value))) Outside left)
 unfolding private_value
 value_is k s value left fit h =
     rw (wanted_is (if is_len_iv_key k then BadLenIv else BadCharStrings) s value left h, fits k (meant value) fit) refl
@@ -72,9 +75,11 @@ none_is : (s : List ℕ) → private_value None s ≡ Ok (goes None Outside s)
 unfolding private_value
 none_is s = refl
 
-key_is : (v : FontValue) (k : Key) (run s : List ℕ) (value : Plain) (left : List ℕ) → private_key (47 ∷ run) ≡ Some k → FitsKey k (meant value) → BeginsWith s value left → private_outside v Name (47 ∷ run) s ≡ Ok (goes (Some (plain k (lexeme_of value))) Outside left)
+key_is : (v : FontValue) (k : Key) (run s : List ℕ) (value : Plain) (left : List ℕ) → private_key (47 ∷ run) ≡ Some k → FitsKey k (meant value)
+    → BeginsWith s value left → private_outside v Name (47 ∷ run) s ≡ Ok (goes (Some (plain k (lexeme_of value))) Outside left)
 key_is v k run s value left is fit h =
-    name_outside v (47 ∷ run) s (is_other private_key (47 ∷ run) (codes "/Subrs") k no_subrs_key is) (is_other private_key (47 ∷ run) (codes "/CharStrings") k no_glyphs_key is)
+    name_outside v (47 ∷ run) s (is_other private_key (47 ∷ run) (codes "/Subrs") k no_subrs_key is)
+    (is_other private_key (47 ∷ run) (codes "/CharStrings") k no_glyphs_key is)
     ∙ ap (λ o. private_value o s) is
     ∙ value_is k s value left fit h
 
@@ -86,11 +91,13 @@ unfolding private_outside
 token_outside v kind text rest is = rw is refl
 
 -- Among the Subrs a word leaves reading there, and any other token ends them.
-word_among : (v : FontValue) (t : Plain) (rest : List ℕ) → is_word_of (codes "dup") t ≡ false → is_word_kind (meant t) ≡ true → subrs_token v (meant t) (spelled t) rest ≡ Ok (goes None Subrs rest)
+word_among : (v : FontValue) (t : Plain) (rest : List ℕ) → is_word_of (codes "dup") t ≡ false → is_word_kind (meant t) ≡ true
+    → subrs_token v (meant t) (spelled t) rest ≡ Ok (goes None Subrs rest)
 unfolding subrs_token
 word_among v t rest other is = rw (other, is) refl
 
-token_among : (v : FontValue) (t : Plain) (rest : List ℕ) → is_word_of (codes "dup") t ≡ false → is_word_kind (meant t) ≡ false → subrs_token v (meant t) (spelled t) rest ≡ private_outside v (meant t) (spelled t) rest
+token_among : (v : FontValue) (t : Plain) (rest : List ℕ) → is_word_of (codes "dup") t ≡ false → is_word_kind (meant t) ≡ false
+    → subrs_token v (meant t) (spelled t) rest ≡ private_outside v (meant t) (spelled t) rest
 unfolding subrs_token
 token_among v t rest other is = rw (other, is) refl
 
@@ -103,25 +110,30 @@ module _ (marks : Marks) where
   abbrev pub read : List Stated → PrivateMode → List ℕ → Result TextRead Refusal
   read before mode s = stated_in private_turn BadCharStrings marks before mode s
 
-  pub on : (before : List Stated) (mode : PrivateMode) (s : List ℕ) (e : Option Stated) (next : PrivateMode) (left : List ℕ) → private_turn (value_of marks before) mode s ≡ Ok (goes e next left) → read before mode s ≡ read (with_one before e) next left
+  pub on : (before : List Stated) (mode : PrivateMode) (s : List ℕ) (e : Option Stated) (next : PrivateMode) (left : List ℕ)
+      → private_turn (value_of marks before) mode s ≡ Ok (goes e next left) → read before mode s ≡ read (with_one before e) next left
   on before mode s e next left h = goes_on private_turn BadCharStrings private_shortens marks before mode s e next left h
 
   pub nothing_more : (before : List Stated) (mode : PrivateMode) (s : List ℕ) → read before mode s ≡ read (before ++ []) mode s
   nothing_more before mode s = ap (λ es. read es mode s) (sym (append-nil before))
 
-  item_read : (item : PrivateItem) (before : List Stated) (s left : List ℕ) → IsPrivateItem item → IsWritten s (private_pieces item) left → read before Outside s ≡ read (before ++ private_states item) Outside left
+  item_read : (item : PrivateItem) (before : List Stated) (s left : List ℕ) → IsPrivateItem item → IsWritten s (private_pieces item) left
+      → read before Outside s ≡ read (before ++ private_states item) Outside left
   item_read (key k run value) before s left is h =
       let v = value_of marks before in
       on before Outside s (Some (plain k (lexeme_of value))) Outside left
       (outside v s (name run) h.0 h.1 ∙ key_is v k run h.0 value left is.0 is.1 (last_token h.0 value left h.2))
   item_read (other_name run) before s left is h =
       let v = value_of marks before in
-      on before Outside s None Outside left (outside v s (name run) left (last_token s (name run) left h) ∙ name_is v run left is) ∙ nothing_more before Outside left
+      on before Outside s None Outside left (outside v s (name run) left (last_token s (name run) left h) ∙ name_is v run left is)
+      ∙ nothing_more before Outside left
   item_read (other_token t) before s left is h =
       let v = value_of marks before in
-      on before Outside s None Outside left (outside v s t left (last_token s t left h) ∙ token_outside v (meant t) (spelled t) left is) ∙ nothing_more before Outside left
+      on before Outside s None Outside left (outside v s t left (last_token s t left h) ∙ token_outside v (meant t) (spelled t) left is)
+      ∙ nothing_more before Outside left
 
-  pub front_read : (items : List PrivateItem) (before : List Stated) (s left : List ℕ) → All IsPrivateItem items → IsWritten s (flat_map private_pieces items) left → read before Outside s ≡ read (before ++ flat_map private_states items) Outside left
+  pub front_read : (items : List PrivateItem) (before : List Stated) (s left : List ℕ) → All IsPrivateItem items → IsWritten s (flat_map private_pieces items)
+      left → read before Outside s ≡ read (before ++ flat_map private_states items) Outside left
   front_read [] before s left are h = ap (read before Outside) h ∙ nothing_more before Outside left
   front_read (item ∷ items) before s left are h =
       let p = parts s (private_pieces item) (flat_map private_pieces items) left h in
@@ -134,26 +146,42 @@ module _ (marks : Marks) where
     pub still : Bool
     pub is : read before Subrs s ≡ read after (mode_of still) left
 
-  item_behind : (item : PrivateItem) (before : List Stated) (s left : List ℕ) → IsPrivateItem item → IsNoDup item → IsWritten s (private_pieces item) left → Behind before s (before ++ private_states item) left
+  item_behind : (item : PrivateItem) (before : List Stated) (s left : List ℕ) → IsPrivateItem item → IsNoDup item → IsWritten s (private_pieces item) left
+      → Behind before s (before ++ private_states item) left
   item_behind (key k run value) before s left is other h =
       let v = value_of marks before in
-      record { still = false; is = on before Subrs s (Some (plain k (lexeme_of value))) Outside left (name_among v s run h.0 h.1 ∙ key_is v k run h.0 value left is.0 is.1 (last_token h.0 value left h.2)) }
+      record {
+        still = false;
+        is = on before Subrs s (Some (plain k (lexeme_of value))) Outside left
+            (name_among v s run h.0 h.1 ∙ key_is v k run h.0 value left is.0 is.1 (last_token h.0 value left h.2));
+      }
   item_behind (other_name run) before s left is other h =
       let v = value_of marks before in
-      record { still = false; is = on before Subrs s None Outside left (name_among v s run left (last_token s (name run) left h) ∙ name_is v run left is) ∙ nothing_more before Outside left }
+      record {
+        still = false;
+        is = on before Subrs s None Outside left (name_among v s run left (last_token s (name run) left h) ∙ name_is v run left is)
+            ∙ nothing_more before Outside left;
+      }
   item_behind (other_token t) before s left is other h =
       let v = value_of marks before in
       let turn = among v s t left (last_token s t left h) in
       elim (cases_Bool (is_word_kind (meant t))) [
         | inl y ↦ record { still = true; is = on before Subrs s None Subrs left (turn ∙ word_among v t left other y) ∙ nothing_more before Subrs left }
-        | inr n ↦ record { still = false; is = on before Subrs s None Outside left (turn ∙ token_among v t left other n ∙ token_outside v (meant t) (spelled t) left is) ∙ nothing_more before Outside left }
+        | inr n ↦ record {
+          still = false;
+          is = on before Subrs s None Outside left
+              (turn ∙ token_among v t left other n ∙ token_outside v (meant t) (spelled t) left is) ∙ nothing_more before Outside left;
+        }
       ]
 
-  pub back_read : (items : List PrivateItem) (still : Bool) (before : List Stated) (s left : List ℕ) → All IsPrivateItem items → All IsNoDup items → IsWritten s (flat_map private_pieces items) left → (r : Bool) × (read before (mode_of still) s ≡ read (before ++ flat_map private_states items) (mode_of r) left)
+  pub back_read : (items : List PrivateItem) (still : Bool) (before : List Stated) (s left : List ℕ) → All IsPrivateItem items → All IsNoDup items
+      → IsWritten s (flat_map private_pieces items) left → (r : Bool)
+      × (read before (mode_of still) s ≡ read (before ++ flat_map private_states items) (mode_of r) left)
   back_read items false before s left are others h = (false, front_read items before s left are h)
   back_read [] true before s left are others h = (true, ap (read before Subrs) h ∙ nothing_more before Subrs left)
   back_read (item ∷ items) true before s left are others h =
       let p = parts s (private_pieces item) (flat_map private_pieces items) left h in
       let first = item_behind item before s p.left (All-head IsPrivateItem item items are) (All-head IsNoDup item items others) p.front in
-      let more = back_read items first.still (before ++ private_states item) p.left left (All-tail IsPrivateItem item items are) (All-tail IsNoDup item items others) p.back in
+      let more = back_read items first.still (before ++ private_states item) p.left left (All-tail IsPrivateItem item items are)
+      (All-tail IsNoDup item items others) p.back in
       (more.0, first.is ∙ more.1 ∙ ap (λ es. read es (mode_of more.0) left) (append_assoc before (private_states item) (flat_map private_states items)))

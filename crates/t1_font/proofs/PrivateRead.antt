@@ -54,7 +54,9 @@ module _ (marks : Marks) (p : PrivateParts) where
   glyphs = flat_map glyph_states p.glyphs
 
   -- From behind the Subrs on.
-  from_back : (still : Bool) (before : List Stated) (s rest : List ℕ) → IsUsualParts p → flat_map glyph_of before ≡ [] → IsWritten s (flat_map private_pieces p.back ++ glyphs_pieces p.count p.glyphs) rest → read marks before (mode_of still) s ≡ Ok (record { stated = before ++ (others ++ glyphs); rest = rest })
+  from_back : (still : Bool) (before : List Stated) (s rest : List ℕ) → IsUsualParts p → flat_map glyph_of before ≡ []
+      → IsWritten s (flat_map private_pieces p.back ++ glyphs_pieces p.count p.glyphs) rest → read marks before (mode_of still) s
+      ≡ Ok (record { stated = before ++ (others ++ glyphs); rest = rest })
   from_back still before s rest is none h =
       let a = parts s (flat_map private_pieces p.back) (glyphs_pieces p.count p.glyphs) rest h in
       let back = back_read marks p.back still before s a.left is.back is.no_dup a.front in
@@ -64,7 +66,9 @@ module _ (marks : Marks) (p : PrivateParts) where
       ∙ ap (λ es. Ok (record { stated = es; rest = rest })) (append_assoc before others glyphs)
 
   -- From the Subrs on.
-  from_subrs : (before : List Stated) (s rest : List ℕ) → IsUsualParts p → StatesNoCharstring before → IsWritten s (subrs_pieces p.subrs ++ (flat_map private_pieces p.back ++ glyphs_pieces p.count p.glyphs)) rest → read marks before Outside s ≡ Ok (record { stated = before ++ (subrs ++ (others ++ glyphs)); rest = rest })
+  from_subrs : (before : List Stated) (s rest : List ℕ) → IsUsualParts p → StatesNoCharstring before
+      → IsWritten s (subrs_pieces p.subrs ++ (flat_map private_pieces p.back ++ glyphs_pieces p.count p.glyphs)) rest → read marks before Outside s
+      ≡ Ok (record { stated = before ++ (subrs ++ (others ++ glyphs)); rest = rest })
   from_subrs before s rest is none h =
       let a = parts s (subrs_pieces p.subrs) (flat_map private_pieces p.back ++ glyphs_pieces p.count p.glyphs) rest h in
       let first = subrs_read marks p.subrs before s a.left none.no_size is.subrs a.front in
@@ -72,7 +76,8 @@ module _ (marks : Marks) (p : PrivateParts) where
       first.1 ∙ from_back first.0 (before ++ subrs) a.left rest is nothing a.back
       ∙ ap (λ es. Ok (record { stated = es; rest = rest })) (append_assoc before subrs (others ++ glyphs))
 
-  from_front : (before : List Stated) (s rest : List ℕ) → IsUsualParts p → StatesNoCharstring before → IsWritten s (all_private_pieces p) rest → read marks before Outside s ≡ Ok (record { stated = before ++ all_private_states p; rest = rest })
+  from_front : (before : List Stated) (s rest : List ℕ) → IsUsualParts p → StatesNoCharstring before → IsWritten s (all_private_pieces p) rest
+      → read marks before Outside s ≡ Ok (record { stated = before ++ all_private_states p; rest = rest })
   from_front before s rest is none h =
       let a = parts s (flat_map private_pieces p.front) (subrs_pieces p.subrs ++ (flat_map private_pieces p.back ++ glyphs_pieces p.count p.glyphs)) rest h in
       let after : StatesNoCharstring (before ++ keys) = record {

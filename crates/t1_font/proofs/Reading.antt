@@ -21,7 +21,8 @@ pub read_as_stated : {M : Type 0} → ReadAsStated M
 read_as_stated turn ended marks before mode s = run_is_read turn ended marks (value_step marks) (suc (length s)) before mode s
 
 -- What follows the clear text stands at the text's end.
-pub clear_ends : (text rest : List ℕ) (old v : FontValue) → run_of clear_turn NoEexec old clear_modes.Outside text ≡ Ok (record { value = v; rest = rest }) → IsEndOf text rest
+pub clear_ends : (text rest : List ℕ) (old v : FontValue) → run_of clear_turn NoEexec old clear_modes.Outside text ≡ Ok (record { value = v; rest = rest })
+    → IsEndOf text rest
 clear_ends text rest old v given = rw given at (run_ends clear_turn NoEexec clear_shortens (suc (length text)) old clear_modes.Outside text)
 
 pub is_no_longer : (s rest : List ℕ) → IsEndOf s rest → length rest ≤ length s
@@ -37,7 +38,8 @@ rest_by_place s rest h =
 ok_value : {X : Type 0} (a b : X) → ◌≡◌ {A = Result X Refusal} (Ok a) (Ok b) → a ≡ b
 ok_value {X} a b h = ap (λ (r : Result X Refusal). elim r [ Ok x ↦ x | Err e ↦ a ]) h
 
-clear_by_rest : (marks : Marks) (s : List ℕ) (read : Result TextRead Refusal) (v : FontValue) (rest : List ℕ) → value_read marks read ≡ Ok (record { value = v; rest = rest }) → clear_value_of marks s read ≡ Ok (record { font = v; after = length s - length rest })
+clear_by_rest : (marks : Marks) (s : List ℕ) (read : Result TextRead Refusal) (v : FontValue) (rest : List ℕ)
+    → value_read marks read ≡ Ok (record { value = v; rest = rest }) → clear_value_of marks s read ≡ Ok (record { font = v; after = length s - length rest })
 clear_by_rest marks s (Err e) v rest given = cc
 clear_by_rest marks s (Ok read) v rest given = ap (λ (r : FontRead). Ok (record { font = r.value; after = length s - length r.rest })) (ok_value _ _ given)
 
@@ -46,7 +48,8 @@ alone_read : (marks : Marks) (read : Result TextRead Refusal) → value_alone (v
 alone_read marks (Ok read) = refl
 alone_read marks (Err e) = refl
 
-clear_error : (marks : Marks) (s : List ℕ) (read : Result TextRead Refusal) (e : Refusal) → Refuses e (value_read marks read) → Refuses e (clear_value_of marks s read)
+clear_error : (marks : Marks) (s : List ℕ) (read : Result TextRead Refusal) (e : Refusal) → Refuses e (value_read marks read)
+    → Refuses e (clear_value_of marks s read)
 clear_error marks s (Ok read) NoEexec given = cc
 clear_error marks s (Ok read) Unclosed given = cc
 clear_error marks s (Ok read) BadSubrs given = cc
@@ -66,19 +69,25 @@ clear_error marks s (Err x) SecondSubrs given = cc
 clear_error marks s (Err x) MultipleMaster given = cc
 clear_error marks s (Err x) Memory given = tt
 
-pub clear_is_read : (marks : Marks) (text s rest : List ℕ) (old v : FontValue) → text ≡ s → old ≡ value_of marks [] → begins_as_font text ≡ true → run_of clear_turn NoEexec old clear_modes.Outside text ≡ Ok (record { value = v; rest = rest }) → clear_read marks s ≡ Ok (record { font = v; after = length text - length rest })
+pub clear_is_read : (marks : Marks) (text s rest : List ℕ) (old v : FontValue) → text ≡ s → old ≡ value_of marks [] → begins_as_font text ≡ true
+    → run_of clear_turn NoEexec old clear_modes.Outside text ≡ Ok (record { value = v; rest = rest })
+    → clear_read marks s ≡ Ok (record { font = v; after = length text - length rest })
 unfolding clear_of
 clear_is_read marks text s rest old v same start begins given =
     let run = rw (start, read_as_stated clear_turn NoEexec marks [] clear_modes.Outside text) at given in
     rw (← same, begins) (clear_by_rest marks text (stated_in clear_turn NoEexec marks [] clear_modes.Outside text) v rest run)
 
 -- What follows the word eexec stands behind the place that is told.
-clear_rest : (marks : Marks) (read : Result TextRead Refusal) (v : FontValue) (rest : List ℕ) → value_read marks read ≡ Ok (record { value = v; rest = rest }) → (found : TextRead) → read ≡ Ok found → found.rest ≡ rest
+clear_rest : (marks : Marks) (read : Result TextRead Refusal) (v : FontValue) (rest : List ℕ) → value_read marks read ≡ Ok (record { value = v; rest = rest })
+    → (found : TextRead) → read ≡ Ok found → found.rest ≡ rest
 clear_rest marks read v rest given found is =
-    let both : ◌≡◌ {A = FontRead} (record { value = value_of marks found.stated; rest = found.rest }) (record { value = v; rest = rest }) = ok_value _ _ (ap (value_read marks) (sym is) ∙ given) in
+    let both : ◌≡◌ {A = FontRead} (record { value = value_of marks found.stated; rest = found.rest }) (record { value = v; rest = rest }) =
+    ok_value _ _ (ap (value_read marks) (sym is) ∙ given) in
     ap (λ (r : FontRead). r.rest) both
 
-pub clear_is_behind : (marks : Marks) (text s rest : List ℕ) (old v : FontValue) → text ≡ s → old ≡ value_of marks [] → begins_as_font text ≡ true → run_of clear_turn NoEexec old clear_modes.Outside text ≡ Ok (record { value = v; rest = rest }) → (found : TextRead) → clear_of marks s ≡ Ok found → found.rest ≡ drop (length text - length rest) s
+pub clear_is_behind : (marks : Marks) (text s rest : List ℕ) (old v : FontValue) → text ≡ s → old ≡ value_of marks [] → begins_as_font text ≡ true
+    → run_of clear_turn NoEexec old clear_modes.Outside text ≡ Ok (record { value = v; rest = rest }) → (found : TextRead) → clear_of marks s ≡ Ok found
+    → found.rest ≡ drop (length text - length rest) s
 unfolding clear_of
 clear_is_behind marks text s rest old v same start begins given found is =
     let run = rw (start, read_as_stated clear_turn NoEexec marks [] clear_modes.Outside text) at given in
@@ -87,7 +96,8 @@ clear_is_behind marks text s rest old v same start begins given found is =
     ∙ rest_by_place text rest (clear_ends text rest old v given)
     ∙ ap (drop (length text - length rest)) same
 
-pub clear_is_refused : (marks : Marks) (text s : List ℕ) (old : FontValue) (e : Refusal) → text ≡ s → old ≡ value_of marks [] → begins_as_font text ≡ true → Refuses e (run_of clear_turn NoEexec old clear_modes.Outside text) → Refuses e (clear_read marks s)
+pub clear_is_refused : (marks : Marks) (text s : List ℕ) (old : FontValue) (e : Refusal) → text ≡ s → old ≡ value_of marks [] → begins_as_font text ≡ true
+    → Refuses e (run_of clear_turn NoEexec old clear_modes.Outside text) → Refuses e (clear_read marks s)
 unfolding clear_of
 clear_is_refused marks text s old e same start begins given =
     let run = rw (start, read_as_stated clear_turn NoEexec marks [] clear_modes.Outside text) at given in
@@ -97,14 +107,17 @@ pub clear_is_no_font : (marks : Marks) (text s : List ℕ) → text ≡ s → be
 unfolding clear_of
 clear_is_no_font marks text s same begins = rw (← same, begins) refl
 
-font_run : (marks : Marks) (before : List Stated) (s : List ℕ) (old : FontValue) → old ≡ value_of marks before → value_alone (run_of private_turn BadCharStrings old Outside s) ≡ font_read marks before s
+font_run : (marks : Marks) (before : List Stated) (s : List ℕ) (old : FontValue) → old ≡ value_of marks before
+    → value_alone (run_of private_turn BadCharStrings old Outside s) ≡ font_read marks before s
 unfolding private_of
 font_run marks before s old start =
     rw (start, read_as_stated private_turn BadCharStrings marks before Outside s)
     (alone_read marks (stated_in private_turn BadCharStrings marks before Outside s))
 
-pub font_is_read : (marks : Marks) (before : List Stated) (s : List ℕ) (old v : FontValue) → old ≡ value_of marks before → value_alone (run_of private_turn BadCharStrings old Outside s) ≡ Ok v → font_read marks before s ≡ Ok v
+pub font_is_read : (marks : Marks) (before : List Stated) (s : List ℕ) (old v : FontValue) → old ≡ value_of marks before
+    → value_alone (run_of private_turn BadCharStrings old Outside s) ≡ Ok v → font_read marks before s ≡ Ok v
 font_is_read marks before s old v start given = sym (font_run marks before s old start) ∙ given
 
-pub font_is_refused : (marks : Marks) (before : List Stated) (s : List ℕ) (old : FontValue) (e : Refusal) → old ≡ value_of marks before → Refuses e (value_alone (run_of private_turn BadCharStrings old Outside s)) → Refuses e (font_read marks before s)
+pub font_is_refused : (marks : Marks) (before : List Stated) (s : List ℕ) (old : FontValue) (e : Refusal) → old ≡ value_of marks before
+    → Refuses e (value_alone (run_of private_turn BadCharStrings old Outside s)) → Refuses e (font_read marks before s)
 font_is_refused marks before s old e start given = rw (font_run marks before s old start) at given

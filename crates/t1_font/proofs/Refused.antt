@@ -24,7 +24,8 @@ use Rattle.t1_font.specs.Laws.Refusals.{IsClearRefusal, IsPrivateRefusal, ClearR
 use Rattle.t1_font.proofs.Running.{follow}
 
 -- What is read next, too, is refused so.
-then_refused : {A B : Type 0} (P : Refusal → Type 0) (r : Result A Refusal) (f : A → Result B Refusal) → IfErr r P → ((x : A) → IfErr (f x) P) → IfErr (r >>= f) P
+then_refused : {A B : Type 0} (P : Refusal → Type 0) (r : Result A Refusal) (f : A → Result B Refusal) → IfErr r P → ((x : A) → IfErr (f x) P)
+    → IfErr (r >>= f) P
 then_refused P (Ok x) f h k = k x
 then_refused P (Err e) f h k = h
 
@@ -37,7 +38,8 @@ module _ (P : Refusal → Type 0) (bad : Refusal) (unclosed : P Unclosed) (told 
   wanted_refused : (s : List ℕ) → IfErr (wanted bad s) P
   unfolding wanted
   wanted_refused s =
-      elim (token_at s) as (λ r. IfErr {T = Found} {E = Refusal} (elim r [ Err _ ↦ Err Unclosed | Ok found ↦ elim found [ None ↦ Err bad | Some t ↦ Ok t ] ]) P) [
+      elim (token_at s) as (λ r. IfErr {T = Found} {E = Refusal}
+      (elim r [ Err _ ↦ Err Unclosed | Ok found ↦ elim found [ None ↦ Err bad | Some t ↦ Ok t ] ]) P) [
         | Err _ ↦ unclosed
         | Ok found ↦ elim found as (λ r. IfErr {T = Found} {E = Refusal} (elim r [ None ↦ Err bad | Some t ↦ Ok t ]) P) [
           | None ↦ told
@@ -82,7 +84,8 @@ clear_outside_refused kind text s = search (rules, either_refused, clear_value_r
 
 clear_turn_refused : (v : FontValue) (mode : ClearMode) (s : List ℕ) → IfErr (clear_turn v mode s) IsClearRefusal
 unfolding clear_turn
-clear_turn_refused v clear_modes.Outside s = then_refused IsClearRefusal (wanted NoEexec s) _ (wanted_refused IsClearRefusal NoEexec tt tt s) (λ t. clear_outside_refused t.kind t.text t.rest)
+clear_turn_refused v clear_modes.Outside s = then_refused IsClearRefusal (wanted NoEexec s) _ (wanted_refused IsClearRefusal NoEexec tt tt s)
+    (λ t. clear_outside_refused t.kind t.text t.rest)
 clear_turn_refused v clear_modes.Codes s = then_refused IsClearRefusal (wanted NoEexec s) _ (wanted_refused IsClearRefusal NoEexec tt tt s) (λ t. tt)
 
 -- A turn of the private text.
@@ -94,16 +97,19 @@ private_value_refused : (k : Option Key) (s : List ℕ) → IfErr (private_value
 unfolding private_value
 private_value_refused None s = tt
 private_value_refused (Some k) s =
-    then_refused IsPrivateRefusal (wanted _ s) _ (wanted_refused IsPrivateRefusal (if is_len_iv_key k then BadLenIv else BadCharStrings) tt (key_refusal (is_len_iv_key k)) s) (λ t.
+    then_refused IsPrivateRefusal (wanted _ s) _ (wanted_refused IsPrivateRefusal (if is_len_iv_key k then BadLenIv else BadCharStrings) tt
+    (key_refusal (is_len_iv_key k)) s) (λ t.
     search (rules, either_refused))
 
 subrs_at_refused : (s : List ℕ) → IfErr (subrs_at s) IsPrivateRefusal
 unfolding subrs_at
 subrs_at_refused s =
     then_refused IsPrivateRefusal (wanted BadSubrs s) _ (wanted_refused IsPrivateRefusal BadSubrs tt tt s) (λ t.
-    let counted : IfErr (natural BadSubrs 65535 t.kind >>= λ count. past_word BadSubrs (codes "array") t.rest >>= λ left. Ok (goes (Some (size count)) Subrs left)) IsPrivateRefusal =
+    let counted : IfErr (natural BadSubrs 65535 t.kind >>= λ count. past_word BadSubrs (codes "array") t.rest >>= λ left. Ok
+    (goes (Some (size count)) Subrs left)) IsPrivateRefusal =
     then_refused IsPrivateRefusal (natural BadSubrs 65535 t.kind) _ (natural_refused IsPrivateRefusal BadSubrs tt tt tt 65535 t.kind) (λ count.
-    then_refused IsPrivateRefusal (past_word BadSubrs (codes "array") t.rest) (λ left. Ok (goes (Some (size count)) Subrs left)) (past_refused IsPrivateRefusal BadSubrs tt tt (codes "array") t.rest) (λ left. tt)) in
+    then_refused IsPrivateRefusal (past_word BadSubrs (codes "array") t.rest) (λ left. Ok (goes (Some (size count)) Subrs left))
+    (past_refused IsPrivateRefusal BadSubrs tt tt (codes "array") t.rest) (λ left. tt)) in
     search (rules, either_refused, counted))
 
 subrs_turn_refused : (v : FontValue) (s : List ℕ) → IfErr (subrs_turn v s) IsPrivateRefusal
@@ -115,9 +121,11 @@ unfolding glyphs_at
 glyphs_at_refused s =
     then_refused IsPrivateRefusal (wanted BadCharStrings s) _ (wanted_refused IsPrivateRefusal BadCharStrings tt tt s) (λ t.
     then_refused IsPrivateRefusal (natural BadCharStrings 65535 t.kind) _ (natural_refused IsPrivateRefusal BadCharStrings tt tt tt 65535 t.kind) (λ count.
-    then_refused IsPrivateRefusal (past_word BadCharStrings (codes "dict") t.rest) _ (past_refused IsPrivateRefusal BadCharStrings tt tt (codes "dict") t.rest) (λ a.
+    then_refused IsPrivateRefusal (past_word BadCharStrings (codes "dict") t.rest) _
+    (past_refused IsPrivateRefusal BadCharStrings tt tt (codes "dict") t.rest) (λ a.
     then_refused IsPrivateRefusal (past_word BadCharStrings (codes "dup") a) _ (past_refused IsPrivateRefusal BadCharStrings tt tt (codes "dup") a) (λ b.
-    then_refused IsPrivateRefusal (past_word BadCharStrings (codes "begin") b) _ (past_refused IsPrivateRefusal BadCharStrings tt tt (codes "begin") b) (λ c. tt)))))
+    then_refused IsPrivateRefusal (past_word BadCharStrings (codes "begin") b) _
+    (past_refused IsPrivateRefusal BadCharStrings tt tt (codes "begin") b) (λ c. tt)))))
 
 private_outside_refused : (v : FontValue) (kind : Kind) (text s : List ℕ) → IfErr (private_outside v kind text s) IsPrivateRefusal
 unfolding private_outside
@@ -149,7 +157,8 @@ glyph_turn_refused : (v : FontValue) (name s : List ℕ) → IfErr (glyph_turn v
 unfolding glyph_turn
 glyph_turn_refused v name s =
     let read : IfErr (charstring_at BadCharStrings s >>= λ bytes. Ok (goes (Some (glyph name bytes.0)) Glyphs bytes.1)) IsPrivateRefusal =
-    then_refused IsPrivateRefusal (charstring_at BadCharStrings s) (λ bytes. Ok (goes (Some (glyph name bytes.0)) Glyphs bytes.1)) (charstring_refused IsPrivateRefusal BadCharStrings tt tt tt s) (λ bytes. tt) in
+    then_refused IsPrivateRefusal (charstring_at BadCharStrings s) (λ bytes. Ok (goes (Some (glyph name bytes.0)) Glyphs bytes.1))
+    (charstring_refused IsPrivateRefusal BadCharStrings tt tt tt s) (λ bytes. tt) in
     search (rules, either_refused, read)
 
 glyphs_token_refused : (v : FontValue) (kind : Kind) (text s : List ℕ) → IfErr (glyphs_token v kind text s) IsPrivateRefusal
@@ -158,12 +167,16 @@ glyphs_token_refused v kind text s = search (rules, either_refused, glyph_turn_r
 
 private_turn_refused : (v : FontValue) (mode : PrivateMode) (s : List ℕ) → IfErr (private_turn v mode s) IsPrivateRefusal
 unfolding private_turn
-private_turn_refused v Outside s = then_refused IsPrivateRefusal (wanted BadCharStrings s) _ (wanted_refused IsPrivateRefusal BadCharStrings tt tt s) (λ t. private_outside_refused v t.kind t.text t.rest)
-private_turn_refused v Subrs s = then_refused IsPrivateRefusal (wanted BadCharStrings s) _ (wanted_refused IsPrivateRefusal BadCharStrings tt tt s) (λ t. subrs_token_refused v t.kind t.text t.rest)
-private_turn_refused v Glyphs s = then_refused IsPrivateRefusal (wanted BadCharStrings s) _ (wanted_refused IsPrivateRefusal BadCharStrings tt tt s) (λ t. glyphs_token_refused v t.kind t.text t.rest)
+private_turn_refused v Outside s = then_refused IsPrivateRefusal (wanted BadCharStrings s) _ (wanted_refused IsPrivateRefusal BadCharStrings tt tt s)
+    (λ t. private_outside_refused v t.kind t.text t.rest)
+private_turn_refused v Subrs s = then_refused IsPrivateRefusal (wanted BadCharStrings s) _ (wanted_refused IsPrivateRefusal BadCharStrings tt tt s)
+    (λ t. subrs_token_refused v t.kind t.text t.rest)
+private_turn_refused v Glyphs s = then_refused IsPrivateRefusal (wanted BadCharStrings s) _ (wanted_refused IsPrivateRefusal BadCharStrings tt tt s)
+    (λ t. glyphs_token_refused v t.kind t.text t.rest)
 
 -- A text whose turns are refused so.
-module _ {M : Type 0} (P : Refusal → Type 0) (turn : Reader M) (ended : Refusal) (told : P ended) (turns : (v : FontValue) (mode : M) (s : List ℕ) → IfErr (turn v mode s) P) where
+module _ {M : Type 0} (P : Refusal → Type 0) (turn : Reader M) (ended : Refusal) (told : P ended) (turns : (v : FontValue) (mode : M) (s : List ℕ)
+    → IfErr (turn v mode s) P) where
   text_refused : (marks : Marks) (n : ℕ) (before : List Stated) (mode : M) (s : List ℕ) → IfErr (stated_within turn ended marks n before mode s) P
   unfolding stated_within
   text_refused marks zero before mode s = told
@@ -186,14 +199,16 @@ module _ {M : Type 0} (P : Refusal → Type 0) (turn : Reader M) (ended : Refusa
 
 clear_is_refused : (marks : Marks) (s : List ℕ) → IfErr (clear_of marks s) IsClearRefusal
 unfolding clear_of
-clear_is_refused marks s = either_refused IsClearRefusal (begins_as_font s) (stated_within clear_turn NoEexec marks (suc (length s)) [] clear_modes.Outside s) (Err NoEexec) (text_refused IsClearRefusal clear_turn NoEexec tt clear_turn_refused marks (suc (length s)) [] clear_modes.Outside s) tt
+clear_is_refused marks s = either_refused IsClearRefusal (begins_as_font s) (stated_within clear_turn NoEexec marks (suc (length s)) [] clear_modes.Outside s)
+    (Err NoEexec) (text_refused IsClearRefusal clear_turn NoEexec tt clear_turn_refused marks (suc (length s)) [] clear_modes.Outside s) tt
 
 private_is_refused : (marks : Marks) (before : List Stated) (s : List ℕ) → IfErr (private_of marks before s) IsPrivateRefusal
 unfolding private_of
 private_is_refused marks before s = text_refused IsPrivateRefusal private_turn BadCharStrings tt private_turn_refused marks (suc (length s)) before Outside s
 
 -- Readers refuse as the texts do.
-clear_value_is_refused : (marks : Marks) (s : List ℕ) (read : Result TextRead Refusal) → IfErr read IsClearRefusal → IfErr (clear_value_of marks s read) IsClearRefusal
+clear_value_is_refused : (marks : Marks) (s : List ℕ) (read : Result TextRead Refusal) → IfErr read IsClearRefusal
+    → IfErr (clear_value_of marks s read) IsClearRefusal
 clear_value_is_refused marks s (Ok read) h = tt
 clear_value_is_refused marks s (Err e) h = h
 
@@ -215,7 +230,9 @@ pub private_refusals : PrivateRefusals
 private_refusals marks before s e known = IfErr-at_err IsPrivateRefusal known (private_is_refused marks before s)
 
 pub font_read_refusals : FontReadRefusals
-font_read_refusals marks before s e known = IfErr-at_err IsPrivateRefusal known (font_value_is_refused marks (private_of marks before s) (private_is_refused marks before s))
+font_read_refusals marks before s e known = IfErr-at_err IsPrivateRefusal known
+    (font_value_is_refused marks (private_of marks before s) (private_is_refused marks before s))
 
 pub font_after_refusals : FontAfterRefusals
-font_after_refusals v s e known = IfErr-at_err IsPrivateRefusal known (value_alone_is_refused _ (run_refused IsPrivateRefusal private_turn BadCharStrings tt private_turn_refused (suc (length s)) v Outside s))
+font_after_refusals v s e known = IfErr-at_err IsPrivateRefusal known
+    (value_alone_is_refused _ (run_refused IsPrivateRefusal private_turn BadCharStrings tt private_turn_refused (suc (length s)) v Outside s))

@@ -13,12 +13,15 @@ use Rattle.t1_font.specs.Puts.{put_pair}
 use Rattle.t1_font.specs.Views.{name_pair}
 use Rattle.t1_font.proofs.FontMaps.{same_bytes, name_put}
 
-length_put : {K V : Type 0} (eq : K → K → Bool) (ps : List (K × V)) (k : K) (v : V) → length (put_pair eq ps k v) ≡ cond (has_key eq ps k) (length ps) (length ps + 1)
+length_put : {K V : Type 0} (eq : K → K → Bool) (ps : List (K × V)) (k : K) (v : V) → length (put_pair eq ps k v)
+    ≡ cond (has_key eq ps k) (length ps) (length ps + 1)
 length_put eq [] k v = refl
 length_put eq (p ∷ ps) k v =
     elim (eq k p.0) as (λ b. length (cond b ((p.0, v) ∷ ps) (p ∷ put_pair eq ps k v)) ≡ cond (b || has_key eq ps k) (suc (length ps)) (suc (length ps) + 1)) [
       | true ↦ refl
-      | false ↦ ap suc (length_put eq ps k v) ∙ (elim (has_key eq ps k) as (λ b. suc (cond b (length ps) (length ps + 1)) ≡ cond b (suc (length ps)) (suc (length ps) + 1)) [ true ↦ refl | false ↦ (let one : suc (length ps + 1) ≡ suc (length ps) + 1 = omega arith in one) ])
+      | false ↦ ap suc (length_put eq ps k v) ∙ (elim (has_key eq ps k) as
+          (λ b. suc (cond b (length ps) (length ps + 1)) ≡ cond b (suc (length ps)) (suc (length ps) + 1))
+          [ true ↦ refl | false ↦ (let one : suc (length ps + 1) ≡ suc (length ps) + 1 = omega arith in one) ])
     ]
 
 -- There is room for one more.
@@ -28,7 +31,8 @@ below n h = elim (cases_Bool (nat_le 65535 n)) [
   | inr m ↦ grind (arith, nat_tests, m)
 ]
 
-pub room_put : (ps : List (List ℕ × List ℕ)) (name bytes : List ℕ) → length ps ≤ 65535 → (nat_le 65535 (length ps) && not (has_key same_name ps name)) ≡ false → length (put_pair same_name ps name bytes) ≤ 65535
+pub room_put : (ps : List (List ℕ × List ℕ)) (name bytes : List ℕ) → length ps ≤ 65535 → (nat_le 65535 (length ps) && not (has_key same_name ps name)) ≡ false
+    → length (put_pair same_name ps name bytes) ≤ 65535
 room_put ps name bytes few room =
     let count = length_put same_name ps name bytes in
     elim (cases_Bool (has_key same_name ps name)) [
@@ -39,7 +43,8 @@ room_put ps name bytes few room =
     ]
 
 -- A glyph more in a font's map.
-pub entries_few : (es : List (Bor (List ℕ) × Bor (List ℕ))) (name bytes : Bor (List ℕ)) (v : FontValue) → map name_pair es ≡ v.glyphs → length es ≤ 65535 → HasRoom v name.now → length (insert_entry same_bytes es name bytes) ≤ 65535
+pub entries_few : (es : List (Bor (List ℕ) × Bor (List ℕ))) (name bytes : Bor (List ℕ)) (v : FontValue) → map name_pair es ≡ v.glyphs → length es ≤ 65535
+    → HasRoom v name.now → length (insert_entry same_bytes es name bytes) ≤ 65535
 entries_few es name bytes v is few room =
     let pairs : length (map name_pair es) ≤ 65535 = rw (length-map es name_pair) few in
     let free : (nat_le 65535 (length (map name_pair es)) && not (has_key same_name (map name_pair es) name.now)) ≡ false = rw is room in

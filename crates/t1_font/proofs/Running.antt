@@ -50,7 +50,8 @@ mapped_ok P Q (Ok x) f h = f x h
 mapped_ok P Q (Err e) f h = tt
 
 module _ {M : Type 0} (turn : Reader M) (ended : Refusal) (shortens : Shortens turn) where
-  pub enough : (n m : ℕ) (v : FontValue) (mode : M) (s : List ℕ) → length s < n → length s < m → run_within turn ended n v mode s ≡ run_within turn ended m v mode s
+  pub enough : (n m : ℕ) (v : FontValue) (mode : M) (s : List ℕ) → length s < n → length s < m → run_within turn ended n v mode s
+      ≡ run_within turn ended m v mode s
   unfolding run_within
   enough zero m v mode s a b = absurd (omega arith)
   enough (suc n) zero v mode s a b = absurd (omega arith)
@@ -77,13 +78,16 @@ module _ {M : Type 0} (turn : Reader M) (ended : Refusal) (shortens : Shortens t
   pub run_fails : (v : FontValue) (mode : M) (s : List ℕ) (e : Refusal) → turn v mode s ≡ Err e → run_of turn ended v mode s ≡ Err e
   run_fails v mode s e h = run_step v mode s ∙ ap (λ r. r >>= go_on (run_of turn ended) v) h
 
-  pub run_over : (v : FontValue) (mode : M) (s rest : List ℕ) → turn v mode s ≡ Ok (over rest) → run_of turn ended v mode s ≡ Ok (record { value = v; rest = rest })
+  pub run_over : (v : FontValue) (mode : M) (s rest : List ℕ) → turn v mode s ≡ Ok (over rest) → run_of turn ended v mode s
+      ≡ Ok (record { value = v; rest = rest })
   run_over v mode s rest h = run_step v mode s ∙ ap (λ r. r >>= go_on (run_of turn ended) v) h
 
-  pub run_goes : (v : FontValue) (mode : M) (s : List ℕ) (e : Option Stated) (next : M) (left : List ℕ) → turn v mode s ≡ Ok (goes e next left) → run_of turn ended v mode s ≡ run_of turn ended (put_one v e) next left
+  pub run_goes : (v : FontValue) (mode : M) (s : List ℕ) (e : Option Stated) (next : M) (left : List ℕ) → turn v mode s ≡ Ok (goes e next left)
+      → run_of turn ended v mode s ≡ run_of turn ended (put_one v e) next left
   run_goes v mode s e next left h = run_step v mode s ∙ ap (λ r. r >>= go_on (run_of turn ended) v) h
 
-  pub shorter : (v : FontValue) (mode : M) (s : List ℕ) (e : Option Stated) (next : M) (left : List ℕ) → turn v mode s ≡ Ok (goes e next left) → length left < length s
+  pub shorter : (v : FontValue) (mode : M) (s : List ℕ) (e : Option Stated) (next : M) (left : List ℕ) → turn v mode s ≡ Ok (goes e next left)
+      → length left < length s
   shorter v mode s e next left h = let behind : IsBehind s left = rw h at (shortens.less v mode s) in is_shorter s left behind
 
   -- What follows a text stands at its end.
@@ -95,7 +99,8 @@ module _ {M : Type 0} (turn : Reader M) (ended : Refusal) (shortens : Shortens t
         | Err e ↦ λ _. tt
         | Ok t ↦ elim t as (λ t. Leaves s t → IfOk (go_on (run_within turn ended n) v t) (λ read. IsEndOf s read.rest)) [
           | over rest ↦ λ h. record { front = h.front; whole = h.whole }
-          | goes e next left ↦ λ h. mapped_ok (λ read. IsEndOf left read.rest) (λ read. IsEndOf s read.rest) (run_within turn ended n (put_one v e) next left) (λ read k. is_end_behind s left read.rest h k) (run_ends n (put_one v e) next left)
+          | goes e next left ↦ λ h. mapped_ok (λ read. IsEndOf left read.rest) (λ read. IsEndOf s read.rest) (run_within turn ended n (put_one v e) next left)
+              (λ read k. is_end_behind s left read.rest h k) (run_ends n (put_one v e) next left)
         ]
       ] (shortens.less v mode s)
 
@@ -107,21 +112,25 @@ follow after before t = elim t [
 ]
 
 -- The value that is kept is that of all that was stated, looked up afterwards.
-module _ {M : Type 0} (turn : Reader M) (ended : Refusal) (marks : Marks) (step : (es : List Stated) (e : Stated) → value_of marks (es ++ e ∷ []) ≡ put (value_of marks es) e) where
+module _ {M : Type 0} (turn : Reader M) (ended : Refusal) (marks : Marks)
+    (step : (es : List Stated) (e : Stated) → value_of marks (es ++ e ∷ []) ≡ put (value_of marks es) e) where
   one_step : (es : List Stated) (e : Option Stated) → put_one (value_of marks es) e ≡ value_of marks (with_one es e)
   one_step es None = refl
   one_step es (Some e) = sym (step es e)
 
-  pub run_is_read : (n : ℕ) (before : List Stated) (mode : M) (s : List ℕ) → run_within turn ended n (value_of marks before) mode s ≡ value_read marks (stated_within turn ended marks n before mode s)
+  pub run_is_read : (n : ℕ) (before : List Stated) (mode : M) (s : List ℕ) → run_within turn ended n (value_of marks before) mode s ≡ value_read marks
+      (stated_within turn ended marks n before mode s)
   unfolding run_within stated_within
   run_is_read zero before mode s = refl
   run_is_read (suc n) before mode s =
-      elim (turn (value_of marks before) mode s) as (λ r. (r >>= go_on (run_within turn ended n) (value_of marks before)) ≡ value_read marks (r >>= follow (stated_within turn ended marks n) before)) [
+      elim (turn (value_of marks before) mode s) as (λ r. (r >>= go_on (run_within turn ended n) (value_of marks before)) ≡ value_read marks
+      (r >>= follow (stated_within turn ended marks n) before)) [
         | Err e ↦ refl
-        | Ok t ↦ elim t as (λ t. go_on (run_within turn ended n) (value_of marks before) t ≡ value_read marks (follow (stated_within turn ended marks n) before t)) [
-          | over rest ↦ refl
-          | goes e next left ↦ ap (λ v. run_within turn ended n v next left) (one_step before e) ∙ run_is_read n (with_one before e) next left
-        ]
+        | Ok t ↦ elim t as (λ t. go_on (run_within turn ended n) (value_of marks before) t ≡ value_read marks
+            (follow (stated_within turn ended marks n) before t)) [
+              | over rest ↦ refl
+              | goes e next left ↦ ap (λ v. run_within turn ended n v next left) (one_step before e) ∙ run_is_read n (with_one before e) next left
+            ]
       ]
 
 -- A refusal that was read is the one that is given.

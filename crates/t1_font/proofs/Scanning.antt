@@ -11,7 +11,8 @@ module _ (text over : List ℕ) (failed : Bool) (place : ℕ) (same : over ≡ t
   unfolding token_at
   first_read answer read = rw (same, live, start) at read
 
-  pub first_some : (t : Token) (rest : List ℕ) → rest ≡ drop t.to text → reading failed (drop place over) ≡ seen over (Ok (Some t)) → token_at text ≡ Ok (Some (found_of t rest))
+  pub first_some : (t : Token) (rest : List ℕ) → rest ≡ drop t.to text → reading failed (drop place over) ≡ seen over (Ok (Some t))
+      → token_at text ≡ Ok (Some (found_of t rest))
   first_some t rest behind read = rw behind (first_read (Ok (Some t)) read)
 
   pub first_none : reading failed (drop place over) ≡ seen over (Ok None) → token_at text ≡ Ok None

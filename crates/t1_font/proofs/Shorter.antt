@@ -51,13 +51,14 @@ token_behind s t h =
 
 wanted_first : (e : Refusal) (s : List ℕ) → IfOk (wanted e s) (RestBehind s)
 unfolding wanted
-wanted_first e s = elim (token_at s) as (λ r. token_at s ≡ r → IfOk (elim r [ Err _ ↦ Err Unclosed | Ok found ↦ elim found [ None ↦ Err e | Some t ↦ Ok t ] ]) (RestBehind s)) [
-  | Err x ↦ λ h. tt
-  | Ok found ↦ elim found as (λ found. token_at s ≡ Ok found → IfOk (elim found [ None ↦ Err e | Some t ↦ Ok t ]) (RestBehind s)) [
-    | None ↦ λ h. tt
-    | Some t ↦ λ h. token_behind s t h
-  ]
-] refl
+wanted_first e s = elim (token_at s) as (λ r. token_at s ≡ r
+    → IfOk (elim r [ Err _ ↦ Err Unclosed | Ok found ↦ elim found [ None ↦ Err e | Some t ↦ Ok t ] ]) (RestBehind s)) [
+      | Err x ↦ λ h. tt
+      | Ok found ↦ elim found as (λ found. token_at s ≡ Ok found → IfOk (elim found [ None ↦ Err e | Some t ↦ Ok t ]) (RestBehind s)) [
+        | None ↦ λ h. tt
+        | Some t ↦ λ h. token_behind s t h
+      ]
+    ] refl
 
 ahead_first : (s : List ℕ) → IfSome (token_ahead s) (RestBehind s)
 unfolding token_ahead
@@ -88,7 +89,8 @@ ahead_less s whole lt = weaken_ahead s whole lt (token_ahead s) (ahead_first s)
 
 past_less : (e : Refusal) (word s : List ℕ) (whole : List ℕ) → IsBehind whole s → IfOk (past_word e word s) (IsBehind whole)
 unfolding past_word
-past_less e word s whole lt = bind (RestBehind whole) (IsBehind whole) (wanted e s) _ (wanted_less e s whole lt) (λ t h. either (IsBehind whole) _ (Ok t.rest) (Err e) h tt)
+past_less e word s whole lt = bind (RestBehind whole) (IsBehind whole) (wanted e s) _ (wanted_less e s whole lt)
+    (λ t h. either (IsBehind whole) _ (Ok t.rest) (Err e) h tt)
 
 raw_less : (e : Refusal) (len : ℕ) (s : List ℕ) (whole : List ℕ) → IsBehind whole s → IfOk (some_raw e (raw_of len s)) (PairBehind whole)
 unfolding raw_of
@@ -117,9 +119,11 @@ subrs_at_less : (s : List ℕ) (whole : List ℕ) → IsBehind whole s → IfOk 
 unfolding subrs_at
 subrs_at_less s whole lt =
     bind (RestBehind whole) (Leaves whole) (wanted BadSubrs s) _ (wanted_less BadSubrs s whole lt) (λ t h.
-    let counted : IfOk (natural BadSubrs 65535 t.kind >>= λ count. past_word BadSubrs (codes "array") t.rest >>= λ left. Ok (goes (Some (size count)) Subrs left)) (Leaves whole) =
+    let counted : IfOk (natural BadSubrs 65535 t.kind >>= λ count. past_word BadSubrs (codes "array") t.rest >>= λ left. Ok
+    (goes (Some (size count)) Subrs left)) (Leaves whole) =
     bind Any (Leaves whole) (natural BadSubrs 65535 t.kind) _ (any (natural BadSubrs 65535 t.kind)) (λ count _.
-    bind (IsBehind whole) (Leaves whole) (past_word BadSubrs (codes "array") t.rest) (λ left. Ok (goes (Some (size count)) Subrs left)) (past_less BadSubrs (codes "array") t.rest whole h) (λ left k. k)) in
+    bind (IsBehind whole) (Leaves whole) (past_word BadSubrs (codes "array") t.rest) (λ left. Ok (goes (Some (size count)) Subrs left))
+    (past_less BadSubrs (codes "array") t.rest whole h) (λ left k. k)) in
     search (rules, either, h, counted))
 
 subrs_turn_less : (v : FontValue) (s : List ℕ) (whole : List ℕ) → IsBehind whole s → IfOk (subrs_turn v s) (Leaves whole)
@@ -166,7 +170,8 @@ glyph_turn_less : (v : FontValue) (name s : List ℕ) (whole : List ℕ) → IsB
 unfolding glyph_turn
 glyph_turn_less v name s whole lt =
     let read : IfOk (charstring_at BadCharStrings s >>= λ bytes. Ok (goes (Some (glyph name bytes.0)) Glyphs bytes.1)) (Leaves whole) =
-    bind (PairBehind whole) (Leaves whole) (charstring_at BadCharStrings s) (λ bytes. Ok (goes (Some (glyph name bytes.0)) Glyphs bytes.1)) (charstring_less BadCharStrings s whole lt) (λ b h. h) in
+    bind (PairBehind whole) (Leaves whole) (charstring_at BadCharStrings s) (λ bytes. Ok (goes (Some (glyph name bytes.0)) Glyphs bytes.1))
+    (charstring_less BadCharStrings s whole lt) (λ b h. h) in
     search (rules, either, read)
 
 glyphs_token_less : (v : FontValue) (kind : Kind) (text s : List ℕ) (whole : List ℕ) → IsBehind whole s → IfOk (glyphs_token v kind text s) (Leaves whole)
@@ -176,9 +181,12 @@ glyphs_token_less v kind text s whole lt =
 
 private_less : (v : FontValue) (mode : PrivateMode) (s : List ℕ) → IfOk (private_turn v mode s) (Leaves s)
 unfolding private_turn
-private_less v Outside s = bind (RestBehind s) (Leaves s) (wanted BadCharStrings s) _ (wanted_first BadCharStrings s) (λ t h. private_outside_less v t.kind t.text t.rest s h)
-private_less v Subrs s = bind (RestBehind s) (Leaves s) (wanted BadCharStrings s) _ (wanted_first BadCharStrings s) (λ t h. subrs_token_less v t.kind t.text t.rest s h)
-private_less v Glyphs s = bind (RestBehind s) (Leaves s) (wanted BadCharStrings s) _ (wanted_first BadCharStrings s) (λ t h. glyphs_token_less v t.kind t.text t.rest s h)
+private_less v Outside s = bind (RestBehind s) (Leaves s) (wanted BadCharStrings s) _ (wanted_first BadCharStrings s)
+    (λ t h. private_outside_less v t.kind t.text t.rest s h)
+private_less v Subrs s = bind (RestBehind s) (Leaves s) (wanted BadCharStrings s) _ (wanted_first BadCharStrings s)
+    (λ t h. subrs_token_less v t.kind t.text t.rest s h)
+private_less v Glyphs s = bind (RestBehind s) (Leaves s) (wanted BadCharStrings s) _ (wanted_first BadCharStrings s)
+    (λ t h. glyphs_token_less v t.kind t.text t.rest s h)
 
 pub private_shortens : Shortens private_turn
 private_shortens = record { less = private_less }
@@ -224,7 +232,8 @@ code_at_less s whole lt =
     if spells (codes "put") last.kind last.text
     then Some (goes (Some (code_statement number.kind name.text)) clear_modes.Codes last.rest) else None) tt
     (look (RestBehind whole) (Leaves whole) (token_ahead name.rest) _ (ahead_less name.rest whole i) (λ last j.
-    which (Leaves whole) (spells (codes "put") last.kind last.text) (Some (goes (Some (code_statement number.kind name.text)) clear_modes.Codes last.rest)) None j tt)))))
+    which (Leaves whole) (spells (codes "put") last.kind last.text)
+    (Some (goes (Some (code_statement number.kind name.text)) clear_modes.Codes last.rest)) None j tt)))))
 
 code_turn_less : (s : List ℕ) (whole : List ℕ) → IsBehind whole s → Leaves whole (code_turn s)
 unfolding code_turn
@@ -236,8 +245,10 @@ code_token_less kind text s whole lt = search (rules, choose (Leaves {M = ClearM
 
 clear_less : (v : FontValue) (mode : ClearMode) (s : List ℕ) → IfOk (clear_turn v mode s) (Leaves s)
 unfolding clear_turn
-clear_less v clear_modes.Outside s = bind (RestBehind s) (Leaves s) (wanted NoEexec s) _ (wanted_first NoEexec s) (λ t h. clear_outside_less t.kind t.text t.rest s h)
-clear_less v clear_modes.Codes s = bind (RestBehind s) (Leaves s) (wanted NoEexec s) _ (wanted_first NoEexec s) (λ t h. code_token_less t.kind t.text t.rest s h)
+clear_less v clear_modes.Outside s = bind (RestBehind s) (Leaves s) (wanted NoEexec s) _ (wanted_first NoEexec s)
+    (λ t h. clear_outside_less t.kind t.text t.rest s h)
+clear_less v clear_modes.Codes s = bind (RestBehind s) (Leaves s) (wanted NoEexec s) _ (wanted_first NoEexec s)
+    (λ t h. code_token_less t.kind t.text t.rest s h)
 
 pub clear_shortens : Shortens clear_turn
 clear_shortens = record { less = clear_less }

@@ -34,10 +34,12 @@ after_one a (y ∷ ys) x =
     let ih = after_one a ys x in
     let any = list_any-append a ys (x ∷ []) in
     elim (cases_Bool (a x)) [
-      | inl h ↦ (let i = rw h at ih in let n : list_any a (ys ++ x ∷ []) ≡ true = any ∙ (rw h (elim (list_any a ys) as (λ b. (b || true) ≡ true) [ true ↦ refl | false ↦ refl ])) in rw (h, n) i)
+      | inl h ↦ (let i = rw h at ih in let n : list_any a (ys ++ x ∷ []) ≡ true =
+          any ∙ (rw h (elim (list_any a ys) as (λ b. (b || true) ≡ true) [ true ↦ refl | false ↦ refl ])) in rw (h, n) i)
       | inr h ↦ (let i = rw h at ih in let n : list_any a (ys ++ x ∷ []) ≡ list_any a ys = any ∙ (rw h (or-false (list_any a ys))) in
           rw (h, n)
-          (elim (list_any a ys) as (λ b. cond b (after_last a (ys ++ x ∷ [])) (cond (a y) (ys ++ x ∷ []) (y ∷ (ys ++ x ∷ []))) ≡ cond b (after_last a ys) (cond (a y) ys (y ∷ ys)) ++ x ∷ []) [
+          (elim (list_any a ys) as (λ b. cond b (after_last a (ys ++ x ∷ [])) (cond (a y) (ys ++ x ∷ []) (y ∷ (ys ++ x ∷ []))) ≡ cond b (after_last a ys)
+          (cond (a y) ys (y ∷ ys)) ++ x ∷ []) [
             | true ↦ i
             | false ↦ elim (a y) as (λ b. cond b (ys ++ x ∷ []) (y ∷ (ys ++ x ∷ [])) ≡ cond b ys (y ∷ ys) ++ x ∷ []) [ true ↦ refl | false ↦ refl ]
           ]))
@@ -49,7 +51,8 @@ module _ {K : Type 0} (eq : K → K → Bool) where
   last_one j k v [] = elim (eq j k) as (λ b. option_or None (cond b (Some v) None) ≡ cond b (Some v) None) [ true ↦ refl | false ↦ refl ]
   last_one j k v (p ∷ ps) =
       rw (last_one j k v ps)
-      (elim (eq j k) as (λ b. option_or (cond b (Some v) (last_under eq j ps)) (cond (eq j p.0) (Some p.1) None) ≡ cond b (Some v) (option_or (last_under eq j ps) (cond (eq j p.0) (Some p.1) None))) [ true ↦ refl | false ↦ refl ])
+      (elim (eq j k) as (λ b. option_or (cond b (Some v) (last_under eq j ps)) (cond (eq j p.0) (Some p.1) None) ≡ cond b (Some v)
+      (option_or (last_under eq j ps) (cond (eq j p.0) (Some p.1) None))) [ true ↦ refl | false ↦ refl ])
 
   keys_one : {V : Type 0} (ps : List (K × V)) (k : K) (v : V) → keys_of (ps ++ (k, v) ∷ []) ≡ keys_of ps ++ k ∷ []
   keys_one [] k v = refl
@@ -64,7 +67,9 @@ module _ {K : Type 0} (eq : K → K → Bool) where
   table_one e d ps k v =
       rw (keys_one ps k v)
       (tab_step eq e (λ j. unwrap_or (last_under eq j ps) d) (λ j. unwrap_or (last_under eq j (ps ++ (k, v) ∷ [])) d) k v
-      (λ j. ap (λ o. unwrap_or o d) (last_one j k v ps) ∙ elim (eq j k) as (λ b. unwrap_or (cond b (Some v) (last_under eq j ps)) d ≡ cond b v (unwrap_or (last_under eq j ps) d)) [ true ↦ refl | false ↦ refl ])
+      (λ j. ap (λ o. unwrap_or o d) (last_one j k v ps)
+      ∙ elim (eq j k) as (λ b. unwrap_or (cond b (Some v) (last_under eq j ps)) d ≡ cond b v (unwrap_or (last_under eq j ps) d))
+      [ true ↦ refl | false ↦ refl ])
       (keys_of ps))
 
   count_cons : (p : K → Bool) (x : K) (xs : List K) → count_by p (x ∷ xs) ≡ cond (p x) 1 0 + count_by p xs
@@ -74,8 +79,11 @@ module _ {K : Type 0} (eq : K → K → Bool) where
   again_one : (before ks : List K) (k : K) → repeats eq before (ks ++ k ∷ []) ≡ repeats eq before ks ++ cond (list_any (eq k) (before ++ ks)) (k ∷ []) []
   again_one before [] k = rw (append-nil before) (append-nil (cond (list_any (eq k) before) (k ∷ []) []))
   again_one before (j ∷ ks) k =
-      ap (λ xs. cond (list_any (eq j) before) (j ∷ []) [] ++ xs) (again_one (before ++ j ∷ []) ks k ∙ ap (λ xs. repeats eq (before ++ j ∷ []) ks ++ cond (list_any (eq k) xs) (k ∷ []) []) (append_assoc before (j ∷ []) ks))
-      ∙ sym (append_assoc (cond (list_any (eq j) before) (j ∷ []) []) (repeats eq (before ++ j ∷ []) ks) (cond (list_any (eq k) (before ++ (j ∷ ks))) (k ∷ []) []))
+      ap (λ xs. cond (list_any (eq j) before) (j ∷ []) [] ++ xs)
+      (again_one (before ++ j ∷ []) ks k ∙ ap (λ xs. repeats eq (before ++ j ∷ []) ks ++ cond (list_any (eq k) xs) (k ∷ []) [])
+      (append_assoc before (j ∷ []) ks))
+      ∙ sym (append_assoc (cond (list_any (eq j) before) (j ∷ []) []) (repeats eq (before ++ j ∷ []) ks)
+      (cond (list_any (eq k) (before ++ (j ∷ ks))) (k ∷ []) []))
 
   twice_one : IsExact eq → (ks : List K) (k : K) → twice_of eq (ks ++ k ∷ []) ≡ twice_more eq (twice_of eq ks) k (list_any (eq k) ks)
   twice_one e ks k =
@@ -99,7 +107,8 @@ module _ {K : Type 0} (eq : K → K → Bool) where
   itself true j k h = rw h refl
   itself false j k h = refl
 
-  any_again : IsExact eq → (before ks : List K) (k : K) → list_any (eq k) (repeats eq before ks) ≡ cond (list_any (eq k) before) (nat_lt 0 (count_by (eq k) ks)) (nat_lt 1 (count_by (eq k) ks))
+  any_again : IsExact eq → (before ks : List K) (k : K) → list_any (eq k) (repeats eq before ks) ≡ cond (list_any (eq k) before) (nat_lt 0 (count_by (eq k) ks))
+      (nat_lt 1 (count_by (eq k) ks))
   any_again e before [] k = elim (list_any (eq k) before) as (λ b. false ≡ cond b (nat_lt 0 0) (nat_lt 1 0)) [ true ↦ refl | false ↦ refl ]
   any_again e before (j ∷ ks) k =
       let here = cond (list_any (eq j) before) (j ∷ []) [] in
@@ -122,7 +131,8 @@ module _ {K : Type 0} (eq : K → K → Bool) where
   has_table e d ps k = keys_tab (λ j. unwrap_or (last_under eq j ps) d) k (firsts eq (keys_of ps)) ∙ any_firsts eq e k (keys_of ps)
 
   -- What is twice in a table with one pair more.
-  pub twice_step : IsExact eq → {V : Type 0} (d : V) (ps : List (K × V)) (k : K) (v : V) → twice_of eq (keys_of (ps ++ (k, v) ∷ [])) ≡ twice_more eq (twice_of eq (keys_of ps)) k (has_key eq (table_of eq d ps) k)
+  pub twice_step : IsExact eq → {V : Type 0} (d : V) (ps : List (K × V)) (k : K) (v : V) → twice_of eq (keys_of (ps ++ (k, v) ∷ [])) ≡ twice_more eq
+      (twice_of eq (keys_of ps)) k (has_key eq (table_of eq d ps) k)
   twice_step e d ps k v =
       ap (twice_of eq) (keys_one ps k v) ∙ twice_one e (keys_of ps) k
       ∙ ap (twice_more eq (twice_of eq (keys_of ps)) k) (sym (has_table e d ps k))
@@ -157,8 +167,19 @@ module _ (marks : Marks) (es : List Stated) where
   more e h =
       let front = after_last is_encoding es in
       let after : after_last is_encoding (es ++ e ∷ []) ≡ front ++ e ∷ [] = after_one is_encoding es e ∙ (rw h refl) in
-      let bad : list_any is_bad_code (front ++ e ∷ []) ≡ (list_any is_bad_code front || is_bad_code e) = list_any-append is_bad_code front (e ∷ []) ∙ ap (λ b. list_any is_bad_code front || b) (or-false (is_bad_code e)) in
-      rw (after, bad, fm_one plain_of es e, fm_one encoding_of es e, fm_one code_of front e, fm_one size_of es e, fm_one subr_of es e, fm_one glyph_of es e) refl
+      let bad : list_any is_bad_code (front ++ e ∷ []) ≡ (list_any is_bad_code front || is_bad_code e) = list_any-append is_bad_code front (e ∷ [])
+      ∙ ap (λ b. list_any is_bad_code front || b) (or-false (is_bad_code e)) in
+      rw (
+        after,
+        bad,
+        fm_one plain_of es e,
+        fm_one encoding_of es e,
+        fm_one code_of front e,
+        fm_one size_of es e,
+        fm_one subr_of
+            es e,
+        fm_one glyph_of es e,
+      ) refl
 
   new_form : (form : Encoding) →
       value_of marks (es ++ encoding form ∷ []) ≡ value_from marks
@@ -170,7 +191,8 @@ module _ (marks : Marks) (es : List Stated) where
       let after : after_last is_encoding (es ++ e ∷ []) ≡ [] = after_one is_encoding es e in
       rw (after, fm_one plain_of es e, fm_one encoding_of es e, fm_one size_of es e, fm_one subr_of es e, fm_one glyph_of es e) refl
 
-  placed : (k : Key) (t : Lexeme) → map (λ j. value_of_entry (last_under nat_eq j (flat_map plain_of es ++ (index_of k, t) ∷ []))) key_places ≡ set (map (λ j. value_of_entry (last_under nat_eq j (flat_map plain_of es))) key_places) (index_of k) (value_of_token t)
+  placed : (k : Key) (t : Lexeme) → map (λ j. value_of_entry (last_under nat_eq j (flat_map plain_of es ++ (index_of k, t) ∷ []))) key_places
+      ≡ set (map (λ j. value_of_entry (last_under nat_eq j (flat_map plain_of es))) key_places) (index_of k) (value_of_token t)
   placed FontType t = simp last_one
   placed PaintType t = simp last_one
   placed UniqueId t = simp last_one
@@ -196,7 +218,10 @@ module _ (marks : Marks) (es : List Stated) where
   value_step (plain k t) = more (plain k t) refl ∙ simp (append-nil, or-false, placed k t)
   value_step (encoding form) = new_form form ∙ simp (append-nil, last_more)
   value_step (code n name) = more (code n name) refl ∙ simp (append-nil, or-false, table_one nat_eq nat_exact)
-  value_step bad_code = more bad_code refl ∙ simp append-nil (ap (λ b. record (value_of marks es) { bad_code = b }) (let e : (list_any is_bad_code (after_last is_encoding es) || true) ≡ true = elim (list_any is_bad_code (after_last is_encoding es)) as (λ b. (b || true) ≡ true) [ true ↦ refl | false ↦ refl ] in e))
+  value_step bad_code = more bad_code refl
+      ∙ simp append-nil (ap (λ b. record (value_of marks es) { bad_code = b })
+      (let e : (list_any is_bad_code (after_last is_encoding es) || true) ≡ true = elim (list_any is_bad_code (after_last is_encoding es)) as
+      (λ b. (b || true) ≡ true) [ true ↦ refl | false ↦ refl ] in e))
   value_step (size n) = more (size n) refl ∙ simp (append-nil, or-false, last_more)
   value_step (subr n bytes) =
       let pairs = table_one nat_eq nat_exact [] (flat_map subr_of es) n bytes in

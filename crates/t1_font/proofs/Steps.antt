@@ -23,12 +23,14 @@ use Rattle.t1_font.proofs.Running.{follow, Leaves, Shortens, is_shorter}
 use Rattle.t1_font.proofs.Shorter.{clear_shortens, private_shortens}
 
 module _ {M : Type 0} (turn : Reader M) (ended : Refusal) (shortens : Shortens turn) (marks : Marks) where
-  enough : (n m : ℕ) (before : List Stated) (mode : M) (s : List ℕ) → length s < n → length s < m → stated_within turn ended marks n before mode s ≡ stated_within turn ended marks m before mode s
+  enough : (n m : ℕ) (before : List Stated) (mode : M) (s : List ℕ) → length s < n → length s < m → stated_within turn ended marks n before mode s
+      ≡ stated_within turn ended marks m before mode s
   unfolding stated_within
   enough zero m before mode s a b = absurd (omega arith)
   enough (suc n) zero before mode s a b = absurd (omega arith)
   enough (suc n) (suc m) before mode s a b =
-      elim (turn (value_of marks before) mode s) as (λ r. IfOk r (Leaves s) → (r >>= follow (stated_within turn ended marks n) before) ≡ (r >>= follow (stated_within turn ended marks m) before)) [
+      elim (turn (value_of marks before) mode s) as (λ r. IfOk r (Leaves s) → (r >>= follow (stated_within turn ended marks n) before)
+      ≡ (r >>= follow (stated_within turn ended marks m) before)) [
         | Err e ↦ λ _. refl
         | Ok t ↦ elim t as (λ t. Leaves s t → follow (stated_within turn ended marks n) before t ≡ follow (stated_within turn ended marks m) before t) [
           | over rest ↦ λ _. refl
@@ -36,10 +38,12 @@ module _ {M : Type 0} (turn : Reader M) (ended : Refusal) (shortens : Shortens t
         ]
       ] (shortens.less (value_of marks before) mode s)
 
-  pub step : (before : List Stated) (mode : M) (s : List ℕ) → stated_in turn ended marks before mode s ≡ (turn (value_of marks before) mode s >>= follow (stated_in turn ended marks) before)
+  pub step : (before : List Stated) (mode : M) (s : List ℕ) → stated_in turn ended marks before mode s
+      ≡ (turn (value_of marks before) mode s >>= follow (stated_in turn ended marks) before)
   unfolding stated_within
   step before mode s =
-      elim (turn (value_of marks before) mode s) as (λ r. IfOk r (Leaves s) → (r >>= follow (stated_within turn ended marks (length s)) before) ≡ (r >>= follow (stated_in turn ended marks) before)) [
+      elim (turn (value_of marks before) mode s) as (λ r. IfOk r (Leaves s) → (r >>= follow (stated_within turn ended marks (length s)) before)
+      ≡ (r >>= follow (stated_in turn ended marks) before)) [
         | Err e ↦ λ _. refl
         | Ok t ↦ elim t as (λ t. Leaves s t → follow (stated_within turn ended marks (length s)) before t ≡ follow (stated_in turn ended marks) before t) [
           | over rest ↦ λ _. refl
@@ -47,17 +51,21 @@ module _ {M : Type 0} (turn : Reader M) (ended : Refusal) (shortens : Shortens t
         ]
       ] (shortens.less (value_of marks before) mode s)
 
-  pub goes_on : (before : List Stated) (mode : M) (s : List ℕ) (e : Option Stated) (next : M) (left : List ℕ) → turn (value_of marks before) mode s ≡ Ok (goes e next left) → stated_in turn ended marks before mode s ≡ stated_in turn ended marks (with_one before e) next left
+  pub goes_on : (before : List Stated) (mode : M) (s : List ℕ) (e : Option Stated) (next : M) (left : List ℕ) → turn (value_of marks before) mode s
+      ≡ Ok (goes e next left) → stated_in turn ended marks before mode s ≡ stated_in turn ended marks (with_one before e) next left
   goes_on before mode s e next left h = step before mode s ∙ ap (λ r. r >>= follow (stated_in turn ended marks) before) h
 
   -- Texts that have the same turn state the same.
-  same_turn : (before : List Stated) (mode : M) (s text : List ℕ) → turn (value_of marks before) mode s ≡ turn (value_of marks before) mode text → stated_in turn ended marks before mode s ≡ stated_in turn ended marks before mode text
+  same_turn : (before : List Stated) (mode : M) (s text : List ℕ) → turn (value_of marks before) mode s ≡ turn (value_of marks before) mode text
+      → stated_in turn ended marks before mode s ≡ stated_in turn ended marks before mode text
   same_turn before mode s text h = step before mode s ∙ ap (λ r. r >>= follow (stated_in turn ended marks) before) h ∙ sym (step before mode text)
 
-  pub refused : (before : List Stated) (mode : M) (s : List ℕ) (e : Refusal) → turn (value_of marks before) mode s ≡ Err e → stated_in turn ended marks before mode s ≡ Err e
+  pub refused : (before : List Stated) (mode : M) (s : List ℕ) (e : Refusal) → turn (value_of marks before) mode s ≡ Err e
+      → stated_in turn ended marks before mode s ≡ Err e
   refused before mode s e h = step before mode s ∙ ap (λ r. r >>= follow (stated_in turn ended marks) before) h
 
-  pub is_over : (before : List Stated) (mode : M) (s rest : List ℕ) → turn (value_of marks before) mode s ≡ Ok (over rest) → stated_in turn ended marks before mode s ≡ Ok (record { stated = before; rest = rest })
+  pub is_over : (before : List Stated) (mode : M) (s rest : List ℕ) → turn (value_of marks before) mode s ≡ Ok (over rest)
+      → stated_in turn ended marks before mode s ≡ Ok (record { stated = before; rest = rest })
   is_over before mode s rest h = step before mode s ∙ ap (λ r. r >>= follow (stated_in turn ended marks) before) h
 
 pub found : (ended : Refusal) (s : List ℕ) (t : Found) → token_of s ≡ Ok (Some t) → wanted ended s ≡ Ok t
@@ -86,53 +94,67 @@ unfolding private_turn
 private_behind v mode gap s h = rw (wanted_behind BadCharStrings gap s h) refl
 
 pub blanks_pass : BlanksPass
-blanks_pass marks before mode gap s h = same_turn clear_turn NoEexec clear_shortens marks before mode (gap ++ s) s (clear_behind (value_of marks before) mode gap s h)
+blanks_pass marks before mode gap s h = same_turn clear_turn NoEexec clear_shortens marks before mode (gap ++ s) s
+    (clear_behind (value_of marks before) mode gap s h)
 
 pub blanks_pass_in_private : BlanksPassInPrivate
-blanks_pass_in_private marks before mode gap s h = same_turn private_turn BadCharStrings private_shortens marks before mode (gap ++ s) s (private_behind (value_of marks before) mode gap s h)
+blanks_pass_in_private marks before mode gap s h = same_turn private_turn BadCharStrings private_shortens marks before mode (gap ++ s) s
+    (private_behind (value_of marks before) mode gap s h)
 
-clear_word : (v : FontValue) (s : List ℕ) (t : Found) → token_of s ≡ Ok (Some t) → t.kind ≡ Word → same_name t.text (codes "eexec") ≡ false → clear_turn v clear_modes.Outside s ≡ Ok (goes None clear_modes.Outside t.rest)
+clear_word : (v : FontValue) (s : List ℕ) (t : Found) → token_of s ≡ Ok (Some t) → t.kind ≡ Word → same_name t.text (codes "eexec") ≡ false
+    → clear_turn v clear_modes.Outside s ≡ Ok (goes None clear_modes.Outside t.rest)
 unfolding clear_turn clear_outside
 clear_word v s t h word other = rw (found NoEexec s t h, word, other) refl
 
 pub words_pass : WordsPass
-words_pass marks before s t h word other = goes_on clear_turn NoEexec clear_shortens marks before clear_modes.Outside s None clear_modes.Outside t.rest (clear_word (value_of marks before) s t h word other)
+words_pass marks before s t h word other = goes_on clear_turn NoEexec clear_shortens marks before clear_modes.Outside s None clear_modes.Outside t.rest
+    (clear_word (value_of marks before) s t h word other)
 
-code_word : (v : FontValue) (s : List ℕ) (t : Found) → token_of s ≡ Ok (Some t) → t.kind ≡ Word → same_name t.text (codes "eexec") ≡ false → same_name t.text (codes "def") ≡ false → same_name t.text (codes "dup") ≡ false → clear_turn v clear_modes.Codes s ≡ Ok (goes None clear_modes.Codes t.rest)
+code_word : (v : FontValue) (s : List ℕ) (t : Found) → token_of s ≡ Ok (Some t) → t.kind ≡ Word → same_name t.text (codes "eexec") ≡ false
+    → same_name t.text (codes "def") ≡ false → same_name t.text (codes "dup") ≡ false → clear_turn v clear_modes.Codes s
+    ≡ Ok (goes None clear_modes.Codes t.rest)
 unfolding clear_turn code_token
 code_word v s t h word a b c = rw (found NoEexec s t h, word, a, b, c) refl
 
 pub words_pass_in_codes : WordsPassInCodes
-words_pass_in_codes marks before s t h word a b c = goes_on clear_turn NoEexec clear_shortens marks before clear_modes.Codes s None clear_modes.Codes t.rest (code_word (value_of marks before) s t h word a b c)
+words_pass_in_codes marks before s t h word a b c = goes_on clear_turn NoEexec clear_shortens marks before clear_modes.Codes s None clear_modes.Codes t.rest
+    (code_word (value_of marks before) s t h word a b c)
 
 lone_dup : (s : List ℕ) → code_at s ≡ None → code_turn s ≡ goes None clear_modes.Codes s
 unfolding code_turn
 lone_dup s none = ap (λ (r : Option (TextTurn ClearMode)). elim r [ Some t ↦ t | None ↦ goes None clear_modes.Codes s ]) none
 
-code_dup : (v : FontValue) (s : List ℕ) (t : Found) → token_of s ≡ Ok (Some t) → t.kind ≡ Word → t.text ≡ codes "dup" → code_at t.rest ≡ None → clear_turn v clear_modes.Codes s ≡ Ok (goes None clear_modes.Codes t.rest)
+code_dup : (v : FontValue) (s : List ℕ) (t : Found) → token_of s ≡ Ok (Some t) → t.kind ≡ Word → t.text ≡ codes "dup" → code_at t.rest ≡ None
+    → clear_turn v clear_modes.Codes s ≡ Ok (goes None clear_modes.Codes t.rest)
 unfolding clear_turn code_token
 code_dup v s t h word text none = rw (found NoEexec s t h, word, text) (ap Ok (lone_dup t.rest none))
 
 pub dup_passes_in_codes : DupPassesInCodes
-dup_passes_in_codes marks before s t h word text none = goes_on clear_turn NoEexec clear_shortens marks before clear_modes.Codes s None clear_modes.Codes t.rest (code_dup (value_of marks before) s t h word text none)
+dup_passes_in_codes marks before s t h word text none = goes_on clear_turn NoEexec clear_shortens marks before clear_modes.Codes s None clear_modes.Codes t.rest
+    (code_dup (value_of marks before) s t h word text none)
 
 private_word : (v : FontValue) (s : List ℕ) (t : Found) → token_of s ≡ Ok (Some t) → t.kind ≡ Word → private_turn v Outside s ≡ Ok (goes None Outside t.rest)
 unfolding private_turn private_outside
 private_word v s t h word = rw (found BadCharStrings s t h, word) refl
 
 pub words_pass_in_private : WordsPassInPrivate
-words_pass_in_private marks before s t h word = goes_on private_turn BadCharStrings private_shortens marks before Outside s None Outside t.rest (private_word (value_of marks before) s t h word)
+words_pass_in_private marks before s t h word = goes_on private_turn BadCharStrings private_shortens marks before Outside s None Outside t.rest
+    (private_word (value_of marks before) s t h word)
 
-subr_word : (v : FontValue) (s : List ℕ) (t : Found) → token_of s ≡ Ok (Some t) → t.kind ≡ Word → same_name t.text (codes "dup") ≡ false → private_turn v Subrs s ≡ Ok (goes None Subrs t.rest)
+subr_word : (v : FontValue) (s : List ℕ) (t : Found) → token_of s ≡ Ok (Some t) → t.kind ≡ Word → same_name t.text (codes "dup") ≡ false
+    → private_turn v Subrs s ≡ Ok (goes None Subrs t.rest)
 unfolding private_turn subrs_token
 subr_word v s t h word other = rw (found BadCharStrings s t h, word, other) refl
 
 pub words_pass_in_subrs : WordsPassInSubrs
-words_pass_in_subrs marks before s t h word other = goes_on private_turn BadCharStrings private_shortens marks before Subrs s None Subrs t.rest (subr_word (value_of marks before) s t h word other)
+words_pass_in_subrs marks before s t h word other = goes_on private_turn BadCharStrings private_shortens marks before Subrs s None Subrs t.rest
+    (subr_word (value_of marks before) s t h word other)
 
-glyph_word : (v : FontValue) (s : List ℕ) (t : Found) → token_of s ≡ Ok (Some t) → t.kind ≡ Word → same_name t.text (codes "end") ≡ false → private_turn v Glyphs s ≡ Ok (goes None Glyphs t.rest)
+glyph_word : (v : FontValue) (s : List ℕ) (t : Found) → token_of s ≡ Ok (Some t) → t.kind ≡ Word → same_name t.text (codes "end") ≡ false
+    → private_turn v Glyphs s ≡ Ok (goes None Glyphs t.rest)
 unfolding private_turn glyphs_token
 glyph_word v s t h word other = rw (found BadCharStrings s t h, word, other) refl
 
 pub words_pass_in_glyphs : WordsPassInGlyphs
-words_pass_in_glyphs marks before s t h word other = goes_on private_turn BadCharStrings private_shortens marks before Glyphs s None Glyphs t.rest (glyph_word (value_of marks before) s t h word other)
+words_pass_in_glyphs marks before s t h word other = goes_on private_turn BadCharStrings private_shortens marks before Glyphs s None Glyphs t.rest
+    (glyph_word (value_of marks before) s t h word other)

@@ -80,7 +80,8 @@ module _ {K : Type 0} (eq : K → K → Bool) (e : IsExact eq) where
         | inl y ↦ rw y refl
         | inr n ↦
             rw n
-            (filter_any (eq k) (λ i. not (eq j i)) (λ i h. (let s = e.exact k i h in let f : eq j i ≡ false = subst (λ x. eq j x ≡ false) s (flipped k j n) in rw f refl)) (firsts eq ks)
+            (filter_any (eq k) (λ i. not (eq j i)) (λ i h.
+            (let s = e.exact k i h in let f : eq j i ≡ false = subst (λ x. eq j x ≡ false) s (flipped k j n) in rw f refl)) (firsts eq ks)
             ∙ any_firsts k ks)
       ]
 
@@ -113,10 +114,12 @@ module _ {K : Type 0} (eq : K → K → Bool) (e : IsExact eq) where
         ])
         | inr n ↦ (let h = rw n at ih in elim (cases_Bool (eq k j)) [
           | inl z ↦ (let s = e.exact k j z in let here : eq j k ≡ true = subst (λ x. eq x k ≡ true) s (e.same k) in
-              let last : filter keep (firsts eq ks ++ k ∷ []) ≡ filter keep (firsts eq ks) = filter-append keep (firsts eq ks) (k ∷ []) ∙ (rw here (append-nil (filter keep (firsts eq ks)))) in
+              let last : filter keep (firsts eq ks ++ k ∷ []) ≡ filter keep (firsts eq ks) = filter-append keep (firsts eq ks) (k ∷ [])
+              ∙ (rw here (append-nil (filter keep (firsts eq ks)))) in
               rw z (h ∙ ap (λ xs. j ∷ xs) last))
           | inr z ↦ (let away = flipped k j z in
-              let last : filter keep (firsts eq ks ++ k ∷ []) ≡ filter keep (firsts eq ks) ++ k ∷ [] = filter-append keep (firsts eq ks) (k ∷ []) ∙ (rw away refl) in
+              let last : filter keep (firsts eq ks ++ k ∷ []) ≡ filter keep (firsts eq ks) ++ k ∷ [] = filter-append keep (firsts eq ks) (k ∷ [])
+              ∙ (rw away refl) in
               rw (z, n) (h ∙ ap (λ xs. j ∷ xs) last))
         ])
       ]
@@ -138,10 +141,12 @@ module _ {K : Type 0} (eq : K → K → Bool) (e : IsExact eq) where
     tab_same k v f (n ∷ ns) h =
         elim (cases_Bool (eq k n)) [
           | inl y ↦ (let no : true ≡ false = rw y at h in cc)
-          | inr y ↦ (let rest : list_any (eq k) ns ≡ false = rw y at h in let away = flipped k n y in rw away (ap (λ ps. (n, f n) ∷ ps) (tab_same k v f ns rest)))
+          | inr y ↦ (let rest : list_any (eq k) ns ≡ false = rw y at h in let away = flipped k n y in rw away
+              (ap (λ ps. (n, f n) ∷ ps) (tab_same k v f ns rest)))
         ]
 
-    put_tab : (f : K → V) (k : K) (v : V) (ns : List K) → Distinct ns → put_pair eq (tab f ns) k v ≡ cond (list_any (eq k) ns) (tab (upd k v f) ns) (tab f ns ++ (k, v) ∷ [])
+    put_tab : (f : K → V) (k : K) (v : V) (ns : List K) → Distinct ns → put_pair eq (tab f ns) k v ≡ cond (list_any (eq k) ns)
+        (tab (upd k v f) ns) (tab f ns ++ (k, v) ∷ [])
     put_tab f k v [] d = refl
     put_tab f k v (n ∷ ns) d =
         elim (cases_Bool (eq k n)) [
@@ -158,7 +163,8 @@ module _ {K : Type 0} (eq : K → K → Bool) (e : IsExact eq) where
         ]
 
     -- A pair more: a key that is there keeps its place and takes the value, and a new one goes last.
-    pub tab_step : (f g : K → V) (k : K) (v : V) → ((j : K) → g j ≡ upd k v f j) → (ks : List K) → tab g (firsts eq (ks ++ k ∷ [])) ≡ put_pair eq (tab f (firsts eq ks)) k v
+    pub tab_step : (f g : K → V) (k : K) (v : V) → ((j : K) → g j ≡ upd k v f j) → (ks : List K) → tab g (firsts eq (ks ++ k ∷ []))
+        ≡ put_pair eq (tab f (firsts eq ks)) k v
     tab_step f g k v h ks =
         let put = put_tab f k v (firsts eq ks) (distinct_firsts ks) in
         let named = any_firsts k ks in

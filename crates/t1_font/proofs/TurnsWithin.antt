@@ -53,13 +53,14 @@ Keeps v (goes e mode left) = FitsOne v e
 -- A number that was read is at most its limit.
 natural_fits : (bad : Refusal) (limit : ℕ) (kind : Kind) → IfOk (natural bad limit kind) (λ n. n ≤ limit)
 unfolding natural
-natural_fits bad limit kind = elim (whole kind) as (λ r. IfOk {E = Refusal} (elim r [ None ↦ Err bad | Some n ↦ if nat_lt limit n then Err PastLimit else Ok n ]) (λ n. n ≤ limit)) [
-  | None ↦ tt
-  | Some m ↦ (elim (cases_Bool (nat_lt limit m)) [
-    | inl y ↦ rw y tt
-    | inr n ↦ rw n (let few : m ≤ limit = grind (arith, nat_tests, n) in few)
-  ])
-]
+natural_fits bad limit kind = elim (whole kind) as
+    (λ r. IfOk {E = Refusal} (elim r [ None ↦ Err bad | Some n ↦ if nat_lt limit n then Err PastLimit else Ok n ]) (λ n. n ≤ limit)) [
+      | None ↦ tt
+      | Some m ↦ (elim (cases_Bool (nat_lt limit m)) [
+        | inl y ↦ rw y tt
+        | inr n ↦ rw n (let few : m ≤ limit = grind (arith, nat_tests, n) in few)
+      ])
+    ]
 
 whole_up_to_fits : (limit : ℕ) (kind : Kind) → IfSome (whole_up_to limit kind) (λ n. n ≤ limit)
 unfolding whole_up_to
@@ -80,7 +81,8 @@ module _ (v : FontValue) where
   subrs_at_fits s =
       next (Keeps v) (wanted BadSubrs s) _ (λ t.
       let none : 0 ≤ 65535 = omega arith in
-      let counted : IfOk (natural BadSubrs 65535 t.kind >>= λ count. past_word BadSubrs (codes "array") t.rest >>= λ left. Ok (goes (Some (size count)) Subrs left)) (Keeps v) =
+      let counted : IfOk (natural BadSubrs 65535 t.kind >>= λ count. past_word BadSubrs (codes "array") t.rest >>= λ left. Ok
+      (goes (Some (size count)) Subrs left)) (Keeps v) =
       bind (λ n. n ≤ 65535) (Keeps v) (natural BadSubrs 65535 t.kind) _ (natural_fits BadSubrs 65535 t.kind) (λ count h.
       next (Keeps v) (past_word BadSubrs (codes "array") t.rest) (λ left. Ok (goes (Some (size count)) Subrs left)) (λ left. h)) in
       search (rules, either, none, counted))
@@ -186,7 +188,8 @@ module _ (v : FontValue) where
       if spells (codes "put") last.kind last.text
       then Some (goes (Some (code_statement number.kind name.text)) clear_modes.Codes last.rest) else None) tt
       (glance (Keeps v) (token_ahead name.rest) _ (λ last.
-      which (Keeps v) (spells (codes "put") last.kind last.text) (Some (goes (Some (code_statement number.kind name.text)) clear_modes.Codes last.rest)) None (code_statement_fits number.kind name.text) tt)))))
+      which (Keeps v) (spells (codes "put") last.kind last.text) (Some (goes (Some (code_statement number.kind name.text)) clear_modes.Codes last.rest)) None
+      (code_statement_fits number.kind name.text) tt)))))
 
   code_turn_fits : (s : List ℕ) → Keeps v (code_turn s)
   unfolding code_turn
@@ -201,8 +204,10 @@ module _ (v : FontValue) where
   clear_fits clear_modes.Outside s = next (Keeps v) (wanted NoEexec s) _ (λ t. clear_outside_fits t.kind t.text t.rest)
   clear_fits clear_modes.Codes s = next (Keeps v) (wanted NoEexec s) _ (λ t. code_token_fits t.kind t.text t.rest)
 
-pub private_room : (v : FontValue) (mode : PrivateMode) (s : List ℕ) (e : Option Stated) (next : PrivateMode) (left : List ℕ) → private_turn v mode s ≡ Ok (goes e next left) → HasRoomFor v e
+pub private_room : (v : FontValue) (mode : PrivateMode) (s : List ℕ) (e : Option Stated) (next : PrivateMode) (left : List ℕ)
+    → private_turn v mode s ≡ Ok (goes e next left) → HasRoomFor v e
 private_room v mode s e next left turn = let fits : FitsOne v e = rw turn at (private_fits v mode s) in room_for v e fits
 
-pub clear_room : (v : FontValue) (mode : ClearMode) (s : List ℕ) (e : Option Stated) (next : ClearMode) (left : List ℕ) → clear_turn v mode s ≡ Ok (goes e next left) → HasRoomFor v e
+pub clear_room : (v : FontValue) (mode : ClearMode) (s : List ℕ) (e : Option Stated) (next : ClearMode) (left : List ℕ)
+    → clear_turn v mode s ≡ Ok (goes e next left) → HasRoomFor v e
 clear_room v mode s e next left turn = let fits : FitsOne v e = rw turn at (clear_fits v mode s) in room_for v e fits

@@ -30,7 +30,8 @@ are_apart [] (token t ∷ pieces) rest = false
 is_small : (n : ℕ) → nat_le n 32 ≡ true → n ≤ 32
 is_small n h = grind (arith, nat_tests, h)
 
-pub is_written : (gaps : List (List ℕ)) (pieces : List Piece) (rest : List ℕ) → are_apart gaps pieces rest ≡ true → IsWritten (text_with gaps pieces rest) pieces rest
+pub is_written : (gaps : List (List ℕ)) (pieces : List Piece) (rest : List ℕ) → are_apart gaps pieces rest ≡ true
+    → IsWritten (text_with gaps pieces rest) pieces rest
 is_written gaps [] rest h = refl
 is_written gaps (raw b bytes ∷ pieces) rest h = (text_with gaps pieces rest, refl, is_written gaps pieces rest h)
 is_written [] (token t ∷ pieces) rest h = absurd (false≢true h)
@@ -41,7 +42,8 @@ is_written (gap ∷ gaps) (token t ∷ pieces) rest h =
     let b = and_parts (is_plain t) (nat_le (depth_of t) 32 && (can_end t left && more)) a.1 in
     let c = and_parts (nat_le (depth_of t) 32) (can_end t left && more) b.1 in
     let d = and_parts (can_end t left) more c.1 in
-    let begins : BeginsWith (gap ++ (spelled t ++ left)) t left = record { gap = gap; blanks = a.0; readable = record { plain = b.0; shallow = is_small (depth_of t) c.0 }; ends = d.0; whole = refl } in
+    let begins : BeginsWith (gap ++ (spelled t ++ left)) t left =
+    record { gap = gap; blanks = a.0; readable = record { plain = b.0; shallow = is_small (depth_of t) c.0 }; ends = d.0; whole = refl } in
     (left, begins, is_written gaps pieces rest d.1)
 
 -- The blanks and comments in front of each token.

@@ -93,12 +93,20 @@ raw_is b bytes left =
     rw (room, one-add (length bytes)) (rw (take-append_seam bytes left, drop-append_seam bytes left) refl)
 
 -- The bytes of a charstring.
-pub charstring_is : (bad : Refusal) (c : Charstring) (s left : List ℕ) → IsCharstring c → IsWritten s (charstring_pieces c) left → charstring_at bad s ≡ Ok (c.bytes, left)
+pub charstring_is : (bad : Refusal) (c : Charstring) (s left : List ℕ) → IsCharstring c → IsWritten s (charstring_pieces c) left
+    → charstring_at bad s ≡ Ok (c.bytes, left)
 unfolding charstring_at
 charstring_is bad c s left is h =
     let word_of : is_word_kind (meant c.read_word) ≡ true = rw is.reads refl in
     let text : h.2.0 ≡ c.separator ∷ (c.bytes ++ left) = h.2.2.1 ∙ ap (λ rest. c.separator ∷ (c.bytes ++ rest)) h.2.2.2 in
-    rw (wanted_is bad s c.count h.0 h.1, natural_is bad 65535 (length c.bytes) c.count is.counted is.short, wanted_is bad h.0 c.read_word h.2.0 h.2.1, word_of, text, raw_is c.separator c.bytes left) refl
+    rw (
+      wanted_is bad s c.count h.0 h.1,
+      natural_is bad 65535 (length c.bytes) c.count is.counted is.short,
+      wanted_is bad h.0 c.read_word h.2.0 h.2.1,
+      word_of,
+      text,
+      raw_is c.separator c.bytes left,
+    ) refl
 
 -- A name is a plain key or no name of another meaning.
 pub is_other : (key_of : List ℕ → Option Key) (text other : List ℕ) (k : Key) → key_of other ≡ None → key_of text ≡ Some k → same_name text other ≡ false

@@ -9,7 +9,8 @@ use Rattle.t1_io.specs.Devices.{AppendsFront}
 
 -- what went out before a failure is a front
 pub AppendsFront-take : (a b c : Option (List ℕ)) (bytes : List ℕ) (at : ℕ) → Appends a b (take at bytes) → Keeps b c → AppendsFront a c bytes
-AppendsFront-take a b c bytes at before kept = (take at bytes, (drop at bytes, (sym (take-append-drop at bytes), Appends-kept a b c (take at bytes) before kept)))
+AppendsFront-take a b c bytes at before kept =
+    (take at bytes, (drop at bytes, (sym (take-append-drop at bytes), Appends-kept a b c (take at bytes) before kept)))
 
 -- a list up to an element, that element, and what follows it
 pub flat_map-split : {X : Type 0} (f : X → List ℕ) (xs : List X) (i : ℕ) (d : X) → i < length xs

@@ -58,7 +58,17 @@ pub PutFailed-second : (a b c : SinkState) (x y : List ℕ) → Wrote a b x → 
 PutFailed-second a b c x y before broke =
     let (front, (rest, (split, out))) = broke.front in
     record {
-      front = (x ++ front, (rest, (ap (λ (l : List ℕ). x ++ l) split ∙ sym (append_assoc x front rest), Appends-trans a.written b.written c.written x front before.bytes out)));
+      front = (
+        x ++ front,
+        (
+          rest,
+          (
+            ap (λ (l : List ℕ). x ++ l) split ∙ sym (append_assoc x front rest),
+            Appends-trans a.written b.written
+                c.written x front before.bytes out,
+          ),
+        ),
+      );
       flushes = broke.flushes ∙ before.flushes;
       failed_puts = broke.failed_puts ∙ ap one_more before.failed_puts;
       failed = broke.failed;

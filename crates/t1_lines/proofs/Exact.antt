@@ -80,7 +80,8 @@ place-written font waivers fault names there =
             let at = waiver-of-fault font waivers fault names there is in
             let found = at.found in
             rw (e, is, found) (ap (λ t. codes "waiver " ++ t) (key-written at.waiver.0 (code_of at.waiver.1) (rule_part fault))))
-        | inr is ↦ rw (e, is) (ap (λ t. codes "glyph " ++ t) (glyph-written (glyph_name font (fault.unit - 1)) (path_text fault.path) (decimal fault.step) (rule_part fault)))
+        | inr is ↦ rw (e, is) (ap (λ t. codes "glyph " ++ t)
+            (glyph-written (glyph_name font (fault.unit - 1)) (path_text fault.path) (decimal fault.step) (rule_part fault)))
       ]
     ]
 

@@ -112,7 +112,8 @@ font-told number text l e =
     cut-joined 32 p.1 q cut_index ∙ ap (λ w. w ++ (32 ∷ q.1)) (sym index_told.1) ∙ ap (λ t. decimal index ++ (32 ∷ t)) (rule-told q.1 rule is_rule) in
     let all : text ≡ key_text_of key ++ (32 ∷ (decimal index ++ (32 ∷ (code_of rule ++ (32 ∷ text_of rule))))) =
     cut-joined 32 text p cut_key ∙ ap (λ w. w ++ (32 ∷ p.1)) (sym key_told.1) ∙ ap (λ t. key_text_of key ++ (32 ∷ t)) behind in
-    subst (IsTold number (codes "font" ++ (32 ∷ text))) whole (record { number = refl; place = (key_told.0, index_told.0); text = ap (λ t. codes "font" ++ (32 ∷ t)) all }))))))
+    subst (IsTold number (codes "font" ++ (32 ∷ text))) whole
+    (record { number = refl; place = (key_told.0, index_told.0); text = ap (λ t. codes "font" ++ (32 ∷ t)) all }))))))
 
 name-told : (word name : List ℕ) → name_read word ≡ Some name → (word ≡ name) × (list_all is_regular name ≡ true)
 name-told word name e =

@@ -73,7 +73,8 @@ start_within marks = All-nil Named
 
 clear_within : (marks : Marks) (s : List ℕ) → IfOk (clear_of marks s) (Within marks)
 unfolding clear_of
-clear_within marks s = either (Within marks) (begins_as_font s) (stated_within clear_turn NoEexec marks (suc (length s)) [] clear_modes.Outside s) (Err NoEexec) (text_within clear_turn NoEexec marks clear_fits (suc (length s)) [] clear_modes.Outside s (start_within marks)) tt
+clear_within marks s = either (Within marks) (begins_as_font s) (stated_within clear_turn NoEexec marks (suc (length s)) [] clear_modes.Outside s) (Err NoEexec)
+    (text_within clear_turn NoEexec marks clear_fits (suc (length s)) [] clear_modes.Outside s (start_within marks)) tt
 
 private_within : (marks : Marks) (before : List Stated) (s : List ℕ) → HasNames (value_of marks before) → IfOk (private_of marks before s) (Within marks)
 unfolding private_of
@@ -86,7 +87,8 @@ value_within marks (Err e) w = tt
 pub fonts_have_names : FontsHaveNames
 fonts_have_names marks text private_text clear v first second =
     let start : Within marks clear = rw first at (clear_within marks text) in
-    let after : HasNames v = rw second at (value_within marks (private_of marks clear.stated private_text) (private_within marks clear.stated private_text start)) in
+    let after : HasNames v = rw second at (value_within marks (private_of marks clear.stated private_text)
+    (private_within marks clear.stated private_text start)) in
     after
 
 name_at : (glyphs : List (List ℕ × List ℕ)) (i : ℕ) → All Named glyphs → IsTrue (list_all is_regular (name_in (slice_get glyphs i)))

@@ -51,7 +51,8 @@ module _ (v : FontValue) where
   unfolding subrs_at
   subrs_at_fits s =
       next (Keeps v) (wanted BadSubrs s) _ (λ t.
-      let counted : IfOk (natural BadSubrs 65535 t.kind >>= λ count. past_word BadSubrs (codes "array") t.rest >>= λ left. Ok (goes (Some (size count)) Subrs left)) (Keeps v) =
+      let counted : IfOk (natural BadSubrs 65535 t.kind >>= λ count. past_word BadSubrs (codes "array") t.rest >>= λ left. Ok
+      (goes (Some (size count)) Subrs left)) (Keeps v) =
       next (Keeps v) (natural BadSubrs 65535 t.kind) _ (λ count.
       next (Keeps v) (past_word BadSubrs (codes "array") t.rest) (λ left. Ok (goes (Some (size count)) Subrs left)) (λ left. tt)) in
       search (rules, either, counted))
@@ -118,7 +119,8 @@ module _ (v : FontValue) where
   unfolding private_turn
   private_fits Outside s = next (Keeps v) (wanted BadCharStrings s) _ (λ t. private_outside_fits t.kind t.text t.rest)
   private_fits Subrs s = next (Keeps v) (wanted BadCharStrings s) _ (λ t. subrs_token_fits t.kind t.text t.rest)
-  private_fits Glyphs s = bind NamedFound (Keeps v) (wanted BadCharStrings s) _ (wanted_named BadCharStrings s) (λ t named. glyphs_token_fits t.kind t.text t.rest named)
+  private_fits Glyphs s = bind NamedFound (Keeps v) (wanted BadCharStrings s) _ (wanted_named BadCharStrings s)
+      (λ t named. glyphs_token_fits t.kind t.text t.rest named)
 
   clear_value_fits : (k : Option Key) (s : List ℕ) → IfOk (clear_value k s) (Keeps v)
   unfolding clear_value
@@ -163,7 +165,8 @@ module _ (v : FontValue) where
       if spells (codes "put") last.kind last.text
       then Some (goes (Some (code_statement number.kind name.text)) clear_modes.Codes last.rest) else None) tt
       (glance (Keeps v) (token_ahead name.rest) _ (λ last.
-      which (Keeps v) (spells (codes "put") last.kind last.text) (Some (goes (Some (code_statement number.kind name.text)) clear_modes.Codes last.rest)) None (code_statement_fits number.kind name.text) tt)))))
+      which (Keeps v) (spells (codes "put") last.kind last.text) (Some (goes (Some (code_statement number.kind name.text)) clear_modes.Codes last.rest)) None
+      (code_statement_fits number.kind name.text) tt)))))
 
   code_turn_fits : (s : List ℕ) → Keeps v (code_turn s)
   unfolding code_turn

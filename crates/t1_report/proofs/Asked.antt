@@ -65,7 +65,8 @@ all_turns font unit n (suc turns) quiet =
     one_turn_more font unit n turns ∙ rw (none_below font unit (suc turns) n quiet) (omega (arith, before))
 
 -- Else those up to the first step that does.
-pub turns_to_first : (font : CheckedFont) (unit n first turns : ℕ) → ((s : ℕ) → s < first → is_broken font unit s n ≡ false) → is_broken font unit first n ≡ true → first ≤ turns → turns_up_to font unit n turns ≡ first
+pub turns_to_first : (font : CheckedFont) (unit n first turns : ℕ) → ((s : ℕ) → s < first → is_broken font unit s n ≡ false) → is_broken font unit first n
+    ≡ true → first ≤ turns → turns_up_to font unit n turns ≡ first
 turns_to_first font unit n first zero quiet broken within = all_turns font unit n zero (λ s less. absurd (omega (arith, less))) ∙ omega (arith, within)
 turns_to_first font unit n first (suc turns) quiet broken within =
     elim (cases_lt first (suc turns)) [
@@ -75,7 +76,8 @@ turns_to_first font unit n first (suc turns) quiet broken within =
           all_turns font unit n (suc turns) (λ s less. quiet s (omega (arith, less, here))) ∙ sym here
     ]
   where
-    one_more : (first turns : ℕ) → first < suc turns → is_broken font unit first n ≡ true → turns_up_to font unit n turns ≡ first → turns_up_to font unit n (suc turns) ≡ first
+    one_more : (first turns : ℕ) → first < suc turns → is_broken font unit first n ≡ true → turns_up_to font unit n turns ≡ first
+        → turns_up_to font unit n (suc turns) ≡ first
     one_more first turns less broken so_far =
         one_turn_more font unit n turns ∙ rw (some_below font unit (suc turns) n first less broken) (omega (arith, so_far))
 
@@ -102,10 +104,12 @@ few_of_waiver font w = few_for font _ _
 pub first_before : (font : CheckedFont) (waivers : List Waiver) (from first : ℕ) → from < length font.value.glyphs + 1 → first_asked font waivers from first ≡ 0
 first_before font waivers from first less = rw (lt-ltb from (length font.value.glyphs + 1) less) refl
 
-pub first_at : (font : CheckedFont) (waivers : List Waiver) (from first : ℕ) → from ≡ length font.value.glyphs + 1 → first_asked font waivers from first ≡ first - 1
+pub first_at : (font : CheckedFont) (waivers : List Waiver) (from first : ℕ) → from ≡ length font.value.glyphs + 1
+    → first_asked font waivers from first ≡ first - 1
 first_at font waivers from first at = rw (le-ltb from (length font.value.glyphs + 1) (omega (arith, at)), eq-eqb from (length font.value.glyphs + 1) at) refl
 
-pub first_behind : (font : CheckedFont) (waivers : List Waiver) (from first : ℕ) → length font.value.glyphs + 1 < from → first_asked font waivers from first ≡ length waivers
+pub first_behind : (font : CheckedFont) (waivers : List Waiver) (from first : ℕ) → length font.value.glyphs + 1 < from
+    → first_asked font waivers from first ≡ length waivers
 first_behind font waivers from first past =
     rw (le-ltb from (length font.value.glyphs + 1) (omega (arith, past)), ne_eqb from (length font.value.glyphs + 1) (λ e. omega (arith, e, past))) refl
 
@@ -113,12 +117,14 @@ first_behind font waivers from first past =
 no_sum : {X : Type 0} (f : X → ℕ) (xs : List X) (a b : ℕ) → b ≤ a → sum_by f (slice_range xs a b) ≡ 0
 no_sum f xs a b near = let none : b - a ≡ 0 = omega (arith, near) in ap (λ n. sum_by f (take n (drop a xs))) none
 
-pub asked_none : (font : CheckedFont) (waivers : List Waiver) (from first to : ℕ) → to ≤ first_asked font waivers from first → turns_asked font waivers from first to ≡ 0
+pub asked_none : (font : CheckedFont) (waivers : List Waiver) (from first to : ℕ) → to ≤ first_asked font waivers from first
+    → turns_asked font waivers from first to ≡ 0
 unfolding turns_asked
 asked_none font waivers from first to near = no_sum (turns_of_waiver font) waivers (first_asked font waivers from first) to near
 
 -- One waiver more.
-sum_more : {X : Type 0} (f : X → ℕ) (xs : List X) (a b : ℕ) (d : X) → a ≤ b → b < length xs → sum_by f (slice_range xs a (b + 1)) ≡ sum_by f (slice_range xs a b) + f (get_or xs b d)
+sum_more : {X : Type 0} (f : X → ℕ) (xs : List X) (a b : ℕ) (d : X) → a ≤ b → b < length xs → sum_by f (slice_range xs a (b + 1))
+    ≡ sum_by f (slice_range xs a b) + f (get_or xs b d)
 sum_more f xs a b d past within =
     let count : b + 1 - a ≡ b - a + 1 = omega (arith, past) in
     let here : a + (b - a) ≡ b = omega (arith, past) in
@@ -149,7 +155,8 @@ few_sum f most few (x ∷ xs) =
 
 few_in_range : {X : Type 0} (f : X → ℕ) (most : ℕ) (xs : List X) (a b : ℕ) → ((x : X) → f x ≤ most) → sum_by f (slice_range xs a b) ≤ most * b
 few_in_range f most xs a b few =
-    let fewer : most * length (slice_range xs a b) ≤ most * b = mul_mono most (length (slice_range xs a b)) b (omega (arith, length-take (b - a) (drop a xs))) in
+    let fewer : most * length (slice_range xs a b) ≤ most * b = mul_mono most (length (slice_range xs a b)) b
+    (omega (arith, length-take (b - a) (drop a xs))) in
     omega (arith, few_sum f most few (slice_range xs a b), fewer)
 
 pub asked_few : (font : CheckedFont) (waivers : List Waiver) (from first to : ℕ) → turns_asked font waivers from first to ≤ (step_limit font + 1) * to
@@ -161,12 +168,14 @@ asked_few font waivers from first to =
 pub asked_most : (font : CheckedFont) (waivers : List Waiver) (from first to : ℕ) → turns_asked font waivers from first to ≤ 1000001 * to
 unfolding turns_asked
 asked_most font waivers from first to =
-    few_in_range (turns_of_waiver font) 1000001 waivers (first_asked font waivers from first) to (λ w. omega (arith, few_of_waiver font w, limit_few font.edition))
+    few_in_range (turns_of_waiver font) 1000001 waivers (first_asked font waivers from first) to
+    (λ w. omega (arith, few_of_waiver font w, limit_few font.edition))
 
 -- ---- laws
 
 -- A rule is broken within the turns of its glyph.
-first_within : (font : CheckedFont) (glyph n first : ℕ) → is_broken font (suc glyph) first n ≡ true → first ≤ length (take (step_limit font) (steps_of font.value glyph)) + 1
+first_within : (font : CheckedFont) (glyph n first : ℕ) → is_broken font (suc glyph) first n ≡ true
+    → first ≤ length (take (step_limit font) (steps_of font.value glyph)) + 1
 first_within font glyph n first broken =
     elim (cases_lt (length (take (step_limit font + 1) (steps_of font.value glyph))) first) [
       | inl past ↦ absurd (true≢false (sym broken ∙ past_steps font (suc glyph) glyph first n (omega arith) past))
@@ -177,10 +186,13 @@ first_in_turns : (font : CheckedFont) (glyph n first : ℕ) → is_broken font (
 unfolding turns_of_glyph
 first_in_turns font glyph n first broken = first_within font glyph n first broken
 
-pub asked_to_first : (font : CheckedFont) (glyph n first : ℕ) → ((s : ℕ) → s < first → is_broken font (suc glyph) s n ≡ false) → is_broken font (suc glyph) first n ≡ true → turns_for font n (Some glyph) ≡ first
-asked_to_first font glyph n first quiet broken = turns_to_first font (suc glyph) n first (turns_of_glyph font glyph) quiet broken (first_in_turns font glyph n first broken)
+pub asked_to_first : (font : CheckedFont) (glyph n first : ℕ) → ((s : ℕ) → s < first → is_broken font (suc glyph) s n ≡ false)
+    → is_broken font (suc glyph) first n ≡ true → turns_for font n (Some glyph) ≡ first
+asked_to_first font glyph n first quiet broken = turns_to_first font (suc glyph) n first (turns_of_glyph font glyph) quiet broken
+    (first_in_turns font glyph n first broken)
 
-pub asked_to_end : (font : CheckedFont) (glyph n : ℕ) → ((s : ℕ) → is_broken font (suc glyph) s n ≡ false) → turns_for font n (Some glyph) ≡ turns_of_glyph font glyph
+pub asked_to_end : (font : CheckedFont) (glyph n : ℕ) → ((s : ℕ) → is_broken font (suc glyph) s n ≡ false)
+    → turns_for font n (Some glyph) ≡ turns_of_glyph font glyph
 asked_to_end font glyph n quiet = all_turns font (suc glyph) n (turns_of_glyph font glyph) (λ s less. quiet s)
 
 no_range : {X : Type 0} (f : X → ℕ) (a b : ℕ) → sum_by f (slice_range [] a b) ≡ 0

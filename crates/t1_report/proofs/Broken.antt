@@ -35,7 +35,8 @@ unfolding path_in
 no_path font step = refl
 
 -- past the places of a key, up to the next key
-pub past_key : (font : CheckedFont) (key step n : ℕ) → 65536 * key + places_of font.value key ≤ step → step < 65536 * (key + 1) → is_broken font 0 step n ≡ false
+pub past_key : (font : CheckedFont) (key step n : ℕ) → 65536 * key + places_of font.value key ≤ step → step < 65536 * (key + 1)
+    → is_broken font 0 step n ≡ false
 unfolding is_broken
 past_key font key step n past less =
     let at : step / 65536 ≡ key = omega arith in
@@ -68,11 +69,13 @@ at_step font unit step glyph i n at place there =
     let step_is : step ≡ suc i = omega arith in
     ap (λ (u : ℕ). is_broken font u step n) unit_is ∙ ap (λ (s : ℕ). is_broken font (suc glyph) s n) step_is ∙ by_place font glyph i n there
 
-path_by_place : (font : FontValue) (glyph i : ℕ) → glyph < length font.glyphs → path_in font (suc glyph) (suc i) ≡ path_of_step (slice_get (steps_of font glyph) i)
+path_by_place : (font : FontValue) (glyph i : ℕ) → glyph < length font.glyphs → path_in font (suc glyph) (suc i) ≡ path_of_step
+    (slice_get (steps_of font glyph) i)
 unfolding path_in
 path_by_place font glyph i there = rw (less_is glyph (length font.glyphs) there) refl
 
-pub path_at_step : (font : FontValue) (unit step glyph i : ℕ) → unit ≡ glyph + 1 → step ≡ i + 1 → glyph < length font.glyphs → path_in font unit step ≡ path_of_step (slice_get (steps_of font glyph) i)
+pub path_at_step : (font : FontValue) (unit step glyph i : ℕ) → unit ≡ glyph + 1 → step ≡ i + 1 → glyph < length font.glyphs
+    → path_in font unit step ≡ path_of_step (slice_get (steps_of font glyph) i)
 path_at_step font unit step glyph i at place there =
     let unit_is : unit ≡ suc glyph = omega arith in
     let step_is : step ≡ suc i = omega arith in
@@ -105,7 +108,8 @@ past_limit limit table n steps i past = rw (not_less i limit (omega (arith, past
 
 -- nor past the last step
 pub past_last_step : (limit : ℕ) (table : List StepRule) (n : ℕ) (steps : List StepView) (i : ℕ) → length steps ≤ i → step_breaks limit table n steps i ≡ false
-past_last_step limit table n steps i past = rw (slice_get_past steps i past, not_less i (length steps) past) (by_place (nat_lt i limit) (i == limit) (number_of L01 == n))
+past_last_step limit table n steps i past = rw (slice_get_past steps i past, not_less i (length steps) past)
+    (by_place (nat_lt i limit) (i == limit) (number_of L01 == n))
   where
     by_place : (before at is : Bool) → cond before false ((at && false) && is) ≡ false
     by_place true at is = refl
@@ -123,13 +127,15 @@ by_limit font glyph i n past =
     ])
     ∙ and-false _
 
-behind : (font : CheckedFont) (glyph step n : ℕ) → length (take (step_limit font + 1) (steps_of font.value glyph)) < step → is_broken font (suc glyph) step n ≡ false
+behind : (font : CheckedFont) (glyph step n : ℕ) → length (take (step_limit font + 1) (steps_of font.value glyph)) < step
+    → is_broken font (suc glyph) step n ≡ false
 unfolding is_broken
 behind font glyph zero n past = absurd (omega arith)
 behind font glyph (suc i) n past = by_limit font glyph i n (omega arith)
 
 -- nor past the last step
-pub past_steps : (font : CheckedFont) (unit glyph step n : ℕ) → unit ≡ glyph + 1 → length (take (step_limit font + 1) (steps_of font.value glyph)) < step → is_broken font unit step n ≡ false
+pub past_steps : (font : CheckedFont) (unit glyph step n : ℕ) → unit ≡ glyph + 1 → length (take (step_limit font + 1) (steps_of font.value glyph)) < step
+    → is_broken font unit step n ≡ false
 past_steps font unit glyph step n at past =
     let unit_is : unit ≡ suc glyph = omega arith in
     ap (λ (u : ℕ). is_broken font u step n) unit_is ∙ behind font glyph step n past
@@ -142,16 +148,19 @@ past_glyphs font (suc glyph) zero n past = refl
 past_glyphs font (suc glyph) (suc i) n past = rw (not_less glyph (length font.value.glyphs) (omega arith)) refl
 
 -- The rules of a font, by what its components are.
-pub rules_by : (font : CheckedFont) (components : List Component) → components ≡ components_of (step_limit font) font.value → charstring_rules font.edition components ≡ rules_of font
+pub rules_by : (font : CheckedFont) (components : List Component) → components ≡ components_of (step_limit font) font.value
+    → charstring_rules font.edition components ≡ rules_of font
 unfolding rules_of
 rules_by font components are = ap (charstring_rules font.edition) are
 
 -- Up to the limit a step breaks what the rules say of it.
-pub within_limit : (limit : ℕ) (table : List StepRule) (n : ℕ) (steps : List StepView) (i : ℕ) → i < limit → step_breaks limit table n steps i ≡ breaks_at table n steps i
+pub within_limit : (limit : ℕ) (table : List StepRule) (n : ℕ) (steps : List StepView) (i : ℕ) → i < limit
+    → step_breaks limit table n steps i ≡ breaks_at table n steps i
 within_limit limit table n steps i less = rw (less_is i limit less) refl
 
 -- At the limit it breaks the rule on that alone, where there is a step.
-pub at_limit : (limit : ℕ) (table : List StepRule) (n : ℕ) (steps : List StepView) (i : ℕ) → i ≡ limit → step_breaks limit table n steps i ≡ (nat_lt limit (length steps) && number_of L01 == n)
+pub at_limit : (limit : ℕ) (table : List StepRule) (n : ℕ) (steps : List StepView) (i : ℕ) → i ≡ limit → step_breaks limit table n steps i
+    ≡ (nat_lt limit (length steps) && number_of L01 == n)
 at_limit limit table n steps i at = ap (step_breaks limit table n steps) at ∙ rw (not_less limit limit (omega arith), eq-eqb limit limit refl) refl
 
 -- What the last of some steps breaks is what it breaks among all of them: those behind it have no say.
@@ -159,7 +168,8 @@ last_there : (before : List StepView) (step : StepView) → slice_get (before ++
 last_there [] step = refl
 last_there (s ∷ before) step = last_there before step
 
-pub breaks_last : (table : List StepRule) (n : ℕ) (before : List StepView) (step : StepView) → breaks_at table n (before ++ step ∷ []) (length before) ≡ breaks table n before step
+pub breaks_last : (table : List StepRule) (n : ℕ) (before : List StepView) (step : StepView) → breaks_at table n (before ++ step ∷ [])
+    (length before) ≡ breaks table n before step
 breaks_last table n before step = rw (take-append_seam before (step ∷ []), last_there before step) refl
 
 pub so_far_decides : (limit : ℕ) (table : List StepRule) (n : ℕ) (all : List StepView) (i : ℕ) (step : StepView) → slice_get all i ≡ Some step
@@ -173,7 +183,10 @@ so_far_decides limit table n all i step there =
     rw (at, less_is (length (take i all)) (length (take i all ++ step ∷ [])) (omega (arith, more)), long, less_is i (length all) within) refl
 
 -- The rules of a glyph's own steps and those on components, joined.
-pub both_kinds : (edition : Edition) (components : List Component) (n : ℕ) (before : List StepView) (step : StepView) (both left right : Bool) → both ≡ (left || right)
-    → left ≡ breaks (step_rules edition) n before step → right ≡ breaks (component_rules components) n before step → both ≡ breaks (charstring_rules edition components) n before step
+pub both_kinds : (edition : Edition) (components : List Component) (n : ℕ) (before : List StepView) (step : StepView) (both left right : Bool)
+    → both ≡ (left || right)
+    → left ≡ breaks (step_rules edition) n before step → right ≡ breaks (component_rules components) n before step
+    → both ≡ breaks (charstring_rules edition components) n before step
 unfolding charstring_rules
-both_kinds edition components n before step both left right is by_left by_right = joined (step_rules edition) (component_rules components) n before step both left right is by_left by_right
+both_kinds edition components n before step both left right is by_left by_right = joined (step_rules edition) (component_rules components) n before step both
+    left right is by_left by_right

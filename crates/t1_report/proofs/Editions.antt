@@ -41,7 +41,8 @@ short_components font usual code glyph letters is = usual.short glyph (named_is_
 -- ---- a step
 
 -- The step there sets no stem of one edge, where none does.
-none_there : (f : StepView → Bool) (steps : List StepView) (place : ℕ) (step : StepView) → list_any f steps ≡ false → slice_get steps place ≡ Some step → f step ≡ false
+none_there : (f : StepView → Bool) (steps : List StepView) (place : ℕ) (step : StepView) → list_any f steps ≡ false → slice_get steps place ≡ Some step
+    → f step ≡ false
 none_there f [] place step none is = let no : None ≡ Some step = is in cc
 none_there f (s ∷ ss) zero step none is =
     let same : s ≡ step = cc in
@@ -65,15 +66,18 @@ by_rules font n steps i step within is =
     ∙ ap (breaks_next (rules_in font.edition font.value) n (take i steps)) is
 
 step_same : (font : FontValue) → IsUsual font → (glyph : ℕ) → glyph < length font.glyphs → (i n : ℕ)
-    → step_breaks (limit_of Two) (rules_of (checked font Two)) n (steps_of font glyph) i ≡ step_breaks (limit_of One) (rules_of (checked font One)) n (steps_of font glyph) i
+    → step_breaks (limit_of Two) (rules_of (checked font Two)) n (steps_of font glyph) i ≡ step_breaks (limit_of One)
+    (rules_of (checked font One)) n (steps_of font glyph) i
 step_same font usual glyph there i n =
     let steps : List StepView = steps_of font glyph in
     elim (slice_get_cases steps i).1 [
-      | inr (past, none) ↦ past_last_step (limit_of Two) (rules_of (checked font Two)) n steps i past ∙ sym (past_last_step (limit_of One) (rules_of (checked font One)) n steps i past)
+      | inr (past, none) ↦ past_last_step (limit_of Two) (rules_of (checked font Two)) n steps i past
+          ∙ sym (past_last_step (limit_of One) (rules_of (checked font One)) n steps i past)
       | inl (step, less, is, at) ↦
           let few : length steps ≤ 100000 = usual.short glyph there in
           by_rules (checked font Two) n steps i step (omega (arith, less, few)) is
-          ∙ agree_on_usual_steps font (short_components font usual) n (take i steps) step (none_taken sets_one_edge steps i (usual.wide glyph there)) (none_there sets_one_edge steps i step (usual.wide glyph there) is)
+          ∙ agree_on_usual_steps font (short_components font usual) n (take i steps) step (none_taken sets_one_edge steps i (usual.wide glyph there))
+          (none_there sets_one_edge steps i step (usual.wide glyph there) is)
           ∙ sym (by_rules (checked font One) n steps i step (omega (arith, less, few)) is)
     ]
 
@@ -98,19 +102,22 @@ broken_same font usual (suc glyph) (suc i) n = go (nat_lt glyph (length font.gly
 past_steps : (font : CheckedFont) (glyph i n : ℕ) → length (steps_of font.value glyph) ≤ i → is_broken font (suc glyph) (suc i) n ≡ false
 unfolding is_broken
 past_steps font glyph i n past =
-    ap (λ (b : Bool). nat_lt glyph (length font.value.glyphs) && b) (past_last_step (limit_of font.edition) (rules_of font) n (steps_of font.value glyph) i past)
+    ap (λ (b : Bool). nat_lt glyph (length font.value.glyphs) && b)
+    (past_last_step (limit_of font.edition) (rules_of font) n (steps_of font.value glyph) i past)
     ∙ and-false (nat_lt glyph (length font.value.glyphs))
 
 past_last : (font : CheckedFont) (glyph s n : ℕ) → length (steps_of font.value glyph) < s → is_broken font (suc glyph) s n ≡ false
 past_last font glyph zero n past = absurd (omega (arith, past))
 past_last font glyph (suc i) n past = past_steps font glyph i n (omega (arith, past))
 
-below_same : (font other : CheckedFont) (unit n : ℕ) → ((s : ℕ) → is_broken font unit s n ≡ is_broken other unit s n) → (count : ℕ) → is_broken_below font unit count n ≡ is_broken_below other unit count n
+below_same : (font other : CheckedFont) (unit n : ℕ) → ((s : ℕ) → is_broken font unit s n ≡ is_broken other unit s n) → (count : ℕ)
+    → is_broken_below font unit count n ≡ is_broken_below other unit count n
 unfolding is_broken_below
 below_same font other unit n same zero = refl
 below_same font other unit n same (suc s) = rw (same s, below_same font other unit n same s) refl
 
-below_past : (font : CheckedFont) (unit n count : ℕ) → ((s : ℕ) → count ≤ s → is_broken font unit s n ≡ false) → (more : ℕ) → is_broken_below font unit (more + count) n ≡ is_broken_below font unit count n
+below_past : (font : CheckedFont) (unit n count : ℕ) → ((s : ℕ) → count ≤ s → is_broken font unit s n ≡ false) → (more : ℕ)
+    → is_broken_below font unit (more + count) n ≡ is_broken_below font unit count n
 unfolding is_broken_below
 below_past font unit n count none zero = ap (λ s. is_broken_below font unit s n) (let same : 0 + count ≡ count = omega arith in same)
 below_past font unit n count none (suc more) =
@@ -126,7 +133,8 @@ used_same font usual w = go (glyph_named font w.0) (λ glyph is. named_is_there 
     n : ℕ
     n = number_of w.1
 
-    go : (found : Option ℕ) → ((glyph : ℕ) → found ≡ Some glyph → glyph < length font.glyphs) → is_used_by (checked font Two) n found ≡ is_used_by (checked font One) n found
+    go : (found : Option ℕ) → ((glyph : ℕ) → found ≡ Some glyph → glyph < length font.glyphs) → is_used_by (checked font Two) n found
+        ≡ is_used_by (checked font One) n found
     go None there = refl
     go (Some glyph) there =
         let few : length (steps_of font glyph) ≤ 100000 = usual.short glyph (there glyph refl) in
@@ -135,7 +143,8 @@ used_same font usual w = go (glyph_named font w.0) (λ glyph is. named_is_there 
         ∙ below_past (checked font Two) (suc glyph) n 100002 (λ s past. past_last (checked font Two) glyph s n (omega (arith, few, past))) 900000
         ∙ below_same (checked font Two) (checked font One) (suc glyph) n (λ s. broken_same font usual (suc glyph) s n) 100002
 
-unused_same : (font : FontValue) → IsUsual font → (waivers : List Waiver) (step n : ℕ) → tells_unused (checked font Two) waivers step n ≡ tells_unused (checked font One) waivers step n
+unused_same : (font : FontValue) → IsUsual font → (waivers : List Waiver) (step n : ℕ) → tells_unused (checked font Two) waivers step n ≡ tells_unused
+    (checked font One) waivers step n
 unused_same font usual waivers zero n = refl
 unused_same font usual waivers (suc i) n = ap (λ b. number_of U01 == n && b) (go (slice_get waivers i))
   where
@@ -145,7 +154,8 @@ unused_same font usual waivers (suc i) n = ap (λ b. number_of U01 == n && b) (g
 
 -- ---- the report
 
-told_same : (font : FontValue) → IsUsual font → (waivers : List Waiver) (unit step n : ℕ) → is_told (checked font Two) waivers unit step n ≡ is_told (checked font One) waivers unit step n
+told_same : (font : FontValue) → IsUsual font → (waivers : List Waiver) (unit step n : ℕ) → is_told (checked font Two) waivers unit step n
+    ≡ is_told (checked font One) waivers unit step n
 unfolding is_told
 told_same font usual waivers zero step n = broken_same font usual 0 step n
 told_same font usual waivers (suc glyph) step n = go (glyph == length font.glyphs)

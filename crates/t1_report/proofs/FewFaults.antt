@@ -85,7 +85,8 @@ few_rising : (width units : ℕ) (faults : List FaultValue) → IsRising faults
 few_rising width units [] rising within = omega arith
 few_rising width units (first ∷ rest) rising within =
     count_below (λ (i : ℕ). ordinal_of width (slice_index_or (first ∷ rest) i first)) (length (first ∷ rest)) (joined 71 (joined width units 0) 0)
-    (λ i j before less. fault_rises width (slice_index_or (first ∷ rest) i first) (slice_index_or (first ∷ rest) j first) (within i first (omega arith)).1 (rising i j first before less))
+    (λ i j before less. fault_rises width (slice_index_or (first ∷ rest) i first) (slice_index_or (first ∷ rest) j first) (within i first (omega arith)).1
+    (rising i j first before less))
     (λ i less. let low = within i first less in fault_below width units (slice_index_or (first ∷ rest) i first) low.0 low.1)
 
 -- ---- the places of a font
@@ -93,7 +94,8 @@ few_rising width units (first ∷ rest) rising within =
 many_steps : (limit step : ℕ) (steps : List StepView) → limit + 1 < step → length (take (limit + 1) steps) < step
 many_steps limit step steps past = let count = length-take (limit + 1) steps in omega (arith, count)
 
-step_few : (width : ℕ) (font : CheckedFont) (unit step n : ℕ) → 65536 * 22 ≤ width → step_limit font + 1 < width → is_broken font unit step n ≡ true → step < width
+step_few : (width : ℕ) (font : CheckedFont) (unit step n : ℕ) → 65536 * 22 ≤ width → step_limit font + 1 < width → is_broken font unit step n ≡ true
+    → step < width
 step_few width font zero step n keys steps is =
     elim (cases_lt step width) [
       | inl less ↦ less
@@ -102,10 +104,12 @@ step_few width font zero step n keys steps is =
 step_few width font (suc glyph) step n keys steps is =
     elim (cases_lt step width) [
       | inl less ↦ less
-      | inr past ↦ absurd (true≢false (sym is ∙ past_steps font (suc glyph) glyph step n (omega arith) (many_steps (step_limit font) step (steps_of font.value glyph) (omega arith))))
+      | inr past ↦ absurd (true≢false (sym is ∙ past_steps font (suc glyph) glyph step n (omega arith)
+          (many_steps (step_limit font) step (steps_of font.value glyph) (omega arith))))
     ]
 
-told_few : (width : ℕ) (font : CheckedFont) (waivers : List Waiver) (unit step n : ℕ) → 65536 * 22 ≤ width → step_limit font + 1 < width → length waivers < width → is_told font waivers unit step n ≡ true → (unit < length font.value.glyphs + 2) × (step < width)
+told_few : (width : ℕ) (font : CheckedFont) (waivers : List Waiver) (unit step n : ℕ) → 65536 * 22 ≤ width → step_limit font + 1 < width
+    → length waivers < width → is_told font waivers unit step n ≡ true → (unit < length font.value.glyphs + 2) × (step < width)
 told_few width font waivers unit step n keys steps few is =
     let within = told_within font waivers unit step n is in (
       omega (arith, within),
@@ -127,7 +131,8 @@ told_few width font waivers unit step n keys steps few is =
       | inr behind ↦ told_of_waiver font waivers unit step n (omega (arith, low, behind)) ∙ no_waiver font waivers step n (omega (arith, past, few))
     ]
 
-few_at : (width : ℕ) (font : CheckedFont) (waivers : List Waiver) (faults : List FaultValue) → 65536 * 22 ≤ width → step_limit font + 1 < width → length waivers < width → IsReport font waivers faults
+few_at : (width : ℕ) (font : CheckedFont) (waivers : List Waiver) (faults : List FaultValue) → 65536 * 22 ≤ width → step_limit font + 1 < width
+    → length waivers < width → IsReport font waivers faults
     → length faults ≤ joined 71 (joined width (length font.value.glyphs + 2) 0) 0
 few_at width font waivers faults keys steps few report =
     few_rising width (length font.value.glyphs + 2) faults report.rising
@@ -139,7 +144,8 @@ count_few : (glyphs : ℕ) → glyphs ≤ 65535 → joined 71 (joined (65536 * 2
 unfolding joined
 count_few glyphs few = omega arith
 
-pub few_faults : (font : CheckedFont) (waivers : List Waiver) (faults : List FaultValue) → length font.value.glyphs ≤ 65535 → length waivers ≤ 1048576 → IsReport font waivers faults → length faults < 2 ^ 64
+pub few_faults : (font : CheckedFont) (waivers : List Waiver) (faults : List FaultValue) → length font.value.glyphs ≤ 65535 → length waivers ≤ 1048576
+    → IsReport font waivers faults → length faults < 2 ^ 64
 few_faults font waivers faults few few_waivers report =
     let count = few_at (65536 * 22) font waivers faults (omega arith) (omega (arith, limit_few font.edition)) (omega (arith, few_waivers)) report in
     let below = count_few (length font.value.glyphs) few in

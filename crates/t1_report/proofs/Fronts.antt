@@ -14,7 +14,8 @@ use Rattle.t1_rules.proofs.Lemmas.Book.{one_rule}
 
 -- ---- the order of places
 
-pub comes_on : (u s r u' s' r' u'' s'' r'' : ℕ) → Comes (spot u s r) (spot u' s' r') → Comes (spot u' s' r') (spot u'' s'' r'') → Comes (spot u s r) (spot u'' s'' r'')
+pub comes_on : (u s r u' s' r' u'' s'' r'' : ℕ) → Comes (spot u s r) (spot u' s' r') → Comes (spot u' s' r') (spot u'' s'' r'')
+    → Comes (spot u s r) (spot u'' s'' r'')
 comes_on u s r u' s' r' u'' s'' r'' (inl a) (inl b) = inl (omega arith)
 comes_on u s r u' s' r' u'' s'' r'' (inl a) (inr (b, c)) = inl (omega arith)
 comes_on u s r u' s' r' u'' s'' r'' (inr (a, c)) (inl b) = inl (omega arith)
@@ -79,11 +80,13 @@ rising_last xs f rising before i j d lt within =
     elim (cases_order j (length xs)) [
       | inr (inl less) ↦
           subst (λ (x : FaultValue). IsBefore (place_of x) (place_of (slice_index_or (xs ++ f ∷ []) j d))) (sym (get_or-append xs (f ∷ []) d i (omega arith)))
-          (subst (λ (x : FaultValue). IsBefore (place_of (slice_index_or xs i d)) (place_of x)) (sym (get_or-append xs (f ∷ []) d j less)) (rising i j d lt less))
+          (subst (λ (x : FaultValue). IsBefore (place_of (slice_index_or xs i d)) (place_of x))
+          (sym (get_or-append xs (f ∷ []) d j less)) (rising i j d lt less))
       | inl same ↦
           subst (λ (x : FaultValue). IsBefore (place_of x) (place_of (slice_index_or (xs ++ f ∷ []) j d))) (sym (get_or-append xs (f ∷ []) d i (omega arith)))
           (subst (λ (n : ℕ). IsBefore (place_of (slice_index_or xs i d)) (place_of (slice_index_or (xs ++ f ∷ []) n d))) (sym same)
-          (subst (λ (x : FaultValue). IsBefore (place_of (slice_index_or xs i d)) (place_of x)) (sym (get_or-append_seam xs f [] d)) (before i d (omega arith))))
+          (subst (λ (x : FaultValue). IsBefore (place_of (slice_index_or xs i d)) (place_of x))
+          (sym (get_or-append_seam xs f [] d)) (before i d (omega arith))))
       | inr (inr more) ↦ absurd (omega (arith, l))
     ]
 
@@ -123,7 +126,8 @@ module _ (Violated : Place → Type 0) (path_of : Place → List ℕ) where
   front_on u s r u' s' r' faults front further back = record {
     rising = front.rising;
     violations = front.violations;
-    before = λ k d lt. further (slice_index_or faults k d).unit (slice_index_or faults k d).step (number_of (slice_index_or faults k d).rule) (front.before k d lt);
+    before = λ k d lt. further (slice_index_or faults k d).unit (slice_index_or faults k d).step
+        (number_of (slice_index_or faults k d).rule) (front.before k d lt);
     complete = λ p is before. front.complete p is (back p is before);
     numbered = front.numbered;
   }
@@ -137,7 +141,8 @@ module _ (Violated : Place → Type 0) (path_of : Place → List ℕ) where
         rising = rising_last faults f front.rising front.before;
         violations = all_last (IsViolationOf Violated path_of) faults f front.violations (record { violated = is; path = refl });
         before = all_last (λ fault. Comes (spot fault.unit fault.step (number_of fault.rule)) (spot p.unit p.step (number_of p.rule + 1))) faults f
-            (λ k d lt. comes_on (slice_index_or faults k d).unit (slice_index_or faults k d).step (number_of (slice_index_or faults k d).rule) p.unit p.step (number_of p.rule) p.unit p.step (number_of p.rule + 1)
+            (λ k d lt. comes_on (slice_index_or faults k d).unit (slice_index_or faults k d).step (number_of (slice_index_or faults k d).rule) p.unit p.step
+            (number_of p.rule) p.unit p.step (number_of p.rule + 1)
             (front.before k d lt) (inr (refl, inr (refl, omega arith))))
             (inr (refl, inr (refl, omega arith)));
         complete = λ q broken before. elim (comes_next q.unit q.step (number_of q.rule) p.unit p.step (number_of p.rule) before) [

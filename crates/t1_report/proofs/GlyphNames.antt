@@ -5,7 +5,8 @@ use Rattle.t1_font.specs.Views.{name_pair}
 use Rattle.t1_report.specs.Lines.{name_in}
 
 -- A glyph of the map is one of the font's value.
-pub name_at : (es : List (Bor (List ℕ) × Bor (List ℕ))) (i : ℕ) (name : Bor (List ℕ)) (bytes : Bor (List ℕ)) → Some (name, bytes) ≡ slice_get es i → name.now ≡ name_in (slice_get (map name_pair es) i)
+pub name_at : (es : List (Bor (List ℕ) × Bor (List ℕ))) (i : ℕ) (name : Bor (List ℕ)) (bytes : Bor (List ℕ)) → Some (name, bytes) ≡ slice_get es i
+    → name.now ≡ name_in (slice_get (map name_pair es) i)
 name_at [] i name bytes h = cc
 name_at (e ∷ es) zero name bytes h = ap (λ (o : Option (Bor (List ℕ) × Bor (List ℕ))). elim o [ None ↦ [] | Some p ↦ p.0.now ]) h
 name_at (e ∷ es) (suc i) name bytes h = name_at es i name bytes h

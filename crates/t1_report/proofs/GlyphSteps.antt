@@ -23,7 +23,8 @@ pub record IsListed (limit : ℕ) (all : List StepView) (place : ℕ) (step : St
 with_number : ℕ → StepView → NumberedStep
 with_number n s = record { number = n; step = s }
 
-numbered_at : (n : ℕ) (ss : List StepView) (i : ℕ) (d : NumberedStep) → i < length ss → slice_index_or (numbered n ss) i d ≡ with_number (n + i) (slice_index_or ss i d.step)
+numbered_at : (n : ℕ) (ss : List StepView) (i : ℕ) (d : NumberedStep) → i < length ss → slice_index_or (numbered n ss) i d ≡ with_number
+    (n + i) (slice_index_or ss i d.step)
 unfolding with_number
 numbered_at n [] i d less = absurd (omega arith)
 numbered_at n (s ∷ ss) zero d less = ap (λ (m : ℕ). with_number m s) (omega arith)
@@ -34,18 +35,22 @@ length-numbered : (n : ℕ) (ss : List StepView) → length (numbered n ss) ≡ 
 length-numbered n [] = refl
 length-numbered n (s ∷ ss) = ap (λ (m : ℕ). suc m) (length-numbered (n + 1) ss)
 
-counted : (font : CheckedFont) (glyph : ℕ) (steps : List Step) → map step_value steps ≡ first_steps (step_limit font) font.value glyph → length steps ≡ length (take (step_limit font + 1) (steps_of font.value glyph))
+counted : (font : CheckedFont) (glyph : ℕ) (steps : List Step) → map step_value steps ≡ first_steps (step_limit font) font.value glyph
+    → length steps ≡ length (take (step_limit font + 1) (steps_of font.value glyph))
 unfolding first_steps
-counted font glyph steps is = sym (length-map steps step_value) ∙ ap (λ (l : List NumberedStep). length l) is ∙ length-numbered 1 (take (step_limit font + 1) (steps_of font.value glyph))
+counted font glyph steps is = sym (length-map steps step_value) ∙ ap (λ (l : List NumberedStep). length l) is
+    ∙ length-numbered 1 (take (step_limit font + 1) (steps_of font.value glyph))
 
-value_at : (font : CheckedFont) (glyph : ℕ) (steps : List Step) → map step_value steps ≡ first_steps (step_limit font) font.value glyph → (i : ℕ) (d : Step) → i < length (take (step_limit font + 1) (steps_of font.value glyph))
+value_at : (font : CheckedFont) (glyph : ℕ) (steps : List Step) → map step_value steps ≡ first_steps (step_limit font) font.value glyph → (i : ℕ) (d : Step)
+    → i < length (take (step_limit font + 1) (steps_of font.value glyph))
     → step_value (slice_index_or steps i d) ≡ with_number (1 + i) (slice_index_or (take (step_limit font + 1) (steps_of font.value glyph)) i (step_view d))
 unfolding first_steps
 value_at font glyph steps is i d less =
     sym (get_or-map step_value steps i d) ∙ ap (λ (l : List NumberedStep). slice_index_or l i (step_value d)) is
     ∙ numbered_at 1 (take (step_limit font + 1) (steps_of font.value glyph)) i (step_value d) less
 
-pub listed_at : (font : CheckedFont) (glyph : ℕ) (steps : List Step) → map step_value steps ≡ first_steps (step_limit font) font.value glyph → (i : ℕ) → i < length steps → (step : Step) → step ≡ slice_index_or steps i step
+pub listed_at : (font : CheckedFont) (glyph : ℕ) (steps : List Step) → map step_value steps ≡ first_steps (step_limit font) font.value glyph → (i : ℕ)
+    → i < length steps → (step : Step) → step ≡ slice_index_or steps i step
     → IsListed (step_limit font) (steps_of font.value glyph) i step
 unfolding with_number
 listed_at font glyph steps is i less step at =
@@ -71,14 +76,16 @@ pub length-before : (all : List StepView) (i : ℕ) (s : StepView) → slice_get
 length-before all i s at = let within = slice_get_within all i s at in length-take-le i all (omega arith)
 
 -- Behind the listed steps nothing is broken.
-pub none_behind : (font : CheckedFont) (unit glyph : ℕ) (steps : List Step) → unit ≡ glyph + 1 → map step_value steps ≡ first_steps (step_limit font) font.value glyph
+pub none_behind : (font : CheckedFont) (unit glyph : ℕ) (steps : List Step) → unit ≡ glyph + 1
+    → map step_value steps ≡ first_steps (step_limit font) font.value glyph
     → (step n : ℕ) → length steps + 1 ≤ step → is_broken font unit step n ≡ false
 none_behind font unit glyph steps at is step n past =
     let count = counted font glyph steps is in
     past_steps font unit glyph step n at (omega (arith, count))
 
 -- The step at a place is the next one for watchers that have seen those before it.
-pub is_next : (edition : Edition) (all : List StepView) (watches : Watches) (place : ℕ) (step : Step) → IsListed (limit_of edition) all place step → HaveSeen edition watches (take place all) → IsNextStep edition watches (take place all) step
+pub is_next : (edition : Edition) (all : List StepView) (watches : Watches) (place : ℕ) (step : Step) → IsListed (limit_of edition) all place step
+    → HaveSeen edition watches (take place all) → IsNextStep edition watches (take place all) step
 is_next edition all watches place step is seen =
     let before = length-before all place (step_view step) is.there in
     record {
@@ -88,6 +95,7 @@ is_next edition all watches place step is seen =
     }
 
 -- The same by another name of the edition.
-pub is_next_by : (named edition : Edition) → named ≡ edition → (all : List StepView) (watches : Watches) (place : ℕ) (step : Step) → IsListed (limit_of edition) all place step → HaveSeen edition watches (take place all) → IsNextStep named watches (take place all) step
+pub is_next_by : (named edition : Edition) → named ≡ edition → (all : List StepView) (watches : Watches) (place : ℕ) (step : Step)
+    → IsListed (limit_of edition) all place step → HaveSeen edition watches (take place all) → IsNextStep named watches (take place all) step
 is_next_by named edition same all watches place step is seen =
     subst (λ e. IsNextStep e watches (take place all) step) (sym same) (is_next edition all watches place step is seen)

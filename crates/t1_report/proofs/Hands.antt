@@ -43,38 +43,46 @@ hand_begun s found mark none unit behind =
 abbrev place : ℕ → ℕ → Rule → Place
 place u t r = record { unit = u; step = t; rule = r }
 
-in_hand_later : (s : Search) (found : Found) (mark : Mark) (floor : ℕ) (rule : Rule) → HasInHand s found mark → IsFloor mark found.unit found.step floor → IsLeastAbove found.rules floor rule
-    → (p : Place) → IsTold (checked_in s) s.waivers.now p → IsLater mark p → (place found.unit found.step rule ≡ p) ⊎ Comes (spot found.unit found.step (number_of rule)) (spot_of p)
+in_hand_later : (s : Search) (found : Found) (mark : Mark) (floor : ℕ) (rule : Rule) → HasInHand s found mark → IsFloor mark found.unit found.step floor
+    → IsLeastAbove found.rules floor rule
+    → (p : Place) → IsTold (checked_in s) s.waivers.now p → IsLater mark p → (place found.unit found.step rule ≡ p)
+    ⊎ Comes (spot found.unit found.step (number_of rule)) (spot_of p)
 in_hand_later s found mark floor rule hand is_floor least p is later = by_kind (hand.complete p is later)
   where
     ordered : IsInHand found p → (place found.unit found.step rule ≡ p) ⊎ Comes (spot found.unit found.step (number_of rule)) (spot_of p)
     ordered (unit, step, there) =
         let above : floor < number_of p.rule =
         is_floor.below (number_of p.rule) (in_book p.rule).0
-        (subst (λ u. Comes (spot mark.unit mark.step mark.rule) (spot u found.step (number_of p.rule))) unit (subst (λ t. Comes (spot mark.unit mark.step mark.rule) (spot p.unit t (number_of p.rule))) step later)) in
+        (subst (λ u. Comes (spot mark.unit mark.step mark.rule) (spot u found.step (number_of p.rule))) unit
+        (subst (λ t. Comes (spot mark.unit mark.step mark.rule) (spot p.unit t (number_of p.rule))) step later)) in
         elim (cases_lt (number_of p.rule) (number_of rule)) [
           | inl less ↦ absurd (true≢false (sym there ∙ least.least (number_of p.rule) above less))
           | inr past ↦ elim (cases_lt (number_of rule) (number_of p.rule)) [
             | inl more ↦ inr (inr (sym unit, inr (sym step, more)))
-            | inr near ↦ inl (ap (λ u. place u found.step rule) (sym unit) ∙ ap (λ t. place p.unit t rule) (sym step) ∙ ap (λ r. place p.unit p.step r) (one_rule rule p.rule (omega (arith, past, near))))
+            | inr near ↦ inl (ap (λ u. place u found.step rule) (sym unit) ∙ ap (λ t. place p.unit t rule) (sym step)
+                ∙ ap (λ r. place p.unit p.step r) (one_rule rule p.rule (omega (arith, past, near))))
           ]
         ]
 
-    beyond : IsFrom s.unit (step_of_part s.part) p.unit p.step → (place found.unit found.step rule ≡ p) ⊎ Comes (spot found.unit found.step (number_of rule)) (spot_of p)
+    beyond : IsFrom s.unit (step_of_part s.part) p.unit p.step → (place found.unit found.step rule ≡ p)
+        ⊎ Comes (spot found.unit found.step (number_of rule)) (spot_of p)
     beyond from = inr (on (hand.ahead (number_of rule) least.is_in) from)
       where
-        on : (s.unit ≡ found.unit) × (step_of_part s.part ≡ found.step + 1) → IsFrom s.unit (step_of_part s.part) p.unit p.step → Comes (spot found.unit found.step (number_of rule)) (spot_of p)
+        on : (s.unit ≡ found.unit) × (step_of_part s.part ≡ found.step + 1) → IsFrom s.unit (step_of_part s.part) p.unit p.step
+            → Comes (spot found.unit found.step (number_of rule)) (spot_of p)
         on (unit, step) (inl less) = inl (omega (arith, less, unit))
         on (unit, step) (inr (same, past)) = inr (sym unit ∙ same, inl (omega (arith, past, step)))
 
-    by_kind : IsInHand found p ⊎ IsFrom s.unit (step_of_part s.part) p.unit p.step → (place found.unit found.step rule ≡ p) ⊎ Comes (spot found.unit found.step (number_of rule)) (spot_of p)
+    by_kind : IsInHand found p ⊎ IsFrom s.unit (step_of_part s.part) p.unit p.step → (place found.unit found.step rule ≡ p)
+        ⊎ Comes (spot found.unit found.step (number_of rule)) (spot_of p)
     by_kind (inl in_hand) = ordered in_hand
     by_kind (inr from) = beyond from
 
 abbrev value : ℕ → ℕ → ℕ → Rule → List ℕ → FaultValue
 value n u t r path = record { number = n; unit = u; step = t; rule = r; path = path }
 
-next_value : (s : Search) (found : Found) (mark : Mark) (floor : ℕ) (rule : Rule) → HasInHand s found mark → IsFloor mark found.unit found.step floor → IsLeastAbove found.rules floor rule
+next_value : (s : Search) (found : Found) (mark : Mark) (floor : ℕ) (rule : Rule) → HasInHand s found mark → IsFloor mark found.unit found.step floor
+    → IsLeastAbove found.rules floor rule
     → IsNext (checked_in s) s.waivers.now mark (value (number_behind mark.number) found.unit found.step rule found.path.items)
 next_value s found mark floor rule hand is_floor least =
     record {
@@ -92,7 +100,8 @@ pub record IsFaultOf (found : Found) (mark : Mark) (rule : Rule) (fault : Fault)
   pub rule_is : fault.rule ≡ rule
   pub path_is : fault.path.items ≡ found.path.items
 
-value_is : (found : Found) (mark : Mark) (rule : Rule) (fault : Fault) → IsFaultOf found mark rule fault → value (number_behind mark.number) found.unit found.step rule found.path.items ≡ fault_value fault
+value_is : (found : Found) (mark : Mark) (rule : Rule) (fault : Fault) → IsFaultOf found mark rule fault → value (number_behind mark.number) found.unit
+    found.step rule found.path.items ≡ fault_value fault
 value_is found mark rule fault is =
     ap (λ n. value n found.unit found.step rule found.path.items) (sym is.number_is)
     ∙ ap (λ u. value fault.number u found.step rule found.path.items) (sym is.unit_is)
@@ -100,31 +109,38 @@ value_is found mark rule fault is =
     ∙ ap (λ r. value fault.number fault.unit fault.step r found.path.items) (sym is.rule_is)
     ∙ ap (λ path. value fault.number fault.unit fault.step fault.rule path) (sym is.path_is)
 
-pub next_fault : (s : Search) (found : Found) (mark : Mark) (floor : ℕ) (rule : Rule) (fault : Fault) → HasInHand s found mark → IsFloor mark found.unit found.step floor → IsLeastAbove found.rules floor rule
+pub next_fault : (s : Search) (found : Found) (mark : Mark) (floor : ℕ) (rule : Rule) (fault : Fault) → HasInHand s found mark
+    → IsFloor mark found.unit found.step floor → IsLeastAbove found.rules floor rule
     → IsFaultOf found mark rule fault → IsNext (checked_in s) s.waivers.now mark (fault_value fault)
 next_fault s found mark floor rule fault hand is_floor least is =
     subst (λ v. IsNext (checked_in s) s.waivers.now mark v) (value_is found mark rule fault is) (next_value s found mark floor rule hand is_floor least)
 
-pub hand_marked : (s : Search) (found : Found) (mark : Mark) (fault : FaultValue) → HasInHand s found mark → IsNext (checked_in s) s.waivers.now mark fault → HasInHand s found (mark_of fault)
+pub hand_marked : (s : Search) (found : Found) (mark : Mark) (fault : FaultValue) → HasInHand s found mark → IsNext (checked_in s) s.waivers.now mark fault
+    → HasInHand s found (mark_of fault)
 hand_marked s found mark fault hand next =
     record {
       broken = hand.broken;
       path = hand.path;
       ahead = hand.ahead;
-      complete = λ p is later. hand.complete p is (comes_on mark.unit mark.step mark.rule fault.unit fault.step (number_of fault.rule) p.unit p.step (number_of p.rule) next.later later);
+      complete = λ p is later. hand.complete p is (comes_on mark.unit mark.step mark.rule fault.unit fault.step (number_of fault.rule) p.unit p.step
+          (number_of p.rule) next.later later);
     }
 
 -- ---- turns
 
-turns_in_unit : (font : CheckedFont) (waivers : List Waiver) (from first unit passed checked u t : ℕ) (part : Part) → IsPart font waivers from first unit passed checked part → unit ≡ u → step_of_part part ≡ t + 1 → passed + turns_in part + checked ≡ turns_at font waivers from first u t
-turns_in_unit font waivers from first unit passed checked u t (Font places) (is, none) at step = omega (arith, is.none_passed, none) ∙ ap (λ v. turns_at font waivers from first v t) (sym is.unit_is ∙ at)
+turns_in_unit : (font : CheckedFont) (waivers : List Waiver) (from first unit passed checked u t : ℕ) (part : Part) → IsPart font waivers from first unit passed
+    checked part → unit ≡ u → step_of_part part ≡ t + 1 → passed + turns_in part + checked ≡ turns_at font waivers from first u t
+turns_in_unit font waivers from first unit passed checked u t (Font places) (is, none) at step = omega (arith, is.none_passed, none)
+    ∙ ap (λ v. turns_at font waivers from first v t) (sym is.unit_is ∙ at)
 turns_in_unit font waivers from first unit passed checked u t (Glyph run) (is, none) at step =
     let glyph : suc run.machine.glyph ≡ u = omega (arith, is.unit_is, at) in
     let counted : passed + run.machine.counted + checked ≡ passed + t = omega (arith, step, none) in
-    let there : run.machine.glyph < length font.value.glyphs = subst (λ (f : CheckedFont). run.machine.glyph < length f.value.glyphs) is.font_is is.runs.there in
+    let there : run.machine.glyph < length font.value.glyphs =
+    subst (λ (f : CheckedFont). run.machine.glyph < length f.value.glyphs) is.font_is is.runs.there in
     counted
     ∙ ap (λ n. n + t) (is.passed_are ∙ ap (turns_before font from) (at ∙ sym glyph))
-    ∙ ap (λ b. turns_before font from (suc run.machine.glyph) + cond b (turns_asked font waivers from first t) t) (sym (ne_eqb run.machine.glyph (length font.value.glyphs) (λ e. omega (arith, e, there))))
+    ∙ ap (λ b. turns_before font from (suc run.machine.glyph) + cond b (turns_asked font waivers from first t) t)
+    (sym (ne_eqb run.machine.glyph (length font.value.glyphs) (λ e. omega (arith, e, there))))
     ∙ ap (λ v. turns_at font waivers from first v t) glyph
 turns_in_unit font waivers from first unit passed checked u t (Waivers next) is at step =
     let behind : suc (length font.value.glyphs) ≡ u = omega (arith, is.unit_is, at) in
@@ -133,20 +149,25 @@ turns_in_unit font waivers from first unit passed checked u t (Waivers next) is 
     let sum : passed + 0 + checked ≡ passed + turns_asked font waivers from first t = omega (arith, asked) in
     sum
     ∙ ap (λ n. n + turns_asked font waivers from first t) (is.passed_are ∙ ap (turns_before font from) (at ∙ sym behind))
-    ∙ ap (λ b. turns_before font from (suc (length font.value.glyphs)) + cond b (turns_asked font waivers from first t) t) (sym (eq-eqb (length font.value.glyphs) (length font.value.glyphs) refl))
+    ∙ ap (λ b. turns_before font from (suc (length font.value.glyphs)) + cond b (turns_asked font waivers from first t) t)
+    (sym (eq-eqb (length font.value.glyphs) (length font.value.glyphs) refl))
     ∙ ap (λ v. turns_at font waivers from first v t) behind
 turns_in_unit font waivers from first unit passed checked u t Over is at step = absurd (omega (arith, step))
 
-pub turns_found : (s : Search) (found : Found) (mark : Mark) (rule : Rule) (fault : Fault) → IsSearch s → HasInHand s found mark → has found.rules (number_of rule) ≡ true → IsFaultOf found mark rule fault
+pub turns_found : (s : Search) (found : Found) (mark : Mark) (rule : Rule) (fault : Fault) → IsSearch s → HasInHand s found mark
+    → has found.rules (number_of rule) ≡ true → IsFaultOf found mark rule fault
     → turns_so_far s ≡ turns_at (checked_in s) s.waivers.now s.from s.first fault.unit fault.step
 turns_found s found mark rule fault search hand there is =
     let ahead = hand.ahead (number_of rule) there in
-    turns_in_unit (checked_in s) s.waivers.now s.from s.first s.unit s.passed s.checked fault.unit fault.step s.part search.part_is (ahead.0 ∙ sym is.unit_is) (ahead.1 ∙ ap (λ t. t + 1) (sym is.step_is))
+    turns_in_unit (checked_in s) s.waivers.now s.from s.first s.unit s.passed s.checked fault.unit fault.step s.part search.part_is (ahead.0 ∙ sym is.unit_is)
+    (ahead.1 ∙ ap (λ t. t + 1) (sym is.step_is))
 
-turns_past : (font : CheckedFont) (waivers : List Waiver) (from first unit passed checked : ℕ) (part : Part) → IsPart font waivers from first unit passed checked part → length font.value.glyphs + 1 < unit → passed + turns_in part + checked ≡ turns_in_all font waivers from first
+turns_past : (font : CheckedFont) (waivers : List Waiver) (from first unit passed checked : ℕ) (part : Part) → IsPart font waivers from first unit passed
+    checked part → length font.value.glyphs + 1 < unit → passed + turns_in part + checked ≡ turns_in_all font waivers from first
 turns_past font waivers from first unit passed checked (Font places) (is, none) past = absurd (omega (arith, is.unit_is, past))
 turns_past font waivers from first unit passed checked (Glyph run) (is, none) past =
-    let there : run.machine.glyph < length font.value.glyphs = subst (λ (f : CheckedFont). run.machine.glyph < length f.value.glyphs) is.font_is is.runs.there in
+    let there : run.machine.glyph < length font.value.glyphs =
+    subst (λ (f : CheckedFont). run.machine.glyph < length f.value.glyphs) is.font_is is.runs.there in
     absurd (omega (arith, is.unit_is, past, there))
 turns_past font waivers from first unit passed checked (Waivers next) is past = absurd (omega (arith, is.unit_is, past))
 turns_past font waivers from first unit passed checked Over (is, asked) past = omega (arith, is.passed_are, asked.0)
@@ -157,7 +178,8 @@ turns_over s search past = turns_past (checked_in s) s.waivers.now s.from s.firs
 -- ---- the next place
 
 -- Nothing in hand comes after the mark.
-to_be_found : (s : Search) (found : Found) (mark : Mark) (floor : ℕ) → HasInHand s found mark → IsFloor mark found.unit found.step floor → HasNoneAbove found.rules floor
+to_be_found : (s : Search) (found : Found) (mark : Mark) (floor : ℕ) → HasInHand s found mark → IsFloor mark found.unit found.step floor
+    → HasNoneAbove found.rules floor
     → (p : Place) → IsTold (checked_in s) s.waivers.now p → IsLater mark p → IsFrom s.unit (step_of_part s.part) p.unit p.step
 to_be_found s found mark floor hand is_floor none p is later = by_kind (hand.complete p is later)
   where
@@ -166,13 +188,17 @@ to_be_found s found mark floor hand is_floor none p is later = by_kind (hand.com
     by_kind (inl (unit, step, there)) =
         absurd (true≢false (sym there ∙ none (number_of p.rule)
         (is_floor.below (number_of p.rule) (in_book p.rule).0
-        (subst (λ u. Comes (spot mark.unit mark.step mark.rule) (spot u found.step (number_of p.rule))) unit (subst (λ t. Comes (spot mark.unit mark.step mark.rule) (spot p.unit t (number_of p.rule))) step later))) (in_book p.rule).1))
+        (subst (λ u. Comes (spot mark.unit mark.step mark.rule) (spot u found.step (number_of p.rule))) unit
+        (subst (λ t. Comes (spot mark.unit mark.step mark.rule) (spot p.unit t (number_of p.rule))) step later))) (in_book p.rule).1))
 
-pub hand_found : (s new : Search) (found place : Found) (mark : Mark) (floor : ℕ) → HasInHand s found mark → IsFloor mark found.unit found.step floor → HasNoneAbove found.rules floor
-    → checked_in new ≡ checked_in s → new.waivers.now ≡ s.waivers.now → IsFirstPlace (checked_in s) s.waivers.now s.unit (step_of_part s.part) place → (new.unit ≡ place.unit) × (step_of_part new.part ≡ place.step + 1) → HasInHand new place mark
+pub hand_found : (s new : Search) (found place : Found) (mark : Mark) (floor : ℕ) → HasInHand s found mark → IsFloor mark found.unit found.step floor
+    → HasNoneAbove found.rules floor
+    → checked_in new ≡ checked_in s → new.waivers.now ≡ s.waivers.now → IsFirstPlace (checked_in s) s.waivers.now s.unit (step_of_part s.part) place
+    → (new.unit ≡ place.unit) × (step_of_part new.part ≡ place.step + 1) → HasInHand new place mark
 hand_found s new found place mark floor hand is_floor none font waivers first (unit, step) =
     record {
-      broken = λ n there. ap (λ f. is_told f new.waivers.now place.unit place.step n) font ∙ ap (λ w. is_told (checked_in s) w place.unit place.step n) waivers ∙ sym (first.rules n) ∙ there;
+      broken = λ n there. ap (λ f. is_told f new.waivers.now place.unit place.step n) font ∙ ap (λ w. is_told (checked_in s) w place.unit place.step n) waivers
+          ∙ sym (first.rules n) ∙ there;
       path = λ n there. first.path ∙ ap (λ f. path_in f.value place.unit place.step) (sym font);
       ahead = λ n there. (unit, step);
       complete = λ p is later. found_or_later p (same p is) (first.first p (same p is) (to_be_found s found mark floor hand is_floor none p (same p is) later));
@@ -181,21 +207,29 @@ hand_found s new found place mark floor hand is_floor none font waivers first (u
     same : (p : Place) → IsTold (checked_in new) new.waivers.now p → IsTold (checked_in s) s.waivers.now p
     same p is = subst (λ w. IsTold (checked_in s) w p) waivers (subst (λ f. IsTold f new.waivers.now p) font is)
 
-    found_or_later : (p : Place) → IsTold (checked_in s) s.waivers.now p → IsFrom place.unit place.step p.unit p.step → IsInHand place p ⊎ IsFrom new.unit (step_of_part new.part) p.unit p.step
+    found_or_later : (p : Place) → IsTold (checked_in s) s.waivers.now p → IsFrom place.unit place.step p.unit p.step → IsInHand place p
+        ⊎ IsFrom new.unit (step_of_part new.part) p.unit p.step
     found_or_later p is (inl less) = inr (inl (omega (arith, less, unit)))
     found_or_later p is (inr (at, past)) =
         elim (cases_lt place.step p.step) [
           | inl more ↦ inr (inr (unit ∙ at, omega (arith, more, step)))
           | inr near ↦
               let here : p.step ≡ place.step = omega (arith, past, near) in
-              inl (sym at, here, first.rules (number_of p.rule) ∙ ap (λ u. is_told (checked_in s) s.waivers.now u place.step (number_of p.rule)) at ∙ ap (λ t. is_told (checked_in s) s.waivers.now p.unit t (number_of p.rule)) (sym here) ∙ is)
+              inl (
+                sym at,
+                here,
+                first.rules (number_of p.rule) ∙ ap (λ u. is_told (checked_in s) s.waivers.now u place.step (number_of p.rule)) at
+                    ∙ ap (λ t. is_told (checked_in s) s.waivers.now p.unit t (number_of p.rule)) (sym here) ∙ is,
+              )
         ]
 
-pub hand_none : (s : Search) (found : Found) (mark : Mark) (floor : ℕ) → HasInHand s found mark → IsFloor mark found.unit found.step floor → HasNoneAbove found.rules floor
+pub hand_none : (s : Search) (found : Found) (mark : Mark) (floor : ℕ) → HasInHand s found mark → IsFloor mark found.unit found.step floor
+    → HasNoneAbove found.rules floor
     → HasNoneFrom (checked_in s) s.waivers.now s.unit (step_of_part s.part) → HasNoneLater (checked_in s) s.waivers.now mark
 hand_none s found mark floor hand is_floor none over p is later = over p is (to_be_found s found mark floor hand is_floor none p is later)
 
-pub hand_empty : (s : Search) (found : Found) (mark : Mark) → ((n : ℕ) → has found.rules n ≡ false) → HasNoneLater (checked_in s) s.waivers.now mark → HasInHand s found mark
+pub hand_empty : (s : Search) (found : Found) (mark : Mark) → ((n : ℕ) → has found.rules n ≡ false) → HasNoneLater (checked_in s) s.waivers.now mark
+    → HasInHand s found mark
 hand_empty s found mark none over =
     record {
       broken = λ n has_it. absurd (true≢false (sym has_it ∙ none n));
@@ -206,20 +240,25 @@ hand_empty s found mark none over =
 
 -- ---- the measure
 
-steps_of_part : (font : CheckedFont) (waivers : List Waiver) (from first unit passed checked : ℕ) (part : Part) → IsPart font waivers from first unit passed checked part → step_of_part part ≤ 1600000
+steps_of_part : (font : CheckedFont) (waivers : List Waiver) (from first unit passed checked : ℕ) (part : Part) → IsPart font waivers from first unit passed
+    checked part → step_of_part part ≤ 1600000
 steps_of_part font waivers from first unit passed checked (Font places) (is, none) = omega (arith, is.places_are.key, is.places_are.index)
-steps_of_part font waivers from first unit passed checked (Glyph run) (is, none) = few_steps (executed run.machine) run.machine.glyph run.machine.counted is.runs.counted
+steps_of_part font waivers from first unit passed checked (Glyph run) (is, none) = few_steps (executed run.machine) run.machine.glyph
+    run.machine.counted is.runs.counted
 steps_of_part font waivers from first unit passed checked (Waivers next) is = omega (arith, is.within, is.few_waivers)
 steps_of_part font waivers from first unit passed checked Over is = omega arith
 
-pub fewer_places : (s new : Search) (place : Found) → IsSearch s → checked_in new ≡ checked_in s → IsFirstPlace (checked_in s) s.waivers.now s.unit (step_of_part s.part) place → (new.unit ≡ place.unit) × (step_of_part new.part ≡ place.step + 1)
-    → (length new.font.now.glyphs + 2 - new.unit) * 2000000 + (2000000 - step_of_part new.part) < (length s.font.now.glyphs + 2 - s.unit) * 2000000 + (2000000 - step_of_part s.part)
+pub fewer_places : (s new : Search) (place : Found) → IsSearch s → checked_in new ≡ checked_in s → IsFirstPlace (checked_in s) s.waivers.now s.unit
+    (step_of_part s.part) place → (new.unit ≡ place.unit) × (step_of_part new.part ≡ place.step + 1)
+    → (length new.font.now.glyphs + 2 - new.unit) * 2000000 + (2000000 - step_of_part new.part) < (length s.font.now.glyphs + 2 - s.unit) *
+    2000000 + (2000000 - step_of_part s.part)
 fewer_places s new place search font first (unit, step) =
     let few : step_of_part s.part ≤ 1600000 = steps_of_part (checked_in s) s.waivers.now s.from s.first s.unit s.passed s.checked s.part search.part_is in
     let count : length new.font.now.glyphs ≡ length s.font.now.glyphs = ap (λ (f : CheckedFont). length f.value.glyphs) font in
     by_place few count first.behind
   where
     by_place : step_of_part s.part ≤ 1600000 → length new.font.now.glyphs ≡ length s.font.now.glyphs → IsFrom s.unit (step_of_part s.part) place.unit place.step
-        → (length new.font.now.glyphs + 2 - new.unit) * 2000000 + (2000000 - step_of_part new.part) < (length s.font.now.glyphs + 2 - s.unit) * 2000000 + (2000000 - step_of_part s.part)
+        → (length new.font.now.glyphs + 2 - new.unit) * 2000000 + (2000000 - step_of_part new.part) < (length s.font.now.glyphs + 2 - s.unit) *
+        2000000 + (2000000 - step_of_part s.part)
     by_place few count (inl less) = omega (arith, few, count, less, unit, step, first.within)
     by_place few count (inr (same, past)) = omega (arith, few, count, same, past, unit, step, first.within)

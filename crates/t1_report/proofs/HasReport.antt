@@ -48,7 +48,8 @@ module _ (broken : ℕ → ℕ → ℕ → Bool) (path_of : Place → List ℕ) 
   over_rule unit step rule (faults, front) =
       elim (cases_Bool (broken unit step (number_of rule))) [
         | inl is ↦ (
-          faults ++ fault_at (length faults + 1) (record { unit = unit; step = step; rule = rule }) (path_of (record { unit = unit; step = step; rule = rule })) ∷ [],
+          faults ++ fault_at (length faults + 1) (record { unit = unit; step = step; rule = rule })
+              (path_of (record { unit = unit; step = step; rule = rule })) ∷ [],
           front_with IsBroken path_of (record { unit = unit; step = step; rule = rule }) faults front is,
         )
         | inr none ↦ (faults, rule_passed broken path_of unit step rule faults front none)
@@ -61,7 +62,8 @@ module _ (broken : ℕ → ℕ → ℕ → Bool) (path_of : Place → List ℕ) 
       let first = parts.0 in
       let next : number_of rule + 1 ≡ suc n = omega (arith, first) in
       let all : suc n + length rest ≡ n + suc (length rest) = omega arith in
-      subst (HasFront unit step) all (over_rules unit step rest (suc n) parts.1 (subst (HasFront unit step) next (over_rule unit step rule (subst (HasFront unit step) (sym first) front))))
+      subst (HasFront unit step) all (over_rules unit step rest (suc n) parts.1
+      (subst (HasFront unit step) next (over_rule unit step rule (subst (HasFront unit step) (sym first) front))))
 
   over_book : (unit step : ℕ) → HasFront unit step 1 → HasFront unit step 71
   over_book unit step front = over_rules unit step rules 1 all_rise front
@@ -103,16 +105,26 @@ few_steps limit step steps past = let count = length-take (limit + 1) steps in o
 
 -- Behind the first step past the limit a glyph breaks nothing.
 pub quiet_behind : (font : CheckedFont) (glyph s : ℕ) (rule : Rule) → step_limit font + 2 ≤ s → is_broken font (suc glyph) s (number_of rule) ≡ false
-quiet_behind font glyph s rule past = past_steps font (suc glyph) glyph s (number_of rule) (omega arith) (few_steps (step_limit font) s (steps_of font.value glyph) past)
+quiet_behind font glyph s rule past = past_steps font (suc glyph) glyph s (number_of rule) (omega arith)
+    (few_steps (step_limit font) s (steps_of font.value glyph) past)
 
 unit_end : (font : CheckedFont) (unit : ℕ) → (count : ℕ) × ((s : ℕ) (rule : Rule) → count ≤ s → is_broken font unit s (number_of rule) ≡ false)
 unit_end font zero = (65536 * 22, λ s rule past. past_keys font s (number_of rule) past)
 unit_end font (suc glyph) = (step_limit font + 2, quiet_behind font glyph)
 
-told_end : (font : CheckedFont) (waivers : List Waiver) (unit : ℕ) → (count : ℕ) × ((s : ℕ) (rule : Rule) → count ≤ s → is_told font waivers unit s (number_of rule) ≡ false)
+told_end : (font : CheckedFont) (waivers : List Waiver) (unit : ℕ) → (count : ℕ)
+    × ((s : ℕ) (rule : Rule) → count ≤ s → is_told font waivers unit s (number_of rule) ≡ false)
 told_end font waivers unit = elim (cases_order unit (length font.value.glyphs + 1)) [
-  | inl same ↦ (length waivers + 1, λ s rule past. told_of_waiver font waivers unit s (number_of rule) same ∙ no_waiver font waivers s (number_of rule) (omega (arith, past)))
-  | inr (inl less) ↦ ((unit_end font unit).0, λ s rule past. quiet_told font waivers unit s (number_of rule) (omega (arith, less)) ((unit_end font unit).1 s rule past))
+  | inl same ↦ (
+    length waivers + 1,
+    λ s rule past. told_of_waiver font waivers unit s (number_of rule) same
+        ∙ no_waiver font waivers s (number_of rule) (omega (arith, past)),
+  )
+  | inr (inl less) ↦ (
+    (unit_end font unit).0,
+    λ s rule past. quiet_told font waivers unit s (number_of rule) (omega (arith, less))
+        ((unit_end font unit).1 s rule past),
+  )
   | inr (inr more) ↦ (0, λ s rule past. past_waivers font waivers unit s (number_of rule) more)
 ]
 

@@ -22,17 +22,20 @@ key_within : (font : CheckedFont) (waivers : List Waiver) (unit step n : ℕ) �
 key_within font waivers unit step n first is =
     elim (cases_lt step (65536 * 22)) [
       | inl less ↦ omega arith
-      | inr past ↦ absurd (true≢false (sym is ∙ ap (λ (u : ℕ). is_told font waivers u step n) first ∙ told_in_font font waivers step n ∙ past_keys font step n past))
+      | inr past ↦ absurd (true≢false (sym is ∙ ap (λ (u : ℕ). is_told font waivers u step n) first ∙ told_in_font font waivers step n
+          ∙ past_keys font step n past))
     ]
 
 -- A waiver that isn't used has a step of the waivers, and its own rule.
-waiver_told : (font : CheckedFont) (waivers : List Waiver) (step : ℕ) (rule : Rule) → tells_unused font waivers step (number_of rule) ≡ true → (rule ≡ U01) × ((1 ≤ step) × (step ≤ length waivers))
+waiver_told : (font : CheckedFont) (waivers : List Waiver) (step : ℕ) (rule : Rule) → tells_unused font waivers step (number_of rule) ≡ true → (rule ≡ U01)
+    × ((1 ≤ step) × (step ≤ length waivers))
 waiver_told font waivers step rule is =
     (by_rule step is, (some_step, few_steps))
   where
     by_rule : (s : ℕ) → tells_unused font waivers s (number_of rule) ≡ true → rule ≡ U01
     by_rule zero told = absurd (true≢false (sym told))
-    by_rule (suc i) told = sym (one_rule U01 rule (eqb-true (number_of U01) (number_of rule) (both (number_of U01 == number_of rule) (is_unused font (slice_get waivers i)) told).0))
+    by_rule (suc i) told = sym (one_rule U01 rule
+        (eqb-true (number_of U01) (number_of rule) (both (number_of U01 == number_of rule) (is_unused font (slice_get waivers i)) told).0))
 
     some_step : 1 ≤ step
     some_step = elim (cases_lt step 1) [
@@ -47,11 +50,13 @@ waiver_told font waivers step rule is =
     ]
 
 -- A violation stands in its font.
-pub in_font : (font : CheckedFont) (waivers : List Waiver) (fault : FaultValue) → IsViolationOf (IsTold font waivers) (path_at font) fault → IsInFont font.value waivers fault
+pub in_font : (font : CheckedFont) (waivers : List Waiver) (fault : FaultValue) → IsViolationOf (IsTold font waivers) (path_at font) fault
+    → IsInFont font.value waivers fault
 in_font font waivers fault is = record {
   unit = told_within font waivers fault.unit fault.step (number_of fault.rule) is.violated;
   key = λ first. omega (arith, key_within font waivers fault.unit fault.step (number_of fault.rule) first is.violated);
-  waiver = λ behind. waiver_told font waivers fault.step fault.rule (sym (told_of_waiver font waivers fault.unit fault.step (number_of fault.rule) behind) ∙ is.violated);
+  waiver = λ behind. waiver_told font waivers fault.step fault.rule (sym (told_of_waiver font waivers fault.unit fault.step (number_of fault.rule) behind)
+      ∙ is.violated);
 }
 
 -- So does the fault that comes next after a mark.
@@ -66,7 +71,8 @@ value_at [] k d = refl
 value_at (x ∷ xs) zero d = refl
 value_at (x ∷ xs) (suc k) d = value_at xs k d
 
-pub all_in_font : (font : CheckedFont) (waivers : List Waiver) (faults : List Fault) → IsReport font waivers (faults_of faults) → All (λ fault. IsInFont font.value waivers (fault_value fault)) faults
+pub all_in_font : (font : CheckedFont) (waivers : List Waiver) (faults : List Fault) → IsReport font waivers (faults_of faults)
+    → All (λ fault. IsInFont font.value waivers (fault_value fault)) faults
 all_in_font font waivers faults report k d lt =
     let within = length-map faults fault_value in
     in_font font waivers (fault_value (slice_index_or faults k d))

@@ -29,13 +29,16 @@ module _ (Violated : Place → Type 0) (path_of : Place → List ℕ) where
       sym (drop_all k faults (omega (arith, all)))
   later_are faults k mark (fault ∷ rest) few report so_far (next, later) =
       let is = (next_is Violated path_of faults k mark fault few report so_far next).1 in
-      ap (λ (fs : List FaultValue). fault ∷ fs) (later_are faults (k + 1) (mark_of fault) rest few report (one_more Violated path_of faults k mark fault few report so_far next) later)
+      ap (λ (fs : List FaultValue). fault ∷ fs)
+      (later_are faults (k + 1) (mark_of fault) rest few report (one_more Violated path_of faults k mark fault few report so_far next) later)
       ∙ sym (drop_next faults k fault is)
 
-  later_from : (left : ℕ) (faults : List FaultValue) (k : ℕ) (mark : Mark) → k + left ≡ length faults → length faults < 2 ^ 64 → IsReportOf Violated path_of faults
+  later_from : (left : ℕ) (faults : List FaultValue) (k : ℕ) (mark : Mark) → k + left ≡ length faults → length faults < 2 ^ 64
+      → IsReportOf Violated path_of faults
       → IsSoFar faults k mark → AreLaterOf Violated path_of mark (drop k faults)
   later_from zero faults k mark all few report so_far =
-      subst (AreLaterOf Violated path_of mark) (sym (drop_all k faults (omega arith))) (has_none_later Violated path_of faults k mark report so_far (omega arith))
+      subst (AreLaterOf Violated path_of mark) (sym (drop_all k faults (omega arith)))
+      (has_none_later Violated path_of faults k mark report so_far (omega arith))
   later_from (suc left) faults k mark some few report so_far =
       elim (slice_get_cases faults k).1 [
         | inl (fault, less, is, at) ↦
@@ -52,33 +55,46 @@ module _ (Violated : Place → Type 0) (path_of : Place → List ℕ) where
 
   pub rest_is : (faults : List FaultValue) (k : ℕ) (mark : Mark) (later : List FaultValue) → length faults < 2 ^ 64 → IsReportOf Violated path_of faults
       → IsSoFar faults k mark → AreLaterOf Violated path_of mark later ↔ (later ≡ drop k faults)
-  rest_is faults k mark later few report so_far =
-      (later_are faults k mark later few report so_far, λ same. subst (AreLaterOf Violated path_of mark) (sym same) (rest_later faults k mark few report so_far))
+  rest_is faults k mark later few report so_far = (
+    later_are faults k mark later few report so_far,
+    λ same. subst (AreLaterOf Violated path_of mark) (sym same)
+        (rest_later faults k mark few report so_far),
+  )
 
 -- ---- in a font
 
-pub rest_in_font : (font : CheckedFont) (waivers : List Waiver) (faults : List FaultValue) (k : ℕ) (mark : Mark) (later : List FaultValue) → length font.value.glyphs ≤ 65535 → length waivers ≤ 1048576 → IsReport font waivers faults
+pub rest_in_font : (font : CheckedFont) (waivers : List Waiver) (faults : List FaultValue) (k : ℕ) (mark : Mark) (later : List FaultValue)
+    → length font.value.glyphs ≤ 65535 → length waivers ≤ 1048576 → IsReport font waivers faults
     → IsSoFar faults k mark → AreLater font waivers mark later ↔ (later ≡ drop k faults)
-rest_in_font font waivers faults k mark later few few_waivers report = rest_is (IsTold font waivers) (path_at font) faults k mark later (few_faults font waivers faults few few_waivers report) report
+rest_in_font font waivers faults k mark later few few_waivers report = rest_is (IsTold font waivers) (path_at font) faults k mark later
+    (few_faults font waivers faults few few_waivers report) report
 
-are_report : (font : CheckedFont) (waivers : List Waiver) (report faults : List FaultValue) → length font.value.glyphs ≤ 65535 → length waivers ≤ 1048576 → IsReport font waivers report → AreLater font waivers first_mark faults → IsReport font waivers faults
+are_report : (font : CheckedFont) (waivers : List Waiver) (report faults : List FaultValue) → length font.value.glyphs ≤ 65535 → length waivers ≤ 1048576
+    → IsReport font waivers report → AreLater font waivers first_mark faults → IsReport font waivers faults
 are_report font waivers report faults few few_waivers is later =
     let same : faults ≡ report = (rest_in_font font waivers report 0 first_mark faults few few_waivers is (so_far_start report)).0 later in
     subst (IsReport font waivers) (sym same) is
 
 pub the_report : AreTheReport
 the_report font waivers faults few few_waivers =
-    let some = has_report font waivers in
-    (are_report font waivers some.0 faults few few_waivers some.1, λ report. (rest_in_font font waivers faults 0 first_mark faults few few_waivers report (so_far_start faults)).1 refl)
+    let some = has_report font waivers in (
+      are_report font waivers some.0 faults few few_waivers some.1,
+      λ report.
+          (rest_in_font font waivers faults 0 first_mark faults few few_waivers report (so_far_start faults)).1 refl,
+    )
 
 pub the_rest : AreTheRest
-the_rest font waivers faults k fault rest few few_waivers report is = rest_in_font font waivers faults (k + 1) (mark_of fault) rest few few_waivers report (so_far_at faults k fault report.rising report.numbered is)
+the_rest font waivers faults k fault rest few few_waivers report is = rest_in_font font waivers faults (k + 1) (mark_of fault) rest few few_waivers report
+    (so_far_at faults k fault report.rising report.numbered is)
 
 -- ---- marks that count
 
 pub marks_go_on_counting : MarksGoOnCounting
-marks_go_on_counting font waivers faults k mark fault few few_waivers report so_far next =
-    ((next_in_font font waivers faults k mark fault few few_waivers report so_far next).1, one_more_in_font font waivers faults k mark fault few few_waivers report so_far next)
+marks_go_on_counting font waivers faults k mark fault few few_waivers report so_far next = (
+  (next_in_font font waivers faults k mark fault few few_waivers report so_far next).1,
+  one_more_in_font font waivers faults k mark fault few
+      few_waivers report so_far next,
+)
 
 pub are_behind_the_count : AreBehindTheCount
 are_behind_the_count font waivers faults k mark rest few few_waivers report so_far = rest_in_font font waivers faults k mark rest few few_waivers report so_far

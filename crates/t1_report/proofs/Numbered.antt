@@ -13,15 +13,18 @@ numbered_head n fault faults numbered = ap (λ (l : List ℕ). slice_index_or l 
 pub numbered_tail : (n : ℕ) (fault : FaultValue) (faults : List FaultValue) → AreNumbered n (fault ∷ faults) → AreNumbered (n + 1) faults
 numbered_tail n fault faults numbered = ap (λ (l : List ℕ). drop 1 l) numbered
 
-pub number_there : (n : ℕ) (faults : List FaultValue) → AreNumbered n faults → (i : ℕ) (d : FaultValue) → i < length faults → (slice_index_or faults i d).number ≡ i + n
+pub number_there : (n : ℕ) (faults : List FaultValue) → AreNumbered n faults → (i : ℕ) (d : FaultValue) → i < length faults
+    → (slice_index_or faults i d).number ≡ i + n
 number_there n [] numbered i d less = absurd (omega arith)
 number_there n (fault ∷ faults) numbered zero d less = numbered_head n fault faults numbered ∙ omega arith
 number_there n (fault ∷ faults) numbered (suc i) d less =
     number_there (n + 1) faults (numbered_tail n fault faults numbered) i d (omega (arith, less)) ∙ omega arith
 
-pub numbered_by_places : (n : ℕ) (faults : List FaultValue) → ((i : ℕ) (d : FaultValue) → i < length faults → (slice_index_or faults i d).number ≡ i + n) → AreNumbered n faults
+pub numbered_by_places : (n : ℕ) (faults : List FaultValue) → ((i : ℕ) (d : FaultValue) → i < length faults → (slice_index_or faults i d).number ≡ i + n)
+    → AreNumbered n faults
 numbered_by_places n [] all = refl
 numbered_by_places n (fault ∷ faults) all =
     let first : fault.number ≡ n = all 0 fault (omega arith) ∙ omega arith in
-    let rest : numbers faults ≡ range_with_len (n + 1) (length faults) = numbered_by_places (n + 1) faults (λ i d less. all (suc i) d (omega (arith, less)) ∙ omega arith) in
+    let rest : numbers faults ≡ range_with_len (n + 1) (length faults) = numbered_by_places (n + 1) faults (λ i d less. all (suc i) d (omega (arith, less))
+    ∙ omega arith) in
     ap (λ m. m ∷ numbers faults) first ∙ ap (λ l. n ∷ l) rest

@@ -41,12 +41,15 @@ use Rattle.t1_report.proofs.GlyphSteps.{take_next}
 use Rattle.t1_report.proofs.RunSteps.{IsRunAt, IsTold, count_at_end, run_at, run_of, told_at, told_end}
 
 -- Calm watchers stand for what is behind such numbers.
-stands_more : (edition : Edition) (w : Watches) (limit : ℕ) (all : List StepView) (k : ℕ) → IsCalm w → IsPassed limit all k → WatchesStandFor edition w (take k all) → WatchesStandFor edition w (take (k + 1) all)
+stands_more : (edition : Edition) (w : Watches) (limit : ℕ) (all : List StepView) (k : ℕ) → IsCalm w → IsPassed limit all k
+    → WatchesStandFor edition w (take k all) → WatchesStandFor edition w (take (k + 1) all)
 stands_more edition w limit all k calm passed st =
     let is = kept limit all k passed in
-    subst (WatchesStandFor edition w) (sym (take_next all k passed.step passed.there)) (stays_at_number edition w (take k all) passed.step is.number is.token calm st)
+    subst (WatchesStandFor edition w) (sym (take_next all k passed.step passed.there))
+    (stays_at_number edition w (take k all) passed.step is.number is.token calm st)
 
-stands_behind : (edition : Edition) (w : Watches) (limit : ℕ) (all : List StepView) (n d : ℕ) → IsCalm w → ArePassed limit all n (n + d) → WatchesStandFor edition w (take n all) → WatchesStandFor edition w (take (n + d) all)
+stands_behind : (edition : Edition) (w : Watches) (limit : ℕ) (all : List StepView) (n d : ℕ) → IsCalm w → ArePassed limit all n (n + d)
+    → WatchesStandFor edition w (take n all) → WatchesStandFor edition w (take (n + d) all)
 stands_behind edition w limit all n zero calm passed st =
     let same : n ≡ n + 0 = omega arith in
     subst (λ k. WatchesStandFor edition w (take k all)) same st
@@ -57,18 +60,21 @@ stands_behind edition w limit all n (suc d) calm passed st =
     (stands_behind edition w limit all n d calm (λ k from to. passed k from (omega (arith, to))) st))
 
 -- The same up to any of them.
-stands_at : (edition : Edition) (w : Watches) (limit : ℕ) (all : List StepView) (n m k : ℕ) → IsCalm w → ArePassed limit all n m → n ≤ k → k ≤ m → WatchesStandFor edition w (take n all) → WatchesStandFor edition w (take k all)
+stands_at : (edition : Edition) (w : Watches) (limit : ℕ) (all : List StepView) (n m k : ℕ) → IsCalm w → ArePassed limit all n m → n ≤ k → k ≤ m
+    → WatchesStandFor edition w (take n all) → WatchesStandFor edition w (take k all)
 stands_at edition w limit all n m k calm passed from to st =
     let same : n + (k - n) ≡ k = omega (arith, from) in
     subst (λ i. WatchesStandFor edition w (take i all)) same
     (stands_behind edition w limit all n (k - n) calm (λ i past less. passed i past (omega (arith, past, less, from, to))) st)
 
 -- No rule is broken at such a number.
-no_component_fault : (components : List Component) (n : ℕ) (before : List StepView) (t : StepView) (z : ℤ) → t.token ≡ Number z → breaks (component_rules components) n before t ≡ false
+no_component_fault : (components : List Component) (n : ℕ) (before : List StepView) (t : StepView) (z : ℤ) → t.token ≡ Number z
+    → breaks (component_rules components) n before t ≡ false
 unfolding component_rules
 no_component_fault components n before t z is = rw is refl
 
-none_at : (font : CheckedFont) (unit glyph k n : ℕ) → unit ≡ glyph + 1 → glyph < length font.value.glyphs → IsPassed (step_limit font) (steps_of font.value glyph) k
+none_at : (font : CheckedFont) (unit glyph k n : ℕ) → unit ≡ glyph + 1 → glyph < length font.value.glyphs
+    → IsPassed (step_limit font) (steps_of font.value glyph) k
     → IsBehindNoReplacement (take k (steps_of font.value glyph)) → is_broken font unit (k + 1) n ≡ false
 none_at font unit glyph k n at there passed none =
     let all : List StepView = steps_of font.value glyph in
@@ -86,10 +92,12 @@ none_at font unit glyph k n at there passed none =
 behind_number : (before : List StepView) (t : StepView) (z : ℤ) → t.token ≡ Number z → IsBehindNoReplacement (before ++ t ∷ [])
 behind_number before t z is = (
   was_last is_hint_replacement before t ∙ rw is refl,
-  ap (λ b. was 1 is_hint_replacement (before ++ t ∷ []) && b) (was_last popping before t ∙ rw is refl) ∙ and-false (was 1 is_hint_replacement (before ++ t ∷ [])),
+  ap (λ b. was 1 is_hint_replacement (before ++ t ∷ []) && b) (was_last popping before t ∙ rw is refl)
+      ∙ and-false (was 1 is_hint_replacement (before ++ t ∷ [])),
 )
 
-behind_none : (limit : ℕ) (all : List StepView) (n m k : ℕ) → ArePassed limit all n m → n ≤ k → k < m → IsBehindNoReplacement (take n all) → IsBehindNoReplacement (take k all)
+behind_none : (limit : ℕ) (all : List StepView) (n m k : ℕ) → ArePassed limit all n m → n ≤ k → k < m → IsBehindNoReplacement (take n all)
+    → IsBehindNoReplacement (take k all)
 behind_none limit all n m k passed from to none =
     elim (cases_lt n k) [
       | inl less ↦
@@ -117,7 +125,8 @@ passed_break_none font glyph from to place n there none passed least less =
     (behind_none (step_limit font) (steps_of font.value glyph) from to place passed least less none))
 
 pub calm_stand_behind : CalmWatchersStandBehindNumbers
-calm_stand_behind font glyph from to w more passed calm st = stands_at font.edition w (step_limit font) (steps_of font.value glyph) from to to calm passed more (omega arith) st
+calm_stand_behind font glyph from to w more passed calm st = stands_at font.edition w (step_limit font) (steps_of font.value glyph) from to to
+    calm passed more (omega arith) st
 
 -- How many were told with them.
 within : (limit : ℕ) (all : List StepView) (n m : ℕ) → n ≤ m → ArePassed limit all n m → n ≤ length (take limit all) + 1 → m ≤ length (take limit all) + 1
@@ -129,7 +138,8 @@ within limit all n m more passed few =
       | inr none ↦ omega (arith, none, few)
     ]
 
-turns_within : (font : CheckedFont) (glyph n m : ℕ) → n ≤ m → ArePassed (step_limit font) (steps_of font.value glyph) n m → n ≤ turns_of_glyph font glyph → m ≤ turns_of_glyph font glyph
+turns_within : (font : CheckedFont) (glyph n m : ℕ) → n ≤ m → ArePassed (step_limit font) (steps_of font.value glyph) n m → n ≤ turns_of_glyph font glyph
+    → m ≤ turns_of_glyph font glyph
 unfolding turns_of_glyph
 turns_within font glyph n m more passed few = within (step_limit font) (steps_of font.value glyph) n m more passed few
 
@@ -147,7 +157,8 @@ passed_run old new w of_font of_glyph more calm passed run =
     })
 
 -- And no rule is broken at them.
-pub passed_quiet : (m : MachineView) (w : Watches) (counted : ℕ) → IsCalm w → ArePassed (limit_of m.edition) (steps_of m.font m.glyph) m.counted counted → IsRun m w
+pub passed_quiet : (m : MachineView) (w : Watches) (counted : ℕ) → IsCalm w → ArePassed (limit_of m.edition) (steps_of m.font m.glyph) m.counted counted
+    → IsRun m w
     → IsQuiet (executed m) (m.glyph + 1) (m.counted + 1) (counted + 1)
 passed_quiet m w counted calm passed run = λ s rule from to.
     let limit : ℕ = limit_of m.edition in
@@ -177,14 +188,16 @@ pub record StandsBehind (font : CheckedFont) (glyph unit from before : ℕ) (w :
   pub run : IsRunAt font glyph before w
   pub quiet : IsQuiet font unit from (before + 1)
 
-pub stands_behind_numbers : (numbers : Numbers) (m new : MachineView) (answer : TurnValue) (w : Watches) (font : CheckedFont) (glyph unit from : ℕ) → (numbers ≡ Passed → IsCalm w) → executed m ≡ font → m.glyph ≡ glyph → unit ≡ glyph + 1 → IsRun m w → IsQuiet font unit from (m.counted + 1)
+pub stands_behind_numbers : (numbers : Numbers) (m new : MachineView) (answer : TurnValue) (w : Watches) (font : CheckedFont) (glyph unit from : ℕ)
+    → (numbers ≡ Passed → IsCalm w) → executed m ≡ font → m.glyph ≡ glyph → unit ≡ glyph + 1 → IsRun m w → IsQuiet font unit from (m.counted + 1)
     → (asked : IsAsked numbers m new answer) → StandsBehind font glyph unit from asked.before w
 stands_behind_numbers Told m new answer w font glyph unit from calm of_font of_glyph at run quiet asked =
     subst (λ k. StandsBehind font glyph unit from k w) (sym (asked.told refl)) (record { run = run_at font glyph m w of_font of_glyph run; quiet = quiet })
 stands_behind_numbers Passed m new answer w font glyph unit from calm of_font of_glyph at run quiet asked =
     let is_calm : IsCalm w = calm refl in
     record {
-      run = run_at font glyph (behind m asked.before) w of_font of_glyph (passed_run m (behind m asked.before) w refl refl asked.least is_calm asked.passed run);
+      run = run_at font glyph (behind m asked.before) w of_font of_glyph
+          (passed_run m (behind m asked.before) w refl refl asked.least is_calm asked.passed run);
       quiet = quiet_on m font glyph unit from (asked.before + 1) of_font of_glyph at quiet (passed_quiet m w asked.before is_calm asked.passed run);
     }
 
@@ -197,19 +210,24 @@ near_behind limit all n before more passed near =
       | inr none ↦ omega (arith, none, near)
     ]
 
-near_font : (m : MachineView) (font : CheckedFont) (before : ℕ) → executed m ≡ font → m.counted ≤ before → ArePassed (limit_of m.edition) (steps_of m.font m.glyph) m.counted before → m.counted ≤ step_limit font → before ≤ step_limit font
+near_font : (m : MachineView) (font : CheckedFont) (before : ℕ) → executed m ≡ font → m.counted ≤ before
+    → ArePassed (limit_of m.edition) (steps_of m.font m.glyph) m.counted before → m.counted ≤ step_limit font → before ≤ step_limit font
 near_font m font before of_font more passed near =
     subst (λ (f : CheckedFont). before ≤ step_limit f) of_font
-    (near_behind (limit_of m.edition) (steps_of m.font m.glyph) m.counted before more passed (subst (λ (f : CheckedFont). m.counted ≤ step_limit f) (sym of_font) near))
+    (near_behind (limit_of m.edition) (steps_of m.font m.glyph) m.counted before more passed
+    (subst (λ (f : CheckedFont). m.counted ≤ step_limit f) (sym of_font) near))
 
 -- What the machine told behind them: a step, or the first past the limit.
-told_behind : (numbers : Numbers) (m new : MachineView) (answer : Answer) (step : Step) (font : CheckedFont) (glyph : ℕ) → executed m ≡ font → m.glyph ≡ glyph → m.counted ≤ step_limit font → is_over answer ≡ false → step_value step ≡ new.step
+told_behind : (numbers : Numbers) (m new : MachineView) (answer : Answer) (step : Step) (font : CheckedFont) (glyph : ℕ) → executed m ≡ font → m.glyph ≡ glyph
+    → m.counted ≤ step_limit font → is_over answer ≡ false → step_value step ≡ new.step
     → (asked : IsAsked numbers m new (answer_view answer new.step)) → IsTold font glyph asked.before new.counted step
 told_behind numbers m new Ended step font glyph of_font of_glyph near on here asked = let no : true ≡ false = on in cc
 told_behind numbers m new answers.Step step font glyph of_font of_glyph near on here asked =
-    told_at (behind m asked.before) font glyph new.counted step of_font of_glyph (near_font m font asked.before of_font asked.least asked.passed near) asked.counted (inl (ap stepped here ∙ asked.turn))
+    told_at (behind m asked.before) font glyph new.counted step of_font of_glyph (near_font m font asked.before of_font asked.least asked.passed near)
+    asked.counted (inl (ap stepped here ∙ asked.turn))
 told_behind numbers m new Limit step font glyph of_font of_glyph near on here asked =
-    told_at (behind m asked.before) font glyph new.counted step of_font of_glyph (near_font m font asked.before of_font asked.least asked.passed near) asked.counted (inr (ap limited here ∙ asked.turn))
+    told_at (behind m asked.before) font glyph new.counted step of_font of_glyph (near_font m font asked.before of_font asked.least asked.passed near)
+    asked.counted (inr (ap limited here ∙ asked.turn))
 
 -- The same with all that is known in front of the step.
 pub record IsTurn (font : CheckedFont) (glyph unit from n counted : ℕ) (w : Watches) (step : Step) : Type 0 where
@@ -218,8 +236,10 @@ pub record IsTurn (font : CheckedFont) (glyph unit from n counted : ℕ) (w : Wa
   pub stands : StandsBehind font glyph unit from before w
   pub told : IsTold font glyph before counted step
 
-pub turn_behind : (numbers : Numbers) (m new : MachineView) (answer : Answer) (step : Step) (w : Watches) (font : CheckedFont) (glyph unit from : ℕ) → (numbers ≡ Passed → IsCalm w) → executed m ≡ font → m.glyph ≡ glyph → unit ≡ glyph + 1 → IsRun m w → IsQuiet font unit from (m.counted + 1)
-    → m.counted ≤ step_limit font → is_over answer ≡ false → step_value step ≡ new.step → IsAsked numbers m new (answer_view answer new.step) → IsTurn font glyph unit from m.counted new.counted w step
+pub turn_behind : (numbers : Numbers) (m new : MachineView) (answer : Answer) (step : Step) (w : Watches) (font : CheckedFont) (glyph unit from : ℕ)
+    → (numbers ≡ Passed → IsCalm w) → executed m ≡ font → m.glyph ≡ glyph → unit ≡ glyph + 1 → IsRun m w → IsQuiet font unit from (m.counted + 1)
+    → m.counted ≤ step_limit font → is_over answer ≡ false → step_value step ≡ new.step → IsAsked numbers m new (answer_view answer new.step)
+    → IsTurn font glyph unit from m.counted new.counted w step
 turn_behind numbers m new answer step w font glyph unit from calm of_font of_glyph at run quiet near on here asked =
     record {
       before = asked.before;
@@ -238,11 +258,14 @@ pub record EndsBehind (font : CheckedFont) (glyph before counted : ℕ) : Type 0
   pub over : IsOver (step_limit font) (steps_of font.value glyph) before
   pub counted_is : counted ≡ turns_of_glyph font glyph
 
-pub ended_behind : (numbers : Numbers) (m new : MachineView) (answer : Answer) (font : CheckedFont) (glyph : ℕ) → executed m ≡ font → m.glyph ≡ glyph → is_over answer ≡ true → (asked : IsAsked numbers m new (answer_view answer new.step)) → asked.before ≤ turns_of_glyph font glyph → EndsBehind font glyph asked.before new.counted
+pub ended_behind : (numbers : Numbers) (m new : MachineView) (answer : Answer) (font : CheckedFont) (glyph : ℕ) → executed m ≡ font → m.glyph ≡ glyph
+    → is_over answer ≡ true → (asked : IsAsked numbers m new (answer_view answer new.step)) → asked.before ≤ turns_of_glyph font glyph
+    → EndsBehind font glyph asked.before new.counted
 ended_behind numbers m new answer font glyph of_font of_glyph is asked few =
     let over = told_end (behind m asked.before) font glyph of_font of_glyph (ended_view answer new.step is ∙ asked.turn) in
     record { over = over; counted_is = count_at_end (behind m asked.before) font glyph new.counted of_font of_glyph over few asked.counted }
 
 -- How many more times the machine can be asked then.
-pub fewer_turns_left : (font : CheckedFont) (glyph unit from n counted : ℕ) (w : Watches) (step : Step) → IsTurn font glyph unit from n counted w step → n ≤ step_limit font → step_limit font + 1 - counted < step_limit font + 1 - n
+pub fewer_turns_left : (font : CheckedFont) (glyph unit from n counted : ℕ) (w : Watches) (step : Step) → IsTurn font glyph unit from n counted w step
+    → n ≤ step_limit font → step_limit font + 1 - counted < step_limit font + 1 - n
 fewer_turns_left font glyph unit from n counted w step turn near = omega (arith, turn.least, turn.told.counted_is, near)

@@ -20,11 +20,14 @@ pub few_index : (font : FontValue) (p : FontPlaces) → IsFontPlaces font p → 
 few_index font p is less = let few = few_places font p.key in omega (arith, few, is.places, less)
 
 -- The set of a place is what is broken there.
-place_agrees : (font : CheckedFont) (p : FontPlaces) (mask : Mask) → p.index < 65536 → ((n : ℕ) → has mask n ≡ violated font_rules n font.value p.key p.index) → (n : ℕ) → has mask n ≡ is_broken font 0 (font_step p) n
+place_agrees : (font : CheckedFont) (p : FontPlaces) (mask : Mask) → p.index < 65536 → ((n : ℕ) → has mask n ≡ violated font_rules n font.value p.key p.index)
+    → (n : ℕ) → has mask n ≡ is_broken font 0 (font_step p) n
 place_agrees font p mask few answers n = answers n ∙ sym (in_font font p.key p.index n few)
 
-pub first_place : (font : CheckedFont) (from : ℕ) (p : FontPlaces) (found : Found) → IsFontPlaces font.value p → p.index < p.places → from ≤ font_step p → IsQuiet font 0 from (font_step p)
-    → found.unit ≡ 0 → found.step ≡ font_step p → found.path.items ≡ [] → ((n : ℕ) → has found.rules n ≡ violated font_rules n font.value p.key p.index) → IsFirst font 0 from found
+pub first_place : (font : CheckedFont) (from : ℕ) (p : FontPlaces) (found : Found) → IsFontPlaces font.value p → p.index < p.places → from ≤ font_step p
+    → IsQuiet font 0 from (font_step p)
+    → found.unit ≡ 0 → found.step ≡ font_step p → found.path.items ≡ [] → ((n : ℕ) → has found.rules n ≡ violated font_rules n font.value p.key p.index)
+    → IsFirst font 0 from found
 first_place font from p found is less behind quiet unit step path answers =
     record {
       unit_is = unit;
@@ -35,8 +38,10 @@ first_place font from p found is less behind quiet unit step path answers =
     }
 
 -- A place where nothing is broken, and the place behind it.
-pub place_passed : (font : CheckedFont) (from : ℕ) (p next : FontPlaces) (mask : Mask) → IsFontPlaces font.value p → p.index < p.places → IsQuiet font 0 from (font_step p)
-    → ((n : ℕ) → has mask n ≡ violated font_rules n font.value p.key p.index) → HasNoneAbove mask 0 → font_step next ≡ font_step p + 1 → IsQuiet font 0 from (font_step next)
+pub place_passed : (font : CheckedFont) (from : ℕ) (p next : FontPlaces) (mask : Mask) → IsFontPlaces font.value p → p.index < p.places
+    → IsQuiet font 0 from (font_step p)
+    → ((n : ℕ) → has mask n ≡ violated font_rules n font.value p.key p.index) → HasNoneAbove mask 0 → font_step next ≡ font_step p + 1
+    → IsQuiet font 0 from (font_step next)
 place_passed font from p next mask is less quiet answers none at = λ s rule past before.
     elim (cases_lt s (font_step p)) [
       | inl earlier ↦ quiet s rule past earlier

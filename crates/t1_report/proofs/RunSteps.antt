@@ -40,32 +40,39 @@ listed_limited limit all n step near is =
     }
 
 -- Either is one turn more.
-pub turns_stepped : (font : CheckedFont) (glyph n : ℕ) (step : Step) → IsStepped (step_limit font) (steps_of font.value glyph) n (step_value step) → n + 1 ≤ turns_of_glyph font glyph
+pub turns_stepped : (font : CheckedFont) (glyph n : ℕ) (step : Step) → IsStepped (step_limit font) (steps_of font.value glyph) n (step_value step)
+    → n + 1 ≤ turns_of_glyph font glyph
 unfolding turns_of_glyph
 turns_stepped font glyph n step is = omega (arith, is.within)
 
 turns_past : (limit : ℕ) (all : List StepView) (n : ℕ) → n ≤ limit → limit < length all → n + 1 ≤ length (take limit all) + 1
 turns_past limit all n near within = omega (arith, near, within, length-take limit all)
 
-pub turns_limited : (font : CheckedFont) (glyph n : ℕ) (step : Step) → n ≤ step_limit font → IsLimited (step_limit font) (steps_of font.value glyph) n (step_value step) → n + 1 ≤ turns_of_glyph font glyph
+pub turns_limited : (font : CheckedFont) (glyph n : ℕ) (step : Step) → n ≤ step_limit font → IsLimited (step_limit font) (steps_of font.value glyph) n
+    (step_value step) → n + 1 ≤ turns_of_glyph font glyph
 unfolding turns_of_glyph
 turns_limited font glyph n step near is = turns_past (step_limit font) (steps_of font.value glyph) n near is.within
 
 -- What watchers and components answer at a listed step is what is broken there.
-pub step_agrees : (font : CheckedFont) (unit glyph place : ℕ) (step : Step) (components : ComponentsView) (mask : Mask) → unit ≡ glyph + 1 → glyph < length font.value.glyphs → IsListed (step_limit font) (steps_of font.value glyph) place step → AreOf font.value components → components.edition ≡ font.edition
-    → ((n : ℕ) → has mask n ≡ step_breaks (limit_of components.edition) (charstring_rules components.edition components.components) n (take place (steps_of font.value glyph) ++ step_view step ∷ []) (length (take place (steps_of font.value glyph))))
+pub step_agrees : (font : CheckedFont) (unit glyph place : ℕ) (step : Step) (components : ComponentsView) (mask : Mask) → unit ≡ glyph + 1
+    → glyph < length font.value.glyphs → IsListed (step_limit font) (steps_of font.value glyph) place step → AreOf font.value components
+    → components.edition ≡ font.edition
+    → ((n : ℕ) → has mask n ≡ step_breaks (limit_of components.edition) (charstring_rules components.edition components.components) n
+    (take place (steps_of font.value glyph) ++ step_view step ∷ []) (length (take place (steps_of font.value glyph))))
     → (n : ℕ) → has mask n ≡ is_broken font unit step.number n
 step_agrees font unit glyph place step components mask at there is are same answers n =
     let all : List StepView = steps_of font.value glyph in
     let those : components.components ≡ components_of (step_limit font) font.value = are ∙ ap (λ e. components_of (limit_of e) font.value) same in
     answers n
     ∙ ap (λ e. step_breaks (limit_of e) (charstring_rules e components.components) n (take place all ++ step_view step ∷ []) (length (take place all))) same
-    ∙ ap (λ (rules : List StepRule). step_breaks (step_limit font) rules n (take place all ++ step_view step ∷ []) (length (take place all))) (rules_by font components.components those)
+    ∙ ap (λ (rules : List StepRule). step_breaks (step_limit font) rules n (take place all ++ step_view step ∷ []) (length (take place all)))
+    (rules_by font components.components those)
     ∙ so_far_decides (step_limit font) (rules_of font) n all place (step_view step) is.there
     ∙ sym (at_step font unit step.number glyph place n at is.number there)
 
 -- One quiet step more.
-pub quiet_more : (font : CheckedFont) (unit from n : ℕ) (step : Step) (mask : Mask) → step.number ≡ n + 1 → IsQuiet font unit from (n + 1) → ((k : ℕ) → has mask k ≡ is_broken font unit step.number k) → HasNoneAbove mask 0 → IsQuiet font unit from (n + 1 + 1)
+pub quiet_more : (font : CheckedFont) (unit from n : ℕ) (step : Step) (mask : Mask) → step.number ≡ n + 1 → IsQuiet font unit from (n + 1)
+    → ((k : ℕ) → has mask k ≡ is_broken font unit step.number k) → HasNoneAbove mask 0 → IsQuiet font unit from (n + 1 + 1)
 quiet_more font unit from n step mask number so_far agrees none = λ s rule past less.
     elim (cases_lt s (n + 1)) [
       | inl before ↦ so_far s rule past before
@@ -76,7 +83,8 @@ quiet_more font unit from n step mask number so_far agrees none = λ s rule past
     ]
 
 -- What was found at a listed step.
-pub found_at : (font : CheckedFont) (unit glyph from n : ℕ) (step : Step) (found : Found) → glyph < length font.value.glyphs → unit ≡ glyph + 1 → IsListed (step_limit font) (steps_of font.value glyph) n step → from ≤ n + 1
+pub found_at : (font : CheckedFont) (unit glyph from n : ℕ) (step : Step) (found : Found) → glyph < length font.value.glyphs → unit ≡ glyph + 1
+    → IsListed (step_limit font) (steps_of font.value glyph) n step → from ≤ n + 1
     → IsQuiet font unit from (n + 1) → found.unit ≡ unit → found.step ≡ step.number → found.path.items ≡ step.path.items
     → ((k : ℕ) → has found.rules k ≡ is_broken font unit step.number k) → IsFirst font unit from found
 found_at font unit glyph from n step found there at is past so_far unit_is step_is path agrees =
@@ -110,14 +118,16 @@ pub quiet_limit : (font : CheckedFont) (unit glyph from n : ℕ) → unit ≡ gl
 quiet_limit font unit glyph from n at past so_far =
     quiet_past font unit glyph from n at (omega (arith, past, length-take (step_limit font + 1) (steps_of font.value glyph))) so_far
 
-over_turns : (limit : ℕ) (all : List StepView) (n counted : ℕ) → IsOver limit all n → n ≤ length (take limit all) + 1 → counted ≡ counted_after limit all n → counted ≡ length (take limit all) + 1
+over_turns : (limit : ℕ) (all : List StepView) (n counted : ℕ) → IsOver limit all n → n ≤ length (take limit all) + 1 → counted ≡ counted_after limit all n
+    → counted ≡ length (take limit all) + 1
 over_turns limit all n counted over few is = is ∙ by_place (nat_lt (length (take limit all)) n) refl
   where
     by_place : (b : Bool) → nat_lt (length (take limit all)) n ≡ b → (if b then n else n + 1) ≡ length (take limit all) + 1
     by_place true past = omega (arith, ltb-true (length (take limit all)) n past, few)
     by_place false near = omega (arith, ltb-false (length (take limit all)) n near, over.all, over.few, length-take limit all)
 
-pub turns_over : (font : CheckedFont) (glyph n counted : ℕ) → IsOver (step_limit font) (steps_of font.value glyph) n → n ≤ turns_of_glyph font glyph → counted ≡ counted_after (step_limit font) (steps_of font.value glyph) n → counted ≡ turns_of_glyph font glyph
+pub turns_over : (font : CheckedFont) (glyph n counted : ℕ) → IsOver (step_limit font) (steps_of font.value glyph) n → n ≤ turns_of_glyph font glyph
+    → counted ≡ counted_after (step_limit font) (steps_of font.value glyph) n → counted ≡ turns_of_glyph font glyph
 unfolding turns_of_glyph
 turns_over font glyph n counted over few is = over_turns (step_limit font) (steps_of font.value glyph) n counted over few is
 
@@ -183,10 +193,13 @@ told_at m font glyph counted step of_font of_glyph near count answered =
       | inr is ↦ inr (limited_is (step_limit font) (steps_of font.value glyph) m.counted (step_value step) (is ∙ turn))
     ]))
 
-pub told_end : (m : MachineView) (font : CheckedFont) (glyph : ℕ) → executed m ≡ font → m.glyph ≡ glyph → ended ≡ turn_at (limit_of m.edition) (steps_of m.font m.glyph) m.counted → IsOver (step_limit font) (steps_of font.value glyph) m.counted
-told_end m font glyph of_font of_glyph turn = ended_is (step_limit font) (steps_of font.value glyph) m.counted (turn ∙ same_turn font.edition m font.value glyph (executing m font glyph of_font of_glyph))
+pub told_end : (m : MachineView) (font : CheckedFont) (glyph : ℕ) → executed m ≡ font → m.glyph ≡ glyph
+    → ended ≡ turn_at (limit_of m.edition) (steps_of m.font m.glyph) m.counted → IsOver (step_limit font) (steps_of font.value glyph) m.counted
+told_end m font glyph of_font of_glyph turn = ended_is (step_limit font) (steps_of font.value glyph) m.counted
+    (turn ∙ same_turn font.edition m font.value glyph (executing m font glyph of_font of_glyph))
 
-pub count_at_end : (m : MachineView) (font : CheckedFont) (glyph counted : ℕ) → executed m ≡ font → m.glyph ≡ glyph → IsOver (step_limit font) (steps_of font.value glyph) m.counted → m.counted ≤ turns_of_glyph font glyph
+pub count_at_end : (m : MachineView) (font : CheckedFont) (glyph counted : ℕ) → executed m ≡ font → m.glyph ≡ glyph
+    → IsOver (step_limit font) (steps_of font.value glyph) m.counted → m.counted ≤ turns_of_glyph font glyph
     → counted ≡ counted_after (limit_of m.edition) (steps_of m.font m.glyph) m.counted → counted ≡ turns_of_glyph font glyph
 count_at_end m font glyph counted of_font of_glyph over few count =
     turns_over font glyph m.counted counted over few (count ∙ same_count font.edition m font.value glyph (executing m font glyph of_font of_glyph))
@@ -196,12 +209,14 @@ pub record IsRunAt (font : CheckedFont) (glyph counted : ℕ) (watches : Watches
   pub counted_few : counted ≤ turns_of_glyph font glyph
   pub seen_are : HaveSeen font.edition watches (take counted (steps_of font.value glyph))
 
-pub run_at : (font : CheckedFont) (glyph : ℕ) (m : MachineView) (watches : Watches) → executed m ≡ font → m.glyph ≡ glyph → IsRun m watches → IsRunAt font glyph m.counted watches
+pub run_at : (font : CheckedFont) (glyph : ℕ) (m : MachineView) (watches : Watches) → executed m ≡ font → m.glyph ≡ glyph → IsRun m watches
+    → IsRunAt font glyph m.counted watches
 run_at font glyph m watches of_font of_glyph run =
     subst (λ f. IsRunAt f glyph m.counted watches) of_font
     (subst (λ g. IsRunAt (executed m) g m.counted watches) of_glyph (record { counted_few = run.counted; seen_are = run.seen }))
 
-pub run_of : (font : CheckedFont) (glyph : ℕ) (m : MachineView) (watches : Watches) → executed m ≡ font → m.glyph ≡ glyph → glyph < length font.value.glyphs → IsRunAt font glyph m.counted watches → IsRun m watches
+pub run_of : (font : CheckedFont) (glyph : ℕ) (m : MachineView) (watches : Watches) → executed m ≡ font → m.glyph ≡ glyph → glyph < length font.value.glyphs
+    → IsRunAt font glyph m.counted watches → IsRun m watches
 run_of font glyph m watches of_font of_glyph there at =
     let same : IsRunAt (executed m) m.glyph m.counted watches =
     subst (λ g. IsRunAt (executed m) g m.counted watches) (sym of_glyph) (subst (λ f. IsRunAt f glyph m.counted watches) (sym of_font) at) in
@@ -212,15 +227,19 @@ run_of font glyph m watches of_font of_glyph there at =
     }
 
 -- One step more.
-pub run_more : (font : CheckedFont) (glyph n counted : ℕ) (step : Step) (watches : Watches) → IsTold font glyph n counted step → HaveSeen font.edition watches (take n (steps_of font.value glyph) ++ step_view step ∷ []) → IsRunAt font glyph counted watches
+pub run_more : (font : CheckedFont) (glyph n counted : ℕ) (step : Step) (watches : Watches) → IsTold font glyph n counted step
+    → HaveSeen font.edition watches (take n (steps_of font.value glyph) ++ step_view step ∷ []) → IsRunAt font glyph counted watches
 run_more font glyph n counted step watches told seen =
     record {
       counted_few = told.turns;
-      seen_are = subst (HaveSeen font.edition watches) (sym (ap (λ k. take k (steps_of font.value glyph)) told.counted_is ∙ take_next (steps_of font.value glyph) n (step_view step) told.listed.there)) seen;
+      seen_are = subst (HaveSeen font.edition watches)
+          (sym (ap (λ k. take k (steps_of font.value glyph)) told.counted_is ∙ take_next (steps_of font.value glyph) n (step_view step) told.listed.there))
+          seen;
     }
 
 -- Behind the end no step was seen more.
-pub run_over : (font : CheckedFont) (glyph n counted : ℕ) (watches : Watches) → IsOver (step_limit font) (steps_of font.value glyph) n → counted ≡ turns_of_glyph font glyph → IsRunAt font glyph n watches → IsRunAt font glyph counted watches
+pub run_over : (font : CheckedFont) (glyph n counted : ℕ) (watches : Watches) → IsOver (step_limit font) (steps_of font.value glyph) n
+    → counted ≡ turns_of_glyph font glyph → IsRunAt font glyph n watches → IsRunAt font glyph counted watches
 unfolding turns_of_glyph
 run_over font glyph n counted watches over count run =
     let all : List StepView = steps_of font.value glyph in

@@ -17,7 +17,8 @@ use Rattle.t1_report.proofs.Told.{none_below, some_below}
 abbrev pub IsUnused : CheckedFont → ℕ → Rule → ℕ → Type 0
 IsUnused font glyph rule to = (s : ℕ) → s ≤ to → is_broken font (glyph + 1) s (number_of rule) ≡ false
 
-pub unused_more : (font run : CheckedFont) (glyph old new : ℕ) (rule : Rule) (found : Found) → run ≡ font → IsFirst run (glyph + 1) (old + 1) found → new ≡ found.step → has found.rules (number_of rule) ≡ false
+pub unused_more : (font run : CheckedFont) (glyph old new : ℕ) (rule : Rule) (found : Found) → run ≡ font → IsFirst run (glyph + 1) (old + 1) found
+    → new ≡ found.step → has found.rules (number_of rule) ≡ false
     → IsUnused font glyph rule old → IsUnused font glyph rule new
 unused_more font run glyph old new rule found same first at none so_far s low =
     elim (cases_lt old s) [
@@ -31,10 +32,12 @@ unused_more font run glyph old new rule found same first at none so_far s low =
           ])
     ]
 
-used_by : (font : CheckedFont) (name : List ℕ) (rule : Rule) (glyph : ℕ) → Some glyph ≡ glyph_named font.value name → is_used font (name, rule) ≡ is_used_by font (number_of rule) (Some glyph)
+used_by : (font : CheckedFont) (name : List ℕ) (rule : Rule) (glyph : ℕ) → Some glyph ≡ glyph_named font.value name → is_used font (name, rule) ≡ is_used_by
+    font (number_of rule) (Some glyph)
 used_by font name rule glyph is = ap (is_used_by font (number_of rule)) (sym is)
 
-pub use_found : (font run : CheckedFont) (name : List ℕ) (glyph old : ℕ) (rule : Rule) (found : Found) → Some glyph ≡ glyph_named font.value name → run ≡ font → IsFirst run (glyph + 1) (old + 1) found → found.step ≤ step_limit font + 1
+pub use_found : (font run : CheckedFont) (name : List ℕ) (glyph old : ℕ) (rule : Rule) (found : Found) → Some glyph ≡ glyph_named font.value name → run ≡ font
+    → IsFirst run (glyph + 1) (old + 1) found → found.step ≤ step_limit font + 1
     → has found.rules (number_of rule) ≡ true → is_used font (name, rule) ≡ true
 use_found font run name glyph old rule found named same first few there =
     let unit : glyph + 1 ≡ suc glyph = omega arith in
@@ -43,7 +46,8 @@ use_found font run name glyph old rule found named same first few there =
     (subst (λ f. is_broken f (glyph + 1) found.step (number_of rule) ≡ true) same (sym (first.rules (number_of rule)) ∙ there)) in
     used_by font name rule glyph named ∙ some_below font (suc glyph) (step_limit font + 2) (number_of rule) found.step (omega (arith, few)) broken
 
-pub use_none : (font run : CheckedFont) (name : List ℕ) (glyph old : ℕ) (rule : Rule) → Some glyph ≡ glyph_named font.value name → run ≡ font → IsQuietFrom run (glyph + 1) (old + 1)
+pub use_none : (font run : CheckedFont) (name : List ℕ) (glyph old : ℕ) (rule : Rule) → Some glyph ≡ glyph_named font.value name → run ≡ font
+    → IsQuietFrom run (glyph + 1) (old + 1)
     → IsUnused font glyph rule old → is_used font (name, rule) ≡ false
 use_none font run name glyph old rule named same quiet so_far =
     let unit : glyph + 1 ≡ suc glyph = omega arith in
@@ -57,11 +61,13 @@ use_none font run name glyph old rule named same quiet so_far =
 
 -- ---- how often its machine is asked
 
-turns_by : (font : CheckedFont) (name : List ℕ) (rule : Rule) (glyph : ℕ) → Some glyph ≡ glyph_named font.value name → turns_of_waiver font (name, rule) ≡ turns_for font (number_of rule) (Some glyph)
+turns_by : (font : CheckedFont) (name : List ℕ) (rule : Rule) (glyph : ℕ) → Some glyph ≡ glyph_named font.value name → turns_of_waiver font (name, rule)
+    ≡ turns_for font (number_of rule) (Some glyph)
 turns_by font name rule glyph is = ap (turns_for font (number_of rule)) (sym is)
 
 -- Up to the step that was found.
-pub turns_used : (font run : CheckedFont) (name : List ℕ) (glyph old : ℕ) (rule : Rule) (found : Found) → Some glyph ≡ glyph_named font.value name → run ≡ font → IsFirst run (glyph + 1) (old + 1) found → found.step ≤ turns_of_glyph run glyph
+pub turns_used : (font run : CheckedFont) (name : List ℕ) (glyph old : ℕ) (rule : Rule) (found : Found) → Some glyph ≡ glyph_named font.value name → run ≡ font
+    → IsFirst run (glyph + 1) (old + 1) found → found.step ≤ turns_of_glyph run glyph
     → has found.rules (number_of rule) ≡ true → IsUnused font glyph rule old → turns_of_waiver font (name, rule) ≡ found.step
 turns_used font run name glyph old rule found named same first few there so_far =
     let unit : glyph + 1 ≡ suc glyph = omega arith in
@@ -78,7 +84,8 @@ turns_used font run name glyph old rule found named same first few there so_far 
     broken (subst (λ f. found.step ≤ turns_of_glyph f glyph) same few)
 
 -- All of them, where none was found.
-pub turns_unused : (font run : CheckedFont) (name : List ℕ) (glyph old : ℕ) (rule : Rule) → Some glyph ≡ glyph_named font.value name → run ≡ font → IsQuietFrom run (glyph + 1) (old + 1)
+pub turns_unused : (font run : CheckedFont) (name : List ℕ) (glyph old : ℕ) (rule : Rule) → Some glyph ≡ glyph_named font.value name → run ≡ font
+    → IsQuietFrom run (glyph + 1) (old + 1)
     → IsUnused font glyph rule old → turns_of_waiver font (name, rule) ≡ turns_of_glyph font glyph
 turns_unused font run name glyph old rule named same quiet so_far =
     let unit : glyph + 1 ≡ suc glyph = omega arith in

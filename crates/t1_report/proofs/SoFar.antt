@@ -43,23 +43,28 @@ so_far_by_places faults k mark given passed coming number = record {
       let near : i < k = omega (arith, less, length-take k faults) in
       passed i d near (subst (λ (f : FaultValue). IsLater mark (place_of f)) (get_or-take k faults i d near) later);
   coming = λ i d less.
-      subst (λ (f : FaultValue). IsLater mark (place_of f)) (sym (get_or-drop k faults i d)) (coming (k + i) d (omega arith) (omega (arith, less, length-drop k faults)));
+      subst (λ (f : FaultValue). IsLater mark (place_of f)) (sym (get_or-drop k faults i d))
+      (coming (k + i) d (omega arith) (omega (arith, less, length-drop k faults)));
   number = number;
 }
 
-passed_at : (faults : List FaultValue) (k : ℕ) (mark : Mark) → IsSoFar faults k mark → (i : ℕ) (d : FaultValue) → i < k → IsLater mark (place_of (slice_index_or faults i d)) → ⊥
+passed_at : (faults : List FaultValue) (k : ℕ) (mark : Mark) → IsSoFar faults k mark → (i : ℕ) (d : FaultValue) → i < k
+    → IsLater mark (place_of (slice_index_or faults i d)) → ⊥
 passed_at faults k mark so_far i d less later =
     let given = so_far.given in
-    so_far.passed i d (omega (arith, less, given, length-take k faults)) (subst (λ (f : FaultValue). IsLater mark (place_of f)) (sym (get_or-take k faults i d less)) later)
+    so_far.passed i d (omega (arith, less, given, length-take k faults))
+    (subst (λ (f : FaultValue). IsLater mark (place_of f)) (sym (get_or-take k faults i d less)) later)
 
-coming_at : (faults : List FaultValue) (k : ℕ) (mark : Mark) → IsSoFar faults k mark → (i : ℕ) (d : FaultValue) → k ≤ i → i < length faults → IsLater mark (place_of (slice_index_or faults i d))
+coming_at : (faults : List FaultValue) (k : ℕ) (mark : Mark) → IsSoFar faults k mark → (i : ℕ) (d : FaultValue) → k ≤ i → i < length faults
+    → IsLater mark (place_of (slice_index_or faults i d))
 coming_at faults k mark so_far i d past less =
     let at : k + (i - k) ≡ i = omega (arith, past) in
     subst (λ (f : FaultValue). IsLater mark (place_of f)) (get_or-drop k faults (i - k) d ∙ ap (λ (j : ℕ). slice_index_or faults j d) at)
     (so_far.coming (i - k) d (omega (arith, past, less, length-drop k faults)))
 
 pub so_far_start : (faults : List FaultValue) → IsSoFar faults 0 first_mark
-so_far_start faults = so_far_by_places faults 0 first_mark (omega arith) (λ i d less later. omega arith) (λ i d past less. all_later (place_of (slice_index_or faults i d))) refl
+so_far_start faults = so_far_by_places faults 0 first_mark (omega arith) (λ i d less later. omega arith)
+    (λ i d past less. all_later (place_of (slice_index_or faults i d))) refl
 
 -- ---- the mark of a fault
 
@@ -69,7 +74,8 @@ behind_mark faults k fault rising is i d less later =
     let at : slice_index_or faults k d ≡ fault = get_or_from_slice_get faults k fault d is in
     let within = slice_get_within faults k fault is in
     elim (cases_order i k) [
-      | inl same ↦ itself (place_of fault) (subst (λ (f : FaultValue). IsBefore (place_of fault) (place_of f)) (ap (λ (j : ℕ). slice_index_or faults j d) same ∙ at) later)
+      | inl same ↦ itself (place_of fault) (subst (λ (f : FaultValue). IsBefore (place_of fault) (place_of f)) (ap (λ (j : ℕ). slice_index_or faults j d) same
+          ∙ at) later)
       | inr (inl before) ↦ both (place_of (slice_index_or faults i d)) (place_of fault)
           (subst (λ (f : FaultValue). IsBefore (place_of (slice_index_or faults i d)) (place_of f)) at (rising i k d before within)) later
       | inr (inr more) ↦ omega arith
@@ -84,7 +90,8 @@ before_mark faults k fault rising is i d past less =
 -- the fault of an index is numbered by it
 number_at : (faults : List FaultValue) (k : ℕ) (fault : FaultValue) → AreNumbered 1 faults → slice_get faults k ≡ Some fault → fault.number ≡ k + 1
 number_at faults k fault numbered is =
-    ap (λ (f : FaultValue). f.number) (sym (get_or_from_slice_get faults k fault fault is)) ∙ number_there 1 faults numbered k fault (slice_get_within faults k fault is)
+    ap (λ (f : FaultValue). f.number) (sym (get_or_from_slice_get faults k fault fault is)) ∙ number_there 1 faults numbered k fault
+    (slice_get_within faults k fault is)
 
 -- the fault of index k is the last of the first k + 1
 pub so_far_at : (faults : List FaultValue) (k : ℕ) (fault : FaultValue) → IsRising faults → AreNumbered 1 faults → slice_get faults k ≡ Some fault
@@ -129,7 +136,8 @@ module _ (Violated : Place → Type 0) (path_of : Place → List ℕ) where
   same_next faults k mark fault report so_far next few x within at same =
       let is : IsViolationOf Violated path_of x = subst (IsViolationOf Violated path_of) at (report.violations k x within) in
       let number : x.number ≡ k + 1 = ap (λ (f : FaultValue). f.number) (sym at) ∙ number_there 1 faults report.numbered k x within in
-      same_fault path_of x fault (number ∙ sym (number_next fault.number mark.number k (length faults) next.number so_far.number within few)) same is.path next.violation.path
+      same_fault path_of x fault (number ∙ sym (number_next fault.number mark.number k (length faults) next.number so_far.number within few))
+      same is.path next.violation.path
 
   found_next : (faults : List FaultValue) (k : ℕ) (mark : Mark) (fault : FaultValue) → IsReportOf Violated path_of faults → IsSoFar faults k mark
       → IsNextOf Violated path_of mark fault → length faults < 2 ^ 64 → Any (StandsAt (place_of fault)) faults
@@ -181,7 +189,8 @@ module _ (Violated : Place → Type 0) (path_of : Place → List ℕ) where
         violation = subst (IsViolationOf Violated path_of) here (report.violations k fault within);
         later = subst (λ (f : FaultValue). IsLater mark (place_of f)) here (coming_at faults k mark so_far k fault (omega arith) within);
         first = λ p violated later. next_at faults k mark fault report so_far is p later (report.complete p violated);
-        number = number_at faults k fault report.numbered is ∙ sym (number_next (number_behind mark.number) mark.number k (length faults) refl so_far.number within few);
+        number = number_at faults k fault report.numbered is
+            ∙ sym (number_next (number_behind mark.number) mark.number k (length faults) refl so_far.number within few);
       }
 
   none_later : (faults : List FaultValue) (k : ℕ) (mark : Mark) → IsSoFar faults k mark → length faults ≤ k → (p : Place) → IsLater mark p
@@ -208,14 +217,19 @@ module _ (Violated : Place → Type 0) (path_of : Place → List ℕ) where
 
 -- ---- in a font
 
-pub next_in_font : (font : CheckedFont) (waivers : List Waiver) (faults : List FaultValue) (k : ℕ) (mark : Mark) (fault : FaultValue) → length font.value.glyphs ≤ 65535 → length waivers ≤ 1048576 → IsReport font waivers faults
+pub next_in_font : (font : CheckedFont) (waivers : List Waiver) (faults : List FaultValue) (k : ℕ) (mark : Mark) (fault : FaultValue)
+    → length font.value.glyphs ≤ 65535 → length waivers ≤ 1048576 → IsReport font waivers faults
     → IsSoFar faults k mark → IsNext font waivers mark fault → (k < length faults) × (slice_get faults k ≡ Some fault)
-next_in_font font waivers faults k mark fault few few_waivers report = next_is (IsTold font waivers) (path_at font) faults k mark fault (few_faults font waivers faults few few_waivers report) report
+next_in_font font waivers faults k mark fault few few_waivers report = next_is (IsTold font waivers) (path_at font) faults k mark fault
+    (few_faults font waivers faults few few_waivers report) report
 
-pub one_more_in_font : (font : CheckedFont) (waivers : List Waiver) (faults : List FaultValue) (k : ℕ) (mark : Mark) (fault : FaultValue) → length font.value.glyphs ≤ 65535 → length waivers ≤ 1048576 → IsReport font waivers faults
+pub one_more_in_font : (font : CheckedFont) (waivers : List Waiver) (faults : List FaultValue) (k : ℕ) (mark : Mark) (fault : FaultValue)
+    → length font.value.glyphs ≤ 65535 → length waivers ≤ 1048576 → IsReport font waivers faults
     → IsSoFar faults k mark → IsNext font waivers mark fault → IsSoFar faults (k + 1) (mark_of fault)
-one_more_in_font font waivers faults k mark fault few few_waivers report = one_more (IsTold font waivers) (path_at font) faults k mark fault (few_faults font waivers faults few few_waivers report) report
+one_more_in_font font waivers faults k mark fault few few_waivers report = one_more (IsTold font waivers) (path_at font) faults k mark fault
+    (few_faults font waivers faults few few_waivers report) report
 
-pub none_left_in_font : (font : CheckedFont) (waivers : List Waiver) (faults : List FaultValue) (k : ℕ) (mark : Mark) → IsReport font waivers faults → IsSoFar faults k mark
+pub none_left_in_font : (font : CheckedFont) (waivers : List Waiver) (faults : List FaultValue) (k : ℕ) (mark : Mark) → IsReport font waivers faults
+    → IsSoFar faults k mark
     → HasNoneLater font waivers mark → k ≡ length faults
 none_left_in_font font waivers = none_left (IsTold font waivers) (path_at font)

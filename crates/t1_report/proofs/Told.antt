@@ -29,18 +29,21 @@ told_in_glyph font waivers unit glyph step n at there =
     ap (λ u. is_told font waivers u step n) is ∙ in_glyph font waivers glyph step n there
     ∙ ap (λ u. is_broken font u step n && not (is_waived waivers (glyph_name font.value glyph) n)) (sym is)
 
-behind_glyphs : (font : CheckedFont) (waivers : List Waiver) (step n : ℕ) → is_told font waivers (suc (length font.value.glyphs)) step n ≡ tells_unused font waivers step n
+behind_glyphs : (font : CheckedFont) (waivers : List Waiver) (step n : ℕ) → is_told font waivers (suc (length font.value.glyphs)) step n
+    ≡ tells_unused font waivers step n
 unfolding is_told
 behind_glyphs font waivers step n = rw (eq-eqb (length font.value.glyphs) (length font.value.glyphs) refl) refl
 
-pub told_of_waiver : (font : CheckedFont) (waivers : List Waiver) (unit step n : ℕ) → unit ≡ length font.value.glyphs + 1 → is_told font waivers unit step n ≡ tells_unused font waivers step n
+pub told_of_waiver : (font : CheckedFont) (waivers : List Waiver) (unit step n : ℕ) → unit ≡ length font.value.glyphs + 1 → is_told font waivers unit step n
+    ≡ tells_unused font waivers step n
 told_of_waiver font waivers unit step n at =
     let is : unit ≡ suc (length font.value.glyphs) = omega (arith, at) in
     ap (λ u. is_told font waivers u step n) is ∙ behind_glyphs font waivers step n
 
 -- ---- where nothing is told
 
-pub quiet_told : (font : CheckedFont) (waivers : List Waiver) (unit step n : ℕ) → unit ≤ length font.value.glyphs → is_broken font unit step n ≡ false → is_told font waivers unit step n ≡ false
+pub quiet_told : (font : CheckedFont) (waivers : List Waiver) (unit step n : ℕ) → unit ≤ length font.value.glyphs → is_broken font unit step n ≡ false
+    → is_told font waivers unit step n ≡ false
 quiet_told font waivers zero step n within none = told_in_font font waivers step n ∙ none
 quiet_told font waivers (suc glyph) step n within none =
     in_glyph font waivers glyph step n (omega (arith, within)) ∙ ap (λ b. b && not (is_waived waivers (glyph_name font.value glyph) n)) none
@@ -51,7 +54,8 @@ past_all font waivers zero step n past = absurd (omega (arith, past))
 past_all font waivers (suc glyph) step n past =
     rw (ne_eqb glyph (length font.value.glyphs) (λ e. omega (arith, e, past)), past_glyphs font (suc glyph) step n (omega (arith, past))) refl
 
-pub past_waivers : (font : CheckedFont) (waivers : List Waiver) (unit step n : ℕ) → length font.value.glyphs + 1 < unit → is_told font waivers unit step n ≡ false
+pub past_waivers : (font : CheckedFont) (waivers : List Waiver) (unit step n : ℕ) → length font.value.glyphs + 1 < unit
+    → is_told font waivers unit step n ≡ false
 past_waivers font waivers unit step n past = past_all font waivers unit step n past
 
 -- Waivers have the steps from 1 to their count.

@@ -26,7 +26,8 @@ comes_far u s r unit step step' more (inr (c, inl d)) = inr (c, inl (omega arith
 comes_far u s r unit step step' more (inr (c, inr (d, e))) = absurd (omega arith)
 
 -- before a number of a rule that is less, unless it stands between both
-comes_back : (u s r unit step a b : ℕ) → (u ≡ unit → s ≡ step → a ≤ r → r < b → ⊥) → Comes (spot u s r) (spot unit step b) → Comes (spot u s r) (spot unit step a)
+comes_back : (u s r unit step a b : ℕ) → (u ≡ unit → s ≡ step → a ≤ r → r < b → ⊥) → Comes (spot u s r) (spot unit step b)
+    → Comes (spot u s r) (spot unit step a)
 comes_back u s r unit step a b none (inl c) = inl c
 comes_back u s r unit step a b none (inr (c, inl d)) = inr (c, inl d)
 comes_back u s r unit step a b none (inr (c, inr (d, e))) =
@@ -36,7 +37,8 @@ comes_back u s r unit step a b none (inr (c, inr (d, e))) =
     ]
 
 -- before a step that is less, unless it stands between both
-comes_near : (u s r unit step step' : ℕ) → (u ≡ unit → step ≤ s → s < step' → ⊥) → Comes (spot u s r) (spot unit step' 0) → Comes (spot u s r) (spot unit step 0)
+comes_near : (u s r unit step step' : ℕ) → (u ≡ unit → step ≤ s → s < step' → ⊥) → Comes (spot u s r) (spot unit step' 0)
+    → Comes (spot u s r) (spot unit step 0)
 comes_near u s r unit step step' none (inl c) = inl c
 comes_near u s r unit step step' none (inr (c, inl d)) =
     elim (cases_lt s step) [
@@ -92,7 +94,8 @@ module _ (broken : ℕ → ℕ → ℕ → Bool) (path_of : Place → List ℕ) 
   pub first_rule : (unit step : ℕ) (faults : List FaultValue) → Front unit step 0 faults → Front unit step 1 faults
   first_rule unit step faults front =
       front_on IsBroken path_of unit step 0 unit step 1 faults front (λ u s r. comes_up u s r unit step 0 1 (omega arith))
-      (λ p is before. comes_back p.unit p.step (number_of p.rule) unit step 0 1 (λ at place more less. let some = (in_book p.rule).0 in absurd (omega arith)) before)
+      (λ p is before. comes_back p.unit p.step (number_of p.rule) unit step 0 1
+      (λ at place more less. let some = (in_book p.rule).0 in absurd (omega arith)) before)
 
   -- from a rule number of a step on to another, where no rule of the step's set is between
   up_to : (unit step floor next : ℕ) (mask : Mask) (faults : List FaultValue) → Front unit step (floor + 1) faults → Agrees mask unit step
@@ -101,7 +104,8 @@ module _ (broken : ℕ → ℕ → ℕ → Bool) (path_of : Place → List ℕ) 
   up_to unit step floor next mask faults front agrees more none =
       front_on IsBroken path_of unit step (floor + 1) unit step next faults front (λ u s r. comes_up u s r unit step (floor + 1) next more)
       (λ p is before. comes_back p.unit p.step (number_of p.rule) unit step (floor + 1) next
-      (λ at place past less. never p.unit p.step unit step (number_of p.rule) at place is (sym (agrees (number_of p.rule)) ∙ none p.rule (omega arith) less)) before)
+      (λ at place past less. never p.unit p.step unit step (number_of p.rule) at place is (sym (agrees (number_of p.rule)) ∙ none p.rule (omega arith) less))
+      before)
 
   -- over a rule that isn't broken
   pub rule_passed : (unit step : ℕ) (rule : Rule) (faults : List FaultValue) → Front unit step (number_of rule) faults
@@ -131,7 +135,8 @@ module _ (broken : ℕ → ℕ → ℕ → Bool) (path_of : Place → List ℕ) 
   pub fault_more : (unit step floor : ℕ) (mask : Mask) (rule : Rule) (faults : List FaultValue) → Front unit step (floor + 1) faults
       → IsLeastAbove mask floor rule → Agrees mask unit step
       → Front unit step (number_of rule + 1)
-      (faults ++ fault_at (length faults + 1) (record { unit = unit; step = step; rule = rule }) (path_of (record { unit = unit; step = step; rule = rule })) ∷ [])
+      (faults ++ fault_at (length faults + 1) (record { unit = unit; step = step; rule = rule })
+      (path_of (record { unit = unit; step = step; rule = rule })) ∷ [])
   fault_more unit step floor mask rule faults front least agrees =
       let above = least.greater in
       front_with IsBroken path_of (record { unit = unit; step = step; rule = rule }) faults

@@ -96,7 +96,8 @@ pub passed_none : (font : CheckedFont) (waivers : List Waiver) (unit step : ℕ)
 passed_none font waivers unit step = record { on = inr (refl, omega arith); passed = λ p is from. from }
 
 -- A unit is done.
-pub unit_passed : (font : CheckedFont) (waivers : List Waiver) (unit step u s u' s' : ℕ) → IsPassed font waivers unit step u s → TellsNoneFrom font waivers u s → u' ≡ u + 1 → s' ≤ 1 → ((p : Place) → IsTold font waivers p → p.unit ≡ u' → s' ≤ p.step) → IsPassed font waivers unit step u' s'
+pub unit_passed : (font : CheckedFont) (waivers : List Waiver) (unit step u s u' s' : ℕ) → IsPassed font waivers unit step u s → TellsNoneFrom font waivers u s
+    → u' ≡ u + 1 → s' ≤ 1 → ((p : Place) → IsTold font waivers p → p.unit ≡ u' → s' ≤ p.step) → IsPassed font waivers unit step u' s'
 unit_passed font waivers unit step u s u' s' so_far quiet next low begins =
     record { on = later so_far.on; passed = λ p is from. beyond p is (so_far.passed p is from) }
   where
@@ -114,7 +115,8 @@ unit_passed font waivers unit step u s u' s' so_far quiet next low begins =
         absurd (true≢false (sym is ∙ ap (λ v. is_told font waivers v p.step (number_of p.rule)) (sym same) ∙ quiet p.step p.rule past))
 
 -- What was found in a unit is the first from where the search began.
-pub first_found : (font : CheckedFont) (waivers : List Waiver) (unit step u s : ℕ) (found : Found) → IsPassed font waivers unit step u s → u ≤ length font.value.glyphs + 1 → IsFirstTold font waivers u s found → IsFirstPlace font waivers unit step found
+pub first_found : (font : CheckedFont) (waivers : List Waiver) (unit step u s : ℕ) (found : Found) → IsPassed font waivers unit step u s
+    → u ≤ length font.value.glyphs + 1 → IsFirstTold font waivers u s found → IsFirstPlace font waivers unit step found
 first_found font waivers unit step u s found so_far within is =
     record {
       behind = behind so_far.on;
@@ -132,12 +134,14 @@ first_found font waivers unit step u s found so_far within is =
     ahead p broken (inl less) = inl (omega (arith, less, is.unit_is))
     ahead p broken (inr (same, past)) =
         elim (cases_lt p.step found.step) [
-          | inl less ↦ absurd (true≢false (sym broken ∙ ap (λ v. is_told font waivers v p.step (number_of p.rule)) (sym same) ∙ is.quiet p.step p.rule past less))
+          | inl less ↦ absurd (true≢false (sym broken ∙ ap (λ v. is_told font waivers v p.step (number_of p.rule)) (sym same)
+              ∙ is.quiet p.step p.rule past less))
           | inr later ↦ inr (is.unit_is ∙ same, later)
         ]
 
 -- Past the last glyph there is none.
-pub none_past : (font : CheckedFont) (waivers : List Waiver) (unit step u s : ℕ) → IsPassed font waivers unit step u s → length font.value.glyphs + 1 < u → HasNoneFrom font waivers unit step
+pub none_past : (font : CheckedFont) (waivers : List Waiver) (unit step u s : ℕ) → IsPassed font waivers unit step u s → length font.value.glyphs + 1 < u
+    → HasNoneFrom font waivers unit step
 none_past font waivers unit step u s so_far past p broken from = over (so_far.passed p broken from)
   where
     over : IsFrom u s p.unit p.step → ⊥
@@ -147,14 +151,16 @@ none_past font waivers unit step u s so_far past p broken from = over (so_far.pa
 -- ---- parts
 
 -- Steps of glyphs begin at 1.
-pub begins_at : (font : CheckedFont) (waivers : List Waiver) (unit step : ℕ) → 0 < unit → step ≤ 1 → (p : Place) → IsTold font waivers p → p.unit ≡ unit → step ≤ p.step
+pub begins_at : (font : CheckedFont) (waivers : List Waiver) (unit step : ℕ) → 0 < unit → step ≤ 1 → (p : Place) → IsTold font waivers p → p.unit ≡ unit
+    → step ≤ p.step
 begins_at font waivers unit step glyph low p is at =
     elim (cases_lt p.step 1) [
       | inl none ↦ absurd (true≢false (sym is ∙ told_no_step font waivers p.unit p.step (number_of p.rule) (omega (arith, glyph, at)) none))
       | inr some ↦ omega (arith, some, low)
     ]
 
-pub next_passed : (font : CheckedFont) (waivers : List Waiver) (unit step u s u' s' : ℕ) → IsPassed font waivers unit step u s → TellsNoneFrom font waivers u s → u' ≡ u + 1 → s' ≤ 1 → IsPassed font waivers unit step u' s'
+pub next_passed : (font : CheckedFont) (waivers : List Waiver) (unit step u s u' s' : ℕ) → IsPassed font waivers unit step u s → TellsNoneFrom font waivers u s
+    → u' ≡ u + 1 → s' ≤ 1 → IsPassed font waivers unit step u' s'
 next_passed font waivers unit step u s u' s' so_far quiet next low =
     unit_passed font waivers unit step u s u' s' so_far quiet next low (begins_at font waivers u' s' (omega (arith, next)) low)
 
@@ -164,7 +170,8 @@ pub record IsOpen (font : CheckedFont) (from unit passed : ℕ) : Type 0 where
   pub within : unit ≤ length font.value.glyphs + 1
   pub passed_are : passed ≡ turns_before font from unit
 
-pub open_part : (font : CheckedFont) (waivers : List Waiver) (from first unit passed checked : ℕ) (part : Part) → IsPart font waivers from first unit passed checked part → is_over part ≡ false → IsOpen font from unit passed
+pub open_part : (font : CheckedFont) (waivers : List Waiver) (from first unit passed checked : ℕ) (part : Part) → IsPart font waivers from first unit passed
+    checked part → is_over part ≡ false → IsOpen font from unit passed
 open_part font waivers from first unit passed checked (Font places) (is, none) still =
     record {
       begins = omega (arith, is.begins);
@@ -172,7 +179,8 @@ open_part font waivers from first unit passed checked (Font places) (is, none) s
       passed_are = is.none_passed ∙ sym (turns_none font from unit (omega (arith, is.unit_is)));
     }
 open_part font waivers from first unit passed checked (Glyph run) (is, none) still =
-    let there : run.machine.glyph < length font.value.glyphs = subst (λ (f : CheckedFont). run.machine.glyph < length f.value.glyphs) is.font_is is.runs.there in
+    let there : run.machine.glyph < length font.value.glyphs =
+    subst (λ (f : CheckedFont). run.machine.glyph < length f.value.glyphs) is.font_is is.runs.there in
     record { begins = is.begins; within = omega (arith, is.unit_is, there); passed_are = is.passed_are }
 open_part font waivers from first unit passed checked (Waivers next) is still =
     record { begins = is.begins; within = omega (arith, is.unit_is); passed_are = is.passed_are }
@@ -183,7 +191,8 @@ abbrev pub IsStart : ℕ → ℕ → ℕ → ℕ → Type 0
 IsStart from first unit step = ((from < unit) × (step ≡ 0)) ⊎ ((from ≡ unit) × (step ≡ first))
 
 -- No waiver was asked before those that are begun.
-waivers_begun : (font : CheckedFont) (waivers : List Waiver) (from first glyph step next : ℕ) → AreBegun font waivers glyph step next → IsStart from first (glyph + 1) step
+waivers_begun : (font : CheckedFont) (waivers : List Waiver) (from first glyph step next : ℕ) → AreBegun font waivers glyph step next
+    → IsStart from first (glyph + 1) step
     → ((first_asked font waivers from first < next) ⊎ (length waivers < next)) × (next - 1 ≤ first_asked font waivers from first)
 waivers_begun font waivers from first glyph step next is (inl (before, none)) =
     let at : first_asked font waivers from first ≡ 0 = first_before font waivers from first (omega (arith, before, is.behind)) in
@@ -198,8 +207,10 @@ waivers_begun font waivers from first glyph step next is (inr (here, same)) =
     )
 
 -- A unit that is begun, behind the font or a glyph.
-begun_part : (font : CheckedFont) (waivers : List Waiver) (from first glyph step passed checked : ℕ) (part : Part) → IsPartBegun font waivers glyph step part → length font.value.glyphs ≤ 65535 → length waivers ≤ 1048576 → from ≤ glyph + 1 → IsStart from first (glyph + 1) step
-    → passed ≡ turns_before font from (glyph + 1) → (length font.value.glyphs < glyph → (passed ≡ turns_before font from (length font.value.glyphs + 1)) × (turns_asked font waivers from first (length waivers) ≡ 0)) → checked ≡ 0 → IsPart font waivers from first (glyph + 1) passed checked part
+begun_part : (font : CheckedFont) (waivers : List Waiver) (from first glyph step passed checked : ℕ) (part : Part) → IsPartBegun font waivers glyph step part
+    → length font.value.glyphs ≤ 65535 → length waivers ≤ 1048576 → from ≤ glyph + 1 → IsStart from first (glyph + 1) step
+    → passed ≡ turns_before font from (glyph + 1) → (length font.value.glyphs < glyph → (passed ≡ turns_before font from (length font.value.glyphs + 1))
+    × (turns_asked font waivers from first (length waivers) ≡ 0)) → checked ≡ 0 → IsPart font waivers from first (glyph + 1) passed checked part
 begun_part font waivers from first glyph step passed checked (Font places) is few few_waivers begins starts passed_are over none = absurd is
 begun_part font waivers from first glyph step passed checked (Glyph run) is few few_waivers begins starts passed_are over none = (
   record {
@@ -229,30 +240,38 @@ begun_part font waivers from first glyph step passed checked Over is few few_wai
     (record { past = omega (arith, is); passed_are = (over is).0; few = few }, (none ∙ sym (over is).1, few_waivers))
 
 -- The search begins with a glyph, or with the waivers.
-part_begun : (font : CheckedFont) (waivers : List Waiver) (glyph step : ℕ) (part : Part) → IsPartBegun font waivers glyph step part → length font.value.glyphs ≤ 65535 → length waivers ≤ 1048576 → IsPart font waivers (glyph + 1) step (glyph + 1) 0 0 part
+part_begun : (font : CheckedFont) (waivers : List Waiver) (glyph step : ℕ) (part : Part) → IsPartBegun font waivers glyph step part
+    → length font.value.glyphs ≤ 65535 → length waivers ≤ 1048576 → IsPart font waivers (glyph + 1) step (glyph + 1) 0 0 part
 part_begun font waivers glyph step part is few few_waivers =
-    begun_part font waivers (glyph + 1) step glyph step 0 0 part is few few_waivers (omega arith) (inr (refl, refl)) (sym (turns_none font (glyph + 1) (glyph + 1) (omega arith)))
+    begun_part font waivers (glyph + 1) step glyph step 0 0 part is few few_waivers (omega arith) (inr (refl, refl))
+    (sym (turns_none font (glyph + 1) (glyph + 1) (omega arith)))
     (λ over. (
       sym (turns_none font (glyph + 1) (length font.value.glyphs + 1) (omega (arith, over))),
       asked_none font waivers (glyph + 1) step (length waivers) (omega (arith, first_behind font waivers (glyph + 1) step (omega (arith, over)))),
     )) refl
 
 -- It goes on to the next unit.
-sum_next : (font : CheckedFont) (from unit passed turns : ℕ) → IsOpen font from unit passed → turns ≡ turns_of_unit font unit → passed + turns ≡ turns_before font from (unit + 1)
+sum_next : (font : CheckedFont) (from unit passed turns : ℕ) → IsOpen font from unit passed → turns ≡ turns_of_unit font unit
+    → passed + turns ≡ turns_before font from (unit + 1)
 sum_next font from unit passed turns still done =
     ap (λ n. n + turns) still.passed_are ∙ ap (λ n. turns_before font from unit + n) done ∙ sym (turns_next font from unit still.begins)
 
-pub part_next : (font : CheckedFont) (waivers : List Waiver) (from first unit passed checked : ℕ) (old new : Part) → IsPart font waivers from first unit passed checked old → is_over old ≡ false → IsDone font waivers unit old
-    → IsPartBegun font waivers unit 0 new → length font.value.glyphs ≤ 65535 → length waivers ≤ 1048576 → IsPart font waivers from first (unit + 1) (passed + turns_in old) checked new
+pub part_next : (font : CheckedFont) (waivers : List Waiver) (from first unit passed checked : ℕ) (old new : Part) → IsPart font waivers from first unit passed
+    checked old → is_over old ≡ false → IsDone font waivers unit old
+    → IsPartBegun font waivers unit 0 new → length font.value.glyphs ≤ 65535 → length waivers ≤ 1048576 → IsPart font waivers from first (unit + 1)
+    (passed + turns_in old) checked new
 part_next font waivers from first unit passed checked (Font places) new is still done begun few few_waivers =
     let ongoing = open_part font waivers from first unit passed checked (Font places) is still in
     let none : 0 ≡ turns_of_unit font unit = ap (turns_of_unit font) (sym is.0.unit_is) in
-    begun_part font waivers from first unit 0 (passed + 0) checked new begun few few_waivers (omega (arith, ongoing.begins)) (inl (omega (arith, ongoing.begins), refl)) (sum_next font from unit passed 0 ongoing none)
+    begun_part font waivers from first unit 0 (passed + 0) checked new begun few few_waivers (omega (arith, ongoing.begins))
+    (inl (omega (arith, ongoing.begins), refl)) (sum_next font from unit passed 0 ongoing none)
     (λ over. absurd (omega (arith, over, is.0.unit_is))) is.1
 part_next font waivers from first unit passed checked (Glyph run) new is still done begun few few_waivers =
     let ongoing = open_part font waivers from first unit passed checked (Glyph run) is still in
-    let there : run.machine.glyph < length font.value.glyphs = subst (λ (f : CheckedFont). run.machine.glyph < length f.value.glyphs) is.0.font_is is.0.runs.there in
-    begun_part font waivers from first unit 0 (passed + run.machine.counted) checked new begun few few_waivers (omega (arith, ongoing.begins)) (inl (omega (arith, ongoing.begins), refl)) (sum_next font from unit passed run.machine.counted ongoing done)
+    let there : run.machine.glyph < length font.value.glyphs = subst (λ (f : CheckedFont). run.machine.glyph < length f.value.glyphs)
+    is.0.font_is is.0.runs.there in
+    begun_part font waivers from first unit 0 (passed + run.machine.counted) checked new begun few few_waivers (omega (arith, ongoing.begins))
+    (inl (omega (arith, ongoing.begins), refl)) (sum_next font from unit passed run.machine.counted ongoing done)
     (λ over. absurd (omega (arith, over, is.0.unit_is, there))) is.1
 part_next font waivers from first unit passed checked (Waivers next) new is still done begun few few_waivers = over new begun
   where
@@ -265,7 +284,8 @@ part_next font waivers from first unit passed checked (Waivers next) new is stil
     over : (part : Part) → IsPartBegun font waivers unit 0 part → IsPart font waivers from first (unit + 1) (passed + 0) checked part
     over (Font places) at = absurd at
     over (Glyph run) at =
-        let there : run.machine.glyph < length font.value.glyphs = subst (λ (f : CheckedFont). run.machine.glyph < length f.value.glyphs) at.font_is at.runs.there in
+        let there : run.machine.glyph < length font.value.glyphs =
+        subst (λ (f : CheckedFont). run.machine.glyph < length f.value.glyphs) at.font_is at.runs.there in
         absurd (omega (arith, there, at.glyph_is, is.unit_is))
     over (Waivers other) at = absurd (omega (arith, at.behind, is.unit_is))
     over Over at = (record { past = omega (arith, at); passed_are = sum; few = few }, (all, few_waivers))
@@ -278,7 +298,8 @@ starts_low font waivers glyph (Waivers next) is = elim is.near [ inl low ↦ low
 starts_low font waivers glyph Over is = omega arith
 
 -- It begins no later than the first told step from a step on.
-pub starts_near : (font : CheckedFont) (waivers : List Waiver) (glyph step s : ℕ) (part : Part) → IsPartBegun font waivers glyph step part → step ≤ s → 1 ≤ s → step_of_part part ≤ s
+pub starts_near : (font : CheckedFont) (waivers : List Waiver) (glyph step s : ℕ) (part : Part) → IsPartBegun font waivers glyph step part → step ≤ s → 1 ≤ s
+    → step_of_part part ≤ s
 starts_near font waivers glyph step s (Font places) is past some = absurd is
 starts_near font waivers glyph step s (Glyph run) is past some = omega (arith, is.counted, some)
 starts_near font waivers glyph step s (Waivers next) is past some = elim is.near [ inl low ↦ omega (arith, low, some) | inr less ↦ omega (arith, less, past) ]
@@ -288,7 +309,8 @@ starts_near font waivers glyph step s Over is past some = omega arith
 pub few_passed : (s : Search) → IsSearch s → (s.passed ≤ 65537065537) × (s.checked ≤ 1048577048576)
 few_passed s is = by_part s.part is.part_is
   where
-    by_part : (part : Part) → IsPart (checked_in s) s.waivers.now s.from s.first s.unit s.passed s.checked part → (s.passed ≤ 65537065537) × (s.checked ≤ 1048577048576)
+    by_part : (part : Part) → IsPart (checked_in s) s.waivers.now s.from s.first s.unit s.passed s.checked part → (s.passed ≤ 65537065537)
+        × (s.checked ≤ 1048577048576)
     by_part (Font places) at = (omega (arith, at.0.none_passed), omega (arith, at.1))
     by_part (Glyph run) at =
         let still = open_part (checked_in s) s.waivers.now s.from s.first s.unit s.passed s.checked (Glyph run) at refl in
@@ -304,7 +326,8 @@ few_passed s is = by_part s.part is.part_is
         (omega (arith, at.0.passed_are, few, at.0.few), omega (arith, at.1.0, asked, at.1.1))
 
 -- No more than the steps up to the limit of all glyphs, and one for each; and as many for each waiver.
-pub few_turns_in_all : (s : Search) → IsSearch s → s.passed + turns_in s.part + s.checked ≤ (step_limit (checked_in s) + 1) * (length s.font.now.glyphs + length s.waivers.now)
+pub few_turns_in_all : (s : Search) → IsSearch s → s.passed + turns_in s.part + s.checked ≤ (step_limit (checked_in s) + 1) *
+    (length s.font.now.glyphs + length s.waivers.now)
 few_turns_in_all s is = by_part s.part is.part_is
   where
     font : CheckedFont
@@ -316,58 +339,74 @@ few_turns_in_all s is = by_part s.part is.part_is
     both : most * (length font.value.glyphs + length s.waivers.now) ≡ most * length font.value.glyphs + most * length s.waivers.now
     both = omega arith
 
-    by_part : (part : Part) → IsPart font s.waivers.now s.from s.first s.unit s.passed s.checked part → s.passed + turns_in part + s.checked ≤ most * (length font.value.glyphs + length s.waivers.now)
+    by_part : (part : Part) → IsPart font s.waivers.now s.from s.first s.unit s.passed s.checked part → s.passed + turns_in part + s.checked
+        ≤ most * (length font.value.glyphs + length s.waivers.now)
     by_part (Font places) at = omega (arith, at.0.none_passed, at.1)
     by_part (Glyph run) at =
         let unit : s.unit ≡ suc run.machine.glyph = omega (arith, at.0.unit_is) in
         let passed : s.passed ≤ most * run.machine.glyph =
-        subst (λ n. n ≤ most * run.machine.glyph) (sym (at.0.passed_are ∙ ap (turns_before font s.from) unit)) (few_to_glyph most font s.from run.machine.glyph (few_in_unit font)) in
-        let there : run.machine.glyph < length font.value.glyphs = subst (λ (f : CheckedFont). run.machine.glyph < length f.value.glyphs) at.0.font_is at.0.runs.there in
-        let counted : run.machine.counted ≤ most = subst (λ (f : CheckedFont). run.machine.counted ≤ step_limit f + 1) at.0.font_is (omega (arith, at.0.runs.counted, few_turns (executed run.machine) run.machine.glyph)) in
+        subst (λ n. n ≤ most * run.machine.glyph) (sym (at.0.passed_are ∙ ap (turns_before font s.from) unit))
+        (few_to_glyph most font s.from run.machine.glyph (few_in_unit font)) in
+        let there : run.machine.glyph < length font.value.glyphs = subst (λ (f : CheckedFont). run.machine.glyph < length f.value.glyphs)
+        at.0.font_is at.0.runs.there in
+        let counted : run.machine.counted ≤ most = subst (λ (f : CheckedFont). run.machine.counted ≤ step_limit f + 1) at.0.font_is
+        (omega (arith, at.0.runs.counted, few_turns (executed run.machine) run.machine.glyph)) in
         let product : most * suc run.machine.glyph ≡ most * run.machine.glyph + most = omega arith in
-        let fewer : most * suc run.machine.glyph ≤ most * length font.value.glyphs = mul_mono most (suc run.machine.glyph) (length font.value.glyphs) (omega (arith, there)) in
+        let fewer : most * suc run.machine.glyph ≤ most * length font.value.glyphs = mul_mono most (suc run.machine.glyph)
+        (length font.value.glyphs) (omega (arith, there)) in
         omega (arith, passed, counted, product, fewer, both, at.1)
     by_part (Waivers next) at =
         let unit : s.unit ≡ suc (length font.value.glyphs) = omega (arith, at.unit_is) in
         let passed : s.passed ≤ most * length font.value.glyphs =
-        subst (λ n. n ≤ most * length font.value.glyphs) (sym (at.passed_are ∙ ap (turns_before font s.from) unit)) (few_to_glyph most font s.from (length font.value.glyphs) (few_in_unit font)) in
-        let asked : s.checked ≤ most * (next - 1) = subst (λ n. n ≤ most * (next - 1)) (sym at.checked_are) (asked_few font s.waivers.now s.from s.first (next - 1)) in
+        subst (λ n. n ≤ most * length font.value.glyphs) (sym (at.passed_are ∙ ap (turns_before font s.from) unit))
+        (few_to_glyph most font s.from (length font.value.glyphs) (few_in_unit font)) in
+        let asked : s.checked ≤ most * (next - 1) = subst (λ n. n ≤ most * (next - 1)) (sym at.checked_are)
+        (asked_few font s.waivers.now s.from s.first (next - 1)) in
         let fewer : most * (next - 1) ≤ most * length s.waivers.now = mul_mono most (next - 1) (length s.waivers.now) (omega (arith, at.within)) in
         omega (arith, passed, asked, fewer, both)
     by_part Over at =
         let last : length font.value.glyphs + 1 ≡ suc (length font.value.glyphs) = omega arith in
         let passed : s.passed ≤ most * length font.value.glyphs =
-        subst (λ n. n ≤ most * length font.value.glyphs) (sym (at.0.passed_are ∙ ap (turns_before font s.from) last)) (few_to_glyph most font s.from (length font.value.glyphs) (few_in_unit font)) in
-        let asked : s.checked ≤ most * length s.waivers.now = subst (λ n. n ≤ most * length s.waivers.now) (sym at.1.0) (asked_few font s.waivers.now s.from s.first (length s.waivers.now)) in
+        subst (λ n. n ≤ most * length font.value.glyphs) (sym (at.0.passed_are ∙ ap (turns_before font s.from) last))
+        (few_to_glyph most font s.from (length font.value.glyphs) (few_in_unit font)) in
+        let asked : s.checked ≤ most * length s.waivers.now = subst (λ n. n ≤ most * length s.waivers.now) (sym at.1.0)
+        (asked_few font s.waivers.now s.from s.first (length s.waivers.now)) in
         omega (arith, passed, asked, both)
 
-pub over_past : (font : CheckedFont) (waivers : List Waiver) (from first unit passed checked : ℕ) (part : Part) → IsPart font waivers from first unit passed checked part → is_over part ≡ true → length font.value.glyphs + 1 < unit
+pub over_past : (font : CheckedFont) (waivers : List Waiver) (from first unit passed checked : ℕ) (part : Part) → IsPart font waivers from first unit passed
+    checked part → is_over part ≡ true → length font.value.glyphs + 1 < unit
 over_past font waivers from first unit passed checked (Font places) is over = absurd (true≢false (sym over))
 over_past font waivers from first unit passed checked (Glyph run) is over = absurd (true≢false (sym over))
 over_past font waivers from first unit passed checked (Waivers next) is over = absurd (true≢false (sym over))
 over_past font waivers from first unit passed checked Over is over = is.0.past
 
 -- A search begins in the font, with a glyph, or with the waivers.
-pub font_begun : (s : Search) (places : FontPlaces) → AreOf s.font.now s.sidebearings.now → s.from ≡ 0 → s.unit ≡ 0 → s.passed ≡ 0 → s.checked ≡ 0 → s.part ≡ Font places → IsFontPlaces s.font.now places → IsSearch s
+pub font_begun : (s : Search) (places : FontPlaces) → AreOf s.font.now s.sidebearings.now → s.from ≡ 0 → s.unit ≡ 0 → s.passed ≡ 0 → s.checked ≡ 0
+    → s.part ≡ Font places → IsFontPlaces s.font.now places → IsSearch s
 font_begun s places components begins unit passed checked part are =
     record {
-      part_is = subst (λ part. IsPart (checked_in s) s.waivers.now s.from s.first s.unit s.passed s.checked part) (sym part) (record { begins = begins; unit_is = unit; none_passed = passed; places_are = are }, checked);
+      part_is = subst (λ part. IsPart (checked_in s) s.waivers.now s.from s.first s.unit s.passed s.checked part) (sym part)
+          (record { begins = begins; unit_is = unit; none_passed = passed; places_are = are }, checked);
       components_are = components;
     }
 
-pub search_begun : (s : Search) (glyph step : ℕ) → AreOf s.font.now s.sidebearings.now → s.from ≡ glyph + 1 → s.first ≡ step → s.unit ≡ glyph + 1 → s.passed ≡ 0 → s.checked ≡ 0 → IsPartBegun (checked_in s) s.waivers.now glyph step s.part → length s.font.now.glyphs ≤ 65535 → length s.waivers.now ≤ 1048576 → IsSearch s
+pub search_begun : (s : Search) (glyph step : ℕ) → AreOf s.font.now s.sidebearings.now → s.from ≡ glyph + 1 → s.first ≡ step → s.unit ≡ glyph + 1 → s.passed ≡ 0
+    → s.checked ≡ 0 → IsPartBegun (checked_in s) s.waivers.now glyph step s.part → length s.font.now.glyphs ≤ 65535 → length s.waivers.now ≤ 1048576
+    → IsSearch s
 search_begun s glyph step components begins first unit passed checked is few few_waivers =
     record {
       part_is = subst (λ f. IsPart (checked_in s) s.waivers.now f s.first s.unit s.passed s.checked s.part) (sym begins)
           (subst (λ f. IsPart (checked_in s) s.waivers.now (glyph + 1) f s.unit s.passed s.checked s.part) (sym first)
           (subst (λ u. IsPart (checked_in s) s.waivers.now (glyph + 1) step u s.passed s.checked s.part) (sym unit)
           (subst (λ n. IsPart (checked_in s) s.waivers.now (glyph + 1) step (glyph + 1) n s.checked s.part) (sym passed)
-          (subst (λ n. IsPart (checked_in s) s.waivers.now (glyph + 1) step (glyph + 1) 0 n s.part) (sym checked) (part_begun (checked_in s) s.waivers.now glyph step s.part is few few_waivers)))));
+          (subst (λ n. IsPart (checked_in s) s.waivers.now (glyph + 1) step (glyph + 1) 0 n s.part) (sym checked)
+          (part_begun (checked_in s) s.waivers.now glyph step s.part is few few_waivers)))));
       components_are = components;
     }
 
 -- What is under way is of the font.
-pub part_of_font : (font : CheckedFont) (waivers : List Waiver) (from first unit passed checked : ℕ) (part : Part) → IsPart font waivers from first unit passed checked part → IsOfFont font.value part
+pub part_of_font : (font : CheckedFont) (waivers : List Waiver) (from first unit passed checked : ℕ) (part : Part) → IsPart font waivers from first unit passed
+    checked part → IsOfFont font.value part
 part_of_font font waivers from first unit passed checked (Font places) is = tt
 part_of_font font waivers from first unit passed checked (Glyph run) (is, none) = ap (λ f. f.value) is.font_is
 part_of_font font waivers from first unit passed checked (Waivers next) is = tt

@@ -28,11 +28,13 @@ use Rattle.t1_report.proofs.Told.{in_glyph, some_below, told_in_font, told_of_wa
 made : Place → List ℕ → FaultValue
 made p path = record { number = 0; unit = p.unit; step = p.step; rule = p.rule; path = path }
 
-bare_same : (path_of : Place → List ℕ) (x y : FaultValue) → place_of x ≡ place_of y → x.path ≡ path_of (place_of x) → y.path ≡ path_of (place_of y) → bare x ≡ bare y
+bare_same : (path_of : Place → List ℕ) (x y : FaultValue) → place_of x ≡ place_of y → x.path ≡ path_of (place_of x) → y.path ≡ path_of (place_of y)
+    → bare x ≡ bare y
 unfolding made
 bare_same path_of x y place path path' = ap (λ (p : Place). made p x.path) place ∙ ap (made (place_of y)) (path ∙ ap path_of place ∙ sym path')
 
-bare_lists : (path_of : Place → List ℕ) (xs ys : List FaultValue) → IsRising xs → IsRising ys → AreAmong xs ys → AreAmong ys xs → HavePaths path_of xs → HavePaths path_of ys → map bare xs ≡ map bare ys
+bare_lists : (path_of : Place → List ℕ) (xs ys : List FaultValue) → IsRising xs → IsRising ys → AreAmong xs ys → AreAmong ys xs → HavePaths path_of xs
+    → HavePaths path_of ys → map bare xs ≡ map bare ys
 bare_lists path_of [] [] rise rise' among among' paths paths' = refl
 bare_lists path_of [] (y ∷ ys) rise rise' among among' paths paths' = let found = among' 0 y (omega arith) in absurd (omega (arith, found.2))
 bare_lists path_of (x ∷ xs) [] rise rise' among among' paths paths' = let found = among 0 x (omega arith) in absurd (omega (arith, found.2))
@@ -52,7 +54,8 @@ here : (b : Bool) (P : FaultValue → Type 0) (y : FaultValue) (ys : List FaultV
 here true P y ys passes is = (0, y, omega arith, refl, is)
 here false P y ys passes is = let no : false ≡ true = passes in cc
 
-any_left : (P : FaultValue → Type 0) (test : FaultValue → Bool) (ys : List FaultValue) → ((y : FaultValue) → P y → test y ≡ true) → Any P ys → Any P (filter test ys)
+any_left : (P : FaultValue → Type 0) (test : FaultValue → Bool) (ys : List FaultValue) → ((y : FaultValue) → P y → test y ≡ true) → Any P ys
+    → Any P (filter test ys)
 any_left P test [] good (k, x, less, at, is) = absurd (omega (arith, less))
 any_left P test (y ∷ ys) good (zero, x, less, at, is) =
     let holds : P y = subst P (sym at) is in
@@ -78,7 +81,8 @@ module _ (One Other : Place → Type 0) (path_of : Place → List ℕ) (one othe
   paths : (xs : List FaultValue) → IsReportOf One path_of xs → HavePaths path_of (filter (left_by one) xs)
   paths xs of_one i d less = (All-filter (left_by one) (IsViolationOf One path_of) xs of_one.violations i d less).path
 
-same_left : (One Other : Place → Type 0) (path_of : Place → List ℕ) (one other : Place → Bool) (xs ys : List FaultValue) → IsReportOf One path_of xs → IsReportOf Other path_of ys
+same_left : (One Other : Place → Type 0) (path_of : Place → List ℕ) (one other : Place → Bool) (xs ys : List FaultValue) → IsReportOf One path_of xs
+    → IsReportOf Other path_of ys
     → ((p : Place) → One p → one p ≡ true → Other p × (other p ≡ true)) → ((p : Place) → Other p → other p ≡ true → One p × (one p ≡ true))
     → faults_at one xs ≡ faults_at other ys
 same_left One Other path_of one other xs ys of_one of_other there back =
@@ -193,7 +197,8 @@ names_count [] = refl
 names_count (g ∷ gs) = ap (λ (n : ℕ). suc n) (names_count gs)
 
 -- The name at a place.
-name_at : (glyphs : List (List ℕ × List ℕ)) (place : ℕ) (d : List ℕ) → place < length glyphs → slice_index_or (names glyphs) place d ≡ name_in (slice_get glyphs place)
+name_at : (glyphs : List (List ℕ × List ℕ)) (place : ℕ) (d : List ℕ) → place < length glyphs → slice_index_or (names glyphs) place d
+    ≡ name_in (slice_get glyphs place)
 name_at [] place d less = absurd (omega (arith, less))
 name_at (g ∷ gs) zero d less = refl
 name_at (g ∷ gs) (suc place) d less = name_at gs place d (omega (arith, less))
@@ -208,9 +213,11 @@ first_by (g ∷ gs) name zero less is =
     omega (arith, at)
 first_by (g ∷ gs) name (suc place) less is = go (same_name name g.0) refl (first_by gs name place (omega (arith, less)) is)
   where
-    go : (b : Bool) → same_name name g.0 ≡ b → position_or_len (same_name name) (names gs) ≤ place → position_or_len (same_name name) (names (g ∷ gs)) ≤ suc place
+    go : (b : Bool) → same_name name g.0 ≡ b → position_or_len (same_name name) (names gs) ≤ place
+        → position_or_len (same_name name) (names (g ∷ gs)) ≤ suc place
     go true e rest = let at : position_or_len (same_name name) (names (g ∷ gs)) ≡ 0 = rw e refl in omega (arith, at)
-    go false e rest = let at : position_or_len (same_name name) (names (g ∷ gs)) ≡ 1 + position_or_len (same_name name) (names gs) = rw e refl in omega (arith, at, rest)
+    go false e rest = let at : position_or_len (same_name name) (names (g ∷ gs)) ≡ 1 + position_or_len (same_name name) (names gs) = rw e refl in omega
+        (arith, at, rest)
 
 -- What is found has the name.
 found_has : (font : FontValue) (name : List ℕ) (glyph : ℕ) → glyph_named font name ≡ Some glyph → (glyph < length font.glyphs) × (name ≡ glyph_name font glyph)
@@ -220,11 +227,13 @@ found_has font name glyph is =
     (there, name_exact.exact name (slice_index_or (names font.glyphs) glyph []) found.1 ∙ name_at font.glyphs glyph [] there)
 
 -- A glyph is found by its name, where no other has that.
-named_by : (font : FontValue) → HasNoNameTwice font → (name : List ℕ) (glyph : ℕ) → glyph < length font.glyphs → name ≡ glyph_name font glyph → glyph_named font name ≡ Some glyph
+named_by : (font : FontValue) → HasNoNameTwice font → (name : List ℕ) (glyph : ℕ) → glyph < length font.glyphs → name ≡ glyph_name font glyph
+    → glyph_named font name ≡ Some glyph
 named_by font once name glyph there is =
     let place = position_or_len (same_name name) (names font.glyphs) in
     let first : place ≤ glyph = first_by font.glyphs name glyph there is in
-    let some : glyph_named font name ≡ Some place = rw (lt-ltb place (length (names font.glyphs)) (omega (arith, first, there, names_count font.glyphs))) refl in
+    let some : glyph_named font name ≡ Some place =
+    rw (lt-ltb place (length (names font.glyphs)) (omega (arith, first, there, names_count font.glyphs))) refl in
     let found = found_has font name place some in
     some ∙ ap (λ g. Some g) (once place glyph found.0 there (sym found.1 ∙ is))
 
@@ -241,7 +250,8 @@ from_below font unit (suc s) n is = go (is_broken font unit s n) refl is (from_b
     go false here is rest = rest is
 
 -- No glyph of its name breaks the rule of a waiver that isn't used.
-never_broken : (font : CheckedFont) (w : Waiver) → HasNoNameTwice font.value → is_used font w ≡ false → (glyph : ℕ) → glyph < length font.value.glyphs → w.0 ≡ glyph_name font.value glyph
+never_broken : (font : CheckedFont) (w : Waiver) → HasNoNameTwice font.value → is_used font w ≡ false → (glyph : ℕ) → glyph < length font.value.glyphs
+    → w.0 ≡ glyph_name font.value glyph
     → (s : ℕ) → is_broken font (suc glyph) s (number_of w.1) ≡ false
 never_broken font w once unused glyph there is s =
     let named : glyph_named font.value w.0 ≡ Some glyph = named_by font.value once w.0 glyph there is in
@@ -251,7 +261,8 @@ never_broken font w once unused glyph there is s =
       | inr past ↦ quiet_behind font glyph s w.1 past
     ]
   where
-    go : (b : Bool) → is_broken font (suc glyph) s (number_of w.1) ≡ b → is_broken_below font (suc glyph) (step_limit font + 2) (number_of w.1) ≡ false → s < step_limit font + 2
+    go : (b : Bool) → is_broken font (suc glyph) s (number_of w.1) ≡ b → is_broken_below font (suc glyph) (step_limit font + 2) (number_of w.1) ≡ false
+        → s < step_limit font + 2
         → is_broken font (suc glyph) s (number_of w.1) ≡ false
     go false e none less = e
     go true e none less = absurd (true≢false (sym (some_below font (suc glyph) (step_limit font + 2) (number_of w.1) s less e) ∙ none))
@@ -271,7 +282,8 @@ same_without font front back w once unused (suc glyph) step n within =
     name = glyph_name font.value glyph
 
     go : (a b : Bool) → same_name name w.0 ≡ a → (n == number_of w.1) ≡ b
-        → (is_broken font (suc glyph) step n && not ((a && b) || is_waived (front ++ back) name n)) ≡ (is_broken font (suc glyph) step n && not (is_waived (front ++ back) name n))
+        → (is_broken font (suc glyph) step n && not ((a && b) || is_waived (front ++ back) name n))
+        ≡ (is_broken font (suc glyph) step n && not (is_waived (front ++ back) name n))
     go false b e f = refl
     go true false e f = refl
     go true true e f =
@@ -299,13 +311,15 @@ any_numbered p (y ∷ ys) (suc k, x, less, at, is) = next (any_numbered p ys (k,
     next (j, z, less, at, is) = (suc j, z, omega (arith, less), at, is)
 
 -- What stands among the faults of the font and its glyphs is told.
-told_there : (font : CheckedFont) (waivers : List Waiver) (xs : List FaultValue) (p : Place) → IsReport font waivers xs → Any (StandsAt p) (filter (λ f. is_in_font font (place_of f)) xs) → IsTold font waivers p
+told_there : (font : CheckedFont) (waivers : List Waiver) (xs : List FaultValue) (p : Place) → IsReport font waivers xs
+    → Any (StandsAt p) (filter (λ f. is_in_font font (place_of f)) xs) → IsTold font waivers p
 told_there font waivers xs p of_xs (k, x, less, at, is) =
     subst (IsTold font waivers) is (subst (λ f. IsTold font waivers (place_of f)) at
     (All-filter (λ f. is_in_font font (place_of f)) (IsViolationOf (IsTold font waivers) (path_at font)) xs of_xs.violations k x less).violated)
 
 -- A used waiver changes the faults: one that it waives is told without it.
-used_changes : (font : CheckedFont) (front back : List Waiver) (w : Waiver) (told without : List FaultValue) → is_waived (front ++ back) w.0 (number_of w.1) ≡ false
+used_changes : (font : CheckedFont) (front back : List Waiver) (w : Waiver) (told without : List FaultValue)
+    → is_waived (front ++ back) w.0 (number_of w.1) ≡ false
     → IsReport font (front ++ w ∷ back) told → IsReport font (front ++ back) without → faults_at (is_in_font font) told ≡ faults_at (is_in_font font) without
     → (glyph s : ℕ) → glyph < length font.value.glyphs → w.0 ≡ glyph_name font.value glyph → is_broken font (suc glyph) s (number_of w.1) ≡ true → ⊥
 used_changes font front back w told without alone of_told of_without same glyph s there is broken =
@@ -316,29 +330,36 @@ used_changes font front back w told without alone of_told of_without same glyph 
     let kept : is_waived (front ++ back) name n ≡ false = ap (λ (m : List ℕ). is_waived (front ++ back) m n) (sym is) ∙ alone in
     let told_without : IsTold font (front ++ back) p = told_left font (front ++ back) (suc glyph) s n within ∙ rw (broken, kept) refl in
     let in_without : Any (StandsAt p) (filter (λ f. is_in_font font (place_of f)) without) =
-    any_left (StandsAt p) (λ f. is_in_font font (place_of f)) without (λ y stands. ap (is_in_font font) stands ∙ le-leb (suc glyph) (length font.value.glyphs) within) (of_without.complete p told_without) in
+    any_left (StandsAt p) (λ f. is_in_font font (place_of f)) without (λ y stands. ap (is_in_font font) stands ∙ le-leb (suc glyph) (length font.value.glyphs)
+    within) (of_without.complete p told_without) in
     let in_told : Any (StandsAt p) (filter (λ f. is_in_font font (place_of f)) told) =
-    any_numbered p (filter (λ f. is_in_font font (place_of f)) told) (subst (Any (StandsAt p)) (sym same) (any_bare p (filter (λ f. is_in_font font (place_of f)) without) in_without)) in
+    any_numbered p (filter (λ f. is_in_font font (place_of f)) told)
+    (subst (Any (StandsAt p)) (sym same) (any_bare p (filter (λ f. is_in_font font (place_of f)) without) in_without)) in
     let told_with : is_told font (front ++ w ∷ back) (suc glyph) s n ≡ true = told_there font (front ++ w ∷ back) told p of_told in_told in
     let own : same_name name w.0 ≡ true = subst (λ (m : List ℕ). same_name m w.0 ≡ true) is (name_exact.same w.0) in
     let waived : is_waived (front ++ w ∷ back) name n ≡ true = one_more front back w name n ∙ rw (own, eq-eqb n n refl) refl in
-    let untold : is_told font (front ++ w ∷ back) (suc glyph) s n ≡ false = told_left font (front ++ w ∷ back) (suc glyph) s n within ∙ rw (broken, waived) refl in
+    let untold : is_told font (front ++ w ∷ back) (suc glyph) s n ≡ false = told_left font (front ++ w ∷ back) (suc glyph) s n within
+    ∙ rw (broken, waived) refl in
     true≢false (sym told_with ∙ untold)
 
 pub unused_waivers_change_nothing : UnusedWaiversChangeNothing
 unused_waivers_change_nothing font front back w told without once alone of_told of_without = (changes_nothing, is_unused_so)
   where
-    at : is_told font (front ++ w ∷ back) (length font.value.glyphs + 1) (length front + 1) (number_of U01) ≡ (number_of U01 == number_of U01 && not (is_used font w))
+    at : is_told font (front ++ w ∷ back) (length font.value.glyphs + 1) (length front + 1) (number_of U01)
+        ≡ (number_of U01 == number_of U01 && not (is_used font w))
     at = told_at font (front ++ w ∷ back) w (length front) (number_of U01) (get_behind front back w)
 
     not_used : (b : Bool) → (number_of U01 == number_of U01 && not b) ≡ true → b ≡ false
     not_used false is = refl
     not_used true is = let no : false ≡ true = is in cc
 
-    changes_nothing : is_told font (front ++ w ∷ back) (length font.value.glyphs + 1) (length front + 1) (number_of U01) ≡ true → faults_at (is_in_font font) told ≡ faults_at (is_in_font font) without
-    changes_nothing is = same_in_font font (front ++ w ∷ back) (front ++ back) told without of_told of_without (same_without font front back w once (not_used (is_used font w) (sym at ∙ is)))
+    changes_nothing : is_told font (front ++ w ∷ back) (length font.value.glyphs + 1) (length front + 1) (number_of U01) ≡ true
+        → faults_at (is_in_font font) told ≡ faults_at (is_in_font font) without
+    changes_nothing is = same_in_font font (front ++ w ∷ back) (front ++ back) told without of_told of_without
+        (same_without font front back w once (not_used (is_used font w) (sym at ∙ is)))
 
-    by_glyph : (found : Option ℕ) → glyph_named font.value w.0 ≡ found → is_used_by font (number_of w.1) found ≡ true → faults_at (is_in_font font) told ≡ faults_at (is_in_font font) without → ⊥
+    by_glyph : (found : Option ℕ) → glyph_named font.value w.0 ≡ found → is_used_by font (number_of w.1) found ≡ true → faults_at (is_in_font font) told
+        ≡ faults_at (is_in_font font) without → ⊥
     by_glyph None named is same = let no : false ≡ true = is in cc
     by_glyph (Some glyph) named is same =
         let has = found_has font.value w.0 glyph named in
@@ -350,7 +371,8 @@ unused_waivers_change_nothing font front back w told without once alone of_told 
     go false unused same = at ∙ ap (λ b. number_of U01 == number_of U01 && not b) unused
     go true used same = absurd (by_glyph (glyph_named font.value w.0) refl used same)
 
-    is_unused_so : faults_at (is_in_font font) told ≡ faults_at (is_in_font font) without → is_told font (front ++ w ∷ back) (length font.value.glyphs + 1) (length front + 1) (number_of U01) ≡ true
+    is_unused_so : faults_at (is_in_font font) told ≡ faults_at (is_in_font font) without → is_told font (front ++ w ∷ back) (length font.value.glyphs + 1)
+        (length front + 1) (number_of U01) ≡ true
     is_unused_so same = go (is_used font w) refl same
 
 -- ---- lines that stood before
@@ -392,7 +414,8 @@ waived_now waivers w = go (is_waived waivers w.0 (number_of w.1)) refl
     go true is = is
     go false is =
         list_any-append (λ v. same_name w.0 v.0 && number_of w.1 == number_of v.1) waivers (w ∷ [])
-        ∙ rw (name_exact.same w.0, eq-eqb (number_of w.1) (number_of w.1) refl) (ends (list_any (λ v. same_name w.0 v.0 && number_of w.1 == number_of v.1) waivers))
+        ∙ rw (name_exact.same w.0, eq-eqb (number_of w.1) (number_of w.1) refl)
+        (ends (list_any (λ v. same_name w.0 v.0 && number_of w.1 == number_of v.1) waivers))
 
 said_once : (waivers more : List Waiver) (text : List ℕ) → text_read waivers text ≡ Some more → is_said more text ≡ true
 unfolding is_said is_said_by
@@ -421,11 +444,13 @@ said_still waivers more (b ∷ text) other said read = go (waiver_of (b ∷ text
     go (Some w) said = still other read w.0 (number_of w.1) said
 
 -- What is behind the first line of lines, read or not.
-then_alike : (one other : List Waiver → Option (List Waiver)) (found : Option (List Waiver)) → ((more : List Waiver) → found ≡ Some more → one more ≡ other more) → option_and_then one found ≡ option_and_then other found
+then_alike : (one other : List Waiver → Option (List Waiver)) (found : Option (List Waiver))
+    → ((more : List Waiver) → found ≡ Some more → one more ≡ other more) → option_and_then one found ≡ option_and_then other found
 then_alike one other None same = refl
 then_alike one other (Some more) same = same more refl
 
-passed_over : (waivers : List Waiver) (middle back : List (List ℕ)) (line : List ℕ) → is_said waivers (without_return line) ≡ true → lines_read waivers (middle ++ line ∷ back) ≡ lines_read waivers (middle ++ back)
+passed_over : (waivers : List Waiver) (middle back : List (List ℕ)) (line : List ℕ) → is_said waivers (without_return line) ≡ true
+    → lines_read waivers (middle ++ line ∷ back) ≡ lines_read waivers (middle ++ back)
 unfolding lines_read
 passed_over waivers [] back line said = ap (option_and_then (λ more. lines_read more back)) (said_again waivers (without_return line) said)
 passed_over waivers (l ∷ middle) back line said =
@@ -439,7 +464,8 @@ repeated waivers [] middle back line =
     then_alike (λ more. lines_read more (middle ++ line ∷ back)) (λ more. lines_read more (middle ++ back)) (line_read waivers line)
     (λ more read. passed_over more middle back line (said_once waivers more (without_return line) read))
 repeated waivers (l ∷ front) middle back line =
-    then_alike (λ more. lines_read more (front ++ line ∷ (middle ++ line ∷ back))) (λ more. lines_read more (front ++ line ∷ (middle ++ back))) (line_read waivers l)
+    then_alike (λ more. lines_read more (front ++ line ∷ (middle ++ line ∷ back)))
+    (λ more. lines_read more (front ++ line ∷ (middle ++ back))) (line_read waivers l)
     (λ more read. repeated more front middle back line)
 
 pub repeated_lines_say_nothing : RepeatedLinesSayNothing

@@ -15,7 +15,8 @@ pub waived_in_book : (waivers : List Waiver) (name : List ℕ) (n : ℕ) → (n 
 waived_in_book [] name n out = refl
 waived_in_book (w ∷ waivers) name n out =
     let at = in_book w.1 in
-    let other : (n == number_of w.1) ≡ false = ne_eqb n (number_of w.1) (λ e. elim out [ inl none ↦ omega (arith, at.0, none, e) | inr past ↦ omega (arith, at.1, past, e) ]) in
+    let other : (n == number_of w.1) ≡ false =
+    ne_eqb n (number_of w.1) (λ e. elim out [ inl none ↦ omega (arith, at.0, none, e) | inr past ↦ omega (arith, at.1, past, e) ]) in
     rw (other, and-false (same_name name w.0)) (waived_in_book waivers name n out)
 
 -- Nothing is taken out at first.
@@ -28,15 +29,41 @@ none_left_out waivers name has_it n = elim (cases_lt 0 n) [
 -- One rule more is asked.
 pub left_more : (waivers : List Waiver) (name : List ℕ) (rules : Mask) (floor : ℕ) (rule : Rule) → IsLeastAbove rules floor rule → (has_left : ℕ → Bool)
     → ((n : ℕ) → has_left n ≡ (has rules n && not (nat_le n floor && is_waived waivers name n)))
-    → (n : ℕ) → (has_left n && not (is_waived waivers name (number_of rule) && number_of rule == n)) ≡ (has rules n && not (nat_le n (number_of rule) && is_waived waivers name n))
+    → (n : ℕ) → (has_left n && not (is_waived waivers name (number_of rule) && number_of rule == n))
+    ≡ (has rules n && not (nat_le n (number_of rule) && is_waived waivers name n))
 left_more waivers name rules floor rule least has_left left n =
     elim (cases_order n (number_of rule)) [
-      | inl same ↦ rw (left n, same, lt-leb (number_of rule) floor least.greater, eq-eqb (number_of rule) (number_of rule) refl, le-leb (number_of rule) (number_of rule) (omega arith), and-true (has rules (number_of rule)), and-true (is_waived waivers name (number_of rule))) refl
+      | inl same ↦ rw (
+        left n,
+        same,
+        lt-leb (number_of rule) floor least.greater,
+        eq-eqb (number_of rule) (number_of rule) refl,
+        le-leb (number_of rule)
+            (number_of rule) (omega arith),
+        and-true (has rules (number_of rule)),
+        and-true (is_waived waivers name (number_of rule)),
+      ) refl
       | inr (inl less) ↦ elim (cases_lt floor n) [
         | inl above ↦ rw (left n, least.least n above less) refl
-        | inr below ↦ rw (left n, le-leb n floor below, le-leb n (number_of rule) (omega (arith, less)), ne_eqb (number_of rule) n (λ e. omega (arith, e, less)), and-false (is_waived waivers name (number_of rule)), and-true (has rules n && not (is_waived waivers name n))) refl
+        | inr below ↦ rw (
+          left n,
+          le-leb n floor below,
+          le-leb n (number_of rule) (omega (arith, less)),
+          ne_eqb (number_of rule) n
+              (λ e. omega (arith, e, less)),
+          and-false (is_waived waivers name (number_of rule)),
+          and-true (has rules n && not (is_waived waivers name n)),
+        ) refl
       ]
-      | inr (inr more) ↦ rw (left n, lt-leb n (number_of rule) more, lt-leb n floor (omega (arith, more, least.greater)), ne_eqb (number_of rule) n (λ e. omega (arith, e, more)), and-false (is_waived waivers name (number_of rule)), and-true (has rules n)) (and-true (has rules n))
+      | inr (inr more) ↦ rw (
+        left n,
+        lt-leb n (number_of rule) more,
+        lt-leb n floor (omega (arith, more, least.greater)),
+        ne_eqb (number_of rule) n
+            (λ e. omega (arith, e, more)),
+        and-false (is_waived waivers name (number_of rule)),
+        and-true (has rules n),
+      ) (and-true (has rules n))
     ]
 
 -- All are asked.

@@ -20,12 +20,14 @@ front_more text start at d behind within =
     ∙ ap (λ (x : ℕ). slice_range text start at ++ x ∷ []) (get_or-drop start text (at - start) d ∙ ap (λ i. slice_index_or text i d) place)
 
 next_byte : (text : List ℕ) (at : ℕ) (d : ℕ) (front : List ℕ) → at < length text → lines_from front (drop at text)
-    ≡ cond (slice_index_or text at d == 10) (front ∷ lines_from [] (drop (at + 1) text)) (lines_from (front ++ slice_index_or text at d ∷ []) (drop (at + 1) text))
+    ≡ cond (slice_index_or text at d == 10) (front ∷ lines_from [] (drop (at + 1) text))
+    (lines_from (front ++ slice_index_or text at d ∷ []) (drop (at + 1) text))
 unfolding lines_from
 next_byte text at d front within =
     let next : suc at ≡ at + 1 = omega arith in
     ap (lines_from front) (drop-cons text at d within)
-    ∙ ap (λ n. cond (slice_index_or text at d == 10) (front ∷ lines_from [] (drop n text)) (lines_from (front ++ slice_index_or text at d ∷ []) (drop n text))) next
+    ∙ ap (λ n. cond (slice_index_or text at d == 10) (front ∷ lines_from [] (drop n text)) (lines_from (front ++ slice_index_or text at d ∷ []) (drop n text)))
+    next
 
 -- In a line.
 pub line_on : (text : List ℕ) (start at d : ℕ) → start ≤ at → at < length text → (slice_index_or text at d ≡ 10 → ⊥)
@@ -33,16 +35,19 @@ pub line_on : (text : List ℕ) (start at d : ℕ) → start ≤ at → at < len
 line_on text start at d behind within other =
     ap (λ front. lines_from front (drop (at + 1) text)) (front_more text start at d behind within)
     ∙ sym (next_byte text at d (slice_range text start at) within
-    ∙ ap (λ b. cond b (slice_range text start at ∷ lines_from [] (drop (at + 1) text)) (lines_from (slice_range text start at ++ slice_index_or text at d ∷ []) (drop (at + 1) text))) (ne_eqb (slice_index_or text at d) 10 other))
+    ∙ ap (λ b. cond b (slice_range text start at ∷ lines_from [] (drop (at + 1) text))
+    (lines_from (slice_range text start at ++ slice_index_or text at d ∷ []) (drop (at + 1) text))) (ne_eqb (slice_index_or text at d) 10 other))
 
 -- At the end of a line.
 line_over : (text : List ℕ) (start at d : ℕ) → at < length text → slice_index_or text at d ≡ 10
     → lines_from (slice_range text start at) (drop at text) ≡ slice_range text start at ∷ lines_from [] (drop (at + 1) text)
 line_over text start at d within over =
     next_byte text at d (slice_range text start at) within
-    ∙ ap (λ b. cond b (slice_range text start at ∷ lines_from [] (drop (at + 1) text)) (lines_from (slice_range text start at ++ slice_index_or text at d ∷ []) (drop (at + 1) text))) (eq-eqb (slice_index_or text at d) 10 over)
+    ∙ ap (λ b. cond b (slice_range text start at ∷ lines_from [] (drop (at + 1) text))
+    (lines_from (slice_range text start at ++ slice_index_or text at d ∷ []) (drop (at + 1) text))) (eq-eqb (slice_index_or text at d) 10 over)
 
-read_first : (waivers : List Waiver) (line : List ℕ) (lines : List (List ℕ)) → lines_read waivers (line ∷ lines) ≡ option_and_then (λ more. lines_read more lines) (line_read waivers line)
+read_first : (waivers : List Waiver) (line : List ℕ) (lines : List (List ℕ)) → lines_read waivers (line ∷ lines) ≡ option_and_then
+    (λ more. lines_read more lines) (line_read waivers line)
 unfolding lines_read
 read_first waivers line lines = refl
 
@@ -51,7 +56,8 @@ empty_front text at = ap (λ n. take n (drop at text)) (let none : at - at ≡ 0
 
 pub line_taken : (waivers more : List Waiver) (text : List ℕ) (start at d : ℕ) → at < length text → slice_index_or text at d ≡ 10
     → line_read waivers (slice_range text start at) ≡ Some more
-    → lines_read more (lines_from (slice_range text (at + 1) (at + 1)) (drop (at + 1) text)) ≡ lines_read waivers (lines_from (slice_range text start at) (drop at text))
+    → lines_read more (lines_from (slice_range text (at + 1) (at + 1)) (drop (at + 1) text)) ≡ lines_read waivers
+    (lines_from (slice_range text start at) (drop at text))
 line_taken waivers more text start at d within over is =
     ap (λ front. lines_read more (lines_from front (drop (at + 1) text))) (empty_front text (at + 1))
     ∙ sym (ap (lines_read waivers) (line_over text start at d within over)
@@ -79,7 +85,8 @@ last_line waivers text start at all =
     only (Some more) = refl
 
 -- A refusal is that of the line, or of the memory.
-pub refused : (more : List Waiver) (read line : Option (List Waiver)) (e : WaiverError) → (line ≡ None → read ≡ None) → IsReadAs {W = Unit {0}} (λ _. more) line (Err e)
+pub refused : (more : List Waiver) (read line : Option (List Waiver)) (e : WaiverError) → (line ≡ None → read ≡ None)
+    → IsReadAs {W = Unit {0}} (λ _. more) line (Err e)
     → IsReadAs {W = List Waiver} (λ w. w) read (Err e)
 refused more read line Malformed bad is = bad is
 refused more read line Memory bad is = tt

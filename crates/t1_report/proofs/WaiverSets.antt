@@ -13,14 +13,17 @@ use Rattle.t1_report.specs.Waivers.{Waiver, is_waived, text_read, waiver_of, wit
 abbrev pub same_pair : Bor (List ℕ) × Rule → Bor (List ℕ) × Rule → Bool
 same_pair a b = same_name a.0.now b.0.now && nat_eq (number_of a.1) (number_of b.1)
 
-pub any_waiver : (keys : List (Bor (List ℕ) × Rule)) (k : Bor (List ℕ) × Rule) → list_any (same_pair k) keys ≡ is_waived (waivers_now keys) k.0.now (number_of k.1)
+pub any_waiver : (keys : List (Bor (List ℕ) × Rule)) (k : Bor (List ℕ) × Rule) → list_any (same_pair k) keys ≡ is_waived
+    (waivers_now keys) k.0.now (number_of k.1)
 any_waiver [] k = refl
 any_waiver (w ∷ keys) k = ap (λ (x : Bool). same_pair k w || x) (any_waiver keys k)
 
-pub waiver_more : (keys : List (Bor (List ℕ) × Rule)) (k : Bor (List ℕ) × Rule) → with_waiver (waivers_now keys) (waiver_view k) ≡ waivers_now (insert_key same_pair keys k)
+pub waiver_more : (keys : List (Bor (List ℕ) × Rule)) (k : Bor (List ℕ) × Rule) → with_waiver (waivers_now keys) (waiver_view k)
+    ≡ waivers_now (insert_key same_pair keys k)
 waiver_more keys k =
     rw (sym (any_waiver keys k))
-    (elim (list_any (same_pair k) keys) as (λ b. cond b (waivers_now keys) (waivers_now keys ++ waiver_view k ∷ []) ≡ waivers_now (cond b keys (keys ++ k ∷ []))) [
+    (elim (list_any (same_pair k) keys) as (λ b. cond b (waivers_now keys) (waivers_now keys ++ waiver_view k ∷ []) ≡ waivers_now
+    (cond b keys (keys ++ k ∷ []))) [
       | true ↦ refl
       | false ↦ sym (map-append waiver_view keys (k ∷ []))
     ])

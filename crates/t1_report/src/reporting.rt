@@ -19,10 +19,10 @@ ghost use Rattle.t1_rules.specs.StepRules.{charstring_rules};
 ghost use Rattle.t1_report.specs.Waivers.{Waiver, largest_waivers};
 ghost use Rattle.t1_font.specs.Bounds.{most_glyphs};
 
-use crate::violations::broken_at;
 use crate::faults::Fault;
 use crate::lines::glyph_name;
 use crate::usage::check_waiver;
+use crate::violations::broken_at;
 use crate::waivers::Waivers;
 use arrayvec::ArrayVec;
 use std::alloc::{AllocError, Global};

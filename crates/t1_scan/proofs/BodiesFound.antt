@@ -43,7 +43,8 @@ pub record HasBody (f : Bool) (a p : ℕ) (s : List ℕ) (n : ℕ) : Type 0 wher
   pub len : n ≡ length (body_text body) + (1 + left)
   pub tail : body_tail a p rest ≡ Some left
 
-with_part : (f : Bool) (a p : ℕ) (q : Part) (s t : List ℕ) (n m : ℕ) → is_part f q ≡ true → s ≡ part_text q ++ t → n ≡ length (part_text q) + m → HasBody f a p t m → HasBody f a p s n
+with_part : (f : Bool) (a p : ℕ) (q : Part) (s t : List ℕ) (n m : ℕ) → is_part f q ≡ true → s ≡ part_text q ++ t → n ≡ length (part_text q) + m
+    → HasBody f a p t m → HasBody f a p s n
 with_part f a p q s t n m plain whole len x = record {
   body = part q x.body;
   rest = x.rest;
@@ -55,26 +56,30 @@ with_part f a p q s t n m plain whole len x = record {
   tail = x.tail;
 }
 
-with_procedure : (f : Bool) (a p : ℕ) (s : List ℕ) (m k : ℕ) → (inner : HasBody true (arrays_in f a) (braces_in f p) s m) → HasBody f a p inner.rest k → k ≡ inner.left → HasBody f a p (123 ∷ s) (1 + m)
+with_procedure : (f : Bool) (a p : ℕ) (s : List ℕ) (m k : ℕ) → (inner : HasBody true (arrays_in f a) (braces_in f p) s m) → HasBody f a p inner.rest k
+    → k ≡ inner.left → HasBody f a p (123 ∷ s) (1 + m)
 with_procedure f a p s m k inner more same = record {
   body = procedure inner.body more.body;
   rest = more.rest;
   left = more.left;
   plain = and_from (is_body true inner.body) (is_body f more.body) inner.plain more.plain;
   shallow = omega (arith, inner.shallow, more.shallow, inside_sum f a p);
-  whole = ap (λ t. 123 ∷ t) (inner.whole ∙ ap (λ t. body_text inner.body ++ (125 ∷ t)) more.whole ∙ sym (append_assoc (body_text inner.body) (125 ∷ body_text more.body) (closer f ∷ more.rest)));
+  whole = ap (λ t. 123 ∷ t) (inner.whole ∙ ap (λ t. body_text inner.body ++ (125 ∷ t)) more.whole
+      ∙ sym (append_assoc (body_text inner.body) (125 ∷ body_text more.body) (closer f ∷ more.rest)));
   len = omega (arith, same, inner.len, more.len, length-append (body_text inner.body) (125 ∷ body_text more.body));
   tail = more.tail;
 }
 
-with_array : (a p : ℕ) (s : List ℕ) (m k : ℕ) → (inner : HasBody false (a + 1) p s m) → HasBody false a p inner.rest k → k ≡ inner.left → HasBody false a p (91 ∷ s) (1 + m)
+with_array : (a p : ℕ) (s : List ℕ) (m k : ℕ) → (inner : HasBody false (a + 1) p s m) → HasBody false a p inner.rest k → k ≡ inner.left
+    → HasBody false a p (91 ∷ s) (1 + m)
 with_array a p s m k inner more same = record {
   body = array inner.body more.body;
   rest = more.rest;
   left = more.left;
   plain = and_from (is_body false inner.body) (is_body false more.body) inner.plain more.plain;
   shallow = omega (arith, inner.shallow, more.shallow);
-  whole = ap (λ t. 91 ∷ t) (inner.whole ∙ ap (λ t. body_text inner.body ++ (93 ∷ t)) more.whole ∙ sym (append_assoc (body_text inner.body) (93 ∷ body_text more.body) (93 ∷ more.rest)));
+  whole = ap (λ t. 91 ∷ t) (inner.whole ∙ ap (λ t. body_text inner.body ++ (93 ∷ t)) more.whole
+      ∙ sym (append_assoc (body_text inner.body) (93 ∷ body_text more.body) (93 ∷ more.rest)));
   len = omega (arith, same, inner.len, more.len, length-append (body_text inner.body) (93 ∷ body_text more.body));
   tail = more.tail;
 }
@@ -87,30 +92,36 @@ closed_last : (f : Bool) (s : List ℕ) → inside_len 0 (arrays_in f 0) (braces
 closed_last true s = inside_last s
 closed_last false s = inside_last_array s
 
-closed_more : (f : Bool) (a p : ℕ) (s : List ℕ) → (braces_in f p == 0) ≡ not f → 1 ≤ a + p → a + p ≤ 32 → inside_len 0 (arrays_in f a) (braces_in f p) (closer f ∷ s) ≡ further 1 (inside_len 0 a p s)
+closed_more : (f : Bool) (a p : ℕ) (s : List ℕ) → (braces_in f p == 0) ≡ not f → 1 ≤ a + p → a + p ≤ 32 → inside_len 0 (arrays_in f a) (braces_in f p)
+    (closer f ∷ s) ≡ further 1 (inside_len 0 a p s)
 closed_more true a p s e some shallow = step (closes_procedure a p s some) shallow
 closed_more false a p s e some shallow = step (closes_array a p s e some) shallow
 
-closed_body : (f : Bool) (a p : ℕ) (s : List ℕ) → (braces_in f p == 0) ≡ not f → a + p ≤ 32 → inside_len 0 (arrays_in f a) (braces_in f p) (closer f ∷ s) ≡ further 1 (body_tail a p s)
+closed_body : (f : Bool) (a p : ℕ) (s : List ℕ) → (braces_in f p == 0) ≡ not f → a + p ≤ 32 → inside_len 0 (arrays_in f a) (braces_in f p)
+    (closer f ∷ s) ≡ further 1 (body_tail a p s)
 closed_body f a p s e shallow =
     elim (cases_lt 0 (a + p)) [
       | inl some ↦ closed_more f a p s e (omega arith) shallow ∙ ap (further 1) (sym (tail_open a p s (omega arith)))
       | inr none ↦
           (let no_arrays : 0 ≡ a = omega arith in
           let no_braces : 0 ≡ p = omega arith in
-          subst (λ x. inside_len 0 (arrays_in f x) (braces_in f p) (closer f ∷ s) ≡ further 1 (body_tail x p s)) no_arrays (subst (λ y. inside_len 0 (arrays_in f 0) (braces_in f y) (closer f ∷ s) ≡ further 1 (body_tail 0 y s)) no_braces (closed_last f s)))
+          subst (λ x. inside_len 0 (arrays_in f x) (braces_in f p) (closer f ∷ s) ≡ further 1 (body_tail x p s)) no_arrays
+          (subst (λ y. inside_len 0 (arrays_in f 0) (braces_in f y) (closer f ∷ s) ≡ further 1 (body_tail 0 y s)) no_braces (closed_last f s)))
     ]
 
 -- what is found in each shorter text
 abbrev Finds : ℕ → Type 0
-Finds size = (f : Bool) (a p : ℕ) (s : List ℕ) (n : ℕ) → (braces_in f p == 0) ≡ not f → a + p + 1 ≤ 32 → length s < size → inside_len 0 (arrays_in f a) (braces_in f p) s ≡ Some n → HasBody f a p s n
+Finds size = (f : Bool) (a p : ℕ) (s : List ℕ) (n : ℕ) → (braces_in f p == 0) ≡ not f → a + p + 1 ≤ 32 → length s < size
+    → inside_len 0 (arrays_in f a) (braces_in f p) s ≡ Some n → HasBody f a p s n
 
-body_closed : (f : Bool) (a p : ℕ) (s : List ℕ) (n : ℕ) → (braces_in f p == 0) ≡ not f → a + p + 1 ≤ 32 → inside_len 0 (arrays_in f a) (braces_in f p) (closer f ∷ s) ≡ Some n → HasBody f a p (closer f ∷ s) n
+body_closed : (f : Bool) (a p : ℕ) (s : List ℕ) (n : ℕ) → (braces_in f p == 0) ≡ not f → a + p + 1 ≤ 32 → inside_len 0 (arrays_in f a) (braces_in f p)
+    (closer f ∷ s) ≡ Some n → HasBody f a p (closer f ∷ s) n
 body_closed f a p s n e shallow h =
     let q = further_some 1 n (body_tail a p s) (sym (closed_body f a p s e (omega arith)) ∙ h) in
     record { body = nothing; rest = s; left = q.0; plain = refl; shallow = omega arith; whole = refl; len = omega (arith, q.2); tail = q.1 }
 
-body_procedure : (f : Bool) (a p : ℕ) (s : List ℕ) (n : ℕ) → Finds (length (123 ∷ s)) → (braces_in f p == 0) ≡ not f → a + p + 1 ≤ 32 → inside_len 0 (arrays_in f a) (braces_in f p) (123 ∷ s) ≡ Some n → HasBody f a p (123 ∷ s) n
+body_procedure : (f : Bool) (a p : ℕ) (s : List ℕ) (n : ℕ) → Finds (length (123 ∷ s)) → (braces_in f p == 0) ≡ not f → a + p + 1 ≤ 32
+    → inside_len 0 (arrays_in f a) (braces_in f p) (123 ∷ s) ≡ Some n → HasBody f a p (123 ∷ s) n
 body_procedure f a p s n finds e shallow h =
     let A = arrays_in f a in
     let P = braces_in f p in
@@ -126,7 +137,8 @@ body_procedure f a p s n finds e shallow h =
           subst (λ k. HasBody f a p (123 ∷ s) k) (sym q.2) (with_procedure f a p s q.0 inner.left inner more refl))
     ]
 
-body_array : (a p : ℕ) (s : List ℕ) (n : ℕ) → Finds (length (91 ∷ s)) → (p == 0) ≡ true → a + p + 1 ≤ 32 → inside_len 0 (a + 1) p (91 ∷ s) ≡ Some n → HasBody false a p (91 ∷ s) n
+body_array : (a p : ℕ) (s : List ℕ) (n : ℕ) → Finds (length (91 ∷ s)) → (p == 0) ≡ true → a + p + 1 ≤ 32 → inside_len 0 (a + 1) p (91 ∷ s) ≡ Some n
+    → HasBody false a p (91 ∷ s) n
 body_array a p s n finds e shallow h =
     elim (cases_lt 32 (a + 1 + 1 + p)) [
       | inl past ↦ absurd (none_some (too_deep (opens_array (a + 1) p s e) past) h)
@@ -145,7 +157,9 @@ part_some (string _) = omega arith
 part_some (hexadecimal _) = omega arith
 part_some double_angle = omega arith
 
-body_part : (f : Bool) (a p b : ℕ) (s : List ℕ) (n : ℕ) → Finds (length (b ∷ s)) → (braces_in f p == 0) ≡ not f → a + p + 1 ≤ 32 → ((b == 37) ≡ false → (b == 40) ≡ false → (b == 60) ≡ false → is_idle f b ≡ true) → inside_len 0 (arrays_in f a) (braces_in f p) (b ∷ s) ≡ Some n → HasBody f a p (b ∷ s) n
+body_part : (f : Bool) (a p b : ℕ) (s : List ℕ) (n : ℕ) → Finds (length (b ∷ s)) → (braces_in f p == 0) ≡ not f → a + p + 1 ≤ 32
+    → ((b == 37) ≡ false → (b == 40) ≡ false → (b == 60) ≡ false → is_idle f b ≡ true) → inside_len 0 (arrays_in f a) (braces_in f p) (b ∷ s) ≡ Some n
+    → HasBody f a p (b ∷ s) n
 body_part f a p b s n finds e shallow idle h =
     let A = arrays_in f a in
     let P = braces_in f p in
@@ -156,7 +170,8 @@ body_part f a p b s n finds e shallow idle h =
     let shorter : length x.rest < length (b ∷ s) = omega (arith, ap length x.whole, length-append (part_text x.part) x.rest, part_some x.part) in
     with_part f a p x.part (b ∷ s) x.rest n q.0 x.plain x.whole q.2 (finds f a p x.rest q.0 e shallow shorter q.1)
 
-body_byte : (f : Bool) (a p b : ℕ) (s : List ℕ) (n : ℕ) → Finds (length (b ∷ s)) → (braces_in f p == 0) ≡ not f → a + p + 1 ≤ 32 → inside_len 0 (arrays_in f a) (braces_in f p) (b ∷ s) ≡ Some n → HasBody f a p (b ∷ s) n
+body_byte : (f : Bool) (a p b : ℕ) (s : List ℕ) (n : ℕ) → Finds (length (b ∷ s)) → (braces_in f p == 0) ≡ not f → a + p + 1 ≤ 32
+    → inside_len 0 (arrays_in f a) (braces_in f p) (b ∷ s) ≡ Some n → HasBody f a p (b ∷ s) n
 body_byte true a p b s n finds e shallow h =
     elim (cases_Bool (b == 123)) [
       | inl is ↦

@@ -34,7 +34,8 @@ too_deep {a} {p} {a'} {p'} {b} {n} {s} h deep =
 
 -- what a byte that is no bracket leaves open
 pub arrays_steady : (a p b : ℕ) → (b == 91) ≡ false → (b == 93) ≡ false → a ≡ arrays_after b a p
-arrays_steady a p b h k = rw (h, k) (elim (p == 0) as (λ c. a ≡ (if c && false then a + 1 else (if c && false then a - 1 else a))) [ true ↦ refl | false ↦ refl ])
+arrays_steady a p b h k = rw (h, k) (elim (p == 0) as (λ c. a ≡ (if c && false then a + 1 else (if c && false then a - 1 else a)))
+    [ true ↦ refl | false ↦ refl ])
 
 arrays_ignored : (a p b : ℕ) → (p == 0) ≡ false → a ≡ arrays_after b a p
 arrays_ignored a p b h = rw h refl
@@ -88,18 +89,22 @@ line_end_idle true b h = grind (arith, nat_tests)
 line_end_idle false b h = grind (arith, nat_tests)
 
 -- the bytes of a comment, up to the end of its line
-comment_read : (bytes : List ℕ) (line_end : ℕ) (s : List ℕ) → list_all (λ b. not (is_line_end b)) bytes ≡ true → is_line_end line_end ≡ true → comment_len (bytes ++ (line_end ∷ s)) ≡ length bytes
+comment_read : (bytes : List ℕ) (line_end : ℕ) (s : List ℕ) → list_all (λ b. not (is_line_end b)) bytes ≡ true → is_line_end line_end ≡ true
+    → comment_len (bytes ++ (line_end ∷ s)) ≡ length bytes
 comment_read [] line_end s h k = rw k refl
 comment_read (b ∷ bytes) line_end s h k =
     let p = and_parts (not (is_line_end b)) (list_all (λ c. not (is_line_end c)) bytes) h in
     rw (p.0, comment_read bytes line_end s p.1 k) (omega arith)
 
 -- a part is read whole, with what follows left
-whole : {a p b n : ℕ} (t s : List ℕ) → IsStep a p a p b n (t ++ s) → n ≡ length (b ∷ t) → a + p ≤ 32 → inside_len 0 a p ((b ∷ t) ++ s) ≡ further (length (b ∷ t)) (inside_len 0 a p s)
+whole : {a p b n : ℕ} (t s : List ℕ) → IsStep a p a p b n (t ++ s) → n ≡ length (b ∷ t) → a + p ≤ 32 → inside_len 0 a p ((b ∷ t) ++ s)
+    ≡ further (length (b ∷ t)) (inside_len 0 a p s)
 whole {a} {p} {b} {n} t s h e shallow =
-    step h shallow ∙ ap (λ k. further k (inside_len 0 a p (drop k ((b ∷ t) ++ s)))) e ∙ ap (λ r. further (length (b ∷ t)) (inside_len 0 a p r)) (drop-append_seam (b ∷ t) s)
+    step h shallow ∙ ap (λ k. further k (inside_len 0 a p (drop k ((b ∷ t) ++ s)))) e
+    ∙ ap (λ r. further (length (b ∷ t)) (inside_len 0 a p r)) (drop-append_seam (b ∷ t) s)
 
-pub part_read : (q : Part) (f : Bool) (a p : ℕ) (s : List ℕ) → (p == 0) ≡ not f → 1 ≤ a + p → a + p ≤ 32 → is_part f q ≡ true → inside_len 0 a p (part_text q ++ s) ≡ further (length (part_text q)) (inside_len 0 a p s)
+pub part_read : (q : Part) (f : Bool) (a p : ℕ) (s : List ℕ) → (p == 0) ≡ not f → 1 ≤ a + p → a + p ≤ 32 → is_part f q ≡ true
+    → inside_len 0 a p (part_text q ++ s) ≡ further (length (part_text q)) (inside_len 0 a p s)
 unfolding part_len angle_len
 part_read (byte b) f a p s e some shallow h = whole [] s (idle_step f a p b s e some h) refl shallow
 part_read (comment bytes line_end) f a p s e some shallow h =
@@ -113,10 +118,13 @@ part_read (comment bytes line_end) f a p s e some shallow h =
       one = omega arith;
       within = omega (arith, length-append bytes (line_end ∷ s));
     } in
-    let front : inside_len 0 a p ((37 ∷ bytes) ++ (line_end ∷ s)) ≡ further (length (37 ∷ bytes)) (inside_len 0 a p (line_end ∷ s)) = whole bytes (line_end ∷ s) state (omega arith) shallow in
-    let back : inside_len 0 a p (line_end ∷ s) ≡ further 1 (inside_len 0 a p s) = whole [] s (idle_step f a p line_end s e some (line_end_idle f line_end parts.1)) refl shallow in
+    let front : inside_len 0 a p ((37 ∷ bytes) ++ (line_end ∷ s)) ≡ further (length (37 ∷ bytes)) (inside_len 0 a p (line_end ∷ s)) =
+    whole bytes (line_end ∷ s) state (omega arith) shallow in
+    let back : inside_len 0 a p (line_end ∷ s) ≡ further 1 (inside_len 0 a p s) =
+    whole [] s (idle_step f a p line_end s e some (line_end_idle f line_end parts.1)) refl shallow in
     ap (λ t. inside_len 0 a p (37 ∷ t)) (append_assoc bytes (line_end ∷ []) s)
-    ∙ join (inside_len 0 a p s) (length (37 ∷ bytes)) 1 (length (37 ∷ (bytes ++ (line_end ∷ [])))) front back (omega (arith, length-append bytes (line_end ∷ [])))
+    ∙ join (inside_len 0 a p s) (length (37 ∷ bytes)) 1 (length (37 ∷ (bytes ++ (line_end ∷ [])))) front back
+    (omega (arith, length-append bytes (line_end ∷ [])))
 part_read (string letters) f a p s e some shallow h =
     let read = string_read letters s h in
     whole (letters_text letters ++ (41 ∷ [])) s (record {
@@ -192,35 +200,44 @@ closes_array a p s e some = record {
 bracketed_len : (before after : ℕ) (x y : List ℕ) → length (before ∷ (x ++ (after ∷ y))) ≡ 1 + (length x + (1 + length y))
 bracketed_len before after x y = omega (arith, length-append x (after ∷ y))
 
-pub body_read : (x : Body) (f : Bool) (a p : ℕ) (s : List ℕ) → (p == 0) ≡ not f → 1 ≤ a + p → a + p + body_depth x ≤ 32 → is_body f x ≡ true → inside_len 0 a p (body_text x ++ s) ≡ further (length (body_text x)) (inside_len 0 a p s)
+pub body_read : (x : Body) (f : Bool) (a p : ℕ) (s : List ℕ) → (p == 0) ≡ not f → 1 ≤ a + p → a + p + body_depth x ≤ 32 → is_body f x ≡ true
+    → inside_len 0 a p (body_text x ++ s) ≡ further (length (body_text x)) (inside_len 0 a p s)
 body_read nothing f a p s e some shallow h = sym (further_zero (inside_len 0 a p s))
 body_read (part q more) f a p s e some shallow h =
     let parts = and_parts (is_part f q) (is_body f more) h in
     let rest = body_text more ++ s in
     ap (inside_len 0 a p) (append_assoc (part_text q) (body_text more) s)
-    ∙ join (inside_len 0 a p s) (length (part_text q)) (length (body_text more)) (length (part_text q ++ body_text more)) (part_read q f a p rest e some (omega arith) parts.0) (body_read more f a p s e some shallow parts.1) (length-append (part_text q) (body_text more))
+    ∙ join (inside_len 0 a p s) (length (part_text q)) (length (body_text more)) (length (part_text q ++ body_text more))
+    (part_read q f a p rest e some (omega arith) parts.0) (body_read more f a p s e some shallow parts.1) (length-append (part_text q) (body_text more))
 body_read (procedure inner more) f a p s e some shallow h =
     let parts = and_parts (is_body true inner) (is_body f more) h in
     let rest = body_text more ++ s in
     let nonzero : (p + 1 == 0) ≡ not true = grind (arith, nat_tests) in
-    let behind = join (inside_len 0 a p s) 1 (length (body_text more)) (1 + length (body_text more)) (step (closes_procedure a p rest some) (omega arith)) (body_read more f a p s e some (omega arith) parts.1) refl in
-    let inside = join (inside_len 0 a p s) (length (body_text inner)) (1 + length (body_text more)) (length (body_text inner) + (1 + length (body_text more))) (body_read inner true a (p + 1) (125 ∷ rest) nonzero (omega arith) (omega arith) parts.0) behind refl in
+    let behind = join (inside_len 0 a p s) 1 (length (body_text more)) (1 + length (body_text more)) (step (closes_procedure a p rest some) (omega arith))
+    (body_read more f a p s e some (omega arith) parts.1) refl in
+    let inside = join (inside_len 0 a p s) (length (body_text inner)) (1 + length (body_text more)) (length (body_text inner) + (1 + length (body_text more)))
+    (body_read inner true a (p + 1) (125 ∷ rest) nonzero (omega arith) (omega arith) parts.0) behind refl in
     ap (λ t. inside_len 0 a p (123 ∷ t)) (append_assoc (body_text inner) (125 ∷ body_text more) s)
-    ∙ join (inside_len 0 a p s) 1 (length (body_text inner) + (1 + length (body_text more))) (length (body_text (procedure inner more))) (step (opens_procedure a p (body_text inner ++ (125 ∷ rest))) (omega arith)) inside (bracketed_len 123 125 (body_text inner) (body_text more))
+    ∙ join (inside_len 0 a p s) 1 (length (body_text inner) + (1 + length (body_text more))) (length (body_text (procedure inner more)))
+    (step (opens_procedure a p (body_text inner ++ (125 ∷ rest))) (omega arith)) inside (bracketed_len 123 125 (body_text inner) (body_text more))
 body_read (array inner more) true a p s e some shallow h = absurd (false≢true h)
 body_read (array inner more) false a p s e some shallow h =
     let parts = and_parts (is_body false inner) (is_body false more) h in
     let rest = body_text more ++ s in
-    let behind = join (inside_len 0 a p s) 1 (length (body_text more)) (1 + length (body_text more)) (step (closes_array a p rest e some) (omega arith)) (body_read more false a p s e some (omega arith) parts.1) refl in
-    let inside = join (inside_len 0 a p s) (length (body_text inner)) (1 + length (body_text more)) (length (body_text inner) + (1 + length (body_text more))) (body_read inner false (a + 1) p (93 ∷ rest) e (omega arith) (omega arith) parts.0) behind refl in
+    let behind = join (inside_len 0 a p s) 1 (length (body_text more)) (1 + length (body_text more)) (step (closes_array a p rest e some) (omega arith))
+    (body_read more false a p s e some (omega arith) parts.1) refl in
+    let inside = join (inside_len 0 a p s) (length (body_text inner)) (1 + length (body_text more)) (length (body_text inner) + (1 + length (body_text more)))
+    (body_read inner false (a + 1) p (93 ∷ rest) e (omega arith) (omega arith) parts.0) behind refl in
     ap (λ t. inside_len 0 a p (91 ∷ t)) (append_assoc (body_text inner) (93 ∷ body_text more) s)
-    ∙ join (inside_len 0 a p s) 1 (length (body_text inner) + (1 + length (body_text more))) (length (body_text (array inner more))) (step (opens_array a p (body_text inner ++ (93 ∷ rest)) e) (omega arith)) inside (bracketed_len 91 93 (body_text inner) (body_text more))
+    ∙ join (inside_len 0 a p s) 1 (length (body_text inner) + (1 + length (body_text more))) (length (body_text (array inner more)))
+    (step (opens_array a p (body_text inner ++ (93 ∷ rest)) e) (omega arith)) inside (bracketed_len 91 93 (body_text inner) (body_text more))
 
 -- no length further is none
 further_none : (n : ℕ) {o q : Option ℕ} → o ≡ further n q → q ≡ None → o ≡ None
 further_none n e none = e ∙ ap (further n) none
 
-pub body_deep : (x : Body) (f : Bool) (a p : ℕ) (s : List ℕ) → (p == 0) ≡ not f → 1 ≤ a + p → a + p ≤ 32 → 32 < a + p + body_depth x → is_body f x ≡ true → inside_len 0 a p (body_text x ++ s) ≡ None
+pub body_deep : (x : Body) (f : Bool) (a p : ℕ) (s : List ℕ) → (p == 0) ≡ not f → 1 ≤ a + p → a + p ≤ 32 → 32 < a + p + body_depth x → is_body f x ≡ true
+    → inside_len 0 a p (body_text x ++ s) ≡ None
 body_deep nothing f a p s e some shallow deep h = absurd (omega arith)
 body_deep (part q more) f a p s e some shallow deep h =
     let parts = and_parts (is_part f q) (is_body f more) h in
@@ -237,7 +254,8 @@ body_deep (procedure inner more) f a p s e some shallow deep h =
       | inl past ↦ too_deep opens past
       | inr fits ↦ further_none 1 (step opens fits) (elim (cases_lt 32 (a + (p + 1) + body_depth inner)) [
         | inl past ↦ body_deep inner true a (p + 1) (125 ∷ rest) nonzero (omega arith) fits past parts.0
-        | inr within ↦ further_none (length (body_text inner)) (body_read inner true a (p + 1) (125 ∷ rest) nonzero (omega arith) within parts.0) (further_none 1 (step (closes_procedure a p rest some) shallow) (body_deep more f a p s e some shallow (omega arith) parts.1))
+        | inr within ↦ further_none (length (body_text inner)) (body_read inner true a (p + 1) (125 ∷ rest) nonzero (omega arith) within parts.0)
+            (further_none 1 (step (closes_procedure a p rest some) shallow) (body_deep more f a p s e some shallow (omega arith) parts.1))
       ])
     ]
 body_deep (array inner more) true a p s e some shallow deep h = absurd (false≢true h)
@@ -250,7 +268,8 @@ body_deep (array inner more) false a p s e some shallow deep h =
       | inl past ↦ too_deep opens past
       | inr fits ↦ further_none 1 (step opens fits) (elim (cases_lt 32 (a + 1 + p + body_depth inner)) [
         | inl past ↦ body_deep inner false (a + 1) p (93 ∷ rest) e (omega arith) fits past parts.0
-        | inr within ↦ further_none (length (body_text inner)) (body_read inner false (a + 1) p (93 ∷ rest) e (omega arith) within parts.0) (further_none 1 (step (closes_array a p rest e some) shallow) (body_deep more false a p s e some shallow (omega arith) parts.1))
+        | inr within ↦ further_none (length (body_text inner)) (body_read inner false (a + 1) p (93 ∷ rest) e (omega arith) within parts.0)
+            (further_none 1 (step (closes_array a p rest e some) shallow) (body_deep more false a p s e some shallow (omega arith) parts.1))
       ])
     ]
 
@@ -263,7 +282,8 @@ unfolding inside_len
 inside_last_array s = refl
 
 -- a procedure, behind its first brace
-pub procedure_read : (x : Body) (s : List ℕ) → is_body true x ≡ true → 1 + body_depth x ≤ 32 → inside_len 0 0 1 ((body_text x ++ (125 ∷ [])) ++ s) ≡ Some (length (body_text x ++ (125 ∷ [])))
+pub procedure_read : (x : Body) (s : List ℕ) → is_body true x ≡ true → 1 + body_depth x ≤ 32 → inside_len 0 0 1 ((body_text x ++ (125 ∷ [])) ++ s)
+    ≡ Some (length (body_text x ++ (125 ∷ [])))
 procedure_read x s h shallow =
     ap (inside_len 0 0 1) (append_assoc (body_text x) (125 ∷ []) s)
     ∙ body_read x true 0 1 (125 ∷ s) refl (omega arith) (omega arith) h
@@ -271,7 +291,8 @@ procedure_read x s h shallow =
     ∙ ap Some (sym (length-append (body_text x) (125 ∷ [])))
 
 -- an array, behind its first bracket
-pub array_read : (x : Body) (s : List ℕ) → is_body false x ≡ true → 1 + body_depth x ≤ 32 → inside_len 0 1 0 ((body_text x ++ (93 ∷ [])) ++ s) ≡ Some (length (body_text x ++ (93 ∷ [])))
+pub array_read : (x : Body) (s : List ℕ) → is_body false x ≡ true → 1 + body_depth x ≤ 32 → inside_len 0 1 0 ((body_text x ++ (93 ∷ [])) ++ s)
+    ≡ Some (length (body_text x ++ (93 ∷ [])))
 array_read x s h shallow =
     ap (inside_len 0 1 0) (append_assoc (body_text x) (93 ∷ []) s)
     ∙ body_read x false 1 0 (93 ∷ s) refl (omega arith) (omega arith) h

@@ -13,7 +13,8 @@ pub record HasRead (text left : List ℕ) (failed : Bool) (old new : ℕ) (answe
   pub moves : Moves left old new answer
 
 -- the answer is the first token of what was left
-pub live_read : {text left : List ℕ} {failed : Bool} {old new : ℕ} {answer : Result (Option Token) ScanError} → HasRead text left failed old new answer → token_of (drop old text) ≡ seen text answer
+pub live_read : {text left : List ℕ} {failed : Bool} {old new : ℕ} {answer : Result (Option Token) ScanError} → HasRead text left failed old new answer
+    → token_of (drop old text) ≡ seen text answer
 live_read {text} {left} {failed} {old} {new} {answer} h =
     let at_live : token_of (drop old left) ≡ seen left answer = rw h.live at h.read in
     rw h.same at at_live

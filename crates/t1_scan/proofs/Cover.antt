@@ -115,8 +115,14 @@ pub covers : Covers
 covers s [] h = all_blanks s h
 covers s (t ∷ ts) h =
     let gap = blank_len false s in
-    let p = first_is (drop gap s) (record { kind = t.kind; text = t.text; rest = h.0 }) h.1 in
-    (take gap s, h.0, sym (take-append-drop gap s) ∙ ap (λ r. take gap s ++ r) (joined (drop gap s) (record { kind = t.kind; text = t.text; rest = h.0 }) p.0 p.1), (let front = first_byte (drop gap s) p.1.front in (gap_front false s front.0 front.1 front.2).gap), covers h.0 ts h.2)
+    let p = first_is (drop gap s) (record { kind = t.kind; text = t.text; rest = h.0 }) h.1 in (
+      take gap s,
+      h.0,
+      sym (take-append-drop gap s)
+          ∙ ap (λ r. take gap s ++ r) (joined (drop gap s) (record { kind = t.kind; text = t.text; rest = h.0 }) p.0 p.1),
+      (let front = first_byte (drop gap s) p.1.front in (gap_front false s front.0 front.1 front.2).gap),
+      covers h.0 ts h.2,
+    )
 
 -- a token that was read is a byte or more, and leaves less
 pub record Shortens (s : List ℕ) (found : Found) : Type 0 where

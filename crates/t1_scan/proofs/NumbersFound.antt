@@ -30,12 +30,15 @@ record HasMagnitude (digits : List ℕ) (n : ℕ) : Type 0 where
   text : digits ≡ whole ++ fraction_text fraction
   value : scaled whole (decimals_of fraction) ≡ n
 
-value_parts : (whole decimals : List ℕ) (n : ℕ) → value_of whole decimals ≡ Some n → (nat_lt (digits_value 10 whole) 1000000000 ≡ true) × (Some (scaled whole decimals) ≡ Some n)
+value_parts : (whole decimals : List ℕ) (n : ℕ) → value_of whole decimals ≡ Some n → (nat_lt (digits_value 10 whole) 1000000000 ≡ true)
+    × (Some (scaled whole decimals) ≡ Some n)
 unfolding value_of
 value_parts whole decimals n h =
     if_some (nat_lt (digits_value 10 whole) 1000000000) (Some (scaled whole decimals)) h
 
-magnitude_parts : (whole after : List ℕ) (n : ℕ) → list_all is_decimal_digit whole ≡ true → (if is_fraction after && not (length whole + length (drop 1 after) == 0) then value_of whole (drop 1 after) else None) ≡ Some n → HasMagnitude (whole ++ after) n
+magnitude_parts : (whole after : List ℕ) (n : ℕ) → list_all is_decimal_digit whole ≡ true
+    → (if is_fraction after && not (length whole + length (drop 1 after) == 0) then value_of whole (drop 1 after) else None) ≡ Some n
+    → HasMagnitude (whole ++ after) n
 magnitude_parts whole [] n front h =
     let some = not (length whole + 0 == 0) in
     let p = if_some some (value_of whole []) h in
@@ -92,7 +95,9 @@ with_sign sign digits run n v text value x = record {
   ends = λ rest h. h;
 }
 
-first_sign : (b : ℕ) (s : List ℕ) (v : ℤ) → (if b == 45 then option_map (λ n. neg_ℤ (pos n)) (magnitude_of s) else (if b == 43 then option_map pos (magnitude_of s) else option_map pos (magnitude_of (b ∷ s)))) ≡ Some v → IsNumber (b ∷ s) v
+first_sign : (b : ℕ) (s : List ℕ) (v : ℤ)
+    → (if b == 45 then option_map (λ n. neg_ℤ (pos n)) (magnitude_of s) else
+    (if b == 43 then option_map pos (magnitude_of s) else option_map pos (magnitude_of (b ∷ s)))) ≡ Some v → IsNumber (b ∷ s) v
 first_sign b s v h =
     elim (cases_Bool (b == 45)) [
       | inl is ↦
@@ -116,7 +121,8 @@ unfolding decimal_of
 is_decimal_number [] v h = cc
 is_decimal_number (b ∷ s) v h = first_sign b s v h
 
-base_parts : (base digits : List ℕ) (v : ℤ) → list_all is_decimal_digit base ≡ true → not (length base == 0) ≡ true → in_base (digits_value 10 base) digits ≡ Some v → IsNumber (base ++ (35 ∷ digits)) v
+base_parts : (base digits : List ℕ) (v : ℤ) → list_all is_decimal_digit base ≡ true → not (length base == 0) ≡ true → in_base (digits_value 10 base) digits
+    ≡ Some v → IsNumber (base ++ (35 ∷ digits)) v
 base_parts base digits v front some h =
     let n = digits_value 10 base in
     let a = nat_le 2 n in
@@ -139,7 +145,9 @@ base_parts base digits v front some h =
       ends = λ rest k. k;
     }
 
-radix_parts_found : (base after : List ℕ) (v : ℤ) → list_all is_decimal_digit base ≡ true → (if slice_index after 0 == 35 && not (length base == 0) then in_base (digits_value 10 base) (drop 1 after) else None) ≡ Some v → IsNumber (base ++ after) v
+radix_parts_found : (base after : List ℕ) (v : ℤ) → list_all is_decimal_digit base ≡ true
+    → (if slice_index after 0 == 35 && not (length base == 0) then in_base (digits_value 10 base) (drop 1 after) else None) ≡ Some v
+    → IsNumber (base ++ after) v
 radix_parts_found base [] v front h = cc
 radix_parts_found base (c ∷ digits) v front h =
     let p = if_some (c == 35 && not (length base == 0)) (in_base (digits_value 10 base) digits) h in

@@ -67,18 +67,28 @@ decimal_parts whole fraction h =
     let r = and_parts a b q.0 in
     record { front = r.0; decimals = r.1; some = q.1; below = p.1 }
 
-magnitude_is : (whole : List ℕ) (fraction : Option (List ℕ)) → IsDecimal whole fraction → magnitude_of (whole ++ fraction_text fraction) ≡ Some (scaled whole (decimals_of fraction))
+magnitude_is : (whole : List ℕ) (fraction : Option (List ℕ)) → IsDecimal whole fraction → magnitude_of (whole ++ fraction_text fraction)
+    ≡ Some (scaled whole (decimals_of fraction))
 unfolding magnitude_of value_of
 magnitude_is whole fraction h =
     let ends = fraction_ends fraction in
-    rw (after_is whole (fraction_text fraction) h.front ends, whole_is whole (fraction_text fraction) h.front ends, decimals_are fraction, fraction_is fraction h.decimals, h.some, h.below) refl
+    rw (
+      after_is whole (fraction_text fraction) h.front ends,
+      whole_is whole (fraction_text fraction) h.front ends,
+      decimals_are fraction,
+      fraction_is fraction
+          h.decimals,
+      h.some,
+      h.below,
+    ) refl
 
 -- a byte that is no sign
 unsigned : (b : ℕ) (s : List ℕ) → (b == 45) ≡ false → (b == 43) ≡ false → decimal_of (b ∷ s) ≡ option_map pos (magnitude_of (b ∷ s))
 unfolding decimal_of
 unsigned b s h k = rw (h, k) refl
 
-decimal_unsigned : (whole : List ℕ) (fraction : Option (List ℕ)) → IsDecimal whole fraction → decimal_of (whole ++ fraction_text fraction) ≡ option_map pos (magnitude_of (whole ++ fraction_text fraction))
+decimal_unsigned : (whole : List ℕ) (fraction : Option (List ℕ)) → IsDecimal whole fraction → decimal_of (whole ++ fraction_text fraction) ≡ option_map pos
+    (magnitude_of (whole ++ fraction_text fraction))
 decimal_unsigned [] None h = absurd (false≢true h.some)
 decimal_unsigned [] (Some decimals) h = unsigned 46 decimals refl refl
 decimal_unsigned (d ∷ whole) fraction h =
@@ -87,7 +97,8 @@ decimal_unsigned (d ∷ whole) fraction h =
     let cross : (d == 43) ≡ false = grind (arith, nat_tests) in
     unsigned d (whole ++ fraction_text fraction) hyphen cross
 
-decimal_is : (sign : Sign) (whole : List ℕ) (fraction : Option (List ℕ)) → IsDecimal whole fraction → decimal_of (sign_text sign ++ (whole ++ fraction_text fraction)) ≡ Some (signed sign (scaled whole (decimals_of fraction)))
+decimal_is : (sign : Sign) (whole : List ℕ) (fraction : Option (List ℕ)) → IsDecimal whole fraction
+    → decimal_of (sign_text sign ++ (whole ++ fraction_text fraction)) ≡ Some (signed sign (scaled whole (decimals_of fraction)))
 unfolding decimal_of
 decimal_is no_sign whole fraction h =
     decimal_unsigned whole fraction h ∙ ap (option_map pos) (magnitude_is whole fraction h)
@@ -144,7 +155,8 @@ no_decimal (d ∷ base) digits h =
     let cross : (d == 43) ≡ false = grind (arith, nat_tests) in
     unsigned d (base ++ (35 ∷ digits)) hyphen cross ∙ ap (option_map pos) (no_magnitude (d ∷ base) digits h.front)
 
-radix_is : (base digits : List ℕ) → IsRadix base digits → radix_of (base ++ (35 ∷ digits)) ≡ Some (pos (digits_value (digits_value 10 base) digits * 1000000000))
+radix_is : (base digits : List ℕ) → IsRadix base digits → radix_of (base ++ (35 ∷ digits))
+    ≡ Some (pos (digits_value (digits_value 10 base) digits * 1000000000))
 unfolding radix_of
 radix_is base digits h =
     let ends = number_sign_ends digits in

@@ -33,7 +33,13 @@ pub record HasPart (f : Bool) (s : List ℕ) : Type 0 where
 pub string_part : (f : Bool) (s : List ℕ) (m : ℕ) → string_len false 1 s ≡ Some m → HasPart f (40 ∷ s)
 string_part f s m e =
     let l = has_letters (length s) 0 s m (omega arith) e in
-    record { part = string l.letters; rest = l.rest; plain = l.plain; whole = ap (λ t. 40 ∷ t) (l.whole ∙ sym (append_assoc (letters_text l.letters) (41 ∷ []) l.rest)) }
+    record {
+      part = string l.letters;
+      rest = l.rest;
+      plain = l.plain;
+      whole =
+          ap (λ t. 40 ∷ t) (l.whole ∙ sym (append_assoc (letters_text l.letters) (41 ∷ []) l.rest));
+    }
 
 pub no_angle : angle_len [] ≡ None
 unfolding angle_len
@@ -74,7 +80,8 @@ comment_part f s b u h =
       whole = ap (λ t. 37 ∷ t) (sym (take-append-drop (comment_len s) s) ∙ ap (λ t. front ++ t) h ∙ sym (append_assoc front (b ∷ []) u));
     }
 
-unclosed : (a p b : ℕ) (s : List ℕ) → 1 ≤ a + p → (b == 91) ≡ false → (b == 93) ≡ false → (b == 123) ≡ false → (b == 125) ≡ false → part_len b s ≡ None → inside_len 0 a p (b ∷ s) ≡ None
+unclosed : (a p b : ℕ) (s : List ℕ) → 1 ≤ a + p → (b == 91) ≡ false → (b == 93) ≡ false → (b == 123) ≡ false → (b == 125) ≡ false → part_len b s ≡ None
+    → inside_len 0 a p (b ∷ s) ≡ None
 unclosed a p b s some h91 h93 h123 h125 e =
     let state : IsOpenAfter (b ∷ s) 0 a p a p = record { within = omega arith; arrays = arrays_steady a p b h91 h93; braces = braces_steady p b h123 h125 } in
     sym (further_zero (inside_len 0 a p (b ∷ s))) ∙ inside_unclosed state e (omega arith)
@@ -110,7 +117,8 @@ found_angle f a p s n some e =
     ]
 
 -- a comment that the text ends closes nothing
-comment_step : (a p : ℕ) (s : List ℕ) → 1 ≤ a + p → a + p ≤ 32 → inside_len 0 a p (37 ∷ s) ≡ further (1 + comment_len s) (inside_len 0 a p (drop (comment_len s) s))
+comment_step : (a p : ℕ) (s : List ℕ) → 1 ≤ a + p → a + p ≤ 32 → inside_len 0 a p (37 ∷ s) ≡ further (1 + comment_len s)
+    (inside_len 0 a p (drop (comment_len s) s))
 comment_step a p s some shallow =
     let state : IsStep a p a p 37 (1 + comment_len s) s = record {
       arrays = arrays_steady a p 37 refl refl;
@@ -130,11 +138,13 @@ list_cases (b ∷ u) = inr (b, u, refl)
 found_comment : (f : Bool) (a p : ℕ) (s : List ℕ) (n : ℕ) → 1 ≤ a + p → a + p ≤ 32 → inside_len 0 a p (37 ∷ s) ≡ Some n → HasPart f (37 ∷ s)
 found_comment f a p s n some shallow e =
     elim (list_cases (drop (comment_len s) s)) [
-      | inl none ↦ absurd (none_some (comment_step a p s some shallow ∙ ap (λ r. further (1 + comment_len s) (inside_len 0 a p r)) none ∙ ap (further (1 + comment_len s)) (nothing_inside a p)) e)
+      | inl none ↦ absurd (none_some (comment_step a p s some shallow ∙ ap (λ r. further (1 + comment_len s) (inside_len 0 a p r)) none
+          ∙ ap (further (1 + comment_len s)) (nothing_inside a p)) e)
       | inr w ↦ comment_part f s w.0 w.1 w.2
     ]
 
-pub found_part : (f : Bool) (a p b : ℕ) (s : List ℕ) (n : ℕ) → 1 ≤ a + p → a + p ≤ 32 → ((b == 37) ≡ false → (b == 40) ≡ false → (b == 60) ≡ false → is_idle f b ≡ true) → inside_len 0 a p (b ∷ s) ≡ Some n → HasPart f (b ∷ s)
+pub found_part : (f : Bool) (a p b : ℕ) (s : List ℕ) (n : ℕ) → 1 ≤ a + p → a + p ≤ 32
+    → ((b == 37) ≡ false → (b == 40) ≡ false → (b == 60) ≡ false → is_idle f b ≡ true) → inside_len 0 a p (b ∷ s) ≡ Some n → HasPart f (b ∷ s)
 found_part f a p b s n some shallow idle e =
     let P : ℕ → Type 0 = λ c. inside_len 0 a p (c ∷ s) ≡ Some n → HasPart f (c ∷ s) in
     elim (cases_Bool (b == 37)) [

@@ -27,7 +27,8 @@ pub run_more : (s : List ℕ) (at : ℕ) → at < length s → is_decimal_digit 
 run_more s at h digit =
     at_drop_more run_len s at 0 h ∙ (let regular = digit_regular (get_or s at 0) digit in rw regular refl)
 
-pub digits_more : (s : List ℕ) (at : ℕ) → at < length s → list_all is_decimal_digit (take at s) ≡ true → is_decimal_digit (get_or s at 0) ≡ true → list_all is_decimal_digit (take (at + 1) s) ≡ true
+pub digits_more : (s : List ℕ) (at : ℕ) → at < length s → list_all is_decimal_digit (take at s) ≡ true → is_decimal_digit (get_or s at 0) ≡ true
+    → list_all is_decimal_digit (take (at + 1) s) ≡ true
 digits_more s at h before digit = list_all_more is_decimal_digit s at 0 h ∙ rw (before, digit) refl
 
 name_len : (s : List ℕ) → token_len 47 s ≡ Some (1 + run_len s)
@@ -44,7 +45,8 @@ name_begun s =
     rw (name_len s, one, name_kind (take (run_len s) s)) refl
 
 -- a run that is no number is a word
-run_begun : (b : ℕ) (s : List ℕ) → is_regular b ≡ true → number_of (b ∷ take (run_len s) s) ≡ None → first_of (b ∷ s) ≡ begun (b ∷ s) (Some (1 + run_len s, Word))
+run_begun : (b : ℕ) (s : List ℕ) → is_regular b ≡ true → number_of (b ∷ take (run_len s) s) ≡ None
+    → first_of (b ∷ s) ≡ begun (b ∷ s) (Some (1 + run_len s, Word))
 run_begun b s regular none =
     let o = regular_is b regular in
     let one : 1 + run_len s ≡ suc (run_len s) = omega arith in
@@ -75,14 +77,16 @@ first_and_rest [] some = absurd (omega (arith, some))
 first_and_rest (b ∷ s) some = ap (λ t. b ∷ t) (take_all (length (b ∷ s) - 1) s (omega arith))
 
 pub run_front : (text : List ℕ) (n : ℕ) (k : Kind) → 1 ≤ length text → n ≡ run_len (take (length text - 1) (drop 1 text)) →
-    first_of (slice_index_or text 0 0 ∷ take (length text - 1) (drop 1 text)) ≡ begun (slice_index_or text 0 0 ∷ take (length text - 1) (drop 1 text)) (Some (1 + run_len (take (length text - 1) (drop 1 text)), k)) →
+    first_of (slice_index_or text 0 0 ∷ take (length text - 1) (drop 1 text)) ≡ begun (slice_index_or text 0 0 ∷ take (length text - 1) (drop 1 text))
+    (Some (1 + run_len (take (length text - 1) (drop 1 text)), k)) →
     first_of text ≡ begun text (Some (1 + n, k))
 run_front text n k some len h =
     let m = run_len (take (length text - 1) (drop 1 text)) in
     rw len (subst (λ t. first_of t ≡ begun t (Some (1 + m, k))) (first_and_rest text some) h)
 
 -- digits alone are a number
-digits_number : (run : List ℕ) → 1 ≤ length run → list_all is_decimal_digit run ≡ true → digits_value 10 run < 1000000000 → number_of run ≡ Some (pos (digits_value 10 run * 1000000000))
+digits_number : (run : List ℕ) → 1 ≤ length run → list_all is_decimal_digit run ≡ true → digits_value 10 run < 1000000000
+    → number_of run ≡ Some (pos (digits_value 10 run * 1000000000))
 digits_number run some digits below =
     let few : nat_lt (digits_value 10 run) 1000000000 ≡ true = grind (arith, nat_tests) in
     let nonzero : (length run + 0 == 0) ≡ false = grind (arith, nat_tests) in
@@ -91,7 +95,8 @@ digits_number run some digits below =
     let number : number_of run ≡ Some (pos (scaled run [])) = rw (append-nil run) at (decimal_value no_sign run None plain) in
     number ∙ ap (λ n. Some (pos n)) value
 
-pub digits_begun : {z : ℤ} (text : List ℕ) (n v : ℕ) → z ≡ pos (v * 1000000000) → 1 ≤ length text → is_decimal_digit (slice_index_or text 0 0) ≡ true → AreDigits text n v → v < 1000000000 → first_of text ≡ begun text (Some (n, Number z))
+pub digits_begun : {z : ℤ} (text : List ℕ) (n v : ℕ) → z ≡ pos (v * 1000000000) → 1 ≤ length text → is_decimal_digit (slice_index_or text 0 0) ≡ true
+    → AreDigits text n v → v < 1000000000 → first_of text ≡ begun text (Some (n, Number z))
 digits_begun [] n v is some digit h below = absurd (omega (arith, some))
 digits_begun (b ∷ s) n v is some digit h below =
     let regular = digit_regular b digit in

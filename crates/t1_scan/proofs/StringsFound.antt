@@ -59,7 +59,8 @@ with_parentheses d s m inner more = record {
   rest = more.rest;
   left = more.left;
   plain = and_from (are_letters inner.letters) (are_letters more.letters) inner.plain more.plain;
-  whole = ap (λ t. 40 ∷ t) (inner.whole ∙ ap (λ t. letters_text inner.letters ++ (41 ∷ t)) more.whole ∙ sym (append_assoc (letters_text inner.letters) (41 ∷ letters_text more.letters) (41 ∷ more.rest)));
+  whole = ap (λ t. 40 ∷ t) (inner.whole ∙ ap (λ t. letters_text inner.letters ++ (41 ∷ t)) more.whole
+      ∙ sym (append_assoc (letters_text inner.letters) (41 ∷ letters_text more.letters) (41 ∷ more.rest)));
   len = omega (arith, inner.len, more.len, length-append (letters_text inner.letters) (41 ∷ letters_text more.letters));
   tail = more.tail;
 }
@@ -87,7 +88,8 @@ pub none_some : {o : Option ℕ} {n : ℕ} → o ≡ None → o ≡ Some n → �
 none_some h e = cc
 
 -- a backslash and the byte that it takes, where letters are found in each shorter text
-escape : (d : ℕ) (s : List ℕ) (n : ℕ) → ((t : List ℕ) (m : ℕ) → length t < length s → string_len false (suc d) t ≡ Some m → HasLetters d t m) → string_len false (suc d) (92 ∷ s) ≡ Some n → HasLetters d (92 ∷ s) n
+escape : (d : ℕ) (s : List ℕ) (n : ℕ) → ((t : List ℕ) (m : ℕ) → length t < length s → string_len false (suc d) t ≡ Some m → HasLetters d t m)
+    → string_len false (suc d) (92 ∷ s) ≡ Some n → HasLetters d (92 ∷ s) n
 escape d [] n found e = absurd (none_some (no_escape d) e)
 escape d (b ∷ s) n found e =
     let p = further_some 2 n (string_len false (suc d) s) (sym (string_escaped (suc d) b s (omega arith)) ∙ e) in

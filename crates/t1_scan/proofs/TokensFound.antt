@@ -82,7 +82,14 @@ close_token : (u : List ℕ) → HasToken (62 ∷ u)
 close_token [] = record { token = single 62; rest = []; readable = record { plain = refl; shallow = omega arith }; ends = refl; whole = refl }
 close_token (c ∷ u) =
     elim (cases_Bool (c == 62)) [
-      | inl h ↦ record { token = double_close; rest = u; readable = record { plain = refl; shallow = omega arith }; ends = refl; whole = ap (λ x. 62 ∷ x ∷ u) (is_byte c 62 h) }
+      | inl h ↦ record {
+        token = double_close;
+        rest = u;
+        readable = record { plain = refl; shallow = omega arith };
+        ends = refl;
+        whole =
+            ap (λ x. 62 ∷ x ∷ u) (is_byte c 62 h);
+      }
       | inr h ↦ record { token = single 62; rest = c ∷ u; readable = record { plain = refl; shallow = omega arith }; ends = rw h refl; whole = refl }
     ]
 
@@ -101,13 +108,24 @@ angle_token : (u : List ℕ) (m : ℕ) → angle_len u ≡ Some m → HasToken (
 angle_token [] m e = absurd (none_some no_angle e)
 angle_token (c ∷ u) m e =
     elim (cases_Bool (c == 60)) [
-      | inl h ↦ record { token = double_open; rest = u; readable = record { plain = refl; shallow = omega arith }; ends = refl; whole = ap (λ x. 60 ∷ x ∷ u) (is_byte c 60 h) }
+      | inl h ↦ record {
+        token = double_open;
+        rest = u;
+        readable = record { plain = refl; shallow = omega arith };
+        ends = refl;
+        whole =
+            ap (λ x. 60 ∷ x ∷ u) (is_byte c 60 h);
+      }
       | inr h ↦
           (let x = has_hexadecimal (c ∷ u) m (sym (angle_other c u h) ∙ e) in
           record {
             token = angled x.bytes;
             rest = x.rest;
-            readable = record { plain = and_from _ (list_all (λ b. not (b == 62)) x.bytes) (not_angle c u x.bytes x.rest x.whole h) x.plain; shallow = omega arith };
+            readable = record {
+              plain = and_from _ (list_all (λ b. not (b == 62)) x.bytes) (not_angle c u x.bytes x.rest x.whole h)
+                  x.plain;
+              shallow = omega arith;
+            };
             ends = refl;
             whole = ap (λ t. 60 ∷ t) (x.whole ∙ sym (append_assoc x.bytes (62 ∷ []) x.rest));
           })
@@ -152,7 +170,8 @@ unfolding token_len
 len_123 u = refl
 
 -- one of ) ] }
-other_token : (b : ℕ) (u : List ℕ) → not (is_blank b || b == 37) ≡ true → is_regular b ≡ false → (b == 47) ≡ false → (b == 40) ≡ false → (b == 60) ≡ false → (b == 91) ≡ false → (b == 123) ≡ false → (b == 62) ≡ false → HasToken (b ∷ u)
+other_token : (b : ℕ) (u : List ℕ) → not (is_blank b || b == 37) ≡ true → is_regular b ≡ false → (b == 47) ≡ false → (b == 40) ≡ false → (b == 60) ≡ false
+    → (b == 91) ≡ false → (b == 123) ≡ false → (b == 62) ≡ false → HasToken (b ∷ u)
 other_token b u starts other h47 h40 h60 h91 h123 h62 =
     let one : (b == 41 || b == 62 || b == 93 || b == 125) ≡ true = grind (arith, nat_tests) in
     record { token = single b; rest = u; readable = record { plain = one; shallow = omega arith }; ends = rw h62 refl; whole = refl }
@@ -171,7 +190,8 @@ has_token b u n starts e =
             | inr h60 ↦ elim (cases_Bool (b == 91)) [
               | inl h ↦ subst P (sym (is_byte b 91 h)) (λ f. (let q = further_some 1 n (inside_len 0 1 0 u) (sym (len_91 u) ∙ f) in array_token u q.0 q.1)) e
               | inr h91 ↦ elim (cases_Bool (b == 123)) [
-                | inl h ↦ subst P (sym (is_byte b 123 h)) (λ f. (let q = further_some 1 n (inside_len 0 0 1 u) (sym (len_123 u) ∙ f) in procedure_token u q.0 q.1)) e
+                | inl h ↦ subst P (sym (is_byte b 123 h))
+                    (λ f. (let q = further_some 1 n (inside_len 0 0 1 u) (sym (len_123 u) ∙ f) in procedure_token u q.0 q.1)) e
                 | inr h123 ↦ elim (cases_Bool (b == 62)) [
                   | inl h ↦ subst P (sym (is_byte b 62 h)) (λ f. close_token u) e
                   | inr h62 ↦ other_token b u starts other h47 h40 h60 h91 h123 h62
@@ -193,7 +213,8 @@ with_gap s b u e x = record {
   whole = sym (take-append-drop (blank_len false s) s) ∙ ap (λ r. take (blank_len false s) s ++ r) (e ∙ x.whole);
 }
 
-same_answer : (s : List ℕ) (found : Found) (x : Plain) (rest : List ℕ) → token_of s ≡ Ok (Some found) → token_of s ≡ answer (meant x) (spelled x) rest → record { kind = meant x; text = spelled x; rest = rest } ≡ found
+same_answer : (s : List ℕ) (found : Found) (x : Plain) (rest : List ℕ) → token_of s ≡ Ok (Some found) → token_of s ≡ answer (meant x) (spelled x) rest
+    → record { kind = meant x; text = spelled x; rest = rest } ≡ found
 same_answer s found x rest h e = cc
 
 reading_of : (s : List ℕ) (found : Found) (x : Plain) (rest : List ℕ) → BeginsWith s x rest → token_of s ≡ Ok (Some found) → IsReading s found
@@ -246,8 +267,11 @@ not_ended : {r : Result (Option Found) ScanError} → r ≡ Err Unclosed → r �
 not_ended h e = cc
 
 refused : (s : List ℕ) → token_of s ≡ Err Unclosed → (are_blanks false s ≡ false) × ((t : Plain) (rest : List ℕ) → BeginsWith s t rest → ⊥)
-refused s h =
-    (elim (cases_Bool (are_blanks false s)) [ inl blanks ↦ absurd (not_ended h (no_token s blanks)) | inr more ↦ more ], λ t rest begins. not_read h (reads_token s t rest begins))
+refused s h = (
+  elim (cases_Bool (are_blanks false s)) [ inl blanks ↦ absurd (not_ended h (no_token s blanks)) | inr more ↦ more ],
+  λ t rest begins. not_read h
+      (reads_token s t rest begins),
+)
 
 refuses : (s : List ℕ) → (are_blanks false s ≡ false) × ((t : Plain) (rest : List ℕ) → BeginsWith s t rest → ⊥) → token_of s ≡ Err Unclosed
 refuses s h =

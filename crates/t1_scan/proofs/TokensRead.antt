@@ -42,7 +42,8 @@ starts_here b s h = rw (no_blanks b s h) refl
 abbrev pub answer : Kind → List ℕ → List ℕ → Result (Option Found) ScanError
 answer kind text rest = Ok (Some (record { kind = kind; text = text; rest = rest }))
 
-begins : (b : ℕ) (u after : List ℕ) (k : Kind) → starts b ≡ true → token_len b (u ++ after) ≡ Some (length (b ∷ u)) → kind_of (b ∷ u) ≡ k → token_of ((b ∷ u) ++ after) ≡ answer k (b ∷ u) after
+begins : (b : ℕ) (u after : List ℕ) (k : Kind) → starts b ≡ true → token_len b (u ++ after) ≡ Some (length (b ∷ u)) → kind_of (b ∷ u) ≡ k
+    → token_of ((b ∷ u) ++ after) ≡ answer k (b ∷ u) after
 begins b u after k h len kind =
     starts_here b (u ++ after) h ∙ ap (cut (b ∷ (u ++ after))) len ∙ rw (take-append_seam (b ∷ u) after, drop-append_seam (b ∷ u) after, kind) refl
 
@@ -81,12 +82,14 @@ pub regular_kind : (b : ℕ) (s : List ℕ) → IsOther b → kind_of (b ∷ s) 
 unfolding kind_of
 regular_kind b s o = rw (o.slash, o.parenthesis, o.less, o.brace, o.bracket) refl
 
-run_read : (run after : List ℕ) (k : Kind) → list_all is_regular run ≡ true → not (length run == 0) ≡ true → ends_run after ≡ true → number_or_word (number_of run) ≡ k → token_of (run ++ after) ≡ answer k run after
+run_read : (run after : List ℕ) (k : Kind) → list_all is_regular run ≡ true → not (length run == 0) ≡ true → ends_run after ≡ true
+    → number_or_word (number_of run) ≡ k → token_of (run ++ after) ≡ answer k run after
 run_read [] after k h some e kind = absurd (false≢true some)
 run_read (b ∷ u) after k h some e kind =
     let parts = and_parts (is_regular b) (list_all is_regular u) h in
     let o = regular_is b parts.0 in
-    begins b u after k o.starts (regular_len b (u ++ after) parts.0 o ∙ ap (λ n. Some (1 + n)) (run_is u after parts.1 e) ∙ ap Some (omega arith)) (regular_kind b u o ∙ kind)
+    begins b u after k o.starts (regular_len b (u ++ after) parts.0 o ∙ ap (λ n. Some (1 + n)) (run_is u after parts.1 e)
+    ∙ ap Some (omega arith)) (regular_kind b u o ∙ kind)
 
 -- one test gives another at each element
 all_by : (p q : ℕ → Bool) → ((b : ℕ) → p b ≡ true → q b ≡ true) → (run : List ℕ) → list_all p run ≡ true → list_all q run ≡ true
@@ -101,7 +104,8 @@ not_empty : (run : List ℕ) → 0 < length run → not (length run == 0) ≡ tr
 not_empty [] h = absurd (omega arith)
 not_empty (b ∷ run) h = let nonzero : (length (b ∷ run) == 0) ≡ false = grind (arith, nat_tests) in rw nonzero refl
 
-digits_some : (whole : List ℕ) (fraction : Option (List ℕ)) → not (length whole + length (decimals_of fraction) == 0) ≡ true → 0 < length whole + length (decimals_of fraction)
+digits_some : (whole : List ℕ) (fraction : Option (List ℕ)) → not (length whole + length (decimals_of fraction) == 0) ≡ true
+    → 0 < length whole + length (decimals_of fraction)
 digits_some whole fraction h = grind (arith, nat_tests)
 
 small_base : (base digits : List ℕ) → IsRadix base digits → digits_value 10 base ≤ 36
@@ -130,15 +134,26 @@ length_fraction : (fraction : Option (List ℕ)) → length (decimals_of fractio
 length_fraction None = omega arith
 length_fraction (Some decimals) = omega arith
 
-decimal_read : (sign : Sign) (whole : List ℕ) (fraction : Option (List ℕ)) (after : List ℕ) → is_decimal whole fraction ≡ true → ends_run after ≡ true → token_of (spelled (decimal sign whole fraction) ++ after) ≡ answer (meant (decimal sign whole fraction)) (spelled (decimal sign whole fraction)) after
+decimal_read : (sign : Sign) (whole : List ℕ) (fraction : Option (List ℕ)) (after : List ℕ) → is_decimal whole fraction ≡ true → ends_run after ≡ true
+    → token_of (spelled (decimal sign whole fraction) ++ after) ≡ answer (meant (decimal sign whole fraction)) (spelled (decimal sign whole fraction)) after
 decimal_read sign whole fraction after h e =
     let p = decimal_parts whole fraction h in
     let run = spelled (decimal sign whole fraction) in
-    let regular = all_both is_regular (sign_text sign) (whole ++ fraction_text fraction) (sign_regular sign) (all_both is_regular whole (fraction_text fraction) (digits_regular whole p.front) (fraction_regular fraction p.decimals)) in
-    let some : not (length run == 0) ≡ true = not_empty run (omega (arith, digits_some whole fraction p.some, length_fraction fraction, length-append (sign_text sign) (whole ++ fraction_text fraction), length-append whole (fraction_text fraction))) in
+    let regular = all_both is_regular (sign_text sign) (whole ++ fraction_text fraction) (sign_regular sign)
+    (all_both is_regular whole (fraction_text fraction) (digits_regular whole p.front) (fraction_regular fraction p.decimals)) in
+    let some : not (length run == 0) ≡ true =
+    not_empty run (omega (
+      arith,
+      digits_some whole fraction p.some,
+      length_fraction fraction,
+      length-append (sign_text sign)
+          (whole ++ fraction_text fraction),
+      length-append whole (fraction_text fraction),
+    )) in
     run_read run after (meant (decimal sign whole fraction)) regular some e (ap number_or_word (decimal_value sign whole fraction h))
 
-radix_read : (base digits after : List ℕ) → is_radix base digits ≡ true → ends_run after ≡ true → token_of (spelled (radix base digits) ++ after) ≡ answer (meant (radix base digits)) (spelled (radix base digits)) after
+radix_read : (base digits after : List ℕ) → is_radix base digits ≡ true → ends_run after ≡ true → token_of (spelled (radix base digits) ++ after)
+    ≡ answer (meant (radix base digits)) (spelled (radix base digits)) after
 radix_read base digits after h e =
     let p = radix_parts base digits h in
     let run = spelled (radix base digits) in
@@ -175,14 +190,16 @@ and_right_false : (x y : Bool) → x ≡ true → (x && y) ≡ false → y ≡ f
 and_right_false true y h e = e
 and_right_false false y h e = absurd (false≢true h)
 
-single_read : (b : ℕ) (after : List ℕ) → is_plain (single b) ≡ true → can_end (single b) after ≡ true → token_of ((b ∷ []) ++ after) ≡ answer Word (b ∷ []) after
+single_read : (b : ℕ) (after : List ℕ) → is_plain (single b) ≡ true → can_end (single b) after ≡ true
+    → token_of ((b ∷ []) ++ after) ≡ answer Word (b ∷ []) after
 single_read b after h e =
     let P : ℕ → Type 0 = λ n. token_of ((n ∷ []) ++ after) ≡ answer Word (n ∷ []) after in
     elim (or_cases (b == 41 || b == 62 || b == 93) (b == 125) h) [
       | inl i ↦ elim (or_cases (b == 41 || b == 62) (b == 93) i) [
         | inl j ↦ elim (or_cases (b == 41) (b == 62) j) [
           | inl k ↦ subst P (is_byte b 41 k) (single_41 after)
-          | inr k ↦ subst P (is_byte b 62 k) (single_62 after (and_right_false (b == 62) (begins_with_close after) k (not_true (b == 62 && begins_with_close after) e)))
+          | inr k ↦ subst P (is_byte b 62 k) (single_62 after
+              (and_right_false (b == 62) (begins_with_close after) k (not_true (b == 62 && begins_with_close after) e)))
         ]
         | inr j ↦ subst P (is_byte b 93 j) (single_93 after)
       ]
@@ -202,7 +219,8 @@ unfolding token_len kind_of
 name_read run after h e =
     begins 47 run after Name refl (ap (λ n. Some (1 + n)) (run_is run after h e) ∙ ap Some (omega arith)) refl
 
-parenthesized_read : (letters : Letters) (after : List ℕ) → are_letters letters ≡ true → token_of (spelled (parenthesized letters) ++ after) ≡ answer Text (spelled (parenthesized letters)) after
+parenthesized_read : (letters : Letters) (after : List ℕ) → are_letters letters ≡ true → token_of (spelled (parenthesized letters) ++ after) ≡ answer Text
+    (spelled (parenthesized letters)) after
 unfolding token_len part_len kind_of
 parenthesized_read letters after h =
     let inside = letters_text letters ++ (41 ∷ []) in
@@ -219,13 +237,15 @@ angled_read bytes after h =
     let other = first_no_angle bytes (and_parts (is_not_angle bytes) (list_all (λ b. not (b == 62)) bytes) h).0 in
     begins 60 inside after Text refl (ap (further 1) (angle_read bytes after h) ∙ ap Some (omega arith)) (rw other refl)
 
-braced_read : (body : Body) (after : List ℕ) → is_body true body ≡ true → 1 + body_depth body ≤ 32 → token_of (spelled (braced body) ++ after) ≡ answer Proc (spelled (braced body)) after
+braced_read : (body : Body) (after : List ℕ) → is_body true body ≡ true → 1 + body_depth body ≤ 32 → token_of (spelled (braced body) ++ after)
+    ≡ answer Proc (spelled (braced body)) after
 unfolding token_len kind_of
 braced_read body after h shallow =
     let inside = body_text body ++ (125 ∷ []) in
     begins 123 inside after Proc refl (ap (further 1) (procedure_read body after h shallow) ∙ ap Some (omega arith)) refl
 
-bracketed_read : (body : Body) (after : List ℕ) → is_body false body ≡ true → 1 + body_depth body ≤ 32 → token_of (spelled (bracketed body) ++ after) ≡ answer Array (spelled (bracketed body)) after
+bracketed_read : (body : Body) (after : List ℕ) → is_body false body ≡ true → 1 + body_depth body ≤ 32 → token_of (spelled (bracketed body) ++ after)
+    ≡ answer Array (spelled (bracketed body)) after
 unfolding token_len kind_of
 bracketed_read body after h shallow =
     let inside = body_text body ++ (93 ∷ []) in
@@ -252,7 +272,8 @@ unfolding token_len
 braced_deep body after h past =
     deep 123 (body_text body ++ (125 ∷ [])) after refl (ap (further 1) (procedure_deep body after h past))
 
-bracketed_deep : (body : Body) (after : List ℕ) → is_body false body ≡ true → 32 < 1 + body_depth body → token_of (spelled (bracketed body) ++ after) ≡ Err Unclosed
+bracketed_deep : (body : Body) (after : List ℕ) → is_body false body ≡ true → 32 < 1 + body_depth body
+    → token_of (spelled (bracketed body) ++ after) ≡ Err Unclosed
 unfolding token_len
 bracketed_deep body after h past =
     deep 91 (body_text body ++ (93 ∷ [])) after refl (ap (further 1) (array_deep body after h past))

@@ -23,7 +23,9 @@ digits_value_after_is base n [] = rw (pow-zero base) (omega arith)
 digits_value_after_is base n (d ∷ ds) =
     let more = digits_value_after_is base (n * base + digit_value d) ds in
     let first = digits_value_after_is base (0 * base + digit_value d) ds in
-    more ∙ spread n base (digit_value d) (base ^ length ds) (digits_value base ds) ∙ ap (λ m. n * m + ((0 * base + digit_value d) * base ^ length ds + digits_value base ds)) (sym (pow-succ' base (length ds))) ∙ ap (λ m. n * base ^ suc (length ds) + m) (sym first)
+    more ∙ spread n base (digit_value d) (base ^ length ds) (digits_value base ds)
+    ∙ ap (λ m. n * m + ((0 * base + digit_value d) * base ^ length ds + digits_value base ds)) (sym (pow-succ' base (length ds)))
+    ∙ ap (λ m. n * base ^ suc (length ds) + m) (sym first)
 
 pub digits_value_after-append : (base n : ℕ) (xs ys : List ℕ) → digits_value_after base n (xs ++ ys) ≡ digits_value_after base (digits_value_after base n xs) ys
 digits_value_after-append base n [] ys = refl
@@ -59,7 +61,8 @@ unfoldable pub billionths : ℕ → List ℕ → ℕ
 billionths unit [] = 0
 billionths unit (b ∷ s) = digit_value b * unit + billionths (unit / 10) s
 
-pub billionths_more : (unit : ℕ) (s : List ℕ) (i : ℕ) → i < length s → billionths unit (drop i s) ≡ digit_value (get_or s i 0) * unit + billionths (unit / 10) (drop (i + 1) s)
+pub billionths_more : (unit : ℕ) (s : List ℕ) (i : ℕ) → i < length s → billionths unit (drop i s) ≡ digit_value (get_or s i 0) *
+    unit + billionths (unit / 10) (drop (i + 1) s)
 unfolding billionths
 billionths_more unit s i h = at_drop_more (billionths unit) s i 0 h
 
@@ -112,7 +115,8 @@ pub billionths-value : (s : List ℕ) → list_all is_decimal_digit s ≡ true �
 billionths-value s h = billionths_are 8 s h
 
 -- the digits before a point and those behind it
-pub scaled_parts : (whole decimals : List ℕ) → scaled whole decimals ≡ digits_value 10 whole * 1000000000 + digits_value 10 decimals * 1000000000 / 10 ^ length decimals
+pub scaled_parts : (whole decimals : List ℕ) → scaled whole decimals ≡ digits_value 10 whole * 1000000000 + digits_value 10 decimals *
+    1000000000 / 10 ^ length decimals
 unfolding scaled
 scaled_parts whole decimals =
     let t = 10 ^ length decimals in

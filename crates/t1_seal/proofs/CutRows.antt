@@ -51,7 +51,8 @@ module _ (lost : List ℕ) (some : 0 < length lost) where
           subst (λ (short : Bool). IsClosed (follow row_of (cond short (Err CutShort) (Ok (payload (take n (left ++ lost)) (drop n (left ++ lost)))))))
           (le-ltb (length (left ++ lost)) n (omega (arith, fits, more))) closed in
           let rest : IsClosed (row_of (drop n left ++ lost)) =
-          subst (λ bytes. IsClosed (row_of bytes)) (drop-append-le n left lost fits) (closed_behind (take n (left ++ lost)) (row_of (drop n (left ++ lost))) whole) in
+          subst (λ bytes. IsClosed (row_of bytes)) (drop-append-le n left lost fits)
+          (closed_behind (take n (left ++ lost)) (row_of (drop n (left ++ lost))) whole) in
           let shorter = length-drop n left in
           cut_behind (take n left) (row_of (drop n left)) (below (drop n left) (omega (arith, shorter)) rest)
 
@@ -114,7 +115,8 @@ cut_files_tell [] lost whole some is pfb closed = refl
 cut_files_tell (x ∷ left) lost whole some is pfb closed = by_first (x == 128) is
   where
     by_first : (first : Bool)
-        → cond first (as_pfb (row_of (x ∷ (left ++ lost)))) (cond (begins_pfa (x ∷ (left ++ lost))) (Ok (as_pfa (x ∷ (left ++ lost)))) (Err NotAFont)) ≡ Ok whole
+        → cond first (as_pfb (row_of (x ∷ (left ++ lost))))
+        (cond (begins_pfa (x ∷ (left ++ lost))) (Ok (as_pfa (x ∷ (left ++ lost)))) (Err NotAFont)) ≡ Ok whole
         → TellsOfLoss (x ∷ left) (cond first (as_pfb (row_of (x ∷ left))) (cond (begins_pfa (x ∷ left)) (Ok (as_pfa (x ∷ left))) (Err NotAFont)))
     by_first true is =
         tells x left (row_of (x ∷ left))

@@ -26,13 +26,15 @@ unfolding is_digit
 digit_tests c = some_of_ranges (nat_le 65 c && nat_le c 70) (nat_le 97 c && nat_le c 102) (nat_le 48 c && nat_le c 57) (c - 55) (c - 87) (c - 48)
 
 -- Two digits decode to the byte that they write.
-decoded_pair : (high low : ℕ) (u v : Option ℕ) → is_some u ≡ true → is_some v ≡ true → hex_digit_value high ≡ u → hex_digit_value low ≡ v → decode_pairs 0 (high ∷ low ∷ []) ≡ Ok ((unwrap_or u 0 * 16 + unwrap_or v 0) ∷ [])
+decoded_pair : (high low : ℕ) (u v : Option ℕ) → is_some u ≡ true → is_some v ≡ true → hex_digit_value high ≡ u → hex_digit_value low ≡ v
+    → decode_pairs 0 (high ∷ low ∷ []) ≡ Ok ((unwrap_or u 0 * 16 + unwrap_or v 0) ∷ [])
 unfolding decode_pairs
 decoded_pair high low None v h k e f = absurd (cc)
 decoded_pair high low (Some a) None h k e f = absurd (cc)
 decoded_pair high low (Some a) (Some b) h k e f = rw (e, f) refl
 
-pub digits_decoded : (high low : ℕ) → is_digit high ≡ true → is_digit low ≡ true → decode_sized (high ∷ low ∷ []) 1 ≡ Ok ((digit_value high * 16 + digit_value low) ∷ [])
+pub digits_decoded : (high low : ℕ) → is_digit high ≡ true → is_digit low ≡ true → decode_sized (high ∷ low ∷ []) 1
+    ≡ Ok ((digit_value high * 16 + digit_value low) ∷ [])
 unfolding is_digit digit_value
 digits_decoded high low h k = decoded_pair high low (hex_digit_value high) (hex_digit_value low) h k refl refl
 
@@ -84,7 +86,8 @@ digits_at : (section : List ℕ) (i : ℕ) → i < length section → digits_of 
 digits_at section i h = rw (add-one i) (ap digits_of (drop-cons section i 0 h))
 
 -- A first digit waits for its second one.
-pub digit_kept : (section : List ℕ) (i : ℕ) (opening : Opening) → i < length section → is_digit (get_or section i 0) ≡ true → HasRead section i None opening → HasRead section (i + 1) (Some (get_or section i 0)) opening
+pub digit_kept : (section : List ℕ) (i : ℕ) (opening : Opening) → i < length section → is_digit (get_or section i 0) ≡ true → HasRead section i None opening
+    → HasRead section (i + 1) (Some (get_or section i 0)) opening
 digit_kept section i opening h digit r =
     let c : ℕ = get_or section i 0 in
     let digits : digits_of (drop i section) ≡ c ∷ digits_of (drop (i + 1) section) =
@@ -99,7 +102,9 @@ digit_kept section i opening h digit r =
     }
 
 -- With the second digit the byte of both is taken.
-pub pair_taken : (section : List ℕ) (i high : ℕ) (old new : Opening) → i < length section → is_digit (get_or section i 0) ≡ true → (r : HasRead section i (Some high) old) → HasTaken new (r.front ++ (digit_value high * 16 + digit_value (get_or section i 0)) ∷ []) → IsFor (length section / 2) new → HasRead section (i + 1) None new
+pub pair_taken : (section : List ℕ) (i high : ℕ) (old new : Opening) → i < length section → is_digit (get_or section i 0) ≡ true
+    → (r : HasRead section i (Some high) old) → HasTaken new (r.front ++ (digit_value high * 16 + digit_value (get_or section i 0)) ∷ [])
+    → IsFor (length section / 2) new → HasRead section (i + 1) None new
 pair_taken section i high old new h digit r taken room =
     let c : ℕ = get_or section i 0 in
     let byte : ℕ = digit_value high * 16 + digit_value c in
@@ -115,7 +120,8 @@ pair_taken section i high old new h digit r taken room =
     }
 
 -- A blank is passed over.
-pub blank_passed : (section : List ℕ) (i : ℕ) (high : Option ℕ) (opening : Opening) → i < length section → is_digit (get_or section i 0) ≡ false → is_blank (get_or section i 0) ≡ true → HasRead section i high opening → HasRead section (i + 1) high opening
+pub blank_passed : (section : List ℕ) (i : ℕ) (high : Option ℕ) (opening : Opening) → i < length section → is_digit (get_or section i 0) ≡ false
+    → is_blank (get_or section i 0) ≡ true → HasRead section i high opening → HasRead section (i + 1) high opening
 blank_passed section i high opening h digit blank r =
     let c : ℕ = get_or section i 0 in
     let digits : digits_of (drop i section) ≡ digits_of (drop (i + 1) section) =
@@ -140,12 +146,14 @@ nothing_after : (high : Option ℕ) → bytes_after high [] ≡ []
 nothing_after None = refl
 nothing_after (Some high) = refl
 
-pub all_read : (section : List ℕ) (i : ℕ) (high : Option ℕ) (opening : Opening) → digits_of (drop i section) ≡ [] → (r : HasRead section i high opening) → r.front ≡ bytes_of_digits (digits_of section)
+pub all_read : (section : List ℕ) (i : ℕ) (high : Option ℕ) (opening : Opening) → digits_of (drop i section) ≡ [] → (r : HasRead section i high opening)
+    → r.front ≡ bytes_of_digits (digits_of section)
 all_read section i high opening none r =
     sym (append-nil r.front) ∙ ap (λ bytes. r.front ++ bytes) (sym (nothing_after high)) ∙ ap (λ ds. r.front ++ bytes_after high ds) (sym none) ∙ r.rest
 
 pub none_at_end : (section : List ℕ) (i : ℕ) → length section ≤ i → digits_of (drop i section) ≡ []
 none_at_end section i h = ap digits_of (drop_all i section h)
 
-pub none_at_other : (section : List ℕ) (i : ℕ) → i < length section → is_digit (get_or section i 0) ≡ false → is_blank (get_or section i 0) ≡ false → digits_of (drop i section) ≡ []
+pub none_at_other : (section : List ℕ) (i : ℕ) → i < length section → is_digit (get_or section i 0) ≡ false → is_blank (get_or section i 0) ≡ false
+    → digits_of (drop i section) ≡ []
 none_at_other section i h digit blank = digits_at section i h ∙ digits-other (get_or section i 0) (drop (i + 1) section) digit blank

@@ -31,7 +31,8 @@ text_discarded front c h =
     drop_all 4 (decrypted eexec_start front) before ∙ sym (drop_all 4 (decrypted eexec_start (front ++ c ∷ [])) after)
 
 -- A later byte adds its plain byte.
-pub text_pushed : (front : List ℕ) (c : ℕ) → 4 ≤ length front → drop 4 (decrypted eexec_start front) ++ plain_byte eexec_start front c ∷ [] ≡ drop 4 (decrypted eexec_start (front ++ c ∷ []))
+pub text_pushed : (front : List ℕ) (c : ℕ) → 4 ≤ length front → drop 4 (decrypted eexec_start front) ++ plain_byte eexec_start front c ∷ []
+    ≡ drop 4 (decrypted eexec_start (front ++ c ∷ []))
 text_pushed front c h =
     let long : 4 ≤ length (decrypted eexec_start front) = omega (arith, length-decrypted eexec_start front) in
     sym (ap (drop 4) (decrypted-push eexec_start front c)
@@ -56,7 +57,8 @@ finishes_long opening front taken h =
     let long : 4 ≤ length front = omega (arith, taken.discarded) in rw taken.text (opened-long front long)
 
 -- What an opening finishes with is what its cipher bytes open to.
-pub finished : (result : Result (Vec ℕ Global) SealError) (read wanted : Result (List ℕ) SealError) → MatchResult result (λ text. read ≡ Ok text.items) (λ e. read ≡ Err e) → read ≡ wanted → Reads vec_items result wanted
+pub finished : (result : Result (Vec ℕ Global) SealError) (read wanted : Result (List ℕ) SealError) → MatchResult result (λ text. read ≡ Ok text.items)
+    (λ e. read ≡ Err e) → read ≡ wanted → Reads vec_items result wanted
 finished (Ok text) read wanted h same = sym same ∙ h
 finished (Err Memory) read wanted h same = tt
 finished (Err NotAFont) read wanted h same = sym same ∙ h

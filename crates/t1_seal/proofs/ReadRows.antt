@@ -166,12 +166,15 @@ piece_before b front rest row inner p q e =
       pieces = piece ∷ q.pieces;
       closing = q.closing;
       short = All-cons IsShort piece q.pieces p.short q.short;
-      written = p.written ∙ ap (λ t. piece_bytes piece ++ t) q.written ∙ sym (append_assoc (piece_bytes piece) (flat_map piece_bytes q.pieces) (closing_bytes q.closing));
+      written = p.written ∙ ap (λ t. piece_bytes piece ++ t) q.written
+          ∙ sym (append_assoc (piece_bytes piece) (flat_map piece_bytes q.pieces) (closing_bytes q.closing));
       said = cc said;
     }
 
 -- A row that begins with a part is written as segments, where shorter rows are.
-follow_read : (n : ℕ) (b : List ℕ) (row : Row) (part : Result Part SealError) → AreBytes b → segment_of b ≡ part → ((rest : List ℕ) (inner : Row) → AreBytes rest → length rest < length b → row_within n rest ≡ Ok inner → IsRow rest inner) → follow (row_within n) part ≡ Ok row → IsRow b row
+follow_read : (n : ℕ) (b : List ℕ) (row : Row) (part : Result Part SealError) → AreBytes b → segment_of b ≡ part
+    → ((rest : List ℕ) (inner : Row) → AreBytes rest → length rest < length b → row_within n rest ≡ Ok inner → IsRow rest inner)
+    → follow (row_within n) part ≡ Ok row → IsRow b row
 follow_read n b row (Err e) fit is shorter h = absurd (cc)
 follow_read n b row (Ok nothing) fit is shorter h = record {
   pieces = [];

@@ -40,7 +40,8 @@ segment_of-shorter (x ∷ b) front rest e =
     (λ same. absurd (cc same)) e
 
 -- Two readers of what follows a payload give the same where they agree on it.
-follow_same : (f g : List ℕ → Result Row SealError) (part : Result Part SealError) → ((front rest : List ℕ) → part ≡ Ok (payload front rest) → f rest ≡ g rest) → follow f part ≡ follow g part
+follow_same : (f g : List ℕ → Result Row SealError) (part : Result Part SealError) → ((front rest : List ℕ) → part ≡ Ok (payload front rest) → f rest ≡ g rest)
+    → follow f part ≡ follow g part
 follow_same f g (Err e) same = refl
 follow_same f g (Ok nothing) same = refl
 follow_same f g (Ok (ending rest)) same = refl
@@ -62,7 +63,8 @@ pub row_step : (b : List ℕ) → row_of b ≡ follow row_of (segment_of b)
 unfolding row_within segment_of
 row_step [] = refl
 row_step (x ∷ t) = follow_same (row_within (length t)) row_of (segment_of (x ∷ t))
-    (λ front rest e. let s : length front + length rest < length (x ∷ t) = segment_of-shorter (x ∷ t) front rest e in enough (length t) (length rest) rest (omega arith) (omega arith))
+    (λ front rest e. let s : length front + length rest < length (x ∷ t) = segment_of-shorter (x ∷ t) front rest e in enough (length t) (length rest)
+    rest (omega arith) (omega arith))
 
 -- One front before another is their sum.
 pub fronts : (a b : List ℕ) (row : Result Row SealError) → with_front a (with_front b row) ≡ with_front (a ++ b) row
@@ -70,22 +72,27 @@ fronts a b (Ok row) = rw (append_assoc a b row.bytes) refl
 fronts a b (Err e) = refl
 
 -- With the bytes taken so far before what is left of a row, the whole is what the next part says.
-pub row_at : (taken row : List ℕ) (whole : Result Row SealError) (part : Result Part SealError) → with_front taken (row_of row) ≡ whole → segment_of row ≡ part → whole ≡ with_front taken (follow row_of part)
+pub row_at : (taken row : List ℕ) (whole : Result Row SealError) (part : Result Part SealError) → with_front taken (row_of row) ≡ whole → segment_of row ≡ part
+    → whole ≡ with_front taken (follow row_of part)
 row_at taken row whole part known e = sym known ∙ ap (with_front taken) (row_step row ∙ ap (follow row_of) e)
 
 -- A payload moves from the row to the bytes taken.
-pub payload_read : (taken row : List ℕ) (whole : Result Row SealError) (front rest : List ℕ) → with_front taken (row_of row) ≡ whole → segment_of row ≡ Ok (payload front rest) → with_front (taken ++ front) (row_of rest) ≡ whole
+pub payload_read : (taken row : List ℕ) (whole : Result Row SealError) (front rest : List ℕ) → with_front taken (row_of row) ≡ whole
+    → segment_of row ≡ Ok (payload front rest) → with_front (taken ++ front) (row_of rest) ≡ whole
 payload_read taken row whole front rest known e = sym (row_at taken row whole (Ok (payload front rest)) known e ∙ fronts taken front (row_of rest))
 
 -- The row is over: without an end segment, and with one.
-pub row_over : (taken row : List ℕ) (whole : Result Row SealError) → with_front taken (row_of row) ≡ whole → segment_of row ≡ Ok nothing → as_pfb whole ≡ Ok (record { bytes = taken; pfb = true; end_segment = false; trailing = false })
+pub row_over : (taken row : List ℕ) (whole : Result Row SealError) → with_front taken (row_of row) ≡ whole → segment_of row ≡ Ok nothing
+    → as_pfb whole ≡ Ok (record { bytes = taken; pfb = true; end_segment = false; trailing = false })
 row_over taken row whole known e = ap as_pfb (row_at taken row whole (Ok nothing) known e) ∙ rw (append-nil taken) refl
 
-pub row_ended : (taken row : List ℕ) (whole : Result Row SealError) (rest : List ℕ) → with_front taken (row_of row) ≡ whole → segment_of row ≡ Ok (ending rest) → as_pfb whole ≡ Ok (record { bytes = taken; pfb = true; end_segment = true; trailing = not (length rest == 0) })
+pub row_ended : (taken row : List ℕ) (whole : Result Row SealError) (rest : List ℕ) → with_front taken (row_of row) ≡ whole → segment_of row ≡ Ok (ending rest)
+    → as_pfb whole ≡ Ok (record { bytes = taken; pfb = true; end_segment = true; trailing = not (length rest == 0) })
 row_ended taken row whole rest known e = ap as_pfb (row_at taken row whole (Ok (ending rest)) known e) ∙ rw (append-nil taken) refl
 
 -- A row that is refused at a segment is refused whole.
-pub row_refused : (taken row : List ℕ) (whole : Result Row SealError) (e : SealError) → with_front taken (row_of row) ≡ whole → Refuses e (segment_of row) → Refuses e (as_pfb whole)
+pub row_refused : (taken row : List ℕ) (whole : Result Row SealError) (e : SealError) → with_front taken (row_of row) ≡ whole → Refuses e (segment_of row)
+    → Refuses e (as_pfb whole)
 row_refused taken row whole Memory known e = tt
 row_refused taken row whole NotAFont known e = ap as_pfb (row_at taken row whole (Err NotAFont) known e)
 row_refused taken row whole BadHeader known e = ap as_pfb (row_at taken row whole (Err BadHeader) known e)

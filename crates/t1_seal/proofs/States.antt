@@ -31,7 +31,8 @@ term-suc a b n j c h =
     let second : suc n - 1 - j ≡ suc (n - 1 - j) = omega arith in
     rw (first, second, pow-suc a (n - j), pow-suc a (n - 1 - j)) (omega arith)
 
-sum_at-suc : (a b start n : ℕ) (byte more : ℕ → ℕ) → ((j : ℕ) → j < n → more j ≡ byte j) → sum_at a b start (suc n) more ≡ (more n + sum_at a b start n byte) * a + b
+sum_at-suc : (a b start n : ℕ) (byte more : ℕ → ℕ) → ((j : ℕ) → j < n → more j ≡ byte j) → sum_at a b start (suc n) more
+    ≡ (more n + sum_at a b start n byte) * a + b
 sum_at-suc a b start n byte more same =
     let f : ℕ → ℕ = λ j. byte j * a ^ (n - j) + b * a ^ (n - 1 - j) in
     let g : ℕ → ℕ = λ j. more j * a ^ (suc n - j) + b * a ^ (suc n - 1 - j) in

@@ -28,7 +28,8 @@ unfolding segment_of
 piece_written piece rest short =
     typed_written piece.kind ((to_le_bytes w32 (length piece.payload) ++ piece.payload) ++ rest) ∙ sized_written piece.payload rest short
 
-pub said_after : (piece : Piece) (pieces : List Piece) (closing : Closing) → with_front piece.payload (Ok (row_said pieces closing)) ≡ Ok (row_said (piece ∷ pieces) closing)
+pub said_after : (piece : Piece) (pieces : List Piece) (closing : Closing) → with_front piece.payload (Ok (row_said pieces closing))
+    ≡ Ok (row_said (piece ∷ pieces) closing)
 said_after piece pieces by_file_end = refl
 said_after piece pieces (by_end_segment rest) = refl
 

@@ -106,7 +106,8 @@ digits_in_front [] digits text h = h
 digits_in_front (c ∷ front) digits text h = digit c (front ++ digits) (front ++ text) (digits_in_front front digits text h)
 
 -- Four digits in front make a section hexadecimal.
-four_digits : (digits rest : List ℕ) → 4 ≤ length digits → AllPass is_digit digits → (is_hexadecimal (take 4 digits ++ rest) ≡ true) × BeginsSection (take 4 digits ++ rest)
+four_digits : (digits rest : List ℕ) → 4 ≤ length digits → AllPass is_digit digits → (is_hexadecimal (take 4 digits ++ rest) ≡ true)
+    × BeginsSection (take 4 digits ++ rest)
 four_digits [] rest h pass = absurd (omega arith)
 four_digits (a ∷ []) rest h pass = absurd (omega arith)
 four_digits (a ∷ b ∷ []) rest h pass = absurd (omega arith)

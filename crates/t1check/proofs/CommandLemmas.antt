@@ -19,12 +19,16 @@ use Rattle.t1check.specs.Private.Numbers.{IsTextOfNumber}
 use Rattle.t1check.proofs.ValueLemmas.{first_value-passes}
 
 -- a command with the six arguments is the program's
-pub app_of-t1check : (start first second third fourth fifth sixth : Command) (after max trace edition waive file : Arg) → AddsArg start after first → AddsArg first max second → AddsArg second trace third
-    → AddsArg third edition fourth → AddsArg fourth waive fifth → AddsArg fifth file sixth → after.global ≡ false → max.global ≡ false → trace.global ≡ false → edition.global ≡ false → waive.global ≡ false → file.global ≡ false
-    → app_of start ≡ new_app (codes "t1check") → rule_of after ≡ after_rule → rule_of max ≡ max_rule → rule_of trace ≡ trace_rule → rule_of edition ≡ edition_rule → rule_of waive ≡ waive_rule → rule_of file ≡ file_rule
+pub app_of-t1check : (start first second third fourth fifth sixth : Command) (after max trace edition waive file : Arg) → AddsArg start after first
+    → AddsArg first max second → AddsArg second trace third
+    → AddsArg third edition fourth → AddsArg fourth waive fifth → AddsArg fifth file sixth → after.global ≡ false → max.global ≡ false → trace.global ≡ false
+    → edition.global ≡ false → waive.global ≡ false → file.global ≡ false
+    → app_of start ≡ new_app (codes "t1check") → rule_of after ≡ after_rule → rule_of max ≡ max_rule → rule_of trace ≡ trace_rule
+    → rule_of edition ≡ edition_rule → rule_of waive ≡ waive_rule → rule_of file ≡ file_rule
     → app_of sixth ≡ t1check
 unfolding t1check
-app_of-t1check start first second third fourth fifth sixth after max trace edition waive file one two three four five six after_local max_local trace_local edition_local waive_local file_local new is_after is_max is_trace is_edition is_waive is_file =
+app_of-t1check start first second third fourth fifth sixth after max trace edition waive file one two three four five six after_local max_local trace_local
+    edition_local waive_local file_local new is_after is_max is_trace is_edition is_waive is_file =
     six.shape file_local ∙ ap (with_rule (app_of fifth)) is_file
     ∙ ap (λ (a : App). with_rule a file_rule) (five.shape waive_local ∙ ap (with_rule (app_of fourth)) is_waive
     ∙ ap (λ (a : App). with_rule a waive_rule) (four.shape edition_local ∙ ap (with_rule (app_of third)) is_edition
@@ -100,7 +104,13 @@ own_arg a e =
     let groups = both _ _ (both _ _ simple.0).1 in
     let alone = both _ _ free.0 in
     record {
-      plain = (is_false a.exclusive alone.0, is_nil a.conflicts.items (both _ _ alone.1).0, is_nil a.overrides.items (both _ _ simple.0).0, is_nil a.groups.items (both _ _ groups.1).0);
+      plain = (
+        is_false a.exclusive alone.0,
+        is_nil a.conflicts.items (both _ _ alone.1).0,
+        is_nil a.overrides.items (both _ _ simple.0).0,
+        is_nil
+            a.groups.items (both _ _ groups.1).0,
+      );
       named = differ a.id.now [] named.0;
       not_auto = λ is. elim is [ inl help ↦ differ a.id.now (codes "help") auto.0 help | inr version ↦ differ a.id.now (codes "version") auto.1 version ];
     }
@@ -114,10 +124,12 @@ distinct_ids : (args : List Arg) → are_distinct (map rule_of args) ≡ true �
 distinct_ids [] e j k d f below lt same = absurd (omega arith)
 distinct_ids (x ∷ xs) e zero zero d f below lt same = refl
 distinct_ids (x ∷ xs) e zero (suc k) d f below lt same =
-    let here : not (bytes_eq (slice_index_or xs k d).id.now x.id.now) ≡ true = each_rule (λ s. not (bytes_eq s.id x.id.now)) xs (both _ _ e).0 k d (omega arith) in
+    let here : not (bytes_eq (slice_index_or xs k d).id.now x.id.now) ≡ true = each_rule (λ s. not (bytes_eq s.id x.id.now)) xs
+    (both _ _ e).0 k d (omega arith) in
     absurd (differ (slice_index_or xs k d).id.now x.id.now here (sym ((bytes_eq-Decides x.id.now (slice_index_or xs k d).id.now).0 same)))
 distinct_ids (x ∷ xs) e (suc j) zero d f below lt same =
-    let here : not (bytes_eq (slice_index_or xs j f).id.now x.id.now) ≡ true = each_rule (λ s. not (bytes_eq s.id x.id.now)) xs (both _ _ e).0 j f (omega arith) in
+    let here : not (bytes_eq (slice_index_or xs j f).id.now x.id.now) ≡ true = each_rule (λ s. not (bytes_eq s.id x.id.now)) xs
+    (both _ _ e).0 j f (omega arith) in
     absurd (differ (slice_index_or xs j f).id.now x.id.now here ((bytes_eq-Decides (slice_index_or xs j f).id.now x.id.now).0 same))
 distinct_ids (x ∷ xs) e (suc j) (suc k) d f below lt same = ap (λ (n : ℕ). suc n) (distinct_ids xs (both _ _ e).1 j k d f (omega arith) (omega arith) same)
 
@@ -134,7 +146,8 @@ abbrev IsNumberRule : ℕ → ℕ → Text → Rule → Type 0
 IsNumberRule low high id r = (r.id ≡ id) × (r.parser ≡ Some (parser.Unsigned low high))
 
 -- the value that a parse gives to a number's argument is a number between two others
-number_at : (c : Command) → IsOurs c → (m : ArgMatches) → IsParsedFrom c m → (low high : ℕ) (id text : Text) → Any (λ a. IsNumberRule low high id (rule_of a)) (args_of c)
+number_at : (c : Command) → IsOurs c → (m : ArgMatches) → IsParsedFrom c m → (low high : ℕ) (id text : Text)
+    → Any (λ a. IsNumberRule low high id (rule_of a)) (args_of c)
     → first_value (found_of m) id ≡ Some text → IsUnsignedIn low high text
 number_at c our m p low high id text (k, a, lt, at, (is_id, is_parser)) first =
     let own = own_args c our k a lt in
@@ -145,7 +158,8 @@ number_at c our m p low high id text (k, a, lt, at, (is_id, is_parser)) first =
     (subst (λ (t : List ℕ). first_value (found_of m) t ≡ Some text) (sym id_here) first)
 
 -- In what a parse by the program's rules finds, the first value of a number's argument is the text of a number.
-pub is_number : {c : Command} → IsOurs c → (m : ArgMatches) → IsParsedFrom c m → (low high : ℕ) (id : Text) → IsNumberArgument low high id → IsTextOfNumber low high (first_value (found_of m) id)
+pub is_number : {c : Command} → IsOurs c → (m : ArgMatches) → IsParsedFrom c m → (low high : ℕ) (id : Text) → IsNumberArgument low high id
+    → IsTextOfNumber low high (first_value (found_of m) id)
 is_number {c} our m p low high id number =
     let argument = any_of_map (IsNumberRule low high id) rule_of (args_of c) (subst (Any (IsNumberRule low high id)) (sym our.rules) number) in
     go (first_value (found_of m) id) (λ text. number_at c our m p low high id text argument)
@@ -155,5 +169,6 @@ is_number {c} our m p low high id number =
     go (Some text) each = each text refl
 
 -- The first value of an id is that of the rows that the words give.
-pub first_of-found : (m : ArgMatches) (id : List ℕ) (rows : List Row) (value : Option (List ℕ)) → rows_of (found_of m) ≡ rows → value ≡ first_value (found_of m) id → value ≡ first_of id rows
+pub first_of-found : (m : ArgMatches) (id : List ℕ) (rows : List Row) (value : Option (List ℕ)) → rows_of (found_of m) ≡ rows
+    → value ≡ first_value (found_of m) id → value ≡ first_of id rows
 first_of-found m id rows value same found = found ∙ first_value-rows (found_of m) id ∙ ap (first_of id) same

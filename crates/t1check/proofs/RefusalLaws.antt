@@ -12,7 +12,8 @@ use Rattle.t1check.specs.FontFiles.{font_of, with_reason}
 use Rattle.t1check.specs.Laws.Refusals.{IsOfSized, IsOfFile, RefusedByPart, NeverForMemory}
 
 -- of the parts, where no law but theirs is known
-reasoned : (bytes : List ℕ) (read : Result FontValue Unread) → ((unread : Unread) → read ≡ Err unread → parts.IsOfJoined (joined_of bytes) unread) → IfErr (with_reason read) (IsOfSized false bytes)
+reasoned : (bytes : List ℕ) (read : Result FontValue Unread) → ((unread : Unread) → read ≡ Err unread → parts.IsOfJoined (joined_of bytes) unread)
+    → IfErr (with_reason read) (IsOfSized false bytes)
 reasoned bytes (Ok font) h = tt
 reasoned bytes (Err unread) h = (unread, (refl, h unread refl))
 

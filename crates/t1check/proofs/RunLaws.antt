@@ -83,17 +83,20 @@ never-report result (inr a) (inr b) = cc
 -- ---- what was told
 
 -- where standard error works the text was told, with its status
-told-text : (text : List ℕ) (status : Status) (e e' : SinkState) (result : Status) → Tells text status e e' result → e'.failed ≡ false → Appends e.written e'.written text
+told-text : (text : List ℕ) (status : Status) (e e' : SinkState) (result : Status) → Tells text status e e' result → e'.failed ≡ false
+    → Appends e.written e'.written text
 told-text text status e e' result (told wrote is) whole = wrote.bytes
 told-text text status e e' result (untold broke is) whole = absurd (true≢false (sym broke.failed ∙ whole))
 
 -- where the status isn't 3 the text was told
-told-unfailed : (text : List ℕ) (status : Status) (e e' : SinkState) (result : Status) → Tells text status e e' result → result ≢ Failed → Appends e.written e'.written text × (result ≡ status)
+told-unfailed : (text : List ℕ) (status : Status) (e e' : SinkState) (result : Status) → Tells text status e e' result → result ≢ Failed
+    → Appends e.written e'.written text × (result ≡ status)
 told-unfailed text status e e' result (told wrote is) ok = (wrote.bytes, is)
 told-unfailed text status e e' result (untold broke is) ok = absurd (ok is)
 
 -- a failed standard error gives 3
-told-broken : (text : List ℕ) (status : Status) (e e' : SinkState) (result : Status) → e.failed ≡ false → Tells text status e e' result → e'.failed ≡ true → result ≡ Failed
+told-broken : (text : List ℕ) (status : Status) (e e' : SinkState) (result : Status) → e.failed ≡ false → Tells text status e e' result → e'.failed ≡ true
+    → result ≡ Failed
 told-broken text status e e' result sound (told wrote is) broken = absurd (true≢false (sym broken ∙ wrote.failed ∙ sound))
 told-broken text status e e' result sound (untold broke is) broken = is
 
@@ -116,7 +119,8 @@ nothing-same : (a b : SinkState) → b ≡ a → Appends a.written b.written []
 nothing-same a b same = subst (λ (s : SinkState). Appends a.written s.written []) (sym same) (Appends-nil a.written)
 
 -- what is so of a reading is so of the bytes that are read so
-of-read : (P : Result FontValue Reason → Type 0) (left : Option (List ℕ)) (read : Result FontValue Reason) → AreRead left read → P read → IfSome left (λ input. P (font_of input))
+of-read : (P : Result FontValue Reason → Type 0) (left : Option (List ℕ)) (read : Result FontValue Reason) → AreRead left read → P read
+    → IfSome left (λ input. P (font_of input))
 of-read P None read are holds = tt
 of-read P (Some input) read are holds = subst P (sym are) holds
 
@@ -130,32 +134,40 @@ some-any P (Some input) all = all input
 
 -- ---- a report or a trace
 
-module _ (options : Options) (left : Option (List ℕ)) (failed : Bool) (waivers waivers' : SourceState) (out out' errors errors' : SinkState) (result : Status) (waivers_sound : waivers.failed ≡ false) (sound : out.failed ≡ false) (errors_sound : errors.failed ≡ false) where
+module _ (options : Options) (left : Option (List ℕ)) (failed : Bool) (waivers waivers' : SourceState) (out out' errors errors' : SinkState) (result : Status)
+    (waivers_sound : waivers.failed ≡ false) (sound : out.failed ≡ false) (errors_sound : errors.failed ≡ false) where
   abbrev Answering : Answer → Type 0
   Answering answer = IfKnown options left waivers.left (λ read waived. IsAnswerTo options read waived answer)
 
   -- both were read so
-  of-both : (answer : Answer) (read : Result FontValue Reason) (waived : Result (List Waiver) WaiverRefusal) → AreRead left read → AreWaived (asks_waivers options) waivers.left waived → IsAnswerTo options read waived answer → Answering answer
+  of-both : (answer : Answer) (read : Result FontValue Reason) (waived : Result (List Waiver) WaiverRefusal) → AreRead left read
+      → AreWaived (asks_waivers options) waivers.left waived → IsAnswerTo options read waived answer → Answering answer
   of-both answer read waived are is holds =
       of-read (λ r. IfWaived (asks_waivers options) waivers.left (λ w. IsAnswerTo options r w answer)) left read are
       (of-waived (λ w. IsAnswerTo options read w answer) (asks_waivers options) waivers.left waived is holds)
 
   -- whatever the waivers are
-  of-font : (answer : Answer) (read : Result FontValue Reason) → AreRead left read → ((waived : Result (List Waiver) WaiverRefusal) → IsAnswerTo options read waived answer) → Answering answer
+  of-font : (answer : Answer) (read : Result FontValue Reason) → AreRead left read
+      → ((waived : Result (List Waiver) WaiverRefusal) → IsAnswerTo options read waived answer) → Answering answer
   of-font answer read are holds =
       of-read (λ r. IfWaived (asks_waivers options) waivers.left (λ w. IsAnswerTo options r w answer)) left read are
       (of-any (λ w. IsAnswerTo options read w answer) (asks_waivers options) waivers.left holds)
 
   known-weaker : (answer : Answer) (Q : Result FontValue Reason → Result (List Waiver) WaiverRefusal → Type 0)
-      → ((read : Result FontValue Reason) (waived : Result (List Waiver) WaiverRefusal) → IsAnswerTo options read waived answer → Q read waived) → Answering answer → IfKnown options left waivers.left Q
+      → ((read : Result FontValue Reason) (waived : Result (List Waiver) WaiverRefusal) → IsAnswerTo options read waived answer → Q read waived)
+      → Answering answer → IfKnown options left waivers.left Q
   known-weaker answer Q on holds =
-      some-weaker (λ input. IfWaived (asks_waivers options) waivers.left (λ w. IsAnswerTo options (font_of input) w answer)) (λ input. IfWaived (asks_waivers options) waivers.left (Q (font_of input))) left
-      (λ input h. waived-weaker (λ w. IsAnswerTo options (font_of input) w answer) (Q (font_of input)) (asks_waivers options) waivers.left (λ w is. on (font_of input) w is) h) holds
+      some-weaker (λ input. IfWaived (asks_waivers options) waivers.left (λ w. IsAnswerTo options (font_of input) w answer))
+      (λ input. IfWaived (asks_waivers options) waivers.left (Q (font_of input))) left
+      (λ input h. waived-weaker (λ w. IsAnswerTo options (font_of input) w answer) (Q (font_of input)) (asks_waivers options) waivers.left
+      (λ w is. on (font_of input) w is) h) holds
 
-  answered : (answer : Answer) → Answering answer → result ≡ answer.status → Appends out.written out'.written answer.output → Appends errors.written errors'.written answer.told
+  answered : (answer : Answer) → Answering answer → result ≡ answer.status → Appends out.written out'.written answer.output
+      → Appends errors.written errors'.written answer.told
       → IfKnown options left waivers.left (Answered options result out out' errors errors')
   answered answer is status output line =
-      known-weaker answer (Answered options result out out' errors errors') (λ read waived so. (answer, (so, record { status = status; output = output; told = line }))) is
+      known-weaker answer (Answered options result out out' errors errors')
+      (λ read waived so. (answer, (so, record { status = status; output = output; told = line }))) is
 
   -- ---- the source of waivers
 
@@ -165,12 +177,18 @@ module _ (options : Options) (left : Option (List ℕ)) (failed : Bool) (waivers
   fine unfailed kept (inr other) = true≢false (sym other ∙ kept ∙ waivers_sound)
 
   spared_whole : waivers' ≡ waivers → IsSpared options left failed waivers waivers'
-  spared_whole same = record { unasked = λ unasked. same; unread = λ source. same; refused = some-any (λ input. (reason : Reason) → font_of input ≡ Err reason → waivers' ≡ waivers) left (λ input reason is. same) }
+  spared_whole same = record {
+    unasked = λ unasked. same;
+    unread = λ source. same;
+    refused =
+        some-any (λ input. (reason : Reason) → font_of input ≡ Err reason → waivers' ≡ waivers) left (λ input reason is. same);
+  }
 
   never_refused : (font : FontValue) → AreRead left (Ok font) → IfSome left (λ input. (reason : Reason) → font_of input ≡ Err reason → waivers' ≡ waivers)
   never_refused font are = of-read (λ r. (reason : Reason) → r ≡ Err reason → waivers' ≡ waivers) left (Ok font) are (λ reason is. cc)
 
-  spared_by : (font : FontValue) → AreRead left (Ok font) → failed ≡ false → (asks_waivers options ≡ false → waivers' ≡ waivers) → IsSpared options left failed waivers waivers'
+  spared_by : (font : FontValue) → AreRead left (Ok font) → failed ≡ false → (asks_waivers options ≡ false → waivers' ≡ waivers)
+      → IsSpared options left failed waivers waivers'
   spared_by font are unfailed unasked =
       record { unasked = unasked; unread = λ source. absurd (true≢false (sym source ∙ unfailed)); refused = never_refused font are }
 
@@ -178,13 +196,15 @@ module _ (options : Options) (left : Option (List ℕ)) (failed : Bool) (waivers
   same_failed same = ap (λ (s : SourceState). s.failed) same
 
   -- an answer that was given whole, with a status other than 2 and 3
-  after_given : (answer : Answer) → Answering answer → failed ≡ false → waivers'.failed ≡ waivers.failed → IsSpared options left failed waivers waivers' → answer.told ≡ []
+  after_given : (answer : Answer) → Answering answer → failed ≡ false → waivers'.failed ≡ waivers.failed → IsSpared options left failed waivers waivers'
+      → answer.told ≡ []
       → (answer.status ≡ Refused → ⊥) → (answer.status ≡ Failed → ⊥) → Gives answer.output answer.status out out' errors errors' result
       → Facts options left failed waivers waivers' out out' errors errors' result
   after_given answer is_answer unfailed kept_source spared silent never_two never_three (given wrote kept is) =
       let out_sound : out'.failed ≡ false = wrote.failed ∙ sound in
       record {
-        answer = λ went. answered answer is_answer is wrote.bytes (subst (Appends errors.written errors'.written) (sym silent) (nothing-same errors errors' kept));
+        answer = λ went. answered answer is_answer is wrote.bytes
+            (subst (Appends errors.written errors'.written) (sym silent) (nothing-same errors errors' kept));
         flushed = λ either. (wrote.waits, wrote.flushes);
         untouched = λ two. absurd (never_two (sym is ∙ two));
         nothing_waits = λ went was. wrote.waits;
@@ -227,7 +247,8 @@ module _ (options : Options) (left : Option (List ℕ)) (failed : Bool) (waivers
   out_same same = ap (λ (s : SinkState). s.failed) same ∙ sound
 
   -- an answer with nothing on the output, status 2 or 3
-  after_told : (answer : Answer) → Answering answer → failed ≡ false → waivers'.failed ≡ waivers.failed → IsSpared options left failed waivers waivers' → answer.output ≡ []
+  after_told : (answer : Answer) → Answering answer → failed ≡ false → waivers'.failed ≡ waivers.failed → IsSpared options left failed waivers waivers'
+      → answer.output ≡ []
       → (answer.status ≡ Refused) ⊎ (answer.status ≡ Failed) → out' ≡ out → Tells answer.told answer.status errors errors' result
       → Facts options left failed waivers waivers' out out' errors errors' result
   after_told answer is_answer unfailed kept_source spared silent kind same tells =
@@ -250,7 +271,8 @@ module _ (options : Options) (left : Option (List ℕ)) (failed : Bool) (waivers
         ];
         read_failed = λ source. absurd (fine unfailed kept_source source);
         write_failed = λ output. absurd (true≢false (sym output ∙ out_same same));
-        no_memory = λ three source other output whole. inr (answered answer is_answer (status_where_whole whole tells) nothing (told-text answer.told answer.status errors errors' result tells whole));
+        no_memory = λ three source other output whole. inr
+            (answered answer is_answer (status_where_whole whole tells) nothing (told-text answer.told answer.status errors errors' result tells whole));
         unwritten = λ three output. keeps-same out out' same;
         unread = λ source. out_same same;
         front = λ output. absurd (true≢false (sym output ∙ out_same same));
@@ -263,7 +285,8 @@ module _ (options : Options) (left : Option (List ℕ)) (failed : Bool) (waivers
       status_where_whole whole (untold broke is) = absurd (true≢false (sym broke.failed ∙ whole))
 
   -- a read failed, of the font or of the waivers
-  after_failed_read : (failed ≡ true) ⊎ (waivers'.failed ≡ true) → IsSpared options left failed waivers waivers' → out' ≡ out → Tells (codes "t1check: read failed\n") Failed errors errors' result
+  after_failed_read : (failed ≡ true) ⊎ (waivers'.failed ≡ true) → IsSpared options left failed waivers waivers' → out' ≡ out
+      → Tells (codes "t1check: read failed\n") Failed errors errors' result
       → Facts options left failed waivers waivers' out out' errors errors' result
   after_failed_read broken spared same tells =
       let three : result ≡ Failed = told-failed (codes "t1check: read failed\n") errors errors' result tells in
@@ -283,7 +306,8 @@ module _ (options : Options) (left : Option (List ℕ)) (failed : Bool) (waivers
         spared = spared;
       }
 
-  after_no_memory : failed ≡ false → waivers'.failed ≡ waivers.failed → IsSpared options left failed waivers waivers' → out' ≡ out → Tells (codes "t1check: out of memory\n") Failed errors errors' result
+  after_no_memory : failed ≡ false → waivers'.failed ≡ waivers.failed → IsSpared options left failed waivers waivers' → out' ≡ out
+      → Tells (codes "t1check: out of memory\n") Failed errors errors' result
       → Facts options left failed waivers waivers' out out' errors errors' result
   after_no_memory unfailed kept_source spared same tells =
       let three : result ≡ Failed = told-failed (codes "t1check: out of memory\n") errors errors' result tells in
@@ -304,37 +328,46 @@ module _ (options : Options) (left : Option (List ℕ)) (failed : Bool) (waivers
       }
 
   -- the name that the options have
-  shown_by : (font : FontValue) (waived : Result (List Waiver) WaiverRefusal) (answer : Answer) (trace name : Option (List ℕ)) → trace ≡ name → IsShown options font waived name answer → IsShown options font waived trace answer
+  shown_by : (font : FontValue) (waived : Result (List Waiver) WaiverRefusal) (answer : Answer) (trace name : Option (List ℕ)) → trace ≡ name
+      → IsShown options font waived name answer → IsShown options font waived trace answer
   shown_by font waived answer trace name same is = subst (λ (n : Option (List ℕ)). IsShown options font waived n answer) (sym same) is
 
   after_shown : (font : FontValue) → AreRead left (Ok font) → failed ≡ false → Shows options font waivers waivers' out out' errors errors' result
       → Facts options left failed waivers waivers' out out' errors errors' result
   after_shown font are unfailed (was_reported none waived is heard faults report gives) =
       let answer = reported font waived (selection options faults) in
-      after_given answer (of-both answer (Ok font) (Ok waived) are is (shown_by font (Ok waived) answer _ None (ap (option_map string_bytes) none) (faults, (report, refl)))) unfailed heard.failed
+      after_given answer (of-both answer (Ok font) (Ok waived) are is
+      (shown_by font (Ok waived) answer _ None (ap (option_map string_bytes) none) (faults, (report, refl)))) unfailed heard.failed
       (spared_by font are unfailed heard.unasked) refl
       (list-not-refused (selection options faults)) (list-not-failed (selection options faults)) gives
   after_shown font are unfailed (was_traced name is glyph there untouched gives) =
       let answer : Answer = record { output = trace_of options.edition font glyph; told = []; status = Clean } in
-      after_given answer (of-font answer (Ok font) are (λ waived. shown_by font waived answer _ (Some name) is (sym (ap (traced_at options.edition font name) there)))) unfailed (same_failed untouched) (spared_whole untouched) refl
+      after_given answer (of-font answer (Ok font) are
+      (λ waived. shown_by font waived answer _ (Some name) is (sym (ap (traced_at options.edition font name) there)))) unfailed
+      (same_failed untouched) (spared_whole untouched) refl
       (λ two. cc) clean-failed gives
   after_shown font are unfailed (no_glyph name is none untouched same tells) =
       let answer : Answer = record { output = []; told = no_glyph_line name; status = Failed } in
-      after_told answer (of-font answer (Ok font) are (λ waived. shown_by font waived answer _ (Some name) is (sym (ap (traced_at options.edition font name) none)))) unfailed (same_failed untouched) (spared_whole untouched) refl
+      after_told answer (of-font answer (Ok font) are
+      (λ waived. shown_by font waived answer _ (Some name) is (sym (ap (traced_at options.edition font name) none)))) unfailed
+      (same_failed untouched) (spared_whole untouched) refl
       (inr refl) same tells
   after_shown font are unfailed (waivers_refused none reason is heard same tells) =
       let answer = refused (told_of_waivers reason) in
-      after_told answer (of-both answer (Ok font) (Err reason) are is (shown_by font (Err reason) answer _ None (ap (option_map string_bytes) none) refl)) unfailed heard.failed
+      after_told answer (of-both answer (Ok font) (Err reason) are is (shown_by font (Err reason) answer _ None (ap (option_map string_bytes) none) refl))
+      unfailed heard.failed
       (spared_by font are unfailed heard.unasked) refl (inl refl) same tells
   after_shown font are unfailed (waivers_unread asked broken same tells) =
       after_failed_read (inr broken) (spared_by font are unfailed (λ unasked. absurd (true≢false (sym asked ∙ unasked)))) same tells
   after_shown font are unfailed (no_room none heard same tells) =
       after_no_memory unfailed heard.failed (spared_by font are unfailed heard.unasked) same tells
 
-  after_refusal : (reason : Reason) → AreRead left (Err reason) → failed ≡ false → waivers' ≡ waivers → out' ≡ out → Tells (told_of reason) (unread_status reason) errors errors' result
+  after_refusal : (reason : Reason) → AreRead left (Err reason) → failed ≡ false → waivers' ≡ waivers → out' ≡ out
+      → Tells (told_of reason) (unread_status reason) errors errors' result
       → (unread_status reason ≡ Refused) ⊎ (reason ≡ Font unread.Memory) → Facts options left failed waivers waivers' out out' errors errors' result
   after_refusal reason are unfailed untouched same tells (inl two) =
-      after_told (refused (told_of reason)) (of-font (refused (told_of reason)) (Err reason) are (λ waived. refl)) unfailed (same_failed untouched) (spared_whole untouched) refl (inl refl) same
+      after_told (refused (told_of reason)) (of-font (refused (told_of reason)) (Err reason) are (λ waived. refl)) unfailed (same_failed untouched)
+      (spared_whole untouched) refl (inl refl) same
       (subst (λ (s : Status). Tells (told_of reason) s errors errors' result) two tells)
   after_refusal reason are unfailed untouched same tells (inr memory) =
       after_no_memory unfailed (same_failed untouched) (spared_whole untouched) same
@@ -353,11 +386,14 @@ facts : (options : Options) (left : Option (List ℕ)) (failed : Bool) (v v' : S
 facts options left failed v v' out out' errors errors' result v_sound sound errors_sound (was_shown font are unfailed shows) =
     after_shown options left failed v v' out out' errors errors' result v_sound sound errors_sound font are unfailed shows
 facts options left failed v v' out out' errors errors' result v_sound sound errors_sound (was_refused reason are unfailed untouched same tells) =
-    after_refusal options left failed v v' out out' errors errors' result v_sound sound errors_sound reason are unfailed untouched same tells (kind_of_reason reason)
+    after_refusal options left failed v v' out out' errors errors' result v_sound sound errors_sound reason are unfailed untouched
+    same tells (kind_of_reason reason)
 facts options left failed v v' out out' errors errors' result v_sound sound errors_sound (was_read_failed broken untouched same tells) =
-    after_failed_read options left failed v v' out out' errors errors' result v_sound sound errors_sound (inl broken) (spared_whole options left failed v v' out out' errors errors' result v_sound sound errors_sound untouched) same tells
+    after_failed_read options left failed v v' out out' errors errors' result v_sound sound errors_sound (inl broken)
+    (spared_whole options left failed v v' out out' errors errors' result v_sound sound errors_sound untouched) same tells
 facts options left failed v v' out out' errors errors' result v_sound sound errors_sound (was_no_memory unfailed untouched same tells) =
-    after_no_memory options left failed v v' out out' errors errors' result v_sound sound errors_sound unfailed (ap (λ (s : SourceState). s.failed) untouched) (spared_whole options left failed v v' out out' errors errors' result v_sound sound errors_sound untouched) same tells
+    after_no_memory options left failed v v' out out' errors errors' result v_sound sound errors_sound unfailed (ap (λ (s : SourceState). s.failed) untouched)
+    (spared_whole options left failed v v' out out' errors errors' result v_sound sound errors_sound untouched) same tells
 
 grouped : (options : Options) (left : Option (List ℕ)) (failed : Bool) (v v' : SourceState) (out out' errors errors' : SinkState) (result : Status)
     → Facts options left failed v v' out out' errors errors' result → Promises options left failed v v' out out' errors errors' result
@@ -380,4 +416,5 @@ grouped options left failed v v' out out' errors errors' result f = record {
 
 pub kept : RunsKeepPromises
 kept options left failed v v' out out' errors errors' result v_sound sound errors_sound ends =
-    grouped options left failed v v' out out' errors errors' result (facts options left failed v v' out out' errors errors' result v_sound sound errors_sound ends)
+    grouped options left failed v v' out out' errors errors' result
+    (facts options left failed v v' out out' errors errors' result v_sound sound errors_sound ends)

@@ -157,7 +157,8 @@ of_defaults (a ∷ rest) rows = either _ _ (of_default rows a) (of_defaults rest
 of_checks : (help subcommand argument : Bool) → IsSingle (check_kinds help subcommand argument)
 of_checks help subcommand argument = search (branch, none, one)
 
-of_level : (s : Shape) (h : Held) (words : List Text) (has : Bool) (below : Kinds) → s.is_leaf ≡ true → IsSingle below → IsSingle (level_fault s [] h words has below)
+of_level : (s : Shape) (h : Held) (words : List Text) (has : Bool) (below : Kinds) → s.is_leaf ≡ true → IsSingle below
+    → IsSingle (level_fault s [] h words has below)
 of_level s h words has below leaf p =
     either _ _ (of_walk s leaf words _) (either _ _ p (either _ _ (of_settle s.rules s.args_override_self (walk s.rules [] h words).held)
     (either _ _ (of_defaults s.rules _) (of_checks _ _ _))))

@@ -37,11 +37,14 @@ more_than : (limit : ℕ) (steps : List StepView) → nat_lt limit (length (take
 more_than limit steps = by_place (nat_lt limit (length steps)) refl
   where
     by_place : (b : Bool) → nat_lt limit (length steps) ≡ b → nat_lt limit (length (take (limit + 1) steps)) ≡ nat_lt limit (length steps)
-    by_place true more = lt-ltb limit (length (take (limit + 1) steps)) (omega (arith, ltb-true limit (length steps) more, length-take (limit + 1) steps)) ∙ sym more
-    by_place false few = le-ltb limit (length (take (limit + 1) steps)) (omega (arith, ltb-false limit (length steps) few, length-take (limit + 1) steps)) ∙ sym few
+    by_place true more = lt-ltb limit (length (take (limit + 1) steps)) (omega (arith, ltb-true limit (length steps) more, length-take (limit + 1) steps))
+        ∙ sym more
+    by_place false few = le-ltb limit (length (take (limit + 1) steps)) (omega (arith, ltb-false limit (length steps) few, length-take (limit + 1) steps))
+        ∙ sym few
 
 -- The trace by the steps of the glyph.
-trace_is : (limit : ℕ) (font : FontValue) (glyph : ℕ) → trace_text limit (first_steps limit font glyph) ≡ flat_map step_line (numbered 1 (take limit (steps_of font glyph))) ++ limit_line limit (length (steps_of font glyph))
+trace_is : (limit : ℕ) (font : FontValue) (glyph : ℕ) → trace_text limit (first_steps limit font glyph) ≡ flat_map step_line
+    (numbered 1 (take limit (steps_of font glyph))) ++ limit_line limit (length (steps_of font glyph))
 unfolding first_steps
 trace_is limit font glyph =
     let steps : List StepView = steps_of font glyph in
@@ -52,7 +55,8 @@ trace_is limit font glyph =
     ∙ ap (λ (b : Bool). flat_map step_line (numbered 1 (take limit steps)) ++ (if b then codes "limit\n" else [])) (more_than limit steps)
 
 -- One line more.
-line_more : (limit : ℕ) (steps : List StepView) (n : ℕ) (step : NumberedStep) → IsStepped limit steps n step → lines_to limit steps (n + 1) ≡ lines_to limit steps n ++ step_line step
+line_more : (limit : ℕ) (steps : List StepView) (n : ℕ) (step : NumberedStep) → IsStepped limit steps n step → lines_to limit steps (n + 1)
+    ≡ lines_to limit steps n ++ step_line step
 line_more limit steps n step is =
     let front : List StepView = take n (take limit steps) in
     let number : 1 + length front ≡ step.number = omega (arith, is.number, is.within, length-take n (take limit steps)) in
@@ -66,7 +70,8 @@ line_more limit steps n step is =
 rest_behind : ℕ → List StepView → ℕ → List ℕ
 rest_behind limit steps n = flat_map step_line (drop n (numbered 1 (take limit steps))) ++ limit_line limit (length steps)
 
-trace_splits : (limit : ℕ) (font : FontValue) (glyph n : ℕ) → trace_text limit (first_steps limit font glyph) ≡ lines_to limit (steps_of font glyph) n ++ rest_behind limit (steps_of font glyph) n
+trace_splits : (limit : ℕ) (font : FontValue) (glyph n : ℕ) → trace_text limit (first_steps limit font glyph) ≡ lines_to limit (steps_of font glyph)
+    n ++ rest_behind limit (steps_of font glyph) n
 unfolding rest_behind
 trace_splits limit font glyph n =
     let steps : List StepView = steps_of font glyph in
@@ -77,11 +82,13 @@ trace_splits limit font glyph n =
     ∙ append_assoc (flat_map step_line (take n all)) (flat_map step_line (drop n all)) (limit_line limit (length steps))
     ∙ ap (λ ns. flat_map step_line ns ++ rest_behind limit steps n) (take_numbered n 1 (take limit steps))
 
-pub wrote_step : (limit : ℕ) (steps : List StepView) (n : ℕ) (step : NumberedStep) (a b c : SinkState) → IsStepped limit steps n step → Wrote a b (lines_to limit steps n) → Wrote b c (step_line step) → Wrote a c (lines_to limit steps (n + 1))
+pub wrote_step : (limit : ℕ) (steps : List StepView) (n : ℕ) (step : NumberedStep) (a b c : SinkState) → IsStepped limit steps n step
+    → Wrote a b (lines_to limit steps n) → Wrote b c (step_line step) → Wrote a c (lines_to limit steps (n + 1))
 wrote_step limit steps n step a b c is before more =
     subst (Wrote a c) (sym (line_more limit steps n step is)) (Wrote-trans a b c (lines_to limit steps n) (step_line step) before more)
 
-pub step_failed : (limit : ℕ) (font : FontValue) (glyph n : ℕ) (step : NumberedStep) (a b c : SinkState) → IsStepped limit (steps_of font glyph) n step → Wrote a b (lines_to limit (steps_of font glyph) n) → PutFailed b c (step_line step) → PutFailed a c (trace_text limit (first_steps limit font glyph))
+pub step_failed : (limit : ℕ) (font : FontValue) (glyph n : ℕ) (step : NumberedStep) (a b c : SinkState) → IsStepped limit (steps_of font glyph) n step
+    → Wrote a b (lines_to limit (steps_of font glyph) n) → PutFailed b c (step_line step) → PutFailed a c (trace_text limit (first_steps limit font glyph))
 step_failed limit font glyph n step a b c is before broke =
     let steps : List StepView = steps_of font glyph in
     subst (PutFailed a c) (sym (trace_splits limit font glyph (n + 1)))
@@ -89,7 +96,8 @@ step_failed limit font glyph n step a b c is before broke =
     (subst (PutFailed a c) (sym (line_more limit steps n step is)) (PutFailed-second a b c (lines_to limit steps n) (step_line step) before broke)))
 
 -- The whole trace, where there are no more steps, and where there are.
-trace_over : (limit : ℕ) (font : FontValue) (glyph n : ℕ) → IsOver limit (steps_of font glyph) n → trace_text limit (first_steps limit font glyph) ≡ lines_to limit (steps_of font glyph) n
+trace_over : (limit : ℕ) (font : FontValue) (glyph n : ℕ) → IsOver limit (steps_of font glyph) n → trace_text limit (first_steps limit font glyph)
+    ≡ lines_to limit (steps_of font glyph) n
 trace_over limit font glyph n over =
     let steps : List StepView = steps_of font glyph in
     trace_is limit font glyph
@@ -97,7 +105,8 @@ trace_over limit font glyph n over =
     ∙ append-nil (flat_map step_line (numbered 1 (take limit steps)))
     ∙ ap (λ ss. flat_map step_line (numbered 1 ss)) (sym (take_all n (take limit steps) (omega (arith, over.all, length-take limit steps))))
 
-trace_limited : (limit : ℕ) (font : FontValue) (glyph n : ℕ) → (limit < length (steps_of font glyph)) × (limit ≤ n) → trace_text limit (first_steps limit font glyph) ≡ lines_to limit (steps_of font glyph) n ++ codes "limit\n"
+trace_limited : (limit : ℕ) (font : FontValue) (glyph n : ℕ) → (limit < length (steps_of font glyph)) × (limit ≤ n)
+    → trace_text limit (first_steps limit font glyph) ≡ lines_to limit (steps_of font glyph) n ++ codes "limit\n"
 trace_limited limit font glyph n (more, past) =
     let steps : List StepView = steps_of font glyph in
     trace_is limit font glyph
@@ -105,11 +114,16 @@ trace_limited limit font glyph n (more, past) =
     ∙ ap (λ ss. flat_map step_line (numbered 1 ss) ++ codes "limit\n") (sym (take_all n (take limit steps) (omega (arith, past, length-take limit steps))))
 
 -- The same of a machine that executes this glyph of this font by this edition.
-pub trace_ended : (edition : Edition) (m : MachineView) (font : FontValue) (glyph : ℕ) → Executes edition font glyph m → ended ≡ turn_at (limit_of m.edition) (steps_of m.font m.glyph) m.counted → trace_of edition font glyph ≡ lines_to (limit_of edition) (steps_of font glyph) m.counted
+pub trace_ended : (edition : Edition) (m : MachineView) (font : FontValue) (glyph : ℕ) → Executes edition font glyph m
+    → ended ≡ turn_at (limit_of m.edition) (steps_of m.font m.glyph) m.counted → trace_of edition font glyph ≡ lines_to (limit_of edition)
+    (steps_of font glyph) m.counted
 trace_ended edition m font glyph same is =
     trace_over (limit_of edition) font glyph m.counted (ended_is (limit_of edition) (steps_of font glyph) m.counted (is ∙ same_turn edition m font glyph same))
 
-pub trace_past : (edition : Edition) (m : MachineView) (font : FontValue) (glyph : ℕ) (step : NumberedStep) → Executes edition font glyph m → limited step ≡ turn_at (limit_of m.edition) (steps_of m.font m.glyph) m.counted → trace_of edition font glyph ≡ lines_to (limit_of edition) (steps_of font glyph) m.counted ++ codes "limit\n"
+pub trace_past : (edition : Edition) (m : MachineView) (font : FontValue) (glyph : ℕ) (step : NumberedStep) → Executes edition font glyph m
+    → limited step ≡ turn_at (limit_of m.edition) (steps_of m.font m.glyph) m.counted → trace_of edition font glyph ≡ lines_to (limit_of edition)
+    (steps_of font glyph) m.counted ++ codes "limit\n"
 trace_past edition m font glyph step same is =
-    let at : IsLimited (limit_of edition) (steps_of font glyph) m.counted step = limited_is (limit_of edition) (steps_of font glyph) m.counted step (is ∙ same_turn edition m font glyph same) in
+    let at : IsLimited (limit_of edition) (steps_of font glyph) m.counted step = limited_is (limit_of edition) (steps_of font glyph) m.counted step
+    (is ∙ same_turn edition m font glyph same) in
     trace_limited (limit_of edition) font glyph m.counted (at.within, at.past)

@@ -30,7 +30,8 @@ first_passes P (v ∷ vs) text all first =
 accepted : (a x : Arg) (parser : ValueParser) (text : List ℕ) → SameRules a x → a.value_parser ≡ Some parser → Accepts x.ignore_case (parser_of x) text
     → Accepts a.ignore_case parser text
 accepted a x parser text same is_parser passed =
-    let by_parser : Accepts x.ignore_case parser text = subst (λ (q : ValueParser). Accepts x.ignore_case q text) (ap parser_of_value (same.parser parser is_parser)) passed in
+    let by_parser : Accepts x.ignore_case parser text = subst (λ (q : ValueParser). Accepts x.ignore_case q text)
+    (ap parser_of_value (same.parser parser is_parser)) passed in
     subst (λ (b : Bool). Accepts b parser text) same.ignore_case by_parser
 
 -- what passed the argument with this id passed the caller's
@@ -66,7 +67,8 @@ entry_passes c id text named groups entry passes key first = elim passes.0 [
 ]
 
 -- the first value of an id that is no group's passed an argument with that id
-passes_at : (c : Command) (f : Found) (id text : List ℕ) → ValuesPass c f → (id ≡ [] → ⊥) → groups_of c ≡ [] → first_value f id ≡ Some text → PassesArg c id text
+passes_at : (c : Command) (f : Found) (id text : List ℕ) → ValuesPass c f → (id ≡ [] → ⊥) → groups_of c ≡ [] → first_value f id ≡ Some text
+    → PassesArg c id text
 passes_at c f id text values named groups first =
     let w = some_entry (matched_of f id) text first in
     let got = entry_by_id (EntryPasses c) f.entries.items id w.0 values w.1 in

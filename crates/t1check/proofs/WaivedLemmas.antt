@@ -35,7 +35,8 @@ waivers_in-large text large =
     rw exceeds refl
 
 -- All of a text, few enough bytes.
-pub text_is : (old new : Option (List ℕ)) (bytes : List ℕ) → Consumes old new bytes → IsAtEnd new → length bytes ≤ 1048576 → AreWaived true old (as_waivers (waivers_of bytes))
+pub text_is : (old new : Option (List ℕ)) (bytes : List ℕ) → Consumes old new bytes → IsAtEnd new → length bytes ≤ 1048576
+    → AreWaived true old (as_waivers (waivers_of bytes))
 text_is None new bytes consumed end small = tt
 text_is (Some input) None bytes consumed end small = absurd consumed
 text_is (Some input) (Some rest) bytes consumed end small =
@@ -61,17 +62,20 @@ pub not_asked : (old : SourceState) → IsHeard false old old
 not_asked old = record { unasked = λ unasked. refl; failed = refl; whole = λ asked. absurd (true≢false (sym asked)) }
 
 -- What is so of a reading is so of the text that is read so; and what is so of any is.
-pub of-waived : (P : Result (List Waiver) WaiverRefusal → Type 0) (asked : Bool) (text : Option (List ℕ)) (waived : Result (List Waiver) WaiverRefusal) → AreWaived asked text waived → P waived → IfWaived asked text P
+pub of-waived : (P : Result (List Waiver) WaiverRefusal → Type 0) (asked : Bool) (text : Option (List ℕ)) (waived : Result (List Waiver) WaiverRefusal)
+    → AreWaived asked text waived → P waived → IfWaived asked text P
 of-waived P false text waived is holds = subst P (sym is) holds
 of-waived P true None waived is holds = tt
 of-waived P true (Some text) waived is holds = subst P (sym is) holds
 
-pub of-any : (P : Result (List Waiver) WaiverRefusal → Type 0) (asked : Bool) (text : Option (List ℕ)) → ((waived : Result (List Waiver) WaiverRefusal) → P waived) → IfWaived asked text P
+pub of-any : (P : Result (List Waiver) WaiverRefusal → Type 0) (asked : Bool) (text : Option (List ℕ))
+    → ((waived : Result (List Waiver) WaiverRefusal) → P waived) → IfWaived asked text P
 of-any P false text all = all (Ok [])
 of-any P true None all = tt
 of-any P true (Some text) all = all (waivers_in text)
 
-pub waived-weaker : (P Q : Result (List Waiver) WaiverRefusal → Type 0) (asked : Bool) (text : Option (List ℕ)) → ((waived : Result (List Waiver) WaiverRefusal) → P waived → Q waived) → IfWaived asked text P → IfWaived asked text Q
+pub waived-weaker : (P Q : Result (List Waiver) WaiverRefusal → Type 0) (asked : Bool) (text : Option (List ℕ))
+    → ((waived : Result (List Waiver) WaiverRefusal) → P waived → Q waived) → IfWaived asked text P → IfWaived asked text Q
 waived-weaker P Q false text on holds = on (Ok []) holds
 waived-weaker P Q true None on holds = tt
 waived-weaker P Q true (Some text) on holds = on (waivers_in text) holds
@@ -79,8 +83,10 @@ waived-weaker P Q true (Some text) on holds = on (waivers_in text) holds
 -- ---- the text that was had
 
 pub gathered : (old new : SourceState) (r : Input) → Gathers 1048576 old new r → GivesText true old new r
-gathered old new (Bytes bytes) (consumed, end, small, kept) = ((small, text_is old.left new.left bytes.items consumed end small), was_asked old new kept (the_end end))
-gathered old new TooLarge ((bytes, consumed, large), kept) = (text_past old.left new.left bytes consumed large, was_asked old new kept (past_limit bytes consumed large))
+gathered old new (Bytes bytes) (consumed, end, small, kept) =
+    ((small, text_is old.left new.left bytes.items consumed end small), was_asked old new kept (the_end end))
+gathered old new TooLarge ((bytes, consumed, large), kept) =
+    (text_past old.left new.left bytes consumed large, was_asked old new kept (past_limit bytes consumed large))
 gathered old new Broken broken = (refl, broken)
 gathered old new NoMemory kept = record { unasked = λ unasked. absurd (true≢false unasked); failed = kept }
 
@@ -109,8 +115,10 @@ is_named trace waive w none some = rw (none, some) refl
 
 -- ---- the report
 
-pub shown_waived : (options : Options) (font : FontValue) (v v' : SourceState) (out out' errors errors' : SinkState) (result : Status) (bytes : List ℕ) → options.trace ≡ None
-    → IsText (asks_waivers options) v.left bytes → IsHeard (asks_waivers options) v v' → Reports options font (as_waivers (waivers_of bytes)) out out' errors errors' result
+pub shown_waived : (options : Options) (font : FontValue) (v v' : SourceState) (out out' errors errors' : SinkState) (result : Status) (bytes : List ℕ)
+    → options.trace ≡ None
+    → IsText (asks_waivers options) v.left bytes → IsHeard (asks_waivers options) v v' → Reports options font (as_waivers (waivers_of bytes))
+    out out' errors errors' result
     → Shows options font v v' out out' errors errors' result
 shown_waived options font v v' out out' errors errors' result bytes none text heard (lines waivers is faults report gives) =
     reported none waivers (subst (λ w. AreWaived (asks_waivers options) v.left w) is text.1) heard faults report gives

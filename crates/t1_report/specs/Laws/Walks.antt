@@ -16,7 +16,8 @@ AreTheReport = (font : CheckedFont) (waivers : List Waiver) (faults : List Fault
 -- After the mark of a fault they are those behind it in the report.
 abbrev pub AreTheRest : Type 0
 AreTheRest =
-    (font : CheckedFont) (waivers : List Waiver) (faults : List FaultValue) (k : ℕ) (fault : FaultValue) (rest : List FaultValue) →
+    (font : CheckedFont) (waivers : List Waiver) (faults : List FaultValue) (k : ℕ) (fault : FaultValue)
+    (rest : List FaultValue) →
     length font.value.glyphs ≤ most_glyphs → length waivers ≤ largest_waivers →
     IsReport font waivers faults → slice_get faults k ≡ Some fault →
     AreLater font waivers (mark_of fault) rest ↔ (rest ≡ drop (k + 1) faults)

@@ -29,12 +29,14 @@ wanted _ _ return = refl
 
 pub too_few_are_fewer : TooFewAreFewerThanWanted
 too_few_are_fewer edition before step command count is wants =
-    let broken = c04_row edition before step ∙ ap (λ token. has_too_few_arguments token step.stack) is ∙ ap (nat_lt (length step.stack)) (wanted command count wants) in
+    let broken = c04_row edition before step ∙ ap (λ token. has_too_few_arguments token step.stack) is
+    ∙ ap (nat_lt (length step.stack)) (wanted command count wants) in
     (λ e. ltb-true (length step.stack) count (sym broken ∙ e), λ fewer. broken ∙ lt-ltb (length step.stack) count fewer)
 
 pub too_many_are_more : TooManyAreMoreThanArguments
 too_many_are_more edition before step command count is takes =
-    let broken = c05_row edition before step ∙ ap (λ token. has_too_many_arguments token step.stack) is ∙ ap (λ wanted. is_more_than wanted (length step.stack)) takes in
+    let broken = c05_row edition before step ∙ ap (λ token. has_too_many_arguments token step.stack) is
+    ∙ ap (λ wanted. is_more_than wanted (length step.stack)) takes in
     (λ e. ltb-true count (length step.stack) (sym broken ∙ e), λ more. broken ∙ lt-ltb count (length step.stack) more)
 
 pub none_are_too_many : NoneAreTooManyAtTheTop

@@ -15,7 +15,8 @@ pub was_before : (k : ℕ) (test : StepView → Bool) (before : List StepView) (
 was_before k test before t = rw (reverse-append before (t ∷ [])) refl
 
 -- A count of the steps since the last such.
-count_append : (p : StepView → Bool) (steps : List StepView) (t : StepView) → count_by p (steps ++ t ∷ []) ≡ (if p t then suc (count_by p steps) else count_by p steps)
+count_append : (p : StepView → Bool) (steps : List StepView) (t : StepView) → count_by p (steps ++ t ∷ [])
+    ≡ (if p t then suc (count_by p steps) else count_by p steps)
 count_append p steps t = sum_by-append _ steps (t ∷ []) ∙ go (p t) (count_by p steps)
   where
     go : (b : Bool) (count : ℕ) → (count + (0 + cond b 1 0)) ≡ (if b then suc count else count)
@@ -23,10 +24,12 @@ count_append p steps t = sum_by-append _ steps (t ∷ []) ∙ go (p t) (count_by
     go false count = omega arith
 
 pub counted_on : (p start : StepView → Bool) (before : List StepView) (t : StepView)
-    → count_by p (after_last start (before ++ t ∷ [])) ≡ (if start t then 0 else (if p t then suc (count_by p (after_last start before)) else count_by p (after_last start before)))
+    → count_by p (after_last start (before ++ t ∷ []))
+    ≡ (if start t then 0 else (if p t then suc (count_by p (after_last start before)) else count_by p (after_last start before)))
 counted_on p start before t = ap (λ steps. count_by p steps) (after_last_goes_on start before t) ∙ go (start t)
   where
-    go : (b : Bool) → count_by p (if b then [] else after_last start before ++ t ∷ []) ≡ (if b then 0 else (if p t then suc (count_by p (after_last start before)) else count_by p (after_last start before)))
+    go : (b : Bool) → count_by p (if b then [] else after_last start before ++ t ∷ [])
+        ≡ (if b then 0 else (if p t then suc (count_by p (after_last start before)) else count_by p (after_last start before)))
     go true = refl
     go false = count_append p (after_last start before) t
 

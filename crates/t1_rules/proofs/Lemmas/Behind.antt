@@ -48,7 +48,8 @@ last_such test steps e = go (ends_of steps)
     go (no_step is) = let no : false ≡ true = sym (ap (was 0 test) is) ∙ e in cc
     go (with_last front last is) = record { front = front; last = last; ends = is; such = sym (was_last test front last) ∙ sym (ap (was 0 test) is) ∙ e }
 
-before_such : (k : ℕ) (test : StepView → Bool) (front : List StepView) (last : StepView) (steps : List StepView) → steps ≡ front ++ last ∷ [] → was (suc k) test steps ≡ true → was k test front ≡ true
+before_such : (k : ℕ) (test : StepView → Bool) (front : List StepView) (last : StepView) (steps : List StepView) → steps ≡ front ++ last ∷ []
+    → was (suc k) test steps ≡ true → was k test front ≡ true
 before_such k test front last steps is e = sym (was_before k test front last) ∙ sym (ap (was (suc k) test) is) ∙ e
 
 -- ---- tokens
@@ -81,17 +82,23 @@ lacks_pop before step e =
 
 pop_lacks : (before : List StepView) (step : StepView) → LacksPop before step → (not (is_pop step.token) && was 0 is_hint_replacement before) ≡ true
 pop_lacks before step r =
-    let came : was 0 is_hint_replacement before ≡ true = ap (was 0 is_hint_replacement) r.ends ∙ was_last is_hint_replacement r.front r.replacement ∙ r.replaces in
+    let came : was 0 is_hint_replacement before ≡ true = ap (was 0 is_hint_replacement) r.ends ∙ was_last is_hint_replacement r.front r.replacement
+    ∙ r.replaces in
     rw (no_pop step.token r.no_pop, came) refl
 
 pub replacements_want_pop : ReplacementsWantPop
-replacements_want_pop edition before step = (λ e. lacks_pop before step (sym (r01_row edition before step) ∙ e), λ r. r01_row edition before step ∙ pop_lacks before step r)
+replacements_want_pop edition before step = (
+  λ e. lacks_pop before step (sym (r01_row edition before step) ∙ e),
+  λ r. r01_row edition before step
+      ∙ pop_lacks before step r,
+)
 
 -- Steps that end with two.
 two_ends : (front : List StepView) (one other : StepView) → front ++ one ∷ other ∷ [] ≡ (front ++ one ∷ []) ++ other ∷ []
 two_ends front one other = sym (append_assoc front (one ∷ []) (other ∷ []))
 
-lacks_call : (before : List StepView) (step : StepView) → (not (is_callsubr step.token) && (was 1 is_hint_replacement before && was 0 popping before)) ≡ true → LacksCallsubr before step
+lacks_call : (before : List StepView) (step : StepView) → (not (is_callsubr step.token) && (was 1 is_hint_replacement before && was 0 popping before)) ≡ true
+    → LacksCallsubr before step
 lacks_call before step e =
     let parts = both _ _ e in
     let two = both _ _ parts.1 in
@@ -107,16 +114,22 @@ lacks_call before step e =
       no_call = is_no_callsubr step.token parts.0;
     }
 
-call_lacks : (before : List StepView) (step : StepView) → LacksCallsubr before step → (not (is_callsubr step.token) && (was 1 is_hint_replacement before && was 0 popping before)) ≡ true
+call_lacks : (before : List StepView) (step : StepView) → LacksCallsubr before step
+    → (not (is_callsubr step.token) && (was 1 is_hint_replacement before && was 0 popping before)) ≡ true
 call_lacks before step r =
     let ends : before ≡ (r.front ++ r.replacement ∷ []) ++ r.popping ∷ [] = r.ends ∙ two_ends r.front r.replacement r.popping in
     let pops : was 0 popping before ≡ true = ap (was 0 popping) ends ∙ was_last popping (r.front ++ r.replacement ∷ []) r.popping ∙ ap is_pop r.pops in
     let came : was 1 is_hint_replacement before ≡ true =
-    ap (was 1 is_hint_replacement) ends ∙ was_before 0 is_hint_replacement (r.front ++ r.replacement ∷ []) r.popping ∙ was_last is_hint_replacement r.front r.replacement ∙ r.replaces in
+    ap (was 1 is_hint_replacement) ends ∙ was_before 0 is_hint_replacement (r.front ++ r.replacement ∷ []) r.popping
+    ∙ was_last is_hint_replacement r.front r.replacement ∙ r.replaces in
     rw (no_callsubr step.token r.no_call, came, pops) refl
 
 pub replacements_want_callsubr : ReplacementsWantCallsubr
-replacements_want_callsubr edition before step = (λ e. lacks_call before step (sym (r02_row edition before step) ∙ e), λ r. r02_row edition before step ∙ call_lacks before step r)
+replacements_want_callsubr edition before step = (
+  λ e. lacks_call before step (sym (r02_row edition before step) ∙ e),
+  λ r. r02_row edition before step
+      ∙ call_lacks before step r,
+)
 
 -- ---- setcurrentpoint
 
@@ -129,13 +142,16 @@ follows_flex before e =
     let two = both _ _ parts.0 in
     let last = last_such popping before parts.1 in
     let middle = last_such popping last.front (before_such 0 popping last.front last.last before last.ends two.1) in
-    let end = last_such is_flex_end middle.front (before_such 0 is_flex_end middle.front middle.last last.front middle.ends (before_such 1 is_flex_end last.front last.last before last.ends two.0)) in
+    let end = last_such is_flex_end middle.front
+    (before_such 0 is_flex_end middle.front middle.last last.front middle.ends (before_such 1 is_flex_end last.front last.last before last.ends two.0))
+    in
     record {
       front = end.front;
       end = end.last;
       first = middle.last;
       second = last.last;
-      ends = last.ends ∙ ap (λ (f : List StepView). f ++ last.last ∷ []) (middle.ends ∙ ap (λ (f : List StepView). f ++ middle.last ∷ []) end.ends) ∙ sym (three_ends end.front end.last middle.last last.last);
+      ends = last.ends ∙ ap (λ (f : List StepView). f ++ last.last ∷ []) (middle.ends ∙ ap (λ (f : List StepView). f ++ middle.last ∷ []) end.ends)
+          ∙ sym (three_ends end.front end.last middle.last last.last);
       is_end = end.such;
       first_pops = pop_of middle.last.token middle.such;
       second_pops = pop_of last.last.token last.such;
@@ -147,9 +163,11 @@ flex_follows before r =
     let two : List StepView = one ++ r.first ∷ [] in
     let ends : before ≡ two ++ r.second ∷ [] = r.ends ∙ three_ends r.front r.end r.first r.second in
     let last : was 0 popping before ≡ true = ap (was 0 popping) ends ∙ was_last popping two r.second ∙ ap is_pop r.second_pops in
-    let middle : was 1 popping before ≡ true = ap (was 1 popping) ends ∙ was_before 0 popping two r.second ∙ was_last popping one r.first ∙ ap is_pop r.first_pops in
+    let middle : was 1 popping before ≡ true = ap (was 1 popping) ends ∙ was_before 0 popping two r.second ∙ was_last popping one r.first
+    ∙ ap is_pop r.first_pops in
     let end : was 2 is_flex_end before ≡ true =
-    ap (was 2 is_flex_end) ends ∙ was_before 1 is_flex_end two r.second ∙ was_before 0 is_flex_end one r.first ∙ was_last is_flex_end r.front r.end ∙ r.is_end in
+    ap (was 2 is_flex_end) ends ∙ was_before 1 is_flex_end two r.second ∙ was_before 0 is_flex_end one r.first ∙ was_last is_flex_end r.front r.end
+    ∙ r.is_end in
     rw (end, middle, last) refl
 
 not_false : (b : Bool) → not b ≡ false → b ≡ true

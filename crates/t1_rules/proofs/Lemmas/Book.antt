@@ -38,14 +38,16 @@ row_found _ d = refl
 pub row_at : (table : List (Rule × Bor (List ℕ) × Bor (List ℕ))) → map row_view table ≡ rows → (rule : Rule) (i : ℕ) → i ≡ number_of rule - 1 →
     (d : Rule × Bor (List ℕ) × Bor (List ℕ)) → row_view (slice_index_or table i d) ≡ (rule, code_of rule, text_of rule)
 row_at table told rule i at d =
-    rw at (sym (get_or-map row_view table (number_of rule - 1) d) ∙ ap (λ rs. slice_index_or rs (number_of rule - 1) (row_view d)) told ∙ row_found rule (row_view d))
+    rw at (sym (get_or-map row_view table (number_of rule - 1) d) ∙ ap (λ rs. slice_index_or rs (number_of rule - 1) (row_view d)) told
+    ∙ row_found rule (row_view d))
 
 -- The numbers of the rows rise one by one.
 numbered_from : ℕ → List (Rule × List ℕ × List ℕ) → Bool
 numbered_from n [] = true
 numbered_from n (r ∷ rs) = (number_of r.0 == n) && numbered_from (suc n) rs
 
-number_in : (n : ℕ) (rs : List (Rule × List ℕ × List ℕ)) → numbered_from n rs ≡ true → (i : ℕ) (d : Rule × List ℕ × List ℕ) → i < length rs → number_of (slice_index_or rs i d).0 ≡ n + i
+number_in : (n : ℕ) (rs : List (Rule × List ℕ × List ℕ)) → numbered_from n rs ≡ true → (i : ℕ) (d : Rule × List ℕ × List ℕ) → i < length rs
+    → number_of (slice_index_or rs i d).0 ≡ n + i
 unfolding numbered_from
 number_in n [] order i d less = absurd (omega arith)
 number_in n (r ∷ rs) order zero d less =
@@ -80,9 +82,11 @@ unfolding row_coded
 row_next code table i d less =
     let next : suc i ≡ i + 1 = omega arith in
     ap (λ (t : List (Rule × Bor (List ℕ) × Bor (List ℕ))). row_coded code (map row_view t)) (drop-cons table i d less)
-    ∙ ap (λ (n : ℕ). cond (same_name (slice_index_or table i d).1.now code) (Some (slice_index_or table i d).0) (row_coded code (map row_view (drop n table)))) next
+    ∙ ap (λ (n : ℕ). cond (same_name (slice_index_or table i d).1.now code) (Some (slice_index_or table i d).0) (row_coded code (map row_view (drop n table))))
+    next
 
-pub no_row : (code : List ℕ) (table : List (Rule × Bor (List ℕ) × Bor (List ℕ))) (i : ℕ) → length table ≤ i → row_coded code (map row_view (drop i table)) ≡ None
+pub no_row : (code : List ℕ) (table : List (Rule × Bor (List ℕ) × Bor (List ℕ))) (i : ℕ) → length table ≤ i
+    → row_coded code (map row_view (drop i table)) ≡ None
 unfolding row_coded
 no_row code table i past = ap (λ (t : List (Rule × Bor (List ℕ) × Bor (List ℕ))). row_coded code (map row_view t)) (drop_all i table past)
 

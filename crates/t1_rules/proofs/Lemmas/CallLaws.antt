@@ -24,4 +24,8 @@ made (Some subr) depth few = by_depth (nat_lt depth 10) ∙ below_ten depth few
 pub sound_calls_go_in : SoundCallsGoIn
 sound_calls_go_in edition font path behind s before some few =
     made (named_at font (Command Callsubr) s.stack) (length path) few
-    ∙ sym (rw (s01_row edition before (callsubr_at font path behind s), s02_row edition before (callsubr_at font path behind s), some_there (length s.stack) some) refl)
+    ∙ sym (rw (
+      s01_row edition before (callsubr_at font path behind s),
+      s02_row edition before (callsubr_at font path behind s),
+      some_there (length s.stack) some,
+    ) refl)

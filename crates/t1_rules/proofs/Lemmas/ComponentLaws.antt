@@ -46,14 +46,16 @@ among (n ∷ ns) (suc place) name at letters = rw (among ns place name at letter
     always true = refl
     always false = refl
 
-not_among : (name : List ℕ) (names : List (List ℕ)) → (length name == 0 || not (list_any (same_name name) names)) ≡ true → list_any (same_name name) names ≡ true → 0 < length name → ⊥
+not_among : (name : List ℕ) (names : List (List ℕ)) → (length name == 0 || not (list_any (same_name name) names)) ≡ true
+    → list_any (same_name name) names ≡ true → 0 < length name → ⊥
 not_among name names apart here letters =
     let some : (length name == 0) ≡ false = grind (arith, letters) in
     let none : (length name == 0 || not (list_any (same_name name) names)) ≡ false = rw (some, here) refl in
     let no : false ≡ true = sym none ∙ apart in
     cc
 
-one_place : (names : List (List ℕ)) → are_apart names ≡ true → (one other : ℕ) → slice_index_or names one [] ≡ slice_index_or names other [] → 0 < length (slice_index_or names one []) → one ≡ other
+one_place : (names : List (List ℕ)) → are_apart names ≡ true → (one other : ℕ) → slice_index_or names one [] ≡ slice_index_or names other []
+    → 0 < length (slice_index_or names one []) → one ≡ other
 one_place [] apart one other same letters = absurd (omega (arith, letters))
 one_place (n ∷ ns) apart zero zero same letters = refl
 one_place (n ∷ ns) apart zero (suc other) same letters = absurd (not_among n ns (both _ _ apart).0 (among ns other n same letters) letters)
@@ -87,7 +89,8 @@ then_same run next other_next same = go run.finished
     go true = refl
     go false = ap (after run.steps) (same run.state)
 
-same_run : (font : FontValue) (encoding : Encoding) (codes : List (ℕ × List ℕ)) (bad_code : Bool) (glyphs : List (List ℕ × List ℕ)) (n : ℕ) (path : List ℕ) (ts : List CharToken) (s : State)
+same_run : (font : FontValue) (encoding : Encoding) (codes : List (ℕ × List ℕ)) (bad_code : Bool) (glyphs : List (List ℕ × List ℕ)) (n : ℕ) (path : List ℕ)
+    (ts : List CharToken) (s : State)
     → expansion (changed font encoding codes bad_code glyphs) n path ts s ≡ expansion font n path ts s
 unfolding expansion
 same_run font encoding codes bad_code glyphs n path [] s = refl
@@ -100,17 +103,21 @@ same_run font encoding codes bad_code glyphs (suc n) path (t ∷ ts) s =
     led_same (step_at font path t ts s) (effect_at font path t s).state (effect_at font path t s).action _ _ _ _
     (λ x. same_run font encoding codes bad_code glyphs (suc n) path ts x)
     (λ number code x.
-    ap (λ run. and_then run (λ y. expansion other (suc n) path ts y)) (same_run font encoding codes bad_code glyphs n (path ++ number ∷ []) (tokens_in font code) x)
-    ∙ then_same (expansion font n (path ++ number ∷ []) (tokens_in font code) x) (λ y. expansion other (suc n) path ts y) (λ y. expansion font (suc n) path ts y)
+    ap (λ run. and_then run (λ y. expansion other (suc n) path ts y))
+    (same_run font encoding codes bad_code glyphs n (path ++ number ∷ []) (tokens_in font code) x)
+    ∙ then_same (expansion font n (path ++ number ∷ []) (tokens_in font code) x) (λ y. expansion other (suc n) path ts y)
+    (λ y. expansion font (suc n) path ts y)
     (λ y. same_run font encoding codes bad_code glyphs (suc n) path ts y))
 
-same_component : (limit : ℕ) (font : FontValue) (encoding : Encoding) (codes : List (ℕ × List ℕ)) (bad_code : Bool) (code : ℕ) → component_at limit (encoded_anew font encoding codes bad_code) code ≡ component_at limit font code
+same_component : (limit : ℕ) (font : FontValue) (encoding : Encoding) (codes : List (ℕ × List ℕ)) (bad_code : Bool) (code : ℕ)
+    → component_at limit (encoded_anew font encoding codes bad_code) code ≡ component_at limit font code
 unfolding steps_of
 same_component limit font encoding codes bad_code code = by_name (standard_name code)
   where
     by_glyph : (found : Option ℕ) → component_of_glyph limit (encoded_anew font encoding codes bad_code) found ≡ component_of_glyph limit font found
     by_glyph None = refl
-    by_glyph (Some glyph) = ap (λ (run : Run). component_in (take limit run.steps)) (same_run font encoding codes bad_code font.glyphs most_calls [] (tokens_in font (code_at font glyph)) at_start)
+    by_glyph (Some glyph) = ap (λ (run : Run). component_in (take limit run.steps))
+        (same_run font encoding codes bad_code font.glyphs most_calls [] (tokens_in font (code_at font glyph)) at_start)
 
     by_name : (name : List ℕ) → component_named limit (encoded_anew font encoding codes bad_code) name ≡ component_named limit font name
     by_name [] = refl
@@ -154,8 +161,11 @@ unfolding steps_of
 places_have_no_say limit font front rest name code letters others =
     let glyphs = front ++ (name, code) ∷ rest in
     let some : (length name == 0) ≡ false = grind (arith, letters) in
-    let there : glyph_named (record font { glyphs = glyphs }) name ≡ Some (length front) = rw (first_place front rest name code others, shorter front rest (name, code)) refl in
+    let there : glyph_named (record font { glyphs = glyphs }) name ≡ Some (length front) =
+    rw (first_place front rest name code others, shorter front rest (name, code)) refl in
     named_by_letters limit (record font { glyphs = glyphs }) name some
     ∙ ap (λ found. component_of_glyph limit (record font { glyphs = glyphs }) found) there
-    ∙ ap (λ found. component_in (take limit (expansion (record font { glyphs = glyphs }) most_calls [] (tokens_in font (code_or_empty found)) at_start).steps)) (get_behind front rest (name, code))
-    ∙ ap (λ (run : Run). component_in (take limit run.steps)) (same_run font font.encoding font.codes font.bad_code glyphs most_calls [] (tokens_in font code) at_start)
+    ∙ ap (λ found. component_in (take limit (expansion (record font { glyphs = glyphs }) most_calls [] (tokens_in font (code_or_empty found)) at_start).steps))
+    (get_behind front rest (name, code))
+    ∙ ap (λ (run : Run). component_in (take limit run.steps))
+    (same_run font font.encoding font.codes font.bad_code glyphs most_calls [] (tokens_in font code) at_start)

@@ -29,17 +29,20 @@ component_goes_on steps t = rw (first_on steps t, any_on steps t) refl
     first_on (s ∷ ss) t = go (sets_width s.token) (first_on ss t)
       where
         go : (b : Bool) → first_sidebearing (ss ++ t ∷ []) ≡ sidebearing_with (first_sidebearing ss) t
-            → (if b then Some (argument s.stack 0) else first_sidebearing (ss ++ t ∷ [])) ≡ sidebearing_with (if b then Some (argument s.stack 0) else first_sidebearing ss) t
+            → (if b then Some (argument s.stack 0) else first_sidebearing (ss ++ t ∷ [])) ≡ sidebearing_with
+            (if b then Some (argument s.stack 0) else first_sidebearing ss) t
         go true rest = refl
         go false rest = rest
 
 -- A name that has letters.
-pub named_by_letters : (limit : ℕ) (font : FontValue) (name : List ℕ) → (length name == 0) ≡ false → component_named limit font name ≡ component_of_glyph limit font (glyph_named font name)
+pub named_by_letters : (limit : ℕ) (font : FontValue) (name : List ℕ) → (length name == 0) ≡ false → component_named limit font name ≡ component_of_glyph
+    limit font (glyph_named font name)
 named_by_letters limit font [] letters = let no : true ≡ false = letters in cc
 named_by_letters limit font (c ∷ cs) letters = refl
 
 -- Where no step is a seac, the first sidebearing is all.
-pub component_known : (limit : ℕ) (all : List StepView) (k : ℕ) (known : Component) → list_any step_is_seac all ≡ false → known ≡ component_in (take k (take limit all)) → is_some known.sidebearing ≡ true → known ≡ component_in (take limit all)
+pub component_known : (limit : ℕ) (all : List StepView) (k : ℕ) (known : Component) → list_any step_is_seac all ≡ false
+    → known ≡ component_in (take k (take limit all)) → is_some known.sidebearing ≡ true → known ≡ component_in (take limit all)
 component_known limit all k known none is some =
     let steps : List StepView = take limit all in
     let lack : list_any is_seac_step steps ≡ false = any_take limit all (same_test all ∙ none) in
@@ -56,13 +59,15 @@ component_known limit all k known none is some =
     same_test (s ∷ ss) = rw (same_token s.token, same_test ss) refl
 
     any_take : (k : ℕ) (steps : List StepView) → list_any is_seac_step steps ≡ false → list_any is_seac_step (take k steps) ≡ false
-    any_take k steps none = (or_parts _ _ (sym (list_any-append is_seac_step (take k steps) (drop k steps)) ∙ ap (list_any is_seac_step) (take-append-drop k steps) ∙ none)).0
+    any_take k steps none = (or_parts _ _ (sym (list_any-append is_seac_step (take k steps) (drop k steps))
+        ∙ ap (list_any is_seac_step) (take-append-drop k steps) ∙ none)).0
 
     first_front : (front back : List StepView) → is_some (first_sidebearing front) ≡ true → first_sidebearing (front ++ back) ≡ first_sidebearing front
     first_front [] back some = let bad : false ≡ true = some in cc
     first_front (s ∷ front) back some = by_width (sets_width s.token) some (first_front front back)
       where
-        by_width : (b : Bool) → is_some (if b then Some (argument s.stack 0) else first_sidebearing front) ≡ true → (is_some (first_sidebearing front) ≡ true → first_sidebearing (front ++ back) ≡ first_sidebearing front)
+        by_width : (b : Bool) → is_some (if b then Some (argument s.stack 0) else first_sidebearing front) ≡ true
+            → (is_some (first_sidebearing front) ≡ true → first_sidebearing (front ++ back) ≡ first_sidebearing front)
             → (if b then Some (argument s.stack 0) else first_sidebearing (front ++ back)) ≡ (if b then Some (argument s.stack 0) else first_sidebearing front)
         by_width true some rest = refl
         by_width false some rest = rest some

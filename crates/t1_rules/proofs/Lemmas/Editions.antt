@@ -77,14 +77,16 @@ none_after last f (s ∷ ss) none = go (list_any last ss) (last s) (none_after l
 abbrev sets_in : (Commands → Bool) → StepView → Bool
 sets_in direction step = list_any has_one_edge (stems_in direction step)
 
-none_in : (direction : Commands → Bool) (steps : List StepView) → list_any (sets_in direction) steps ≡ false → list_any has_one_edge (flat_map (stems_in direction) steps) ≡ false
+none_in : (direction : Commands → Bool) (steps : List StepView) → list_any (sets_in direction) steps ≡ false
+    → list_any has_one_edge (flat_map (stems_in direction) steps) ≡ false
 none_in direction [] none = refl
 none_in direction (s ∷ ss) none =
     let parts = neither (sets_in direction s) (list_any (sets_in direction) ss) none in
     list_any-append has_one_edge (stems_in direction s) (flat_map (stems_in direction) ss)
     ∙ rw (parts.0, none_in direction ss parts.1) refl
 
-none_kept : (direction : Commands → Bool) (before : List StepView) → list_any (sets_in direction) before ≡ false → list_any has_one_edge (hint_set direction before) ≡ false
+none_kept : (direction : Commands → Bool) (before : List StepView) → list_any (sets_in direction) before ≡ false
+    → list_any has_one_edge (hint_set direction before) ≡ false
 none_kept direction before none =
     none_taken has_one_edge (flat_map (stems_in direction) (after_last is_hint_replacement before)) 96
     (none_in direction (after_last is_hint_replacement before) (none_after is_hint_replacement (sets_in direction) before none))
@@ -98,14 +100,16 @@ in_both f g (s ∷ ss) none =
     let rest = in_both f g ss parts.1 in
     (rw (here.0, rest.0) refl, rw (here.1, rest.1) refl)
 
-any_same : (one : Stem) (others : List Stem) → has_one_edge one ≡ false → list_any has_one_edge others ≡ false → list_any (overlap_by Two one) others ≡ list_any (overlap_by One one) others
+any_same : (one : Stem) (others : List Stem) → has_one_edge one ≡ false → list_any has_one_edge others ≡ false → list_any (overlap_by Two one) others
+    ≡ list_any (overlap_by One one) others
 any_same one [] plain none = refl
 any_same one (other ∷ others) plain none =
     let parts = neither (has_one_edge other) (list_any has_one_edge others) none in
     ap (λ b. b || list_any (overlap_by Two one) others) (other_stems_overlap_as_before one other (rw (plain, parts.0) refl))
     ∙ ap (λ b. overlap_by One one other || b) (any_same one others plain parts.1)
 
-one_same : (stems kept : List Stem) → list_any has_one_edge stems ≡ false → list_any has_one_edge kept ≡ false → one_overlaps (overlap_by Two) stems kept ≡ one_overlaps (overlap_by One) stems kept
+one_same : (stems kept : List Stem) → list_any has_one_edge stems ≡ false → list_any has_one_edge kept ≡ false → one_overlaps (overlap_by Two) stems kept
+    ≡ one_overlaps (overlap_by One) stems kept
 one_same [] kept none plain = refl
 one_same (stem ∷ stems) kept none plain =
     let parts = neither (has_one_edge stem) (list_any has_one_edge stems) none in
@@ -119,19 +123,22 @@ two_same (stem ∷ stems) none =
     ap (λ b. b || two_overlap (overlap_by Two) stems) (any_same stem stems parts.0 parts.1)
     ∙ ap (λ b. list_any (overlap_by One stem) stems || b) (two_same stems parts.1)
 
-meet_same : (stems kept : List Stem) → list_any has_one_edge stems ≡ false → list_any has_one_edge kept ≡ false → stems_meet (overlap_by Two) stems kept ≡ stems_meet (overlap_by One) stems kept
+meet_same : (stems kept : List Stem) → list_any has_one_edge stems ≡ false → list_any has_one_edge kept ≡ false → stems_meet (overlap_by Two) stems kept
+    ≡ stems_meet (overlap_by One) stems kept
 meet_same stems kept none plain =
     ap (λ b. b || two_overlap (overlap_by Two) stems) (one_same stems kept none plain)
     ∙ ap (λ b. one_overlaps (overlap_by One) stems kept || b) (two_same stems none)
 
-direction_same : (direction : Commands → Bool) (before : List StepView) (step : StepView) → list_any (sets_in direction) before ≡ false → sets_in direction step ≡ false
+direction_same : (direction : Commands → Bool) (before : List StepView) (step : StepView) → list_any (sets_in direction) before ≡ false
+    → sets_in direction step ≡ false
     → overlap_in (overlap_by Two) direction before step ≡ overlap_in (overlap_by One) direction before step
 direction_same direction before step none_before none_here = go (is_command direction step.token) none_here
   where
     kept : List Stem
     kept = hint_set direction before
 
-    go : (b : Bool) → list_any has_one_edge (if b then stems_of step else []) ≡ false → (b && stems_meet (overlap_by Two) (stems_of step) kept) ≡ (b && stems_meet (overlap_by One) (stems_of step) kept)
+    go : (b : Bool) → list_any has_one_edge (if b then stems_of step else []) ≡ false → (b && stems_meet (overlap_by Two) (stems_of step) kept)
+        ≡ (b && stems_meet (overlap_by One) (stems_of step) kept)
     go true none = meet_same (stems_of step) kept none (none_kept direction before none_before)
     go false none = refl
 
@@ -153,13 +160,16 @@ other_row n [] rest one other not_one not_other before step =
 other_row n (r ∷ front) rest one other not_one not_other before step =
     ap (λ more. (r.is_broken before step && number_of r.rule == n) || more) (other_row n front rest one other not_one not_other before step)
 
-step_rules_agree : (n : ℕ) (before : List StepView) (step : StepView) → (47 == n) ≡ false → breaks (step_rules Two) n before step ≡ breaks (step_rules One) n before step
+step_rules_agree : (n : ℕ) (before : List StepView) (step : StepView) → (47 == n) ≡ false → breaks (step_rules Two) n before step
+    ≡ breaks (step_rules One) n before step
 unfolding step_rules argument_rules call_rules path_rules stem_rules flex_rules othersubr_rules seac_rules
 step_rules_agree n before step apart =
-    other_row n (take 21 (step_rules One)) (drop 22 (step_rules One)) (row H02 (sets_overlapping (overlap_by Two))) (row H02 (sets_overlapping (overlap_by One)))
+    other_row n (take 21 (step_rules One)) (drop 22 (step_rules One)) (row H02 (sets_overlapping (overlap_by Two)))
+    (row H02 (sets_overlapping (overlap_by One)))
     apart apart before step
 
-stem_row : (edition : Edition) (before : List StepView) (step : StepView) → breaks (step_rules edition) 47 before step ≡ sets_overlapping (overlap_by edition) before step
+stem_row : (edition : Edition) (before : List StepView) (step : StepView) → breaks (step_rules edition) 47 before step ≡ sets_overlapping
+    (overlap_by edition) before step
 unfolding step_rules argument_rules call_rules path_rules stem_rules flex_rules othersubr_rules seac_rules
 stem_row edition before step = row_decides 47 (step_rules edition) 21 _ refl refl refl refl before step
 
@@ -198,15 +208,19 @@ unfolding components_of
 lacking_same limit other font None = refl
 lacking_same limit other font (Some code) = ap (λ there. is_named (Some code) && not there) (there_at limit other font (range_with_len 0 256) code)
 
-lacks_same : (limit other : ℕ) (font : FontValue) (step : StepView) → lacks_component (components_of limit font) step ≡ lacks_component (components_of other font) step
+lacks_same : (limit other : ℕ) (font : FontValue) (step : StepView) → lacks_component (components_of limit font) step ≡ lacks_component
+    (components_of other font) step
 lacks_same limit other font step =
     let a = components_of limit font in
     let b = components_of other font in
-    ap (λ base. is_seac step.token && (base || is_lacking (accent_code step) (component_of_code a (accent_code step)))) (lacking_same limit other font (base_code step))
-    ∙ ap (λ accent. is_seac step.token && (is_lacking (base_code step) (component_of_code b (base_code step)) || accent)) (lacking_same limit other font (accent_code step))
+    ap (λ base. is_seac step.token && (base || is_lacking (accent_code step) (component_of_code a (accent_code step))))
+    (lacking_same limit other font (base_code step))
+    ∙ ap (λ accent. is_seac step.token && (is_lacking (base_code step) (component_of_code b (base_code step)) || accent))
+    (lacking_same limit other font (accent_code step))
 
 -- The rows behind the first are those on what components have.
-component_rows : (limit other : ℕ) (font : FontValue) (n : ℕ) (before : List StepView) (step : StepView) → (65 == n) ≡ false → (66 == n) ≡ false → (68 == n) ≡ false
+component_rows : (limit other : ℕ) (font : FontValue) (n : ℕ) (before : List StepView) (step : StepView) → (65 == n) ≡ false → (66 == n) ≡ false
+    → (68 == n) ≡ false
     → breaks (component_rules (components_of limit font)) n before step ≡ breaks (component_rules (components_of other font)) n before step
 unfolding component_rules
 component_rows limit other font n before step k04 k05 k07 =
@@ -214,12 +228,15 @@ component_rows limit other font n before step k04 k05 k07 =
     let b = components_of other font in
     ap (λ lacks. (lacks && 64 == n) || breaks (drop 1 (component_rules a)) n before step) (lacks_same limit other font step)
     ∙ ap (λ more. (lacks_component b step && 64 == n) || more)
-    (none_broken n (drop 1 (component_rules a)) (rw (k04, k05, k07) refl) before step ∙ sym (none_broken n (drop 1 (component_rules b)) (rw (k04, k05, k07) refl) before step))
+    (none_broken n (drop 1 (component_rules a)) (rw (k04, k05, k07) refl) before step
+    ∙ sym (none_broken n (drop 1 (component_rules b)) (rw (k04, k05, k07) refl) before step))
 
 all_rules : (edition : Edition) (components : List Component) (n : ℕ) (before : List StepView) (step : StepView)
-    → breaks (charstring_rules edition components) n before step ≡ (breaks (step_rules edition) n before step || breaks (component_rules components) n before step)
+    → breaks (charstring_rules edition components) n before step
+    ≡ (breaks (step_rules edition) n before step || breaks (component_rules components) n before step)
 unfolding charstring_rules
-all_rules edition components n before step = list_any-append (λ r. r.is_broken before step && number_of r.rule == n) (step_rules edition) (component_rules components)
+all_rules edition components n before step = list_any-append (λ r. r.is_broken before step && number_of r.rule == n)
+    (step_rules edition) (component_rules components)
 
 -- The rules agree where those on steps do, and those on components.
 both_agree : (one two : List Component) (n : ℕ) (before : List StepView) (step : StepView)
@@ -233,7 +250,8 @@ pub agree_on_other_rules : EditionsAgreeOnOtherRules
 agree_on_other_rules font n before step h02 k04 k05 k07 =
     both_agree (components_of (limit_of One) font) (components_of (limit_of Two) font) n before step
     (step_rules_agree n before step (ne_eqb 47 n (λ e. h02 (sym e))))
-    (component_rows (limit_of Two) (limit_of One) font n before step (ne_eqb 65 n (λ e. k04 (sym e))) (ne_eqb 66 n (λ e. k05 (sym e))) (ne_eqb 68 n (λ e. k07 (sym e))))
+    (component_rows (limit_of Two) (limit_of One) font n before step (ne_eqb 65 n (λ e. k04 (sym e))) (ne_eqb 66 n (λ e. k05 (sym e)))
+    (ne_eqb 68 n (λ e. k07 (sym e))))
 
 -- A short glyph's steps are all looked at, by each limit.
 short_same : (font : FontValue) (code : ℕ) → HasShortComponents font → component_at (limit_of Two) font code ≡ component_at (limit_of One) font code

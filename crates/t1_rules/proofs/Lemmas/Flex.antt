@@ -37,13 +37,16 @@ travelled_more (s ∷ ss) t =
     ∙ sym (plus_assoc (displacement s) (travelled ss) (displacement t))
 
 -- A step sets the current point, or moves it on.
-pub point_goes_on : (before : List StepView) (t : StepView) → current_point (before ++ t ∷ []) ≡ (if sets_point t.token then point_set t else plus (current_point before) (displacement t))
+pub point_goes_on : (before : List StepView) (t : StepView) → current_point (before ++ t ∷ [])
+    ≡ (if sets_point t.token then point_set t else plus (current_point before) (displacement t))
 point_goes_on before t =
     ap (λ last. plus (set_by last) (travelled (after_last setting_point (before ++ t ∷ [])))) (last_goes_on setting_point before t)
-    ∙ ap (λ steps. plus (set_by (if setting_point t then Some t else last_of setting_point before)) (travelled steps)) (after_last_goes_on setting_point before t)
+    ∙ ap (λ steps. plus (set_by (if setting_point t then Some t else last_of setting_point before)) (travelled steps))
+    (after_last_goes_on setting_point before t)
     ∙ go (sets_point t.token)
   where
-    go : (b : Bool) → plus (set_by (if b then Some t else last_of setting_point before)) (travelled (if b then [] else after_last setting_point before ++ t ∷ [])) ≡ (if b then point_set t else plus (current_point before) (displacement t))
+    go : (b : Bool) → plus (set_by (if b then Some t else last_of setting_point before))
+        (travelled (if b then [] else after_last setting_point before ++ t ∷ [])) ≡ (if b then point_set t else plus (current_point before) (displacement t))
     go true = plus_origin (point_set t)
     go false =
         ap (λ p. plus (set_by (last_of setting_point before)) p) (travelled_more (after_last setting_point before) t)
@@ -75,7 +78,13 @@ one_more_in_flex old new before t st in_flex moves points point ended popped pop
       point = point ∙ rw (st.point) (sym (point_goes_on before t));
       ended = ended ∙ sym (was_last is_flex_end before t);
       popped = popped ∙ rw (st.ended, was_before 0 is_flex_end before t, was_last popping before t) (turned (is_pop t.token) _);
-      popped_twice = popped_twice ∙ rw (st.popped, was_before 1 is_flex_end before t, was_before 0 popping before t, was_last popping before t) (turned (is_pop t.token) _);
+      popped_twice = popped_twice ∙ rw (
+        st.popped,
+        was_before 1 is_flex_end before t,
+        was_before 0 popping before t,
+        was_last popping before
+            t,
+      ) (turned (is_pop t.token) _);
       few_moves = rw longer (few (is_flex_start t) (is_move t.token) old.moves (length before) new.moves moves st.few_moves);
       few_points = rw longer (few (is_flex_start t) (is_flex_point t) old.points (length before) new.points points st.few_points);
       near = rw longer near;

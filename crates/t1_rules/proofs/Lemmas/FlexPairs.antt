@@ -113,7 +113,8 @@ counts_of before start starts _ _ _ (and_move n steps t pairs move) =
     (counts_on _ t _ _ _ _ true false (counts_of before start starts n false steps pairs) none.0 none.1.1 move none.1.0 (omega arith) refl)
 counts_of before start starts _ _ _ (and_point n steps t pairs point) =
     rw (sym (append_assoc (before ++ start ∷ []) steps (t ∷ [])))
-    (counts_on _ t _ _ _ _ false true (counts_of before start starts n true steps pairs) (point_is_no_start t point) (point_is_no_end t point) (call_is_no_move t.token (call_of 2 0 t point)) point (omega arith) (omega arith))
+    (counts_on _ t _ _ _ _ false true (counts_of before start starts n true steps pairs) (point_is_no_start t point) (point_is_no_end t point)
+    (call_is_no_move t.token (call_of 2 0 t point)) point (omega arith) (omega arith))
 
 -- No step behind the start breaks X04.
 abbrev AreFine : Edition → List StepView → List StepView → Type 0
@@ -123,7 +124,8 @@ get_seam : (xs : List StepView) (t : StepView) → slice_get (xs ++ t ∷ []) (l
 get_seam [] t = refl
 get_seam (x ∷ xs) t = get_seam xs t
 
-fine_on : (edition : Edition) (front steps : List StepView) (t : StepView) → AreFine edition front steps → breaks (step_rules edition) 55 steps t ≡ false → AreFine edition front (steps ++ t ∷ [])
+fine_on : (edition : Edition) (front steps : List StepView) (t : StepView) → AreFine edition front steps → breaks (step_rules edition) 55 steps t ≡ false
+    → AreFine edition front (steps ++ t ∷ [])
 fine_on edition front steps t fine last place above below = go (nat_lt place (length steps)) refl
   where
     go : (b : Bool) → nat_lt place (length steps) ≡ b → breaks_at (step_rules edition) 55 (steps ++ t ∷ []) place ≡ false
@@ -142,17 +144,20 @@ quiet_is_fine edition before t none =
 same_count : (n : ℕ) → (n == n) ≡ true
 same_count n = grind arith
 
-point_is_fine : (edition : Edition) (before : List StepView) (t : StepView) (n : ℕ) → Counts before (n + 1) n → is_flex_point t ≡ true → breaks (step_rules edition) 55 before t ≡ false
+point_is_fine : (edition : Edition) (before : List StepView) (t : StepView) (n : ℕ) → Counts before (n + 1) n → is_flex_point t ≡ true
+    → breaks (step_rules edition) 55 before t ≡ false
 point_is_fine edition before t n counts point =
     x04_row edition before t ∙ rw (counts.moved, counts.pointed, point, point_is_no_end t point, same_count (n + 1)) refl
 
-end_is_fine : (edition : Edition) (before : List StepView) (t : StepView) → Counts before 7 7 → is_flex_end t ≡ true → breaks (step_rules edition) 55 before t ≡ false
+end_is_fine : (edition : Edition) (before : List StepView) (t : StepView) → Counts before 7 7 → is_flex_end t ≡ true
+    → breaks (step_rules edition) 55 before t ≡ false
 end_is_fine edition before t counts end =
     x04_row edition before t ∙ rw (counts.moved, counts.pointed, end, end_is_no_point t end) refl
 
 fine_pairs : (edition : Edition) (before : List StepView) (start : StepView) → is_flex_start start ≡ true → (n : ℕ) (is_half : Bool) (steps : List StepView)
     → ArePairs n is_half steps → AreFine edition before ((before ++ start ∷ []) ++ steps)
-fine_pairs edition before start starts _ _ _ nothing = λ place above below. absurd (omega (arith, above, below, length-append before (start ∷ []), length-append (before ++ start ∷ []) []))
+fine_pairs edition before start starts _ _ _ nothing =
+    λ place above below. absurd (omega (arith, above, below, length-append before (start ∷ []), length-append (before ++ start ∷ []) []))
 fine_pairs edition before start starts _ _ _ (and_beside n is_half steps t pairs beside) =
     rw (sym (append_assoc (before ++ start ∷ []) steps (t ∷ [])))
     (fine_on edition before _ t (fine_pairs edition before start starts n is_half steps pairs) (quiet_is_fine edition _ t beside.no_call))
@@ -161,11 +166,14 @@ fine_pairs edition before start starts _ _ _ (and_move n steps t pairs move) =
     (fine_on edition before _ t (fine_pairs edition before start starts n false steps pairs) (quiet_is_fine edition _ t (move_is_no_call t.token move)))
 fine_pairs edition before start starts _ _ _ (and_point n steps t pairs point) =
     rw (sym (append_assoc (before ++ start ∷ []) steps (t ∷ [])))
-    (fine_on edition before _ t (fine_pairs edition before start starts n true steps pairs) (point_is_fine edition _ t n (counts_of before start starts n true steps pairs) point))
+    (fine_on edition before _ t (fine_pairs edition before start starts n true steps pairs)
+    (point_is_fine edition _ t n (counts_of before start starts n true steps pairs) point))
 
 pub seven_pairs_are_a_flex : SevenPairsAreAFlex
 seven_pairs_are_a_flex edition before pairs start end starts are_pairs ends place above below =
     let steps = (before ++ start ∷ []) ++ pairs in
-    let whole : length (steps ++ end ∷ []) ≡ length before + length pairs + 2 = omega (arith, length-append steps (end ∷ []), length-append (before ++ start ∷ []) pairs, length-append before (start ∷ [])) in
+    let whole : length (steps ++ end ∷ []) ≡ length before + length pairs + 2 =
+    omega (arith, length-append steps (end ∷ []), length-append (before ++ start ∷ []) pairs, length-append before (start ∷ [])) in
     let inside : place < length (steps ++ end ∷ []) = omega (arith, below, whole) in
-    fine_on edition before steps end (fine_pairs edition before start starts 7 false pairs are_pairs) (end_is_fine edition steps end (counts_of before start starts 7 false pairs are_pairs) ends) place above inside
+    fine_on edition before steps end (fine_pairs edition before start starts 7 false pairs are_pairs)
+    (end_is_fine edition steps end (counts_of before start starts 7 false pairs are_pairs) ends) place above inside

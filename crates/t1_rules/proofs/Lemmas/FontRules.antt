@@ -16,7 +16,8 @@ use Rattle.t1_rules.proofs.Lemmas.Book.{both, in_book}
 abbrev pub keys_below : ℕ → List FontRule → Bool
 keys_below m rules = list_all (λ r. list_all (λ t. nat_lt t.key m) r.tests) rules
 
-says_none : (m : ℕ) (tests : List KeyTest) → list_all (λ t. nat_lt t.key m) tests ≡ true → (font : FontValue) (key index : ℕ) → m ≤ key → says tests font key index ≡ false
+says_none : (m : ℕ) (tests : List KeyTest) → list_all (λ t. nat_lt t.key m) tests ≡ true → (font : FontValue) (key index : ℕ) → m ≤ key
+    → says tests font key index ≡ false
 says_none m [] below font key index past = refl
 says_none m (t ∷ ts) below font key index past =
     let parts = both (nat_lt t.key m) (list_all (λ u. nat_lt u.key m) ts) below in
@@ -25,7 +26,8 @@ says_none m (t ∷ ts) below font key index past =
     rw other (says_none m ts parts.1 font key index past)
 
 -- Nothing is broken past the keys of a table.
-pub none_at : (m : ℕ) (rules : List FontRule) → keys_below m rules ≡ true → (n : ℕ) (font : FontValue) (key index : ℕ) → m ≤ key → violated rules n font key index ≡ false
+pub none_at : (m : ℕ) (rules : List FontRule) → keys_below m rules ≡ true → (n : ℕ) (font : FontValue) (key index : ℕ) → m ≤ key
+    → violated rules n font key index ≡ false
 none_at m [] below n font key index past = refl
 none_at m (r ∷ rs) below n font key index past =
     let parts = both (list_all (λ t. nat_lt t.key m) r.tests) (keys_below m rs) below in
@@ -37,7 +39,8 @@ number_within [] n font key index broken = let no : false ≡ true = broken in c
 number_within (r ∷ rs) n font key index broken =
     go (says r.tests font key index) (number_of r.rule == n) refl broken (number_within rs n font key index)
   where
-    go : (a b : Bool) → (number_of r.rule == n) ≡ b → (a && b || violated rs n font key index) ≡ true → (violated rs n font key index ≡ true → (0 < n) × (n ≤ last_number)) → (0 < n) × (n ≤ last_number)
+    go : (a b : Bool) → (number_of r.rule == n) ≡ b → (a && b || violated rs n font key index) ≡ true
+        → (violated rs n font key index ≡ true → (0 < n) × (n ≤ last_number)) → (0 < n) × (n ≤ last_number)
     go false b e some rest = rest some
     go true false e some rest = rest some
     go true true e some rest = let same : number_of r.rule ≡ n = eqb-true (number_of r.rule) n e in rw same at (in_book r.rule)

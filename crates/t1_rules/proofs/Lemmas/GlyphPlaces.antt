@@ -12,7 +12,8 @@ keys_of es = map (λ e. e.0) es
 abbrev names_of : List (Bor (List ℕ) × Bor (List ℕ)) → List (List ℕ)
 names_of es = map (λ glyph. glyph.0) (map name_pair es)
 
-same_place : (es : List (Bor (List ℕ) × Bor (List ℕ))) (k : Bor (List ℕ)) → position_or_len (same_bytes k) (keys_of es) ≡ position_or_len (same_name k.now) (names_of es)
+same_place : (es : List (Bor (List ℕ) × Bor (List ℕ))) (k : Bor (List ℕ)) → position_or_len (same_bytes k) (keys_of es) ≡ position_or_len
+    (same_name k.now) (names_of es)
 same_place [] k = refl
 same_place (e ∷ es) k = search (same_place es k)
 
@@ -23,7 +24,8 @@ same_length (e ∷ es) = ap suc (same_length es)
 found : ℕ → ℕ → Option ℕ
 found at count = cond (nat_lt at count) (Some at) None
 
-pub name_position : (es : List (Bor (List ℕ) × Bor (List ℕ))) (k : Bor (List ℕ)) → position (same_bytes k) (keys_of es) ≡ position (same_name k.now) (names_of es)
+pub name_position : (es : List (Bor (List ℕ) × Bor (List ℕ))) (k : Bor (List ℕ)) → position (same_bytes k) (keys_of es)
+    ≡ position (same_name k.now) (names_of es)
 unfolding found
 name_position es k =
     ap (λ (n : ℕ). found n (length (keys_of es))) (same_place es k)

@@ -102,8 +102,10 @@ past_places font (suc (suc (suc (suc (suc (suc (suc (suc (suc (suc (suc (suc zer
 past_places font (suc (suc (suc (suc (suc (suc (suc (suc (suc (suc (suc (suc (suc zero))))))))))))) index past n = rw (differs index 0 past) refl
 past_places font (suc (suc (suc (suc (suc (suc (suc (suc (suc (suc (suc (suc (suc (suc zero)))))))))))))) index past n = rw (differs index 0 past) refl
 past_places font (suc (suc (suc (suc (suc (suc (suc (suc (suc (suc (suc (suc (suc (suc (suc zero))))))))))))))) index past n = rw (differs index 0 past) refl
-past_places font (suc (suc (suc (suc (suc (suc (suc (suc (suc (suc (suc (suc (suc (suc (suc (suc zero)))))))))))))))) index past n = rw (differs index 0 past) refl
-past_places font (suc (suc (suc (suc (suc (suc (suc (suc (suc (suc (suc (suc (suc (suc (suc (suc (suc zero))))))))))))))))) index past n = rw (differs index 0 past) refl
+past_places font (suc (suc (suc (suc (suc (suc (suc (suc (suc (suc (suc (suc (suc (suc (suc (suc zero)))))))))))))))) index past n =
+    rw (differs index 0 past) refl
+past_places font (suc (suc (suc (suc (suc (suc (suc (suc (suc (suc (suc (suc (suc (suc (suc (suc (suc zero))))))))))))))))) index past n =
+    rw (differs index 0 past) refl
 past_places font (suc (suc (suc (suc (suc (suc (suc (suc (suc (suc (suc (suc (suc (suc (suc (suc (suc (suc zero)))))))))))))))))) index past n =
     let few = within 12 (value_at font keys.StemSnapH) in
     let v = numbers_at font keys.StemSnapH in
@@ -112,9 +114,13 @@ past_places font (suc (suc (suc (suc (suc (suc (suc (suc (suc (suc (suc (suc (su
     let few = within 12 (value_at font keys.StemSnapV) in
     let v = numbers_at font keys.StemSnapV in
     rw (differs index 0 (omega arith), differs index 12 past, falls_past v index (omega arith)) refl
-past_places font (suc (suc (suc (suc (suc (suc (suc (suc (suc (suc (suc (suc (suc (suc (suc (suc (suc (suc (suc (suc zero)))))))))))))))))))) index past n = rw (wrong_subr_past font index past) refl
-past_places font (suc (suc (suc (suc (suc (suc (suc (suc (suc (suc (suc (suc (suc (suc (suc (suc (suc (suc (suc (suc (suc zero))))))))))))))))))))) index past n = rw (differs index 0 (omega arith), glyph_twice_past font index past) refl
-past_places font (suc (suc (suc (suc (suc (suc (suc (suc (suc (suc (suc (suc (suc (suc (suc (suc (suc (suc (suc (suc (suc (suc key)))))))))))))))))))))) index past n = past_last (suc (suc (suc (suc (suc (suc (suc (suc (suc (suc (suc (suc (suc (suc (suc (suc (suc (suc (suc (suc (suc (suc key)))))))))))))))))))))) (omega arith) font index n
+past_places font (suc (suc (suc (suc (suc (suc (suc (suc (suc (suc (suc (suc (suc (suc (suc (suc (suc (suc (suc (suc zero)))))))))))))))))))) index past n =
+    rw (wrong_subr_past font index past) refl
+past_places font (suc (suc (suc (suc (suc (suc (suc (suc (suc (suc (suc (suc (suc (suc (suc (suc (suc (suc (suc (suc (suc zero))))))))))))))))))))) index past
+    n = rw (differs index 0 (omega arith), glyph_twice_past font index past) refl
+past_places font (suc (suc (suc (suc (suc (suc (suc (suc (suc (suc (suc (suc (suc (suc (suc (suc (suc (suc (suc (suc (suc (suc key)))))))))))))))))))))) index
+    past n = past_last (suc (suc (suc (suc (suc (suc (suc (suc (suc (suc (suc (suc (suc (suc (suc (suc (suc (suc (suc (suc (suc (suc key))))))))))))))))))))))
+    (omega arith) font index n
 
 subr_places_bound : (subrs : List (ℕ × List ℕ)) → subr_places subrs ≤ 65536
 subr_places_bound [] = omega arith

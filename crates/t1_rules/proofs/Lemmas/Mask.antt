@@ -39,7 +39,13 @@ cleared_bits b k fits within n = elim (eqb_tells k n) [
   | inl same ↦ rw (same.0, sym same.1, bit_at_clear_same w128 b k within, and-false (nat_eq (bit_at b k) 1)) refl
   | inr other ↦ elim (cases_lt n 128) [
     | inl low ↦ rw (other.0, bit_at_clear_other w128 b k within n low (λ e. other.1 (sym e)), and-true (nat_eq (bit_at b n) 1)) refl
-    | inr high ↦ rw (other.0, bit_at_and b (bit_not w128 (1 * 2 ^ k % 340282366920938463463374607431768211456)) n, bit_at_above b 128 n fits high, zero-min (bit_at (bit_not w128 (1 * 2 ^ k % 340282366920938463463374607431768211456)) n)) refl
+    | inr high ↦ rw (
+      other.0,
+      bit_at_and b (bit_not w128 (1 * 2 ^ k % 340282366920938463463374607431768211456)) n,
+      bit_at_above b 128 n fits high,
+      zero-min
+          (bit_at (bit_not w128 (1 * 2 ^ k % 340282366920938463463374607431768211456)) n),
+    ) refl
   ]
 ]
 
@@ -68,7 +74,8 @@ none_before b s some fits n from before =
 
 pub found_above : (mask : Mask) (floor : ℕ) (found : Option Rule) → mask.bits < 2 ^ 128 → (mask.bits / 2 ^ (floor + 1) ≡ 0 → ⊥) →
     IfSome found (λ rule. number_of rule ≡ floor + 1 + trailing_zeros w128 (mask.bits / 2 ^ (floor + 1))) →
-    IfNone found ((floor + 1 + trailing_zeros w128 (mask.bits / 2 ^ (floor + 1)) ≡ 0) ⊎ (last_number < floor + 1 + trailing_zeros w128 (mask.bits / 2 ^ (floor + 1)))) →
+    IfNone found ((floor + 1 + trailing_zeros w128 (mask.bits / 2 ^ (floor + 1)) ≡ 0)
+    ⊎ (last_number < floor + 1 + trailing_zeros w128 (mask.bits / 2 ^ (floor + 1)))) →
     MatchOption found (HasNoneAbove mask floor) (λ rule. IsLeastAbove mask floor rule)
 found_above mask floor None fits some is none =
     let less = div-le_self mask.bits (2 ^ (floor + 1)) in

@@ -39,7 +39,8 @@ record IsOwn (t : StepView) : Type 0 where
   good : has_good_count t ≡ true
   own : is_flex_or_hints (from_top t.stack 0) ≡ true
 
-own_call : (number count : ℕ) (t : StepView) → calls_othersubr number count t ≡ true → natural (pos (count * 65536)) ≡ Some count → is_flex_or_hints (pos (number * 65536)) ≡ true → IsOwn t
+own_call : (number count : ℕ) (t : StepView) → calls_othersubr number count t ≡ true → natural (pos (count * 65536)) ≡ Some count
+    → is_flex_or_hints (pos (number * 65536)) ≡ true → IsOwn t
 own_call number count t e whole is =
     let called = is_called number count t e in
     let room : nat_le count (length t.stack - 2) ≡ true = le-leb count (length t.stack - 2) (omega (arith, called.room)) in
@@ -64,7 +65,8 @@ own t e = by_end (is_flex_end t) refl e
 own_is_no_counter : (z : ℤ) → (is_flex_or_hints z && is_counter_control z) ≡ false
 own_is_no_counter z = by_zero (is_whole 0 z) refl
   where
-    by_three : (b : Bool) → is_whole 3 z ≡ b → is_whole 0 z ≡ false → is_whole 1 z ≡ false → is_whole 2 z ≡ false → (is_flex_or_hints z && is_counter_control z) ≡ false
+    by_three : (b : Bool) → is_whole 3 z ≡ b → is_whole 0 z ≡ false → is_whole 1 z ≡ false → is_whole 2 z ≡ false
+        → (is_flex_or_hints z && is_counter_control z) ≡ false
     by_three true is e0 e1 e2 = rw (whole_is 3 z is) refl
     by_three false is e0 e1 e2 = rw (e0, e1, e2, is) refl
 
@@ -110,4 +112,5 @@ calls_are_one_of_five t calls =
     ∷ (b && has_good_count t && is_flex_or_hints (from_top t.stack 0) && not (is_effective t))
     ∷ []))
     calls
-    ∙ one_of (has_good_count t) (is_flex_or_hints (from_top t.stack 0)) (is_counter_control (from_top t.stack 0)) (is_effective t) given (own_is_no_counter (from_top t.stack 0))
+    ∙ one_of (has_good_count t) (is_flex_or_hints (from_top t.stack 0)) (is_counter_control (from_top t.stack 0)) (is_effective t) given
+    (own_is_no_counter (from_top t.stack 0))

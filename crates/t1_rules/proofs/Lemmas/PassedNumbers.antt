@@ -49,20 +49,24 @@ same_sidebearing (Some sidebearing) t z is = refl
 with_number : (known : Component) (t : StepView) (z : ℤ) → t.token ≡ Number z → with_step known t ≡ known
 with_number known t z is = rw (same_sidebearing known.sidebearing t z is, is, or-false known.has_seac) refl
 
-take_one_more : (limit : ℕ) (all : List StepView) (k : ℕ) → (passed : IsPassed limit all k) → take (k + 1) (take limit all) ≡ take k (take limit all) ++ passed.step ∷ []
+take_one_more : (limit : ℕ) (all : List StepView) (k : ℕ) → (passed : IsPassed limit all k) → take (k + 1) (take limit all)
+    ≡ take k (take limit all) ++ passed.step ∷ []
 take_one_more limit all k passed =
     let there : k < length all = slice_get_within all k passed.step passed.there in
     take_more (take limit all) k passed.step (omega (arith, there, passed.near, length-take limit all))
-    ∙ ap (λ t. take k (take limit all) ++ t ∷ []) (get_or-take limit all k passed.step passed.near ∙ get_or_from_slice_get all k passed.step passed.step passed.there)
+    ∙ ap (λ t. take k (take limit all) ++ t ∷ []) (get_or-take limit all k passed.step passed.near
+    ∙ get_or_from_slice_get all k passed.step passed.step passed.there)
 
-stays_at_one : (limit : ℕ) (all : List StepView) (k : ℕ) → IsPassed limit all k → component_in (take (k + 1) (take limit all)) ≡ component_in (take k (take limit all))
+stays_at_one : (limit : ℕ) (all : List StepView) (k : ℕ) → IsPassed limit all k → component_in (take (k + 1) (take limit all))
+    ≡ component_in (take k (take limit all))
 stays_at_one limit all k passed =
     let is = kept limit all k passed in
     ap component_in (take_one_more limit all k passed)
     ∙ component_goes_on (take k (take limit all)) passed.step
     ∙ with_number (component_in (take k (take limit all))) passed.step is.number is.token
 
-stays_at_all : (limit : ℕ) (all : List StepView) (n d : ℕ) → ArePassed limit all n (n + d) → component_in (take (n + d) (take limit all)) ≡ component_in (take n (take limit all))
+stays_at_all : (limit : ℕ) (all : List StepView) (n d : ℕ) → ArePassed limit all n (n + d) → component_in (take (n + d) (take limit all))
+    ≡ component_in (take n (take limit all))
 stays_at_all limit all n zero passed =
     let same : n + 0 ≡ n = omega arith in
     ap (λ k. component_in (take k (take limit all))) same
@@ -72,14 +76,17 @@ stays_at_all limit all n (suc d) passed =
     ∙ stays_at_one limit all (n + d) (passed (n + d) (omega arith) (omega arith))
     ∙ stays_at_all limit all n d (λ k from to. passed k from (omega (arith, to)))
 
-of_machine : (edition : Edition) (m : MachineView) (font : FontValue) (glyph counted : ℕ) → Executes edition font glyph m → ArePassed (limit_of m.edition) (steps_of m.font m.glyph) m.counted counted → ArePassed (limit_of edition) (steps_of font glyph) m.counted counted
+of_machine : (edition : Edition) (m : MachineView) (font : FontValue) (glyph counted : ℕ) → Executes edition font glyph m
+    → ArePassed (limit_of m.edition) (steps_of m.font m.glyph) m.counted counted → ArePassed (limit_of edition) (steps_of font glyph) m.counted counted
 of_machine edition m font glyph counted same passed =
     subst (λ e. ArePassed (limit_of e) (steps_of font glyph) m.counted counted) same.edition_is
     (subst (λ f. ArePassed (limit_of m.edition) (steps_of f glyph) m.counted counted) same.font_is
     (subst (λ g. ArePassed (limit_of m.edition) (steps_of m.font g) m.counted counted) same.glyph_is passed))
 
-pub component_stays : (edition : Edition) (m : MachineView) (font : FontValue) (glyph counted : ℕ) → Executes edition font glyph m → m.counted ≤ counted → ArePassed (limit_of m.edition) (steps_of m.font m.glyph) m.counted counted
-    → component_in (take m.counted (take (limit_of edition) (steps_of font glyph))) ≡ component_in (take counted (take (limit_of edition) (steps_of font glyph)))
+pub component_stays : (edition : Edition) (m : MachineView) (font : FontValue) (glyph counted : ℕ) → Executes edition font glyph m → m.counted ≤ counted
+    → ArePassed (limit_of m.edition) (steps_of m.font m.glyph) m.counted counted
+    → component_in (take m.counted (take (limit_of edition) (steps_of font glyph))) ≡ component_in
+    (take counted (take (limit_of edition) (steps_of font glyph)))
 component_stays edition m font glyph counted same_run more passed =
     let limit : ℕ = limit_of edition in
     let d : ℕ = counted - m.counted in
@@ -96,7 +103,8 @@ pub record HasTold (edition : Edition) (font : FontValue) (glyph n counted : ℕ
   pub counted_is : counted ≡ before + 1
   pub known : component_in (take n (take (limit_of edition) (steps_of font glyph))) ≡ component_in (take before (take (limit_of edition) (steps_of font glyph)))
 
-pub has_told : (numbers : Numbers) (edition : Edition) (font : FontValue) (glyph : ℕ) (m new : MachineView) (step : Step) → Executes edition font glyph m → IsAsked numbers m new (stepped new.step) → step_value step ≡ new.step → HasTold edition font glyph m.counted new.counted step
+pub has_told : (numbers : Numbers) (edition : Edition) (font : FontValue) (glyph : ℕ) (m new : MachineView) (step : Step) → Executes edition font glyph m
+    → IsAsked numbers m new (stepped new.step) → step_value step ≡ new.step → HasTold edition font glyph m.counted new.counted step
 has_told numbers edition font glyph m new step same asked here =
     let at : MachineView = behind m asked.before in
     let executes : Executes edition font glyph at = executes_behind edition m font glyph asked.before same in
@@ -110,7 +118,8 @@ has_told numbers edition font glyph m new step same asked here =
     }
 
 -- With the step.
-pub known_with : (edition : Edition) (font : FontValue) (glyph n counted : ℕ) (step : Step) (old new : Component) → HasTold edition font glyph n counted step → old ≡ component_in (take n (take (limit_of edition) (steps_of font glyph))) → new ≡ with_step old (step_view step)
+pub known_with : (edition : Edition) (font : FontValue) (glyph n counted : ℕ) (step : Step) (old new : Component) → HasTold edition font glyph n counted step
+    → old ≡ component_in (take n (take (limit_of edition) (steps_of font glyph))) → new ≡ with_step old (step_view step)
     → new ≡ component_in (take counted (take (limit_of edition) (steps_of font glyph)))
 known_with edition font glyph n counted step old new told is more =
     let steps = take (limit_of edition) (steps_of font glyph) in
@@ -121,13 +130,17 @@ known_with edition font glyph n counted step old new told is more =
     ∙ ap (λ k. component_in (take k steps)) (sym told.counted_is)
 
 -- Behind the last step.
-pub known_over : (numbers : Numbers) (edition : Edition) (font : FontValue) (glyph : ℕ) (m new : MachineView) (answer : Answer) → Executes edition font glyph m → IsAsked numbers m new (answer_view answer new.step) → (answer ≡ answers.Step → ⊥)
+pub known_over : (numbers : Numbers) (edition : Edition) (font : FontValue) (glyph : ℕ) (m new : MachineView) (answer : Answer) → Executes edition font glyph m
+    → IsAsked numbers m new (answer_view answer new.step) → (answer ≡ answers.Step → ⊥)
     → component_in (take m.counted (take (limit_of edition) (steps_of font glyph))) ≡ component_in (take (limit_of edition) (steps_of font glyph))
 known_over numbers edition font glyph m new answer same asked other =
     let at : MachineView = behind m asked.before in
     component_stays edition m font glyph asked.before same asked.least asked.passed
-    ∙ ap component_in (answered_over (limit_of edition) (steps_of font glyph) asked.before answer new.step other (asked.turn ∙ same_turn edition at font glyph (executes_behind edition m font glyph asked.before same)))
+    ∙ ap component_in (answered_over (limit_of edition) (steps_of font glyph) asked.before answer new.step other
+    (asked.turn ∙ same_turn edition at font glyph (executes_behind edition m font glyph asked.before same)))
 
 -- How many calls are left behind the step.
-pub fewer_left_behind : (edition : Edition) (font : FontValue) (glyph n counted : ℕ) (step : Step) → HasTold edition font glyph n counted step → limit_of edition + 1 - counted < limit_of edition + 1 - n
-fewer_left_behind edition font glyph n counted step told = omega (arith, told.least, told.counted_is, told.told.within, length-take (limit_of edition) (steps_of font glyph))
+pub fewer_left_behind : (edition : Edition) (font : FontValue) (glyph n counted : ℕ) (step : Step) → HasTold edition font glyph n counted step
+    → limit_of edition + 1 - counted < limit_of edition + 1 - n
+fewer_left_behind edition font glyph n counted step told =
+    omega (arith, told.least, told.counted_is, told.told.within, length-take (limit_of edition) (steps_of font glyph))

@@ -31,4 +31,5 @@ product_fits d s a b t far same fa fb ft =
 pub product_is : (d s a b t : ℤ) → d ≡ a -ℤ b → s ≡ t → FitsSigned w64 a → FitsSigned w64 b → FitsSigned w64 t →
     to_z w128 (of_z w128 (to_z w128 (of_z w128 d) *ℤ to_z w128 (of_z w128 s))) ≡ (a -ℤ b) *ℤ t
 product_is d s a b t far same fa fb ft =
-    rw (far, same, to_z-of_z w128 (a -ℤ b) (difference_fits a b fa fb), to_z-of_z w128 t (wide t ft)) (to_z-of_z w128 ((a -ℤ b) *ℤ t) (exact_fits a b t fa fb ft))
+    rw (far, same, to_z-of_z w128 (a -ℤ b) (difference_fits a b fa fb), to_z-of_z w128 t (wide t ft))
+    (to_z-of_z w128 ((a -ℤ b) *ℤ t) (exact_fits a b t fa fb ft))

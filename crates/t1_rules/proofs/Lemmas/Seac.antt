@@ -23,7 +23,8 @@ one_more_outline old new before t st in_flex outlined = record {
 }
 
 -- What is no command leaves all as it was.
-pub outline_stays : (w : SeacWatcher) (before : List StepView) (t : StepView) → IsNoCommand t.token → SeacStandsFor w before → SeacStandsFor w (before ++ t ∷ [])
+pub outline_stays : (w : SeacWatcher) (before : List StepView) (t : StepView) → IsNoCommand t.token → SeacStandsFor w before
+    → SeacStandsFor w (before ++ t ∷ [])
 outline_stays w before t quiet st =
     one_more_outline w w before t st
     (rw (quiet.othersubr) (sym (and-true w.in_flex)))

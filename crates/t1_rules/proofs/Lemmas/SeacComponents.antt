@@ -30,19 +30,23 @@ use Rattle.t1_char.specs.Seacs.{is_seac}
 
 -- ---- rows
 
-k03_row : (limit : ℕ) (font : FontValue) (before : List StepView) (step : StepView) → breaks_by_component limit font K03 before step ≡ lacks_component (components_of limit font) step
+k03_row : (limit : ℕ) (font : FontValue) (before : List StepView) (step : StepView) → breaks_by_component limit font K03 before step ≡ lacks_component
+    (components_of limit font) step
 unfolding component_rules
 k03_row limit font before step = row_decides 64 (component_rules (components_of limit font)) 0 _ refl refl refl refl before step
 
-k04_row : (limit : ℕ) (font : FontValue) (before : List StepView) (step : StepView) → breaks_by_component limit font K04 before step ≡ nests (components_of limit font) step
+k04_row : (limit : ℕ) (font : FontValue) (before : List StepView) (step : StepView) → breaks_by_component limit font K04 before step
+    ≡ nests (components_of limit font) step
 unfolding component_rules
 k04_row limit font before step = row_decides 65 (component_rules (components_of limit font)) 1 _ refl refl refl refl before step
 
-k05_row : (limit : ℕ) (font : FontValue) (before : List StepView) (step : StepView) → breaks_by_component limit font K05 before step ≡ differs_in_sidebearing (components_of limit font) step
+k05_row : (limit : ℕ) (font : FontValue) (before : List StepView) (step : StepView) → breaks_by_component limit font K05 before step ≡ differs_in_sidebearing
+    (components_of limit font) step
 unfolding component_rules
 k05_row limit font before step = row_decides 66 (component_rules (components_of limit font)) 2 _ refl refl refl refl before step
 
-k07_row : (limit : ℕ) (font : FontValue) (before : List StepView) (step : StepView) → breaks_by_component limit font K07 before step ≡ lacks_sidebearing (components_of limit font) step
+k07_row : (limit : ℕ) (font : FontValue) (before : List StepView) (step : StepView) → breaks_by_component limit font K07 before step ≡ lacks_sidebearing
+    (components_of limit font) step
 unfolding component_rules
 k07_row limit font before step = row_decides 68 (component_rules (components_of limit font)) 3 _ refl refl refl refl before step
 
@@ -58,9 +62,11 @@ part limit font step place = component_of_code (components_of limit font) (code_
 data IsPart (limit : ℕ) (font : FontValue) (step : StepView) (place : ℕ) : Type 0 where
   nameless : is_named (code_at step place) ≡ false → part limit font step place ≡ missing → IsPart limit font step place
   lacking : (name : List ℕ) → Names step place name → glyph_named font name ≡ None → part limit font step place ≡ missing → IsPart limit font step place
-  present : (glyph : ℕ) → NamesGlyph font step place glyph → part limit font step place ≡ component_in (looked_at limit font glyph) → IsPart limit font step place
+  present : (glyph : ℕ) → NamesGlyph font step place glyph → part limit font step place ≡ component_in (looked_at limit font glyph)
+      → IsPart limit font step place
 
-at_code : (limit : ℕ) (font : FontValue) (code : ℕ) → code < 256 → component_of_code (components_of limit font) (Some code) ≡ component_named limit font (standard_name code)
+at_code : (limit : ℕ) (font : FontValue) (code : ℕ) → code < 256 → component_of_code (components_of limit font) (Some code) ≡ component_named
+    limit font (standard_name code)
 unfolding components_of
 at_code limit font code below = get_or-map-range_with_len (component_at limit font) 0 256 code code missing below (omega arith)
 
@@ -68,7 +74,8 @@ has_no_letters : (name : List ℕ) → 0 < length name → (length name == 0) �
 has_no_letters name letters = grind (arith, letters)
 
 -- By the name that stands there.
-by_name : (limit : ℕ) (font : FontValue) (step : StepView) (place : ℕ) (name : List ℕ) → Names step place name → part limit font step place ≡ component_of_glyph limit font (glyph_named font name)
+by_name : (limit : ℕ) (font : FontValue) (step : StepView) (place : ℕ) (name : List ℕ) → Names step place name → part limit font step place ≡ component_of_glyph
+    limit font (glyph_named font name)
 by_name limit font step place name names =
     ap (component_of_code (components_of limit font)) ((codes_are_whole_to_255 (argument step.stack place) names.code).1 names.is_code)
     ∙ at_code limit font names.code names.is_code.below
@@ -109,7 +116,8 @@ record Has (test : Component → Bool) (limit : ℕ) (font : FontValue) (step : 
   names : NamesGlyph font step place glyph
   such : test (component_in (looked_at limit font glyph)) ≡ true
 
-has : (test : Component → Bool) → test missing ≡ false → (limit : ℕ) (font : FontValue) (step : StepView) (place : ℕ) → test (part limit font step place) ≡ true → Has test limit font step place
+has : (test : Component → Bool) → test missing ≡ false → (limit : ℕ) (font : FontValue) (step : StepView) (place : ℕ) → test (part limit font step place) ≡ true
+    → Has test limit font step place
 has test none limit font step place e = go (part_of limit font step place)
   where
     not_missing : part limit font step place ≡ missing → ⊥
@@ -120,7 +128,8 @@ has test none limit font step place e = go (part_of limit font step place)
     go (lacking name names absent is) = absurd (not_missing is)
     go (present glyph names is) = record { glyph = glyph; names = names; such = sym (ap test is) ∙ e }
 
-had : (test : Component → Bool) (limit : ℕ) (font : FontValue) (step : StepView) (place glyph : ℕ) → NamesGlyph font step place glyph → test (component_in (looked_at limit font glyph)) ≡ true → test (part limit font step place) ≡ true
+had : (test : Component → Bool) (limit : ℕ) (font : FontValue) (step : StepView) (place glyph : ℕ) → NamesGlyph font step place glyph
+    → test (component_in (looked_at limit font glyph)) ≡ true → test (part limit font step place) ≡ true
 had test limit font step place glyph names such =
     ap test (by_name limit font step place names.name names.names ∙ ap (component_of_glyph limit font) names.found) ∙ such
 
@@ -144,7 +153,8 @@ told : (at : ℕ → Bool) (place : ℕ) → IsCodePlace place → at place ≡ 
 told at _ base e = rw e refl
 told at _ accent e = rw e (always (at 3))
 
-lacks_at : (limit : ℕ) (font : FontValue) (step : StepView) (place : ℕ) → IsCodePlace place → is_lacking (code_at step place) (part limit font step place) ≡ true → LacksComponent font step
+lacks_at : (limit : ℕ) (font : FontValue) (step : StepView) (place : ℕ) → IsCodePlace place → is_lacking (code_at step place) (part limit font step place)
+    ≡ true → LacksComponent font step
 lacks_at limit font step place is_place e = go (part_of limit font step place)
   where
     parts : (is_named (code_at step place) ≡ true) × (not (part limit font step place).there ≡ true)
@@ -155,7 +165,8 @@ lacks_at limit font step place is_place e = go (part_of limit font step place)
     go (lacking name names absent is) = record { place = place; is_place = is_place; name = name; names = names; missing = absent }
     go (present glyph names is) = let no : false ≡ true = sym (ap (λ (c : Component). not c.there) is) ∙ parts.1 in cc
 
-lacked_at : (limit : ℕ) (font : FontValue) (step : StepView) (place : ℕ) (name : List ℕ) → Names step place name → glyph_named font name ≡ None → is_lacking (code_at step place) (part limit font step place) ≡ true
+lacked_at : (limit : ℕ) (font : FontValue) (step : StepView) (place : ℕ) (name : List ℕ) → Names step place name → glyph_named font name ≡ None
+    → is_lacking (code_at step place) (part limit font step place) ≡ true
 lacked_at limit font step place name names absent =
     ap (λ b. b && not (part limit font step place).there) (is_a_name step place name names)
     ∙ ap (λ (c : Component). not c.there) (by_name limit font step place name names ∙ ap (component_of_glyph limit font) absent)
@@ -163,7 +174,8 @@ lacked_at limit font step place name names absent =
 pub missing_glyphs_are_told : MissingGlyphsAreTold
 missing_glyphs_are_told limit font before step is =
     let at = λ (place : ℕ). is_lacking (code_at step place) (part limit font step place) in
-    let broken : breaks_by_component limit font K03 before step ≡ (at 3 || at 4) = k03_row limit font before step ∙ ap (λ token. is_seac token && (at 3 || at 4)) is in (
+    let broken : breaks_by_component limit font K03 before step ≡ (at 3 || at 4) = k03_row limit font before step
+    ∙ ap (λ token. is_seac token && (at 3 || at 4)) is in (
       λ e. one_of (at 3) (at 4) (LacksComponent font step) (lacks_at limit font step 3 base) (lacks_at limit font step 4 accent) (sym broken ∙ e),
       λ r. broken ∙ told at r.place r.is_place (lacked_at limit font step r.place r.name r.names r.missing),
     )
@@ -196,7 +208,8 @@ seac_there (x ∷ xs) (suc at) s there is = rw (seac_there xs at s there is) (al
 abbrev has_seac : Component → Bool
 has_seac component = component.has_seac
 
-nests_at : (limit : ℕ) (font : FontValue) (step : StepView) (place : ℕ) → IsCodePlace place → has_seac (part limit font step place) ≡ true → Nests limit font step
+nests_at : (limit : ℕ) (font : FontValue) (step : StepView) (place : ℕ) → IsCodePlace place → has_seac (part limit font step place) ≡ true
+    → Nests limit font step
 nests_at limit font step place is_place e =
     let found = has has_seac refl limit font step place e in
     let at = seac_at (looked_at limit font found.glyph) found.such in
@@ -205,9 +218,11 @@ nests_at limit font step place is_place e =
 pub nested_seacs_are_told : NestedSeacsAreTold
 nested_seacs_are_told limit font before step is =
     let at = λ (place : ℕ). has_seac (part limit font step place) in
-    let broken : breaks_by_component limit font K04 before step ≡ (at 3 || at 4) = k04_row limit font before step ∙ ap (λ token. is_seac token && (at 3 || at 4)) is in (
+    let broken : breaks_by_component limit font K04 before step ≡ (at 3 || at 4) = k04_row limit font before step
+    ∙ ap (λ token. is_seac token && (at 3 || at 4)) is in (
       λ e. one_of (at 3) (at 4) (Nests limit font step) (nests_at limit font step 3 base) (nests_at limit font step 4 accent) (sym broken ∙ e),
-      λ r. broken ∙ told at r.place r.is_place (had has_seac limit font step r.place r.glyph r.names (seac_there (looked_at limit font r.glyph) r.at r.seac r.there r.is_seac)),
+      λ r. broken ∙ told at r.place r.is_place
+          (had has_seac limit font step r.place r.glyph r.names (seac_there (looked_at limit font r.glyph) r.at r.seac r.there r.is_seac)),
     )
 
 -- ---- K07
@@ -216,7 +231,8 @@ no_width : (steps : List StepView) → is_none (first_sidebearing steps) ≡ tru
 no_width [] e = refl
 no_width (s ∷ ss) e = go (sets_width s.token) e (no_width ss)
   where
-    go : (b : Bool) → is_none (if b then Some (argument s.stack 0) else first_sidebearing ss) ≡ true → (is_none (first_sidebearing ss) ≡ true → list_any is_width ss ≡ false) → (b || list_any is_width ss) ≡ false
+    go : (b : Bool) → is_none (if b then Some (argument s.stack 0) else first_sidebearing ss) ≡ true
+        → (is_none (first_sidebearing ss) ≡ true → list_any is_width ss ≡ false) → (b || list_any is_width ss) ≡ false
     go true e rest = let no : false ≡ true = e in cc
     go false e rest = rest e
 
@@ -224,11 +240,13 @@ width_none : (steps : List StepView) → list_any is_width steps ≡ false → i
 width_none [] e = refl
 width_none (s ∷ ss) e = go (sets_width s.token) e (width_none ss)
   where
-    go : (b : Bool) → (b || list_any is_width ss) ≡ false → (list_any is_width ss ≡ false → is_none (first_sidebearing ss) ≡ true) → is_none (if b then Some (argument s.stack 0) else first_sidebearing ss) ≡ true
+    go : (b : Bool) → (b || list_any is_width ss) ≡ false → (list_any is_width ss ≡ false → is_none (first_sidebearing ss) ≡ true)
+        → is_none (if b then Some (argument s.stack 0) else first_sidebearing ss) ≡ true
     go true e rest = let no : true ≡ false = e in cc
     go false e rest = rest e
 
-lacks_width_at : (limit : ℕ) (font : FontValue) (step : StepView) (place : ℕ) → IsCodePlace place → is_without_sidebearing (part limit font step place) ≡ true → LacksSidebearing limit font step
+lacks_width_at : (limit : ℕ) (font : FontValue) (step : StepView) (place : ℕ) → IsCodePlace place → is_without_sidebearing (part limit font step place) ≡ true
+    → LacksSidebearing limit font step
 lacks_width_at limit font step place is_place e =
     let found = has is_without_sidebearing refl limit font step place e in
     record { place = place; is_place = is_place; glyph = found.glyph; names = found.names; none = no_width (looked_at limit font found.glyph) found.such }
@@ -236,9 +254,12 @@ lacks_width_at limit font step place is_place e =
 pub missing_sidebearings_are_told : MissingSidebearingsAreTold
 missing_sidebearings_are_told limit font before step is =
     let at = λ (place : ℕ). is_without_sidebearing (part limit font step place) in
-    let broken : breaks_by_component limit font K07 before step ≡ (at 3 || at 4) = k07_row limit font before step ∙ ap (λ token. is_seac token && (at 3 || at 4)) is in (
-      λ e. one_of (at 3) (at 4) (LacksSidebearing limit font step) (lacks_width_at limit font step 3 base) (lacks_width_at limit font step 4 accent) (sym broken ∙ e),
-      λ r. broken ∙ told at r.place r.is_place (had is_without_sidebearing limit font step r.place r.glyph r.names (width_none (looked_at limit font r.glyph) r.none)),
+    let broken : breaks_by_component limit font K07 before step ≡ (at 3 || at 4) = k07_row limit font before step
+    ∙ ap (λ token. is_seac token && (at 3 || at 4)) is in (
+      λ e. one_of (at 3) (at 4) (LacksSidebearing limit font step) (lacks_width_at limit font step 3 base) (lacks_width_at limit font step 4 accent) (sym broken
+          ∙ e),
+      λ r. broken ∙ told at r.place r.is_place
+          (had is_without_sidebearing limit font step r.place r.glyph r.names (width_none (looked_at limit font r.glyph) r.none)),
     )
 
 -- ---- K05
@@ -256,17 +277,30 @@ first_width : (steps : List StepView) (z : ℤ) → first_sidebearing steps ≡ 
 first_width [] z e = let no : None ≡ Some z = e in cc
 first_width (s ∷ ss) z e = go (sets_width s.token) refl e (first_width ss z)
   where
-    go : (b : Bool) → sets_width s.token ≡ b → (if b then Some (argument s.stack 0) else first_sidebearing ss) ≡ Some z → (first_sidebearing ss ≡ Some z → FirstWidth ss z) → FirstWidth (s ∷ ss) z
-    go true sets e rest = let same : argument s.stack 0 ≡ z = cc in record { front = []; width = s; rest = ss; is = refl; first = refl; sets = sets; has = same }
+    go : (b : Bool) → sets_width s.token ≡ b → (if b then Some (argument s.stack 0) else first_sidebearing ss) ≡ Some z
+        → (first_sidebearing ss ≡ Some z → FirstWidth ss z) → FirstWidth (s ∷ ss) z
+    go true sets e rest = let same : argument s.stack 0 ≡ z = cc in record
+        { front = []; width = s; rest = ss; is = refl; first = refl; sets = sets; has = same }
     go false sets e rest =
         let later = rest e in
-        record { front = s ∷ later.front; width = later.width; rest = later.rest; is = ap (λ (more : List StepView). s ∷ more) later.is; first = rw (sets, later.first) refl; sets = later.sets; has = later.has }
+        record {
+          front = s ∷ later.front;
+          width = later.width;
+          rest = later.rest;
+          is = ap (λ (more : List StepView). s ∷ more) later.is;
+          first =
+              rw (sets, later.first) refl;
+          sets = later.sets;
+          has = later.has;
+        }
 
-width_first : (front rest : List StepView) (width : StepView) → list_any is_width front ≡ false → sets_width width.token ≡ true → first_sidebearing (front ++ width ∷ rest) ≡ Some (argument width.stack 0)
+width_first : (front rest : List StepView) (width : StepView) → list_any is_width front ≡ false → sets_width width.token ≡ true
+    → first_sidebearing (front ++ width ∷ rest) ≡ Some (argument width.stack 0)
 width_first [] rest width none sets = rw sets refl
 width_first (s ∷ ss) rest width none sets = go (sets_width s.token) none (width_first ss rest width)
   where
-    go : (b : Bool) → (b || list_any is_width ss) ≡ false → (list_any is_width ss ≡ false → sets_width width.token ≡ true → first_sidebearing (ss ++ width ∷ rest) ≡ Some (argument width.stack 0))
+    go : (b : Bool) → (b || list_any is_width ss) ≡ false
+        → (list_any is_width ss ≡ false → sets_width width.token ≡ true → first_sidebearing (ss ++ width ∷ rest) ≡ Some (argument width.stack 0))
         → (if b then Some (argument s.stack 0) else first_sidebearing (ss ++ width ∷ rest)) ≡ Some (argument width.stack 0)
     go true none later = let no : true ≡ false = none in cc
     go false none later = later none sets
@@ -284,13 +318,15 @@ is_other sidebearing z apart = go (int_eq sidebearing z) refl
     go true e = absurd (apart (same e))
     go false e = refl
 
-differs : (limit : ℕ) (font : FontValue) (step : StepView) → is_another (part limit font step 4).sidebearing (argument step.stack 0) ≡ true → DiffersInSidebearing limit font step
+differs : (limit : ℕ) (font : FontValue) (step : StepView) → is_another (part limit font step 4).sidebearing (argument step.stack 0) ≡ true
+    → DiffersInSidebearing limit font step
 differs limit font step e = go (first_sidebearing (looked_at limit font found.glyph)) refl found.such
   where
     found : Has (λ c. is_another c.sidebearing (argument step.stack 0)) limit font step 4
     found = has (λ c. is_another c.sidebearing (argument step.stack 0)) refl limit font step 4 e
 
-    go : (sidebearing : Option ℤ) → first_sidebearing (looked_at limit font found.glyph) ≡ sidebearing → is_another sidebearing (argument step.stack 0) ≡ true → DiffersInSidebearing limit font step
+    go : (sidebearing : Option ℤ) → first_sidebearing (looked_at limit font found.glyph) ≡ sidebearing → is_another sidebearing (argument step.stack 0) ≡ true
+        → DiffersInSidebearing limit font step
     go None is e = let no : false ≡ true = e in cc
     go (Some z) is e =
         let first = first_width (looked_at limit font found.glyph) z is in
@@ -312,7 +348,8 @@ other_sidebearings_are_told limit font before step is =
     k05_row limit font before step ∙ ap (λ token. is_seac token && is_another (part limit font step 4).sidebearing (argument step.stack 0)) is in (
       λ e. differs limit font step (sym broken ∙ e),
       λ r. broken ∙ had (λ c. is_another c.sidebearing (argument step.stack 0)) limit font step 4 r.glyph r.names
-          (ap (λ sidebearing. is_another sidebearing (argument step.stack 0)) (ap first_sidebearing r.steps ∙ width_first r.front r.rest r.width r.first r.sets) ∙ is_other (argument r.width.stack 0) (argument step.stack 0) r.differs),
+          (ap (λ sidebearing. is_another sidebearing (argument step.stack 0)) (ap first_sidebearing r.steps ∙ width_first r.front r.rest r.width r.first r.sets)
+          ∙ is_other (argument r.width.stack 0) (argument step.stack 0) r.differs),
     )
 
 -- ---- K01 and K02
@@ -349,14 +386,22 @@ unnamed_at step place is_place e = go (code_at step place) refl e
     go : (found : Option ℕ) → code_at step place ≡ found → is_unnamed found ≡ true → HasUnnamedCode step
     go None is e = let no : false ≡ true = e in cc
     go (Some code) is e =
-        record { place = place; is_place = is_place; code = code; is_code = (codes_are_whole_to_255 (argument step.stack place) code).0 is; unnamed = no_letters (standard_name code) e }
+        record {
+          place = place;
+          is_place = is_place;
+          code = code;
+          is_code = (codes_are_whole_to_255 (argument step.stack place) code).0 is;
+          unnamed =
+              no_letters (standard_name code) e;
+        }
 
 pub unnamed_codes_are_told : UnnamedCodesAreTold
 unnamed_codes_are_told edition before step is =
     let at = λ (place : ℕ). is_unnamed (code_at step place) in
     let broken : violates edition K02 before step ≡ (at 3 || at 4) = k02_row edition before step ∙ ap (λ token. is_seac token && (at 3 || at 4)) is in (
       λ e. one_of (at 3) (at 4) (HasUnnamedCode step) (unnamed_at step 3 base) (unnamed_at step 4 accent) (sym broken ∙ e),
-      λ r. broken ∙ told at r.place r.is_place (ap is_unnamed ((codes_are_whole_to_255 (argument step.stack r.place) r.code).1 r.is_code) ∙ ap (λ (name : List ℕ). length name == 0) r.unnamed),
+      λ r. broken ∙ told at r.place r.is_place (ap is_unnamed ((codes_are_whole_to_255 (argument step.stack r.place) r.code).1 r.is_code)
+          ∙ ap (λ (name : List ℕ). length name == 0) r.unnamed),
     )
 
 pub seac_alone_has_codes : SeacAloneHasCodes

@@ -33,7 +33,8 @@ no_upright _ one three = refl
 
 pub others_leave_hint_sets : OthersLeaveHintSets
 others_leave_hint_sets _ _ _ before step across one three stays = hint_set_goes_on lies_across before step ∙ rw (stays, no_across step.token one three) refl
-others_leave_hint_sets _ _ _ before step upright one three stays = hint_set_goes_on stands_upright before step ∙ rw (stays, no_upright step.token one three) refl
+others_leave_hint_sets _ _ _ before step upright one three stays = hint_set_goes_on stands_upright before step
+    ∙ rw (stays, no_upright step.token one three) refl
 
 -- ---- three stems
 
@@ -63,7 +64,11 @@ even one two three e =
 
 equal : (one two three : Stem) → AreEven one two three → are_unequal one two three ≡ false
 equal one two three e =
-    rw (int_same one.width three.width e.widths, int_same (pos 2 *ℤ twice_middle two) (twice_middle one +ℤ twice_middle three) (middles_of one.position two.position three.position one.width two.width three.width e.widths e.gaps)) refl
+    rw (
+      int_same one.width three.width e.widths,
+      int_same (pos 2 *ℤ twice_middle two) (twice_middle one +ℤ twice_middle three)
+          (middles_of one.position two.position three.position one.width two.width three.width e.widths e.gaps),
+    ) refl
 
 uneven : (direction : Commands → Bool) (one three : Commands) → AreOf direction one three → is_triple three ≡ true
 uneven _ _ _ across = refl

@@ -17,7 +17,8 @@ use Rattle.t1_rules.proofs.Lemmas.Before.{take_more, was_last, was_before}
 use Rattle.t1_font.specs.Fonts.{after_last}
 
 -- The hint set of a direction.
-pub hint_set_goes_on : (direction : Commands → Bool) (before : List StepView) (t : StepView) → hint_set direction (before ++ t ∷ []) ≡ kept_after direction (hint_set direction before) t
+pub hint_set_goes_on : (direction : Commands → Bool) (before : List StepView) (t : StepView) → hint_set direction (before ++ t ∷ []) ≡ kept_after
+    direction (hint_set direction before) t
 hint_set_goes_on direction before t =
     ap (λ steps. take 96 (flat_map (stems_in direction) steps)) (after_last_goes_on is_hint_replacement before t)
     ∙ go (is_hint_replacement t)
@@ -25,11 +26,14 @@ hint_set_goes_on direction before t =
     kept : List StepView
     kept = after_last is_hint_replacement before
 
-    more : (b : Bool) → take 96 (flat_map (stems_in direction) kept ++ ((if b then stems_of t else []) ++ [])) ≡ (if b then take 96 (take 96 (flat_map (stems_in direction) kept) ++ stems_of t) else take 96 (flat_map (stems_in direction) kept))
+    more : (b : Bool) → take 96 (flat_map (stems_in direction) kept ++ ((if b then stems_of t else []) ++ []))
+        ≡ (if b then take 96 (take 96 (flat_map (stems_in direction) kept) ++ stems_of t) else take 96 (flat_map (stems_in direction) kept))
     more true = rw (append-nil (stems_of t)) (sym (take_more 96 (flat_map (stems_in direction) kept) (stems_of t)))
     more false = ap (λ stems. take 96 stems) (append-nil (flat_map (stems_in direction) kept))
 
-    go : (b : Bool) → take 96 (flat_map (stems_in direction) (if b then [] else kept ++ t ∷ [])) ≡ (if b then [] else (if is_command direction t.token then take 96 (take 96 (flat_map (stems_in direction) kept) ++ stems_of t) else take 96 (flat_map (stems_in direction) kept)))
+    go : (b : Bool) → take 96 (flat_map (stems_in direction) (if b then [] else kept ++ t ∷ []))
+        ≡ (if b then [] else (if is_command direction t.token then take 96 (take 96 (flat_map (stems_in direction) kept) ++ stems_of t) else take 96
+        (flat_map (stems_in direction) kept)))
     go true = refl
     go false = ap (λ stems. take 96 stems) (flat_map-append (stems_in direction) kept (t ∷ [])) ∙ more (is_command direction t.token)
 
@@ -60,7 +64,8 @@ one_more_stem edition old new before t st same across upright in_flex drawn repl
     turned false false = refl
 
 -- A quiet step leaves the hint sets and what was drawn as they are.
-pub stays_for_stems : (edition : Edition) (old new : StemWatcher) (before : List StepView) (t : StepView) → IsQuietForStems t.token → StemsStandFor edition old before
+pub stays_for_stems : (edition : Edition) (old new : StemWatcher) (before : List StepView) (t : StepView) → IsQuietForStems t.token
+    → StemsStandFor edition old before
     → new.edition ≡ old.edition → new.across ≡ old.across → new.upright ≡ old.upright → new.in_flex ≡ old.in_flex → new.drawn ≡ old.drawn
     → new.replaced ≡ is_hint_replacement t → new.popped ≡ (is_pop t.token && old.replaced)
     → StemsStandFor edition new (before ++ t ∷ [])

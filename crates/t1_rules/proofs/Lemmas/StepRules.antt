@@ -31,7 +31,8 @@ abbrev numbers_between : ℕ → ℕ → List StepRule → Bool
 numbers_between least greatest rules =
     list_all (λ r. nat_le least (number_of r.rule) && nat_le (number_of r.rule) greatest) rules
 
-number_between : (least greatest : ℕ) (rules : List StepRule) → numbers_between least greatest rules ≡ true → (n : ℕ) (before : List StepView) (step : StepView) → breaks rules n before step ≡ true → (least ≤ n) × (n ≤ greatest)
+number_between : (least greatest : ℕ) (rules : List StepRule) → numbers_between least greatest rules ≡ true → (n : ℕ) (before : List StepView) (step : StepView)
+    → breaks rules n before step ≡ true → (least ≤ n) × (n ≤ greatest)
 number_between least greatest [] within n before step broken = let no : false ≡ true = broken in cc
 number_between least greatest (r ∷ rs) within n before step broken =
     let parts = both (nat_le least (number_of r.rule) && nat_le (number_of r.rule) greatest) (numbers_between least greatest rs) within in
@@ -44,7 +45,8 @@ number_between least greatest (r ∷ rs) within n before step broken =
     go true false e some here rest = rest some
     go true true e some here rest =
         let same : number_of r.rule ≡ n = eqb-true (number_of r.rule) n e in
-        let found : (least ≤ number_of r.rule) × (number_of r.rule ≤ greatest) = (leb-true least (number_of r.rule) here.0, leb-true (number_of r.rule) greatest here.1) in
+        let found : (least ≤ number_of r.rule) × (number_of r.rule ≤ greatest) =
+        (leb-true least (number_of r.rule) here.0, leb-true (number_of r.rule) greatest here.1) in
         rw same at found
 
 table_between : (edition : Edition) → numbers_between 26 67 (step_rules edition) ≡ true
@@ -58,7 +60,8 @@ broken_have_these_numbers edition = number_between 26 67 (step_rules edition) (t
 abbrev pub without_number : ℕ → List StepRule → Bool
 without_number n rules = list_all (λ r. not (number_of r.rule == n)) rules
 
-pub none_broken : (n : ℕ) (rules : List StepRule) → without_number n rules ≡ true → (before : List StepView) (step : StepView) → breaks rules n before step ≡ false
+pub none_broken : (n : ℕ) (rules : List StepRule) → without_number n rules ≡ true → (before : List StepView) (step : StepView)
+    → breaks rules n before step ≡ false
 none_broken n [] other before step = refl
 none_broken n (r ∷ rs) other before step =
     let parts = both (not (number_of r.rule == n)) (without_number n rs) other in
@@ -84,7 +87,8 @@ row_decides n (q ∷ qs) (suc place) r there own front rest before step =
     let parts = both (not (number_of q.rule == n)) (without_number n (take place qs)) front in
     go (number_of q.rule == n) parts.0 (row_decides n qs place r there own parts.1 rest before step)
   where
-    go : (b : Bool) → not b ≡ true → breaks qs n before step ≡ r.is_broken before step → (q.is_broken before step && b || breaks qs n before step) ≡ r.is_broken before step
+    go : (b : Bool) → not b ≡ true → breaks qs n before step ≡ r.is_broken before step
+        → (q.is_broken before step && b || breaks qs n before step) ≡ r.is_broken before step
     go true e later = let no : false ≡ true = e in cc
     go false e later = rw (and-false (q.is_broken before step)) later
 
@@ -143,7 +147,8 @@ begun : (front steps : List StepView) → any_from clearing_step front steps ≡
 begun front [] = refl
 begun front (s ∷ ss) = ap (λ b. clears s.token || b) (begun (front ++ s ∷ []) ss)
 
-seen : (f : StepView → Bool) (steps : List StepView) (one other : ℕ) (s : StepView) → slice_get steps one ≡ Some s → one < other → f s ≡ true → list_any f (take other steps) ≡ true
+seen : (f : StepView → Bool) (steps : List StepView) (one other : ℕ) (s : StepView) → slice_get steps one ≡ Some s → one < other → f s ≡ true
+    → list_any f (take other steps) ≡ true
 seen f [] one other s there less such = let no : None ≡ Some s = there in cc
 seen f (x ∷ xs) one zero s there less such = absurd (omega arith)
 seen f (x ∷ xs) zero (suc other) s there less such = let same : x ≡ s = cc in rw (same, such) refl
@@ -177,7 +182,8 @@ starts edition steps place broken = go (slice_get steps place) refl broken
 
 not_later : (steps : List StepView) (one other : ℕ) → Starts steps one → Starts steps other → one < other → ⊥
 not_later steps one other a b less =
-    let came : any_so_far clearing_step (take other steps) ≡ true = begun [] (take other steps) ∙ seen (λ s. clears s.token) steps one other a.step a.there less a.clears in
+    let came : any_so_far clearing_step (take other steps) ≡ true = begun [] (take other steps) ∙ seen (λ s. clears s.token) steps one other
+    a.step a.there less a.clears in
     let no : false ≡ true = sym b.first ∙ came in
     cc
 

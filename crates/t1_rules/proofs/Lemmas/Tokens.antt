@@ -21,7 +21,17 @@ pub no_command : (token : CharToken) → is_command (λ command. true) token ≡
 no_command (Command command) e = let no : true ≡ false = e in cc
 no_command (Number n) e = record { othersubr = refl; pops = refl; moves = refl; draws = refl; stem = refl; closes = refl; sets = refl; stays = λ stack. refl }
 no_command (Unknown n) e = record { othersubr = refl; pops = refl; moves = refl; draws = refl; stem = refl; closes = refl; sets = refl; stays = λ stack. refl }
-no_command (Unknown12 n) e = record { othersubr = refl; pops = refl; moves = refl; draws = refl; stem = refl; closes = refl; sets = refl; stays = λ stack. refl }
+no_command (Unknown12 n) e = record {
+  othersubr = refl;
+  pops = refl;
+  moves = refl;
+  draws = refl;
+  stem = refl;
+  closes =
+      refl;
+  sets = refl;
+  stays = λ stack. refl;
+}
 no_command Cut e = record { othersubr = refl; pops = refl; moves = refl; draws = refl; stem = refl; closes = refl; sets = refl; stays = λ stack. refl }
 no_command Short e = record { othersubr = refl; pops = refl; moves = refl; draws = refl; stem = refl; closes = refl; sets = refl; stays = λ stack. refl }
 no_command End e = record { othersubr = refl; pops = refl; moves = refl; draws = refl; stem = refl; closes = refl; sets = refl; stays = λ stack. refl }

@@ -25,7 +25,17 @@ pub stays_at_number : (edition : Edition) (w : Watches) (before : List StepView)
     → WatchesStandFor edition w before → WatchesStandFor edition w (before ++ t ∷ [])
 unfolding WatchesStandFor
 stays_at_number edition w before t z is calm st = (
-  stays w.paths before t (rw is (record { clears = refl; sets_width = refl; moves = refl; draws = refl; closes = refl; finishes = refl; ends = refl; othersubr = refl })) st.0,
+  stays w.paths before t (rw is (record {
+    clears = refl;
+    sets_width = refl;
+    moves = refl;
+    draws = refl;
+    closes = refl;
+    finishes = refl;
+    ends =
+        refl;
+    othersubr = refl;
+  })) st.0,
   (
     stays_for_stems edition w.stems w.stems before t (rw is (record { stem = refl; line = refl; othersubr = refl })) st.1.0
         refl refl refl refl refl (rw is calm.replaced) (rw is calm.hints_popped),

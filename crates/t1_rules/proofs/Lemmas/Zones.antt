@@ -14,7 +14,8 @@ use Rattle.std.proofs.Math.Seq.{take-length}
 pub near_both_ways : (d : ℤ) (z w : Zone) → come_near d z w ≡ come_near d w z
 near_both_ways d z w = and_comm (int_lt (w.lower -ℤ z.upper) d) (int_lt (z.lower -ℤ w.upper) d)
 
-pub zone_there : (v : List ℤ) (j : ℕ) → 2 * j + 1 < length v → slice_get (zones v) j ≡ Some (record { lower = number_at v (2 * j); upper = number_at v (2 * j + 1) })
+pub zone_there : (v : List ℤ) (j : ℕ) → 2 * j + 1 < length v
+    → slice_get (zones v) j ≡ Some (record { lower = number_at v (2 * j); upper = number_at v (2 * j + 1) })
 zone_there [] j less = absurd (omega arith)
 zone_there (a ∷ []) j less = absurd (omega arith)
 zone_there (a ∷ (b ∷ v)) zero less = refl
@@ -88,7 +89,8 @@ falls_nowhere v rising zero = refl
 falls_nowhere v rising (suc j) = elim (cases_lt (suc j) (length v)) [
   | inl less ↦
       let one_less : suc j - 1 ≡ j = omega arith in
-      rw (one_less, above (number_at v (suc j)) (number_at v j) (rising j (suc j) (pos 0) (omega arith) less)) (and-false (nat_lt 0 (suc j) && nat_lt (suc j) (length v)))
+      rw (one_less, above (number_at v (suc j)) (number_at v j) (rising j (suc j) (pos 0) (omega arith) less))
+      (and-false (nat_lt 0 (suc j) && nat_lt (suc j) (length v)))
   | inr past ↦ rw (le-ltb (suc j) (length v) past, and-false (nat_lt 0 (suc j))) refl
 ]
 
@@ -110,7 +112,8 @@ there v j z is = elim (cases_lt (2 * j + 1) (length v)) [
 
 -- The zone is the two numbers.
 edges : (v : List ℤ) (j : ℕ) (z : Zone) → ZoneAt v j z → z ≡ record { lower = number_at v (2 * j); upper = number_at v (2 * j + 1) }
-edges v j z is = let same : Some z ≡ Some (record { lower = number_at v (2 * j); upper = number_at v (2 * j + 1) }) = sym is ∙ zone_there v j (there v j z is) in cc
+edges v j z is =
+    let same : Some z ≡ Some (record { lower = number_at v (2 * j); upper = number_at v (2 * j + 1) }) = sym is ∙ zone_there v j (there v j z is) in cc
 
 even : (j : ℕ) → (2 * j) % 2 ≡ 0
 even j = grind arith

@@ -9,5 +9,6 @@ loop-turn-preserved c = record {
       ∙ (omega (arith, c.loop-turn.invariant.count));
   reads =
       rw c.push-in-loop-turn.ensures.items
-      (turn_more c.loop-turn.path.items c.loop-turn.turn c.in_ok-small_number-2.field-0 c.loop-turn.rest.now c.in-Some.front.now c.in-Some.more.now _ c.loop-turn-test.true (sym c.in-Some.ensures) (sym c.in_ok-small_number-2.ensures) c.loop-turn.invariant.reads);
+      (turn_more c.loop-turn.path.items c.loop-turn.turn c.in_ok-small_number-2.field-0 c.loop-turn.rest.now c.in-Some.front.now c.in-Some.more.now _
+      c.loop-turn-test.true (sym c.in-Some.ensures) (sym c.in_ok-small_number-2.ensures) c.loop-turn.invariant.reads);
 }

@@ -10,7 +10,8 @@ returns-in_err-put_parts g c =
 pub returns-in_err-write_place : goal.returns-in_err-write_place
 returns-in_err-write_place g c =
     Writes-failed _ _ _ _ _ c.from_residual-in_err-write_place.ensures.1
-    (PutFailed-second _ _ _ _ _ (rw (c.digits.ensures ∙ c.new-number.ensures) at c.in_ok-put_parts.ensures) (PutFailed-first _ _ _ _ c.in_err-write_place.ensures))
+    (PutFailed-second _ _ _ _ _ (rw (c.digits.ensures ∙ c.new-number.ensures) at c.in_ok-put_parts.ensures)
+    (PutFailed-first _ _ _ _ c.in_err-write_place.ensures))
 
 pub returns : goal.returns
 returns g c =

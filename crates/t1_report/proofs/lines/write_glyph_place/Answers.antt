@@ -10,7 +10,8 @@ returns-in_err-put_parts g c =
 pub returns-in_err-write_path : goal.returns-in_err-write_path
 returns-in_err-write_path g c =
     Writes-failed _ _ _ _ _ c.from_residual-in_err-write_path.ensures.1
-    (PutFailed-second _ _ _ _ _ (rw c.glyph_name.ensures at c.in_ok-put_parts.ensures) (PutFailed-first _ _ _ _ (rw c.as_slice.ensures.value at c.in_err-write_path.ensures)))
+    (PutFailed-second _ _ _ _ _ (rw c.glyph_name.ensures at c.in_ok-put_parts.ensures)
+    (PutFailed-first _ _ _ _ (rw c.as_slice.ensures.value at c.in_err-write_path.ensures)))
 
 pub returns : goal.returns
 returns g c =

@@ -6,7 +6,8 @@ use Rattle.t1_report.proofs.lines.write_path.Goals as goal
 pub returns-in_err-put_all : goal.returns-in_err-put_all
 returns-in_err-put_all g c =
     rw c.in-Some.ensures.cases.0
-    (Writes-failed _ _ _ _ _ c.from_residual.ensures.1 (PutFailed-first _ _ _ _ (rw (c.digits.ensures ∙ c.new-number.ensures ∙ ap decimal c.from.ensures) at c.in_err-put_all.ensures)))
+    (Writes-failed _ _ _ _ _ c.from_residual.ensures.1
+    (PutFailed-first _ _ _ _ (rw (c.digits.ensures ∙ c.new-number.ensures ∙ ap decimal c.from.ensures) at c.in_err-put_all.ensures)))
 
 pub returns : goal.returns
 returns g c =

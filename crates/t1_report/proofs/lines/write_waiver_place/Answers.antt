@@ -14,8 +14,10 @@ returns-in_err-put_all g c =
 pub returns-in_err-put_all-2 : goal.returns-in_err-put_all-2
 returns-in_err-put_all-2 g c =
     let is : Some (waiver_view (c.in-Some.name, c.in-Some.rule)) ≡ slice_get c.args.waivers.now (c.args.step - 1) = search rules in
-    subst (λ text. Writes (g.W.Sink.state c.args.sink.now) (g.W.Sink.state c.put_all-2.new.sink) text c.from_residual-in_err-put_all-2.result) (ap waiver_text is)
-    (Writes-failed _ _ _ _ _ c.from_residual-in_err-put_all-2.ensures.1 (PutFailed-second _ _ _ _ _ c.in_ok-put_all.ensures (PutFailed-first _ _ _ _ c.in_err-put_all-2.ensures)))
+    subst (λ text. Writes (g.W.Sink.state c.args.sink.now) (g.W.Sink.state c.put_all-2.new.sink) text
+    c.from_residual-in_err-put_all-2.result) (ap waiver_text is)
+    (Writes-failed _ _ _ _ _ c.from_residual-in_err-put_all-2.ensures.1
+    (PutFailed-second _ _ _ _ _ c.in_ok-put_all.ensures (PutFailed-first _ _ _ _ c.in_err-put_all-2.ensures)))
 
 pub returns : goal.returns
 returns g c =

@@ -12,8 +12,10 @@ loop-rule-preserved c = record {
   front = λ font waivers broken front.
       rw (c.number-floor.ensures.number, c.in_ok-push.ensures.items)
       (subst (IsFront font waivers c.args.place.unit c.args.place.step (number_of c.in-Some.rule + 1))
-      (sym (pushed c.loop-rule.faults.items _ (path_in font.value c.args.place.unit c.args.place.step) (ap (λ (n : ℕ). n + 1) (c.len.ensures ∙ c.loop-rule.faults.ok.0)) (c.copy_of.ensures ∙ broken.path)))
-      (fault_more (is_told font waivers) (path_at font) c.args.place.unit c.args.place.step c.loop-rule.floor c.args.told c.in-Some.rule (faults_of c.loop-rule.faults.items)
+      (sym (pushed c.loop-rule.faults.items _ (path_in font.value c.args.place.unit c.args.place.step)
+      (ap (λ (n : ℕ). n + 1) (c.len.ensures ∙ c.loop-rule.faults.ok.0)) (c.copy_of.ensures ∙ broken.path)))
+      (fault_more (is_told font waivers) (path_at font) c.args.place.unit c.args.place.step c.loop-rule.floor c.args.told c.in-Some.rule
+      (faults_of c.loop-rule.faults.items)
       (c.loop-rule.invariant.front font waivers broken front) c.in-Some.ensures broken.rules));
   floor = c.number-floor.ensures.last;
 }

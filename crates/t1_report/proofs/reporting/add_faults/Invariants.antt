@@ -8,7 +8,8 @@ use Rattle.t1_report.specs.Waivers.{Waiver}
 
 abbrev pub invariant-loop-rule : goal.invariant-loop-rule
 invariant-loop-rule l = record {
-  front : (font : CheckedFont) (waivers : List Waiver) → HasTold font waivers l.place l.told → IsFront font waivers l.place.unit l.place.step 0 (faults_of l.fn.faults.items) → IsFront font waivers l.place.unit l.place.step (l.floor + 1) (faults_of l.faults.items);
+  front : (font : CheckedFont) (waivers : List Waiver) → HasTold font waivers l.place l.told → IsFront font waivers l.place.unit l.place.step 0
+      (faults_of l.fn.faults.items) → IsFront font waivers l.place.unit l.place.step (l.floor + 1) (faults_of l.faults.items);
   floor : l.floor ≤ 70;
 }
 

@@ -12,7 +12,8 @@ pub returns : goal.returns
 returns c =
     let font = checked c.args.font.now c.args.sidebearings.now.edition in
     let waivers = c.args.waivers.now in
-    let unit : c.len.result + 1 ≡ length font.value.glyphs + 1 = omega (arith, c.len.ensures.len, length-map c.glyphs.result.now.entries name_pair, ap length c.glyphs.ensures.entries) in
+    let unit : c.len.result + 1 ≡ length font.value.glyphs + 1 =
+    omega (arith, c.len.ensures.len, length-map c.glyphs.result.now.entries name_pair, ap length c.glyphs.ensures.entries) in
     let next : c.args.place + 1 + 1 ≡ c.args.place + 2 = omega arith in
     subst (λ (s : ℕ). IsFront font waivers (length font.value.glyphs + 1) s 0 (faults_of c.add_faults.new.faults.items)) next
     (subst (λ (u : ℕ). IsFront font waivers u (c.args.place + 1 + 1) 0 (faults_of c.add_faults.new.faults.items)) unit

@@ -14,6 +14,7 @@ returns-clause-broken c = λ before next n.
     let step = step_view c.args.step.now in
     let inside : length before < limit_of edition = omega (arith, c.if-limit-step.false, next.number, c.requires.limit) in
     let short : length before < most_steps = omega (arith, inside, limit_few edition) in
-    both_kinds edition components n before step _ _ _ (c.join.ensures n) (c.see_as.ensures.answer edition before next.seen short n) (c.see_as-2.ensures before n)
+    both_kinds edition components n before step _ _ _ (c.join.ensures n)
+    (c.see_as.ensures.answer edition before next.seen short n) (c.see_as-2.ensures before n)
     ∙ sym (breaks_last (charstring_rules edition components) n before step)
     ∙ sym (within_limit (limit_of edition) (charstring_rules edition components) n (before ++ step ∷ []) (length before) inside)

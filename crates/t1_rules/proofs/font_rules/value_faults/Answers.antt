@@ -21,19 +21,22 @@ returns-in-BlueValues c =
 pub returns-in-OtherBlues : goal.returns-in-OtherBlues
 unfolding font_rules
 returns-in-OtherBlues c =
-    told_at (key_number c.args.key) (key_number keys.OtherBlues) (low_zone_tests c.args.font.now keys.OtherBlues keys.BlueValues c.args.index) c.low_zone_faults.result
+    told_at (key_number c.args.key) (key_number keys.OtherBlues)
+    (low_zone_tests c.args.font.now keys.OtherBlues keys.BlueValues c.args.index) c.low_zone_faults.result
     c.args.font.now c.args.index (ap key_number c.in-OtherBlues.is) c.low_zone_faults.ensures (λ n. refl)
 
 pub returns-in-FamilyBlues : goal.returns-in-FamilyBlues
 unfolding font_rules
 returns-in-FamilyBlues c =
-    told_at (key_number c.args.key) (key_number keys.FamilyBlues) (high_zone_tests c.args.font.now keys.FamilyBlues c.args.index) c.high_zone_faults-in-FamilyBlues.result
+    told_at (key_number c.args.key) (key_number keys.FamilyBlues) (high_zone_tests c.args.font.now keys.FamilyBlues c.args.index)
+    c.high_zone_faults-in-FamilyBlues.result
     c.args.font.now c.args.index (ap key_number c.in-FamilyBlues.is) c.high_zone_faults-in-FamilyBlues.ensures (λ n. refl)
 
 pub returns-in-FamilyOtherBlues : goal.returns-in-FamilyOtherBlues
 unfolding font_rules
 returns-in-FamilyOtherBlues c =
-    told_at (key_number c.args.key) (key_number keys.FamilyOtherBlues) (low_zone_tests c.args.font.now keys.FamilyOtherBlues keys.FamilyBlues c.args.index) c.low_zone_faults-in-FamilyOtherBlues.result
+    told_at (key_number c.args.key) (key_number keys.FamilyOtherBlues) (low_zone_tests c.args.font.now keys.FamilyOtherBlues keys.FamilyBlues c.args.index)
+    c.low_zone_faults-in-FamilyOtherBlues.result
     c.args.font.now c.args.index (ap key_number c.in-FamilyOtherBlues.is) c.low_zone_faults-in-FamilyOtherBlues.ensures (λ n. refl)
 
 pub returns-in-BlueScale : goal.returns-in-BlueScale
@@ -75,5 +78,6 @@ returns-in-StemSnapH c =
 pub returns-in-StemSnapV : goal.returns-in-StemSnapV
 unfolding font_rules
 returns-in-StemSnapV c =
-    told_at (key_number c.args.key) (key_number keys.StemSnapV) (snap_tests c.args.font.now keys.StemSnapV keys.StdVw c.args.index) c.snap_faults-in-StemSnapV.result
+    told_at (key_number c.args.key) (key_number keys.StemSnapV) (snap_tests c.args.font.now keys.StemSnapV keys.StdVw c.args.index)
+    c.snap_faults-in-StemSnapV.result
     c.args.font.now c.args.index (ap key_number c.in-StemSnapV.is) c.snap_faults-in-StemSnapV.ensures (λ n. refl)

@@ -7,9 +7,11 @@ use Rattle.t1_rules.proofs.Lemmas.PassedNumbers.{HasTold, fewer_left_behind, has
 use Rattle.t1_rules.proofs.sidebearings.component_of_glyph.Goals as goal
 
 -- The step behind the numbers.
-abbrev told : (c : goal.Joined-else-lacks_seac) → HasTold c.args.edition c.args.font.now c.args.glyph c.loop-component.machine.counted c.go_on.new.self.counted c.current.result.now
+abbrev told : (c : goal.Joined-else-lacks_seac) → HasTold c.args.edition c.args.font.now c.args.glyph c.loop-component.machine.counted
+    c.go_on.new.self.counted c.current.result.now
 told c =
-    has_told Passed c.args.edition c.args.font.now c.args.glyph c.loop-component.machine c.go_on.new.self c.current.result.now c.loop-component.invariant.same c.in-Step.ensures.asked c.current.ensures
+    has_told Passed c.args.edition c.args.font.now c.args.glyph c.loop-component.machine c.go_on.new.self c.current.result.now c.loop-component.invariant.same
+    c.in-Step.ensures.asked c.current.ensures
 
 pub loop-component-smaller : goal.loop-component-smaller
 loop-component-smaller c =
@@ -24,7 +26,8 @@ loop-component-preserved c =
         font_is = c.go_on.ensures.font ∙ c.loop-component.invariant.same.font_is;
         glyph_is = c.go_on.ensures.glyph ∙ c.loop-component.invariant.same.glyph_is;
       };
-      component = known_with c.args.edition c.args.font.now c.args.glyph c.loop-component.machine.counted c.go_on.new.self.counted c.current.result.now c.loop-component.component c.take_in.new.self
+      component = known_with c.args.edition c.args.font.now c.args.glyph c.loop-component.machine.counted c.go_on.new.self.counted c.current.result.now
+          c.loop-component.component c.take_in.new.self
           (told c)
           c.loop-component.invariant.component c.take_in.ensures;
     }
@@ -32,13 +35,17 @@ loop-component-preserved c =
 -- No step behind the first sidebearing changes a component that has no seac.
 pub returns-then-is_some : goal.returns-then-is_some
 returns-then-is_some c =
-    component_known (limit_of c.args.edition) (steps_of c.args.font.now c.args.glyph) c.go_on.new.self.counted c.take_in.new.self (c.steps_lack_seac-lacks_seac.ensures c.if-lacks_seac.true)
-    (known_with c.args.edition c.args.font.now c.args.glyph c.loop-component.machine.counted c.go_on.new.self.counted c.current.result.now c.loop-component.component c.take_in.new.self
-    (has_told Passed c.args.edition c.args.font.now c.args.glyph c.loop-component.machine c.go_on.new.self c.current.result.now c.loop-component.invariant.same c.in-Step.ensures.asked c.current.ensures)
+    component_known (limit_of c.args.edition) (steps_of c.args.font.now c.args.glyph) c.go_on.new.self.counted c.take_in.new.self
+    (c.steps_lack_seac-lacks_seac.ensures c.if-lacks_seac.true)
+    (known_with c.args.edition c.args.font.now c.args.glyph c.loop-component.machine.counted c.go_on.new.self.counted c.current.result.now
+    c.loop-component.component c.take_in.new.self
+    (has_told Passed c.args.edition c.args.font.now c.args.glyph c.loop-component.machine c.go_on.new.self c.current.result.now c.loop-component.invariant.same
+    c.in-Step.ensures.asked c.current.ensures)
     c.loop-component.invariant.component c.take_in.ensures)
     (sym c.is_some.ensures ∙ c.if-is_some.true)
 
 pub returns : goal.returns
 returns c =
     c.loop-component.invariant.component
-    ∙ known_over Passed c.args.edition c.args.font.now c.args.glyph c.loop-component.machine c.go_on.new.self c.go_on.result c.loop-component.invariant.same c.go_on.ensures.asked c.in_default.not-Step
+    ∙ known_over Passed c.args.edition c.args.font.now c.args.glyph c.loop-component.machine c.go_on.new.self c.go_on.result c.loop-component.invariant.same
+    c.go_on.ensures.asked c.in_default.not-Step

@@ -12,7 +12,14 @@ take_text-requires-clause-room c =
     let i = c.loop-byte-2.byte-index in
     let front = take (length s - length rest) s in
     let below : length (front ++ take i rest) < length s =
-    omega (arith, length-append front (take i rest), length-take (length s - length rest) s, length-take i rest, c.loop-byte-2-test.true, c.split_at.ensures.back_len) in
+    omega (
+      arith,
+      length-append front (take i rest),
+      length-take (length s - length rest) s,
+      length-take i rest,
+      c.loop-byte-2-test.true,
+      c.split_at.ensures.back_len,
+    ) in
     has_room c.loop-byte-2.text (front ++ take i rest) (length s) c.loop-byte-2.invariant.taken c.loop-byte-2.invariant.room below
 
 pub loop-byte-2-preserved : goal.loop-byte-2-preserved
@@ -22,7 +29,8 @@ loop-byte-2-preserved c =
     let i = c.loop-byte-2.byte-index in
     let front = take (length s - length rest) s in
     record {
-      taken = subst (HasTaken c.take_text.new.self) (append_assoc front (take i rest) _ ∙ ap (λ back. front ++ back) (sym (take_more rest i 0 c.loop-byte-2-test.true)))
+      taken = subst (HasTaken c.take_text.new.self)
+          (append_assoc front (take i rest) _ ∙ ap (λ back. front ++ back) (sym (take_more rest i 0 c.loop-byte-2-test.true)))
           (c.take_text.ensures.taken (front ++ take i rest) c.loop-byte-2.invariant.taken);
       room = c.take_text.ensures.room (length s) c.loop-byte-2.invariant.room;
     }

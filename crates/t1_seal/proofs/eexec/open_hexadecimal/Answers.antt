@@ -35,5 +35,6 @@ returns c =
           (ap opened (all_read _ _ _ _ (none_at_end _ _ w.loop-byte-test.false) read))
       | then-loop-byte-test+else-is_hexadecimal_digit+then-not-is_blank_byte w ↦
           finished _ _ _ (c.finish.ensures read.front read.taken)
-          (ap opened (all_read _ _ _ _ (none_at_other _ _ w.loop-byte-test.true (sym w.if-is_hexadecimal_digit.ensures) (sym w.if-not-is_blank_byte.ensures)) read))
+          (ap opened (all_read _ _ _ _ (none_at_other _ _ w.loop-byte-test.true (sym w.if-is_hexadecimal_digit.ensures)
+          (sym w.if-not-is_blank_byte.ensures)) read))
     ]

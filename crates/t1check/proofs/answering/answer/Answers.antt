@@ -16,12 +16,14 @@ returns-in_default g c =
 
 pub returns-in-Ok-open_file : goal.returns-in-Ok-open_file
 returns-in-Ok-open_file g c =
-    read_file c.in-Ok.options (string_bytes c.in-Some.name) (record { given = c.in-Ok.ensures.given; sound = c.in-Ok.ensures.sound }) (ap (option_map string_bytes) c.in-Some.is) refl _ _
+    read_file c.in-Ok.options (string_bytes c.in-Some.name) (record { given = c.in-Ok.ensures.given; sound = c.in-Ok.ensures.sound })
+    (ap (option_map string_bytes) c.in-Some.is) refl _ _
     (ap (λ (s : SourceState). s.failed) c.new-source.ensures)
     (c.in-Ok-open_file.file, (c.as_str.result, c.in-Ok-open_file.ensures, c.as_str.ensures.value), sym (ap (λ (s : SourceState). s.left) c.new-source.ensures))
     refl c.run_on-status-in-Ok-open_file.ensures
 
 pub returns-in-Err-open_file : goal.returns-in-Err-open_file
 returns-in-Err-open_file g c =
-    not_opened c.in-Ok.options (string_bytes c.in-Some.name) (record { given = c.in-Ok.ensures.given; sound = c.in-Ok.ensures.sound }) (ap (option_map string_bytes) c.in-Some.is) refl refl
+    not_opened c.in-Ok.options (string_bytes c.in-Some.name) (record { given = c.in-Ok.ensures.given; sound = c.in-Ok.ensures.sound })
+    (ap (option_map string_bytes) c.in-Some.is) refl refl
     (c.in-Err-open_file.field-0, (c.as_str.result, c.in-Err-open_file.ensures, c.as_str.ensures.value)) refl c.tell.ensures

@@ -25,7 +25,8 @@ returns-in-Ok g c =
 
 pub returns-in-Err : goal.returns-in-Err
 returns-in-Err g c =
-    no_waivers (string_bytes c.in-None-Some.name) (is_named c.args.options.now.trace c.args.options.now.waive _ c.in-None-Some.is-0 c.in-None-Some.is-1) (ap (option_map string_bytes) c.in-None-Some.is-1)
+    no_waivers (string_bytes c.in-None-Some.name) (is_named c.args.options.now.trace c.args.options.now.waive _ c.in-None-Some.is-0 c.in-None-Some.is-1)
+    (ap (option_map string_bytes) c.in-None-Some.is-1)
     (c.in-Err.field-0, (c.as_str.result, c.in-Err.ensures, c.as_str.ensures.value)) refl refl refl c.tell.ensures
 
 pub returns-in_default : goal.returns-in_default

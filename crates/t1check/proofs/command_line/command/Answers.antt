@@ -63,6 +63,8 @@ returns c =
     ap (λ (a : Arg). a.global) c.help-file.ensures ∙ ap (λ (a : Arg). a.global) c.value_name-6.ensures ∙ c.new-6.ensures.optional.1 in
     let new : app_of c.after_help.result ≡ new_app (codes "t1check") =
     ap app_of_fields c.after_help.ensures ∙ ap app_of_fields c.about.ensures ∙ c.new-7.ensures.app in
-    IfOk-weaker c.arg-6.result _ _ (λ cmd added. app_of-t1check c.after_help.result c.in_ok-arg.field-0 c.in_ok-arg-2.field-0 c.in_ok-arg-3.field-0 c.in_ok-arg-4.field-0 c.in_ok-arg-5.field-0 cmd
+    IfOk-weaker c.arg-6.result _ _ (λ cmd added. app_of-t1check c.after_help.result c.in_ok-arg.field-0 c.in_ok-arg-2.field-0 c.in_ok-arg-3.field-0
+    c.in_ok-arg-4.field-0 c.in_ok-arg-5.field-0 cmd
     c.value_parser-after.result c.value_parser-max.result c.help-trace.result c.value_parser-edition.result c.help-waive.result c.help-file.result
-    c.in_ok-arg.ensures c.in_ok-arg-2.ensures c.in_ok-arg-3.ensures c.in_ok-arg-4.ensures c.in_ok-arg-5.ensures added after_local max_local trace_local edition_local waive_local file_local new is_after is_max is_trace is_edition is_waive is_file) c.arg-6.ensures
+    c.in_ok-arg.ensures c.in_ok-arg-2.ensures c.in_ok-arg-3.ensures c.in_ok-arg-4.ensures c.in_ok-arg-5.ensures added after_local max_local trace_local
+    edition_local waive_local file_local new is_after is_max is_trace is_edition is_waive is_file) c.arg-6.ensures

@@ -17,7 +17,8 @@ free = refl
 
 pub returns-clause-rows : goal.returns-clause-rows
 returns-clause-rows g c =
-    IfOk-weaker c.try_get_matches_from.result _ _ (λ m has. (has (ap is_simple c.in_ok-command.ensures ∙ simple)).0 ∙ ap (λ (a : App). matches_of a (map g.S.AsStr.text c.args.words.now)) c.in_ok-command.ensures)
+    IfOk-weaker c.try_get_matches_from.result _ _ (λ m has. (has (ap is_simple c.in_ok-command.ensures ∙ simple)).0
+    ∙ ap (λ (a : App). matches_of a (map g.S.AsStr.text c.args.words.now)) c.in_ok-command.ensures)
     c.try_get_matches_from.ensures.matches
 
 pub returns-clause-number : goal.returns-clause-number

@@ -27,10 +27,12 @@ or_zero (Some text) None is = absurd (true≢false (sym is.1))
 or_zero (Some text) (Some n) is = is.0
 
 pub number-requires : goal.number-requires
-number-requires g c = subst (IsTextOfNumber 0 18446744073709551615) (sym c.get_str.ensures) (c.in-Ok.ensures.number 0 18446744073709551615 (codes "after") after_is_number)
+number-requires g c = subst (IsTextOfNumber 0 18446744073709551615) (sym c.get_str.ensures)
+    (c.in-Ok.ensures.number 0 18446744073709551615 (codes "after") after_is_number)
 
 pub number-max-requires : goal.number-max-requires
-number-max-requires g c = subst (IsTextOfNumber 0 18446744073709551615) (sym c.get_str-2.ensures) (c.in-Ok.ensures.number 0 18446744073709551615 (codes "max") max_is_number)
+number-max-requires g c = subst (IsTextOfNumber 0 18446744073709551615) (sym c.get_str-2.ensures)
+    (c.in-Ok.ensures.number 0 18446744073709551615 (codes "max") max_is_number)
 
 pub edition-edition-requires : goal.edition-edition-requires
 edition-edition-requires g c = subst (IsTextOfNumber 1 2) (sym c.get_str-4.ensures) (c.in-Ok.ensures.number 1 2 (codes "edition") edition_is_number)
@@ -40,7 +42,8 @@ returns-in-Err-clause-only_help g c = λ help.
     let is_help = c.usage_error.ensures.only_help help in
     elim c.in-Err.ensures.faults [
       | inl memory ↦ cc
-      | inr among ↦ single-among (fault_of t1check (map g.S.AsStr.text c.args.words.now)) _ (fault_of-single (map g.S.AsStr.text c.args.words.now)) (rw is_help at among)
+      | inr among ↦ single-among (fault_of t1check (map g.S.AsStr.text c.args.words.now)) _
+          (fault_of-single (map g.S.AsStr.text c.args.words.now)) (rw is_help at among)
     ]
 
 pub returns-clause-given : goal.returns-clause-given

@@ -10,7 +10,8 @@ use Rattle.t1_report.specs.Waivers.{Waiver}
 pub returns-in_default-clause-passed : goal.returns-in_default-clause-passed
 returns-in_default-clause-passed c faults report first =
     subst (IsSoFar faults _) (sym (ap (λ (w : WalkView). w.mark) c.in_default.ensures.state))
-    (all_passed c.marks_count_the_faults_given.ensures.end c.args.walk.now.font c.args.walk.now.waivers faults c.args.count c.loop-fault._fault c.loop-fault.walk.mark report
+    (all_passed c.marks_count_the_faults_given.ensures.end c.args.walk.now.font c.args.walk.now.waivers faults c.args.count
+    c.loop-fault._fault c.loop-fault.walk.mark report
     (subst (λ (waivers : List Waiver). HasNoneLater c.args.walk.now.font waivers c.loop-fault.walk.mark) c.loop-fault.invariant.waivers
     (subst (λ (font : CheckedFont). HasNoneLater font c.loop-fault.walk.waivers c.loop-fault.walk.mark) c.loop-fault.invariant.font c.in_default.ensures.next))
     c.loop-fault-test.true (c.loop-fault.invariant.passed faults report first))
@@ -21,8 +22,11 @@ loop-fault-preserved c = record {
   waivers = ap (λ (w : WalkView). w.waivers) c.in-Some.ensures.state ∙ c.loop-fault.invariant.waivers;
   passed = λ faults report first.
       subst (IsSoFar faults (c.loop-fault._fault + 1)) (sym (ap (λ (w : WalkView). w.mark) c.in-Some.ensures.state))
-      (one_passed c.marks_count_the_faults_given.ensures.next c.args.walk.now.font c.args.walk.now.waivers faults c.loop-fault._fault c.loop-fault.walk.mark (fault_value c.in-Some._passed) c.requires.few c.requires.few_waivers report
-      (subst (λ (waivers : List Waiver). IsNext c.args.walk.now.font waivers c.loop-fault.walk.mark (fault_value c.in-Some._passed)) c.loop-fault.invariant.waivers
-      (subst (λ (font : CheckedFont). IsNext font c.loop-fault.walk.waivers c.loop-fault.walk.mark (fault_value c.in-Some._passed)) c.loop-fault.invariant.font c.in-Some.ensures.next))
+      (one_passed c.marks_count_the_faults_given.ensures.next c.args.walk.now.font c.args.walk.now.waivers faults c.loop-fault._fault c.loop-fault.walk.mark
+      (fault_value c.in-Some._passed) c.requires.few c.requires.few_waivers report
+      (subst (λ (waivers : List Waiver). IsNext c.args.walk.now.font waivers c.loop-fault.walk.mark (fault_value c.in-Some._passed))
+      c.loop-fault.invariant.waivers
+      (subst (λ (font : CheckedFont). IsNext font c.loop-fault.walk.waivers c.loop-fault.walk.mark (fault_value c.in-Some._passed))
+      c.loop-fault.invariant.font c.in-Some.ensures.next))
       (c.loop-fault.invariant.passed faults report first));
 }

@@ -12,5 +12,6 @@ invariant-loop-line g l = record {
   font : l.walk.font ≡ checked l.font l.options.edition;
   waivers : l.walk.waivers ≡ l.waivers;
   gone : (faults : List FaultValue) (k : ℕ) → IsReport (checked l.font l.options.edition) l.waivers faults → IsSoFar faults k l.fn.walk.mark
-      → HaveGone l.font l.waivers faults k (unwrap_or l.options.max (2 ^ 64 - 1)) l._line l.walk.mark (g.W.Sink.state l.fn.sink) (g.W.Sink.state l.sink) l.status;
+      → HaveGone l.font l.waivers faults k (unwrap_or l.options.max (2 ^ 64 - 1)) l._line l.walk.mark (g.W.Sink.state l.fn.sink)
+      (g.W.Sink.state l.sink) l.status;
 }

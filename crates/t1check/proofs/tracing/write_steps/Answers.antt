@@ -12,26 +12,32 @@ pub loop-step-smaller : goal.loop-step-smaller
 loop-step-smaller g c =
     let steps = steps_of c.args.machine.font c.args.machine.glyph in
     let one_more : IsStepped (limit_of c.args.machine.edition) steps c.loop-step.machine.counted (step_value c.in-Step.step.now) =
-    machine_stepped c.args.machine.edition c.loop-step.machine c.args.machine.font c.args.machine.glyph (step_value c.in-Step.step.now) c.loop-step.invariant.same c.in-Step.ensures.turn in
+    machine_stepped c.args.machine.edition c.loop-step.machine c.args.machine.font c.args.machine.glyph (step_value c.in-Step.step.now)
+    c.loop-step.invariant.same c.in-Step.ensures.turn in
     fewer_left (limit_of c.args.machine.edition) steps c.loop-step.machine.counted c.step.follows.lender-at-none.counted
-    (machine_counted c.args.machine.edition c.loop-step.machine c.args.machine.font c.args.machine.glyph (step_value c.in-Step.step.now) c.step.follows.lender-at-none.counted c.loop-step.invariant.same one_more c.step.follows.holds-at-none.0)
+    (machine_counted c.args.machine.edition c.loop-step.machine c.args.machine.font c.args.machine.glyph (step_value c.in-Step.step.now)
+    c.step.follows.lender-at-none.counted c.loop-step.invariant.same one_more c.step.follows.holds-at-none.0)
     one_more.within
 
 pub loop-step-preserved : goal.loop-step-preserved
 loop-step-preserved g c =
     let steps = steps_of c.args.machine.font c.args.machine.glyph in
     let one_more : IsStepped (limit_of c.args.machine.edition) steps c.loop-step.machine.counted (step_value c.in-Step.step.now) =
-    machine_stepped c.args.machine.edition c.loop-step.machine c.args.machine.font c.args.machine.glyph (step_value c.in-Step.step.now) c.loop-step.invariant.same c.in-Step.ensures.turn in
+    machine_stepped c.args.machine.edition c.loop-step.machine c.args.machine.font c.args.machine.glyph (step_value c.in-Step.step.now)
+    c.loop-step.invariant.same c.in-Step.ensures.turn in
     let counted : c.step.follows.lender-at-none.counted ≡ c.loop-step.machine.counted + 1 =
-    machine_counted c.args.machine.edition c.loop-step.machine c.args.machine.font c.args.machine.glyph (step_value c.in-Step.step.now) c.step.follows.lender-at-none.counted c.loop-step.invariant.same one_more c.step.follows.holds-at-none.0 in
+    machine_counted c.args.machine.edition c.loop-step.machine c.args.machine.font c.args.machine.glyph (step_value c.in-Step.step.now)
+    c.step.follows.lender-at-none.counted c.loop-step.invariant.same one_more c.step.follows.holds-at-none.0 in
     record {
       same = record {
         edition_is = c.step.follows.holds-at-none.3 ∙ c.loop-step.invariant.same.edition_is;
         font_is = c.step.follows.holds-at-none.1 ∙ c.loop-step.invariant.same.font_is;
         glyph_is = c.step.follows.holds-at-none.2 ∙ c.loop-step.invariant.same.glyph_is;
       };
-      wrote = subst (λ n. Wrote (g.W.Sink.state c.args.sink.now) (g.W.Sink.state c.write_step.new.sink) (lines_to (limit_of c.args.machine.edition) steps n)) (sym counted)
-          (wrote_step (limit_of c.args.machine.edition) steps c.loop-step.machine.counted (step_value c.in-Step.step.now) _ _ _ one_more c.loop-step.invariant.wrote c.in_ok-write_step-in-Step.ensures);
+      wrote = subst (λ n. Wrote (g.W.Sink.state c.args.sink.now) (g.W.Sink.state c.write_step.new.sink) (lines_to (limit_of c.args.machine.edition) steps n))
+          (sym counted)
+          (wrote_step (limit_of c.args.machine.edition) steps c.loop-step.machine.counted (step_value c.in-Step.step.now) _ _ _ one_more
+          c.loop-step.invariant.wrote c.in_ok-write_step-in-Step.ensures);
     }
 
 pub returns-in_err-write_step-in-Step : goal.returns-in_err-write_step-in-Step

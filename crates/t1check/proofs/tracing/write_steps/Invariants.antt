@@ -9,7 +9,8 @@ use Rattle.t1check.proofs.tracing.write_steps.Given as goal
 abbrev pub invariant-loop-step : goal.invariant-loop-step
 invariant-loop-step g l = record {
   same : Executes l.fn.machine.edition l.fn.machine.font l.fn.machine.glyph l.machine;
-  wrote : Wrote (g.W.Sink.state l.fn.sink) (g.W.Sink.state l.sink) (lines_to (limit_of l.fn.machine.edition) (steps_of l.fn.machine.font l.fn.machine.glyph) l.machine.counted);
+  wrote : Wrote (g.W.Sink.state l.fn.sink) (g.W.Sink.state l.sink)
+      (lines_to (limit_of l.fn.machine.edition) (steps_of l.fn.machine.font l.fn.machine.glyph) l.machine.counted);
 }
 
 abbrev pub decreases-loop-step : goal.decreases-loop-step

@@ -13,7 +13,8 @@ pub returns-in-Calls-clause-steps : goal.returns-in-Calls-clause-steps
 returns-in-Calls-clause-steps c =
     executed_calls c.args.font.now c.args.self.now c.enter.new.self c.in-Calls.subr.number c.in-Calls.subr.code.now c.requires
     (omega (arith, c.in-Calls.ensures.nested, c.len-depth.ensures.value))
-    (ap (λ s. effect s (calls c.in-Calls.subr.number c.in-Calls.subr.code.now)) c.enter.ensures.state ∙ c.in-Calls.ensures.effect ∙ effect_at_depth c.args.self.now _ c.len-depth.ensures.value)
+    (ap (λ s. effect s (calls c.in-Calls.subr.number c.in-Calls.subr.code.now)) c.enter.ensures.state ∙ c.in-Calls.ensures.effect
+    ∙ effect_at_depth c.args.self.now _ c.len-depth.ensures.value)
     c.enter.ensures.path c.enter.ensures.callers c.enter.ensures.current
 
 pub returns-in-Returns-clause-steps : goal.returns-in-Returns-clause-steps

@@ -3,7 +3,8 @@ use Rattle.t1_font.proofs.FontMaps.{twice_at, twice_past}
 use Rattle.t1_font.proofs.font.Font.glyph_twice.Goals as goal
 
 pub returns-in-Some : goal.returns-in-Some
-returns-in-Some c = c.contains.ensures ∙ twice_at c.args.self.now _ _ _ _ _ (ap (λ v. v.glyphs) c.self.view_is) (ap (λ v. v.glyphs_twice) c.self.view_is) c.in-Some.ensures.entry
+returns-in-Some c = c.contains.ensures ∙ twice_at c.args.self.now _ _ _ _ _ (ap (λ v. v.glyphs) c.self.view_is)
+    (ap (λ v. v.glyphs_twice) c.self.view_is) c.in-Some.ensures.entry
 
 pub returns-in-None : goal.returns-in-None
 returns-in-None c = twice_past c.args.self.now _ _ (ap (λ v. v.glyphs) c.self.view_is) c.in-None.ensures.entry

@@ -16,7 +16,8 @@ loop-rest-preserved c =
     let kept = c.loop-rest.invariant in
     let some : 0 < c.loop-rest.rest = c.loop-rest-test.true in
     record {
-      written = digits_before-set c.loop-rest.bytes c.loop-rest.first c.loop-rest.rest _ _ some kept.small kept.within kept.room c.digit-in-loop-rest.ensures kept.written;
+      written = digits_before-set c.loop-rest.bytes c.loop-rest.first c.loop-rest.rest _ _ some kept.small kept.within kept.room
+          c.digit-in-loop-rest.ensures kept.written;
       small = div-ten-lt-pow c.loop-rest.first c.loop-rest.rest some kept.small;
       within = omega (arith, kept.within);
       room = grind (arith, common_steps, kept.room);

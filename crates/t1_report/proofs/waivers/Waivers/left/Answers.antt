@@ -14,7 +14,8 @@ loop-rule-init c = record {
 pub loop-rule-preserved : goal.loop-rule-preserved
 loop-rule-preserved c = record {
   left = λ n. c.without-left.ensures n ∙ ap (λ waived. has c.loop-rule.left n && not (waived && number_of c.in-Some.rule == n)) c.waives.ensures
-      ∙ left_more c.args.self.now c.args.name.now c.args.rules c.loop-rule.floor c.in-Some.rule c.in-Some.ensures (has c.loop-rule.left) c.loop-rule.invariant.left n
+      ∙ left_more c.args.self.now c.args.name.now c.args.rules c.loop-rule.floor c.in-Some.rule c.in-Some.ensures
+      (has c.loop-rule.left) c.loop-rule.invariant.left n
       ∙ ap (λ m. has c.args.rules n && not (nat_le n m && is_waived c.args.self.now c.args.name.now n)) (sym c.number-floor.ensures.number);
   floor = c.number-floor.ensures.last;
 }

@@ -11,19 +11,24 @@ use Rattle.t1_report.specs.Private.Reporting.{HaveSeen}
 use Rattle.t1_report.proofs.walk.glyph_run.next_broken.Goals as goal
 
 -- The glyph is over.
-abbrev stands : (c : goal.Then-is_over) → StandsBehind (executed c.args.machine.now) c.args.machine.now.glyph c.args.unit (c.args.machine.now.counted + 1) c.go_on.ensures.asked.before c.loop-machine.watches
+abbrev stands : (c : goal.Then-is_over) → StandsBehind (executed c.args.machine.now) c.args.machine.now.glyph c.args.unit (c.args.machine.now.counted + 1)
+    c.go_on.ensures.asked.before c.loop-machine.watches
 stands c =
-    stands_behind_numbers c.numbers_by.result c.loop-machine.machine c.go_on.new.self _ c.loop-machine.watches (executed c.args.machine.now) c.args.machine.now.glyph c.args.unit (c.args.machine.now.counted + 1)
-    c.numbers_by.ensures c.loop-machine.invariant.font c.loop-machine.invariant.glyph c.requires.unit c.loop-machine.invariant.run c.loop-machine.invariant.quiet c.go_on.ensures.asked
+    stands_behind_numbers c.numbers_by.result c.loop-machine.machine c.go_on.new.self _ c.loop-machine.watches (executed c.args.machine.now)
+    c.args.machine.now.glyph c.args.unit (c.args.machine.now.counted + 1)
+    c.numbers_by.ensures c.loop-machine.invariant.font c.loop-machine.invariant.glyph c.requires.unit c.loop-machine.invariant.run
+    c.loop-machine.invariant.quiet c.go_on.ensures.asked
 
 abbrev ended : (c : goal.Then-is_over) → EndsBehind (executed c.args.machine.now) c.args.machine.now.glyph c.go_on.ensures.asked.before c.go_on.new.self.counted
 ended c =
-    ended_behind c.numbers_by.result c.loop-machine.machine c.go_on.new.self c.go_on.result (executed c.args.machine.now) c.args.machine.now.glyph c.loop-machine.invariant.font c.loop-machine.invariant.glyph
+    ended_behind c.numbers_by.result c.loop-machine.machine c.go_on.new.self c.go_on.result (executed c.args.machine.now) c.args.machine.now.glyph
+    c.loop-machine.invariant.font c.loop-machine.invariant.glyph
     (sym c.is_over.ensures ∙ c.if-is_over.true) c.go_on.ensures.asked (stands c).run.counted_few
 
 pub returns-then-is_over-clause-found : goal.returns-then-is_over-clause-found
 returns-then-is_over-clause-found c =
-    quiet_over (executed c.args.machine.now) c.args.unit c.args.machine.now.glyph (c.args.machine.now.counted + 1) c.go_on.ensures.asked.before c.requires.unit (ended c).over (stands c).quiet
+    quiet_over (executed c.args.machine.now) c.args.unit c.args.machine.now.glyph (c.args.machine.now.counted + 1) c.go_on.ensures.asked.before c.requires.unit
+    (ended c).over (stands c).quiet
 
 pub returns-then-is_over-clause-counted : goal.returns-then-is_over-clause-counted
 returns-then-is_over-clause-counted c = (ended c).counted_is
@@ -33,7 +38,8 @@ returns-then-is_over-clause-run c =
     let font = executed c.args.machine.now in
     let glyph = c.args.machine.now.glyph in
     run_of font glyph c.go_on.new.self c.loop-machine.watches
-    (same_executed c.go_on.new.self c.loop-machine.machine c.go_on.ensures.font c.go_on.ensures.edition ∙ c.loop-machine.invariant.font) (c.go_on.ensures.glyph ∙ c.loop-machine.invariant.glyph) c.requires.run.there
+    (same_executed c.go_on.new.self c.loop-machine.machine c.go_on.ensures.font c.go_on.ensures.edition ∙ c.loop-machine.invariant.font)
+    (c.go_on.ensures.glyph ∙ c.loop-machine.invariant.glyph) c.requires.run.there
     (run_over font glyph c.go_on.ensures.asked.before c.go_on.new.self.counted c.loop-machine.watches (ended c).over (ended c).counted_is (stands c).run)
 
 -- The step, and that it is the next one for the watchers.
@@ -42,18 +48,38 @@ broken_at-rules-requires-clause-next c =
     let font = executed c.args.machine.now in
     let all = steps_of font.value c.args.machine.now.glyph in
     let turn =
-    turn_behind c.numbers_by.result c.loop-machine.machine c.go_on.new.self c.go_on.result c.current-step.result.now c.loop-machine.watches (executed c.args.machine.now) c.args.machine.now.glyph c.args.unit (c.args.machine.now.counted + 1)
-    c.numbers_by.ensures c.loop-machine.invariant.font c.loop-machine.invariant.glyph c.requires.unit c.loop-machine.invariant.run c.loop-machine.invariant.quiet
-    (omega (arith, c.loop-machine-test.true, c.counted.ensures.counted, c.step_limit-limit.ensures.limit ∙ ap limit_of (c.edition.ensures ∙ c.requires.edition)))
-    (sym c.is_over.ensures ∙ c.if-is_over.false) c.current-step.ensures c.go_on.ensures.asked in
-    (take turn.before all, is_next_by c.args.sidebearings.now.edition font.edition c.requires.edition all c.loop-machine.watches turn.before c.current-step.result.now turn.told.listed turn.stands.run.seen_are)
+    turn_behind c.numbers_by.result c.loop-machine.machine c.go_on.new.self c.go_on.result c.current-step.result.now c.loop-machine.watches
+    (executed c.args.machine.now) c.args.machine.now.glyph c.args.unit (c.args.machine.now.counted + 1)
+    c.numbers_by.ensures c.loop-machine.invariant.font c.loop-machine.invariant.glyph c.requires.unit c.loop-machine.invariant.run
+    c.loop-machine.invariant.quiet
+    (omega (
+      arith,
+      c.loop-machine-test.true,
+      c.counted.ensures.counted,
+      c.step_limit-limit.ensures.limit
+          ∙ ap limit_of (c.edition.ensures ∙ c.requires.edition),
+    ))
+    (sym c.is_over.ensures ∙ c.if-is_over.false) c.current-step.ensures c.go_on.ensures.asked in (
+      take turn.before all,
+      is_next_by c.args.sidebearings.now.edition font.edition c.requires.edition all c.loop-machine.watches turn.before
+          c.current-step.result.now turn.told.listed turn.stands.run.seen_are,
+    )
 
 -- A rule is broken at it.
-abbrev turn_broken : (c : goal.After-copy_of) → IsTurn (executed c.args.machine.now) c.args.machine.now.glyph c.args.unit (c.args.machine.now.counted + 1) c.loop-machine.machine.counted c.go_on.new.self.counted c.loop-machine.watches c.current-step.result.now
+abbrev turn_broken : (c : goal.After-copy_of) → IsTurn (executed c.args.machine.now) c.args.machine.now.glyph c.args.unit (c.args.machine.now.counted + 1)
+    c.loop-machine.machine.counted c.go_on.new.self.counted c.loop-machine.watches c.current-step.result.now
 turn_broken c =
-    turn_behind c.numbers_by.result c.loop-machine.machine c.go_on.new.self c.go_on.result c.current-step.result.now c.loop-machine.watches (executed c.args.machine.now) c.args.machine.now.glyph c.args.unit (c.args.machine.now.counted + 1)
-    c.numbers_by.ensures c.loop-machine.invariant.font c.loop-machine.invariant.glyph c.requires.unit c.loop-machine.invariant.run c.loop-machine.invariant.quiet
-    (omega (arith, c.loop-machine-test.true, c.counted.ensures.counted, c.step_limit-limit.ensures.limit ∙ ap limit_of (c.edition.ensures ∙ c.requires.edition)))
+    turn_behind c.numbers_by.result c.loop-machine.machine c.go_on.new.self c.go_on.result c.current-step.result.now c.loop-machine.watches
+    (executed c.args.machine.now) c.args.machine.now.glyph c.args.unit (c.args.machine.now.counted + 1)
+    c.numbers_by.ensures c.loop-machine.invariant.font c.loop-machine.invariant.glyph c.requires.unit c.loop-machine.invariant.run
+    c.loop-machine.invariant.quiet
+    (omega (
+      arith,
+      c.loop-machine-test.true,
+      c.counted.ensures.counted,
+      c.step_limit-limit.ensures.limit
+          ∙ ap limit_of (c.edition.ensures ∙ c.requires.edition),
+    ))
     (sym c.is_over.ensures ∙ c.if-is_over.false) c.current-step.ensures c.go_on.ensures.asked
 
 pub returns-then-has_rules-clause-found : goal.returns-then-has_rules-clause-found
@@ -63,10 +89,13 @@ returns-then-has_rules-clause-found c =
     let turn = turn_broken c in
     let n = turn.before in
     let step = c.current-step.result.now in
-    let next = is_next_by c.args.sidebearings.now.edition font.edition c.requires.edition (steps_of font.value glyph) c.loop-machine.watches n step turn.told.listed turn.stands.run.seen_are in
-    let agrees = step_agrees font c.args.unit glyph n step c.args.sidebearings.now c.broken_at-rules.result c.requires.unit c.requires.run.there turn.told.listed c.requires.sidebearings c.requires.edition
+    let next = is_next_by c.args.sidebearings.now.edition font.edition c.requires.edition (steps_of font.value glyph) c.loop-machine.watches n step
+    turn.told.listed turn.stands.run.seen_are in
+    let agrees = step_agrees font c.args.unit glyph n step c.args.sidebearings.now c.broken_at-rules.result c.requires.unit c.requires.run.there
+    turn.told.listed c.requires.sidebearings c.requires.edition
     (λ k. c.broken_at-rules.ensures.broken (take n (steps_of font.value glyph)) next k) in
-    found_at font c.args.unit glyph (c.args.machine.now.counted + 1) n step _ c.requires.run.there c.requires.unit turn.told.listed (omega (arith, c.loop-machine.invariant.least, turn.least)) turn.stands.quiet
+    found_at font c.args.unit glyph (c.args.machine.now.counted + 1) n step _ c.requires.run.there c.requires.unit turn.told.listed
+    (omega (arith, c.loop-machine.invariant.least, turn.least)) turn.stands.quiet
     refl refl c.copy_of.ensures agrees
 
 pub returns-then-has_rules-clause-counted : goal.returns-then-has_rules-clause-counted
@@ -79,23 +108,43 @@ returns-then-has_rules-clause-run c =
     let turn = turn_broken c in
     let n = turn.before in
     let step = c.current-step.result.now in
-    let next = is_next_by c.args.sidebearings.now.edition font.edition c.requires.edition (steps_of font.value glyph) c.loop-machine.watches n step turn.told.listed turn.stands.run.seen_are in
+    let next = is_next_by c.args.sidebearings.now.edition font.edition c.requires.edition (steps_of font.value glyph) c.loop-machine.watches n step
+    turn.told.listed turn.stands.run.seen_are in
     run_of font glyph c.go_on.new.self c.broken_at-rules.new.watches
-    (same_executed c.go_on.new.self c.loop-machine.machine c.go_on.ensures.font c.go_on.ensures.edition ∙ c.loop-machine.invariant.font) (c.go_on.ensures.glyph ∙ c.loop-machine.invariant.glyph) c.requires.run.there
-    (run_more font glyph n c.go_on.new.self.counted step c.broken_at-rules.new.watches turn.told (subst (λ e. HaveSeen e c.broken_at-rules.new.watches (take n (steps_of font.value glyph) ++ step_view step ∷ [])) c.requires.edition (c.broken_at-rules.ensures.seen (take n (steps_of font.value glyph)) next)))
+    (same_executed c.go_on.new.self c.loop-machine.machine c.go_on.ensures.font c.go_on.ensures.edition ∙ c.loop-machine.invariant.font)
+    (c.go_on.ensures.glyph ∙ c.loop-machine.invariant.glyph) c.requires.run.there
+    (run_more font glyph n c.go_on.new.self.counted step c.broken_at-rules.new.watches turn.told
+    (subst (λ e. HaveSeen e c.broken_at-rules.new.watches (take n (steps_of font.value glyph) ++ step_view step ∷ [])) c.requires.edition
+    (c.broken_at-rules.ensures.seen (take n (steps_of font.value glyph)) next)))
 
 -- No rule is broken at it.
-abbrev turn_quiet : (c : goal.Else-has_rules) → IsTurn (executed c.args.machine.now) c.args.machine.now.glyph c.args.unit (c.args.machine.now.counted + 1) c.loop-machine.machine.counted c.go_on.new.self.counted c.loop-machine.watches c.current-step.result.now
+abbrev turn_quiet : (c : goal.Else-has_rules) → IsTurn (executed c.args.machine.now) c.args.machine.now.glyph c.args.unit (c.args.machine.now.counted + 1)
+    c.loop-machine.machine.counted c.go_on.new.self.counted c.loop-machine.watches c.current-step.result.now
 turn_quiet c =
-    turn_behind c.numbers_by.result c.loop-machine.machine c.go_on.new.self c.go_on.result c.current-step.result.now c.loop-machine.watches (executed c.args.machine.now) c.args.machine.now.glyph c.args.unit (c.args.machine.now.counted + 1)
-    c.numbers_by.ensures c.loop-machine.invariant.font c.loop-machine.invariant.glyph c.requires.unit c.loop-machine.invariant.run c.loop-machine.invariant.quiet
-    (omega (arith, c.loop-machine-test.true, c.counted.ensures.counted, c.step_limit-limit.ensures.limit ∙ ap limit_of (c.edition.ensures ∙ c.requires.edition)))
+    turn_behind c.numbers_by.result c.loop-machine.machine c.go_on.new.self c.go_on.result c.current-step.result.now c.loop-machine.watches
+    (executed c.args.machine.now) c.args.machine.now.glyph c.args.unit (c.args.machine.now.counted + 1)
+    c.numbers_by.ensures c.loop-machine.invariant.font c.loop-machine.invariant.glyph c.requires.unit c.loop-machine.invariant.run
+    c.loop-machine.invariant.quiet
+    (omega (
+      arith,
+      c.loop-machine-test.true,
+      c.counted.ensures.counted,
+      c.step_limit-limit.ensures.limit
+          ∙ ap limit_of (c.edition.ensures ∙ c.requires.edition),
+    ))
     (sym c.is_over.ensures ∙ c.if-is_over.false) c.current-step.ensures c.go_on.ensures.asked
 
 pub loop-machine-smaller : goal.loop-machine-smaller
 loop-machine-smaller c =
-    fewer_turns_left (executed c.args.machine.now) c.args.machine.now.glyph c.args.unit (c.args.machine.now.counted + 1) c.loop-machine.machine.counted c.go_on.new.self.counted c.loop-machine.watches c.current-step.result.now (turn_quiet c)
-    (omega (arith, c.loop-machine-test.true, c.counted.ensures.counted, c.step_limit-limit.ensures.limit ∙ ap limit_of (c.edition.ensures ∙ c.requires.edition)))
+    fewer_turns_left (executed c.args.machine.now) c.args.machine.now.glyph c.args.unit (c.args.machine.now.counted + 1) c.loop-machine.machine.counted
+    c.go_on.new.self.counted c.loop-machine.watches c.current-step.result.now (turn_quiet c)
+    (omega (
+      arith,
+      c.loop-machine-test.true,
+      c.counted.ensures.counted,
+      c.step_limit-limit.ensures.limit
+          ∙ ap limit_of (c.edition.ensures ∙ c.requires.edition),
+    ))
 
 pub loop-machine-preserved : goal.loop-machine-preserved
 loop-machine-preserved c =
@@ -104,29 +153,49 @@ loop-machine-preserved c =
     let turn = turn_quiet c in
     let n = turn.before in
     let step = c.current-step.result.now in
-    let next = is_next_by c.args.sidebearings.now.edition font.edition c.requires.edition (steps_of font.value glyph) c.loop-machine.watches n step turn.told.listed turn.stands.run.seen_are in
-    let agrees = step_agrees font c.args.unit glyph n step c.args.sidebearings.now c.broken_at-rules.result c.requires.unit c.requires.run.there turn.told.listed c.requires.sidebearings c.requires.edition
+    let next = is_next_by c.args.sidebearings.now.edition font.edition c.requires.edition (steps_of font.value glyph) c.loop-machine.watches n step
+    turn.told.listed turn.stands.run.seen_are in
+    let agrees = step_agrees font c.args.unit glyph n step c.args.sidebearings.now c.broken_at-rules.result c.requires.unit c.requires.run.there
+    turn.told.listed c.requires.sidebearings c.requires.edition
     (λ k. c.broken_at-rules.ensures.broken (take n (steps_of font.value glyph)) next k) in
     let of_font = same_executed c.go_on.new.self c.loop-machine.machine c.go_on.ensures.font c.go_on.ensures.edition ∙ c.loop-machine.invariant.font in
     let of_glyph = c.go_on.ensures.glyph ∙ c.loop-machine.invariant.glyph in
     record {
       run = run_of font glyph c.go_on.new.self c.broken_at-rules.new.watches of_font of_glyph c.requires.run.there
-          (run_more font glyph n c.go_on.new.self.counted step c.broken_at-rules.new.watches turn.told (subst (λ e. HaveSeen e c.broken_at-rules.new.watches (take n (steps_of font.value glyph) ++ step_view step ∷ [])) c.requires.edition (c.broken_at-rules.ensures.seen (take n (steps_of font.value glyph)) next)));
+          (run_more font glyph n c.go_on.new.self.counted step c.broken_at-rules.new.watches turn.told
+          (subst (λ e. HaveSeen e c.broken_at-rules.new.watches (take n (steps_of font.value glyph) ++ step_view step ∷ [])) c.requires.edition
+          (c.broken_at-rules.ensures.seen (take n (steps_of font.value glyph)) next)));
       font = of_font;
       glyph = of_glyph;
       quiet = subst (λ k. IsQuiet font c.args.unit (c.args.machine.now.counted + 1) (k + 1)) (sym turn.told.counted_is)
-          (quiet_more font c.args.unit (c.args.machine.now.counted + 1) n step c.broken_at-rules.result turn.told.listed.number turn.stands.quiet agrees (c.has_rules.ensures c.if-has_rules.false));
+          (quiet_more font c.args.unit (c.args.machine.now.counted + 1) n step c.broken_at-rules.result turn.told.listed.number turn.stands.quiet agrees
+          (c.has_rules.ensures c.if-has_rules.false));
       least = omega (arith, c.loop-machine.invariant.least, turn.least, turn.told.counted_is);
     }
 
 pub returns-clause-found : goal.returns-clause-found
 returns-clause-found c =
-    quiet_limit (executed c.args.machine.now) c.args.unit c.args.machine.now.glyph (c.args.machine.now.counted + 1) c.loop-machine.machine.counted c.requires.unit
-    (omega (arith, c.loop-machine-test.false, c.counted.ensures.counted, c.step_limit-limit.ensures.limit ∙ ap limit_of (c.edition.ensures ∙ c.requires.edition))) c.loop-machine.invariant.quiet
+    quiet_limit (executed c.args.machine.now) c.args.unit c.args.machine.now.glyph (c.args.machine.now.counted + 1)
+    c.loop-machine.machine.counted c.requires.unit
+    (omega (
+      arith,
+      c.loop-machine-test.false,
+      c.counted.ensures.counted,
+      c.step_limit-limit.ensures.limit
+          ∙ ap limit_of (c.edition.ensures ∙ c.requires.edition),
+    )) c.loop-machine.invariant.quiet
 
 pub returns-clause-counted : goal.returns-clause-counted
 returns-clause-counted c =
     let font = executed c.args.machine.now in
     let glyph = c.args.machine.now.glyph in
-    turns_at_limit font glyph c.loop-machine.machine.counted (omega (arith, c.loop-machine-test.false, c.counted.ensures.counted, c.step_limit-limit.ensures.limit ∙ ap limit_of (c.edition.ensures ∙ c.requires.edition)))
-    (run_at font glyph c.loop-machine.machine c.loop-machine.watches c.loop-machine.invariant.font c.loop-machine.invariant.glyph c.loop-machine.invariant.run).counted_few
+    turns_at_limit font glyph c.loop-machine.machine.counted
+    (omega (
+      arith,
+      c.loop-machine-test.false,
+      c.counted.ensures.counted,
+      c.step_limit-limit.ensures.limit
+          ∙ ap limit_of (c.edition.ensures ∙ c.requires.edition),
+    ))
+    (run_at font glyph c.loop-machine.machine c.loop-machine.watches c.loop-machine.invariant.font c.loop-machine.invariant.glyph
+    c.loop-machine.invariant.run).counted_few

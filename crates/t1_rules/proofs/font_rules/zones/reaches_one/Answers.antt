@@ -13,4 +13,5 @@ pub returns : goal.returns
 returns c =
     let far : c.difference.result ≡ c.args.upper -ℤ c.args.lower = search rules in
     let same : c.from.result ≡ c.args.scale = search rules in
-    ap (int_le product_one) (product_is c.difference.result c.from.result c.args.upper c.args.lower c.args.scale far same c.ranges.upper c.ranges.lower c.ranges.scale)
+    ap (int_le product_one) (product_is c.difference.result c.from.result c.args.upper c.args.lower c.args.scale far same c.ranges.upper
+    c.ranges.lower c.ranges.scale)

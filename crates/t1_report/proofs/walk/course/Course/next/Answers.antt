@@ -12,15 +12,31 @@ returns-in-Some-clause-next c =
     let fault = c.fault_in-fault.result in
     subst (λ (aim : Aim). IsNext aim.font aim.waivers c.args.self.now.mark (fault_value fault)) c.loop-rule.invariant.aim
     (subst (λ mark. IsNext (checked_in now.search) now.search.waivers.now mark (fault_value fault)) c.loop-rule.invariant.mark
-    (next_fault now.search now.found now.mark c.floor-floor.result c.in-Some.rule fault c.loop-rule.invariant.course.hand c.floor-floor.ensures c.in-Some.ensures
-    (record { number_is = c.fault_in-fault.ensures.number; unit_is = c.fault_in-fault.ensures.unit; step_is = c.fault_in-fault.ensures.step; rule_is = c.fault_in-fault.ensures.rule; path_is = c.fault_in-fault.ensures.path })))
+    (next_fault now.search now.found now.mark c.floor-floor.result c.in-Some.rule fault c.loop-rule.invariant.course.hand
+    c.floor-floor.ensures c.in-Some.ensures
+    (record {
+      number_is = c.fault_in-fault.ensures.number;
+      unit_is = c.fault_in-fault.ensures.unit;
+      step_is = c.fault_in-fault.ensures.step;
+      rule_is =
+          c.fault_in-fault.ensures.rule;
+      path_is = c.fault_in-fault.ensures.path;
+    })))
 
 pub returns-in-Some-clause-turns : goal.returns-in-Some-clause-turns
 returns-in-Some-clause-turns c =
     let now = c.loop-rule.self in
     let fault = c.fault_in-fault.result in
-    turns_found now.search now.found now.mark c.in-Some.rule fault c.loop-rule.invariant.course.searches c.loop-rule.invariant.course.hand c.in-Some.ensures.is_in
-    (record { number_is = c.fault_in-fault.ensures.number; unit_is = c.fault_in-fault.ensures.unit; step_is = c.fault_in-fault.ensures.step; rule_is = c.fault_in-fault.ensures.rule; path_is = c.fault_in-fault.ensures.path })
+    turns_found now.search now.found now.mark c.in-Some.rule fault c.loop-rule.invariant.course.searches
+    c.loop-rule.invariant.course.hand c.in-Some.ensures.is_in
+    (record {
+      number_is = c.fault_in-fault.ensures.number;
+      unit_is = c.fault_in-fault.ensures.unit;
+      step_is = c.fault_in-fault.ensures.step;
+      rule_is =
+          c.fault_in-fault.ensures.rule;
+      path_is = c.fault_in-fault.ensures.path;
+    })
     ∙ ap (λ (aim : Aim). turns_at aim.font aim.waivers aim.from aim.first fault.unit fault.step) c.loop-rule.invariant.aim
 
 pub returns-in-Some-clause-course : goal.returns-in-Some-clause-course
@@ -31,14 +47,23 @@ returns-in-Some-clause-course c =
       searches = c.loop-rule.invariant.course.searches;
       hand = subst (λ mark. HasInHand now.search now.found mark) (sym c.mark_at-self.ensures)
           (hand_marked now.search now.found now.mark (fault_value fault) c.loop-rule.invariant.course.hand
-          (next_fault now.search now.found now.mark c.floor-floor.result c.in-Some.rule fault c.loop-rule.invariant.course.hand c.floor-floor.ensures c.in-Some.ensures
-          (record { number_is = c.fault_in-fault.ensures.number; unit_is = c.fault_in-fault.ensures.unit; step_is = c.fault_in-fault.ensures.step; rule_is = c.fault_in-fault.ensures.rule; path_is = c.fault_in-fault.ensures.path })));
+          (next_fault now.search now.found now.mark c.floor-floor.result c.in-Some.rule fault c.loop-rule.invariant.course.hand
+          c.floor-floor.ensures c.in-Some.ensures
+          (record {
+            number_is = c.fault_in-fault.ensures.number;
+            unit_is = c.fault_in-fault.ensures.unit;
+            step_is = c.fault_in-fault.ensures.step;
+            rule_is =
+                c.fault_in-fault.ensures.rule;
+            path_is = c.fault_in-fault.ensures.path;
+          })));
     }
 
 pub loop-rule-smaller : goal.loop-rule-smaller
 loop-rule-smaller c =
     let now = c.loop-rule.self in
-    fewer_places now.search c.next.new.self c.in-Some-next.found c.loop-rule.invariant.course.searches (ap (λ (aim : Aim). aim.font) c.next.ensures.aim) c.in-Some-next.ensures.found c.in-Some-next.ensures.behind
+    fewer_places now.search c.next.new.self c.in-Some-next.found c.loop-rule.invariant.course.searches (ap (λ (aim : Aim). aim.font) c.next.ensures.aim)
+    c.in-Some-next.ensures.found c.in-Some-next.ensures.behind
 
 pub loop-rule-preserved : goal.loop-rule-preserved
 loop-rule-preserved c =
@@ -46,8 +71,10 @@ loop-rule-preserved c =
     record {
       course = record {
         searches = c.next.ensures.search;
-        hand = hand_found now.search c.next.new.self now.found c.in-Some-next.found now.mark c.floor-floor.result c.loop-rule.invariant.course.hand c.floor-floor.ensures c.in_default.ensures
-            (ap (λ (aim : Aim). aim.font) c.next.ensures.aim) (ap (λ (aim : Aim). aim.waivers) c.next.ensures.aim) c.in-Some-next.ensures.found c.in-Some-next.ensures.behind;
+        hand = hand_found now.search c.next.new.self now.found c.in-Some-next.found now.mark c.floor-floor.result c.loop-rule.invariant.course.hand
+            c.floor-floor.ensures c.in_default.ensures
+            (ap (λ (aim : Aim). aim.font) c.next.ensures.aim) (ap (λ (aim : Aim). aim.waivers) c.next.ensures.aim) c.in-Some-next.ensures.found
+            c.in-Some-next.ensures.behind;
       };
       aim = c.next.ensures.aim ∙ c.loop-rule.invariant.aim;
       mark = c.loop-rule.invariant.mark;
@@ -58,7 +85,8 @@ returns-in-None-clause-next c =
     let now = c.loop-rule.self in
     subst (λ (aim : Aim). HasNoneLater aim.font aim.waivers c.args.self.now.mark) c.loop-rule.invariant.aim
     (subst (λ mark. HasNoneLater (checked_in now.search) now.search.waivers.now mark) c.loop-rule.invariant.mark
-    (hand_none now.search now.found now.mark c.floor-floor.result c.loop-rule.invariant.course.hand c.floor-floor.ensures c.in_default.ensures c.in-None.ensures.found))
+    (hand_none now.search now.found now.mark c.floor-floor.result c.loop-rule.invariant.course.hand c.floor-floor.ensures
+    c.in_default.ensures c.in-None.ensures.found))
 
 pub returns-in-None-clause-turns : goal.returns-in-None-clause-turns
 returns-in-None-clause-turns c =
@@ -74,5 +102,6 @@ returns-in-None-clause-course c =
       searches = c.next.ensures.search;
       hand = hand_empty new _ now.mark c.empty-self.ensures
           (subst (λ (aim : Aim). HasNoneLater aim.font aim.waivers now.mark) (sym c.next.ensures.aim)
-          (hand_none now.search now.found now.mark c.floor-floor.result c.loop-rule.invariant.course.hand c.floor-floor.ensures c.in_default.ensures c.in-None.ensures.found));
+          (hand_none now.search now.found now.mark c.floor-floor.result c.loop-rule.invariant.course.hand c.floor-floor.ensures
+          c.in_default.ensures c.in-None.ensures.found));
     }

@@ -6,7 +6,8 @@ use Rattle.t1_report.proofs.walk.font_places.FontPlaces.next.Goals as goal
 
 pub returns-then-has_rules-clause-found : goal.returns-then-has_rules-clause-found
 returns-then-has_rules-clause-found c = λ edition.
-    first_place (checked c.args.font.now edition) (font_step c.args.self.now) c.loop-self.self _ c.loop-self.invariant.places c.if-self.true c.loop-self.invariant.behind (c.loop-self.invariant.quiet edition)
+    first_place (checked c.args.font.now edition) (font_step c.args.self.now) c.loop-self.self _ c.loop-self.invariant.places c.if-self.true
+    c.loop-self.invariant.behind (c.loop-self.invariant.quiet edition)
     refl (ap (λ key. 65536 * key + c.loop-self.self.index) c.from.ensures) c.new.ensures c.font_faults-rules.ensures
 
 pub returns-then-has_rules-clause-places : goal.returns-then-has_rules-clause-places
@@ -23,7 +24,9 @@ loop-self-preserved-else-has_rules c =
     let few = few_index c.args.font.now c.loop-self.self c.loop-self.invariant.places c.if-self.true in
     record {
       places = record { key = c.loop-self.invariant.places.key; index = omega (arith, few); places = c.loop-self.invariant.places.places };
-      quiet = λ edition. place_passed (checked c.args.font.now edition) (font_step c.args.self.now) c.loop-self.self (record { key = c.loop-self.self.key; index = c.loop-self.self.index + 1; places = c.loop-self.self.places }) c.font_faults-rules.result c.loop-self.invariant.places c.if-self.true (c.loop-self.invariant.quiet edition)
+      quiet = λ edition. place_passed (checked c.args.font.now edition) (font_step c.args.self.now) c.loop-self.self
+          (record { key = c.loop-self.self.key; index = c.loop-self.self.index + 1; places = c.loop-self.self.places }) c.font_faults-rules.result
+          c.loop-self.invariant.places c.if-self.true (c.loop-self.invariant.quiet edition)
           c.font_faults-rules.ensures (c.has_rules.ensures c.if-has_rules.false) (omega arith);
       behind = omega (arith, c.loop-self.invariant.behind);
     }
@@ -31,7 +34,9 @@ loop-self-preserved-else-has_rules c =
 pub loop-self-preserved : goal.loop-self-preserved
 loop-self-preserved c = record {
   places = record { key = omega (arith, c.loop-self-test.true); index = omega arith; places = c.places-self.ensures };
-  quiet = λ edition. key_passed (checked c.args.font.now edition) (font_step c.args.self.now) c.loop-self.self (record { key = c.loop-self.self.key + 1; index = 0; places = c.places-self.result }) c.loop-self.invariant.places c.if-self.false (c.loop-self.invariant.quiet edition) refl refl;
+  quiet = λ edition. key_passed (checked c.args.font.now edition) (font_step c.args.self.now) c.loop-self.self
+      (record { key = c.loop-self.self.key + 1; index = 0; places = c.places-self.result }) c.loop-self.invariant.places c.if-self.false
+      (c.loop-self.invariant.quiet edition) refl refl;
   behind = omega (arith, c.loop-self.invariant.behind, c.loop-self.invariant.places.index);
 }
 

@@ -11,7 +11,8 @@ loop-self-preserved c =
     record {
       search = c.next_unit.ensures.search;
       aim = c.next_unit.ensures.aim ∙ c.next_in_unit.ensures.aim ∙ c.loop-self.invariant.aim;
-      passed = next_passed (checked_in s) s.waivers.now s.unit (step_of_part s.part) now.unit (step_of_part now.part) new.unit (step_of_part new.part) c.loop-self.invariant.passed
+      passed = next_passed (checked_in s) s.waivers.now s.unit (step_of_part s.part) now.unit (step_of_part now.part) new.unit
+          (step_of_part new.part) c.loop-self.invariant.passed
           (subst (λ (aim : Aim). TellsNoneFrom aim.font aim.waivers now.unit (step_of_part now.part)) c.loop-self.invariant.aim c.in_default.ensures.found)
           (omega (arith, c.next_unit.ensures.unit, c.next_in_unit.ensures.unit)) c.next_unit.ensures.start;
     }
@@ -21,4 +22,6 @@ returns-clause-found c =
     let s = c.args.self.now in
     let now = c.loop-self.self in
     none_past (checked_in s) s.waivers.now s.unit (step_of_part s.part) now.unit (step_of_part now.part) c.loop-self.invariant.passed
-    (subst (λ (aim : Aim). length aim.font.value.glyphs + 1 < now.unit) c.loop-self.invariant.aim (over_past (checked_in now) now.waivers.now now.from now.first now.unit now.passed now.checked now.part c.loop-self.invariant.search.part_is (sym c.loop-self-test.ensures)))
+    (subst (λ (aim : Aim). length aim.font.value.glyphs + 1 < now.unit) c.loop-self.invariant.aim
+    (over_past (checked_in now) now.waivers.now now.from now.first now.unit now.passed now.checked now.part c.loop-self.invariant.search.part_is
+    (sym c.loop-self-test.ensures)))

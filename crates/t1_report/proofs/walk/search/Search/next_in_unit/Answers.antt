@@ -4,7 +4,8 @@ use Rattle.t1_report.proofs.Units.{few_passed}
 use Rattle.t1_report.proofs.walk.search.Search.next_in_unit.Goals as goal
 
 pub returns-in-Font-clause-found : goal.returns-in-Font-clause-found
-returns-in-Font-clause-found c = told_of_font c.args.self.now c.in-Font.places c.next.result c.in-Font.is c.requires.search (c.next.ensures.found c.args.self.now.sidebearings.now.edition)
+returns-in-Font-clause-found c = told_of_font c.args.self.now c.in-Font.places c.next.result c.in-Font.is c.requires.search
+    (c.next.ensures.found c.args.self.now.sidebearings.now.edition)
 
 pub returns-in-Some-clause-found : goal.returns-in-Some-clause-found
 returns-in-Some-clause-found c =
@@ -15,11 +16,13 @@ pub returns-in-None-clause-found : goal.returns-in-None-clause-found
 returns-in-None-clause-found c = none_of_glyph c.args.self.now c.in-Glyph.run' c.in-Glyph.is c.requires.search c.in-None.ensures.found
 
 pub returns-then-next-len-clause-found : goal.returns-then-next-len-clause-found
-returns-then-next-len-clause-found c = none_of_waivers c.args.self.now c.in-Waivers.next c.in-Waivers.is c.requires.search (omega (arith, c.if-next-len.true, c.len.ensures.len))
+returns-then-next-len-clause-found c = none_of_waivers c.args.self.now c.in-Waivers.next c.in-Waivers.is c.requires.search
+    (omega (arith, c.if-next-len.true, c.len.ensures.len))
 
 pub returns-else-next-len-clause-found : goal.returns-else-next-len-clause-found
 returns-else-next-len-clause-found c =
-    told_of_next c.args.self.now c.in-Waivers.next _ c.in-Waivers.is c.requires.search (omega arith) (omega arith) c.new.ensures c.check_waiver-check.ensures.rules
+    told_of_next c.args.self.now c.in-Waivers.next _ c.in-Waivers.is c.requires.search (omega arith) (omega arith) c.new.ensures
+    c.check_waiver-check.ensures.rules
 
 pub overflow_add-self : goal.overflow_add-self
 overflow_add-self c = omega (arith, (few_passed c.args.self.now c.requires.search).1, c.from.ensures, c.check_waiver-check.ensures.few)
@@ -27,6 +30,7 @@ overflow_add-self c = omega (arith, (few_passed c.args.self.now c.requires.searc
 pub returns-else-next-len-clause-search : goal.returns-else-next-len-clause-search
 returns-else-next-len-clause-search c =
     record {
-      part_is = next_asked c.args.self.now c.in-Waivers.next c.from.result c.in-Waivers.is c.requires.search (omega (arith, c.if-next-len.false, c.len.ensures.len)) (c.from.ensures ∙ c.check_waiver-check.ensures.turns);
+      part_is = next_asked c.args.self.now c.in-Waivers.next c.from.result c.in-Waivers.is c.requires.search
+          (omega (arith, c.if-next-len.false, c.len.ensures.len)) (c.from.ensures ∙ c.check_waiver-check.ensures.turns);
       components_are = c.requires.search.components_are;
     }

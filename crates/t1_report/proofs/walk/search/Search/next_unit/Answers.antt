@@ -16,8 +16,11 @@ pub returns-clause-search : goal.returns-clause-search
 returns-clause-search c =
     let s = c.args.self.now in
     record {
-      part_is = subst (λ n. IsPart (checked_in s) s.waivers.now s.from s.first (s.unit + 1) (s.passed + n) s.checked c.begin.new.part) (sym c.turns_in_part.ensures.turns)
-          (part_next (checked_in s) s.waivers.now s.from s.first s.unit s.passed s.checked s.part c.begin.new.part c.requires.search.part_is c.requires.under_way c.requires.done
-          (subst (λ e. IsPartBegun (checked s.font.now e) s.waivers.now s.unit 0 c.begin.new.part) c.edition-edition.ensures c.begin.ensures.part) c.begin.ensures.few c.begin.ensures.few_waivers);
+      part_is = subst (λ n. IsPart (checked_in s) s.waivers.now s.from s.first (s.unit + 1) (s.passed + n) s.checked c.begin.new.part)
+          (sym c.turns_in_part.ensures.turns)
+          (part_next (checked_in s) s.waivers.now s.from s.first s.unit s.passed s.checked s.part c.begin.new.part c.requires.search.part_is
+          c.requires.under_way c.requires.done
+          (subst (λ e. IsPartBegun (checked s.font.now e) s.waivers.now s.unit 0 c.begin.new.part) c.edition-edition.ensures c.begin.ensures.part)
+          c.begin.ensures.few c.begin.ensures.few_waivers);
       components_are = c.requires.search.components_are;
     }
