@@ -7,9 +7,9 @@ use Rattle.t1_char.specs.declared.frames.Frames.{Frames}
 use Rattle.t1_char.specs.declared.token.CharToken.{CharToken}
 use Rattle.t1_char.specs.declared.token.CharToken.TheVariants.{Command, Cut, Number}
 use Rattle.t1_char.specs.Charstrings.{code_at, tokens_in}
-use Rattle.t1_char.specs.Effects.{State, CalledSubr, Action, goes, calls, returns, finishes, effect, effect_of, most_calls}
+use Rattle.t1_char.specs.Effects.{State, CalledSubr, Action, goes, calls, returns, finishes, effect, effect_of, most_calls, state_of}
 use Rattle.t1_char.specs.Steps.{StepView, at_start, is_callsubr, named_at, effect_at, step_at, steps_of}
-use Rattle.t1_char.specs.Private.Actions.{named_of, state_of}
+use Rattle.t1_char.specs.Private.Actions.{named_of}
 use Rattle.t1_char.specs.Private.Cursors.{tokens_left}
 use Rattle.t1_char.specs.Rests.{frame, rest_of}
 use Rattle.t1_char.specs.Private.Frames.{IsReady, frames_with, left_behind, callers_of, state_in, step_here, steps_from, steps_behind}

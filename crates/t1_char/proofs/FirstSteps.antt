@@ -4,9 +4,8 @@ use Rattle.t1_char.specs.declared.cursor.Cursor.{Cursor}
 use Rattle.t1_char.specs.declared.step.Step.{Step}
 use Rattle.t1_char.specs.declared.expansion.Listing.{Listing}
 use Rattle.t1_char.specs.Charstrings.{code_at, tokens_in}
-use Rattle.t1_char.specs.Effects.{State, most_calls}
+use Rattle.t1_char.specs.Effects.{State, most_calls, state_of}
 use Rattle.t1_char.specs.Steps.{at_start, expansion, numbered, steps_of, first_steps}
-use Rattle.t1_char.specs.Private.Actions.{state_of}
 use Rattle.t1_char.specs.Private.Cursors.{tokens_left}
 use Rattle.t1_char.specs.Private.Listings.{steps_in, run_from}
 use Rattle.t1_char.specs.StepValues.{step_view, step_value}

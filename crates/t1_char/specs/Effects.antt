@@ -14,6 +14,9 @@ pub record State : Type 0 where
   pub stack : List ℤ
   pub waiting : List ℤ
 
+abbrev pub state_of : List ℤ → List ℤ → State
+state_of stack waiting = record { stack = stack; waiting = waiting }
+
 -- A Subr that is called: its number and its charstring.
 pub record CalledSubr : Type 0 where
   pub number : ℕ

@@ -1,7 +1,7 @@
 -- The numbers on the stack, in units of 1/65536. Type 1 Font Format 1.1, chapter 6 (Charstring Number
 -- Encoding; div). The unit, the cut of a quotient, and that one past the range of 32000 is kept within it
 -- are this project's own.
-use Rattle.std.specs.Prelude.{ℕ, ℤ, pos, negsuc, ◌*ℤ◌, ◌*◌, ◌-◌, ◌/◌, ◌%◌, ◌^◌, ◌==◌, ◌&&◌, nat_lt, if◌then◌else◌, Option, Some, None, int_div}
+use Rattle.std.specs.Prelude.{ℕ, ℤ, pos, negsuc, neg_ℤ, ◌*ℤ◌, ◌*◌, ◌/◌, ◌%◌, ◌^◌, ◌==◌, ◌&&◌, nat_lt, if◌then◌else◌, Option, Some, None, int_div}
 use Rattle.std.specs.Int.{int_max, int_min}
 use Rattle.std.specs.Ordering.{int_eq}
 
@@ -11,10 +11,10 @@ unit = 65536
 
 -- The greatest number of the range, 32000, and the least.
 abbrev pub greatest : ℤ
-greatest = pos (32000 * 65536)
+greatest = pos (32000 * unit)
 
 abbrev pub least : ℤ
-least = negsuc (32000 * 65536 - 1)
+least = neg_ℤ greatest
 
 -- A number of a charstring in these units.
 abbrev pub units : ℤ → ℤ

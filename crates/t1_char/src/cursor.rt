@@ -1,4 +1,4 @@
-//! A place in a charstring, at which it is deciphered as it is read.
+//! A place in a charstring, at which it is deciphered as it is read: Type 1 Font Format 1.1, chapters 6 and 7.
 
 ghost use Rattle.std.specs.Prelude.{◌≡◌, false, true, ◌/◌, bit_xor, IfSome, MatchOption, [], ◌∷◌, drop, length};
 ghost use Rattle.t1_seal.specs.Laws.Cipher.{next_state};

@@ -3,9 +3,9 @@
 
 ghost use Rattle.std.specs.Prelude.{◌≡◌, ◌≤◌, false, length, true};
 ghost use Rattle.t1_char.specs.declared.token.CharToken.TheVariants.{Number};
-ghost use Rattle.t1_char.specs.Effects.{after_othersubr, call_of, divided, effect, effect_of, most_results, popped, results, work_of, working};
+ghost use Rattle.t1_char.specs.Effects.{after_othersubr, call_of, divided, effect, effect_of, most_results, popped, results, work_of, working, state_of};
 ghost use Rattle.t1_char.specs.Stacks.{topmost, without};
-ghost use Rattle.t1_char.specs.Private.Actions.{IsNested, action_of, named_of, state_of, work_view};
+ghost use Rattle.t1_char.specs.Private.Actions.{IsNested, action_of, named_of, work_view};
 ghost use Rattle.t1_char.specs.Private.Plain.{IsPlainEffect, is_clearing};
 
 use crate::action::{Action, Work, work_of};

@@ -1,4 +1,4 @@
-//! A glyph's steps as a list.
+//! A glyph's steps as a list: Type 1 Font Format 1.1, chapters 6 and 8.
 
 ghost use Rattle.std.specs.Prelude.{◌^◌, ◌≡◌, ◌≤◌, ◌<◌, ◌-◌, ◌++◌, ◌∷◌, [], false, IfOk, MatchBool, OnOk, length, map};
 ghost use Rattle.t1_char.specs.Editions.{limit_of};

@@ -1,4 +1,5 @@
-//! The charstrings that are being executed: a glyph's, and those of the Subrs that it calls.
+//! The charstrings that are being executed: a glyph's, and those of the Subrs that it calls. Type 1 Font Format 1.1, chapters 6
+//! and 8.
 
 ghost use Rattle.std.specs.Prelude.{◌≡◌, ◌<◌, ◌≤◌, ◌-◌, ◌++◌, ◌∷◌, [], if◌then◌else◌, false, is_some, length, take, true};
 ghost use Rattle.t1_char.specs.Charstrings.{tokens_in};

@@ -2,7 +2,7 @@
 //! Encoding; div).
 
 ghost use Rattle.std.specs.Prelude.{◌≡◌, ◌≢◌, pos};
-ghost use Rattle.t1_char.specs.Numbers.{clamped, cut_quotient, natural, quotient, units};
+ghost use Rattle.t1_char.specs.Numbers.{cut_quotient, natural, quotient, units};
 
 /// 1, in units of 1/65536.
 pub const UNIT: i64 = 65_536;
@@ -25,7 +25,8 @@ pub(crate) fn quotient(dividend: i64, divisor: i64) -> i64
     if divisor == 0 {
         return 0;
     }
-    clamped(cut_quotient(dividend, divisor))
+    let greatest = i128::from(GREATEST);
+    cut_quotient(dividend, divisor).clamp(-greatest, greatest) as i64
 }
 
 /// The quotient of two numbers in units of 1/65536, cut towards zero, before div keeps it within -32000
@@ -35,13 +36,6 @@ pub fn cut_quotient(dividend: i64, divisor: i64) -> i128
     ensures { result ≡ cut_quotient dividend divisor }
 {
     i128::from(dividend) * i128::from(UNIT) / i128::from(divisor)
-}
-
-/// The number from -32000 to 32000 that is nearest.
-fn clamped(number: i128) -> i64
-    ensures { result ≡ clamped number }
-{
-    number.clamp(-i128::from(GREATEST), i128::from(GREATEST)) as i64
 }
 
 /// The number as a count or the number of a Subr, where it is whole and not negative.

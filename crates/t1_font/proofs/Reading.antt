@@ -5,7 +5,8 @@ use Rattle.t1_font.specs.declared.mode.ClearMode.TheVariants as clear_modes
 use Rattle.t1_font.specs.declared.mode.PrivateMode.TheVariants.{Outside}
 use Rattle.t1_font.specs.declared.refusal.Refusal.{Refusal}
 use Rattle.t1_font.specs.declared.refusal.Refusal.TheVariants.{NoEexec, Unclosed, BadSubrs, BadCharStrings, BadLenIv, PastLimit, SecondSubrs, MultipleMaster, Memory}
-use Rattle.t1_font.specs.Readings.{Refuses}
+use Rattle.t1_font.specs.Readings.{is_memory}
+use Rattle.t1_seal.specs.Readings.{RefusesBy}
 use Rattle.t1_font.specs.Fonts.{Stated, Marks, FontValue, value_of}
 use Rattle.t1_font.specs.TextTurns.{TextRead, stated_in}
 use Rattle.t1_font.specs.Runs.{FontRead, run_of, value_read}
@@ -48,8 +49,8 @@ alone_read : (marks : Marks) (read : Result TextRead Refusal) → value_alone (v
 alone_read marks (Ok read) = refl
 alone_read marks (Err e) = refl
 
-clear_error : (marks : Marks) (s : List ℕ) (read : Result TextRead Refusal) (e : Refusal) → Refuses e (value_read marks read)
-    → Refuses e (clear_value_of marks s read)
+clear_error : (marks : Marks) (s : List ℕ) (read : Result TextRead Refusal) (e : Refusal) → RefusesBy is_memory e (value_read marks read)
+    → RefusesBy is_memory e (clear_value_of marks s read)
 clear_error marks s (Ok read) NoEexec given = cc
 clear_error marks s (Ok read) Unclosed given = cc
 clear_error marks s (Ok read) BadSubrs given = cc
@@ -97,7 +98,7 @@ clear_is_behind marks text s rest old v same start begins given found is =
     ∙ ap (drop (length text - length rest)) same
 
 pub clear_is_refused : (marks : Marks) (text s : List ℕ) (old : FontValue) (e : Refusal) → text ≡ s → old ≡ value_of marks [] → begins_as_font text ≡ true
-    → Refuses e (run_of clear_turn NoEexec old clear_modes.Outside text) → Refuses e (clear_read marks s)
+    → RefusesBy is_memory e (run_of clear_turn NoEexec old clear_modes.Outside text) → RefusesBy is_memory e (clear_read marks s)
 unfolding clear_of
 clear_is_refused marks text s old e same start begins given =
     let run = rw (start, read_as_stated clear_turn NoEexec marks [] clear_modes.Outside text) at given in
@@ -119,5 +120,5 @@ pub font_is_read : (marks : Marks) (before : List Stated) (s : List ℕ) (old v 
 font_is_read marks before s old v start given = sym (font_run marks before s old start) ∙ given
 
 pub font_is_refused : (marks : Marks) (before : List Stated) (s : List ℕ) (old : FontValue) (e : Refusal) → old ≡ value_of marks before
-    → Refuses e (value_alone (run_of private_turn BadCharStrings old Outside s)) → Refuses e (font_read marks before s)
+    → RefusesBy is_memory e (value_alone (run_of private_turn BadCharStrings old Outside s)) → RefusesBy is_memory e (font_read marks before s)
 font_is_refused marks before s old e start given = rw (font_run marks before s old start) at given

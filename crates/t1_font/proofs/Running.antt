@@ -2,7 +2,8 @@
 use Rattle.std.proofs.Common.{◌≡◌, ◌<◌, ℕ, zero, suc, Option, Some, None, Result, Ok, Err, IfOk, List, [], ◌∷◌, ◌++◌, length, refl, ap, sym, ◌∙◌, arith, append_assoc, length-append}
 use Rattle.t1_font.specs.declared.refusal.Refusal.{Refusal}
 use Rattle.t1_font.specs.declared.refusal.Refusal.TheVariants.{NoEexec, Unclosed, BadSubrs, BadCharStrings, BadLenIv, PastLimit, SecondSubrs, MultipleMaster, Memory}
-use Rattle.t1_font.specs.Readings.{◌>>=◌, Refuses}
+use Rattle.t1_font.specs.Readings.{◌>>=◌, is_memory}
+use Rattle.t1_seal.specs.Readings.{RefusesBy}
 use Rattle.t1_font.specs.Fonts.{Stated, Marks, FontValue, value_of}
 use Rattle.t1_font.specs.Puts.{put, put_one}
 use Rattle.t1_font.specs.TextTurns.{TextTurn, over, goes, TextRead, Reader, with_one, stated_within}
@@ -134,7 +135,7 @@ module _ {M : Type 0} (turn : Reader M) (ended : Refusal) (marks : Marks)
       ]
 
 -- A refusal that was read is the one that is given.
-pub fails : {Y : Type 0} (e : Refusal) (read : Result Y Refusal) → read ≡ Err e → Refuses e read
+pub fails : {Y : Type 0} (e : Refusal) (read : Result Y Refusal) → read ≡ Err e → RefusesBy is_memory e read
 fails NoEexec read h = h
 fails Unclosed read h = h
 fails BadSubrs read h = h

@@ -1,5 +1,6 @@
 -- Words that private contracts alone cite: no clause of a public function rests on them.
 pub mod Items
+pub mod KeyValues
 pub mod Readings
 pub mod Room
 pub mod Statements

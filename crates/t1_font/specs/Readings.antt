@@ -2,7 +2,7 @@
 use Rattle.std.specs.Prelude.{Bool, true, false, Result, Ok, Err}
 use Rattle.t1_font.specs.declared.refusal.Refusal.{Refusal}
 use Rattle.t1_font.specs.declared.refusal.Refusal.TheVariants.{Memory}
-use Rattle.t1_seal.specs.Readings.{ReadsBy, RefusesBy}
+use Rattle.t1_seal.specs.Readings.{ReadsBy}
 
 -- What is read next from what was read first; the first refusal stands.
 infixl 10 ◌>>=◌
@@ -14,10 +14,6 @@ abbrev pub ◌>>=◌ : {X Y : Type 0} → Result X Refusal → (X → Result Y R
 abbrev pub is_memory : Refusal → Bool
 is_memory Memory = true
 is_memory _ = false
-
--- The refusal is the one that was read, unless memory ran out.
-abbrev pub Refuses : {Y : Type 0} → Refusal → Result Y Refusal → Type 0
-Refuses e read = RefusesBy is_memory e read
 
 -- What a call returned, seen by view, is what was read, unless memory ran out.
 abbrev pub Reads : {X Y : Type 0} → (X → Y) → Result X Refusal → Result Y Refusal → Type 0

@@ -13,10 +13,6 @@ pub data Value : Type 0 where
   numbers : ℕ → List ℤ → Value
   other : Value
 
--- The values of the keys, each at its key's place.
-abbrev pub KeyValues : Type 0
-KeyValues = List Value
-
 -- What a list has next: nothing, a number and what follows it, or something else.
 pub data ListItem : Type 0 where
   ends : ListItem

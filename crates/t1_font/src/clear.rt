@@ -1,4 +1,4 @@
-//! The two calls that read a font: first its clear text, then its private text.
+//! The two calls that read a font: first its clear text, then its private text. Type 1 Font Format 1.1, chapters 2 and 7.
 
 ghost use Rattle.std.specs.Prelude.{◌≡◌, ◌≤◌, IfOk, List, Ok, drop, length};
 ghost use Rattle.t1_font.specs.ClearText.{begins_as_font, clear_of};

@@ -1,4 +1,4 @@
-//! The font: what was stated last of each thing.
+//! The font: what was stated last of each thing. Type 1 Font Format 1.1, chapter 2.
 
 ghost use Rattle.std.specs.Prelude.{◌≡◌, ◌≤◌, [], false, Some, nat_eq, length, map, is_some, OnOk, IfErr, slice_index_or};
 ghost use Rattle.std.specs.Option.{unwrap_or};

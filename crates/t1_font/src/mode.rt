@@ -1,4 +1,4 @@
-//! Where in a text reading is: what the next token belongs to.
+//! Where in a text reading is: what the next token belongs to. Type 1 Font Format 1.1, chapter 2.
 
 /// In the clear text.
 #[derive(Clone, Copy, Debug, PartialEq, Eq)]

@@ -10,18 +10,18 @@ use crate::key::Key;
 use std::marker::Model;
 
 /// How many plain keys there are.
-const KEYS: usize = 18;
+const PLAIN_KEYS: usize = 18;
 
 /// What each plain key has, at the key's place.
 #[derive(Drop)]
 pub(crate) struct PlainValues {
-    entries: [Entry; KEYS],
+    entries: [Entry; PLAIN_KEYS],
 }
 
 impl Model for PlainValues {
     ghost use Rattle.std.specs.Prelude.{map};
     ghost use Rattle.t1_font.specs.Entries.{entry_view};
-    ghost use Rattle.t1_font.specs.Values.{KeyValues};
+    ghost use Rattle.t1_font.specs.Private.KeyValues.{KeyValues};
 
     ghost Value = { KeyValues };
 

@@ -1,4 +1,4 @@
-//! What a font's texts state, one turn of reading after another.
+//! What a font's texts state, one turn of reading after another: Type 1 Font Format 1.1, chapter 2.
 
 use crate::encoding::Encoding;
 use crate::key::Key;

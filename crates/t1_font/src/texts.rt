@@ -1,4 +1,4 @@
-//! The two texts of a font, read turn by turn.
+//! The two texts of a font, read turn by turn: Type 1 Font Format 1.1, chapter 2.
 
 ghost use Rattle.std.specs.Prelude.{◌≡◌, List, OnOk};
 ghost use Rattle.t1_font.specs.declared.mode.ClearMode.TheVariants as clear_modes;

@@ -1,5 +1,5 @@
-//! Tokens and raw bytes, as the texts of a font are read by them. Each reader takes what is left of a
-//! text, and gives what it reads and what is left behind that.
+//! Tokens and raw bytes, as the texts of a font are read by them: Type 1 Font Format 1.1, chapter 2. Each
+//! reader takes what is left of a text, and gives what it reads and what is left behind that.
 
 ghost use Rattle.std.specs.Prelude.{◌≡◌};
 ghost use Rattle.t1_font.specs.Private.Readings.{Is};

@@ -1,5 +1,5 @@
 -- What is told of a refusal, after `refused: `.
-use Rattle.std.specs.Prelude.{ℕ, List, [], ◌∷◌, codes}
+use Rattle.std.specs.Prelude.{ℕ, List, codes}
 use Rattle.t1_lines.specs.declared.refusal.RefusalCode.{RefusalCode}
 use Rattle.t1_lines.specs.declared.refusal.RefusalCode.TheVariants.{E01, E02, E03, E04, E05, E06, E07, E08, E09, E10, E11, E12, E13, E14, E15}
 
@@ -19,7 +19,3 @@ refusal_text_of E12 = codes "E12 second Subrs"
 refusal_text_of E13 = codes "E13 multiple master font"
 refusal_text_of E14 = codes "E14 waivers malformed"
 refusal_text_of E15 = codes "E15 waivers past their limit"
-
--- All refusals, in the order of their numbers.
-abbrev pub refusals : List RefusalCode
-refusals = E01 ∷ E02 ∷ E03 ∷ E04 ∷ E05 ∷ E06 ∷ E07 ∷ E08 ∷ E09 ∷ E10 ∷ E11 ∷ E12 ∷ E13 ∷ E14 ∷ E15 ∷ []

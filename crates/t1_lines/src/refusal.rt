@@ -1,8 +1,8 @@
 //! Why a font, or a file of waivers, is refused.
 
 ghost use Rattle.std.specs.Prelude.{◌≡◌};
-ghost use Rattle.t1_lines.specs.RefusalTexts.{refusal_text_of, refusals};
-ghost use Rattle.t1_lines.specs.Private.Reading.{refusal_of};
+ghost use Rattle.t1_lines.specs.RefusalTexts.{refusal_text_of};
+ghost use Rattle.t1_lines.specs.Private.Reading.{refusal_of, refusals};
 
 /// Why there is no report, by its number.
 #[derive(Clone, Copy, Debug, PartialEq, Eq)]

@@ -1,7 +1,8 @@
 -- What a walk has in hand: the next of its rules, the next place, and that there is none.
 use Rattle.std.proofs.Common.{◌≡◌, ◌⊎◌, ℕ, suc, ◌+◌, ◌-◌, ◌*◌, ◌<◌, ◌≤◌, inl, inr, true, false, true≢false, List, length, refl, sym, ap, subst, ◌∙◌, arith, cond}
-use Rattle.std.proofs.lemmas.Bool.{cases_lt, eq-eqb, ne_eqb}
-use Rattle.t1_report.specs.Checked.{CheckedFont, executed}
+use Rattle.std.proofs.lemmas.Bool.{cases_lt, eq-eqb, le-leb, lt-leb, ne_eqb}
+use Rattle.t1_report.specs.Private.Units.{executed}
+use Rattle.t1_report.specs.Checked.{CheckedFont}
 use Rattle.t1_rules.specs.declared.rule.Rule.{Rule}
 use Rattle.t1_rules.specs.Book.{number_of}
 use Rattle.t1_rules.specs.Mask.{HasNoneAbove, IsLeastAbove, has}
@@ -12,13 +13,14 @@ use Rattle.t1_report.specs.declared.walk.found.Found.{Found}
 use Rattle.t1_report.specs.declared.walk.search.Part.{Part}
 use Rattle.t1_report.specs.declared.walk.search.Part.TheVariants.{Font, Glyph, Over, Waivers}
 use Rattle.t1_report.specs.declared.walk.search.Search.{Search}
-use Rattle.t1_report.specs.Private.Courses.{HasInHand, IsFloor, IsInHand, turns_so_far}
+use Rattle.t1_report.specs.Private.Courses.{AreToBeFound, HasInHand, IsFloor, IsInHand, turns_so_far}
 use Rattle.t1_report.specs.Faults.{FaultValue, fault_value}
 use Rattle.t1_report.specs.Reports.{Comes, Place, path_in, IsTold, is_told, spot, spot_of}
-use Rattle.t1_report.specs.Private.Searches.{HasNoneFrom, checked_in, IsFirstPlace, IsFrom, IsPart, IsSearch, step_of_part, turns_in}
-use Rattle.t1_report.specs.Walks.{HasNoneLater, IsLater, IsNext, mark_of, number_behind, turns_at, turns_before, turns_asked, turns_in_all}
+use Rattle.t1_report.specs.Private.Searches.{Aim, HasNoneFrom, IsDone, aim_of, checked_in, IsFirstPlace, IsFirstTold, IsFrom, IsPart, IsSearch, TellsNoneFrom, step_of_part, turns_in}
+use Rattle.t1_report.specs.UnitFaults.{HasNoneLaterInUnit, IsNextInUnit, turns_of_whole}
+use Rattle.t1_report.specs.Walks.{HasNoneLater, IsLater, IsNext, mark_of, number_behind, turns_at, turns_before, turns_asked, turns_in_all, turns_of_unit}
 use Rattle.t1_report.proofs.Fronts.{comes_on}
-use Rattle.t1_report.proofs.Units.{few_steps}
+use Rattle.t1_report.proofs.Units.{few_steps, turns_none}
 use Rattle.t1_report.specs.Waivers.{Waiver}
 
 -- ---- the beginning
@@ -175,12 +177,60 @@ turns_past font waivers from first unit passed checked Over (is, asked) past = o
 pub turns_over : (s : Search) → IsSearch s → length s.font.now.glyphs + 1 < s.unit → turns_so_far s ≡ turns_in_all (checked_in s) s.waivers.now s.from s.first
 turns_over s search past = turns_past (checked_in s) s.waivers.now s.from s.first s.unit s.passed s.checked s.part search.part_is past
 
+-- ---- turns of one unit
+
+whole_unit : (font : CheckedFont) (waivers : List Waiver) (unit : ℕ) → unit ≤ length font.value.glyphs
+    → turns_of_whole font waivers unit ≡ turns_of_unit font unit
+whole_unit font waivers unit within =
+    ap (λ b. cond b (turns_of_unit font unit) (turns_asked font waivers unit 0 (length waivers))) (le-leb unit (length font.value.glyphs) within)
+
+whole_waivers : (font : CheckedFont) (waivers : List Waiver) (unit first : ℕ) → length font.value.glyphs < unit → first ≡ 0
+    → turns_of_whole font waivers unit ≡ turns_asked font waivers unit first (length waivers)
+whole_waivers font waivers unit first behind none =
+    ap (λ b. cond b (turns_of_unit font unit) (turns_asked font waivers unit 0 (length waivers))) (lt-leb unit (length font.value.glyphs) behind)
+    ∙ ap (λ (f : ℕ). turns_asked font waivers unit f (length waivers)) (sym none)
+
+turns_of_part : (font : CheckedFont) (waivers : List Waiver) (first unit passed checked : ℕ) (part : Part)
+    → IsPart font waivers unit first unit passed checked part → IsDone font waivers unit part → first ≡ 0
+    → passed + turns_in part + checked ≡ turns_of_whole font waivers unit
+turns_of_part font waivers first unit passed checked (Font places) (is, none) done start =
+    let never : passed + 0 + checked ≡ 0 = omega (arith, is.none_passed, none) in
+    let within : unit ≤ length font.value.glyphs = omega (arith, is.unit_is) in
+    never ∙ ap (turns_of_unit font) (sym is.unit_is) ∙ sym (whole_unit font waivers unit within)
+turns_of_part font waivers first unit passed checked (Glyph run) (is, none) done start =
+    let there : run.machine.glyph < length font.value.glyphs =
+    subst (λ (f : CheckedFont). run.machine.glyph < length f.value.glyphs) is.font_is is.runs.there in
+    let before : turns_before font unit unit ≡ 0 = turns_none font unit unit (omega arith) in
+    let sum : passed + run.machine.counted + checked ≡ turns_of_unit font unit = omega (arith, is.passed_are, before, none, done) in
+    let within : unit ≤ length font.value.glyphs = omega (arith, is.unit_is, there) in
+    sum ∙ sym (whole_unit font waivers unit within)
+turns_of_part font waivers first unit passed checked (Waivers next) is done start =
+    let before : turns_before font unit unit ≡ 0 = turns_none font unit unit (omega arith) in
+    let last : next - 1 ≡ length waivers = omega (arith, is.within, done) in
+    let sum : passed + 0 + checked ≡ turns_asked font waivers unit first (next - 1) = omega (arith, is.passed_are, before, is.checked_are) in
+    let behind : length font.value.glyphs < unit = omega (arith, is.unit_is) in
+    sum ∙ ap (turns_asked font waivers unit first) last ∙ sym (whole_waivers font waivers unit first behind start)
+turns_of_part font waivers first unit passed checked Over (is, asked) done start =
+    let before : turns_before font unit (length font.value.glyphs + 1) ≡ 0 =
+    turns_none font unit (length font.value.glyphs + 1) (omega (arith, is.past)) in
+    let sum : passed + 0 + checked ≡ turns_asked font waivers unit first (length waivers) = omega (arith, is.passed_are, before, asked.0) in
+    let behind : length font.value.glyphs < unit = omega (arith, is.past) in
+    sum ∙ sym (whole_waivers font waivers unit first behind start)
+
+-- A search that began with the unit and has done with it.
+pub turns_of_done : (s new : Search) → IsSearch new → aim_of new ≡ aim_of s → new.unit ≡ s.unit → s.from ≡ s.unit → s.first ≡ 0
+    → IsDone (checked_in s) s.waivers.now s.unit new.part → turns_so_far new ≡ turns_of_whole (checked_in s) s.waivers.now s.unit
+turns_of_done s new search aim unit begins first done =
+    turns_of_part (checked_in s) s.waivers.now s.first s.unit new.passed new.checked new.part
+    (subst (λ (f : ℕ). IsPart (checked_in s) s.waivers.now f s.first s.unit new.passed new.checked new.part) begins
+    (subst (λ (u : ℕ). IsPart (checked_in s) s.waivers.now s.from s.first u new.passed new.checked new.part) unit
+    (subst (λ (a : Aim). IsPart a.font a.waivers a.from a.first new.unit new.passed new.checked new.part) aim search.part_is))) done first
+
 -- ---- the next place
 
--- Nothing in hand comes after the mark.
-to_be_found : (s : Search) (found : Found) (mark : Mark) (floor : ℕ) → HasInHand s found mark → IsFloor mark found.unit found.step floor
-    → HasNoneAbove found.rules floor
-    → (p : Place) → IsTold (checked_in s) s.waivers.now p → IsLater mark p → IsFrom s.unit (step_of_part s.part) p.unit p.step
+-- No rule in hand is above the floor.
+pub to_be_found : (s : Search) (found : Found) (mark : Mark) (floor : ℕ) → HasInHand s found mark → IsFloor mark found.unit found.step floor
+    → HasNoneAbove found.rules floor → AreToBeFound s mark
 to_be_found s found mark floor hand is_floor none p is later = by_kind (hand.complete p is later)
   where
     by_kind : IsInHand found p ⊎ IsFrom s.unit (step_of_part s.part) p.unit p.step → IsFrom s.unit (step_of_part s.part) p.unit p.step
@@ -191,17 +241,16 @@ to_be_found s found mark floor hand is_floor none p is later = by_kind (hand.com
         (subst (λ u. Comes (spot mark.unit mark.step mark.rule) (spot u found.step (number_of p.rule))) unit
         (subst (λ t. Comes (spot mark.unit mark.step mark.rule) (spot p.unit t (number_of p.rule))) step later))) (in_book p.rule).1))
 
-pub hand_found : (s new : Search) (found place : Found) (mark : Mark) (floor : ℕ) → HasInHand s found mark → IsFloor mark found.unit found.step floor
-    → HasNoneAbove found.rules floor
-    → checked_in new ≡ checked_in s → new.waivers.now ≡ s.waivers.now → IsFirstPlace (checked_in s) s.waivers.now s.unit (step_of_part s.part) place
+pub hand_found : (s new : Search) (place : Found) (mark : Mark) → AreToBeFound s mark → checked_in new ≡ checked_in s → new.waivers.now ≡ s.waivers.now
+    → IsFirstPlace (checked_in s) s.waivers.now s.unit (step_of_part s.part) place
     → (new.unit ≡ place.unit) × (step_of_part new.part ≡ place.step + 1) → HasInHand new place mark
-hand_found s new found place mark floor hand is_floor none font waivers first (unit, step) =
+hand_found s new place mark ahead font waivers first (unit, step) =
     record {
       broken = λ n there. ap (λ f. is_told f new.waivers.now place.unit place.step n) font ∙ ap (λ w. is_told (checked_in s) w place.unit place.step n) waivers
           ∙ sym (first.rules n) ∙ there;
       path = λ n there. first.path ∙ ap (λ f. path_in f.value place.unit place.step) (sym font);
       ahead = λ n there. (unit, step);
-      complete = λ p is later. found_or_later p (same p is) (first.first p (same p is) (to_be_found s found mark floor hand is_floor none p (same p is) later));
+      complete = λ p is later. found_or_later p (same p is) (first.first p (same p is) (ahead p (same p is) later));
     }
   where
     same : (p : Place) → IsTold (checked_in new) new.waivers.now p → IsTold (checked_in s) s.waivers.now p
@@ -223,10 +272,10 @@ hand_found s new found place mark floor hand is_floor none font waivers first (u
               )
         ]
 
-pub hand_none : (s : Search) (found : Found) (mark : Mark) (floor : ℕ) → HasInHand s found mark → IsFloor mark found.unit found.step floor
-    → HasNoneAbove found.rules floor
-    → HasNoneFrom (checked_in s) s.waivers.now s.unit (step_of_part s.part) → HasNoneLater (checked_in s) s.waivers.now mark
-hand_none s found mark floor hand is_floor none over p is later = over p is (to_be_found s found mark floor hand is_floor none p is later)
+-- The search found nothing more.
+pub hand_none : (s : Search) (mark : Mark) → AreToBeFound s mark → HasNoneFrom (checked_in s) s.waivers.now s.unit (step_of_part s.part)
+    → HasNoneLater (checked_in s) s.waivers.now mark
+hand_none s mark ahead over p is later = over p is (ahead p is later)
 
 pub hand_empty : (s : Search) (found : Found) (mark : Mark) → ((n : ℕ) → has found.rules n ≡ false) → HasNoneLater (checked_in s) s.waivers.now mark
     → HasInHand s found mark
@@ -237,6 +286,47 @@ hand_empty s found mark none over =
       ahead = λ n has_it. absurd (true≢false (sym has_it ∙ none n));
       complete = λ p is later. absurd (over p is later);
     }
+
+-- ---- one unit
+
+-- The next fault is the next one of its unit.
+pub next_of_unit : (font : CheckedFont) (waivers : List Waiver) (unit : ℕ) (mark : Mark) (fault : FaultValue) → IsNext font waivers mark fault
+    → fault.unit ≡ unit → IsNextInUnit font waivers unit mark fault
+next_of_unit font waivers unit mark fault next at =
+    record {
+      violation = record { violated = (at, next.violation.violated); path = next.violation.path };
+      later = next.later;
+      first = λ p is later. next.first p is.1 later;
+      number = next.number;
+    }
+
+-- The search found nothing more in its unit.
+pub none_in_unit : (s : Search) (mark : Mark) → AreToBeFound s mark → TellsNoneFrom (checked_in s) s.waivers.now s.unit (step_of_part s.part)
+    → HasNoneLaterInUnit (checked_in s) s.waivers.now s.unit mark
+none_in_unit s mark ahead quiet p (at, is) later = over (ahead p is later)
+  where
+    over : IsFrom s.unit (step_of_part s.part) p.unit p.step → ⊥
+    over (inl less) = omega (arith, less, at)
+    over (inr (same, past)) = true≢false (sym is ∙ ap (λ u. is_told (checked_in s) s.waivers.now u p.step (number_of p.rule)) at
+        ∙ quiet p.step p.rule past)
+
+pub hand_done : (s new : Search) (found : Found) (mark : Mark) → ((n : ℕ) → has found.rules n ≡ false) → AreToBeFound s mark → checked_in new ≡ checked_in s
+    → new.waivers.now ≡ s.waivers.now → new.unit ≡ s.unit → TellsNoneFrom (checked_in s) s.waivers.now s.unit (step_of_part s.part) → HasInHand new found mark
+hand_done s new found mark none ahead font waivers unit quiet =
+    record {
+      broken = λ n has_it. absurd (true≢false (sym has_it ∙ none n));
+      path = λ n has_it. absurd (true≢false (sym has_it ∙ none n));
+      ahead = λ n has_it. absurd (true≢false (sym has_it ∙ none n));
+      complete = λ p is later. inr (inl (behind p (same p is) (ahead p (same p is) later)));
+    }
+  where
+    same : (p : Place) → IsTold (checked_in new) new.waivers.now p → IsTold (checked_in s) s.waivers.now p
+    same p is = subst (λ w. IsTold (checked_in s) w p) waivers (subst (λ f. IsTold f new.waivers.now p) font is)
+
+    behind : (p : Place) → IsTold (checked_in s) s.waivers.now p → IsFrom s.unit (step_of_part s.part) p.unit p.step → new.unit < p.unit
+    behind p is (inl less) = omega (arith, less, unit)
+    behind p is (inr (at, past)) = absurd (true≢false (sym is ∙ ap (λ u. is_told (checked_in s) s.waivers.now u p.step (number_of p.rule)) (sym at)
+        ∙ quiet p.step p.rule past))
 
 -- ---- the measure
 
@@ -262,3 +352,9 @@ fewer_places s new place search font first (unit, step) =
         2000000 + (2000000 - step_of_part s.part)
     by_place few count (inl less) = omega (arith, few, count, less, unit, step, first.within)
     by_place few count (inr (same, past)) = omega (arith, few, count, same, past, unit, step, first.within)
+
+pub fewer_steps : (s new : Search) (place : Found) → IsSearch s → IsFirstTold (checked_in s) s.waivers.now s.unit (step_of_part s.part) place
+    → step_of_part new.part ≡ place.step + 1 → 2000000 - step_of_part new.part < 2000000 - step_of_part s.part
+fewer_steps s new place search first step =
+    let few : step_of_part s.part ≤ 1600000 = steps_of_part (checked_in s) s.waivers.now s.from s.first s.unit s.passed s.checked s.part search.part_is in
+    omega (arith, few, first.behind, step)

@@ -11,6 +11,7 @@ use Rattle.t1_report.specs.Faults.{FaultValue, fault_value, faults_of}
 use Rattle.t1_report.specs.Lines.{IsInFont}
 use Rattle.t1_report.specs.Reports.{IsReport, IsViolationOf, path_at, IsTold, is_told, is_unused, tells_unused}
 use Rattle.t1_report.proofs.Broken.{past_keys}
+use Rattle.t1_report.specs.UnitFaults.{HasNoneLaterInUnit, IsNextInUnit}
 use Rattle.t1_report.specs.Waivers.{Waiver}
 use Rattle.t1_report.specs.Walks.{HasNoneLater, IsNext}
 use Rattle.t1_rules.specs.declared.rule.Rule.{Rule}
@@ -65,6 +66,14 @@ pub next_stands_in_font : (font : CheckedFont) (waivers : List Waiver) (mark : M
     → IfSome next (λ fault. IsInFont font.value waivers (fault_value fault))
 next_stands_in_font font waivers mark None none = tt
 next_stands_in_font font waivers mark (Some fault) is = in_font font waivers (fault_value fault) is.violation
+
+-- And the next one of a unit.
+pub next_of_unit_stands_in_font : (font : CheckedFont) (waivers : List Waiver) (unit : ℕ) (mark : Mark) (next : Option Fault)
+    → MatchOption next (HasNoneLaterInUnit font waivers unit mark) (λ fault. IsNextInUnit font waivers unit mark (fault_value fault))
+    → IfSome next (λ fault. IsInFont font.value waivers (fault_value fault))
+next_of_unit_stands_in_font font waivers unit mark None none = tt
+next_of_unit_stands_in_font font waivers unit mark (Some fault) is =
+    in_font font waivers (fault_value fault) (record { violated = is.violation.violated.1; path = is.violation.path })
 
 value_at : (xs : List Fault) (k : ℕ) (d : Fault) → slice_index_or (map fault_value xs) k (fault_value d) ≡ fault_value (slice_index_or xs k d)
 value_at [] k d = refl

@@ -22,6 +22,7 @@ pub mod StepLimit
 pub mod Told
 pub mod ToldInUnit
 pub mod UnitFronts
+pub mod UnitReports
 pub mod Units
 pub mod WaivedFaults
 pub mod WaivedRules

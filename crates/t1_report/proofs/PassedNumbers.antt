@@ -31,10 +31,10 @@ use Rattle.t1_rules.specs.StepRules.Stems.{popping}
 use Rattle.t1_rules.proofs.Lemmas.Before.{was_last}
 use Rattle.t1_rules.proofs.Lemmas.PassedNumbers.{kept}
 use Rattle.t1_rules.proofs.Lemmas.Watches.{no_fault_at_number, stays_at_number}
-use Rattle.t1_report.specs.Checked.{CheckedFont, executed, step_limit}
+use Rattle.t1_report.specs.Checked.{CheckedFont, step_limit}
 use Rattle.t1_report.specs.Laws.PassedNumbers.{CalmIsBehindNoReplacement, CalmWatchersStandBehindNumbers, IsBehindNoReplacement, PassedNumbersBreakNoRule}
 use Rattle.t1_report.specs.Reports.{is_broken, rules_of}
-use Rattle.t1_report.specs.Private.Units.{IsQuiet, IsRun}
+use Rattle.t1_report.specs.Private.Units.{IsQuiet, IsRun, executed}
 use Rattle.t1_report.specs.Walks.{turns_of_glyph}
 use Rattle.t1_report.proofs.Broken.{at_step, both_kinds, rules_by, within_limit}
 use Rattle.t1_report.proofs.GlyphSteps.{take_next}

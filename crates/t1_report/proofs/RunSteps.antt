@@ -8,7 +8,7 @@ use Rattle.t1_char.specs.Steps.{StepView, steps_of}
 use Rattle.t1_char.specs.StepValues.{step_view, step_value}
 use Rattle.t1_char.specs.Turns.{MachineView, stepped, ended, limited, turn_at, counted_after}
 use Rattle.t1_char.proofs.TurnsTaken.{Executes, IsStepped, IsLimited, IsOver, same_count, same_turn, stepped_is, limited_is, ended_is}
-use Rattle.t1_report.specs.Checked.{CheckedFont, checked, executed, step_limit}
+use Rattle.t1_report.specs.Checked.{CheckedFont, checked, step_limit}
 use Rattle.t1_rules.specs.declared.mask.Mask.{Mask}
 use Rattle.t1_rules.specs.declared.rule.Rule.{Rule}
 use Rattle.t1_rules.specs.declared.watches.Watches.{Watches}
@@ -19,7 +19,7 @@ use Rattle.t1_rules.specs.StepRules.{StepRule, charstring_rules}
 use Rattle.t1_rules.proofs.Lemmas.Book.{in_book}
 use Rattle.t1_report.specs.declared.walk.found.Found.{Found}
 use Rattle.t1_report.specs.Reports.{is_broken, path_in, path_of_step, rules_of, step_breaks}
-use Rattle.t1_report.specs.Private.Units.{IsFirst, IsQuiet, IsRun}
+use Rattle.t1_report.specs.Private.Units.{IsFirst, IsQuiet, IsRun, executed}
 use Rattle.t1_report.specs.Private.Reporting.{HaveSeen}
 use Rattle.t1_report.specs.Walks.{turns_of_glyph}
 use Rattle.t1_report.proofs.Broken.{at_step, past_steps, path_at_step, rules_by, so_far_decides}

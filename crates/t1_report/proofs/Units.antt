@@ -2,11 +2,11 @@
 use Rattle.std.proofs.Common.{◌≡◌, ℕ, zero, suc, ◌+◌, ◌-◌, ◌*◌, ◌<◌, ◌≤◌, inl, inr, true, false, true≢false, List, length, refl, sym, ap, subst, ◌∙◌, arith, ◌⊎◌}
 use Rattle.std.proofs.lemmas.Bool.{cases_lt}
 use Rattle.t1_char.proofs.EditionLemmas.{limit_few}
-use Rattle.t1_report.specs.Checked.{CheckedFont, executed, step_limit}
+use Rattle.t1_report.specs.Checked.{CheckedFont, step_limit}
 use Rattle.t1_rules.specs.Book.{number_of}
 use Rattle.t1_report.specs.declared.walk.found.Found.{Found}
 use Rattle.t1_report.specs.Reports.{Place, path_in, IsTold, is_told}
-use Rattle.t1_report.specs.Private.Units.{IsFontPlaces, IsRun}
+use Rattle.t1_report.specs.Private.Units.{IsFontPlaces, IsRun, executed}
 use Rattle.t1_rules.specs.Components.{AreOf}
 use Rattle.t1_report.specs.declared.walk.font_places.FontPlaces.{FontPlaces}
 use Rattle.t1_report.specs.declared.walk.search.Part.{Part}
@@ -18,7 +18,7 @@ use Rattle.t1_report.specs.Waivers.{Waiver}
 use Rattle.t1_char.specs.Turns.{MachineView}
 use Rattle.t1_rules.specs.declared.watches.Watches.{Watches}
 use Rattle.t1_report.proofs.Asked.{asked_few, asked_most, asked_none, few_turns, first_at, first_before, first_behind, mul_mono, places_first, places_more}
-use Rattle.t1_report.proofs.Told.{told_no_step, told_within}
+use Rattle.t1_report.proofs.Told.{past_waivers, told_no_step, told_within}
 
 -- ---- turns
 
@@ -138,6 +138,11 @@ first_found font waivers unit step u s found so_far within is =
               ∙ is.quiet p.step p.rule past less))
           | inr later ↦ inr (is.unit_is ∙ same, later)
         ]
+
+-- The same in the unit where the search stands.
+pub first_in_unit : (font : CheckedFont) (waivers : List Waiver) (unit step : ℕ) (found : Found) → unit ≤ length font.value.glyphs + 1
+    → IsFirstTold font waivers unit step found → IsFirstPlace font waivers unit step found
+first_in_unit font waivers unit step found within is = first_found font waivers unit step unit step found (passed_none font waivers unit step) within is
 
 -- Past the last glyph there is none.
 pub none_past : (font : CheckedFont) (waivers : List Waiver) (unit step u s : ℕ) → IsPassed font waivers unit step u s → length font.value.glyphs + 1 < u
@@ -379,6 +384,14 @@ over_past font waivers from first unit passed checked (Font places) is over = ab
 over_past font waivers from first unit passed checked (Glyph run) is over = absurd (true≢false (sym over))
 over_past font waivers from first unit passed checked (Waivers next) is over = absurd (true≢false (sym over))
 over_past font waivers from first unit passed checked Over is over = is.0.past
+
+-- A search that isn't over stands in a unit that there is; one that is has nothing more.
+pub under_way : (s : Search) → IsSearch s → is_over s.part ≡ false → s.unit ≤ length s.font.now.glyphs + 1
+under_way s is still = (open_part (checked_in s) s.waivers.now s.from s.first s.unit s.passed s.checked s.part is.part_is still).within
+
+pub none_when_over : (s : Search) → IsSearch s → is_over s.part ≡ true → TellsNoneFrom (checked_in s) s.waivers.now s.unit (step_of_part s.part)
+none_when_over s is over t rule past = past_waivers (checked_in s) s.waivers.now s.unit t (number_of rule)
+    (over_past (checked_in s) s.waivers.now s.from s.first s.unit s.passed s.checked s.part is.part_is over)
 
 -- A search begins in the font, with a glyph, or with the waivers.
 pub font_begun : (s : Search) (places : FontPlaces) → AreOf s.font.now s.sidebearings.now → s.from ≡ 0 → s.unit ≡ 0 → s.passed ≡ 0 → s.checked ≡ 0

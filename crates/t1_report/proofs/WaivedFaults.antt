@@ -54,7 +54,7 @@ here : (b : Bool) (P : FaultValue → Type 0) (y : FaultValue) (ys : List FaultV
 here true P y ys passes is = (0, y, omega arith, refl, is)
 here false P y ys passes is = let no : false ≡ true = passes in cc
 
-any_left : (P : FaultValue → Type 0) (test : FaultValue → Bool) (ys : List FaultValue) → ((y : FaultValue) → P y → test y ≡ true) → Any P ys
+pub any_left : (P : FaultValue → Type 0) (test : FaultValue → Bool) (ys : List FaultValue) → ((y : FaultValue) → P y → test y ≡ true) → Any P ys
     → Any P (filter test ys)
 any_left P test [] good (k, x, less, at, is) = absurd (omega (arith, less))
 any_left P test (y ∷ ys) good (zero, x, less, at, is) =

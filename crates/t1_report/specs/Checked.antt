@@ -2,7 +2,6 @@
 use Rattle.std.specs.Prelude.{ℕ}
 use Rattle.t1_char.specs.declared.edition.Edition.{Edition}
 use Rattle.t1_char.specs.Editions.{limit_of}
-use Rattle.t1_char.specs.Turns.{MachineView}
 use Rattle.t1_font.specs.Fonts.{FontValue}
 
 pub record CheckedFont : Type 0 where
@@ -15,7 +14,3 @@ checked font edition = record { value = font; edition = edition }
 -- How many steps of a glyph are checked.
 abbrev pub step_limit : CheckedFont → ℕ
 step_limit font = limit_of font.edition
-
--- What a machine executes.
-abbrev pub executed : MachineView → CheckedFont
-executed machine = checked machine.font machine.edition

@@ -3,6 +3,7 @@ pub mod Editions
 pub mod Limits
 pub mod PassedNumbers
 pub mod Reports
+pub mod UnitFaults
 pub mod WaivedFaults
 pub mod Walks
 pub mod WithWaivers

@@ -6,6 +6,7 @@ pub mod Lines
 pub mod Private
 pub mod Reports
 pub mod Traces
+pub mod UnitFaults
 pub mod WaiverViews
 pub mod Waivers
 pub mod WalkViews

@@ -6,7 +6,7 @@ use t1_rules::Rule;
 /// A rule that a font breaks, and where.
 #[derive(Debug, PartialEq, Eq, Drop)]
 pub struct Fault {
-    /// Its number in the whole report, from 1.
+    /// Its number in the whole report, from 1; [`UnitFaults`](crate::UnitFaults) counts in its unit.
     pub number: u64,
     /// 0 is the font; g + 1 is glyph g.
     pub unit: u32,

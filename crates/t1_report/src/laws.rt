@@ -5,6 +5,7 @@ ghost use Rattle.t1_char.specs.declared.edition.Edition.TheVariants.{One, Two};
 ghost use Rattle.t1_report.specs.Laws.Limits.{AreCheckedTo};
 ghost use Rattle.t1_report.specs.Laws.PassedNumbers.{CalmIsBehindNoReplacement, CalmWatchersStandBehindNumbers, PassedNumbersBreakNoRule};
 ghost use Rattle.t1_report.specs.Laws.Reports.{HasNoOtherReport, HasReport};
+ghost use Rattle.t1_report.specs.Laws.UnitFaults.{AllOfUnitAreGivenAtLast, GivenAreTheReports, MarksOfUnitGoOnCounting, NoneOfUnitIsGivenAtFirst};
 ghost use Rattle.t1_report.specs.Laws.WaivedFaults.{OrderLeavesFaults, OrderLeavesUses, RepeatedLinesSayNothing, UnusedWaiversChangeNothing, WaivedFaultsAreLeftOut};
 ghost use Rattle.t1_report.specs.Laws.Walks.{AllAreGivenAtLast, AreBehindTheCount, AreTheReport, AreTheRest, GivenAreTheFront, MarksGoOnCounting, NoneIsGivenAtFirst};
 ghost use Rattle.t1_report.specs.Laws.WithWaivers.{AskedToTheEnd, AskedToTheFirst, NoneIsAsked, ToldIsBroken};
@@ -39,6 +40,16 @@ pub fn marks_count_the_faults_given()
     ensures end { AllAreGivenAtLast }
     ensures given { GivenAreTheFront }
     ensures rest { AreBehindTheCount }
+{}
+
+/// The faults of a unit, each the next one from the unit's first mark on until there is none, are exactly the report's
+/// faults of that unit in their order, but for their numbers, which count from 1 in the unit. Where so many of these were
+/// given, as a mark's number says, the next fault of the unit is the one behind them; where there is none, all were given.
+pub fn faults_of_a_unit_are_the_reports()
+    ensures given { GivenAreTheReports }
+    ensures start { NoneOfUnitIsGivenAtFirst }
+    ensures next { MarksOfUnitGoOnCounting }
+    ensures end { AllOfUnitAreGivenAtLast }
 {}
 
 /// The first edition asks the table of rules of each of a glyph's first 100,000 steps, the second of the first

@@ -13,6 +13,7 @@
 //!   waived, then the waivers that aren't used, numbered from 1. A font has one such report and no other.
 //! - A line is written whole, or the device failed and a front of the line went out.
 //! - A [`Walk`] gives the same faults one at a time, from any [`Mark`] on; it can't fail.
+//! - [`UnitFaults`] gives those of one unit, one at a time, numbered from 1 in the unit; it can't fail.
 //! - Want of memory is told, and says nothing of the font. Nothing but [`report`] and
 //!   [`Waivers::read`] takes memory.
 //!
@@ -31,6 +32,7 @@ mod lines;
 mod marks;
 mod reporting;
 mod traces;
+mod unit_faults;
 mod usage;
 mod violations;
 mod waivers;
@@ -39,14 +41,15 @@ mod walk;
 pub use faults::Fault;
 pub use laws::{
     a_font_has_one_report, each_font_has_a_report, faults_after_a_mark_are_the_rest,
-    faults_after_the_first_mark_are_the_report, marks_count_the_faults_given,
-    no_waivers_change_nothing, order_and_repetition_have_no_say, passed_numbers_break_no_rule,
-    the_limit_is_one_step, usual_fonts_have_one_report, waivers_are_asked_to_the_first_use,
-    waivers_leave_out_what_they_say,
+    faults_after_the_first_mark_are_the_report, faults_of_a_unit_are_the_reports,
+    marks_count_the_faults_given, no_waivers_change_nothing, order_and_repetition_have_no_say,
+    passed_numbers_break_no_rule, the_limit_is_one_step, usual_fonts_have_one_report,
+    waivers_are_asked_to_the_first_use, waivers_leave_out_what_they_say,
 };
 pub use lines::write_fault;
 pub use marks::Mark;
 pub use reporting::report;
 pub use traces::write_step;
+pub use unit_faults::UnitFaults;
 pub use waivers::{LARGEST_WAIVERS, WaiverError, Waivers};
 pub use walk::Walk;

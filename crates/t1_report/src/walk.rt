@@ -1,6 +1,6 @@
 //! The report one fault at a time, from any mark on.
 
-mod course;
+pub(crate) mod course;
 mod font_places;
 mod found;
 pub(crate) mod glyph_run;

@@ -14,7 +14,7 @@
 //! | `seac`, `sidebearings`, `components` | rules on accented characters |
 //! | `editions`, `limit` | the editions of the rule book, and the limit of steps |
 //! | `places`, `order`, `lines` | places, order and lines of faults |
-//! | `machines`, `walks`, `marks`, `waivers` | the same one at a time, from any mark on, and with waivers |
+//! | `machines`, `walks`, `marks`, `units`, `waivers` | the same one at a time, from any mark on, of one unit, and with waivers |
 //! | `hostile` | fonts that are made to take long |
 //!
 //! `assembly`, `fonts` and `reports` are what they share.
@@ -66,6 +66,8 @@ mod seac;
 mod sidebearings;
 #[cfg(test)]
 mod stems;
+#[cfg(test)]
+mod units;
 #[cfg(test)]
 mod waivers;
 #[cfg(test)]

@@ -135,7 +135,7 @@ fn with_glyph(alloc: Global, glyph: &[u8]) -> Result<OpenFont, Unread> {
 }
 
 /// The waivers of a text.
-fn waivers_in(alloc: Global, text: &[u8]) -> Result<Waivers<'_>, Fail> {
+pub(super) fn waivers_in(alloc: Global, text: &[u8]) -> Result<Waivers<'_>, Fail> {
     if text.len() > 1_048_576 {
         return Err(Fail::from("a long text"));
     }

@@ -1,4 +1,4 @@
-//! The font rules: those on the file and on the entries of the dictionaries.
+//! The font rules: those on the file and on the entries of the dictionaries. Type 1 Font Format 1.1, chapters 2 and 5.
 
 ghost use Rattle.std.specs.Prelude.{◌≡◌, ℕ};
 ghost use Rattle.t1_rules.specs.FontRules.{font_rules, violated};

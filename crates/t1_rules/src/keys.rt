@@ -1,4 +1,5 @@
-//! The keys that a font's faults stand at: what they are called, what stands there, and how many indexes each has.
+//! The keys that a font's faults stand at: what they are called, what stands there, and how many indexes each has. Type 1 Font
+//! Format 1.1, chapters 2 and 5.
 
 ghost use Rattle.std.specs.Prelude.{◌≡◌, ◌≤◌, ◌+◌, IfNone, IfSome, map};
 ghost use Rattle.std.specs.List.{range_with_len};

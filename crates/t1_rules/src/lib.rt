@@ -77,12 +77,14 @@ pub use laws::{
 pub use mask::Mask;
 pub use rule::Rule;
 pub use sidebearings::Sidebearings;
+pub use standard_encoding::standard_name;
 pub use step_rules::arguments::ArgumentWatcher;
 pub use step_rules::calls::CallWatcher;
-pub use step_rules::flex::FlexWatcher;
+pub use step_rules::flex::{FlexWatcher, Point};
 pub use step_rules::othersubrs::OthersubrWatcher;
 pub use step_rules::paths::PathWatcher;
-pub use step_rules::seac::SeacWatcher;
-pub use step_rules::stems::StemWatcher;
+pub use step_rules::seac::{SeacWatcher, accent_code, base_code};
+pub use step_rules::stems::{Stem, StemWatcher};
+pub use step_rules::tokens::{closes, is_line, is_move, is_seac, sets_width};
 pub use watch::Watch;
 pub use watches::Watches;

@@ -276,7 +276,7 @@ fn text_at(names: &[&'static str], place: usize) -> &'static str
 
 /// The name of a code in StandardEncoding; empty where it has none.
 #[tactic(auto, unfolding(crate::specs::StandardEncoding::standard_encoding, crate::specs::StandardEncoding::standard_name))]
-pub(crate) fn standard_name(code: u8) -> &'static str
+pub fn standard_name(code: u8) -> &'static str
     ensures { result.now ≡ standard_name code }
 {
     text_at(&NAMES, code as usize)

@@ -1,4 +1,4 @@
-//! The charstring rules, by subject: each has a watcher.
+//! The charstring rules, by subject: each has a watcher. Type 1 Font Format 1.1, chapters 6 to 8.
 
 pub(crate) mod arguments;
 pub(crate) mod calls;

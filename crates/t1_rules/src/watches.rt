@@ -8,7 +8,7 @@ ghost use Rattle.t1_char.specs.StepValues.{step_view};
 ghost use Rattle.t1_rules.specs.Mask.{has};
 ghost use Rattle.t1_rules.specs.StepRules.{breaks, step_rules};
 ghost use Rattle.t1_rules.specs.Watches.{IsCalm, WatchesStandFor, most_steps};
-ghost use Rattle.t1_rules.specs.Private.StepTests.{IsCommand};
+ghost use Rattle.t1_rules.specs.StepRules.Tokens.{IsCommand};
 
 use crate::mask::Mask;
 use crate::step_rules::arguments::{ArgumentWatcher, has_its_arguments};

@@ -11,8 +11,8 @@ use Rattle.t1_scan.specs.declared.token.Kind.{Kind}
 use Rattle.t1_scan.specs.declared.token.Kind.TheVariants.{Number, Name, Word}
 use Rattle.t1_scan.specs.Bytes.{is_regular, is_decimal_digit}
 use Rattle.t1_scan.specs.Lengths.{run_len, token_len}
-use Rattle.t1_scan.specs.Numbers.{begins_digits, begins_number, decimal_of, magnitude_of, number_of, radix_of, scaled}
-use Rattle.t1_scan.specs.Reading.{begun, AreDigits}
+use Rattle.t1_scan.specs.Numbers.{decimal_of, magnitude_of, number_of, radix_of, scaled}
+use Rattle.t1_scan.specs.Private.Forms.{begun, AreDigits, begins_number, begins_digits}
 use Rattle.t1_scan.specs.Tokens.{number_or_word, kind_of, first_of}
 use Rattle.t1_scan.specs.Spelling.{no_sign, is_decimal}
 use Rattle.t1_scan.proofs.NumbersRead.{decimal_value}

@@ -11,7 +11,8 @@ use Rattle.std.specs.List.{list_all, slice_index_or}
 use Rattle.std.specs.Char.{digit_value}
 use Rattle.std.specs.Str.Parse.{AllDigits, digits_value, digits_value_after}
 use Rattle.t1_scan.specs.Bytes.{is_decimal_digit}
-use Rattle.t1_scan.specs.Numbers.{begins_number, below_billion, decimal_of, magnitude_of, number_of, radix_of, scaled}
+use Rattle.t1_scan.specs.Private.Forms.{begins_number}
+use Rattle.t1_scan.specs.Numbers.{below_billion, decimal_of, magnitude_of, number_of, radix_of, scaled}
 use Rattle.t1_scan.specs.Laws.{NineDigits}
 
 spread : (n base d t v : ℕ) → (n * base + d) * t + v ≡ n * (base * t) + ((0 * base + d) * t + v)

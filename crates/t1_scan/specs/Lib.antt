@@ -2,6 +2,7 @@ pub mod Bytes
 pub mod Laws
 pub mod Lengths
 pub mod Numbers
+pub mod Private
 pub mod Reading
 pub mod Spelling
 pub mod State

@@ -73,15 +73,6 @@ radix_of run =
     then in_base (digits_value 10 (whole_part run)) (drop 1 (after_whole run))
     else None
 
--- a number begins with a digit, a sign or a point
-abbrev pub begins_number : ℕ → Bool
-begins_number b = is_decimal_digit b || b == 43 || b == 45 || b == 46
-
--- digits with a point begin with a digit or a point
-abbrev pub begins_digits : List ℕ → Bool
-begins_digits [] = false
-begins_digits (b ∷ s) = is_decimal_digit b || b == 46
-
 -- either form; no run has both
 abbrev pub number_of : List ℕ → Option ℤ
 number_of run = option_or (decimal_of run) (radix_of run)

@@ -1,13 +1,8 @@
 -- What a scanner answers.
-use Rattle.std.specs.Prelude.{ℕ, Bool, true, Option, Some, None, Result, Ok, Err, List, ◌≡◌, ◌<◌, ◌≤◌, ◌+◌, if◌then◌else◌, length, drop, take, slice_range}
-use Rattle.std.specs.List.{list_all}
-use Rattle.std.specs.Str.Parse.{digits_value}
+use Rattle.std.specs.Prelude.{ℕ, Bool, Option, Some, None, Result, Ok, Err, List, ◌≡◌, ◌<◌, ◌≤◌, ◌+◌, if◌then◌else◌, length, drop, slice_range}
 use Rattle.t1_scan.specs.declared.error.ScanError.{ScanError}
 use Rattle.t1_scan.specs.declared.error.ScanError.TheVariants.{Unclosed}
-use Rattle.t1_scan.specs.declared.token.Kind.{Kind}
 use Rattle.t1_scan.specs.declared.token.Token.{Token}
-use Rattle.t1_scan.specs.Bytes.{is_decimal_digit}
-use Rattle.t1_scan.specs.Lengths.{run_len}
 use Rattle.t1_scan.specs.Tokens.{Found, token_of}
 
 -- what a scanner reads next, by its flag and what is left of its text
@@ -20,17 +15,6 @@ seen text (Err e) = Err e
 seen text (Ok None) = Ok None
 seen text (Ok (Some t)) =
     Ok (Some (record { kind = t.kind; text = t.text.now; rest = drop t.to text }))
-
--- how many bytes a token in front takes and what it is, as what was read; None where it isn't closed
-abbrev pub begun : List ℕ → Option (ℕ × Kind) → Result (Option Found) ScanError
-begun s None = Err Unclosed
-begun s (Some p) = Ok (Some (record { kind = p.1; text = take p.0 s; rest = drop p.0 s }))
-
--- a run in front of so many decimal digits and of nothing else, which spell this
-pub record AreDigits (s : List ℕ) (n value : ℕ) : Type 0 where
-  pub run : n ≡ run_len s
-  pub digits : list_all is_decimal_digit (take n s) ≡ true
-  pub spelled : value ≡ digits_value 10 (take n s)
 
 -- t is a slice of the text, behind the place
 pub record IsSlice (text : List ℕ) (place : ℕ) (t : Token) : Type 0 where

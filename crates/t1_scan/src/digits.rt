@@ -1,4 +1,4 @@
-//! What digits spell.
+//! What digits spell: Type 1 Font Format 1.1, chapter 2.
 
 ghost use Rattle.std.specs.Prelude.{◌≡◌, ◌+◌, ◌*◌, ◌/◌, ◌^◌, ◌<◌, ◌≤◌, ◌==◌, length, pos, IsTrue, IfSome};
 ghost use Rattle.std.specs.List.{list_all};
@@ -6,7 +6,7 @@ ghost use Rattle.std.specs.Char.{digit_value};
 ghost use Rattle.std.specs.Str.Parse.{digits_value};
 ghost use Rattle.t1_scan.specs.Bytes.{is_decimal_digit};
 ghost use Rattle.t1_scan.specs.Numbers.{are_in_base, below_billion, billion};
-ghost use Rattle.t1_scan.specs.Reading.{AreDigits};
+ghost use Rattle.t1_scan.specs.Private.Forms.{AreDigits};
 
 use crate::bytes::{is_decimal_digit, is_regular};
 

@@ -1,8 +1,8 @@
-//! The forms of tokens, by their first byte.
+//! The forms of tokens, by their first byte: Type 1 Font Format 1.1, chapters 2 and 10.
 
 ghost use Rattle.std.specs.Prelude.{◌≡◌, ◌+◌, ◌≤◌, ◌∷◌, length, IfSome, Some};
 ghost use Rattle.t1_scan.specs.Lengths.{run_len, token_len};
-ghost use Rattle.t1_scan.specs.Reading.{begun};
+ghost use Rattle.t1_scan.specs.Private.Forms.{begun};
 ghost use Rattle.t1_scan.specs.Tokens.{first_of, kind_of};
 
 use crate::bytes::{is_decimal_digit, is_regular};

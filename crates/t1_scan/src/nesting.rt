@@ -1,4 +1,4 @@
-//! Procedures and arrays, each one token however deep it nests.
+//! Procedures and arrays, each one token however deep it nests: Type 1 Font Format 1.1, chapters 2 and 10.
 
 ghost use Rattle.std.specs.Prelude.{◌≡◌, ◌+◌, ◌<◌, ◌≤◌, ◌^◌, length, IfSome};
 ghost use Rattle.t1_scan.specs.Lengths.{arrays_after, braces_after, inside_len};

@@ -3,7 +3,8 @@
 ghost use Rattle.std.specs.Prelude.{◌≡◌, ◌<◌, ◌^◌, IfSome, IsTrue};
 ghost use Rattle.std.specs.List.{list_all};
 ghost use Rattle.t1_scan.specs.Bytes.{is_decimal_digit};
-ghost use Rattle.t1_scan.specs.Numbers.{begins_digits, begins_number, value_of, magnitude_of, decimal_of, in_base, radix_of, number_of};
+ghost use Rattle.t1_scan.specs.Private.Forms.{begins_number, begins_digits};
+ghost use Rattle.t1_scan.specs.Numbers.{value_of, magnitude_of, decimal_of, in_base, radix_of, number_of};
 
 use crate::bytes::is_decimal_digit;
 use crate::digits::{BILLION, are_digits, are_in_base, billionths, small_value};

@@ -1,4 +1,4 @@
-//! Blanks with comments, and runs of regular bytes.
+//! Blanks with comments, and runs of regular bytes: Type 1 Font Format 1.1, chapters 2 and 10.
 
 ghost use Rattle.std.specs.Prelude.{◌≡◌, ◌≤◌, length, false};
 ghost use Rattle.std.specs.List.{prefix_len};

@@ -1,4 +1,4 @@
-//! The scanner.
+//! The scanner: Type 1 Font Format 1.1, chapters 2 and 10.
 
 ghost use Rattle.std.specs.Prelude.{◌≡◌, ◌≤◌, ◌<◌, ◌+◌, ◌⊎◌, true, false, length, is_err, IfSome, IfNone};
 ghost use Rattle.t1_scan.specs.Reading.{reading, seen, Moves, PassesRaw};

@@ -1,4 +1,4 @@
-//! Strings in parentheses and in angle brackets.
+//! Strings in parentheses and in angle brackets: Type 1 Font Format 1.1, chapters 2 and 10.
 
 ghost use Rattle.std.specs.Prelude.{◌≡◌, ◌+◌, ◌<◌, ◌≤◌, ◌^◌, length, false, IfSome};
 ghost use Rattle.t1_scan.specs.Lengths.{depth_after, string_len, close_len, angle_len, part_len};

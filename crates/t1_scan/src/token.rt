@@ -1,4 +1,4 @@
-//! Tokens.
+//! Tokens: Type 1 Font Format 1.1, chapters 2 and 10.
 
 /// What a token is.
 #[derive(Clone, Copy, Debug, PartialEq, Eq)]

@@ -3,7 +3,8 @@ use Rattle.std.proofs.Common.{◌≡◌, ℕ, zero, suc, ◌<◌, ◌≤◌, ◌
 use Rattle.std.specs.Int.{from_le_bytes, w32}
 use Rattle.t1_seal.specs.declared.errors.SealError.{SealError}
 use Rattle.t1_seal.specs.Segments.{Part, nothing, ending, payload, Row, payload_of, segment_of_length, segment_of_type, segment_of, follow, with_front, row_within, row_of, as_pfb}
-use Rattle.t1_seal.specs.SealError.{Refuses}
+use Rattle.t1_seal.specs.SealError.{is_memory}
+use Rattle.t1_seal.specs.Readings.{RefusesBy}
 use Rattle.t1_seal.specs.declared.errors.SealError.TheVariants.{NotAFont, BadHeader, CutShort, TooShort, Memory}
 
 -- What holds of both branches holds of the chosen one.
@@ -91,8 +92,8 @@ pub row_ended : (taken row : List ℕ) (whole : Result Row SealError) (rest : Li
 row_ended taken row whole rest known e = ap as_pfb (row_at taken row whole (Ok (ending rest)) known e) ∙ rw (append-nil taken) refl
 
 -- A row that is refused at a segment is refused whole.
-pub row_refused : (taken row : List ℕ) (whole : Result Row SealError) (e : SealError) → with_front taken (row_of row) ≡ whole → Refuses e (segment_of row)
-    → Refuses e (as_pfb whole)
+pub row_refused : (taken row : List ℕ) (whole : Result Row SealError) (e : SealError) → with_front taken (row_of row) ≡ whole → RefusesBy is_memory e (segment_of row)
+    → RefusesBy is_memory e (as_pfb whole)
 row_refused taken row whole Memory known e = tt
 row_refused taken row whole NotAFont known e = ap as_pfb (row_at taken row whole (Err NotAFont) known e)
 row_refused taken row whole BadHeader known e = ap as_pfb (row_at taken row whole (Err BadHeader) known e)

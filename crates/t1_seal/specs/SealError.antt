@@ -2,16 +2,12 @@
 use Rattle.std.specs.Prelude.{Bool, true, false, Result}
 use Rattle.t1_seal.specs.declared.errors.SealError.{SealError}
 use Rattle.t1_seal.specs.declared.errors.SealError.TheVariants.{NotAFont, BadHeader, CutShort, Memory}
-use Rattle.t1_seal.specs.Readings.{ReadsBy, RefusesBy}
+use Rattle.t1_seal.specs.Readings.{ReadsBy}
 
 -- Memory ran out, which says nothing of the bytes.
 abbrev pub is_memory : SealError → Bool
 is_memory Memory = true
 is_memory _ = false
-
--- The refusal is the one that was read, unless memory ran out.
-abbrev pub Refuses : {Y : Type 0} → SealError → Result Y SealError → Type 0
-Refuses e read = RefusesBy is_memory e read
 
 -- What a call returned, seen by view, is what was read, unless memory ran out.
 abbrev pub Reads : {X Y : Type 0} → (X → Y) → Result X SealError → Result Y SealError → Type 0

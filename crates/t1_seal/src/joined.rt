@@ -1,4 +1,4 @@
-//! What `join` answers.
+//! What `join` answers: Adobe Technical Note 5040, the IBM PC format.
 
 ghost use Rattle.std.specs.Prelude.{◌≡◌, true};
 

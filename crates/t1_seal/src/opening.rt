@@ -1,4 +1,4 @@
-//! The private text while its cipher bytes come one by one.
+//! The private text while its cipher bytes come one by one: Type 1 Font Format 1.1, chapter 7.
 
 ghost use Rattle.std.specs.Prelude.{◌≡◌, ◌≤◌, ◌++◌, ◌∷◌, [], ℕ, List, IfOk, MatchResult, Ok, Err};
 ghost use Rattle.t1_seal.specs.Eexec.{opened};

@@ -19,14 +19,8 @@ use std::alloc::{AllocError, Global};
 use std::process::Abort;
 use std::test::Fail;
 use t1_font::{Font, Refusal};
-use t1_rules::{Mask, font_faults, key_text, places, rule_code};
+use t1_rules::{KEYS, Mask, Rule, font_faults, key_text, places, rule_code};
 use t1_samples::{Sample, add_fault};
-
-/// How many keys there are.
-const KEYS: u8 = 22;
-
-/// How many rules there are.
-const RULES: u8 = 69;
 
 /// A clear text that breaks no rule.
 const CLEAR: &str = "%!\n/FontType 1 def /PaintType 0 def /Encoding StandardEncoding def eexec";
@@ -61,7 +55,7 @@ fn add_faults(
     mask: Mask,
 ) -> Result<(), AllocError> {
     let mut floor = 0;
-    for _ in 0..RULES {
+    for _ in 0..Rule::U01.number() {
         let Some(rule) = mask.above(floor) else {
             break;
         };

@@ -54,5 +54,6 @@ pub(crate) fn read_all<R: Source>(alloc: Global, source: &mut R, most: usize) ->
             }
         }
     }
+    // It isn't reached: each turn that isn't the last brings a byte, and after so many there are more than the most.
     unreachable!()
 }

@@ -46,12 +46,12 @@ pub fn run<R: Source, V: Source, W: Sink, E: Sink>(
     requires source { (R.state source.old).failed ≡ false }
     ensures ends { Ends options.now (R.state source.old).left (R.state source.new).failed (V.state waivers.old)
         (V.state waivers.new) (W.state out.old) (W.state out.new) (E.state errors.old) (E.state errors.new) result }
-    ensures reads { (R.state source.new).takes ≤ (R.state source.old).takes + 16777217 }
-    ensures taken { TakesAtMost 16777217 (R.state source.old).left (R.state source.new).left }
+    ensures reads { (R.state source.new).takes ≤ (R.state source.old).takes + (largest_file + 1) }
+    ensures taken { TakesAtMost (largest_file + 1) (R.state source.old).left (R.state source.new).left }
     ensures stops { (R.state source.new).late_takes ≡ (R.state source.old).late_takes }
     ensures whole { StopsAt largest_file (R.state source.old) (R.state source.new)
         (EndsForMemory (E.state errors.old) (E.state errors.new) result) }
-    ensures waivers { ReadsAtMost 1048577 (V.state waivers.old) (V.state waivers.new) }
+    ensures waivers { ReadsAtMost (largest_waivers + 1) (V.state waivers.old) (V.state waivers.new) }
 {
     match read_all(alloc, source, LARGEST_FILE) {
         Input::Bytes(bytes) => match check(alloc, bytes, waivers, options, out, errors) {
@@ -76,7 +76,7 @@ fn check<V: Source, W: Sink, E: Sink>(
 ) -> Result<Status, Unread>
     ensures checks { Checks options.now (font_in bytes.items) (V.state waivers.old) (V.state waivers.new)
         (W.state out.old) (W.state out.new) (E.state errors.old) (E.state errors.new) result }
-    ensures waivers { ReadsAtMost 1048577 (V.state waivers.old) (V.state waivers.new) }
+    ensures waivers { ReadsAtMost (largest_waivers + 1) (V.state waivers.old) (V.state waivers.new) }
 {
     let mut file = OpenFont::open(alloc, bytes.as_slice())?;
     drop(bytes);
@@ -98,7 +98,7 @@ fn show<V: Source, W: Sink, E: Sink>(
     requires { length font.now.glyphs ≤ most_glyphs }
     ensures shows { Shows options.now font.now (V.state waivers.old) (V.state waivers.new)
         (W.state out.old) (W.state out.new) (E.state errors.old) (E.state errors.new) result }
-    ensures waivers { ReadsAtMost 1048577 (V.state waivers.old) (V.state waivers.new) }
+    ensures waivers { ReadsAtMost (largest_waivers + 1) (V.state waivers.old) (V.state waivers.new) }
 {
     let Some(name) = &options.trace else {
         return show_report(alloc, font, waivers, options, out, errors);
@@ -122,7 +122,7 @@ fn show_report<V: Source, W: Sink, E: Sink>(
     requires no_trace { options.now.trace ≡ None }
     ensures shows { Shows options.now font.now (V.state waivers.old) (V.state waivers.new)
         (W.state out.old) (W.state out.new) (E.state errors.old) (E.state errors.new) result }
-    ensures waivers { ReadsAtMost 1048577 (V.state waivers.old) (V.state waivers.new) }
+    ensures waivers { ReadsAtMost (largest_waivers + 1) (V.state waivers.old) (V.state waivers.new) }
 {
     match waiver_text(alloc, waivers, options.waive.is_some()) {
         Input::Bytes(text) => report_waived(alloc, font, text.as_slice(), options, out, errors),
@@ -135,7 +135,7 @@ fn show_report<V: Source, W: Sink, E: Sink>(
 /// The text of the waivers, where they are asked for; none is read without.
 fn waiver_text<V: Source>(alloc: Global, source: &mut V, asked: bool) -> Input
     ensures text { GivesText asked (V.state source.old) (V.state source.new) result }
-    ensures waivers { ReadsAtMost 1048577 (V.state source.old) (V.state source.new) }
+    ensures waivers { ReadsAtMost (largest_waivers + 1) (V.state source.old) (V.state source.new) }
 {
     if asked {
         read_all(alloc, source, LARGEST_WAIVERS)

@@ -1,11 +1,11 @@
 -- What the code's actions, works and Subrs say.
-use Rattle.std.specs.Prelude.{ℕ, ℤ, ◌<◌, Option, Some, None, List}
+use Rattle.std.specs.Prelude.{ℕ, ◌<◌, Option, Some, None}
 use Rattle.t1_char.specs.declared.subr.Subr.{Subr}
 use Rattle.t1_char.specs.declared.action.Action.{Action as Actions}
 use Rattle.t1_char.specs.declared.action.Action.TheVariants.{Goes, Calls, Returns, Finishes}
 use Rattle.t1_char.specs.declared.action.Work.{Work as Works}
 use Rattle.t1_char.specs.declared.action.Work.TheVariants.{Clears, FinishesGlyph, Divides, CallsSubr, ReturnsBack, CallsOthersubr, Pops}
-use Rattle.t1_char.specs.Effects.{State, CalledSubr, Action, goes, calls, returns, finishes, Work, clears, finishes_glyph, divides, calls_subr, returns_back, calls_othersubr, pops, most_calls}
+use Rattle.t1_char.specs.Effects.{CalledSubr, Action, goes, calls, returns, finishes, Work, clears, finishes_glyph, divides, calls_subr, returns_back, calls_othersubr, pops, most_calls}
 
 abbrev pub named_of : Option Subr → Option CalledSubr
 named_of None = None
@@ -25,9 +25,6 @@ work_view CallsSubr = calls_subr
 work_view ReturnsBack = returns_back
 work_view CallsOthersubr = calls_othersubr
 work_view Pops = pops
-
-abbrev pub state_of : List ℤ → List ℤ → State
-state_of stack waiting = record { stack = stack; waiting = waiting }
 
 -- A call is made at a depth below ten, and a return at one above 0.
 abbrev pub IsNested : ℕ → Action → Type 0

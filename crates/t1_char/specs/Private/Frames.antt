@@ -4,10 +4,10 @@ use Rattle.t1_font.specs.Fonts.{FontValue}
 use Rattle.t1_char.specs.declared.cursor.Cursor.{Cursor}
 use Rattle.t1_char.specs.declared.frames.Frames.{Frames}
 use Rattle.t1_char.specs.declared.token.CharToken.{CharToken}
-use Rattle.t1_char.specs.Effects.{State}
+use Rattle.t1_char.specs.Effects.{State, state_of}
 use Rattle.t1_char.specs.Rests.{Frame, frame, rest_of}
 use Rattle.t1_char.specs.Steps.{StepView, step_at, is_callsubr, named_at}
-use Rattle.t1_char.specs.Private.Actions.{named_of, state_of}
+use Rattle.t1_char.specs.Private.Actions.{named_of}
 use Rattle.t1_char.specs.Private.Cursors.{tokens_left, behind_token}
 
 -- The frames of callers, the innermost first, where n frames lie below; the path of each is the front of

@@ -4,9 +4,8 @@ use Rattle.std.specs.Prelude.{◌≡◌, ◌≤◌, ◌-◌, List, [], ◌∷◌
 use Rattle.t1_char.specs.declared.cursor.Cursor.{Cursor}
 use Rattle.t1_char.specs.declared.expansion.Listing.{Listing}
 use Rattle.t1_char.specs.declared.token.CharToken.{CharToken}
-use Rattle.t1_char.specs.Effects.{State, Action, Effect, effect, most_calls}
+use Rattle.t1_char.specs.Effects.{State, Action, Effect, effect, most_calls, state_of}
 use Rattle.t1_char.specs.Steps.{StepView, Run, expansion, step_at, effect_at}
-use Rattle.t1_char.specs.Private.Actions.{state_of}
 use Rattle.t1_char.specs.Private.Cursors.{tokens_left, behind_token}
 use Rattle.t1_char.specs.StepValues.{step_view}
 use Rattle.t1_char.specs.Private.Steps.{AreNumbered, GoesOn}

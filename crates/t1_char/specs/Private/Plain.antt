@@ -5,11 +5,10 @@ use Rattle.t1_char.specs.declared.cursor.Cursor.{Cursor}
 use Rattle.t1_char.specs.declared.frames.Frames.{Frames}
 use Rattle.t1_char.specs.declared.token.CharToken.{CharToken}
 use Rattle.t1_char.specs.declared.token.CharToken.TheVariants.{Number}
-use Rattle.t1_char.specs.Effects.{CalledSubr, Work, clears, goes, effect, effect_of}
+use Rattle.t1_char.specs.Effects.{CalledSubr, Work, clears, goes, effect, effect_of, state_of}
 use Rattle.t1_char.specs.Passing.{ArePassed}
 use Rattle.t1_char.specs.Stacks.{most_numbers}
 use Rattle.t1_char.specs.Steps.{StepView, step_at}
-use Rattle.t1_char.specs.Private.Actions.{state_of}
 use Rattle.t1_char.specs.Private.Cursors.{tokens_left}
 use Rattle.t1_char.specs.Private.Frames.{state_in, steps_behind}
 use Rattle.t1_char.specs.Private.Machines.{IsBehind}

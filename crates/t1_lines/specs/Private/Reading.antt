@@ -11,7 +11,8 @@ use Rattle.t1_rules.specs.declared.rule.Rule.TheVariants.{U01}
 use Rattle.t1_rules.specs.Book.{number_of as rule_number, rule_coded, text_of}
 use Rattle.t1_rules.specs.Keys.{key_texts}
 use Rattle.t1_lines.specs.declared.refusal.RefusalCode.{RefusalCode}
-use Rattle.t1_lines.specs.RefusalTexts.{refusal_text_of, refusals}
+use Rattle.t1_lines.specs.declared.refusal.RefusalCode.TheVariants.{E01, E02, E03, E04, E05, E06, E07, E08, E09, E10, E11, E12, E13, E14, E15}
+use Rattle.t1_lines.specs.RefusalTexts.{refusal_text_of}
 use Rattle.t1_lines.specs.Lines.{FaultLineValue, LineValue, at_key, at_step, at_waiver, of_fault, of_refusal}
 use Rattle.t1_char.specs.Effects.{most_calls}
 
@@ -103,6 +104,10 @@ place_line number text =
     else if same_name p.0 (codes "glyph") then glyph_line number p.1
     else if same_name p.0 (codes "waiver") then waiver_line number p.1
     else None) (cut 32 text)
+
+-- All refusals, in the order of their numbers.
+abbrev pub refusals : List RefusalCode
+refusals = E01 ∷ E02 ∷ E03 ∷ E04 ∷ E05 ∷ E06 ∷ E07 ∷ E08 ∷ E09 ∷ E10 ∷ E11 ∷ E12 ∷ E13 ∷ E14 ∷ E15 ∷ []
 
 -- The refusal of which this is told.
 abbrev pub refusal_among : List RefusalCode → List ℕ → Option RefusalCode

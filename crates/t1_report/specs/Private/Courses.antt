@@ -29,9 +29,21 @@ pub record HasInHand (search : Search) (found : Found) (mark : Mark) : Type 0 wh
   pub complete : (p : Place) → IsTold (checked_in search) search.waivers.now p → IsLater mark p →
       IsInHand found p ⊎ IsFrom search.unit (step_of_part search.part) p.unit p.step
 
+-- Nothing in hand comes after the mark: every violation after it is still to be found.
+abbrev pub AreToBeFound : Search → Mark → Type 0
+AreToBeFound search mark =
+    (p : Place) → IsTold (checked_in search) search.waivers.now p → IsLater mark p →
+    IsFrom search.unit (step_of_part search.part) p.unit p.step
+
 pub record IsCourse (c : Course) : Type 0 where
   pub searches : IsSearch c.search
   pub hand : HasInHand c.search c.found c.mark
+
+-- A course that began with the unit that it searches, at its first step.
+pub record IsUnitCourse (c : Course) : Type 0 where
+  pub course : IsCourse c
+  pub begins : c.search.from ≡ c.search.unit
+  pub first : c.search.first ≡ 0
 
 abbrev pub turns_so_far : Search → ℕ
 turns_so_far search = search.passed + turns_in search.part + search.checked

@@ -9,9 +9,9 @@ use Rattle.t1_report.specs.declared.walk.glyph_run.GlyphRun.{GlyphRun}
 use Rattle.t1_report.specs.declared.walk.search.Part.{Part}
 use Rattle.t1_report.specs.declared.walk.search.Part.TheVariants.{Font, Glyph, Over, Waivers}
 use Rattle.t1_report.specs.declared.walk.search.Search.{Search}
-use Rattle.t1_report.specs.Checked.{CheckedFont, checked, executed}
+use Rattle.t1_report.specs.Checked.{CheckedFont, checked}
 use Rattle.t1_report.specs.Reports.{Place, path_in, IsTold, is_told}
-use Rattle.t1_report.specs.Private.Units.{IsFontPlaces, IsRun, font_step}
+use Rattle.t1_report.specs.Private.Units.{IsFontPlaces, IsRun, font_step, executed}
 use Rattle.t1_report.specs.Walks.{turns_before, first_asked, turns_asked, turns_of_unit}
 use Rattle.t1_rules.specs.declared.rule.Rule.{Rule}
 use Rattle.t1_rules.specs.Book.{number_of}

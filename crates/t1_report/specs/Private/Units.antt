@@ -10,7 +10,7 @@ use Rattle.t1_rules.specs.declared.watches.Watches.{Watches}
 use Rattle.t1_char.specs.Turns.{MachineView}
 use Rattle.t1_report.specs.declared.walk.found.Found.{Found}
 use Rattle.t1_report.specs.declared.walk.font_places.FontPlaces.{FontPlaces}
-use Rattle.t1_report.specs.Checked.{CheckedFont, executed}
+use Rattle.t1_report.specs.Checked.{CheckedFont, checked}
 use Rattle.t1_report.specs.Reports.{is_broken, path_in}
 use Rattle.t1_report.specs.Walks.{turns_of_glyph, turns_of_waiver}
 use Rattle.t1_report.specs.Private.Reporting.{HaveSeen}
@@ -41,6 +41,10 @@ pub record IsFontPlaces (font : FontValue) (p : FontPlaces) : Type 0 where
   pub key : p.key ≤ key_count
   pub index : p.index ≤ index_count
   pub places : p.places ≡ places_of font p.key
+
+-- What a machine executes.
+abbrev pub executed : MachineView → CheckedFont
+executed machine = checked machine.font machine.edition
 
 -- The machine told no more of its glyph than there is, and the watchers have seen what it told up to the limit.
 pub record IsRun (machine : MachineView) (watches : Watches) : Type 0 where

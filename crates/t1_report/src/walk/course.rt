@@ -1,12 +1,13 @@
 //! How a walk goes on from its mark: the rules of the place in hand, and then the next place.
 
-ghost use Rattle.std.specs.Prelude.{◌≡◌, ◌≤◌, ◌*◌, ◌+◌, MatchOption, length};
+ghost use Rattle.std.specs.Prelude.{◌≡◌, ◌≤◌, ◌*◌, ◌+◌, IfSome, MatchOption, length};
 ghost use Rattle.t1_report.specs.Courses.{mark_after, turns_after};
-ghost use Rattle.t1_report.specs.Private.Courses.{IsCourse, IsFloor, turns_so_far};
+ghost use Rattle.t1_report.specs.Private.Courses.{AreToBeFound, IsCourse, IsFloor, IsUnitCourse, turns_so_far};
 ghost use Rattle.t1_report.specs.Faults.{fault_value};
 ghost use Rattle.t1_report.specs.Checked.{checked, step_limit};
 ghost use Rattle.t1_report.specs.Private.Searches.{aim_of, checked_in};
-ghost use Rattle.t1_report.specs.Walks.{HasNoneLater, IsNext, mark_of, number_behind};
+ghost use Rattle.t1_report.specs.UnitFaults.{HasNoneLaterInUnit, IsNextInUnit, turns_after_in};
+ghost use Rattle.t1_report.specs.Walks.{HasNoneLater, IsNext, mark_of, number_behind, turns_at};
 ghost use Rattle.t1_rules.specs.Components.{AreOf};
 
 use crate::faults::Fault;
@@ -42,6 +43,7 @@ impl<'a> Course<'a> {
           from = mark.unit;
           first = mark.step;
         } }
+        ensures unit { result.search.unit ≡ mark.unit }
         ensures mark { result.mark ≡ mark }
         ensures turns { turns_so_far result.search ≡ 0 }
     {
@@ -85,10 +87,7 @@ impl<'a> Course<'a> {
         ensures aim { aim_of self.new.search ≡ aim_of self.old.search }
     {
         loop {
-            let floor = floor(self.mark, self.found.unit, self.found.step);
-            if let Some(rule) = self.found.rules.above(floor) {
-                let fault = fault_in(&self.found, rule, self.mark.number);
-                self.mark = mark_at(&fault);
+            if let Some(fault) = self.next_in_hand() {
                 return Some(fault);
             }
             match self.search.next() {
@@ -98,6 +97,56 @@ impl<'a> Course<'a> {
                     return None;
                 }
             }
+        }
+    }
+
+    /// The next fault behind the mark in the unit that is searched.
+    pub(crate) fn next_in_unit(&mut self) -> Option<Fault>
+        requires { IsUnitCourse self.old }
+        ensures next { MatchOption result
+            (HasNoneLaterInUnit (checked_in self.old.search) self.old.search.waivers.now self.old.search.unit self.old.mark)
+            (λ fault. IsNextInUnit (checked_in self.old.search) self.old.search.waivers.now self.old.search.unit self.old.mark
+            (fault_value fault)) }
+        ensures mark { self.new.mark ≡ mark_after self.old.mark result }
+        ensures turns { turns_so_far self.new.search ≡ turns_after_in (checked_in self.old.search) self.old.search.waivers.now
+            self.old.search.unit result }
+        ensures course { IsUnitCourse self.new }
+        ensures unit { self.new.search.unit ≡ self.old.search.unit }
+        ensures aim { aim_of self.new.search ≡ aim_of self.old.search }
+    {
+        loop {
+            if let Some(fault) = self.next_in_hand() {
+                return Some(fault);
+            }
+            match self.search.next_in_unit() {
+                Some(found) => self.found = found,
+                None => {
+                    self.found.rules = Mask::empty();
+                    return None;
+                }
+            }
+        }
+    }
+
+    /// The next fault behind the mark of those in hand; then it is the mark.
+    fn next_in_hand(&mut self) -> Option<Fault>
+        requires { IsCourse self.old }
+        ensures next { MatchOption result (AreToBeFound self.new.search self.new.mark)
+            (λ fault. IsNext (checked_in self.old.search) self.old.search.waivers.now self.old.mark (fault_value fault)) }
+        ensures turns { IfSome result (λ fault. turns_so_far self.old.search ≡ turns_at (checked_in self.old.search)
+            self.old.search.waivers.now self.old.search.from self.old.search.first fault.unit fault.step) }
+        ensures unit { IfSome result (λ fault. fault.unit ≡ self.old.search.unit) }
+        ensures mark { self.new.mark ≡ mark_after self.old.mark result }
+        ensures course { IsCourse self.new }
+        ensures search { self.new.search ≡ self.old.search }
+    {
+        let floor = floor(self.mark, self.found.unit, self.found.step);
+        if let Some(rule) = self.found.rules.above(floor) {
+            let fault = fault_in(&self.found, rule, self.mark.number);
+            self.mark = mark_at(&fault);
+            Some(fault)
+        } else {
+            None
         }
     }
 }

@@ -1,8 +1,8 @@
 //! A glyph, executed up to the next step that breaks a rule.
 
 ghost use Rattle.std.specs.Prelude.{◌≡◌, ◌<◌, ◌≤◌, ◌+◌, false, MatchOption, length};
-ghost use Rattle.t1_report.specs.Checked.{checked, executed};
-ghost use Rattle.t1_report.specs.Private.Units.{IsFirst, IsQuietFrom, IsRun};
+ghost use Rattle.t1_report.specs.Checked.{checked};
+ghost use Rattle.t1_report.specs.Private.Units.{IsFirst, IsQuietFrom, IsRun, executed};
 ghost use Rattle.t1_report.specs.Walks.{turns_of_glyph};
 ghost use Rattle.t1_rules.specs.Components.{AreOf};
 ghost use Rattle.t1_rules.specs.Mask.{HasNoneAbove};

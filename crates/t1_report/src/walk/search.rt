@@ -1,6 +1,6 @@
-//! The places where rules are broken, one after another: those of the font, then those of each glyph.
+//! The places where rules are broken, one after another: those of the font, those of each glyph, then those of the waivers.
 
-ghost use Rattle.std.specs.Prelude.{◌≡◌, ◌≤◌, ◌<◌, ◌+◌, ◌*◌, false, MatchOption, length, ◌-◌, ◌&&◌, ℕ, not};
+ghost use Rattle.std.specs.Prelude.{◌≡◌, ◌≤◌, ◌<◌, ◌+◌, ◌*◌, false, IfSome, MatchOption, length, ◌-◌, ◌&&◌, ℕ, not};
 ghost use Rattle.t1_report.specs.Checked.{checked, step_limit};
 ghost use Rattle.t1_report.specs.Reports.{Place, IsTold};
 ghost use Rattle.t1_report.specs.Private.Searches.{aim_of, checked_in, HasNoneFrom, IsFirstPlace, IsOfFont, IsSearch, is_over, step_of_part, turns_in, IsDone, IsFirstTold, IsPartBegun, TellsNoneFrom};
@@ -23,7 +23,7 @@ use t1_char::Edition;
 use t1_font::Font;
 use t1_rules::Sidebearings;
 
-/// What is searched: the font, a glyph, or nothing any more.
+/// What is searched: the font, a glyph, the waivers, or nothing any more.
 #[derive(Drop)]
 pub(crate) enum Part<'a> {
     Font(FontPlaces),
@@ -133,17 +133,17 @@ impl<'a> Search<'a> {
     }
 
     /// The next place of the unit where a rule is broken.
-    fn next_in_unit(&mut self) -> Option<Found>
+    pub(crate) fn next_in_unit(&mut self) -> Option<Found>
         requires search { IsSearch self.old }
-        requires under_way { is_over self.old.part ≡ false }
         ensures found { MatchOption result
             (TellsNoneFrom (checked_in self.old) self.old.waivers.now self.old.unit (step_of_part self.old.part))
             (λ found. IsFirstTold (checked_in self.old) self.old.waivers.now self.old.unit (step_of_part self.old.part) found) }
         ensures step { MatchOption result
             (IsDone (checked_in self.old) self.old.waivers.now self.old.unit self.new.part)
             (λ found. step_of_part self.new.part ≡ found.step + 1) }
+        ensures within { IfSome result (λ found. self.old.unit ≤ length self.old.font.now.glyphs + 1) }
         ensures search { IsSearch self.new }
-        ensures under_way { is_over self.new.part ≡ false }
+        ensures under_way { is_over self.new.part ≡ is_over self.old.part }
         ensures unit { self.new.unit ≡ self.old.unit }
         ensures aim { aim_of self.new ≡ aim_of self.old }
     {

@@ -5,7 +5,8 @@ use Rattle.t1_char.specs.declared.command.Command.TheVariants.{Div}
 use Rattle.t1_char.specs.Stacks.{from_top}
 use Rattle.t1_char.specs.Steps.{StepView}
 use Rattle.t1_rules.specs.StepRules.{argument_rules, breaks}
-use Rattle.t1_rules.specs.Private.StepTests.{IsCommand, breaks_by_quotient}
+use Rattle.t1_rules.specs.StepRules.Tokens.{IsCommand}
+use Rattle.t1_rules.specs.Private.StepTests.{breaks_by_quotient}
 
 pub of_two : (dividend divisor : ℤ) (n : ℕ) (before : List StepView) (t : StepView) → IsCommand t Div → 2 ≤ length t.stack
     → dividend ≡ from_top t.stack 1 → divisor ≡ from_top t.stack 0

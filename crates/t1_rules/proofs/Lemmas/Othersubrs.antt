@@ -6,7 +6,8 @@ use Rattle.t1_char.specs.Stacks.{from_top}
 use Rattle.t1_char.specs.Steps.{StepView}
 use Rattle.t1_rules.specs.StepRules.{othersubr_rules, breaks}
 use Rattle.t1_rules.specs.StepRules.Othersubrs.{has_good_count, is_effective}
-use Rattle.t1_rules.specs.Private.StepTests.{IsCommand, breaks_by_call}
+use Rattle.t1_rules.specs.StepRules.Tokens.{IsCommand}
+use Rattle.t1_rules.specs.Private.StepTests.{breaks_by_call}
 
 pub of_call : (is_good is_own : Bool) (number : ℤ) (n : ℕ) (before : List StepView) (t : StepView) → IsCommand t Callothersubr → 2 ≤ length t.stack
     → is_good ≡ has_good_count t → is_own ≡ is_effective t → number ≡ from_top t.stack 0

@@ -19,8 +19,7 @@ use Rattle.t1_rules.specs.Laws.StepRules.{violates}
 use Rattle.t1_rules.specs.StandardEncoding.{standard_name}
 use Rattle.t1_rules.specs.StepRules.{component_rules}
 use Rattle.t1_rules.specs.StepRules.Seac.{component_of_code, differs_in_sidebearing, is_another, is_lacking, is_named, is_unnamed, is_without_sidebearing, lacks_component, lacks_sidebearing, nests, seac_code}
-use Rattle.t1_rules.specs.StepRules.Tokens.{sets_width}
-use Rattle.t1_rules.specs.Private.StepTests.{IsCommand}
+use Rattle.t1_rules.specs.StepRules.Tokens.{sets_width, IsCommand}
 use Rattle.t1_rules.proofs.Lemmas.Book.{both}
 use Rattle.t1_rules.proofs.Lemmas.Components.{named_by_letters}
 use Rattle.t1_rules.proofs.Lemmas.Rows.{k01_row, k02_row}

@@ -10,7 +10,7 @@ use Rattle.t1_char.specs.Steps.{StepView}
 use Rattle.t1_rules.specs.declared.rule.Rule.TheVariants.{C04, C05, C06}
 use Rattle.t1_rules.specs.Laws.StepRules.{violates}
 use Rattle.t1_rules.specs.StepRules.Arguments.{is_past}
-use Rattle.t1_rules.specs.Private.StepTests.{IsCommand}
+use Rattle.t1_rules.specs.StepRules.Tokens.{IsCommand}
 use Rattle.t1_char.specs.Stacks.{most_numbers}
 
 -- A number is past the range exactly where it isn't kept as it is.

@@ -10,8 +10,7 @@ use Rattle.t1_rules.specs.Laws.StepRules.{violates}
 use Rattle.t1_rules.specs.StepRules.{step_rules, breaks_at}
 use Rattle.t1_rules.specs.StepRules.Flex.{at, current_point, displacement, moved_by, plus}
 use Rattle.t1_rules.specs.StepRules.Paths.{in_flex}
-use Rattle.t1_rules.specs.StepRules.Tokens.{is_move, sets_point}
-use Rattle.t1_rules.specs.Private.StepTests.{IsCommand}
+use Rattle.t1_rules.specs.StepRules.Tokens.{is_move, sets_point, IsCommand}
 
 -- A start leaves one in flex, and an end doesn't.
 abbrev pub StartsLeadIntoFlex : Type 0

@@ -12,7 +12,7 @@ use Rattle.t1_char.specs.Steps.{StepView, effect_at, step_at}
 use Rattle.t1_rules.specs.declared.rule.Rule.TheVariants.{O04}
 use Rattle.t1_rules.specs.Laws.StepRules.{violates}
 use Rattle.t1_rules.specs.StepRules.Othersubrs.{calls_by_numbers, calls_unknown, has_bad_count, has_good_count, has_wrong_count, is_counter_control, is_effective}
-use Rattle.t1_rules.specs.Private.StepTests.{IsCommand}
+use Rattle.t1_rules.specs.StepRules.Tokens.{IsCommand}
 
 -- How many of these are so.
 abbrev pub how_many : List Bool → ℕ

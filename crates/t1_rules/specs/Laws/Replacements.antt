@@ -8,7 +8,7 @@ use Rattle.t1_char.specs.Steps.{StepView}
 use Rattle.t1_rules.specs.declared.rule.Rule.TheVariants.{H01, R01, R02}
 use Rattle.t1_rules.specs.Laws.StepRules.{violates}
 use Rattle.t1_rules.specs.StepRules.Paths.{in_flex}
-use Rattle.t1_rules.specs.Private.StepTests.{IsCommand}
+use Rattle.t1_rules.specs.StepRules.Tokens.{IsCommand}
 
 -- ---- stems behind what was drawn
 

@@ -16,8 +16,7 @@ use Rattle.t1_rules.specs.Laws.StepRules.{violates}
 use Rattle.t1_rules.specs.StandardEncoding.{standard_name}
 use Rattle.t1_rules.specs.StepRules.{breaks, component_rules}
 use Rattle.t1_rules.specs.StepRules.Seac.{seac_code, is_named, is_unnamed}
-use Rattle.t1_rules.specs.StepRules.Tokens.{sets_width}
-use Rattle.t1_rules.specs.Private.StepTests.{IsCommand}
+use Rattle.t1_rules.specs.StepRules.Tokens.{sets_width, IsCommand}
 use Rattle.t1_font.specs.Bounds.{code_count}
 
 -- ---- codes

@@ -9,7 +9,7 @@ use Rattle.t1_rules.specs.declared.rule.Rule.TheVariants.{H04}
 use Rattle.t1_rules.specs.declared.step_rules.stems.Stem.{Stem}
 use Rattle.t1_rules.specs.Laws.StepRules.{violates}
 use Rattle.t1_rules.specs.StepRules.Stems.{hint_set, lies_across, lower, overlap, stands_upright, upper, most_stems}
-use Rattle.t1_rules.specs.Private.StepTests.{IsCommand}
+use Rattle.t1_rules.specs.StepRules.Tokens.{IsCommand}
 
 -- A place lies in a stem: from the lower edge on, and below the upper one; in units of 1/65536.
 pub record LiesIn (stem : Stem) (place : ℤ) : Type 0 where

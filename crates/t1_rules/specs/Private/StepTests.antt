@@ -1,17 +1,10 @@
 -- What the rules say of a step of a kind: each rule with its test, and which of them are broken.
-use Rattle.std.specs.Prelude.{◌≡◌, ◌&&◌, not, ℕ, ℤ, nat_lt, Bool, false, Option, Some, None, List, [], ◌∷◌, length}
-use Rattle.t1_char.specs.declared.command.Command.{Command as Commands}
-use Rattle.t1_char.specs.declared.token.CharToken.TheVariants.{Command}
-use Rattle.t1_char.specs.Steps.{StepView}
+use Rattle.std.specs.Prelude.{◌&&◌, not, ℕ, ℤ, nat_lt, Bool, false, Option, Some, None, List, [], ◌∷◌, length}
 use Rattle.t1_rules.specs.declared.rule.Rule.{Rule}
 use Rattle.t1_rules.specs.declared.rule.Rule.TheVariants.{C04, C05, C07, C08, C09, O01, O02, O03}
 use Rattle.t1_rules.specs.StepRules.Arguments.{is_zero, one_is_past, quotient_is_past}
 use Rattle.t1_rules.specs.StepRules.Othersubrs.{is_flex_or_hints, is_known}
 use Rattle.t1_rules.specs.Private.KeyTests.{broken_among}
-
--- The step's token is this command.
-abbrev pub IsCommand : StepView → Commands → Type 0
-IsCommand step command = step.token ≡ Command command
 
 -- Of a command with so many arguments.
 abbrev pub count_tests : ℕ → List ℤ → List (Rule × Bool)

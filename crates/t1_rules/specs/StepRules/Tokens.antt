@@ -1,9 +1,10 @@
 -- The kinds of tokens that charstring rules speak of. Type 1 Font Format 1.1, chapter 6.
-use Rattle.std.specs.Prelude.{◌||◌, Bool, true, false}
+use Rattle.std.specs.Prelude.{◌≡◌, ◌||◌, Bool, true, false}
 use Rattle.t1_char.specs.declared.command.Command.{Command as Commands}
 use Rattle.t1_char.specs.declared.command.Command.TheVariants.{Vmoveto, Rlineto, Hlineto, Vlineto, Rrcurveto, Closepath, Hsbw, Rmoveto, Hmoveto, Vhcurveto, Hvcurveto, Sbw, Div, Pop, Seac, Setcurrentpoint}
 use Rattle.t1_char.specs.declared.token.CharToken.{CharToken}
 use Rattle.t1_char.specs.declared.token.CharToken.TheVariants.{Command, Unknown, Unknown12, Cut, Short}
+use Rattle.t1_char.specs.Steps.{StepView}
 use Rattle.t1_char.specs.Commands.{is_clearing}
 
 -- A byte, or 12 and a byte, that is no command.
@@ -26,6 +27,10 @@ is_short _ = false
 abbrev pub is_command : (Commands → Bool) → CharToken → Bool
 is_command kind (Command command) = kind command
 is_command kind _ = false
+
+-- A step's token is this command.
+abbrev pub IsCommand : StepView → Commands → Type 0
+IsCommand step command = step.token ≡ Command command
 
 abbrev pub is_div : CharToken → Bool
 is_div (Command Div) = true

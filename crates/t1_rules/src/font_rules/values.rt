@@ -1,4 +1,5 @@
-//! Plain values: what they are, and their numbers. Numbers are in units of 10^-9, and are compared exactly.
+//! Plain values: what they are, and their numbers. Type 1 Font Format 1.1, chapters 2 and 5. Numbers are in units of
+//! 10^-9, and are compared exactly.
 
 ghost use Rattle.std.specs.Prelude.{◌≡◌};
 ghost use Rattle.t1_font.specs.Entries.{entry_view};

@@ -9,7 +9,8 @@ ghost use Rattle.t1_char.specs.StepValues.{step_view};
 ghost use Rattle.t1_rules.specs.Mask.{has};
 ghost use Rattle.t1_rules.specs.StepRules.{argument_rules, breaks};
 ghost use Rattle.t1_rules.specs.StepRules.Arguments.{is_past, one_is_past, quotient_is_past};
-ghost use Rattle.t1_rules.specs.Private.StepTests.{IsCommand, breaks_by_count, breaks_by_quotient};
+ghost use Rattle.t1_rules.specs.StepRules.Tokens.{IsCommand};
+ghost use Rattle.t1_rules.specs.Private.StepTests.{breaks_by_count, breaks_by_quotient};
 
 use crate::mask::Mask;
 use crate::rule::Rule;

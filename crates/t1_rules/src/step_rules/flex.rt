@@ -1,13 +1,14 @@
 //! The rules on flex, X01 to X06: Type 1 Font Format 1.1, chapter 8.
 
-ghost use Rattle.std.specs.Prelude.{◌≡◌, ◌≤ℤ◌, ◌+ℤ◌, ◌<◌, ◌+◌, ◌&&◌, ◌||◌, not, ℕ, pos, negsuc, List, [], ◌∷◌, ◌++◌, length, true, false, if◌then◌else◌, suc};
+ghost use Rattle.std.specs.Prelude.{◌≡◌, ◌≤ℤ◌, ◌+ℤ◌, ◌<◌, ◌+◌, ◌&&◌, ◌||◌, ◌==◌, not, ℕ, pos, negsuc, List, [], ◌∷◌, ◌++◌, length, true, false, if◌then◌else◌, suc};
 ghost use Rattle.t1_char.specs.declared.command.Command.{Command as Commands};
 ghost use Rattle.t1_char.specs.Arguments.{argument, is_callothersubr, is_flex_end, is_flex_point, is_flex_start, othersubr_call};
 ghost use Rattle.t1_char.specs.Steps.{StepView};
 ghost use Rattle.t1_char.specs.StepValues.{step_view};
 ghost use Rattle.t1_rules.specs.Mask.{has};
 ghost use Rattle.t1_rules.specs.StepRules.{breaks, flex_rules};
-ghost use Rattle.t1_rules.specs.StepRules.Flex.{at, displacement, ends_away_from, is_elsewhere, miscounts, moved_by, origin, plus, point_set};
+ghost use Rattle.t1_rules.specs.StepRules.Flex.{at, current_point, displacement, ends_away_from, flex_moves, flex_points, is_elsewhere, miscounts, moved_by, origin, plus, point_set};
+ghost use Rattle.t1_rules.specs.StepRules.Paths.{in_flex};
 ghost use Rattle.t1_rules.specs.StepRules.Tokens.{clears, is_move, is_pop, sets_point};
 ghost use Rattle.t1_rules.specs.Watches.{FlexStandsFor, IsNear, IsWithin, most_steps, reach};
 ghost use Rattle.t1_rules.specs.Private.Quiet.{IsQuietForFlex};
@@ -23,10 +24,10 @@ use crate::watch::Watch;
 use t1_char::{CharToken, Command, Edition, OthersubrCall, Step, is_callothersubr};
 
 /// A point, in units of 1/65536.
-#[derive(Clone, Copy, Debug, PartialEq, Eq)]
-pub(crate) struct Point {
-    x: i64,
-    y: i64,
+#[derive(Clone, Copy, Debug, Default, PartialEq, Eq)]
+pub struct Point {
+    pub x: i64,
+    pub y: i64,
 }
 
 /// Watches for X01 to X06.
@@ -81,6 +82,32 @@ impl Watch for FlexWatcher {
 }
 
 impl FlexWatcher {
+    /// The current point behind the steps that were seen: where X05 wants a flex to end.
+    #[inline(always)]
+    pub fn point(&self) -> Point
+        ensures value { (before : List StepView) → FlexStandsFor self.now before → result ≡ current_point before }
+        ensures near { (before : List StepView) → FlexStandsFor self.now before → IsNear (length before) result }
+    {
+        self.point
+    }
+
+    /// Whether a flex was started, and not ended since.
+    #[inline(always)]
+    pub fn is_in_flex(&self) -> bool
+        ensures { (before : List StepView) → FlexStandsFor self.now before → result ≡ in_flex before }
+    {
+        self.in_flex
+    }
+
+    /// Whether since the last start of a flex there were seven moves and seven points, as X04 wants at its end.
+    #[inline(always)]
+    pub fn has_seven_pairs(&self) -> bool
+        ensures { (before : List StepView) → FlexStandsFor self.now before →
+            result ≡ (flex_moves before == 7 && flex_points before == 7) }
+    {
+        (self.moves == 7) & (self.points == 7)
+    }
+
     /// Whether the last steps neither ended a flex nor took a pop behind that.
     #[inline(always)]
     pub(crate) fn is_calm(&self) -> bool

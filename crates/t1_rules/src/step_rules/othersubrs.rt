@@ -8,7 +8,8 @@ ghost use Rattle.t1_char.specs.StepValues.{step_view};
 ghost use Rattle.t1_rules.specs.Mask.{has};
 ghost use Rattle.t1_rules.specs.StepRules.{breaks, othersubr_rules};
 ghost use Rattle.t1_rules.specs.StepRules.Othersubrs.{has_good_count, is_counter_control, is_effective, is_flex_or_hints, is_good_count};
-ghost use Rattle.t1_rules.specs.Private.StepTests.{IsCommand, breaks_by_call};
+ghost use Rattle.t1_rules.specs.StepRules.Tokens.{IsCommand};
+ghost use Rattle.t1_rules.specs.Private.StepTests.{breaks_by_call};
 
 use crate::mask::Mask;
 use crate::rule::Rule;

@@ -6,6 +6,7 @@ ghost use Rattle.t1_char.specs.Steps.{StepView};
 ghost use Rattle.t1_char.specs.StepValues.{step_view};
 ghost use Rattle.t1_rules.specs.Mask.{has};
 ghost use Rattle.t1_rules.specs.StepRules.{breaks, path_rules};
+ghost use Rattle.t1_rules.specs.StepRules.Paths.{is_open};
 ghost use Rattle.t1_rules.specs.StepRules.Tokens.{is_line, is_move};
 ghost use Rattle.t1_rules.specs.Watches.{PathsStandFor};
 ghost use Rattle.t1_rules.specs.Private.Quiet.{IsQuietForPaths};
@@ -65,6 +66,14 @@ impl Watch for PathWatcher {
 }
 
 impl PathWatcher {
+    /// Whether something was drawn, and no closepath came since: what P02 and P03 ask.
+    #[inline(always)]
+    pub fn is_open(&self) -> bool
+        ensures { (before : List StepView) → PathsStandFor self.now before → result ≡ is_open before }
+    {
+        self.drawn
+    }
+
     /// What a step breaks.
     #[inline(always)]
     #[tactic(auto, unfolding(crate::specs::StepRules::path_rules))]

@@ -131,14 +131,14 @@ pub(crate) fn is_unnamed(code: Option<u8>) -> bool
 }
 
 /// The code of the base.
-pub(crate) fn base_code(step: &Step) -> Option<u8>
+pub fn base_code(step: &Step) -> Option<u8>
     ensures { result ≡ base_code (step_view step.now) }
 {
     seac_code(step.argument(3))
 }
 
 /// The code of the accent.
-pub(crate) fn accent_code(step: &Step) -> Option<u8>
+pub fn accent_code(step: &Step) -> Option<u8>
     ensures { result ≡ accent_code (step_view step.now) }
 {
     seac_code(step.argument(4))

@@ -11,7 +11,7 @@ ghost use Rattle.t1_char.specs.Steps.{StepView};
 ghost use Rattle.t1_char.specs.StepValues.{step_view};
 ghost use Rattle.t1_rules.specs.Mask.{has};
 ghost use Rattle.t1_rules.specs.StepRules.{breaks, stem_rules};
-ghost use Rattle.t1_rules.specs.StepRules.Stems.{are_unequal, has_no_width, has_one_edge, is_off_middle, is_stem, is_triple, lies_across, lower, one_overlaps, overlap, overlap_by, sets_unequal, stands_upright, stem_at, stems_meet, stems_of, two_overlap, twice_middle, upper, most_stems};
+ghost use Rattle.t1_rules.specs.StepRules.Stems.{are_unequal, has_no_width, has_one_edge, is_off_middle, hint_set, is_stem, is_triple, lies_across, lower, one_overlaps, overlap, overlap_by, sets_unequal, stands_upright, stem_at, stems_meet, stems_of, two_overlap, twice_middle, upper, most_stems};
 ghost use Rattle.t1_rules.specs.StepRules.Tokens.{is_command, is_line};
 ghost use Rattle.t1_rules.specs.Watches.{IsWithin, StemsStandFor, reach};
 ghost use Rattle.t1_rules.specs.Private.Stems.{IsQuietForStems, kept_after};
@@ -38,9 +38,9 @@ const BOTTOM_EDGE: i64 = -21 * UNIT;
 
 /// A stem hint: where it begins, and how far it reaches from there, up or down, in units of 1/65536.
 #[derive(Clone, Copy, Debug, Default, PartialEq, Eq)]
-pub(crate) struct Stem {
-    position: i32,
-    width: i32,
+pub struct Stem {
+    pub position: i32,
+    pub width: i32,
 }
 
 /// Stems of one direction.
@@ -97,6 +97,24 @@ impl Watch for StemWatcher {
 }
 
 impl StemWatcher {
+    /// The hint set of hstem and hstem3 behind the steps that were seen: the first 96 since the last hint replacement.
+    #[inline(always)]
+    pub fn across(&self) -> &[Stem]
+        ensures { (edition : Editions) (before : List StepView) → StemsStandFor edition self.now before →
+            result.now ≡ hint_set lies_across before }
+    {
+        self.across.as_slice()
+    }
+
+    /// The hint set of vstem and vstem3.
+    #[inline(always)]
+    pub fn upright(&self) -> &[Stem]
+        ensures { (edition : Editions) (before : List StepView) → StemsStandFor edition self.now before →
+            result.now ≡ hint_set stands_upright before }
+    {
+        self.upright.as_slice()
+    }
+
     /// Before the first step again, in place.
     pub(crate) fn start_again(&mut self, edition: Edition)
         ensures { StemsStandFor edition self.new [] }
@@ -202,14 +220,16 @@ impl StemWatcher {
 }
 
 impl Stem {
-    fn lower(self) -> i64
+    /// Its lower edge, or its left one.
+    pub fn lower(self) -> i64
         ensures { result ≡ lower self }
     {
         let position = i64::from(self.position);
         position.min(position + i64::from(self.width))
     }
 
-    fn upper(self) -> i64
+    /// Its upper edge, or its right one.
+    pub fn upper(self) -> i64
         ensures { result ≡ upper self }
     {
         let position = i64::from(self.position);
@@ -234,8 +254,8 @@ impl Stem {
         spans_meet(self.lower(), self.upper(), other.lower(), other.upper())
     }
 
-    /// Whether its width is exactly -20 or -21, which stands for one edge.
-    fn has_one_edge(self) -> bool
+    /// Whether its width is exactly -20 or -21, which stands for one edge in the second edition.
+    pub fn has_one_edge(self) -> bool
         ensures { result ≡ has_one_edge self }
     {
         let width = i64::from(self.width);

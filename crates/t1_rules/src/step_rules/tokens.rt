@@ -35,13 +35,14 @@ pub(crate) fn clears(token: CharToken) -> bool
 }
 
 /// Whether it sets sidebearing and width.
-pub(crate) fn sets_width(token: CharToken) -> bool
+pub fn sets_width(token: CharToken) -> bool
     ensures { result ≡ sets_width token }
 {
     matches!(token, CharToken::Command(Command::Hsbw | Command::Sbw))
 }
 
-pub(crate) fn is_move(token: CharToken) -> bool
+/// Whether it is a move.
+pub fn is_move(token: CharToken) -> bool
     ensures { result ≡ is_move token }
 {
     matches!(
@@ -51,7 +52,7 @@ pub(crate) fn is_move(token: CharToken) -> bool
 }
 
 /// Whether it is a line or a curve.
-pub(crate) fn is_line(token: CharToken) -> bool
+pub fn is_line(token: CharToken) -> bool
     ensures { result ≡ is_line token }
 {
     matches!(
@@ -68,7 +69,7 @@ pub(crate) fn is_line(token: CharToken) -> bool
 }
 
 /// Whether it closes a path.
-pub(crate) fn closes(token: CharToken) -> bool
+pub fn closes(token: CharToken) -> bool
     ensures { result ≡ closes token }
 {
     matches!(token, CharToken::Command(Command::Closepath))
@@ -99,7 +100,8 @@ pub(crate) fn sets_point(token: CharToken) -> bool
     sets_width(token) | is_setcurrentpoint(token)
 }
 
-pub(crate) fn is_seac(token: CharToken) -> bool
+/// Whether it makes an accented character.
+pub fn is_seac(token: CharToken) -> bool
     ensures { result ≡ is_seac token }
 {
     matches!(token, CharToken::Command(Command::Seac))

@@ -1,6 +1,7 @@
 //! Tokens of charstrings: Type 1 Font Format 1.1, chapter 6.
 
 ghost use Rattle.std.specs.Prelude.{negsuc, pos, ◌≤ℤ◌};
+ghost use Rattle.t1_font.specs.Bounds.{greatest_len_iv};
 
 use super::push_token;
 use std::alloc::{AllocError, Global};
@@ -15,7 +16,7 @@ fn text_of(alloc: Global, code: &[u8]) -> Result<String, AllocError> {
 
 fn enciphered_text(alloc: Global, code: &[u8], len_iv: i8) -> Result<String, AllocError>
     requires least { negsuc 0 ≤ℤ len_iv }
-    requires greatest { len_iv ≤ℤ pos 64 }
+    requires greatest { len_iv ≤ℤ pos greatest_len_iv }
 {
     let mut text = String::new(alloc);
     for token in &tokens(alloc, code, len_iv)? {

@@ -1,11 +1,11 @@
 use Rattle.std.proofs.Common.{◌≡◌, ℕ, ◌+◌, ◌≤◌, ◌∙◌, ap, arith, subst, sym}
-use Rattle.t1_report.specs.Checked.{CheckedFont, checked, executed, step_limit}
+use Rattle.t1_report.specs.Checked.{CheckedFont, checked, step_limit}
 use Rattle.t1_rules.specs.Book.{number_of}
 use Rattle.t1_rules.specs.Components.{AreOf}
 use Rattle.t1_char.proofs.EditionLemmas.{limit_few}
 use Rattle.t1_char.specs.Turns.{MachineView}
 use Rattle.t1_rules.specs.declared.watches.Watches.{Watches}
-use Rattle.t1_report.specs.Private.Units.{IsRun}
+use Rattle.t1_report.specs.Private.Units.{IsRun, executed}
 use Rattle.t1_report.specs.Walks.{turns_of_glyph}
 use Rattle.t1_report.proofs.Broken.{at_no_step}
 use Rattle.t1_report.proofs.Units.{few_turns_of}

@@ -1,8 +1,8 @@
 use Rattle.std.proofs.Common.{◌≡◌, ℕ, ◌+◌, ◌-◌, ◌≤◌, false}
 use Rattle.t1_rules.specs.Book.{number_of}
-use Rattle.t1_report.specs.Checked.{checked, executed}
+use Rattle.t1_report.specs.Checked.{checked}
 use Rattle.t1_report.specs.Reports.{is_broken}
-use Rattle.t1_report.specs.Private.Units.{IsRun}
+use Rattle.t1_report.specs.Private.Units.{IsRun, executed}
 use Rattle.t1_report.proofs.usage.use_of.Given as goal
 
 abbrev pub invariant-loop-found : goal.invariant-loop-found

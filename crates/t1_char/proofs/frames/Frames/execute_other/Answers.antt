@@ -1,6 +1,5 @@
 use Rattle.std.proofs.Common.{ap, ◌∙◌, arith}
-use Rattle.t1_char.specs.Effects.{effect, calls, returns}
-use Rattle.t1_char.specs.Private.Actions.{state_of}
+use Rattle.t1_char.specs.Effects.{effect, calls, returns, state_of}
 use Rattle.t1_char.proofs.Executing.{effect_at_depth, executed_goes, executed_calls, executed_returns, executed_finishes}
 use Rattle.t1_char.proofs.frames.Frames.execute_other.Goals as goal
 

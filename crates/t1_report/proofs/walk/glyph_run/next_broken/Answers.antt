@@ -2,11 +2,10 @@ use Rattle.std.proofs.Common.{◌+◌, ◌++◌, ◌∷◌, [], take, refl, ap, 
 use Rattle.t1_char.specs.Editions.{limit_of}
 use Rattle.t1_char.specs.Steps.{steps_of}
 use Rattle.t1_char.specs.StepValues.{step_view}
-use Rattle.t1_report.specs.Checked.{executed}
 use Rattle.t1_report.proofs.GlyphSteps.{is_next_by}
 use Rattle.t1_report.proofs.PassedNumbers.{EndsBehind, IsTurn, StandsBehind, ended_behind, fewer_turns_left, stands_behind_numbers, turn_behind}
 use Rattle.t1_report.proofs.RunSteps.{same_executed, found_at, quiet_limit, quiet_more, quiet_over, run_at, run_more, run_of, run_over, step_agrees, turns_at_limit}
-use Rattle.t1_report.specs.Private.Units.{IsQuiet}
+use Rattle.t1_report.specs.Private.Units.{IsQuiet, executed}
 use Rattle.t1_report.specs.Private.Reporting.{HaveSeen}
 use Rattle.t1_report.proofs.walk.glyph_run.next_broken.Goals as goal
 

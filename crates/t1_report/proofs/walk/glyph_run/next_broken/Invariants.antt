@@ -1,6 +1,6 @@
 use Rattle.std.proofs.Common.{◌≡◌, ◌≤◌, ◌+◌, ◌-◌}
-use Rattle.t1_report.specs.Checked.{executed, step_limit}
-use Rattle.t1_report.specs.Private.Units.{IsQuiet, IsRun}
+use Rattle.t1_report.specs.Checked.{step_limit}
+use Rattle.t1_report.specs.Private.Units.{IsQuiet, IsRun, executed}
 use Rattle.t1_report.proofs.walk.glyph_run.next_broken.Given as goal
 
 abbrev pub invariant-loop-machine : goal.invariant-loop-machine

@@ -3,12 +3,12 @@ use Rattle.t1_report.specs.Private.Courses.{IsCourse}
 use Rattle.t1_report.specs.Private.Searches.{aim_of, step_of_part}
 use Rattle.t1_report.proofs.walk.course.Course.next.Given as goal
 
-abbrev pub invariant-loop-rule : goal.invariant-loop-rule
-invariant-loop-rule l = record {
+abbrev pub invariant-loop-fault : goal.invariant-loop-fault
+invariant-loop-fault l = record {
   course : IsCourse l.self;
   aim : aim_of l.self.search ≡ aim_of l.fn.self.search;
   mark : l.self.mark ≡ l.fn.self.mark;
 }
 
-abbrev pub decreases-loop-rule : goal.decreases-loop-rule
-decreases-loop-rule l = (length l.self.search.font.now.glyphs + 2 - l.self.search.unit) * 2000000 + (2000000 - step_of_part l.self.search.part)
+abbrev pub decreases-loop-fault : goal.decreases-loop-fault
+decreases-loop-fault l = (length l.self.search.font.now.glyphs + 2 - l.self.search.unit) * 2000000 + (2000000 - step_of_part l.self.search.part)

@@ -1,6 +1,7 @@
-use Rattle.std.proofs.Common.{◌∙◌, arith}
+use Rattle.std.proofs.Common.{◌∙◌, ap, arith}
+use Rattle.t1_report.specs.Private.Searches.{is_over}
 use Rattle.t1_report.proofs.ToldInUnit.{next_asked, none_of_glyph, none_of_waivers, told_of_font, told_of_glyph, told_of_next}
-use Rattle.t1_report.proofs.Units.{few_passed}
+use Rattle.t1_report.proofs.Units.{few_passed, none_when_over}
 use Rattle.t1_report.proofs.walk.search.Search.next_in_unit.Goals as goal
 
 pub returns-in-Font-clause-found : goal.returns-in-Font-clause-found
@@ -34,3 +35,6 @@ returns-else-next-len-clause-search c =
           (omega (arith, c.if-next-len.false, c.len.ensures.len)) (c.from.ensures ∙ c.check_waiver-check.ensures.turns);
       components_are = c.requires.search.components_are;
     }
+
+pub returns-in-Over-clause-found : goal.returns-in-Over-clause-found
+returns-in-Over-clause-found c = none_when_over c.args.self.now c.requires.search (ap is_over c.in-Over.is)

@@ -1,0 +1,181 @@
+//! The faults of one unit, one at a time, numbered from 1 in the unit. No chapter of the standard has units.
+
+ghost use Rattle.t1_rules.specs.Components.{AreOf};
+
+use crate::fonts::with_glyphs;
+use crate::reports::{in_short, lines_of};
+use crate::waivers::waivers_in;
+use std::alloc::Global;
+use std::test::Fail;
+use t1_char::Edition;
+use t1_font::Font;
+use t1_report::{Fault, UnitFaults, Waivers};
+use t1_rules::Sidebearings;
+use t1_samples::{font_of, opened};
+
+/// How many faults a unit of these tests has at most.
+const MOST_FAULTS: u32 = 16;
+
+/// The faults of a unit up to the answer that there is none more, which is given again, and how often machines were
+/// asked.
+fn all_given<'a>(
+    alloc: Global,
+    font: &'a Font<'a>,
+    sidebearings: &'a Sidebearings,
+    waivers: &'a Waivers<'a>,
+    unit: u32,
+) -> Result<(Vec<Fault>, u64), Fail>
+    requires { AreOf font.now sidebearings.now }
+{
+    let mut given = UnitFaults::of(font, sidebearings, waivers, unit);
+    if given.turns() != 0 {
+        return Err(Fail::from("machines were asked before the first call"));
+    }
+    let mut faults = Vec::new(alloc);
+    for _call in 0..=MOST_FAULTS {
+        match given.next() {
+            Some(fault) => faults.push(fault)?,
+            None => break,
+        }
+    }
+    if given.next().is_some() {
+        return Err(Fail::from("more faults, or one behind the last"));
+    }
+    Ok((faults, given.turns()))
+}
+
+fn faults_of_unit(
+    alloc: Global,
+    font: &Font<'_>,
+    waivers: &Waivers<'_>,
+    edition: Edition,
+    unit: u32,
+) -> Result<(Vec<Fault>, u64), Fail> {
+    let sidebearings = Sidebearings::prepare(alloc, font, edition)?;
+    all_given(alloc, &*font, &sidebearings, &*waivers, unit)
+}
+
+/// Zones with four faults, as in the tests of places.
+const ZONES: &[u8] = b"/BlueValues [0 26 40 50 60 55 70 80 90 100 110 120 130 140 150] def";
+
+/// Subr 5 draws where nothing has moved.
+const SUBRS: &str = "5: 5 hlineto return";
+
+/// Behind `.notdef` glyph A with four faults at two steps, B without one, and C with three, one of them in Subr 5.
+const GLYPHS: &str = "A: 32001 0 hmoveto closepath endchar | B: 0 500 hsbw endchar | \
+C: 0 500 hsbw 5 callsubr closepath 5 hlineto closepath pop endchar";
+
+/// Units, the faults of each, and how often machines were asked, once more than the glyph has steps: the font, the four
+/// glyphs, the waivers, and units behind these.
+const UNITS: &[(u32, &str, u64)] = &[
+    (
+        0,
+        "BlueValues 0 Z03, BlueValues 1 Z07, BlueValues 5 Z04, BlueValues 14 Z02",
+        0,
+    ),
+    (1, "", 5),
+    (2, "A 3 C05, A 3 C07, A 3 W01, A 4 P03", 6),
+    (3, "", 5),
+    (4, "C 5 7 P01, C 11 P01, C 13 O04", 15),
+    (5, "", 0),
+    (6, "", 0),
+    (4_294_967_295, "", 0),
+];
+
+/// The faults of a unit in short, whose numbers count from 1, and how often machines were asked.
+fn short_of_unit(alloc: Global, font: &Font<'_>, unit: u32) -> Result<(String, u64), Fail> {
+    let (faults, turns) = faults_of_unit(alloc, font, &Waivers::none(), Edition::One, unit)?;
+    Ok((in_short(alloc, font, faults.as_slice())?, turns))
+}
+
+#[test]
+fn each_unit_has_its_faults(rt: HostRuntime) -> Result<(), Fail> {
+    let sample = with_glyphs(rt.alloc(), SUBRS, GLYPHS)?.key(ZONES)?;
+    let mut file = opened(rt.alloc(), &sample)?;
+    let font = font_of(rt.alloc(), &mut file)?;
+    for (unit, faults, turns) in UNITS {
+        let (found, asked) = short_of_unit(rt.alloc(), &font, *unit)?;
+        assert_eq!(rt; (found.as_str(), asked), (*faults, *turns), "unit {unit}");
+    }
+    Ok(())
+}
+
+/// A stem of one edge lies in another: they overlap in edition 1 alone. W01 is broken in both.
+const EDGES: &str = "A: 0 20 hstem 10 -20 hstem endchar | B: endchar";
+
+/// The lines of a unit, and how often machines were asked.
+type Told = (&'static str, u64);
+
+/// Waivers, a unit, and what is told of it in editions 1 and 2. Unit 2 is glyph A, of seven steps, and 4 is the waivers':
+/// for one that is used machines are asked up to its first use.
+const WAIVED: &[(&[u8], u32, Told, Told)] = &[
+    (
+        b"",
+        2,
+        (
+            "1: glyph A - 3 W01 hsbw or sbw not first\n2: glyph A - 6 H02 stems overlap\n",
+            8,
+        ),
+        ("1: glyph A - 3 W01 hsbw or sbw not first\n", 8),
+    ),
+    (
+        b"A W01\nB P03\n",
+        2,
+        ("1: glyph A - 6 H02 stems overlap\n", 8),
+        ("", 8),
+    ),
+    (
+        b"A H02\n",
+        2,
+        ("1: glyph A - 3 W01 hsbw or sbw not first\n", 8),
+        ("1: glyph A - 3 W01 hsbw or sbw not first\n", 8),
+    ),
+    (b"A H02\nA W01\n", 2, ("", 8), ("", 8)),
+    (
+        b"A H02\nB W01\nB P03\nA P03\n",
+        4,
+        (
+            "1: waiver B P03 U01 waiver not used\n2: waiver A P03 U01 waiver not used\n",
+            17,
+        ),
+        (
+            "1: waiver A H02 U01 waiver not used\n2: waiver B P03 U01 waiver not used\n\
+3: waiver A P03 U01 waiver not used\n",
+            19,
+        ),
+    ),
+    (
+        b"A P03\n",
+        3,
+        ("1: glyph B - 1 W01 hsbw or sbw not first\n", 2),
+        ("1: glyph B - 1 W01 hsbw or sbw not first\n", 2),
+    ),
+    (b"A P03\n", 0, ("", 0), ("", 0)),
+    (b"A P03\n", 5, ("", 0), ("", 0)),
+];
+
+/// The lines of a unit with waivers, by an edition, and how often machines were asked.
+fn lines_of_unit(
+    alloc: Global,
+    font: &Font<'_>,
+    text: &[u8],
+    edition: Edition,
+    unit: u32,
+) -> Result<(String, u64), Fail> {
+    let waivers = waivers_in(alloc, text)?;
+    let (faults, turns) = faults_of_unit(alloc, font, &waivers, edition, unit)?;
+    Ok((lines_of(alloc, font, &waivers, faults.as_slice())?, turns))
+}
+
+#[test]
+fn waivers_leave_faults_of_a_unit(rt: HostRuntime) -> Result<(), Fail> {
+    let mut file = opened(rt.alloc(), &with_glyphs(rt.alloc(), "", EDGES)?)?;
+    let font = font_of(rt.alloc(), &mut file)?;
+    for (text, unit, first, second) in WAIVED {
+        let (one, asked) = lines_of_unit(rt.alloc(), &font, text, Edition::One, *unit)?;
+        assert_eq!(rt; (one.as_str(), asked), *first, "unit {unit}, edition 1");
+        let (two, asked) = lines_of_unit(rt.alloc(), &font, text, Edition::Two, *unit)?;
+        assert_eq!(rt; (two.as_str(), asked), *second, "unit {unit}, edition 2");
+    }
+    Ok(())
+}
