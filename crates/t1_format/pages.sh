@@ -65,6 +65,9 @@ awk -v all="$codes" '
         }
         next
     }
+    # Pictures are left out, with the empty line behind.
+    /^!\[/ { is_picture = 1; next }
+    is_picture && /^$/ { is_picture = 0; next }
     code != "" && (page != "" || $0 != "") { page = page literal($0) "\\n" }
     END {
         write_page()
