@@ -1,4 +1,4 @@
-# Completions of t1check, t1check-all, t1explain and t1format for bash.
+# Completions of t1check, t1check-all, t1draw, t1explain and t1format for bash.
 
 # Takes the lines of standard input as what the word can be.
 _t1check_take() {
@@ -45,13 +45,14 @@ _t1check() {
             options='-j -q --edition --only --except --no-waivers --write-waivers --force --baseline --update-baseline
                 --shard --format --docs --help --version'
             ;;
+        t1draw) options='--edition --waive --step --help' ;;
         t1format) options='--font --docs --help' ;;
         *) options=--help ;;
     esac
     case $tool$before in
-        t1check--after | t1check--max | t1check--trace | t1check--waive) ;;
+        t1check--after | t1check--max | t1check--trace | t1check--waive | t1draw--waive | t1draw--step) ;;
         t1check-all-j | t1check-all--baseline | t1check-all--shard | t1check-all--docs | t1format--docs) ;;
-        t1check--edition | t1check-all--edition) _t1check_take < <(compgen -W '1 2' -- "$word") ;;
+        t1check--edition | t1check-all--edition | t1draw--edition) _t1check_take < <(compgen -W '1 2' -- "$word") ;;
         t1check-all--only | t1check-all--except) _t1check_rules "$1" "$word" ;;
         t1check-all--format) _t1check_take < <(compgen -W 'jsonl sarif github' -- "$word") ;;
         t1format--font) _t1check_fonts "$word" ;;
@@ -67,4 +68,4 @@ _t1check() {
 }
 
 # Where nothing fits, files are.
-complete -o default -F _t1check t1check t1check-all t1explain t1format
+complete -o default -F _t1check t1check t1check-all t1draw t1explain t1format

@@ -1,4 +1,4 @@
-# Completions of t1check, t1check-all, t1explain and t1format for fish.
+# Completions of t1check, t1check-all, t1draw, t1explain and t1format for fish.
 
 # What t1explain lists; it stands beside a tool that is named by its path.
 function __t1check_codes
@@ -41,6 +41,12 @@ complete -c t1check-all -l format -x -a 'jsonl sarif github' -d 'Write lines in 
 complete -c t1check-all -l docs -x -d 'Name the page of each rule below this URL'
 complete -c t1check-all -s h -l help -d 'Print help'
 complete -c t1check-all -l version -d 'Print the commit'
+
+complete -c t1draw -f -a '(__t1check_fonts)'
+complete -c t1draw -l edition -x -a '1 2' -d 'Find faults by this edition of the rule book'
+complete -c t1draw -l waive -r -F -d 'Leave out what this file waives'
+complete -c t1draw -l step -x -d 'Draw no further than this step'
+complete -c t1draw -s h -l help -d 'Print help'
 
 complete -c t1explain -f -a '(__t1check_codes)'
 complete -c t1explain -s h -l help -d 'Print help'

@@ -2,7 +2,8 @@
 # Writes docs/RULES.md as the manual page t1check-rules(7).
 #
 # Of a table each row becomes an item: its first cell, then the others, the further ones each behind its column's heading.
-# Links become their texts. The list of contents is left out, and so are columns of definitions, for which one needs the sources at hand.
+# Links become their texts. The list of contents and pictures are left out, and so are columns of definitions, for which one needs the sources at
+# hand.
 set -u
 LC_ALL=C
 export LC_ALL
@@ -121,6 +122,7 @@ awk '
         is_first = 1
         next
     }
+    /^!\[/ { next }
     /^\|[-|]*$/ { next }
     /^\|/ {
         if (!columns) flush()

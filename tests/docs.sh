@@ -6,14 +6,15 @@
 #   tokens that are written out are those that the program traces in the case's font: `A: ..` and `Subr 5: ..`. A line
 #   `X … (seven times) Y` stands for seven X and one Y.
 # - Each rule and each refusal has its text in the table of its kind, and each rule in its heading too; t1_lines reads the same texts of
-#   refusals. The pages that t1_format keeps are those of docs/RULES.md.
+#   refusals, and t1_font has those of a font's bytes. The pages that t1_format keeps are those of docs/RULES.md.
 # - Each rule stands in all places that docs/ARCHITECTURE.md names for it; one that lacks rules is told with their codes. A file that has all
 #   of them is named there. The definitions in a rule's row of docs/RULES.md are in the files that stand behind them, and the first of them
 #   is cited where specs/ says what breaks the rule. Above each row in specs/ stands a source.
 # - Each word of the definitions that a clause of a public function cites stands, between backquotes, in the first column of a row of
 #   docs/DEFINITIONS.md, or in the last one of a rule's row in docs/RULES.md; and each word that stands in the former is defined. Left out is
 #   what docs/DEFINITIONS.md leaves out: words of laws and of private functions, and types that the code declares. Public are all functions
-#   of the program, and of a library those of the modules whose items it hands on.
+#   of the program, and of a library those of the modules of which it hands on more than a constant. The words of private functions stand in
+#   specs/Private, and no definition elsewhere rests on them.
 # - The README's lines for an editor are lines of crates/example.
 # - Each link between the pages leads to a file, and to a heading where it names one. Each file of crates/, docs/ and tests/ that a page
 #   names is there.
@@ -169,10 +170,14 @@ while read -r code text; do
 done <"$scratch/book"
 sed -n 's/^.*"refused: \(E[0-9]*\) \(.*\)\\n",$/\1 \2/p' "$top/crates/t1check/src/refusals.rt" >"$scratch/refusals"
 while read -r code text; do
+    # A file's size and the waivers aren't t1_font's.
+    case $code in E05 | E14 | E15) of_font='' ;; *) of_font=yes ;; esac
     if ! grep -qF "| $code | $text |" "$rules"; then
         fail "docs/RULES.md: no row of the table says $code $text"
     elif ! grep -qF "\"$code $text\"" "$top/crates/t1_lines/src/refusal.rt"; then
         fail "crates/t1_lines/src/refusal.rt: no refusal has the text $code $text"
+    elif [ -n "$of_font" ] && ! grep -qF "\"$code $text\"" "$top/crates/t1_font/src/unread.rt"; then
+        fail "crates/t1_font/src/unread.rt: no refusal has the text $code $text"
     else
         pass
     fi
@@ -337,7 +342,7 @@ list_public() {
             ls "$crate"/src/*.rt | grep -v '/laws.rt$\|/tests.rt$'
             continue
         fi
-        sed -n 's/^pub use \([a-z_0-9:]*\)::.*/\1/p' "$crate/src/lib.rt" | sed 's/::/\//g' | grep -v laws | sort -u | while read -r module; do
+        sed -n '/::[A-Z_]*;$/d; s/^pub use \([a-z_0-9:]*\)::.*/\1/p' "$crate/src/lib.rt" | sed 's/::/\//g' | grep -v laws | sort -u | while read -r module; do
             [ -f "$crate/src/$module.rt" ] && printf '%s\n' "$crate/src/$module.rt"
         done
     done
@@ -410,6 +415,13 @@ while read -r word; do
         fail "docs/DEFINITIONS.md: nothing in crates/*/specs defines $word"
     fi
 done <"$scratch/defining"
+
+# No definition outside specs/Private rests on a word of it, and so no clause of a public function does by another word.
+grep -l 'specs\.Private\.' "$top"/crates/*/specs/*.antt "$top"/crates/*/specs/[!P]*/*.antt >"$scratch/resting"
+while IFS= read -r file; do
+    fail "${file#"$top"/}: rests on a word of specs/Private"
+done <"$scratch/resting"
+[ -s "$scratch/resting" ] || pass
 
 # The README's lines for an editor stand in the example.
 sed -n '/^## In an editor$/,/^## /s/^    //p' "$top/README.md" >"$scratch/editor"

@@ -1,8 +1,9 @@
 #!/bin/sh
 # Runs the built program on the cases of tests/program, and compares each run's status, standard output
 # and standard error with what the case wants. Names the cases that fail; the last line counts both.
+# Read in by tests/draw.sh it does the same with t1draw and the cases of tests/draw.
 #
-# A case is a file of lines `KEY: VALUE`, and runs in tests/program/fonts, for 60 seconds at most:
+# A case is a file of lines `KEY: VALUE`, and runs in the folder fonts beside it, for 60 seconds at most:
 #   word: WORD      one more word of the command line; \0NNN in it is a byte, in octal
 #   waivers: TEXT   the last words are --waive and a file of this text; \n, \r, \t and \0NNN in it are bytes.
 #                   Where more than one such line stands, each is tried in a run of its own
@@ -16,6 +17,7 @@
 #   memory: N       the run gets N kilobytes of address space; `least`: as many as the program needs to begin at all
 #   status: N       the wanted status
 #   out: LINE       one more wanted line of standard output
+#   picture: NAME   the file beside the case that standard output has to be, byte for byte
 #   has: LINE       a line that standard output has to have; it may have others
 #   hasnot: LINE    a line that it must not have
 #   count: N        how many lines it has to have, where `has` lines stand
@@ -25,8 +27,11 @@ LC_ALL=C
 export LC_ALL
 
 top=$(CDPATH='' cd -- "$(dirname "$0")/.." && pwd -P) || exit 1
-program=$top/crates/t1check/out/t1check
-cases=$top/tests/program
+case ${0##*/} in
+    draw.sh) name=t1draw cases=$top/tests/draw ;;
+    *) name=t1check cases=$top/tests/program ;;
+esac
+program=$top/crates/$name/out/$name
 exec </dev/null
 
 # The lines of a case with this key, without the key.
@@ -99,6 +104,15 @@ is_wanted() {
     return 1
 }
 
+# Whether the output is the picture that the case names.
+is_picture() {
+    picture=$cases/$(lines picture "$1")
+    cmp -s "$picture" "$scratch/out" && return 0
+    echo "failed: $(basename "$1" .case): another picture (< wanted, > given)"
+    diff "$picture" "$scratch/out"
+    return 1
+}
+
 # Whether each line that the output has to have stands in it, none that it must not have, and as many as wanted.
 has_lines() {
     lines has "$1" >"$scratch/lines"
@@ -135,6 +149,8 @@ answers() {
     fi
     if grep -q '^has:' "$1"; then
         has_lines "$1" || return 1
+    elif grep -q '^picture:' "$1"; then
+        is_picture "$1" || return 1
     else
         is_wanted out "$scratch/out" "$1" || return 1
     fi
@@ -191,8 +207,8 @@ passes() {
     done <"$scratch/texts"
 }
 
-if ! "$top/bin/t1check" --help >/dev/null; then
-    echo "failed: bin/t1check --help, which builds the program"
+if ! "$top/bin/$name" --help >/dev/null; then
+    echo "failed: bin/$name --help, which builds the program"
     echo "0 passed, 1 failed"
     exit 1
 fi

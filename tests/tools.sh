@@ -11,7 +11,7 @@ fonts=$top/tests/program/fonts
 all=$top/bin/t1check-all
 explain=$top/bin/t1explain
 format=$top/bin/t1format
-for tool in t1check t1format; do
+for tool in t1check t1format t1draw; do
     if ! "$top/bin/$tool" --help >/dev/null; then
         echo "failed: bin/$tool --help, which builds the program"
         echo "0 passed, 1 failed"
@@ -739,7 +739,7 @@ done
 
 # Building. One in the place of rt tells where it runs and with which words, and makes a program that tells its name and words.
 build=$scratch/build
-mkdir -p "$build/crates/t1check/src" "$build/crates/t1format/src" "$scratch/kit"
+mkdir -p "$build/crates/t1check/src" "$build/crates/t1format/src" "$build/crates/t1draw/src" "$scratch/kit"
 cp -R "$top/bin" "$build/"
 : >"$build/crates.txt"
 cat >"$scratch/kit/rt" <<'END'
@@ -749,7 +749,7 @@ echo "$tool: rt $*" >>../../runs
 printf '#!/bin/sh\necho "${0##*/}: $*"\n' >"out/$tool" && chmod +x "out/$tool"
 END
 chmod +x "$scratch/kit/rt"
-for tool in t1check t1format t1format t1check; do
+for tool in t1check t1format t1format t1draw t1draw t1check; do
     wanted <<END
 $tool: a  b
 --
@@ -761,6 +761,7 @@ try 'building t1check anew' 0 env PATH="$scratch/kit:$PATH" "$build/bin/t1check"
 wanted <<'END'
 t1check: rt run -- --help
 t1format: rt run -- --help
+t1draw: rt run -- --help
 t1check: rt run -- --help
 --
 END
@@ -962,7 +963,7 @@ try 'the list of rules and refusals' 0 sh -c "'$explain' | wc -l | tr -d ' '"
 copy=$scratch/copy
 mkdir -p "$copy/docs" "$scratch/shells" "$scratch/home"
 cp -R "$top/bin" "$top/man" "$top/completions" "$copy/"
-for tool in t1check t1format; do
+for tool in t1check t1format t1draw; do
     mkdir -p "$copy/crates/$tool/out"
     cp "$top/crates/$tool/out/$tool" "$copy/crates/$tool/out/"
     : >"$copy/crates/$tool/out/built"
@@ -991,7 +992,7 @@ try 'installing where something fails' 3 "$copy/bin/install" --prefix "$prefix"
 [ ! -e "$scratch/in stalled" ] || fail 'installing where something fails leaves something'
 cp "$top/man/rules.sh" "$copy/man/"
 wanted <<END
-t1check, t1check-all, t1explain and t1format are in $prefix/bin.
+t1check, t1check-all, t1draw, t1explain and t1format are in $prefix/bin.
 A shell still needs, in the file that it reads when it starts:
 export PATH='$quoted/bin':"\$PATH"
 export MANPATH='$quoted/share/man':"\${MANPATH-}"
@@ -1001,7 +1002,7 @@ fpath=('$quoted/share/zsh/site-functions' \$fpath)    # zsh, before compinit
 END
 try 'installing' 0 env PATH="$scratch/shells:$PATH" "$copy/bin/install" --prefix "$prefix"
 wanted <<END
-t1check, t1check-all, t1explain and t1format are in $prefix/bin.
+t1check, t1check-all, t1draw, t1explain and t1format are in $prefix/bin.
 --
 END
 try 'installing once more, where shells find it' 0 env PATH="$prefix/bin:$scratch/shells:$PATH" LOOKS="$prefix/share" \
@@ -1010,18 +1011,22 @@ rm -rf "$copy"
 wanted <<'END'
 ./bin/t1check
 ./bin/t1check-all
+./bin/t1draw
 ./bin/t1explain
 ./bin/t1format
 ./share/bash-completion/completions/t1check
 ./share/bash-completion/completions/t1check-all
+./share/bash-completion/completions/t1draw
 ./share/bash-completion/completions/t1explain
 ./share/bash-completion/completions/t1format
 ./share/fish/vendor_completions.d/t1check-all.fish
 ./share/fish/vendor_completions.d/t1check.fish
+./share/fish/vendor_completions.d/t1draw.fish
 ./share/fish/vendor_completions.d/t1explain.fish
 ./share/fish/vendor_completions.d/t1format.fish
 ./share/man/man1/t1check-all.1
 ./share/man/man1/t1check.1
+./share/man/man1/t1draw.1
 ./share/man/man1/t1explain.1
 ./share/man/man1/t1format.1
 ./share/man/man7/t1check-rules.7
@@ -1052,6 +1057,8 @@ try 'an installed t1format' 0 sh -c "\"$prefix/bin/t1format\" jsonl --font glyph
 mkdir "$scratch/linked"
 ln -s "$format" "$scratch/linked/format"
 try 't1format of the repository, by a link' 0 sh -c 'linked/format jsonl --font glyphs.pfb <lines.in'
+{ cat "$top/tests/draw/square.svg" && echo --; } >"$scratch/wanted"
+try 'an installed t1draw' 0 "$prefix/bin/t1draw" A "$top/tests/draw/fonts/square.pfb"
 wanted <<'END'
 E06 encrypted part too short
 
@@ -1072,7 +1079,7 @@ printf '.TH A 1 2026-01-01\n.SH NAME\na \\- b\n' >"$scratch/a.1"
 readers=''
 man --warnings -E UTF-8 -l -Tutf8 -Z "$scratch/a.1" >/dev/null 2>&1 && readers='man --warnings -E UTF-8 -l -Tutf8 -Z' ||
     echo 'skipped: manual pages read by man, since man-db is not here'
-pages="man1/t1check.1 man1/t1check-all.1 man1/t1explain.1 man1/t1format.1 man7/t1check-rules.7"
+pages="man1/t1check.1 man1/t1check-all.1 man1/t1draw.1 man1/t1explain.1 man1/t1format.1 man7/t1check-rules.7"
 wanted <<'END'
 --
 END
@@ -1091,7 +1098,7 @@ options() {
         for (i = 1; i <= count; i++) if (words[i] ~ /^-/ && words[i] != "-h") print words[i]
     }' | sort
 }
-for tool in t1check t1check-all t1format; do
+for tool in t1check t1check-all t1draw t1format; do
     options "$tool" >"$scratch/options"
     sed -n '/^.SH OPTIONS/,/^.SH EXIT/p' "$prefix/share/man/man1/$tool.1" | grep '^\.B' | tr -d '\\",' | tr ' ' '\n' | grep '^-' |
         grep -vx -e -h | sort >"$scratch/paged"
@@ -1133,11 +1140,14 @@ ask "$1/bin/t1explain" H02 e0
 ask t1check-all --format s
 ask t1check-all --format = ''
 ask t1check-all --docs f
+ask t1draw --edition ''
+ask t1draw A f
+ask t1draw --step f
 ask t1format ''
 ask t1format --f
 ask t1format --font f
 ask t1format --docs f
-for tool in t1check t1check-all t1format; do
+for tool in t1check t1check-all t1draw t1format; do
     COMP_WORDS=("$tool" -) COMP_CWORD=1
     _t1check "$tool" - "$tool"
     printf '%s\n' "${COMPREPLY[@]}" | sort >"$tool.options"
@@ -1159,6 +1169,9 @@ $prefix/bin/t1explain,H02,e0:E01,E02,E03,E04,E05,E06,E07,E08,E09
 t1check-all,--format,s:sarif
 t1check-all,--format,=,:jsonl,sarif,github
 t1check-all,--docs,f:
+t1draw,--edition,:1,2
+t1draw,A,f:font.pfb
+t1draw,--step,f:
 t1format,:jsonl,sarif,github
 t1format,--f:--font
 t1format,--font,f:font.pfb
@@ -1166,7 +1179,7 @@ t1format,--docs,f:
 --
 END
     try 'completions of bash' 0 bash "$scratch/ask.bash" "$prefix"
-    for tool in t1check t1check-all t1format; do
+    for tool in t1check t1check-all t1draw t1format; do
         options "$tool" >"$scratch/options"
         wanted <<'END'
 --
@@ -1182,7 +1195,7 @@ if command -v fish >/dev/null; then
         PATH=$prefix/bin:$PATH XDG_DATA_DIRS=$prefix/share:/usr/local/share:/usr/share fish -c 'complete -C $argv[1]' "$1"
     }
     for line in 't1check --ed' 't1check --edition ' 't1check f' 't1check tw' 't1check --waive f' 't1check-all --only H02,Z1' 't1explain h0' \
-        't1check-all --format ' 't1format s' 't1format --font f'; do
+        't1check-all --format ' 't1draw A f' 't1format s' 't1format --font f'; do
         ask "$line"
     done >"$scratch/told" 2>&1
     wanted <<'END'
@@ -1202,12 +1215,13 @@ H04	unequal stem3
 github	Write lines in a form for other programs
 jsonl	Write lines in a form for other programs
 sarif	Write lines in a form for other programs
+font.pfb
 sarif
 font.pfb
 --
 END
     try 'completions of fish' 0 cat "$scratch/told"
-    for tool in t1check t1check-all t1format; do
+    for tool in t1check t1check-all t1draw t1format; do
         options "$tool" >"$scratch/options"
         ask "$tool -" | cut -f 1 | grep -vx -e -h | sort >"$scratch/completed"
         wanted <<'END'
@@ -1236,7 +1250,7 @@ await 0
 number=0
 for keys in $'t1check --ed\t' $'t1check --edition \t\t' $'t1check f\t' $'t1check tw\t' $'t1check-all --only H02,Z1\t\t' \
     $'t1check-all --except=L\t\t' $'t1explain h0\t\t\t' "${(q)1}/bin/t1explain GE"$'\t' \
-    $'t1check-all --format \t\t' $'t1format s\t' $'t1format --font f\t'; do
+    $'t1check-all --format \t\t' $'t1draw A f\t' $'t1format s\t' $'t1format --font f\t'; do
     zpty -w -n shell $keys$'\C-g'
     await $((++number))
 done
@@ -1253,6 +1267,7 @@ t1check-all --except=L,
 t1explain H03
 $(zsh -fc 'print -r -- ${(q)1}' zsh "$prefix")/bin/t1explain GE01
 t1check-all --format jsonl
+t1draw A font.pfb
 t1format sarif
 t1format --font font.pfb
 --
@@ -1295,8 +1310,8 @@ mkdir -p "$scratch/before/share/man"
 DESTDIR="$scratch/before" "$top/bin/install" --prefix "/" >given
 DESTDIR="$scratch/before/stage" "$top/bin/install" --prefix /usr/local >>given
 wanted <<END
-t1check, t1check-all, t1explain and t1format are in $scratch/before/bin.
-t1check, t1check-all, t1explain and t1format are in $scratch/before/stage/usr/local/bin.
+t1check, t1check-all, t1draw, t1explain and t1format are in $scratch/before/bin.
+t1check, t1check-all, t1draw, t1explain and t1format are in $scratch/before/stage/usr/local/bin.
 --
 END
 try 'installing with DESTDIR' 0 cat given

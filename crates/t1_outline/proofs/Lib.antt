@@ -1,0 +1,10 @@
+pub mod Closed
+pub mod Flexes
+pub mod Fronts
+pub mod LastPlaces
+pub mod Outlining
+pub mod Pens
+pub mod Points
+pub mod ShortForms
+pub mod Subpaths
+pub mod WholeFlexes

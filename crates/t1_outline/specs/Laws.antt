@@ -1,0 +1,6 @@
+-- Laws of outlines, in the words of the subject.
+pub mod Flexes
+pub mod Fronts
+pub mod Paths
+pub mod Points
+pub mod ShortForms

@@ -1,0 +1,50 @@
+//! Laws of outlines: what follows from the definitions.
+
+ghost use Rattle.t1_outline.specs.Laws.Flexes.{FlexesAreTwoCurves, OtherFlexesDrawNothing, WholeFlexesAreDrawn};
+ghost use Rattle.t1_outline.specs.Laws.Fronts.{FrontsDrawFronts};
+ghost use Rattle.t1_outline.specs.Laws.Paths.{DrawnSubpathsAreClosed, RulesAskIsOpen, SubpathsBeginAtMoves};
+ghost use Rattle.t1_outline.specs.Laws.Points.{StepsEndAtTheCurrentPoint};
+ghost use Rattle.t1_outline.specs.Laws.ShortForms.{ShortFormsDrawAlike};
+
+/// Each short form of a line or a curve draws what the full one draws.
+#[tactic(auto, using(crate::proofs::ShortForms::short_forms_draw_alike))]
+pub fn short_forms_draw_alike()
+    ensures { ShortFormsDrawAlike }
+{}
+
+/// A front of the steps draws a front of what they draw.
+#[tactic(auto, using(crate::proofs::Fronts::fronts_draw_fronts))]
+pub fn fronts_draw_fronts()
+    ensures { FrontsDrawFronts }
+{}
+
+/// That something is open is what P02 and P03 ask.
+pub fn rules_ask_is_open()
+    ensures { RulesAskIsOpen }
+{}
+
+/// Where P01 isn't broken, subpaths begin at moves.
+#[tactic(auto, using(crate::proofs::Subpaths::subpaths_begin_at_moves))]
+pub fn subpaths_begin_at_moves()
+    ensures { SubpathsBeginAtMoves }
+{}
+
+/// But for closepath, the last segment of a step ends at the current point of the rules.
+#[tactic(auto, using(crate::proofs::Points::steps_end_at_the_current_point))]
+pub fn steps_end_at_the_current_point()
+    ensures { StepsEndAtTheCurrentPoint }
+{}
+
+/// Where P02 isn't broken, no line or curve is left open at a move outside flex or at the end.
+#[tactic(auto, using(crate::proofs::Closed::drawn_subpaths_are_closed))]
+pub fn drawn_subpaths_are_closed()
+    ensures { DrawnSubpathsAreClosed }
+{}
+
+/// Just a flex of seven pairs is drawn: it draws two curves, and any other nothing.
+#[tactic(auto, using(crate::proofs::WholeFlexes::whole_flexes_are_drawn, crate::proofs::WholeFlexes::flexes_are_two_curves, crate::proofs::WholeFlexes::other_flexes_draw_nothing))]
+pub fn whole_flexes_are_drawn()
+    ensures whole { WholeFlexesAreDrawn }
+    ensures curves { FlexesAreTwoCurves }
+    ensures others { OtherFlexesDrawNothing }
+{}

@@ -1,0 +1,39 @@
+//! A picture of one glyph of a Type 1 font, with its faults, as a text of SVG 1.1: its outline and its points, the stems that
+//! are in force behind the last step drawn, sidebearing, width and base line, the zones of BlueValues and OtherBlues, and for
+//! each fault a numbered mark, with t1check's line in a legend. Adobe Type 1 Font Format 1.1, chapters 5, 6 and 8.
+//!
+//! [`picture`] makes it, up to a step or as a whole. What is drawn, and the form of the text, is said in docs/PICTURES.md.
+//!
+//! What is promised, for all fonts:
+//!
+//! - the text is a function of the font, the glyph, the waivers, the edition and the step;
+//! - no index, sum or cast goes wrong, and each call returns.
+//!
+//! That the text shows what it should is shown by tests alone. Coordinates are exact, in units of 1/65536. The text is made in
+//! memory, so that where memory runs out there is none.
+//!
+//! ```
+//! let sidebearings = Sidebearings::prepare(alloc, font, Edition::One)?;
+//! let waivers = Waivers::none();
+//! let view = View { font, sidebearings: &sidebearings, waivers: &waivers, glyph: 0, step: None };
+//! println!(rt; "{}", picture(alloc, &view)?)?;
+//! ```
+#![tactic(auto)]
+
+mod bands;
+mod bounds;
+mod decimals;
+mod faults;
+mod frame;
+mod layers;
+mod legend;
+mod parts;
+mod run;
+mod seacs;
+mod subpath;
+mod svg;
+mod texts;
+mod view;
+
+pub use svg::picture;
+pub use view::View;

@@ -1,0 +1,68 @@
+//! The subpath that is being drawn.
+
+use t1_outline::Segment;
+use t1_rules::Point;
+
+/// Where a subpath began, and how far it was drawn.
+#[derive(Clone, Copy, Debug, PartialEq, Eq)]
+pub(crate) struct Subpath {
+    /// Its first point.
+    pub(crate) first: Point,
+    /// Its last point.
+    pub(crate) end: Point,
+    /// Whether a line or a curve of it was drawn, and it wasn't closed.
+    pub(crate) is_drawn: bool,
+}
+
+impl Subpath {
+    /// None is begun.
+    pub(crate) fn new() -> Subpath {
+        let origin = Point { x: 0, y: 0 };
+        Subpath {
+            first: origin,
+            end: origin,
+            is_drawn: false,
+        }
+    }
+
+    /// Goes on by a segment.
+    pub(crate) fn go_on(&mut self, segment: Segment) {
+        match segment {
+            Segment::Move(to) => {
+                self.first = to;
+                self.end = to;
+                self.is_drawn = false;
+            }
+            Segment::Line(to) | Segment::Curve(_, _, to) => {
+                self.end = to;
+                self.is_drawn = true;
+            }
+            Segment::Close => {
+                self.end = self.first;
+                self.is_drawn = false;
+            }
+        }
+    }
+}
+
+/// A point behind another one.
+pub(crate) fn behind(origin: Point, point: Point) -> Point {
+    Point {
+        x: origin.x.saturating_add(point.x),
+        y: origin.y.saturating_add(point.y),
+    }
+}
+
+/// A segment of a glyph whose origin stands at a point.
+pub(crate) fn placed(origin: Point, segment: Segment) -> Segment {
+    match segment {
+        Segment::Move(to) => Segment::Move(behind(origin, to)),
+        Segment::Line(to) => Segment::Line(behind(origin, to)),
+        Segment::Curve(first, second, to) => Segment::Curve(
+            behind(origin, first),
+            behind(origin, second),
+            behind(origin, to),
+        ),
+        Segment::Close => Segment::Close,
+    }
+}

@@ -1,0 +1,46 @@
+//! What is to be drawn.
+
+use t1_char::Edition;
+use t1_font::Font;
+use t1_report::Waivers;
+use t1_rules::Sidebearings;
+
+/// A glyph of a font, and how far it is drawn.
+#[derive(Clone, Copy)]
+pub struct View<'a> {
+    /// The font.
+    pub font: &'a Font<'a>,
+    /// Its components of accented characters, by the edition that counts.
+    pub sidebearings: &'a Sidebearings,
+    /// What isn't told as a fault.
+    pub waivers: &'a Waivers<'a>,
+    /// The place of the glyph.
+    pub glyph: usize,
+    /// The number of the last step that is drawn; without it all are, up to the limit of the edition.
+    pub step: Option<u64>,
+}
+
+impl<'a> View<'a> {
+    /// The edition that counts.
+    pub(crate) fn edition(&self) -> Edition {
+        self.sidebearings.edition()
+    }
+
+    /// How many steps are drawn at most.
+    pub(crate) fn last(&self) -> u64 {
+        self.step.unwrap_or(u64::MAX)
+    }
+
+    /// The glyph's name.
+    pub(crate) fn name(&self) -> &'a [u8] {
+        name_of(self.font, self.glyph)
+    }
+}
+
+/// The name of a glyph, by its place.
+pub(crate) fn name_of<'a>(font: &Font<'a>, glyph: usize) -> &'a [u8] {
+    match font.glyphs().get_index(glyph) {
+        Some((name, _)) => *name,
+        None => &[],
+    }
+}

@@ -1,0 +1,93 @@
+//! `t1draw` reads one Adobe Type 1 font (PFA or PFB), from a file or standard input, and writes a picture of one of its glyphs,
+//! with the faults that t1check finds in it: a text of SVG 1.1.
+//!
+//! ```text
+//! $ t1draw A font.pfb >A.svg
+//! ```
+//!
+//! Promised, where memory is there and no device fails: what is written and told and the status are a function of the words, the
+//! font's bytes and the waivers' ([`running::draw`]). Where the font, the waivers or the words are refused, nothing is put on the
+//! output.
+#![tactic(auto)]
+
+mod command_line;
+mod glyph_word;
+mod reading;
+mod running;
+mod status;
+mod telling;
+
+use crate::command_line::{Asked, Options, read_words};
+use crate::running::draw;
+use crate::status::Status;
+use crate::telling::{NOT_UTF8, OUT_OF_MEMORY, READ_FAILED, WRITE_FAILED, tell};
+use std::alloc::Global;
+use std::fs::File;
+use std::io::{BufWriter, ErrorKind, Read, Write};
+use std::{env, fs};
+use t1_io::{Out, Sink, deliver};
+
+fn main(rt: HostRuntime) -> Status {
+    let alloc = rt.alloc();
+    let mut errors = Out::new(rt.stderr());
+    let Ok(writer) = BufWriter::new(alloc, rt.stdout()) else {
+        return tell(&mut errors, OUT_OF_MEMORY, Status::Failed);
+    };
+    let mut out = Out::new(writer);
+    let words = match env::args(&rt) {
+        Ok(words) => words.collect::<Vec<String>>(alloc),
+        Err(error) if error.kind() == ErrorKind::OutOfMemory => Err(std::alloc::AllocError),
+        Err(_) => return tell(&mut errors, NOT_UTF8, Status::Failed),
+    };
+    let Ok(words) = words else {
+        return tell(&mut errors, OUT_OF_MEMORY, Status::Failed);
+    };
+    match read_words(alloc, words.as_slice()) {
+        Ok(Asked::Draw(options)) => open(&rt, &options, &mut out, &mut errors),
+        Ok(Asked::Help(text)) => help(text.as_str(), &mut out, &mut errors),
+        Err(Some(text)) => tell(&mut errors, text.as_str(), Status::Failed),
+        Err(None) => tell(&mut errors, OUT_OF_MEMORY, Status::Failed),
+    }
+}
+
+/// Gives the text of help on the output.
+fn help<W: Sink, E: Sink>(text: &str, out: &mut W, errors: &mut E) -> Status {
+    match deliver(out, text.as_bytes()) {
+        Ok(()) => Status::Drawn,
+        Err(_) => tell(errors, WRITE_FAILED, Status::Failed),
+    }
+}
+
+/// Opens the font, or takes standard input for it.
+fn open<W: Sink, E: Sink>(
+    rt: &HostRuntime,
+    options: &Options,
+    out: &mut W,
+    errors: &mut E,
+) -> Status {
+    match &options.font {
+        Some(name) => match fs::open(rt, name.as_str()) {
+            Ok(font) => open_waivers(rt, options, font, out, errors),
+            Err(_) => tell(errors, READ_FAILED, Status::Failed),
+        },
+        None => open_waivers(rt, options, rt.stdin(), out, errors),
+    }
+}
+
+/// Opens the waivers where they are asked for, and draws.
+fn open_waivers<R: Read + Drop, W: Sink, E: Sink>(
+    rt: &HostRuntime,
+    options: &Options,
+    font: R,
+    out: &mut W,
+    errors: &mut E,
+) -> Status {
+    let alloc = rt.alloc();
+    match &options.waive {
+        Some(name) => match fs::open(rt, name.as_str()) {
+            Ok(waivers) => draw(alloc, options, font, waivers, out, errors),
+            Err(_) => tell(errors, READ_FAILED, Status::Failed),
+        },
+        None => draw(alloc, options, font, std::io::empty(), out, errors),
+    }
+}

@@ -1,0 +1,161 @@
+//! A run: reads a font, and the waivers, and draws what the options ask for.
+
+ghost use Rattle.std.specs.Prelude.{◌≡◌, ◌≤◌, IfOk, length};
+ghost use Rattle.t1draw.specs.Ends.{Draws};
+
+use crate::command_line::Options;
+use crate::reading::{Unreadable, read_all};
+use crate::status::Status;
+use crate::telling::{OUT_OF_MEMORY, READ_FAILED, WRITE_FAILED, refuse, tell, tell_no_glyph};
+use std::alloc::{AllocError, Global};
+use std::io::Read;
+use t1_font::{Font, OpenFont, Unread};
+use t1_format::shown;
+use t1_io::{Sink, deliver};
+use t1_lines::{RefusalCode, refusal_text};
+use t1_picture::{View, picture};
+use t1_report::{LARGEST_WAIVERS, WaiverError, Waivers};
+use t1_rules::{Sidebearings, glyph_named};
+
+/// The greatest size of a font's file, in bytes.
+const LARGEST_FILE: usize = 16_777_216;
+
+/// Why there is no picture.
+#[derive(Clone, Copy, Debug, PartialEq, Eq)]
+enum Failure {
+    /// The bytes aren't read as a font.
+    Unread(Unread),
+    /// The font or the waivers are refused, by their numbers.
+    Refused(RefusalCode),
+    /// The font has no glyph of the name.
+    NoGlyph,
+    /// A read failed.
+    Broken,
+    /// An allocation was refused.
+    Memory,
+}
+
+impl From<Unread> for Failure {
+    fn from(unread: Unread) -> Failure {
+        match unread {
+            Unread::Memory => Failure::Memory,
+            _ => Failure::Unread(unread),
+        }
+    }
+}
+
+impl From<WaiverError> for Failure {
+    fn from(error: WaiverError) -> Failure {
+        match error {
+            WaiverError::Malformed => Failure::Refused(RefusalCode::E14),
+            WaiverError::Memory => Failure::Memory,
+        }
+    }
+}
+
+impl From<AllocError> for Failure {
+    fn from(_: AllocError) -> Failure {
+        Failure::Memory
+    }
+}
+
+/// Reads a font to its end, then the waivers, which are empty where none are asked for, and writes the picture of the glyph that
+/// the options name. Where there is none, it is told why, and nothing is put on the output.
+pub fn draw<R: Read + Drop, V: Read + Drop, W: Sink, E: Sink>(
+    alloc: Global,
+    options: &Options,
+    font: R,
+    waivers: V,
+    out: &mut W,
+    errors: &mut E,
+) -> Status
+    ensures { Draws (W.state out.old) (W.state out.new) result }
+{
+    match drawn(alloc, options, font, waivers) {
+        Ok(text) => match deliver(out, text.as_bytes()) {
+            Ok(()) => Status::Drawn,
+            Err(_) => tell(errors, WRITE_FAILED, Status::Failed),
+        },
+        Err(failure) => tell_failure(alloc, options, failure, errors),
+    }
+}
+
+/// The picture of the glyph that the options name, of a font and waivers that are read.
+fn drawn<R: Read + Drop, V: Read + Drop>(
+    alloc: Global,
+    options: &Options,
+    font: R,
+    waivers: V,
+) -> Result<String, Failure> {
+    let bytes = read(alloc, font, LARGEST_FILE, RefusalCode::E05)?;
+    let mut file = OpenFont::open(alloc, bytes.as_slice())?;
+    drop(bytes);
+    let font = file.font(alloc)?;
+    let text = drawn_of(alloc, options, &font, waivers);
+    font.let_go();
+    text
+}
+
+/// The picture of a glyph of a font, with waivers that are read.
+fn drawn_of<V: Read + Drop>(
+    alloc: Global,
+    options: &Options,
+    font: &Font<'_>,
+    waivers: V,
+) -> Result<String, Failure> {
+    let text = read(alloc, waivers, LARGEST_WAIVERS, RefusalCode::E15)?;
+    let waivers = Waivers::read(alloc, text.as_slice())?;
+    let Some(glyph) = glyph_named(font, options.glyph.as_slice()) else {
+        return Err(Failure::NoGlyph);
+    };
+    let sidebearings = Sidebearings::prepare(alloc, font, options.edition)?;
+    let view = View {
+        font: &*font,
+        sidebearings: &sidebearings,
+        waivers: &waivers,
+        glyph,
+        step: options.step,
+    };
+    Ok(picture(alloc, &view)?)
+}
+
+/// Reads a file to its end, which is refused where it has more bytes than it may have.
+fn read<R: Read + Drop>(
+    alloc: Global,
+    source: R,
+    most: usize,
+    past: RefusalCode,
+) -> Result<Vec<u8>, Failure>
+    ensures { IfOk result (λ bytes. length bytes.items ≤ most) }
+{
+    match read_all(alloc, source, most) {
+        Ok(bytes) => Ok(bytes),
+        Err(Unreadable::TooLarge) => Err(Failure::Refused(past)),
+        Err(Unreadable::Broken) => Err(Failure::Broken),
+        Err(Unreadable::Memory) => Err(Failure::Memory),
+    }
+}
+
+/// Tells why there is no picture.
+fn tell_failure<E: Sink>(
+    alloc: Global,
+    options: &Options,
+    failure: Failure,
+    errors: &mut E,
+) -> Status
+    ensures { result ≡ Status.Drawn → ⊥ }
+{
+    match failure {
+        Failure::Unread(unread) => match unread.to_string(alloc) {
+            Ok(text) => refuse(errors, text.as_str()),
+            Err(_) => tell(errors, OUT_OF_MEMORY, Status::Failed),
+        },
+        Failure::Refused(code) => refuse(errors, refusal_text(code)),
+        Failure::NoGlyph => match shown(alloc, options.glyph.as_slice()) {
+            Ok(name) => tell_no_glyph(errors, name.as_str()),
+            Err(_) => tell(errors, OUT_OF_MEMORY, Status::Failed),
+        },
+        Failure::Broken => tell(errors, READ_FAILED, Status::Failed),
+        Failure::Memory => tell(errors, OUT_OF_MEMORY, Status::Failed),
+    }
+}
