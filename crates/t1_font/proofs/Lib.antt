@@ -9,6 +9,7 @@ pub mod FileRead
 pub mod FontMaps
 pub mod GlyphNames
 pub mod GlyphsRead
+pub mod Kept
 pub mod LimitsKept
 pub mod ListValues
 pub mod Lists

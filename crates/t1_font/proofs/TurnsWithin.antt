@@ -20,6 +20,7 @@ use Rattle.t1_font.specs.ClearText.{clear_value, array_at, encoding_at, encoding
 use Rattle.t1_font.specs.PrivateText.{has_key, private_value, subrs_at, subrs_turn, glyphs_at, private_outside, subr_at, dup_turn, subrs_token, glyph_turn, glyphs_token, private_turn}
 use Rattle.t1_font.specs.Private.Room.{HasRoom, HasRoomFor}
 use Rattle.t1_font.proofs.Compose.{bind, next, either, choose, glance, which, found_or}
+use Rattle.t1_font.proofs.Kept.{FitsOne, StatesFitting}
 
 -- A statement that leaves a value within the limits.
 abbrev pub Fits : FontValue → Stated → Type 0
@@ -31,11 +32,7 @@ Fits v (size n) = n ≤ 65535
 Fits v (subr n bytes) = n < 65535
 Fits v (glyph name bytes) = HasRoom v name
 
-abbrev pub FitsOne : FontValue → Option Stated → Type 0
-FitsOne v None = Unit {0}
-FitsOne v (Some e) = Fits v e
-
-pub room_for : (v : FontValue) (e : Option Stated) → FitsOne v e → HasRoomFor v e
+pub room_for : (v : FontValue) (e : Option Stated) → FitsOne (Fits v) e → HasRoomFor v e
 room_for v None h = tt
 room_for v (Some (plain k t)) h = tt
 room_for v (Some (encoding form)) h = tt
@@ -47,8 +44,7 @@ room_for v (Some (glyph name bytes)) h = h
 
 -- What a turn states fits.
 abbrev pub Keeps : {M : Type 0} → FontValue → TextTurn M → Type 0
-Keeps v (over rest) = Unit {0}
-Keeps v (goes e mode left) = FitsOne v e
+Keeps v = StatesFitting (Fits v)
 
 -- A number that was read is at most its limit.
 natural_fits : (bad : Refusal) (limit : ℕ) (kind : Kind) → IfOk (natural bad limit kind) (λ n. n ≤ limit)
@@ -206,8 +202,8 @@ module _ (v : FontValue) where
 
 pub private_room : (v : FontValue) (mode : PrivateMode) (s : List ℕ) (e : Option Stated) (next : PrivateMode) (left : List ℕ)
     → private_turn v mode s ≡ Ok (goes e next left) → HasRoomFor v e
-private_room v mode s e next left turn = let fits : FitsOne v e = rw turn at (private_fits v mode s) in room_for v e fits
+private_room v mode s e next left turn = let fits : FitsOne (Fits v) e = rw turn at (private_fits v mode s) in room_for v e fits
 
 pub clear_room : (v : FontValue) (mode : ClearMode) (s : List ℕ) (e : Option Stated) (next : ClearMode) (left : List ℕ)
     → clear_turn v mode s ≡ Ok (goes e next left) → HasRoomFor v e
-clear_room v mode s e next left turn = let fits : FitsOne v e = rw turn at (clear_fits v mode s) in room_for v e fits
+clear_room v mode s e next left turn = let fits : FitsOne (Fits v) e = rw turn at (clear_fits v mode s) in room_for v e fits

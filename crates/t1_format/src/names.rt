@@ -8,7 +8,7 @@ ghost use Rattle.t1_format.specs.Shown.{escaped, hexadecimal_digit, shown, shown
 use std::alloc::{AllocError, Global};
 
 /// A digit of a hexadecimal number, in upper case.
-fn hexadecimal_digit(digit: u8) -> char
+pub(crate) fn hexadecimal_digit(digit: u8) -> char
     requires { digit < 16 }
     ensures { result ≡ hexadecimal_digit digit }
 {

@@ -1,5 +1,6 @@
 //! A document of SARIF 2.1.0: the rules with their pages, a result for each line, and what couldn't be checked.
 
+use crate::names::hexadecimal_digit;
 use crate::objects::refusal_code;
 use crate::pages::{COUNT, Page, page_at};
 use crate::{FormatError, Told, What, shown};
@@ -96,14 +97,8 @@ fn push_uri_byte(uri: &mut String, byte: u8) -> Result<(), AllocError> {
         return uri.push(char::from(byte));
     }
     uri.push('%')?;
-    for digit in [byte / 16, byte % 16] {
-        uri.push(if digit < 10 {
-            char::from(b'0' + digit)
-        } else {
-            char::from(b'A' + (digit - 10))
-        })?;
-    }
-    Ok(())
+    uri.push(hexadecimal_digit(byte / 16))?;
+    uri.push(hexadecimal_digit(byte % 16))
 }
 
 /// Where a font stands: its path, and line 1, since what shows results wants a line.

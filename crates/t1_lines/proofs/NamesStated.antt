@@ -22,6 +22,7 @@ use Rattle.t1_scan.specs.Bytes.{is_regular}
 use Rattle.t1_font.specs.Tokens.{is_word_kind}
 use Rattle.t1_lines.proofs.NamesFound.{NamedFound, wanted_named}
 use Rattle.t1_font.proofs.Compose.{bind, next, either, choose, glance, which, found_or}
+use Rattle.t1_font.proofs.Kept.{StatesFitting}
 
 -- A statement of a glyph has a name.
 abbrev pub Fits : Stated → Type 0
@@ -33,13 +34,8 @@ Fits (size n) = Unit {0}
 Fits (subr n bytes) = Unit {0}
 Fits (glyph name bytes) = IsTrue (list_all is_regular name)
 
-abbrev pub FitsOne : Option Stated → Type 0
-FitsOne None = Unit {0}
-FitsOne (Some e) = Fits e
-
 abbrev pub Keeps : {M : Type 0} → FontValue → TextTurn M → Type 0
-Keeps v (over rest) = Unit {0}
-Keeps v (goes e mode left) = FitsOne e
+Keeps v = StatesFitting Fits
 
 module _ (v : FontValue) where
   private_value_fits : (k : Option Key) (s : List ℕ) → IfOk (private_value k s) (Keeps v)

@@ -1,7 +1,6 @@
 //! A glyph's name as a word of the command line: `\xNN` is a byte, and `\\` is `\`.
 
-ghost use Rattle.std.specs.Prelude.{◌<◌, IfSome};
-
+use hex::FromHex;
 use std::alloc::{AllocError, Global};
 
 /// The name that a word is; none where a backslash stands in front of anything else.
@@ -25,21 +24,12 @@ pub fn name_in(alloc: Global, word: &str) -> Result<Option<Vec<u8>>, AllocError>
 fn first_byte(word: &[u8]) -> Option<(u8, &[u8])> {
     match word {
         [b'\\', b'\\', rest @ ..] => Some((b'\\', rest)),
-        [b'\\', b'x', high, low, rest @ ..] => Some((digit(*high)? * 16 + digit(*low)?, rest)),
+        [b'\\', b'x', high, low, rest @ ..] => {
+            let [byte] = <[u8; 1]>::from_hex([*high, *low]).ok()?;
+            Some((byte, rest))
+        }
         [b'\\', ..] => None,
         [byte, rest @ ..] => Some((*byte, rest)),
         [] => None,
-    }
-}
-
-/// The value of a hexadecimal digit.
-fn digit(byte: u8) -> Option<u8>
-    ensures { IfSome result (λ digit. digit < 16) }
-{
-    match byte {
-        b'0'..=b'9' => Some(byte - b'0'),
-        b'A'..=b'F' => Some(byte - b'A' + 10),
-        b'a'..=b'f' => Some(byte - b'a' + 10),
-        _ => None,
     }
 }
