@@ -47,10 +47,9 @@ fn page_index(code: &[u8]) -> usize {
 
 /// How bad it is to break a rule, or to be refused.
 fn level(code: &str) -> &'static str {
-    if code.starts_with('E') {
-        "error"
-    } else {
-        "warning"
+    match code.as_bytes() {
+        [b'E', ..] => "error",
+        _ => "warning",
     }
 }
 
@@ -91,9 +90,14 @@ fn rule(alloc: Global, page: &Page, docs: Option<&str>) -> Result<Value, AllocEr
     Ok(Value::Object(members))
 }
 
+/// Whether a byte of a path stands in a URI as it is: Uniform Resource Identifiers, RFC 3986, 2.3 and 3.3.
+fn is_plain_in_uri(byte: u8) -> bool {
+    byte.is_ascii_alphanumeric() | matches!(byte, b'-' | b'.' | b'_' | b'~' | b'/')
+}
+
 /// A byte of a path as it stands in a URI: Uniform Resource Identifiers, RFC 3986, 2.1.
 fn push_uri_byte(uri: &mut String, byte: u8) -> Result<(), AllocError> {
-    if byte.is_ascii_alphanumeric() || matches!(byte, b'-' | b'.' | b'_' | b'~' | b'/') {
+    if is_plain_in_uri(byte) {
         return uri.push(char::from(byte));
     }
     uri.push('%')?;
