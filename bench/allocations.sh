@@ -26,7 +26,7 @@ fail() {
 refuse_in_tests() {
     mkdir -p "$work/seal/crates/seal_tests/src"
     cp -Rp "$top/crates/t1_seal" "$work/seal/crates/"
-    cp "$top/crates/t1_tests/src/seal.rt" "$work/seal/crates/seal_tests/src/"
+    cp "$top/crates/t1_font_tests/src/seal.rt" "$work/seal/crates/seal_tests/src/"
     printf '#![tactic(auto)]\n\n#[cfg(test)]\nmod seal;\n' >"$work/seal/crates/seal_tests/src/lib.rt"
     grep '^t1_seal:' "$top/crates.txt" >"$work/seal/crates.txt"
     echo 'seal_tests: t1_seal' >>"$work/seal/crates.txt"

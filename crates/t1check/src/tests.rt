@@ -12,6 +12,8 @@ mod scale;
 mod segments;
 mod waivers;
 
+ghost use Rattle.std.specs.Prelude.{◌≡◌, false};
+
 use crate::asked::Options;
 use crate::running::run;
 use crate::status::Status;
@@ -19,7 +21,7 @@ use std::alloc::{AllocError, Global};
 use std::io;
 use std::process::Abort;
 use t1_char::Edition;
-use t1_io::{In, Out};
+use t1_io::{In, Out, Sink, Source};
 use t1_samples::{Charstrings, FontFile, Sample, TRAILER};
 
 /// What the program answers.
@@ -63,23 +65,50 @@ fn ended_by(alloc: Global, end: &[u8]) -> Result<Vec<u8>, AllocError> {
     .pfb(alloc)
 }
 
-/// Runs the program on bytes, over devices that don't fail, for the whole report.
-fn answer_to(alloc: Global, bytes: &[u8]) -> Answer {
-    let mut output = Vec::new(alloc);
+/// Runs the program on a font and on waivers, over a standard error that doesn't fail, and gives the status and what
+/// was told.
+fn run_over<R: Source, V: Source, W: Sink>(
+    alloc: Global,
+    font: &mut R,
+    waivers: &mut V,
+    options: &Options,
+    output: &mut W,
+) -> (Status, Vec<u8>)
+    requires { (R.state font.old).failed ≡ false }
+{
     let mut told = Vec::new(alloc);
     let status = run(
         alloc,
-        &mut In::new(bytes),
-        &mut In::new(io::empty()),
-        &ALL,
-        &mut Out::new(&mut output),
+        font,
+        waivers,
+        options,
+        output,
         &mut Out::new(&mut told),
     );
+    (status, told)
+}
+
+/// The same, and what was written on an output that doesn't fail.
+fn answer_over<R: Source, V: Source>(
+    alloc: Global,
+    font: &mut R,
+    waivers: &mut V,
+    options: &Options,
+) -> Answer
+    requires { (R.state font.old).failed ≡ false }
+{
+    let mut output = Vec::new(alloc);
+    let (status, told) = run_over(alloc, font, waivers, options, &mut Out::new(&mut output));
     Answer {
         status,
         output,
         told,
     }
+}
+
+/// Runs the program on bytes, over devices that don't fail, for the whole report.
+fn answer_to(alloc: Global, bytes: &[u8]) -> Answer {
+    answer_over(alloc, &mut In::new(bytes), &mut In::new(io::empty()), &ALL)
 }
 
 /// Whether the program finds nothing to tell of a file.

@@ -3,6 +3,12 @@
 use super::{Part, assert_faults};
 use std::test::Fail;
 
+/// The codes of a custom Encoding.
+const CUSTOM: Part = Part::Clear(
+    "%!\n/FontType 1 def /PaintType 0 def /Encoding 256 array ",
+    " def eexec\n",
+);
+
 /// Codes of a custom Encoding, and the faults of a font with them.
 const CODES: &[(&str, &str)] = &[
     ("dup 255 /A put dup 0 /.notdef put", ""),
@@ -21,5 +27,5 @@ const CODES: &[(&str, &str)] = &[
 /// The later name of a code counts.
 #[test]
 fn codes_of_a_custom_encoding(rt: HostRuntime) -> Result<(), Fail> {
-    assert_faults(&rt, rt.alloc(), Part::Codes, CODES)
+    assert_faults(&rt, rt.alloc(), CUSTOM, CODES)
 }

@@ -1,6 +1,6 @@
 //! Rules on required and optional entries: Type 1 Font Format 1.1, chapters 2 and 5.
 
-use super::{CLEAR, Part, assert_faults, faults_of_texts};
+use super::{CLEAR, CLEAR_TEXT, ENTRIES, assert_faults, faults_of_texts};
 use std::test::Fail;
 
 /// Clear texts, and the faults of a font with each.
@@ -21,7 +21,7 @@ const CLEAR_TEXTS: &[(&str, &str)] = &[
 
 #[test]
 fn entries_of_the_clear_text(rt: HostRuntime) -> Result<(), Fail> {
-    assert_faults(&rt, rt.alloc(), Part::ClearText, CLEAR_TEXTS)
+    assert_faults(&rt, rt.alloc(), CLEAR_TEXT, CLEAR_TEXTS)
 }
 
 /// Entries of the Private dictionary, and the faults of a font with them.
@@ -38,7 +38,7 @@ const PRIVATE_ENTRIES: &[(&str, &str)] = &[
 
 #[test]
 fn entries_of_the_private_dictionary(rt: HostRuntime) -> Result<(), Fail> {
-    assert_faults(&rt, rt.alloc(), Part::Entries, PRIVATE_ENTRIES)
+    assert_faults(&rt, rt.alloc(), ENTRIES, PRIVATE_ENTRIES)
 }
 
 #[test]

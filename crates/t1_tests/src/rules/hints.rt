@@ -1,6 +1,6 @@
 //! Rules on numbers of the Private dictionary: Type 1 Font Format 1.1, chapter 5.
 
-use super::{Part, assert_faults};
+use super::{ENTRIES, assert_faults};
 use std::test::Fail;
 
 /// Entries for hints, and the faults of a font with them.
@@ -17,5 +17,5 @@ const KINDS: &[(&str, &str)] = &[
 
 #[test]
 fn kinds_of_hint_entries(rt: HostRuntime) -> Result<(), Fail> {
-    assert_faults(&rt, rt.alloc(), Part::Entries, KINDS)
+    assert_faults(&rt, rt.alloc(), ENTRIES, KINDS)
 }

@@ -1,9 +1,9 @@
 //! Rules on UniqueID and XUID: Type 1 Font Format 1.1, chapter 2.
 
-use super::{ENTRIES, GLYPHS, Part, assert_faults, faults_of_texts};
+use super::{CLEAR_TEXT, ENTRIES, PRIVATE, assert_faults, faults_of_texts};
 use std::alloc::Global;
 use std::test::Fail;
-use t1_font::Refusal;
+use t1_font::Unread;
 
 /// Clear texts with an id, and the faults of a font with each.
 const CLEAR_TEXTS: &[(&str, &str)] = &[
@@ -23,7 +23,7 @@ const CLEAR_TEXTS: &[(&str, &str)] = &[
 
 #[test]
 fn id_of_the_clear_text(rt: HostRuntime) -> Result<(), Fail> {
-    assert_faults(&rt, rt.alloc(), Part::ClearText, CLEAR_TEXTS)
+    assert_faults(&rt, rt.alloc(), CLEAR_TEXT, CLEAR_TEXTS)
 }
 
 /// Ids of the Private dictionary, and the faults of a font with each.
@@ -36,15 +36,15 @@ const PRIVATE_IDS: &[(&str, &str)] = &[
 
 #[test]
 fn id_of_the_private_dictionary(rt: HostRuntime) -> Result<(), Fail> {
-    assert_faults(&rt, rt.alloc(), Part::Entries, PRIVATE_IDS)
+    assert_faults(&rt, rt.alloc(), ENTRIES, PRIVATE_IDS)
 }
 
 /// The faults of a font with an id in each text.
-fn faults_of_ids(alloc: Global, id: &str, other: &str) -> Result<String, Refusal> {
+fn faults_of_ids(alloc: Global, id: &str, other: &str) -> Result<String, Unread> {
     let clear = format!(in alloc;
-        "%!\n/FontType 1 def /PaintType 0 def /Encoding StandardEncoding def /UniqueID {id} def eexec"
+        "%!\n/FontType 1 def /PaintType 0 def /Encoding StandardEncoding def /UniqueID {id} def eexec\n"
     )?;
-    let private = format!(in alloc; "/UniqueID {other} def {ENTRIES} {GLYPHS}")?;
+    let private = format!(in alloc; "/UniqueID {other} def {PRIVATE}")?;
     faults_of_texts(alloc, clear.as_str(), private.as_str())
 }
 

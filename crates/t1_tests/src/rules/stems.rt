@@ -1,6 +1,6 @@
 //! Rules on standard and snap widths: Type 1 Font Format 1.1, chapter 5.
 
-use super::{Part, assert_faults};
+use super::{ENTRIES, assert_faults};
 use std::test::Fail;
 
 /// Standard widths and snaps, and the faults of a font with them.
@@ -19,7 +19,7 @@ const WIDTHS: &[(&str, &str)] = &[
 
 #[test]
 fn widths_and_snaps(rt: HostRuntime) -> Result<(), Fail> {
-    assert_faults(&rt, rt.alloc(), Part::Entries, WIDTHS)
+    assert_faults(&rt, rt.alloc(), ENTRIES, WIDTHS)
 }
 
 /// Both standard widths and snaps, and the faults of a font with them.
@@ -42,5 +42,5 @@ const WIDTHS_AND_SNAPS: &[(&str, &str)] = &[
 /// The first width counts, and the first 12 snaps.
 #[test]
 fn widths_among_snaps(rt: HostRuntime) -> Result<(), Fail> {
-    assert_faults(&rt, rt.alloc(), Part::Entries, WIDTHS_AND_SNAPS)
+    assert_faults(&rt, rt.alloc(), ENTRIES, WIDTHS_AND_SNAPS)
 }

@@ -3,6 +3,12 @@
 use super::{Part, assert_faults};
 use std::test::Fail;
 
+/// The size and the Subrs behind the word `/Subrs`.
+const SUBRS: Part = Part::Private(
+    "/password 5839 def /MinFeature {16 16} def /Subrs ",
+    " ND /CharStrings 2 dict dup begin /.notdef 0 RD  ND /A 0 RD  ND end",
+);
+
 /// The size and the Subrs, and the faults of a font with them.
 const GIVEN: &[(&str, &str)] = &[
     ("2 array dup 0 0 RD  NP dup 1 0 RD  NP", ""),
@@ -16,5 +22,5 @@ const GIVEN: &[(&str, &str)] = &[
 
 #[test]
 fn subrs_given_twice_or_past_the_array(rt: HostRuntime) -> Result<(), Fail> {
-    assert_faults(&rt, rt.alloc(), Part::Subrs, GIVEN)
+    assert_faults(&rt, rt.alloc(), SUBRS, GIVEN)
 }

@@ -1,6 +1,6 @@
 //! Rules on alignment zones: Type 1 Font Format 1.1, chapter 5.
 
-use super::{Part, assert_faults};
+use super::{ENTRIES, assert_faults};
 use std::test::Fail;
 
 /// Lists of zone numbers, short and long, and the faults of a font with them.
@@ -32,7 +32,7 @@ const COUNTS: &[(&str, &str)] = &[
 /// The count is of all numbers, and the others are asked of the first 14 alone, or 10.
 #[test]
 fn counts_of_zone_numbers(rt: HostRuntime) -> Result<(), Fail> {
-    assert_faults(&rt, rt.alloc(), Part::Entries, COUNTS)
+    assert_faults(&rt, rt.alloc(), ENTRIES, COUNTS)
 }
 
 /// Zone numbers that rise and fall, and the faults of a font with them.
@@ -60,7 +60,7 @@ const ORDERS: &[(&str, &str)] = &[
 
 #[test]
 fn order_of_zone_numbers(rt: HostRuntime) -> Result<(), Fail> {
-    assert_faults(&rt, rt.alloc(), Part::Entries, ORDERS)
+    assert_faults(&rt, rt.alloc(), ENTRIES, ORDERS)
 }
 
 /// Zones of two lists, and the faults of a font with them.
@@ -92,7 +92,7 @@ const TWO_LISTS: &[(&str, &str)] = &[
 
 #[test]
 fn zones_of_two_lists(rt: HostRuntime) -> Result<(), Fail> {
-    assert_faults(&rt, rt.alloc(), Part::Entries, TWO_LISTS)
+    assert_faults(&rt, rt.alloc(), ENTRIES, TWO_LISTS)
 }
 
 /// Zones and BlueScale, and the faults of a font with them.
@@ -121,5 +121,5 @@ const HEIGHTS: &[(&str, &str)] = &[
 /// BlueScale is 0.039625 where it isn't a number: 25 is low enough, and 26 isn't.
 #[test]
 fn heights_of_zones(rt: HostRuntime) -> Result<(), Fail> {
-    assert_faults(&rt, rt.alloc(), Part::Entries, HEIGHTS)
+    assert_faults(&rt, rt.alloc(), ENTRIES, HEIGHTS)
 }

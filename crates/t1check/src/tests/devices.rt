@@ -4,7 +4,7 @@ ghost use Rattle.std.specs.Prelude.{◌≡◌, true};
 ghost use Rattle.t1_io.specs.Limits.{lets_some_through};
 
 use super::runs::{Run, runs, without_an_end};
-use super::{ALL, Answer};
+use super::{ALL, Answer, answer_over};
 use crate::asked::Options;
 use crate::running::run;
 use crate::status::Status;
@@ -74,29 +74,15 @@ fn answer_of(alloc: Global, run: &Run, input: Limit, output: Limit) -> Answer
     answer_within(alloc, run.file.as_slice(), &run.options, input, output, FAR)
 }
 
-/// Runs the program on this reader.
-fn answer_to_endless(alloc: Global, reader: &mut Endless) -> Answer {
-    let mut output = Vec::new(alloc);
-    let mut told = Vec::new(alloc);
-    let status = run(
-        alloc,
-        &mut In::new(reader),
-        &mut In::new(io::empty()),
-        &ALL,
-        &mut Out::new(&mut output),
-        &mut Out::new(&mut told),
-    );
-    Answer {
-        status,
-        output,
-        told,
-    }
-}
-
 #[test]
 fn stops_at_the_limit_of_reads(rt: HostRuntime) {
     let mut reader = Endless { reads: 0 };
-    let answer = answer_to_endless(rt.alloc(), &mut reader);
+    let answer = answer_over(
+        rt.alloc(),
+        &mut In::new(&mut reader),
+        &mut In::new(io::empty()),
+        &ALL,
+    );
     assert!(rt; answer.is(Status::Refused, b"", b"refused: E05 file too large\n"));
     assert_eq!(rt; reader.reads, 16_777_217);
 }

@@ -1,9 +1,8 @@
 //! Readers and writers of std of which one call fails, and each later one works again.
 
 use super::runs::{Run, runs};
-use super::{ALL, Answer};
+use super::{ALL, answer_over, run_over};
 use crate::asked::Options;
-use crate::running::run;
 use crate::status::Status;
 use std::alloc::Global;
 use std::io;
@@ -87,25 +86,6 @@ fn writer(alloc: Global, failing: Failing) -> Writes {
     }
 }
 
-/// Runs the program on this reader.
-fn answer_from(alloc: Global, options: &Options, reader: &mut Reads<'_>) -> Answer {
-    let mut output = Vec::new(alloc);
-    let mut told = Vec::new(alloc);
-    let status = run(
-        alloc,
-        &mut In::new(reader),
-        &mut In::new(io::empty()),
-        options,
-        &mut Out::new(&mut output),
-        &mut Out::new(&mut told),
-    );
-    Answer {
-        status,
-        output,
-        told,
-    }
-}
-
 /// Runs the program on a file and this writer, and gives the status and what was told.
 fn run_into(
     alloc: Global,
@@ -113,16 +93,13 @@ fn run_into(
     options: &Options,
     writer: &mut Writes,
 ) -> (Status, Vec<u8>) {
-    let mut told = Vec::new(alloc);
-    let status = run(
+    run_over(
         alloc,
         &mut In::new(file),
         &mut In::new(io::empty()),
         options,
         &mut Out::new(writer),
-        &mut Out::new(&mut told),
-    );
-    (status, told)
+    )
 }
 
 /// Whether a run of `whole` reads ends at the read that fails, or at the end of the file.
@@ -132,7 +109,12 @@ fn ends_at_read(alloc: Global, run: &Run, whole: u64, fails_at: u64) -> bool {
         count: 0,
         fails_at,
     };
-    let answer = answer_from(alloc, &run.options, &mut reader);
+    let answer = answer_over(
+        alloc,
+        &mut In::new(&mut reader),
+        &mut In::new(io::empty()),
+        &run.options,
+    );
     let is_answered = if fails_at > whole {
         answer.is(run.status, run.text.as_bytes(), b"")
     } else {

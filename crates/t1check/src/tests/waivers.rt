@@ -4,13 +4,12 @@ ghost use Rattle.std.specs.Prelude.{◌≡◌, true};
 ghost use Rattle.t1_io.specs.Limits.{lets_some_through};
 
 use super::devices::FAR;
-use super::{ALL, Answer};
+use super::{ALL, Answer, answer_over};
 use crate::asked::Options;
-use crate::running::run;
 use crate::status::Status;
 use std::alloc::{AllocError, Global};
 use std::test::Fail;
-use t1_io::{Fuse, In, Limit, Out};
+use t1_io::{Fuse, In, Limit};
 use t1_samples::{NOTDEF, Sample};
 
 /// Runs the program on a file, with the waivers of a reader within a limit.
@@ -23,21 +22,8 @@ fn answer_with(
 ) -> Answer
     requires { lets_some_through limit ≡ true }
 {
-    let mut output = Vec::new(alloc);
-    let mut told = Vec::new(alloc);
-    let status = run(
-        alloc,
-        &mut In::new(file),
-        &mut Fuse::source(In::new(waivers), limit),
-        options,
-        &mut Out::new(&mut output),
-        &mut Out::new(&mut told),
-    );
-    Answer {
-        status,
-        output,
-        told,
-    }
+    let mut reader = Fuse::source(In::new(waivers), limit);
+    answer_over(alloc, &mut In::new(file), &mut reader, options)
 }
 
 /// The options that ask for waivers, and for the trace of a glyph if that is named.

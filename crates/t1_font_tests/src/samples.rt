@@ -1,8 +1,9 @@
 //! The samples against the same bytes as another program writes them, and against t1_seal's readers: Type 1 Font
 //! Format 1.1, chapters 2, 5 and 7, and Technical Note 5040.
 
+use std::alloc::{AllocError, Global};
 use std::test::Fail;
-use t1_samples::{CLEAR, Charstrings, FontFile, Sample, TRAILER, charstring, eexec};
+use t1_samples::{CLEAR, Charstrings, END_SEGMENT, FontFile, Sample, TRAILER, charstring, eexec};
 use t1_seal::{join, open_eexec};
 
 #[test]
@@ -39,21 +40,29 @@ fn texts_are_written(rt: HostRuntime) -> Result<(), Fail> {
     Ok(())
 }
 
+/// The ways in which charstrings are encrypted, and the private text of a sample without Subrs.
+const ENCRYPTED: &[(Charstrings, &[u8])] = &[
+    (
+        Charstrings::Encrypted(4),
+        b"dup /Private 8 dict dup begin\n/password 5839 def\n/MinFeature {16 16} def\n/lenIV 4 def\n/Subrs [] def\n2 index /CharStrings 4 dict dup begin\n/.notdef 9 RD \x10\xbf\x31\x70\x79\xc8\x2f\x06\x80 ND\nend\n",
+    ),
+    (
+        Charstrings::WithoutLenIv,
+        b"dup /Private 8 dict dup begin\n/password 5839 def\n/MinFeature {16 16} def\n/Subrs [] def\n2 index /CharStrings 4 dict dup begin\n/.notdef 9 RD \x10\xbf\x31\x70\x79\xc8\x2f\x06\x80 ND\nend\n",
+    ),
+];
+
+/// The private text of a sample without Subrs.
+fn without_subrs(alloc: Global, charstrings: Charstrings) -> Result<Vec<u8>, AllocError> {
+    Sample::with_charstrings(alloc, charstrings)?
+        .subrs(b"/Subrs [] def\n")?
+        .private()
+}
+
 #[test]
 fn charstrings_are_encrypted(rt: HostRuntime) -> Result<(), Fail> {
-    let table: [(Charstrings, &[u8]); 2] = [
-        (
-            Charstrings::Encrypted(4),
-            b"dup /Private 8 dict dup begin\n/password 5839 def\n/MinFeature {16 16} def\n/lenIV 4 def\n/Subrs [] def\n2 index /CharStrings 4 dict dup begin\n/.notdef 9 RD \x10\xbf\x31\x70\x79\xc8\x2f\x06\x80 ND\nend\n",
-        ),
-        (
-            Charstrings::WithoutLenIv,
-            b"dup /Private 8 dict dup begin\n/password 5839 def\n/MinFeature {16 16} def\n/Subrs [] def\n2 index /CharStrings 4 dict dup begin\n/.notdef 9 RD \x10\xbf\x31\x70\x79\xc8\x2f\x06\x80 ND\nend\n",
-        ),
-    ];
-    for (charstrings, written) in &table {
-        let sample = Sample::with_charstrings(rt.alloc(), *charstrings)?.subrs(b"/Subrs [] def\n")?;
-        let text = sample.private()?;
+    for (charstrings, written) in ENCRYPTED {
+        let text = without_subrs(rt.alloc(), *charstrings)?;
         assert_eq!(rt; text.as_slice(), *written);
     }
     Ok(())
@@ -61,27 +70,29 @@ fn charstrings_are_encrypted(rt: HostRuntime) -> Result<(), Fail> {
 
 const SHORT: &[u8] = b"%!\neexec\n";
 
+/// A file without a trailer, and one with a trailer and no end segment.
+const FILES: &[(&[u8], &[u8], &[u8])] = &[
+    (
+        b"",
+        END_SEGMENT,
+        b"\x80\x01\x09\x00\x00\x00%!\neexec\n\x80\x02\x08\x00\x00\x00\xd9\xd6\x6f\x63\x3a\x4c\x3c\x96\x80\x03",
+    ),
+    (
+        b"cleartomark\n",
+        b"",
+        b"\x80\x01\x09\x00\x00\x00%!\neexec\n\x80\x02\x08\x00\x00\x00\xd9\xd6\x6f\x63\x3a\x4c\x3c\x96\x80\x01\x0c\x00\x00\x00cleartomark\n",
+    ),
+];
+
 #[test]
 fn files_are_written(rt: HostRuntime) -> Result<(), Fail> {
-    let whole = FontFile::of(SHORT, b"end\n");
-    let open = FontFile {
-        trailer: b"cleartomark\n",
-        end: b"",
-        ..whole
-    };
-    let table: [(FontFile, &[u8]); 2] = [
-        (
-            whole,
-            b"\x80\x01\x09\x00\x00\x00%!\neexec\n\x80\x02\x08\x00\x00\x00\xd9\xd6\x6f\x63\x3a\x4c\x3c\x96\x80\x03",
-        ),
-        (
-            open,
-            b"\x80\x01\x09\x00\x00\x00%!\neexec\n\x80\x02\x08\x00\x00\x00\xd9\xd6\x6f\x63\x3a\x4c\x3c\x96\x80\x01\x0c\x00\x00\x00cleartomark\n",
-        ),
-    ];
-    for (file, bytes) in &table {
-        let written = file.pfb(rt.alloc())?;
-        assert_eq!(rt; written.as_slice(), *bytes);
+    for (trailer, end, bytes) in FILES {
+        let file = FontFile {
+            trailer: *trailer,
+            end: *end,
+            ..FontFile::of(SHORT, b"end\n")
+        };
+        assert_eq!(rt; file.pfb(rt.alloc())?.as_slice(), *bytes);
     }
     Ok(())
 }
@@ -92,28 +103,32 @@ fn hexadecimal_files_are_written(rt: HostRuntime) -> Result<(), Fail> {
         trailer: b"cleartomark\n",
         ..FontFile::of(SHORT, b"end\n0123456789")
     };
-    let binary = file.pfa(rt.alloc())?;
     assert_eq!(rt;
-        binary.as_slice(),
+        file.pfa(rt.alloc())?.as_slice(),
         b"%!\neexec\n\xd9\xd6\x6f\x63\x3a\x4c\x3c\x96\xa2\x8c\x7d\xd1\x53\x43\xe5\x48\xc2\x54cleartomark\n".as_slice()
     );
-    let digits = file.pfa_hexadecimal(rt.alloc())?;
     assert_eq!(rt;
-        digits.as_slice(),
+        file.pfa_hexadecimal(rt.alloc())?.as_slice(),
         b"%!\neexec\nd9d66\rf633a4\r\nc3c96a\n28c7dd\t 15343e 548c25\r4\ncleartomark\n".as_slice()
     );
     Ok(())
+}
+
+/// The private text in a PFB file with an end segment and nothing behind it, whose clear text is `CLEAR`.
+fn private_in(alloc: Global, file: &[u8]) -> Result<Vec<u8>, Fail> {
+    let joined = join(alloc, file)?;
+    if !joined.pfb || !joined.end_segment || joined.trailing {
+        return Err(Fail::from("another file"));
+    }
+    let section = joined.bytes.strip_prefix(CLEAR).ok_or("the clear text")?;
+    Ok(open_eexec(alloc, section)?)
 }
 
 /// The sample's file is joined to its clear text and a section that opens to its private text.
 #[test]
 fn the_sample_is_a_font_file(rt: HostRuntime) -> Result<(), Fail> {
     let sample = Sample::new(rt.alloc())?;
-    let file = sample.pfb()?;
-    let joined = join(rt.alloc(), file.as_slice())?;
-    assert!(rt; joined.pfb && joined.end_segment && !joined.trailing);
-    let section = joined.bytes.strip_prefix(CLEAR).ok_or("the clear text")?;
-    let text = open_eexec(rt.alloc(), section)?;
+    let text = private_in(rt.alloc(), sample.pfb()?.as_slice())?;
     assert_eq!(rt; text.as_slice(), sample.private()?.as_slice());
     Ok(())
 }

@@ -1,23 +1,19 @@
 //! Plain values: Type 1 Font Format 1.1, chapters 2 and 5.
 
-use super::{NO_CLEAR, Value};
-use crate::fonts::Texts;
-use std::alloc::{AllocError, Global};
+use super::{Fact, Part, Value, holds_with};
+use std::alloc::Global;
 use std::process::Abort;
 use std::test::Fail;
 use t1_font::Key;
 
-/// A font whose private text has this value of `/BlueValues`.
-fn with_value(alloc: Global, value: &str) -> Result<Texts, AllocError> {
-    let text = format!(in alloc; "/BlueValues {value} def /CharStrings 0 dict dup begin end")?;
-    Texts::of(alloc, NO_CLEAR.as_bytes(), text.as_bytes())
-}
+/// The value of `/BlueValues`.
+const BLUE_VALUES: Part = Part::Private("/BlueValues ", " def /CharStrings 0 dict dup begin end");
 
 /// Each text, as the value of `/BlueValues`, has the value beside it.
 fn assert_values(rt: &impl Abort, alloc: Global, cases: &[(&str, Value)]) -> Result<(), Fail> {
     for (text, value) in cases {
-        let texts = with_value(alloc, text)?;
-        assert!(rt; texts.has_value(alloc, Key::BlueValues, *value)?, "{text}");
+        let fact = Fact::Value(Key::BlueValues, *value);
+        assert!(rt; holds_with(alloc, BLUE_VALUES, text, fact)?, "{text}");
     }
     Ok(())
 }

@@ -1,0 +1,120 @@
+//! The clear text: Type 1 Font Format 1.1, chapter 2.
+
+use super::{CLEAR_LINES, Fact, Value, assert_facts};
+use std::alloc::{AllocError, Global};
+use std::process::Abort;
+use std::test::Fail;
+use t1_font::{Key, Refusal, read_clear};
+use t1_seal::Joined;
+
+/// The bytes of a PFA file.
+pub(super) fn pfa(alloc: Global, text: &[u8]) -> Result<Joined, AllocError> {
+    Ok(Joined {
+        bytes: Vec::from_slice(alloc, text)?,
+        pfb: false,
+        end_segment: false,
+        trailing: false,
+    })
+}
+
+/// Why a clear text isn't read, if it isn't. Want of memory is an error.
+fn refusal_of(alloc: Global, text: &[u8]) -> Result<Option<Refusal>, Refusal> {
+    let joined = pfa(alloc, text)?;
+    match read_clear(alloc, &joined) {
+        Ok(clear) => {
+            clear.let_go();
+            Ok(None)
+        }
+        Err(Refusal::Memory) => Err(Refusal::Memory),
+        Err(refusal) => Ok(Some(refusal)),
+    }
+}
+
+/// Each clear text is refused for the reason beside it, or isn't.
+pub(super) fn assert_clear_refusals(
+    rt: &impl Abort,
+    alloc: Global,
+    cases: &[(&str, Option<Refusal>)],
+) -> Result<(), Fail> {
+    for (text, refusal) in cases {
+        assert_eq!(rt; refusal_of(alloc, text.as_bytes())?, *refusal, "{text}");
+    }
+    Ok(())
+}
+
+/// Clear texts, and why each is refused, if it is.
+const TEXTS: &[(&str, Option<Refusal>)] = &[
+    ("% eexec", Some(Refusal::NoEexec)),
+    ("%! eexec", Some(Refusal::NoEexec)),
+    ("%!\n", Some(Refusal::NoEexec)),
+    ("%!\nEexec", Some(Refusal::NoEexec)),
+    ("%!\neexecX", Some(Refusal::NoEexec)),
+    ("%!\neexec", None),
+    ("%!\neexec(", None),
+    ("%!\n[ eexec ] { eexec } ( eexec )", Some(Refusal::NoEexec)),
+    ("%!\n(", Some(Refusal::Unclosed)),
+    ("%!\n] ) > } eexec (", None),
+    (
+        "%!\n/WeightVector [1 0] def eexec",
+        Some(Refusal::MultipleMaster),
+    ),
+    ("%!\neexec /WeightVector", None),
+    ("%!\n/FontType /WeightVector eexec", None),
+    ("%!\n/FontType eexec", Some(Refusal::NoEexec)),
+    ("%!\n/FontType eexec eexec", None),
+    ("%!\n/FontType", Some(Refusal::NoEexec)),
+    ("%!\n/FontType (", Some(Refusal::Unclosed)),
+];
+
+/// `eexec` ends the text unless it is a value; a value is taken whatever it is.
+#[test]
+fn clear_texts_are_refused_or_not(rt: HostRuntime) -> Result<(), Fail> {
+    assert_clear_refusals(&rt, rt.alloc(), TEXTS)
+}
+
+/// The lines of a clear text, and the value of a key.
+const VALUES: &[(&str, Fact)] = &[
+    (
+        "/FontType 1 def",
+        Fact::Value(Key::FontType, Value::Number(1_000_000_000)),
+    ),
+    (
+        "/FontType 1 /FontType 2",
+        Fact::Value(Key::FontType, Value::Number(2_000_000_000)),
+    ),
+    ("/FontType eexec", Fact::Value(Key::FontType, Value::Other)),
+    (
+        "/PaintType /FontType 1",
+        Fact::Value(Key::FontType, Value::Absent),
+    ),
+    (
+        "/UniqueID 5 def",
+        Fact::Value(Key::UniqueId, Value::Number(5_000_000_000)),
+    ),
+    (
+        "/UniqueID 5 def",
+        Fact::Value(Key::PrivateUniqueId, Value::Absent),
+    ),
+    (
+        "/password 5839 def",
+        Fact::Value(Key::Password, Value::Absent),
+    ),
+    (
+        "/Encoding /FontType 2",
+        Fact::Value(Key::FontType, Value::Number(2_000_000_000)),
+    ),
+    (
+        "/Encoding 256 array /FontType 2 def",
+        Fact::Value(Key::FontType, Value::Absent),
+    ),
+    (
+        "/Encoding 256 array def /FontType 2",
+        Fact::Value(Key::FontType, Value::Number(2_000_000_000)),
+    ),
+];
+
+/// A later value replaces an earlier one, and keys stand only where no value or code is wanted.
+#[test]
+fn keys_of_the_clear_text_are_read(rt: HostRuntime) -> Result<(), Fail> {
+    assert_facts(&rt, rt.alloc(), CLEAR_LINES, VALUES)
+}

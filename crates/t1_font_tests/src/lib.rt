@@ -1,0 +1,28 @@
+//! Tests of the libraries from the devices up to the font, by their public items alone: one module a library.
+//!
+//! What stands here is what proofs don't show: that calls succeed, that the definitions say what the standard and
+//! this program's own reading of it mean, and what texts say. Expected values are worked out by hand, or come from
+//! another program.
+//!
+//! | module | tests of |
+//! |---|---|
+//! | `io` | t1_io |
+//! | `seal` | t1_seal |
+//! | `samples` | t1_samples |
+//! | `scan` | t1_scan |
+//! | `font` | t1_font |
+//!
+//! They stand above the libraries since a crate with tests is proved twice, with them and without, and apart from
+//! those of t1_tests so that they are proved while the libraries above t1_font are.
+#![tactic(auto)]
+
+#[cfg(test)]
+mod font;
+#[cfg(test)]
+mod io;
+#[cfg(test)]
+mod samples;
+#[cfg(test)]
+mod scan;
+#[cfg(test)]
+mod seal;
