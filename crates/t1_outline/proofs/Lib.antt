@@ -3,6 +3,7 @@ pub mod Flexes
 pub mod Fronts
 pub mod LastPlaces
 pub mod Outlining
+pub mod PictureParts
 pub mod Pens
 pub mod Points
 pub mod ShortForms

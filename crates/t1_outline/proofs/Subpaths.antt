@@ -12,8 +12,12 @@ use Rattle.t1_char.proofs.LookingBack.{since_goes_on}
 use Rattle.t1_outline.specs.declared.segment.Segment.{Segment}
 use Rattle.t1_outline.specs.Laws.Paths.{RulesAskIsOpen, SubpathsBeginAtMoves, is_opening}
 use Rattle.t1_outline.specs.Outlines.{draws_flex, drawn, drawn_by, flex_curves, flex_places, has_subpath, is_spoiled, makes_subpath, stroke, stroke_at}
+use Rattle.t1_rules.specs.declared.mask.Mask.{Mask}
+use Rattle.t1_rules.specs.declared.rule.Rule.TheVariants.{P02}
 use Rattle.t1_rules.specs.declared.step_rules.flex.Point.{Point}
+use Rattle.t1_rules.specs.Book.{number_of}
 use Rattle.t1_rules.specs.Laws.StepRules.{violates}
+use Rattle.t1_rules.specs.Mask.{has}
 use Rattle.t1_rules.specs.StepRules.{argument_rules, call_rules, path_rules, stem_rules, flex_rules, othersubr_rules, seac_rules, step_rules, breaks}
 use Rattle.t1_rules.specs.StepRules.Flex.{current_point}
 use Rattle.t1_rules.specs.StepRules.Paths.{closes_nothing, closing_step, drawing, draws_unmoved, in_flex, is_moved, leaves_open, outer_move}
@@ -33,6 +37,15 @@ p02_row edition before t = row_decides 44 (step_rules edition) 18 _ refl refl re
 p03_row : (edition : Edition) (before : List StepView) (t : StepView) → breaks (step_rules edition) 45 before t ≡ closes_nothing before t
 unfolding step_rules argument_rules call_rules path_rules stem_rules flex_rules othersubr_rules seac_rules
 p03_row edition before t = row_decides 45 (step_rules edition) 19 _ refl refl refl refl before t
+
+-- A watcher of paths tells P02 just where a step leaves something open.
+p02_watched : (before : List StepView) (t : StepView) → breaks path_rules 44 before t ≡ leaves_open before t
+unfolding path_rules
+p02_watched before t = row_decides 44 path_rules 3 _ refl refl refl refl before t
+
+pub left_open : (broken : Mask) (before : List StepView) (t : StepView) → ((n : ℕ) → has broken n ≡ breaks path_rules n before t)
+    → has broken (number_of P02) ≡ leaves_open before t
+left_open broken before t answer = answer 44 ∙ p02_watched before t
 
 pub rules_ask_is_open : RulesAskIsOpen
 rules_ask_is_open edition before t = record { p02 = p02_row edition before t; p03 = p03_row edition before t }

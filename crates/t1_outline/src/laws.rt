@@ -2,6 +2,7 @@
 
 ghost use Rattle.t1_outline.specs.Laws.Flexes.{FlexesAreTwoCurves, OtherFlexesDrawNothing, WholeFlexesAreDrawn};
 ghost use Rattle.t1_outline.specs.Laws.Fronts.{FrontsDrawFronts};
+ghost use Rattle.t1_outline.specs.Laws.Parts.{AccentsStandByTheirSidebearings, GlyphsWithoutSeacAreOnePart, SeacsDrawBaseAndAccent};
 ghost use Rattle.t1_outline.specs.Laws.Paths.{DrawnSubpathsAreClosed, RulesAskIsOpen, SubpathsBeginAtMoves};
 ghost use Rattle.t1_outline.specs.Laws.Points.{StepsEndAtTheCurrentPoint};
 ghost use Rattle.t1_outline.specs.Laws.ShortForms.{ShortFormsDrawAlike};
@@ -47,4 +48,13 @@ pub fn whole_flexes_are_drawn()
     ensures whole { WholeFlexesAreDrawn }
     ensures curves { FlexesAreTwoCurves }
     ensures others { OtherFlexesDrawNothing }
+{}
+
+/// A glyph without seac is its picture's only part; behind a seac whose codes name glyphs there are three, and the accent's left
+/// sidebearing point stands by that of the glyph.
+#[tactic(auto, using(crate::proofs::PictureParts::accents_stand_by_their_sidebearings))]
+pub fn seacs_draw_their_components()
+    ensures none { GlyphsWithoutSeacAreOnePart }
+    ensures both { SeacsDrawBaseAndAccent }
+    ensures accent { AccentsStandByTheirSidebearings }
 {}

@@ -10,11 +10,13 @@
 //!
 //! - A line or a curve where no subpath is there, since no move came or the last one was closed, begins one at the current point.
 //! - A flex draws its two curves where the rules find no fault in it but its end's arguments (X05), and else nothing.
-//! - What a seac draws isn't here: its components are glyphs, each with an outline of its own.
+//! - A seac draws no segments of its own: its components are glyphs, each with an outline of its own. [`Composition`] sees the steps of
+//!   a glyph too, and tells which glyphs these are, and where their origins stand.
 //!
 //! What is promised, for all fonts:
 //!
 //! - the segments are those of the definitions in `specs/`, of the steps up to the limit of the edition;
+//! - the components of a seac are those of the definition, and their origins stand where it says;
 //! - but for closepath the last segment that a step draws ends where the rules' current point stands behind that step;
 //! - no call takes memory, no sum goes wrong, and each call returns.
 //!
@@ -26,17 +28,22 @@
 //! ```
 #![tactic(auto)]
 
+mod composition;
 mod flex_run;
 mod laws;
 mod outline;
+mod parts;
 mod pen;
 mod segment;
 mod strokes;
 
+pub use composition::{Composition, Metrics, Seac};
 pub use laws::{
-    drawn_subpaths_are_closed, fronts_draw_fronts, rules_ask_is_open, short_forms_draw_alike,
-    steps_end_at_the_current_point, subpaths_begin_at_moves, whole_flexes_are_drawn,
+    drawn_subpaths_are_closed, fronts_draw_fronts, rules_ask_is_open, seacs_draw_their_components,
+    short_forms_draw_alike, steps_end_at_the_current_point, subpaths_begin_at_moves,
+    whole_flexes_are_drawn,
 };
 pub use outline::{Drawn, Outline};
-pub use pen::Pen;
+pub use parts::{Component, Components, ORIGIN, Part};
+pub use pen::{DrawnStep, Pen};
 pub use segment::{Segment, Segments};

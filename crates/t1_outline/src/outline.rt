@@ -74,7 +74,7 @@ impl<'a> Outline<'a> {
                 return Some(drawn);
             }
             match self.machine.go_on(Numbers::Told) {
-                Answer::Step => self.drawn = self.pen.draw(self.machine.current()),
+                Answer::Step => self.drawn = self.pen.draw(self.machine.current()).segments,
                 _ => return None,
             }
             self.given = 0;

@@ -8,7 +8,7 @@ ghost use Rattle.t1_outline.specs.Outlines.{drawn, drawn_by, stroke};
 ghost use Rattle.t1_outline.specs.Pens.{PenStandsFor};
 ghost use Rattle.t1_outline.specs.Private.Drawing.{drawn_in, ends_whole, makes_subpath_in, moves_outside};
 ghost use Rattle.t1_rules.specs.StepRules.Flex.{current_point};
-ghost use Rattle.t1_rules.specs.StepRules.Paths.{in_flex, is_open};
+ghost use Rattle.t1_rules.specs.StepRules.Paths.{in_flex, is_open, leaves_open};
 ghost use Rattle.t1_rules.specs.StepRules.Stems.{hint_set, lies_across, stands_upright};
 ghost use Rattle.t1_rules.specs.StepRules.Tokens.{closes};
 ghost use Rattle.t1_rules.specs.Watches.{IsNear, most_steps};
@@ -19,8 +19,17 @@ use crate::strokes::stroke;
 use arrayvec::ArrayVec;
 use t1_char::{Edition, Step};
 use t1_rules::{
-    FlexWatcher, PathWatcher, Point, Stem, StemWatcher, Watch, closes, is_line, is_move,
+    FlexWatcher, PathWatcher, Point, Rule, Stem, StemWatcher, Watch, closes, is_line, is_move,
 };
+
+/// What a step draws.
+#[derive(Drop)]
+pub struct DrawnStep {
+    /// Its segments, in their order.
+    pub segments: Segments,
+    /// Whether it breaks P02: it wants all closed, and something isn't.
+    pub leaves_open: bool,
+}
 
 /// Sees the steps of a glyph one after another, from the first on, and tells what each draws.
 #[derive(Drop)]
@@ -48,12 +57,15 @@ impl Pen {
     }
 
     /// What the next step draws, given the steps that were seen before.
-    pub fn draw(&mut self, step: &Step) -> Segments
+    pub fn draw(&mut self, step: &Step) -> DrawnStep
         requires { (edition : Editions) × ((before : List StepView) ×
             (PenStandsFor edition self.old before × (length before < most_steps))) }
         ensures drawn { (edition : Editions) (before : List StepView) →
             PenStandsFor edition self.old before → length before < most_steps →
-            result.items ≡ drawn before (step_view step.now) }
+            result.segments.items ≡ drawn before (step_view step.now) }
+        ensures leaves_open { (edition : Editions) (before : List StepView) →
+            PenStandsFor edition self.old before → length before < most_steps →
+            result.leaves_open ≡ leaves_open before (step_view step.now) }
         ensures stands { (edition : Editions) (before : List StepView) →
             PenStandsFor edition self.old before → length before < most_steps →
             PenStandsFor edition self.new (before ++ step_view step.now ∷ []) }
@@ -61,14 +73,17 @@ impl Pen {
         let start = self.flex.point();
         let in_flex = self.flex.is_in_flex();
         let broken = self.flex.see(step);
-        let _paths = self.paths.see(step);
+        let paths = self.paths.see(step);
         let _stems = self.stems.see(step);
         self.run.see(step, start, in_flex, broken);
         let end = self.flex.point();
-        let drawn = segments(step, start, end, in_flex, &self.run, self.has_subpath);
+        let segments = segments(step, start, end, in_flex, &self.run, self.has_subpath);
         let makes = makes_subpath(step, in_flex, &self.run);
         self.has_subpath = makes | (self.has_subpath & !closes(step.token));
-        drawn
+        DrawnStep {
+            segments,
+            leaves_open: paths.has(Rule::P02),
+        }
     }
 
     /// The current point behind the steps that were seen.

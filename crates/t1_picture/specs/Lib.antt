@@ -1,2 +1,1 @@
-pub mod Private
 pub mod Views

@@ -5,7 +5,7 @@ ghost use Rattle.t1_report.specs.Faults.{fault_value};
 ghost use Rattle.t1_report.specs.Lines.{IsInFont};
 
 use crate::run::Run;
-use crate::texts::legible;
+use crate::texts::written_line;
 use crate::view::View;
 use std::alloc::{AllocError, Global};
 use t1_io::Out;
@@ -81,6 +81,5 @@ fn line_of(alloc: Global, view: &View<'_>, fault: &Fault) -> Result<String, Allo
     if write_fault(&mut Out::new(&mut line), view.font, view.waivers, fault).is_err() {
         return Err(AllocError);
     }
-    line.pop();
-    legible(alloc, line.as_slice())
+    written_line(alloc, line)
 }

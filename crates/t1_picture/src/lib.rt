@@ -29,7 +29,6 @@ mod layers;
 mod legend;
 mod parts;
 mod run;
-mod seacs;
 mod subpath;
 mod svg;
 mod texts;

@@ -5,23 +5,14 @@ ghost use Rattle.std.specs.Prelude.{◌<◌, length};
 use std::marker::Model;
 use t1_char::{Answer, Edition, Machine, Numbers, Step};
 use t1_font::Font;
-use t1_outline::{Pen, Segments};
-use t1_rules::{PathWatcher, Point, Rule, Stem, Watch};
-
-/// What a step draws.
-#[derive(Drop)]
-pub(crate) struct Stroke {
-    /// Its segments, in their order.
-    pub(crate) segments: Segments,
-    /// Whether it breaks P02: it wants all closed, and something isn't.
-    pub(crate) leaves_open: bool,
-}
+use t1_outline::{DrawnStep, Pen};
+use t1_rules::{Point, Stem};
 
 /// What a run gives next.
 #[derive(Drop)]
 pub(crate) enum Next {
     /// A step was executed; this is drawn.
-    Step(Stroke),
+    Step(DrawnStep),
     /// The glyph has no further step.
     Ended,
     /// The next step is past the limit of the edition.
@@ -33,18 +24,17 @@ pub(crate) enum Next {
 pub(crate) struct Run<'a> {
     machine: Machine<'a>,
     pen: Pen,
-    paths: PathWatcher,
 }
 
 impl<'a> Model for Run<'a> {
     ghost use Rattle.t1_char.specs.Turns.{MachineView};
-    ghost use Rattle.t1_picture.specs.Private.Runs.{IsRunning};
+    ghost use Rattle.t1_outline.specs.Private.Outlining.{IsOutlining};
 
     ghost Value = { MachineView };
 
     ghost view = { λ r. r.machine };
 
-    ghost invariant = { λ r. IsRunning r.machine r.pen r.paths };
+    ghost invariant = { λ r. IsOutlining r.machine r.pen };
 }
 
 impl<'a> Run<'a> {
@@ -55,21 +45,13 @@ impl<'a> Run<'a> {
         Run {
             machine: Machine::start(font, glyph, edition),
             pen: Pen::start(edition),
-            paths: PathWatcher::start(edition),
         }
     }
 
     /// What the next step draws.
     pub(crate) fn next(&mut self) -> Next {
         match self.machine.go_on(Numbers::Told) {
-            Answer::Step => {
-                let step = self.machine.current();
-                let broken = self.paths.see(step);
-                Next::Step(Stroke {
-                    segments: self.pen.draw(step),
-                    leaves_open: broken.has(Rule::P02),
-                })
-            }
+            Answer::Step => Next::Step(self.pen.draw(self.machine.current())),
             Answer::Ended => Next::Ended,
             Answer::Limit => Next::Limit,
         }
@@ -84,7 +66,7 @@ impl<'a> Run<'a> {
         }
     }
 
-    /// The step whose strokes were given last.
+    /// The step that was executed last.
     pub(crate) fn step(&self) -> &Step {
         self.machine.current()
     }

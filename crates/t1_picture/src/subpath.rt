@@ -1,6 +1,6 @@
 //! The subpath that is being drawn.
 
-use t1_outline::Segment;
+use t1_outline::{ORIGIN, Segment};
 use t1_rules::Point;
 
 /// Where a subpath began, and how far it was drawn.
@@ -17,10 +17,9 @@ pub(crate) struct Subpath {
 impl Subpath {
     /// None is begun.
     pub(crate) fn new() -> Subpath {
-        let origin = Point { x: 0, y: 0 };
         Subpath {
-            first: origin,
-            end: origin,
+            first: ORIGIN,
+            end: ORIGIN,
             is_drawn: false,
         }
     }

@@ -8,10 +8,11 @@ use crate::faults::{Faults, Mark};
 use crate::frame::Frame;
 use crate::layers::{Layers, write_mark};
 use crate::legend::legend;
-use crate::parts::{Drawing, Width};
+use crate::parts::Drawing;
 use crate::texts::{legible, push_escaped};
 use crate::view::View;
 use std::alloc::{AllocError, Global};
+use t1_outline::Metrics;
 
 /// What stands in front of the size.
 const HEAD: &str = r#"<?xml version="1.0" encoding="UTF-8"?>
@@ -98,9 +99,9 @@ pub fn picture(alloc: Global, view: &View<'_>) -> Result<String, AllocError>
 
 /// Takes sidebearing, width and marks into the bounds of a drawing.
 fn widen(drawing: &mut Drawing, faults: &Faults) {
-    if let Some(width) = drawing.facts.width {
-        drawing.layers.bounds.take(width.start);
-        drawing.layers.bounds.take_x(width.width);
+    if let Some(metrics) = drawing.composition.metrics {
+        drawing.layers.bounds.take(metrics.sidebearing());
+        drawing.layers.bounds.take_x(i64::from(metrics.width));
     }
     for mark in &faults.marks {
         drawing.layers.bounds.take(mark.point);
@@ -189,7 +190,7 @@ fn write_drawing(
     }
     svg.push_str(END)?;
     svg.push_str(LINES)?;
-    write_lines(svg, frame, drawing.facts.width)?;
+    write_lines(svg, frame, drawing.composition.metrics)?;
     svg.push_str(END)?;
     write_outline(svg, frame, &drawing.layers)?;
     write_points(svg, &drawing.layers)?;
@@ -198,15 +199,19 @@ fn write_drawing(
 }
 
 /// Writes the base line, and sidebearing and width where they are set.
-fn write_lines(svg: &mut String, frame: &Frame, width: Option<Width>) -> Result<(), AllocError> {
+fn write_lines(
+    svg: &mut String,
+    frame: &Frame,
+    metrics: Option<Metrics>,
+) -> Result<(), AllocError> {
     let left = frame.left();
     let bottom = frame.bottom();
     let right = frame.right();
     let top = frame.top();
     writeln!(svg, r#"<path d="M{left} 0H{right}"/>"#)?;
-    if let Some(width) = width {
-        let start = coordinate(width.start.x);
-        let end = coordinate(width.width);
+    if let Some(metrics) = metrics {
+        let start = coordinate(i64::from(metrics.x));
+        let end = coordinate(i64::from(metrics.width));
         writeln!(svg, r#"<path d="M{start} {bottom}V{top}"/>"#)?;
         writeln!(svg, r#"<path d="M{end} {bottom}V{top}"/>"#)?;
     }

@@ -17,6 +17,12 @@ pub(crate) fn legible(alloc: Global, bytes: &[u8]) -> Result<String, AllocError>
     Ok(text)
 }
 
+/// A line that was written, as such text without its end.
+pub(crate) fn written_line(alloc: Global, mut line: Vec<u8>) -> Result<String, AllocError> {
+    line.pop();
+    legible(alloc, line.as_slice())
+}
+
 /// Appends a text to XML: `&`, `<`, `>` and `"` as entities.
 pub(crate) fn push_escaped(xml: &mut String, text: &str) -> Result<(), AllocError> {
     for c in text.chars() {

@@ -40,9 +40,9 @@ loop-segment-preserved c =
     let few = few_seen old in
     record {
       seen = rw (is.seen, is.same.edition_is)
-          (subst (λ (s : StepView). PenStandsFor old.edition c.draw-self-inside.new.self (before ++ s ∷ [])) step
-          (c.draw-self-inside.ensures.stands old.edition before c.loop-segment.invariant.seen few));
-      left = next_drawn old c.go_on.new.self segments c.draw-self-inside.result.items given is all
-          (c.draw-self-inside.ensures.drawn old.edition before c.loop-segment.invariant.seen few ∙ ap (drawn before) step)
+          (subst (λ (s : StepView). PenStandsFor old.edition c.draw.new.self (before ++ s ∷ [])) step
+          (c.draw.ensures.stands old.edition before c.loop-segment.invariant.seen few));
+      left = next_drawn old c.go_on.new.self segments c.draw.result.segments.items given is all
+          (c.draw.ensures.drawn old.edition before c.loop-segment.invariant.seen few ∙ ap (drawn before) step)
           ∙ c.loop-segment.invariant.left;
     }

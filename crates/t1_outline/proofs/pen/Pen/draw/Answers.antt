@@ -3,6 +3,7 @@ use Rattle.t1_char.specs.Steps.{StepView}
 use Rattle.t1_char.specs.StepValues.{step_view}
 use Rattle.t1_outline.specs.Pens.{FlexRunStandsFor}
 use Rattle.t1_outline.proofs.Pens.{KeepsFlex, draws, flex_run_on, subpath_on}
+use Rattle.t1_outline.proofs.Subpaths.{left_open}
 use Rattle.t1_rules.specs.Watches.{FlexStandsFor, most_steps}
 use Rattle.t1_outline.proofs.pen.Pen.draw.Goals as goal
 
@@ -18,7 +19,11 @@ returns-clause-drawn c = λ edition before st short.
       spoiled = rw inside at c.see.ensures.spoiled;
       answer = c.see-broken.ensures.answer edition before st.flex short;
     }) in
-    c.segments-drawn.ensures ∙ rw (start, end, inside, run.spoiled, run.places, st.subpath) (draws before t)
+    c.segments-segments.ensures ∙ rw (start, end, inside, run.spoiled, run.places, st.subpath) (draws before t)
+
+pub returns-clause-leaves_open : goal.returns-clause-leaves_open
+returns-clause-leaves_open c = λ edition before st short.
+    c.has.ensures ∙ left_open c.see-paths.result before (step_view c.args.step.now) (c.see-paths.ensures.answer edition before st.paths short)
 
 pub returns-clause-stands : goal.returns-clause-stands
 returns-clause-stands c = λ edition before st short.
