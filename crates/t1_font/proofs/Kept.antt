@@ -49,10 +49,10 @@ module _ (holds : FontValue → Type 0) (fits : FontValue → Stated → Type 0)
         → IfOk (r >>= follow (stated_within turn ended marks n) before) (HoldsOf holds marks)) [
           | Err e ↦ λ _. tt
           | Ok t ↦ elim t as (λ t. StatesFitting (fits (value_of marks before)) t
-          → IfOk (follow (stated_within turn ended marks n) before t) (HoldsOf holds marks)) [
-            | over rest ↦ λ _. w
-            | goes e next left ↦ λ h. text_holds n (with_one before e) next left (one_holds before e w h)
-          ]
+              → IfOk (follow (stated_within turn ended marks n) before t) (HoldsOf holds marks)) [
+                | over rest ↦ λ _. w
+                | goes e next left ↦ λ h. text_holds n (with_one before e) next left (one_holds before e w h)
+              ]
         ] (turn_fits (value_of marks before) mode s)
 
   module _ (clear_fits : (v : FontValue) (mode : ClearMode) (s : List ℕ) → IfOk (clear_turn v mode s) (StatesFitting (fits v)))

@@ -10,7 +10,7 @@ use Rattle.t1_char.proofs.LookingBack.{since_goes_on}
 use Rattle.t1_outline.specs.declared.segment.Segment.{Segment}
 use Rattle.t1_outline.specs.declared.segment.Segment.TheVariants.{Move, Close}
 use Rattle.t1_outline.specs.Laws.Paths.{DrawnSubpathsAreClosed, is_left_open, open_behind}
-use Rattle.t1_outline.specs.Outlines.{DrawnView, draws_flex, drawn, drawn_by, drawn_of, flex_curves, flex_places, has_subpath, makes_subpath, placed, stroke, stroke_at}
+use Rattle.t1_outline.specs.Outlines.{DrawnView, draws_flex, drawn, drawn_of, has_subpath, makes_subpath, placed}
 use Rattle.t1_outline.proofs.Flexes.{is_whole_flex}
 use Rattle.t1_outline.proofs.Fronts.{drawn_more}
 use Rattle.t1_outline.proofs.Subpaths.{no_stroke, p02_row}

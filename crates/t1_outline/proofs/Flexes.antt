@@ -1,5 +1,5 @@
 -- The places of a flex, one step further; and how many they are.
-use Rattle.std.proofs.Common.{◌≡◌, ℕ, zero, suc, ◌+◌, ◌≤◌, ◌==◌, ◌&&◌, ◌||◌, not, if◌then◌else◌, Bool, true, false, List, [], ◌∷◌, ◌++◌, length, take, append_assoc, append-nil, length-append, take_all, refl, sym, ap, subst, ◌∙◌, arith}
+use Rattle.std.proofs.Common.{◌≡◌, ℕ, suc, ◌+◌, ◌==◌, ◌&&◌, ◌||◌, not, if◌then◌else◌, Bool, true, false, List, [], ◌∷◌, ◌++◌, length, take, append_assoc, append-nil, length-append, take_all, refl, sym, ap, subst, ◌∙◌, arith}
 use Rattle.std.proofs.lemmas.Bool.{eqb-true}
 use Rattle.t1_char.specs.Arguments.{is_flex_end, is_flex_point, is_flex_start}
 use Rattle.t1_char.specs.Steps.{StepView}
@@ -7,7 +7,6 @@ use Rattle.t1_char.proofs.LookingBack.{since_goes_on}
 use Rattle.t1_outline.specs.Outlines.{begins_flex, draws_flex, flex_curves, flex_places, is_spoiled, places_from, places_on, spoils_flex}
 use Rattle.t1_outline.specs.Private.Drawing.{places_kept, spoils}
 use Rattle.t1_rules.specs.declared.mask.Mask.{Mask}
-use Rattle.t1_rules.specs.declared.rule.Rule.TheVariants.{X01, X03, X04}
 use Rattle.t1_rules.specs.declared.step_rules.flex.Point.{Point}
 use Rattle.t1_rules.specs.Mask.{has}
 use Rattle.t1_rules.specs.StepRules.{breaks, flex_rules}

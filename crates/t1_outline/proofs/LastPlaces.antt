@@ -1,5 +1,5 @@
 -- In a flex that isn't spoiled the current point is at the last place, where no move waits for its point.
-use Rattle.std.proofs.Common.{◌≡◌, ℕ, suc, ◌+◌, ◌≤◌, ◌==◌, ◌&&◌, ◌||◌, not, if◌then◌else◌, Bool, true, false, ℤ, List, [], ◌∷◌, ◌++◌, append_assoc, append-nil, refl, sym, ap, subst, ◌∙◌, arith}
+use Rattle.std.proofs.Common.{◌≡◌, ℕ, suc, ◌+◌, ◌≤◌, ◌==◌, ◌&&◌, ◌||◌, not, if◌then◌else◌, Bool, true, false, ℤ, List, [], ◌∷◌, ◌++◌, append_assoc, append-nil, refl, sym, subst, ◌∙◌, arith}
 use Rattle.std.proofs.lemmas.Bool.{eqb-true}
 use Rattle.t1_char.specs.declared.command.Command.TheVariants.{Callothersubr, Vmoveto, Rlineto, Hlineto, Vlineto, Rrcurveto, Rmoveto, Hmoveto, Vhcurveto, Hvcurveto, Hsbw, Sbw, Setcurrentpoint}
 use Rattle.t1_char.specs.declared.token.CharToken.{CharToken}

@@ -1,6 +1,5 @@
 -- What an outline has still to give, one segment and one step further.
-use Rattle.std.proofs.Common.{◌≡◌, ℕ, ◌+◌, ◌<◌, ◌≤◌, if◌then◌else◌, Bool, true, false, get_or, slice_index_or, slice_get, List, [], ◌∷◌, ◌++◌, length, length-take, map, take, drop, take_all, refl, sym, ap, subst, ◌∙◌, arith}
-use Rattle.std.proofs.lemmas.Bool.{ltb-true}
+use Rattle.std.proofs.Common.{◌≡◌, ℕ, ◌+◌, ◌<◌, ◌≤◌, if◌then◌else◌, Bool, true, false, get_or, slice_index_or, List, [], ◌∷◌, ◌++◌, length, length-take, map, take, drop, take_all, refl, sym, ap, ◌∙◌, arith}
 use Rattle.std.proofs.lemmas.List.{drop_all, drop_more, get_or-take}
 use Rattle.std.proofs.lemmas.Option.{get_or_from_slice_get}
 use Rattle.t1_char.specs.declared.edition.Edition.{Edition}
@@ -11,13 +10,12 @@ use Rattle.t1_char.specs.declared.machine.Numbers.TheVariants.{Told}
 use Rattle.t1_char.specs.AnswerViews.{answer_view}
 use Rattle.t1_char.specs.Asking.{IsAsked}
 use Rattle.t1_char.specs.Editions.{limit_of}
-use Rattle.t1_char.specs.Steps.{NumberedStep, StepView, steps_of}
+use Rattle.t1_char.specs.Steps.{StepView, steps_of}
 use Rattle.t1_char.specs.Turns.{MachineView, counted_after, is_told, stepped, turn_at}
 use Rattle.t1_char.proofs.TurnsTaken.{IsStepped, answered_over, stepped_is}
 use Rattle.t1_outline.specs.declared.pen.Pen.{Pen}
 use Rattle.t1_outline.specs.declared.segment.Segment.{Segment}
-use Rattle.t1_outline.specs.Outlines.{DrawnView, drawn, drawn_from, placed}
-use Rattle.t1_outline.specs.Pens.{PenStandsFor}
+use Rattle.t1_outline.specs.Outlines.{drawn, drawn_from, placed}
 use Rattle.t1_outline.specs.Private.Outlining.{IsOutlining, left_in, steps_in}
 use Rattle.t1_rules.specs.Watches.{most_steps}
 

@@ -1,6 +1,5 @@
 -- What a pen keeps, one step further, and what it draws by that.
 use Rattle.std.proofs.Common.{◌≡◌, ℕ, ◌&&◌, ◌||◌, not, if◌then◌else◌, Bool, true, false, List, [], ◌∷◌, ◌++◌, take, refl, sym, ap, ◌∙◌}
-use Rattle.t1_char.specs.declared.edition.Edition.{Edition}
 use Rattle.t1_char.specs.Arguments.{is_flex_start}
 use Rattle.t1_char.specs.Steps.{StepView}
 use Rattle.t1_char.proofs.LookingBack.{since_goes_on}
@@ -12,13 +11,11 @@ use Rattle.t1_outline.specs.Pens.{FlexRunStandsFor}
 use Rattle.t1_outline.specs.Private.Drawing.{drawn_in, makes_subpath_in, places_kept, spoils}
 use Rattle.t1_outline.proofs.Flexes.{curves_kept, kept_is, places_go_on, spoiled_goes_on, spoils_is}
 use Rattle.t1_rules.specs.declared.mask.Mask.{Mask}
-use Rattle.t1_rules.specs.declared.step_rules.flex.Point.{Point}
 use Rattle.t1_rules.specs.Mask.{has}
 use Rattle.t1_rules.specs.StepRules.{breaks, flex_rules}
 use Rattle.t1_rules.specs.StepRules.Flex.{current_point}
 use Rattle.t1_rules.specs.StepRules.Paths.{closing_step, in_flex, outer_move}
 use Rattle.t1_rules.specs.StepRules.Tokens.{closes}
-use Rattle.t1_rules.specs.Watches.{FlexStandsFor, PathsStandFor, StemsStandFor}
 
 -- What a flex keeps behind a step.
 pub record KeepsFlex (old new : FlexRun) (before : List StepView) (t : StepView) (broken : Mask) : Type 0 where

@@ -8,11 +8,9 @@ use Rattle.t1_char.specs.Since.{last_of}
 use Rattle.t1_char.specs.Steps.{StepView}
 use Rattle.t1_font.specs.Fonts.{FontValue}
 use Rattle.t1_char.proofs.LookingBack.{last_goes_on}
-use Rattle.t1_outline.specs.declared.composition.Metrics.{Metrics}
-use Rattle.t1_outline.specs.declared.composition.Seac.{Seac}
 use Rattle.t1_outline.specs.declared.parts.Component.TheVariants.{There}
 use Rattle.t1_outline.specs.Laws.Parts.{AccentsStandByTheirSidebearings, GlyphsWithoutSeacAreOnePart, NamesGlyph, SeacsDrawBaseAndAccent}
-use Rattle.t1_outline.specs.Parts.{accent_origin, component_at, component_named, metrics_in, metrics_of, part, parts_of_both, components_by, seac_in, seac_of, sets_metrics, start_by, there_or_not}
+use Rattle.t1_outline.specs.Parts.{accent_origin, component_at, component_named, metrics_in, metrics_of, part, seac_in, seac_of, sets_metrics, sidebearing_by}
 use Rattle.t1_outline.specs.Private.Composing.{metrics_with, seac_with}
 use Rattle.t1_rules.specs.declared.step_rules.flex.Point.{Point}
 use Rattle.t1_rules.specs.Components.{glyph_named}
@@ -70,7 +68,7 @@ seacs_draw_base_and_accent font glyph base accent before t is base_named accent_
       seac_on before t,
       is,
       named_there font (base_code t) base origin base_named,
-      named_there font (accent_code t) accent (accent_origin (start_by (metrics_of (before ++ t ∷ []))) (seac_in t)) accent_named,
+      named_there font (accent_code t) accent (accent_origin (sidebearing_by (metrics_of (before ++ t ∷ []))) (seac_in t)) accent_named,
     )
     refl
 

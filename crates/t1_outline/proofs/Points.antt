@@ -1,22 +1,19 @@
 -- Where the segments of a step end.
-use Rattle.std.proofs.Common.{◌≡◌, ℕ, suc, ◌+◌, ℤ, pos, ◌+ℤ◌, ◌==◌, ◌&&◌, ◌||◌, not, if◌then◌else◌, Bool, true, false, Option, Some, None, List, [], ◌∷◌, ◌++◌, length, refl, sym, ap, ◌∙◌, arith}
-use Rattle.std.proofs.lemmas.Bool.{eqb-true}
+use Rattle.std.proofs.Common.{◌≡◌, ℤ, pos, ◌+ℤ◌, if◌then◌else◌, Bool, true, false, Option, Some, List, [], ◌∷◌, ◌++◌, length, refl, sym, ap, ◌∙◌, arith}
 use Rattle.std.proofs.lemmas.Int.{ints}
 use Rattle.t1_char.specs.declared.command.Command.TheVariants.{Vlineto, Rlineto, Hlineto, Rrcurveto, Vhcurveto, Hvcurveto}
 use Rattle.t1_char.specs.declared.token.CharToken.{CharToken}
 use Rattle.t1_char.specs.declared.token.CharToken.TheVariants.{Command}
-use Rattle.t1_char.specs.Arguments.{is_flex_end, is_flex_point}
 use Rattle.t1_char.specs.Steps.{StepView}
-use Rattle.t1_outline.specs.declared.segment.Segment.{Segment}
 use Rattle.t1_outline.specs.declared.segment.Segment.TheVariants.{Move}
-use Rattle.t1_outline.specs.Laws.Points.{StepsEndAtTheCurrentPoint, end_of, last_end}
-use Rattle.t1_outline.specs.Outlines.{draws_flex, drawn, drawn_by, flex_curves, flex_places, has_subpath, is_spoiled, stroke, stroke_at}
+use Rattle.t1_outline.specs.Laws.Points.{StepsEndAtTheCurrentPoint, last_end}
+use Rattle.t1_outline.specs.Outlines.{draws_flex, drawn_by, flex_curves, flex_places, has_subpath, stroke, stroke_at}
 use Rattle.t1_outline.proofs.Flexes.{eight_places, is_whole_flex, seven_each}
 use Rattle.t1_outline.proofs.LastPlaces.{called_clears_none, is_at_place, last_place, stays}
 use Rattle.t1_outline.proofs.Subpaths.{no_stroke}
 use Rattle.t1_rules.specs.declared.step_rules.flex.Point.{Point}
-use Rattle.t1_rules.specs.StepRules.Flex.{at, current_point, displacement, displacement_of, flex_moves, flex_points, origin, plus}
-use Rattle.t1_rules.specs.StepRules.Paths.{in_flex, outer_move}
+use Rattle.t1_rules.specs.StepRules.Flex.{at, current_point, displacement_of, origin, plus}
+use Rattle.t1_rules.specs.StepRules.Paths.{outer_move}
 use Rattle.t1_rules.specs.StepRules.Tokens.{closes, is_line, sets_point}
 use Rattle.t1_rules.proofs.Lemmas.Flex.{point_goes_on}
 

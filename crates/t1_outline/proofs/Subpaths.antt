@@ -1,5 +1,5 @@
 -- Subpaths begin at moves and are closed, where the rules on paths aren't broken.
-use Rattle.std.proofs.Common.{◌≡◌, ℕ, ◌&&◌, ◌||◌, not, if◌then◌else◌, Bool, true, false, Option, None, Some, List, [], ◌∷◌, ◌++◌, ℤ, length, map, refl, sym, ap, subst, ◌∙◌, append_assoc, append-nil}
+use Rattle.std.proofs.Common.{◌≡◌, ℕ, ◌&&◌, ◌||◌, not, if◌then◌else◌, Bool, true, false, None, List, [], ◌∷◌, ◌++◌, ℤ, refl, sym, ap, ◌∙◌}
 use Rattle.std.specs.List.{list_any}
 use Rattle.t1_char.specs.declared.command.Command.TheVariants.{Vlineto, Rlineto, Hlineto, Rrcurveto, Vhcurveto, Hvcurveto}
 use Rattle.t1_char.specs.declared.edition.Edition.{Edition}
@@ -8,15 +8,12 @@ use Rattle.t1_char.specs.declared.token.CharToken.TheVariants.{Command}
 use Rattle.t1_char.specs.Arguments.{is_flex_end}
 use Rattle.t1_char.specs.Since.{Test, any_from, since_from}
 use Rattle.t1_char.specs.Steps.{StepView}
-use Rattle.t1_char.proofs.LookingBack.{since_goes_on}
-use Rattle.t1_outline.specs.declared.segment.Segment.{Segment}
 use Rattle.t1_outline.specs.Laws.Paths.{RulesAskIsOpen, SubpathsBeginAtMoves, is_opening}
-use Rattle.t1_outline.specs.Outlines.{draws_flex, drawn, drawn_by, flex_curves, flex_places, has_subpath, is_spoiled, makes_subpath, stroke, stroke_at}
+use Rattle.t1_outline.specs.Outlines.{draws_flex, drawn_by, flex_curves, flex_places, has_subpath, is_spoiled, makes_subpath, stroke, stroke_at}
 use Rattle.t1_rules.specs.declared.mask.Mask.{Mask}
 use Rattle.t1_rules.specs.declared.rule.Rule.TheVariants.{P02}
 use Rattle.t1_rules.specs.declared.step_rules.flex.Point.{Point}
 use Rattle.t1_rules.specs.Book.{number_of}
-use Rattle.t1_rules.specs.Laws.StepRules.{violates}
 use Rattle.t1_rules.specs.Mask.{has}
 use Rattle.t1_rules.specs.StepRules.{argument_rules, call_rules, path_rules, stem_rules, flex_rules, othersubr_rules, seac_rules, step_rules, breaks}
 use Rattle.t1_rules.specs.StepRules.Flex.{current_point}

@@ -1,17 +1,16 @@
 -- Just a flex of seven pairs is drawn, and it draws two curves.
-use Rattle.std.proofs.Common.{◌≡◌, ◌↔◌, ℕ, suc, ◌+◌, ◌<◌, ◌==◌, ◌&&◌, ◌||◌, not, if◌then◌else◌, Bool, true, false, None, List, [], ◌∷◌, ◌++◌, length, append_assoc, append-nil, refl, sym, ap, subst, ◌∙◌, arith}
+use Rattle.std.proofs.Common.{◌≡◌, ℕ, suc, ◌+◌, ◌<◌, ◌==◌, ◌&&◌, ◌||◌, not, if◌then◌else◌, Bool, true, false, List, [], ◌∷◌, ◌++◌, length, append_assoc, append-nil, refl, sym, ap, subst, ◌∙◌, arith}
 use Rattle.std.proofs.Math.Bool.{and-false}
 use Rattle.std.proofs.lemmas.Bool.{eqb-true}
 use Rattle.t1_char.specs.declared.command.Command.TheVariants.{Callothersubr, Rmoveto, Hmoveto, Vmoveto}
 use Rattle.t1_char.specs.declared.token.CharToken.{CharToken}
 use Rattle.t1_char.specs.declared.token.CharToken.TheVariants.{Command}
-use Rattle.t1_char.specs.Arguments.{calls_othersubr, is_callothersubr, is_flex_end, is_flex_point, is_flex_start}
+use Rattle.t1_char.specs.Arguments.{is_callothersubr, is_flex_end, is_flex_point, is_flex_start}
 use Rattle.t1_char.specs.Steps.{StepView}
 use Rattle.t1_char.proofs.LookingBack.{since_goes_on}
-use Rattle.t1_outline.specs.declared.segment.Segment.{Segment}
 use Rattle.t1_outline.specs.declared.segment.Segment.TheVariants.{Curve}
-use Rattle.t1_outline.specs.Laws.Flexes.{ArePairs, none, and_aside, and_move, and_point, AreTwoCurves, FlexesAreTwoCurves, IsAside, IsWholeFlex, OtherFlexesDrawNothing, WholeFlexesAreDrawn}
-use Rattle.t1_outline.specs.Outlines.{draws_flex, drawn, flex_curves, flex_places, has_subpath, is_spoiled, spoils_flex, with_opening}
+use Rattle.t1_outline.specs.Laws.Flexes.{ArePairs, none, and_aside, and_move, and_point, FlexesAreTwoCurves, IsAside, IsWholeFlex, OtherFlexesDrawNothing, WholeFlexesAreDrawn}
+use Rattle.t1_outline.specs.Outlines.{draws_flex, flex_curves, flex_places, has_subpath, is_spoiled, spoils_flex, with_opening}
 use Rattle.t1_outline.proofs.Closed.{call_of}
 use Rattle.t1_outline.proofs.Flexes.{eight_places, is_whole_flex, not_or, seven_each, spoiled_goes_on}
 use Rattle.t1_outline.proofs.LastPlaces.{called_clears_none}

@@ -1,7 +1,7 @@
 -- The parts of the picture of a glyph: the glyph itself, and base and accent of its seac, each with where its origin stands.
 -- Type 1 Font Format 1.1, chapter 6 (seac, hsbw, sbw). That what isn't there draws nothing, and that ASB and the sidebearing have a say
 -- in where the accent stands, is this project's own.
-use Rattle.std.specs.Prelude.{◌≡◌, ℕ, pos, ◌+ℤ◌, ◌-ℤ◌, ◌<◌, if◌then◌else◌, Bool, Option, Some, None, List, [], ◌∷◌, ◌++◌, length}
+use Rattle.std.specs.Prelude.{◌≡◌, ℕ, ◌+ℤ◌, ◌-ℤ◌, ◌<◌, if◌then◌else◌, Bool, Option, Some, None, List, [], ◌∷◌, ◌++◌, length}
 use Rattle.std.specs.List.{find}
 use Rattle.std.specs.Option.{option_map}
 use Rattle.t1_char.specs.Arguments.{argument}
@@ -41,9 +41,9 @@ abbrev pub metrics_of : List StepView → Option Metrics
 metrics_of steps = option_map metrics_in (find sets_metrics steps)
 
 -- The left sidebearing point; the origin where none is set.
-abbrev pub start_by : Option Metrics → Point
-start_by None = origin
-start_by (Some metrics) = at metrics.x metrics.y
+abbrev pub sidebearing_by : Option Metrics → Point
+sidebearing_by None = origin
+sidebearing_by (Some metrics) = at metrics.x metrics.y
 
 -- The arguments of seac: ASB ADX ADY, and the codes of base and accent.
 abbrev pub seac_in : StepView → Seac
@@ -97,7 +97,7 @@ components_by font start (Some seac) =
 
 -- Base and accent of a glyph; none without seac.
 abbrev pub components_in : FontValue → Composition → Option Components
-components_in font composition = components_by font (start_by composition.metrics) composition.seac
+components_in font composition = components_by font (sidebearing_by composition.metrics) composition.seac
 
 -- A component that isn't there is no part of the picture.
 abbrev pub part_of : Component → List Part

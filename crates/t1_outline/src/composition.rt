@@ -3,7 +3,7 @@
 ghost use Rattle.std.specs.Prelude.{◌≡◌, ◌+ℤ◌, ◌-ℤ◌, IfSome, ℕ, List, [], ◌∷◌, ◌++◌};
 ghost use Rattle.t1_char.specs.Steps.{StepView};
 ghost use Rattle.t1_char.specs.StepValues.{step_view};
-ghost use Rattle.t1_outline.specs.Parts.{IsIn, accent_origin, components_in, composition_of, metrics_in, part, parts_of, parts_of_both, seac_in, start_by};
+ghost use Rattle.t1_outline.specs.Parts.{IsIn, accent_origin, components_in, composition_of, metrics_in, part, parts_of, parts_of_both, seac_in, sidebearing_by};
 ghost use Rattle.t1_outline.specs.Private.Composing.{metrics_with, seac_with};
 ghost use Rattle.t1_rules.specs.StepRules.Flex.{at, origin};
 ghost use Rattle.t1_rules.specs.Watches.{IsWithin, reach};
@@ -70,7 +70,7 @@ impl Composition {
 
     /// The left sidebearing point; the origin where none is set.
     pub fn sidebearing(&self) -> Point
-        ensures { result ≡ start_by self.now.metrics }
+        ensures { result ≡ sidebearing_by self.now.metrics }
     {
         match self.metrics {
             Some(metrics) => metrics.sidebearing(),
@@ -98,7 +98,7 @@ impl Composition {
 
     /// Where the origin of the accent stands.
     fn accent_origin(&self, seac: Seac) -> Point
-        ensures { result ≡ accent_origin (start_by self.now.metrics) seac }
+        ensures { result ≡ accent_origin (sidebearing_by self.now.metrics) seac }
     {
         match self.metrics {
             Some(metrics) => accent_behind(metrics.x, seac),

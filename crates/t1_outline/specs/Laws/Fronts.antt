@@ -1,5 +1,5 @@
 -- Steps that go on from others.
-use Rattle.std.specs.Prelude.{◌≡◌, ℕ, List, ◌++◌, take}
+use Rattle.std.specs.Prelude.{◌≡◌, List, ◌++◌}
 use Rattle.t1_char.specs.Steps.{StepView}
 use Rattle.t1_outline.specs.Outlines.{drawn_from, drawn_of}
 

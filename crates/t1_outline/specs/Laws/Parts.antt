@@ -5,7 +5,7 @@ use Rattle.t1_char.specs.Seacs.{step_is_seac}
 use Rattle.t1_char.specs.Steps.{StepView}
 use Rattle.t1_font.specs.Fonts.{FontValue}
 use Rattle.t1_outline.specs.declared.composition.Seac.{Seac}
-use Rattle.t1_outline.specs.Parts.{accent_origin, metrics_of, part, parts_of, seac_in, start_by}
+use Rattle.t1_outline.specs.Parts.{accent_origin, metrics_of, part, parts_of, seac_in, sidebearing_by}
 use Rattle.t1_rules.specs.declared.step_rules.flex.Point.{Point}
 use Rattle.t1_rules.specs.Components.{glyph_named}
 use Rattle.t1_rules.specs.StandardEncoding.{standard_name}
@@ -33,7 +33,7 @@ SeacsDrawBaseAndAccent =
     NamesGlyph font (base_code step) base → NamesGlyph font (accent_code step) accent →
     parts_of font glyph (before ++ step ∷ [])
     ≡ part glyph origin ∷ part base origin
-    ∷ part accent (accent_origin (start_by (metrics_of (before ++ step ∷ []))) (seac_in step)) ∷ []
+    ∷ part accent (accent_origin (sidebearing_by (metrics_of (before ++ step ∷ []))) (seac_in step)) ∷ []
 
 -- Where the accent's sidebearing is ASB, its left sidebearing point stands ADX behind that of the glyph.
 abbrev pub AccentsStandByTheirSidebearings : Type 0

@@ -1,4 +1,4 @@
-use Rattle.std.proofs.Common.{◌≡◌, ◌≤◌, ◌<◌, ◌++◌, ◌∷◌, [], length, length-take, take, ap, sym, subst, ◌∙◌, arith}
+use Rattle.std.proofs.Common.{◌≡◌, ◌≤◌, ◌++◌, ◌∷◌, [], length, take, ap, sym, subst, ◌∙◌, arith}
 use Rattle.t1_char.specs.Steps.{NumberedStep, StepView}
 use Rattle.t1_char.specs.StepValues.{step_view}
 use Rattle.t1_outline.specs.Outlines.{drawn}

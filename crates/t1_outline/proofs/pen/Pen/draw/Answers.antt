@@ -1,10 +1,7 @@
-use Rattle.std.proofs.Common.{◌≡◌, ◌++◌, ◌∷◌, [], List, ap, sym, ◌∙◌, ◌<◌, length}
-use Rattle.t1_char.specs.Steps.{StepView}
+use Rattle.std.proofs.Common.{◌++◌, ◌∷◌, [], ◌∙◌}
 use Rattle.t1_char.specs.StepValues.{step_view}
-use Rattle.t1_outline.specs.Pens.{FlexRunStandsFor}
-use Rattle.t1_outline.proofs.Pens.{KeepsFlex, draws, flex_run_on, subpath_on}
+use Rattle.t1_outline.proofs.Pens.{draws, flex_run_on, subpath_on}
 use Rattle.t1_outline.proofs.Subpaths.{left_open}
-use Rattle.t1_rules.specs.Watches.{FlexStandsFor, most_steps}
 use Rattle.t1_outline.proofs.pen.Pen.draw.Goals as goal
 
 pub returns-clause-drawn : goal.returns-clause-drawn
