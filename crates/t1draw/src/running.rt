@@ -1,7 +1,9 @@
 //! A run: reads a font, and the waivers, and draws what the options ask for.
 
 ghost use Rattle.std.specs.Prelude.{◌≡◌, ◌≤◌, IfOk, length};
-ghost use Rattle.t1draw.specs.Ends.{Draws};
+ghost use Rattle.t1draw.specs.Ends.{Draws, TellsWhy};
+ghost use Rattle.t1draw.specs.Failures.{failure_of_font, failure_of_waivers};
+ghost use Rattle.t1draw.specs.declared.running.Failure.TheVariants.{Memory};
 
 use crate::command_line::Options;
 use crate::reading::{Unreadable, read_all};
@@ -36,6 +38,8 @@ enum Failure {
 }
 
 impl From<Unread> for Failure {
+    ghost from_gives = { λ unread failure. failure ≡ failure_of_font unread };
+
     fn from(unread: Unread) -> Failure {
         match unread {
             Unread::Memory => Failure::Memory,
@@ -45,6 +49,8 @@ impl From<Unread> for Failure {
 }
 
 impl From<WaiverError> for Failure {
+    ghost from_gives = { λ error failure. failure ≡ failure_of_waivers error };
+
     fn from(error: WaiverError) -> Failure {
         match error {
             WaiverError::Malformed => Failure::Refused(RefusalCode::E14),
@@ -54,6 +60,8 @@ impl From<WaiverError> for Failure {
 }
 
 impl From<AllocError> for Failure {
+    ghost from_gives = { λ _ failure. failure ≡ Memory };
+
     fn from(_: AllocError) -> Failure {
         Failure::Memory
     }
@@ -69,7 +77,7 @@ pub fn draw<R: Read + Drop, V: Read + Drop, W: Sink, E: Sink>(
     out: &mut W,
     errors: &mut E,
 ) -> Status
-    ensures { Draws (W.state out.old) (W.state out.new) result }
+    ensures { Draws (W.state out.old) (W.state out.new) (E.state errors.old) (E.state errors.new) result }
 {
     match drawn(alloc, options, font, waivers) {
         Ok(text) => match deliver(out, text.as_bytes()) {
@@ -143,7 +151,7 @@ fn tell_failure<E: Sink>(
     failure: Failure,
     errors: &mut E,
 ) -> Status
-    ensures { result ≡ Status.Drawn → ⊥ }
+    ensures { TellsWhy (E.state errors.old) (E.state errors.new) result }
 {
     match failure {
         Failure::Unread(unread) => match unread.to_string(alloc) {

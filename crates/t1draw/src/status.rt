@@ -1,5 +1,8 @@
 //! How a run ends, as its exit status tells.
 
+ghost use Rattle.std.specs.Prelude.{◌≡◌};
+ghost use Rattle.t1draw.specs.Statuses.{exit_code};
+
 use std::process::{ExitCode, Termination};
 
 /// How a run ended.
@@ -15,7 +18,9 @@ pub enum Status {
 
 impl Status {
     /// The number of the exit status: that of t1check.
-    fn code(self) -> u8 {
+    fn code(self) -> u8
+        ensures { result ≡ exit_code self }
+    {
         match self {
             Status::Drawn => 0,
             Status::Refused => 2,
