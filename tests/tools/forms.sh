@@ -1,0 +1,160 @@
+#!/bin/sh
+# Tries the forms that t1check-all writes its lines in, for other programs: --format jsonl, sarif and github.
+
+# shellcheck source=tests/tools/common.sh
+. "$(dirname "$0")/common.sh"
+
+find_reader
+
+# Names have what each form writes in another way: a backslash, bytes below 32, letters beyond ASCII, a byte that makes it no UTF-8, and
+# what parts the properties of a command.
+named=$scratch/named
+mkdir "$named"
+cp "$fonts/F01.pfb" "$named/100%, a:b.pfb"
+cp "$fonts/F01.pfb" "$named/$(printf 'e\303\251\033.pfb')"
+cp "$fonts/F01.pfb" "$named/$(printf 'e\303\251\377.pfb')"
+cp "$fonts/F01.pfb" "$named/$(printf 'return\r.pfb')"
+cd "$odd" || exit 1
+wanted <<'END'
+{"code":"H02","file":"-dash/-x.pfb","name":"A","number":1,"path":[],"step":9,"text":"stems overlap","unit":"glyph"}
+{"code":"K02","file":"a=b.t1","name":"C","number":1,"path":[],"step":9,"text":"seac code not in StandardEncoding","unit":"glyph"}
+{"code":"F01","file":"back\\\\slash.pfb","index":0,"key":"file","number":1,"text":"no end segment","unit":"font"}
+{"code":"F01","file":"b\\xFFd.pfb","index":0,"key":"file","number":1,"text":"no end segment","unit":"font"}
+{"code":"E03","file":"cut.pfa","text":"segment cut short","unit":"refused"}
+{"code":"H02","file":"q'\"uote.PFB","name":"A","number":1,"path":[],"step":9,"text":"stems overlap","unit":"glyph"}
+{"code":"Z05","file":"sub folder/deep/two words.pfb","index":4,"key":"BlueValues","number":1,"text":"zones too near","unit":"font"}
+{"file":"missing.pfb","text":"read failed","unit":"unchecked"}
+--
+missing.pfb: t1check: read failed
+8 fonts: 0 clean, 6 with faults, 1 refused, 1 not checked
+      2 F01 no end segment
+      2 H02 stems overlap
+      1 K02 seac code not in StandardEncoding
+      1 Z05 zones too near
+END
+try 'a folder as jsonl' 3 "$all" --format jsonl . missing.pfb
+cp "$scratch/out" "$scratch/odd.jsonl"
+wanted <<END
+::warning file=-dash/-x.pfb,line=1,title=H02 stems overlap::1: glyph A - 9 H02 stems overlap
+::warning file=a=b.t1,line=1,title=K02 seac code not in StandardEncoding::1: glyph C - 9 K02 seac code not in StandardEncoding
+::warning file=back\\slash.pfb,line=1,title=F01 no end segment::1: font file 0 F01 no end segment
+::warning file=$byte.pfb,line=1,title=F01 no end segment::1: font file 0 F01 no end segment
+::error file=cut.pfa,line=1,title=E03 segment cut short::refused: E03 segment cut short
+::warning file=q'"uote.PFB,line=1,title=H02 stems overlap::1: glyph A - 9 H02 stems overlap
+::warning file=sub folder/deep/two words.pfb,line=1,title=Z05 zones too near::1: font BlueValues 4 Z05 zones too near
+::error file=missing.pfb,line=1,title=not checked::t1check: read failed
+--
+missing.pfb: t1check: read failed
+END
+try 'a folder as commands' 3 "$all" -q . --format=github missing.pfb
+wanted <<END
+{"code":"F01","file":"100%, a:b.pfb","index":0,"key":"file","number":1,"text":"no end segment","unit":"font"}
+{"code":"F01","file":"$(printf 'e\303\251')\\\\x1B.pfb","index":0,"key":"file","number":1,"text":"no end segment","unit":"font"}
+{"code":"F01","file":"e\\\\xC3\\\\xA9\\\\xFF.pfb","index":0,"key":"file","number":1,"text":"no end segment","unit":"font"}
+{"code":"F01","file":"return\\\\x0D.pfb","index":0,"key":"file","number":1,"text":"no end segment","unit":"font"}
+--
+END
+try 'odd names as jsonl' 1 sh -c "cd '$named' && '$all' -q --format jsonl ."
+wanted <<'END'
+::warning file=100%25%2C a%3Ab.pfb,line=1,title=F01 no end segment::1: font file 0 F01 no end segment
+::warning file=return%0D.pfb,line=1,title=F01 no end segment::1: font file 0 F01 no end segment
+--
+END
+try 'odd names as commands' 1 sh -c "cd '$named' && '$all' -q --format github 100* ret*"
+
+wanted <<'END'
+2.1.0 t1check false 1 listed
+H02 warning
+K02 warning
+F01 warning
+F01 warning
+E03 error
+H02 warning
+Z05 warning
+--
+missing.pfb: t1check: read failed
+END
+try_document 'a folder as sarif' 3 "$all" -q --format sarif . missing.pfb
+wanted <<'END'
+8
+--
+END
+if [ -n "$reader" ]; then
+    try 'jsonl by a parser' 0 sh -c "'$reader' '$scratch/read' '$scratch/odd.jsonl' lines | grep -c '^[0-7]\.unit '"
+    # Where the rules' pages are is told of each rule, with --docs alone.
+    wanted <<'END'
+--
+END
+    try 'no pages of rules' 1 grep helpUri "$scratch/values"
+    "$all" -q --format sarif --docs https://example.org/RULES.md . >"$scratch/docs.sarif"
+    "$reader" "$scratch/read" "$scratch/docs.sarif" >"$scratch/values"
+    sed -n 's/^\.runs\.0\.tool\.driver\.rules\.[0-9]*\.id "\([A-Z0-9]*\)"$/\1/p' "$scratch/values" >"$scratch/codes"
+    while read -r code; do
+        printf 'https://example.org/RULES.md#%s\n' \
+            "$(sed -n "s/^### \($code .*\)/\1/p" "$top/docs/RULES.md" | tr 'A-Z ' 'a-z-' | tr -cd 'a-z0-9_\n-')"
+    done <"$scratch/codes" >"$scratch/anchors"
+    sed -n 's/^\.runs\.0\.tool\.driver\.rules\.[0-9]*\.helpUri "\(.*\)"$/\1/p' "$scratch/values" >"$scratch/pages"
+    try 'pages of rules' 0 diff "$scratch/anchors" "$scratch/pages"
+    wanted <<'END'
+https://example.org/RULES.md#k02-seac-code-not-in-standardencoding
+https://example.org/RULES.md#e03-segment-cut-short
+--
+END
+    try 'pages of two of them' 0 grep -e '#e03-' -e '#k02-' "$scratch/pages"
+fi
+cd "$scratch" || exit 1
+
+# Where nothing is told, or a part of the list has no font, a document is written and nothing else.
+wanted <<'END'
+--
+END
+for form in jsonl github; do
+    try "nothing as $form" 0 "$all" -q --format "$form" --only L01 glyphs.pfb
+    try "an empty shard as $form" 0 "$all" --format "$form" --shard 1/2 glyphs.pfb
+    try "known faults are written, with $form" 0 "$all" -q --baseline now --update-baseline --format "$form" glyphs.pfb
+done
+wanted <<'END'
+2.1.0 t1check true 0 listed
+--
+END
+try_document 'nothing as sarif' 0 "$all" -q --format sarif --only L01 glyphs.pfb
+try_document 'an empty shard as sarif' 0 "$all" --format sarif --shard 1/2 glyphs.pfb
+try_document 'known faults are written, with sarif' 0 "$all" -q --format sarif --baseline now --update-baseline glyphs.pfb
+wanted <<'END'
+{"code":"Z07","file":"glyphs.pfb","index":1,"key":"BlueValues","number":1,"text":"zone too high for BlueScale","unit":"font"}
+{"code":"Z01","file":"glyphs.pfb","index":0,"key":"StdHW","number":2,"text":"value of another kind","unit":"font"}
+--
+t1check-all: lines of a font itself can not be waived
+END
+try 'waivers are written, with jsonl' 1 "$all" -q --write-waivers --format jsonl glyphs.pfb
+echo 'A H02' >glyphs.pfb.waivers
+wanted <<'END'
+{"code":"U01","file":"glyphs.pfb","name":"A","number":6,"text":"waiver not used","unit":"waiver","waived":"H02"}
+--
+END
+try 'a waiver that is not used, as jsonl' 1 "$all" -q --only U01 --format jsonl glyphs.pfb
+rm -f glyphs.pfb.waivers
+
+# What was not even found is told in the form, too.
+wanted <<'END'
+{"text":"a name with a line end is passed over","unit":"unchecked"}
+{"code":"Z05","file":"one.pfb","index":4,"key":"BlueValues","number":1,"text":"zones too near","unit":"font"}
+--
+t1check-all: a name with a line end is passed over
+END
+try 'a name with a line end, as jsonl' 3 sh -c "cd '$lines' && '$all' -q --format jsonl ."
+
+# Shards in a form: one behind the other they are the whole, of which each line has one.
+"$all" -q "$fonts" >whole 2>/dev/null
+"$all" -q --format jsonl "$fonts" >whole.jsonl 2>/dev/null
+: >joined
+for part in 1 2 3 4; do
+    "$all" -q --format jsonl --shard "$part/4" "$fonts" >>joined 2>/dev/null
+done
+wanted <<'END'
+--
+END
+try 'shards as jsonl' 0 cmp whole.jsonl joined
+[ "$(wc -l <whole.jsonl)" -eq "$(wc -l <whole)" ] || fail 'shards as jsonl: not an object a line'
+
+finish

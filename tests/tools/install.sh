@@ -1,0 +1,196 @@
+#!/bin/sh
+# Tries what bin/install puts and takes away, and the tools where they are installed.
+
+# shellcheck source=tests/tools/common.sh
+. "$(dirname "$0")/common.sh"
+
+leave_home
+
+# Installing, from a copy of what is to be put, so that nothing else of the repository is needed. In the place of man and zsh stand
+# two that name the folders which they look through.
+copy=$scratch/copy
+mkdir -p "$copy/docs" "$scratch/shells"
+cp -R "$top/bin" "$top/man" "$top/completions" "$copy/"
+for tool in t1check t1format t1draw; do
+    mkdir -p "$copy/crates/$tool/out"
+    cp "$top/crates/$tool/out/$tool" "$copy/crates/$tool/out/"
+    : >"$copy/crates/$tool/out/built"
+done
+cp "$top/docs/RULES.md" "$copy/docs/"
+cat >"$scratch/shells/man" <<'END'
+#!/bin/sh
+echo "/usr/share/man:${LOOKS-}/man"
+END
+cat >"$scratch/shells/zsh" <<'END'
+#!/bin/sh
+echo "${LOOKS-}/zsh/site-functions"
+END
+chmod +x "$scratch/shells/man" "$scratch/shells/zsh"
+quoted="$scratch/in stalled/it'\\''s"
+printf '#!/bin/sh\nexit 1\n' >"$copy/man/rules.sh"
+wanted <<END
+--
+install: not all could be put into $prefix, so nothing is
+END
+try 'installing where something fails' 3 "$copy/bin/install" --prefix "$prefix"
+[ ! -e "$scratch/in stalled" ] || fail 'installing where something fails leaves something'
+cp "$top/man/rules.sh" "$copy/man/"
+wanted <<END
+t1check, t1check-all, t1draw, t1explain and t1format are in $prefix/bin.
+A shell still needs, in the file that it reads when it starts:
+export PATH='$quoted/bin':"\$PATH"
+export MANPATH='$quoted/share/man':"\${MANPATH-}"
+export XDG_DATA_DIRS='$quoted/share':"\${XDG_DATA_DIRS:-/usr/local/share:/usr/share}"    # completions of bash and fish
+fpath=('$quoted/share/zsh/site-functions' \$fpath)    # zsh, before compinit
+--
+END
+try 'installing' 0 env PATH="$scratch/shells:$PATH" "$copy/bin/install" --prefix "$prefix"
+wanted <<END
+t1check, t1check-all, t1draw, t1explain and t1format are in $prefix/bin.
+--
+END
+try 'installing once more, where shells find it' 0 env PATH="$prefix/bin:$scratch/shells:$PATH" LOOKS="$prefix/share" \
+    XDG_DATA_DIRS="/usr/share:$prefix/share/" "$copy/bin/install" "--prefix=$prefix/"
+rm -rf "$copy"
+wanted <<'END'
+./bin/t1check
+./bin/t1check-all
+./bin/t1draw
+./bin/t1explain
+./bin/t1format
+./share/bash-completion/completions/t1check
+./share/bash-completion/completions/t1check-all
+./share/bash-completion/completions/t1draw
+./share/bash-completion/completions/t1explain
+./share/bash-completion/completions/t1format
+./share/fish/vendor_completions.d/t1check-all.fish
+./share/fish/vendor_completions.d/t1check.fish
+./share/fish/vendor_completions.d/t1draw.fish
+./share/fish/vendor_completions.d/t1explain.fish
+./share/fish/vendor_completions.d/t1format.fish
+./share/man/man1/t1check-all.1
+./share/man/man1/t1check.1
+./share/man/man1/t1draw.1
+./share/man/man1/t1explain.1
+./share/man/man1/t1format.1
+./share/man/man7/t1check-rules.7
+./share/t1check/RULES.md
+./share/t1check/commit
+./share/t1check/installed
+./share/zsh/site-functions/_t1check
+--
+END
+try 'what is installed' 0 sh -c "cd \"$prefix\" && find . ! -type d | sort"
+wanted <<'END'
+glyphs.pfb: 3: glyph A 5 6 P03 closepath without a path
+--
+END
+try 'an installed t1check-all' 1 "$prefix/bin/t1check-all" -q --only P03 glyphs.pfb
+wanted <<'END'
+3: glyph A 5 6 P03 closepath without a path
+--
+END
+try 'an installed t1check' 1 "$prefix/bin/t1check" --after 2 --max 1 glyphs.pfb
+wanted <<'END'
+{"code":"P03","file":"glyphs.pfb","name":"A","number":3,"path":[5],"step":6,"text":"closepath without a path","unit":"glyph"}
+--
+END
+try 'an installed t1check-all with jsonl' 1 "$prefix/bin/t1check-all" -q --only P03 --format jsonl glyphs.pfb
+echo '3: glyph A 5 6 P03 closepath without a path' >lines.in
+try 'an installed t1format' 0 sh -c "\"$prefix/bin/t1format\" jsonl --font glyphs.pfb <lines.in"
+mkdir "$scratch/linked"
+ln -s "$format" "$scratch/linked/format"
+try 't1format of the repository, by a link' 0 sh -c 'linked/format jsonl --font glyphs.pfb <lines.in'
+{ cat "$top/tests/draw/square.svg" && echo --; } >"$scratch/wanted"
+try 'an installed t1draw' 0 "$prefix/bin/t1draw" A "$top/tests/draw/fonts/square.pfb"
+wanted <<'END'
+E06 encrypted part too short
+
+Fewer than four encrypted bytes stand behind `eexec`.
+
+The file was cut, or an editor changed the encrypted bytes.
+
+Example: a file that ends behind `currentfile eexec`.
+
+Cure: take it from its source again.
+--
+END
+ln -s "$prefix/bin/t1explain" "$scratch/linked/explain"
+try 'an installed t1explain, by a link' 0 "$scratch/linked/explain" e06
+
+# Taking away. What others put there stays, and so do folders that are not empty.
+(cd "$prefix" && find . -type d | while read -r folder; do : >"$folder/foreign"; done)
+wanted <<'END'
+--
+END
+try 'taking away' 0 "$top/bin/install" --prefix "$prefix" --remove
+wanted <<'END'
+./bin/foreign
+./foreign
+./share/bash-completion/completions/foreign
+./share/bash-completion/foreign
+./share/fish/foreign
+./share/fish/vendor_completions.d/foreign
+./share/foreign
+./share/man/foreign
+./share/man/man1/foreign
+./share/man/man7/foreign
+./share/t1check/foreign
+./share/zsh/foreign
+./share/zsh/site-functions/foreign
+--
+END
+try 'what is left' 0 sh -c "cd \"$prefix\" && find . ! -type d | sort"
+wanted <<END
+--
+install: nothing is installed in $prefix
+END
+try 'taking away what is not there' 3 "$top/bin/install" --prefix "$prefix" --remove
+mkdir -p "$scratch/before/share/man"
+DESTDIR="$scratch/before" "$top/bin/install" --prefix "/" >given
+DESTDIR="$scratch/before/stage" "$top/bin/install" --prefix /usr/local >>given
+wanted <<END
+t1check, t1check-all, t1draw, t1explain and t1format are in $scratch/before/bin.
+t1check, t1check-all, t1draw, t1explain and t1format are in $scratch/before/stage/usr/local/bin.
+--
+END
+try 'installing with DESTDIR' 0 cat given
+DESTDIR="$scratch/before" "$top/bin/install" --prefix / --remove
+DESTDIR="$scratch/before/stage" "$top/bin/install" --prefix /usr/local --remove
+wanted <<'END'
+before
+before/share
+before/share/man
+--
+END
+try 'folders that were there before stay, others go' 0 sh -c 'find before | sort'
+mkdir -p "$scratch/home/.local/bin"
+ln -s "$scratch/glyphs.pfb" "$scratch/home/.local/bin/t1explain"
+wanted <<END
+--
+install: this is there already, and no install put it there:
+$scratch/home/.local/bin/t1explain
+END
+try 'a file that another put there' 3 "$top/bin/install"
+wanted <<END
+--
+install: $top is the repository itself
+install: 'bin/install --help' says how it is used
+END
+try 'the repository itself' 3 "$top/bin/install" --prefix "$top/"
+wanted <<END
+--
+install: --prefix wants a folder
+install: 'bin/install --help' says how it is used
+END
+try 'no prefix' 3 "$top/bin/install" --remove --prefix
+try 'an option in place of a prefix' 3 "$top/bin/install" --prefix --remove
+try 'an empty prefix' 3 "$top/bin/install" --prefix=
+wanted <<END
+--
+install: unknown option --preefix
+install: 'bin/install --help' says how it is used
+END
+try 'an unknown option of install' 3 "$top/bin/install" --preefix here
+
+finish

@@ -1,0 +1,72 @@
+#!/bin/sh
+# Tries the waivers beside a font, which t1check-all reads, leaves aside, writes and overwrites.
+
+# shellcheck source=tests/tools/common.sh
+. "$(dirname "$0")/common.sh"
+
+wanted <<'END'
+glyphs.pfb: 1: font BlueValues 1 Z07 zone too high for BlueScale
+glyphs.pfb: 2: font StdHW 0 Z01 value of another kind
+--
+1 font: 0 clean, 1 with faults, 0 refused, 0 not checked
+      1 Z01 value of another kind
+      1 Z07 zone too high for BlueScale
+t1check-all: lines of a font itself can not be waived
+END
+try 'waivers are written' 1 "$all" --write-waivers glyphs.pfb
+wanted <<'END'
+A P03
+A P02
+B GE01
+--
+END
+try 'the waivers' 0 cat glyphs.pfb.waivers
+wanted <<'END'
+glyphs.pfb: 1: font BlueValues 1 Z07 zone too high for BlueScale
+glyphs.pfb: 2: font StdHW 0 Z01 value of another kind
+--
+END
+try 'waivers beside a font' 1 "$all" -q glyphs.pfb
+wanted <<'END'
+glyphs.pfb: 1: font BlueValues 1 Z07 zone too high for BlueScale
+glyphs.pfb: 2: font StdHW 0 Z01 value of another kind
+glyphs.pfb: 3: glyph A 5 6 P03 closepath without a path
+glyphs.pfb: 4: glyph A - 12 P02 path not closed
+glyphs.pfb: 5: glyph B - 4 GE01 no endchar
+--
+END
+try 'waivers left aside' 1 "$all" -q --no-waivers glyphs.pfb
+wanted <<'END'
+glyphs.pfb: 1: font BlueValues 1 Z07 zone too high for BlueScale
+glyphs.pfb: 2: font StdHW 0 Z01 value of another kind
+--
+t1check-all: lines of a font itself can not be waived
+glyphs.pfb: waivers are there already
+END
+try 'waivers that are there' 3 "$all" -q --write-waivers glyphs.pfb
+echo 'A H02' >glyphs.pfb.waivers
+wanted <<'END'
+--
+END
+try 'waivers are overwritten' 0 "$all" -q --write-waivers --force --only P,GE glyphs.pfb
+wanted <<'END'
+A P03
+A P02
+B GE01
+--
+END
+try 'the overwritten waivers' 0 cat glyphs.pfb.waivers
+echo 'A H02' >glyphs.pfb.waivers
+wanted <<'END'
+glyphs.pfb: 6: waiver A H02 U01 waiver not used
+--
+END
+try 'a waiver that is not used' 1 "$all" -q --only U01 glyphs.pfb
+echo 'no waiver' >glyphs.pfb.waivers
+wanted <<'END'
+glyphs.pfb: refused: E14 waivers malformed
+--
+END
+try 'malformed waivers' 2 "$all" -q glyphs.pfb
+
+finish
