@@ -1,3 +1,4 @@
 pub mod Floats
 pub mod NotTold
+pub mod OneTelling
 pub mod ShownNames

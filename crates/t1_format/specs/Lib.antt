@@ -1,3 +1,4 @@
+pub mod Laws
 pub mod Objects
 pub mod Private
 pub mod Shown

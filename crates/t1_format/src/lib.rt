@@ -6,7 +6,8 @@
 //!
 //! What is promised, for all bytes:
 //!
-//! - What is read is spelled as the line is, and a line that is spelled so is read.
+//! - What is read is spelled as the line is, and a line that is spelled so is read. Whatever the font's name, a text is that of
+//!   one line at most.
 //! - The line of JSON is the compact text of the object that the line read stands for, and nothing else.
 //! - Each is written before the next one is read: memory doesn't grow with the lines, but for fonts that weren't checked, of
 //!   which a document keeps at most a thousand.
@@ -23,6 +24,7 @@
 
 mod commands;
 mod error;
+mod laws;
 mod names;
 mod objects;
 mod pages;
@@ -31,6 +33,7 @@ mod told;
 
 pub use commands::write_command;
 pub use error::FormatError;
+pub use laws::a_text_tells_one_line;
 pub use names::shown;
 pub use objects::{object, write_object};
 pub use sarif::Sarif;

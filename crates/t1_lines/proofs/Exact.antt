@@ -12,9 +12,10 @@ use Rattle.t1_report.specs.Faults.{FaultValue}
 use Rattle.t1_report.specs.Lines.{IsInFont, line_of, place_text, rule_part, glyph_name, path_text}
 use Rattle.t1_report.specs.Waivers.{Waiver}
 use Rattle.t1_lines.specs.Lines.{FaultLineValue, LineValue, of_fault, place_in, line_in, place_words, spaced, fault_spelled, IsPlace, IsSmall}
+use Rattle.t1_lines.specs.Laws.{ATextIsOneLine, FaultsAreWrittenAsLines}
 use Rattle.t1_lines.specs.Names.{HasNames, HaveNames}
 use Rattle.t1_lines.proofs.NamesKept.{glyph_named}
-use Rattle.t1_lines.specs.Readings.{IsReading, IsReadBack, IsWritten, IsOne}
+use Rattle.t1_lines.specs.Readings.{IsReading, IsReadBack}
 use Rattle.t1_lines.specs.Private.Reading.{line_read}
 use Rattle.t1_lines.proofs.Cuts.{some_same}
 use Rattle.t1_lines.proofs.LinesRead.{line-spelled}
@@ -26,7 +27,7 @@ exact line read is l = (
   (λ told. is ∙ subst (λ t. line_read t ≡ Some l) told.1 (line-spelled l told.0)),
 )
 
-pub one : IsOne
+pub one : ATextIsOneLine
 one a b is_a is_b same =
     some_same a b (sym (line-spelled a is_a) ∙ ap line_read same ∙ line-spelled b is_b)
 
@@ -107,7 +108,7 @@ place-is font waivers fault glyphs names there plain =
       ]
     ]
 
-pub written : IsWritten
+pub written : FaultsAreWrittenAsLines
 written font waivers fault glyphs names there plain =
     (record { number = plain.number; place = place-is font waivers fault glyphs names there plain }, line-written font waivers fault names there)
 

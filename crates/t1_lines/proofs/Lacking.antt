@@ -10,7 +10,7 @@ use Rattle.std.proofs.Math.Pow.{pow_mono}
 use Rattle.t1_scan.specs.Bytes.{is_regular}
 use Rattle.t1_rules.specs.declared.rule.Rule.{Rule}
 use Rattle.t1_rules.specs.declared.rule.Rule.TheVariants.{F01}
-use Rattle.t1_rules.specs.Book.{code_of}
+use Rattle.t1_rules.specs.Book.{code_of, text_of}
 use Rattle.t1_rules.specs.Keys.{key_text_of, key_texts}
 use Rattle.t1_report.specs.Lines.{inner_text, path_text}
 use Rattle.t1_lines.proofs.Cuts.{lacks}
@@ -83,3 +83,14 @@ lacks-key key = all_at (lacks 32) key key_texts refl refl
 pub lacks-code : (rule : Rule) → lacks 32 (code_of rule) ≡ true
 lacks-code F01 = refl
 lacks-code _ = refl
+
+pub colonless-key : (key : ℕ) → lacks 58 (key_text_of key) ≡ true
+colonless-key key = all_at (lacks 58) key key_texts refl refl
+
+pub colonless-code : (rule : Rule) → lacks 58 (code_of rule) ≡ true
+colonless-code F01 = refl
+colonless-code _ = refl
+
+pub colonless-text : (rule : Rule) → lacks 58 (text_of rule) ≡ true
+colonless-text F01 = refl
+colonless-text _ = refl

@@ -7,7 +7,8 @@ use Rattle.t1_font.specs.Keys.{same_name}
 use Rattle.t1_font.specs.Fonts.{Stated, Marks, FontValue, plain, encoding, code, bad_code, size, subr, glyph, value_of}
 use Rattle.t1_font.specs.Puts.{put, put_pair}
 use Rattle.t1_report.specs.Lines.{glyph_name, name_in}
-use Rattle.t1_lines.specs.Names.{FontsHaveNames, HasNames}
+use Rattle.t1_lines.specs.Laws.{FontsHaveNames}
+use Rattle.t1_lines.specs.Names.{HasNames}
 use Rattle.t1_font.proofs.Kept.{font_holds}
 use Rattle.t1_lines.proofs.NamesStated.{Fits, clear_fits, private_fits}
 

@@ -4,7 +4,7 @@ use Rattle.t1_font.specs.Fonts.{FontValue}
 use Rattle.t1_report.specs.Faults.{FaultValue}
 use Rattle.t1_report.specs.Lines.{IsInFont, line_of}
 use Rattle.t1_report.specs.Waivers.{Waiver}
-use Rattle.t1_lines.specs.Lines.{LineValue, of_fault, IsFaultLine, IsLine, IsSmall, fault_spelled, line_in, spelled}
+use Rattle.t1_lines.specs.Lines.{LineValue, of_fault, IsLine, IsSmall, line_in, spelled}
 use Rattle.t1_lines.specs.Names.{HasNames, HaveNames}
 
 -- A line is read exactly where it is spelled so.
@@ -16,14 +16,3 @@ abbrev pub IsReadBack : List ℕ → Option LineValue → Type 0
 IsReadBack line read = (font : FontValue) (waivers : List Waiver) (fault : FaultValue) → HasNames font → HaveNames waivers →
     IsInFont font waivers fault → IsSmall fault → line_of font waivers fault ≡ line ++ codes "\n" →
     read ≡ Some (of_fault (line_in font waivers fault))
-
--- The line of a fault is one, and is written as it is spelled, ended by byte 10.
-abbrev pub IsWritten : Type 0
-IsWritten = (font : FontValue) (waivers : List Waiver) (fault : FaultValue) → HasNames font → HaveNames waivers →
-    IsInFont font waivers fault → IsSmall fault →
-    IsFaultLine (line_in font waivers fault)
-    × (line_of font waivers fault ≡ fault_spelled (line_in font waivers fault) ++ codes "\n")
-
--- No text is that of two lines.
-abbrev pub IsOne : Type 0
-IsOne = (a b : LineValue) → IsLine a → IsLine b → spelled a ≡ spelled b → a ≡ b

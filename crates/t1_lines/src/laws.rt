@@ -1,21 +1,26 @@
 //! Laws above the definitions: each is the contract of a function without a body.
 
 ghost use Rattle.t1_report.specs.Faults.{fault_value};
+ghost use Rattle.t1_lines.specs.Laws.{ATextIsOneLine, FaultsAreWrittenAsLines, FontsHaveNames, NoLineStandsInAnother, WaiversHaveNames};
 ghost use Rattle.t1_lines.specs.Lines.{IsSmall};
-ghost use Rattle.t1_lines.specs.Names.{FontsHaveNames, WaiversHaveNames};
-ghost use Rattle.t1_lines.specs.Readings.{IsOne, IsWritten};
 
 use t1_report::Fault;
 
 /// Each fault's line is written as it is spelled.
 pub fn faults_are_written_as_lines()
-    ensures { IsWritten }
+    ensures { FaultsAreWrittenAsLines }
 {}
 
 /// No text is that of two lines.
 #[tactic(auto, using(crate::proofs::Exact::one))]
 pub fn a_text_is_one_line()
-    ensures { IsOne }
+    ensures { ATextIsOneLine }
+{}
+
+/// No line stands in another one behind a colon and a blank: so behind a font's name it is known where a line begins.
+#[tactic(auto, using(crate::proofs::Alone::no_line_stands_in_another))]
+pub fn no_line_stands_in_another()
+    ensures { NoLineStandsInAnother }
 {}
 
 /// Each fault's numbers are of 64 and 32 bits, and at most ten Subrs are being executed at it.

@@ -28,7 +28,7 @@ mod words;
 
 pub use laws::{
     a_text_is_one_line, faults_are_small, faults_are_written_as_lines, fonts_have_names,
-    waivers_have_names,
+    no_line_stands_in_another, waivers_have_names,
 };
 pub use line::{FaultLine, Line, Place};
 pub use reading::read;

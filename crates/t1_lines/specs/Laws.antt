@@ -1,0 +1,36 @@
+-- The statements of laws: how faults are written, that a text is one line, and what names were read.
+use Rattle.std.specs.Prelude.{◌≡◌, ℕ, List, ◌∷◌, ◌++◌, codes, Ok, Some}
+use Rattle.t1_font.specs.ClearText.{clear_of}
+use Rattle.t1_font.specs.Fonts.{FontValue, Marks}
+use Rattle.t1_font.specs.Texts.{font_read}
+use Rattle.t1_font.specs.TextTurns.{TextRead}
+use Rattle.t1_report.specs.Faults.{FaultValue}
+use Rattle.t1_report.specs.Lines.{IsInFont, line_of}
+use Rattle.t1_report.specs.Waivers.{Waiver, waivers_of}
+use Rattle.t1_lines.specs.Lines.{LineValue, IsFaultLine, IsLine, IsSmall, fault_spelled, line_in, spelled}
+use Rattle.t1_lines.specs.Names.{HasNames, HaveNames}
+
+-- The line of a fault is one, and is written as it is spelled, ended by byte 10.
+abbrev pub FaultsAreWrittenAsLines : Type 0
+FaultsAreWrittenAsLines = (font : FontValue) (waivers : List Waiver) (fault : FaultValue) → HasNames font → HaveNames waivers →
+    IsInFont font waivers fault → IsSmall fault →
+    IsFaultLine (line_in font waivers fault)
+    × (line_of font waivers fault ≡ fault_spelled (line_in font waivers fault) ++ codes "\n")
+
+-- No text is that of two lines.
+abbrev pub ATextIsOneLine : Type 0
+ATextIsOneLine = (a b : LineValue) → IsLine a → IsLine b → spelled a ≡ spelled b → a ≡ b
+
+-- No line stands in another one behind a colon and a blank.
+abbrev pub NoLineStandsInAnother : Type 0
+NoLineStandsInAnother =
+    (a b : LineValue) (front : List ℕ) → IsLine a → IsLine b → ¬ (front ++ (58 ∷ 32 ∷ spelled b) ≡ spelled a)
+
+-- The glyphs of a font that was read have such names.
+abbrev pub FontsHaveNames : Type 0
+FontsHaveNames = (marks : Marks) (text private_text : List ℕ) (clear : TextRead) (v : FontValue) →
+    clear_of marks text ≡ Ok clear → font_read marks clear.stated private_text ≡ Ok v → HasNames v
+
+-- So have waivers that were read.
+abbrev pub WaiversHaveNames : Type 0
+WaiversHaveNames = (text : List ℕ) (waivers : List Waiver) → waivers_of text ≡ Some waivers → HaveNames waivers
