@@ -1,5 +1,13 @@
 //! The program's run: line by line.
 
+ghost use Rattle.std.specs.Prelude.{◌≡◌, ◌<◌, ◌++◌, ◌^◌, ℕ, List, true, Option, Some, IfOk, OnOk, IfSome, codes, length, option_map};
+ghost use Rattle.std.specs.Io.BufRead.{drop_through, first_piece};
+ghost use Rattle.t1_format.specs.Tellings.{told_value};
+ghost use Rattle.t1_io.specs.Devices.{Wrote};
+ghost use Rattle.t1format.specs.declared.command_line.Form.TheVariants.{JsonLines};
+ghost use Rattle.t1format.specs.Runs.{IsRunOver, font_of, is_json, of_font, passed_line};
+ghost use Rattle.t1format.specs.Private.Lines.{AreWritten, IsDone, ReadsLine};
+
 use crate::command_line::Options;
 use crate::writer::Writer;
 use std::alloc::{AllocError, Global};
@@ -48,7 +56,10 @@ impl From<Broken> for Failure {
 }
 
 /// Reads the next line, without its end: false where there is none.
-fn read_line<R: BufRead>(input: &mut R, line: &mut Vec<u8>) -> Result<bool, Failure> {
+fn read_line<R: BufRead>(input: &mut R, line: &mut Vec<u8>) -> Result<bool, Failure>
+    ensures { (text : List ℕ) → R.remaining input.old ≡ Some text →
+        IfOk result (λ is. ReadsLine text line.new.items (R.remaining input.new) is) }
+{
     line.clear();
     match input.read_until(b'\n', line) {
         Ok(0) => Ok(false),
@@ -64,7 +75,9 @@ fn read_line<R: BufRead>(input: &mut R, line: &mut Vec<u8>) -> Result<bool, Fail
 }
 
 /// Tells of a line that is none.
-fn tell_of_line<E: Sink>(alloc: Global, errors: &mut E, number: u64) -> Result<(), Failure> {
+fn tell_of_line<E: Sink>(alloc: Global, errors: &mut E, number: u64) -> Result<(), Failure>
+    ensures { IfOk result (λ _. Wrote (E.state errors.old) (E.state errors.new) (passed_line number)) }
+{
     let number = number.to_string(alloc)?;
     put_parts(
         errors,
@@ -77,6 +90,70 @@ fn tell_of_line<E: Sink>(alloc: Global, errors: &mut E, number: u64) -> Result<(
     Ok(())
 }
 
+/// What is told, of the font of this name where no other is named.
+fn of_font<'a>(told: Told<'a>, font: Option<&'a [u8]>) -> Told<'a>
+    ensures { told_value result ≡ of_font (option_map (λ name. name.now) font.entry) (told_value told.entry) }
+{
+    Told {
+        font: told.font.or(font),
+        what: told.what,
+        line: told.line,
+    }
+}
+
+/// Writes a line, and answers whether it is one: what is none is named by its number and passed over.
+fn write_line<W: Sink, E: Sink>(
+    alloc: Global,
+    writer: &mut Writer<'_>,
+    font: Option<&[u8]>,
+    number: u64,
+    line: &[u8],
+    out: &mut W,
+    errors: &mut E,
+) -> Result<bool, Failure>
+    ensures done { is_json writer.old ≡ true → IfOk result (λ is. IsDone (option_map (λ name. name.now) font.entry) number line.now
+        (W.state out.old) (W.state out.new) (E.state errors.old) (E.state errors.new) is) }
+    ensures json { is_json writer.old ≡ true → is_json writer.new ≡ true }
+{
+    match read_told(line) {
+        Some(told) => {
+            writer.put(alloc, out, &of_font(told, font))?;
+            Ok(true)
+        }
+        None => {
+            tell_of_line(alloc, errors, number)?;
+            Ok(false)
+        }
+    }
+}
+
+/// Writes each line of the input, up to its end, and answers whether each was one.
+fn write_lines<R: BufRead, W: Sink, E: Sink>(
+    alloc: Global,
+    writer: &mut Writer<'_>,
+    font: Option<&[u8]>,
+    input: &mut R,
+    out: &mut W,
+    errors: &mut E,
+) -> Result<bool, Failure>
+    ensures written { is_json writer.old ≡ true → (text : List ℕ) → R.remaining input.old ≡ Some text → length text < 2 ^ 63
+        → IfOk result (AreWritten (option_map (λ name. name.now) font.entry) text
+        (W.state out.old) (W.state out.new) (E.state errors.old) (E.state errors.new)) }
+    ensures json { is_json writer.old ≡ true → is_json writer.new ≡ true }
+{
+    let mut line = Vec::new(alloc);
+    let mut are_lines = true;
+    for number in 1..u64::MAX {
+        if !read_line(input, &mut line)? {
+            return Ok(are_lines);
+        }
+        let is_line = write_line(alloc, writer, font, number, line.as_slice(), out, errors)?;
+        are_lines = are_lines && is_line;
+    }
+    // It isn't reached: a line takes a byte at least.
+    Ok(are_lines)
+}
+
 /// Writes each line of the input in the form that is asked for. Answers whether each was one: those that are none are named by
 /// their numbers and passed over.
 pub fn run<R: BufRead, W: Sink, E: Sink>(
@@ -85,30 +162,14 @@ pub fn run<R: BufRead, W: Sink, E: Sink>(
     input: &mut R,
     out: &mut W,
     errors: &mut E,
-) -> Result<bool, Failure> {
+) -> Result<bool, Failure>
+    ensures json { options.now.form ≡ JsonLines → (text : List ℕ) → R.remaining input.old ≡ Some text → length text < 2 ^ 63
+        → IfOk result (IsRunOver (font_of options.now) text
+        (W.state out.old) (W.state out.new) (E.state errors.old) (E.state errors.new)) }
+{
     let font = options.font.as_ref().map(String::as_bytes);
     let mut writer = Writer::begin(alloc, out, options)?;
-    let mut line = Vec::new(alloc);
-    let mut are_lines = true;
-    for number in 1..u64::MAX {
-        if !read_line(input, &mut line)? {
-            break;
-        }
-        match read_told(line.as_slice()) {
-            Some(told) => {
-                let told = Told {
-                    font: told.font.or(font),
-                    what: told.what,
-                    line: told.line,
-                };
-                writer.put(alloc, out, &told)?;
-            }
-            None => {
-                are_lines = false;
-                tell_of_line(alloc, errors, number)?;
-            }
-        }
-    }
+    let are_lines = write_lines(alloc, &mut writer, font, input, out, errors)?;
     writer.end(alloc, out)?;
     out.flush()?;
     Ok(are_lines)
