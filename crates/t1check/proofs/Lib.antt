@@ -3,6 +3,7 @@ pub mod ChosenLines
 pub mod CommandLemmas
 pub mod InputLemmas
 pub mod RefusalLaws
+pub mod RefusalLines
 pub mod RunLaws
 pub mod SingleFault
 pub mod TraceLemmas

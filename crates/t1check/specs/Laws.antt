@@ -1,4 +1,5 @@
 -- The statements of laws.
 pub mod Answers
+pub mod ReadBack
 pub mod Refusals
 pub mod Runs

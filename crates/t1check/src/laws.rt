@@ -1,6 +1,7 @@
 //! Laws above the definitions: each is the contract of a function that does nothing, but for calling the laws on which it rests.
 
 ghost use Rattle.t1check.specs.Laws.Answers.{HasAnAnswer, HasNoOtherAnswer};
+ghost use Rattle.t1check.specs.Laws.ReadBack.{EachCodeIsOfRefusal, FontRefusalsAreLines, WaiverRefusalsAreLines};
 ghost use Rattle.t1check.specs.Laws.Refusals.{NeverForMemory, RefusedByPart};
 ghost use Rattle.t1check.specs.Laws.Runs.{RunsKeepPromises};
 
@@ -24,6 +25,14 @@ pub fn each_part_has_its_refusals()
 {
     t1_font::each_part_has_its_refusals();
 }
+
+/// What is told of a refusal is the line of its code, which t1_lines reads back as that code; and each code is that of a
+/// refusal.
+pub fn refusals_are_read_back()
+    ensures font { FontRefusalsAreLines }
+    ensures waivers { WaiverRefusalsAreLines }
+    ensures each { EachCodeIsOfRefusal }
+{}
 
 /// What the ways in which a run ends say of the status, the output and standard error.
 pub fn runs_keep_promises()
