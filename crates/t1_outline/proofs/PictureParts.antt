@@ -8,9 +8,9 @@ use Rattle.t1_char.specs.Since.{last_of}
 use Rattle.t1_char.specs.Steps.{StepView}
 use Rattle.t1_font.specs.Fonts.{FontValue}
 use Rattle.t1_char.proofs.LookingBack.{last_goes_on}
-use Rattle.t1_outline.specs.declared.parts.Component.TheVariants.{There}
+use Rattle.t1_outline.specs.declared.parts.SeacPart.TheVariants.{There}
 use Rattle.t1_outline.specs.Laws.Parts.{AccentsStandByTheirSidebearings, GlyphsWithoutSeacAreOnePart, NamesGlyph, SeacsDrawBaseAndAccent}
-use Rattle.t1_outline.specs.Parts.{accent_origin, component_at, component_named, metrics_in, metrics_of, part, seac_in, seac_of, sets_metrics, sidebearing_by}
+use Rattle.t1_outline.specs.Parts.{accent_origin, seac_part_at, seac_part_named, metrics_in, metrics_of, part, seac_in, seac_of, sets_metrics, sidebearing_by}
 use Rattle.t1_outline.specs.Private.Composing.{metrics_with, seac_with}
 use Rattle.t1_rules.specs.declared.step_rules.flex.Point.{Point}
 use Rattle.t1_rules.specs.Components.{glyph_named}
@@ -53,12 +53,12 @@ pub glyphs_without_seac_are_one_part : GlyphsWithoutSeacAreOnePart
 glyphs_without_seac_are_one_part font glyph steps none = rw (none_last steps none) refl
 
 -- What a code names that names a glyph.
-named_there : (font : FontValue) (code : Option ℕ) (glyph : ℕ) (point : Point) → NamesGlyph font code glyph → component_at font code point ≡ There (part glyph point)
+named_there : (font : FontValue) (code : Option ℕ) (glyph : ℕ) (point : Point) → NamesGlyph font code glyph → seac_part_at font code point ≡ There (part glyph point)
 named_there font code glyph point names =
     rw names.is_code (named (standard_name names.number) names.has_letters names.is_named)
   where
     named : (name : List ℕ) → (length name == 0) ≡ false → glyph_named font name ≡ Some glyph
-        → component_named font names.number point name ≡ There (part glyph point)
+        → seac_part_named font names.number point name ≡ There (part glyph point)
     named [] letters is = let no : true ≡ false = letters in cc
     named (c ∷ cs) letters is = rw is refl
 

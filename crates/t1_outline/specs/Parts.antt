@@ -1,6 +1,6 @@
 -- The parts of the picture of a glyph: the glyph itself, and base and accent of its seac, each with where its origin stands.
--- Type 1 Font Format 1.1, chapter 6 (seac, hsbw, sbw). That what isn't there draws nothing, and that ASB and the sidebearing have a say
--- in where the accent stands, is this project's own.
+-- Type 1 Font Format 1.1, chapter 6 (seac, hsbw, sbw). That what isn't there draws nothing, and that ASB and the sidebearing have a
+-- say in where the accent stands, is this project's own.
 use Rattle.std.specs.Prelude.{◌≡◌, ℕ, ◌+ℤ◌, ◌-ℤ◌, ◌<◌, if◌then◌else◌, Bool, Option, Some, None, List, [], ◌∷◌, ◌++◌, length}
 use Rattle.std.specs.List.{find}
 use Rattle.std.specs.Option.{option_map}
@@ -12,9 +12,9 @@ use Rattle.t1_font.specs.Fonts.{FontValue}
 use Rattle.t1_outline.specs.declared.composition.Composition.{Composition}
 use Rattle.t1_outline.specs.declared.composition.Metrics.{Metrics}
 use Rattle.t1_outline.specs.declared.composition.Seac.{Seac}
-use Rattle.t1_outline.specs.declared.parts.Component.{Component}
-use Rattle.t1_outline.specs.declared.parts.Component.TheVariants.{NoCode, NoGlyph, NoName, There}
-use Rattle.t1_outline.specs.declared.parts.Components.{Components}
+use Rattle.t1_outline.specs.declared.parts.SeacPart.{SeacPart}
+use Rattle.t1_outline.specs.declared.parts.SeacPart.TheVariants.{NoCode, NoGlyph, NoName, There}
+use Rattle.t1_outline.specs.declared.parts.SeacParts.{SeacParts}
 use Rattle.t1_outline.specs.declared.parts.Part.{Part}
 use Rattle.t1_rules.specs.declared.step_rules.flex.Point.{Point}
 use Rattle.t1_rules.specs.Components.{glyph_named}
@@ -23,8 +23,8 @@ use Rattle.t1_rules.specs.StepRules.Flex.{at, origin, point_set}
 use Rattle.t1_rules.specs.StepRules.Seac.{accent_code, accent_sidebearing, base_code}
 use Rattle.t1_rules.specs.StepRules.Tokens.{is_hsbw, sets_width}
 
--- What hsbw and sbw set: the left sidebearing point, which is the current point behind them, and the width. The arguments are SBX WX,
--- or SBX SBY WX WY.
+-- What hsbw and sbw set: the left sidebearing point, which is the current point behind them, and the width. The arguments are
+-- SBX WX, or SBX SBY WX WY.
 abbrev pub metrics_in : StepView → Metrics
 metrics_in step =
     record {
@@ -67,52 +67,52 @@ composition_of steps = record { metrics = metrics_of steps; seac = seac_of steps
 abbrev pub part : ℕ → Point → Part
 part glyph point = record { glyph = glyph; origin = point }
 
--- A code names the glyph that has the code's name in StandardEncoding. It names none where it is no code (K01), has no name (K02), or
--- no glyph has that name (K03).
-abbrev pub there_or_not : ℕ → Point → Option ℕ → Component
+-- A code names the glyph that has the code's name in StandardEncoding. It names none where it is no code (K01), has no name (K02),
+-- or no glyph has that name (K03).
+abbrev pub there_or_not : ℕ → Point → Option ℕ → SeacPart
 there_or_not code point None = NoGlyph code
 there_or_not code point (Some glyph) = There (part glyph point)
 
-abbrev pub component_named : FontValue → ℕ → Point → List ℕ → Component
-component_named font code point [] = NoName code
-component_named font code point (letter ∷ letters) = there_or_not code point (glyph_named font (letter ∷ letters))
+abbrev pub seac_part_named : FontValue → ℕ → Point → List ℕ → SeacPart
+seac_part_named font code point [] = NoName code
+seac_part_named font code point (letter ∷ letters) = there_or_not code point (glyph_named font (letter ∷ letters))
 
 -- What a code names, with its origin at a point.
-abbrev pub component_at : FontValue → Option ℕ → Point → Component
-component_at font None point = NoCode
-component_at font (Some code) point = component_named font code point (standard_name code)
+abbrev pub seac_part_at : FontValue → Option ℕ → Point → SeacPart
+seac_part_at font None point = NoCode
+seac_part_at font (Some code) point = seac_part_named font code point (standard_name code)
 
 -- The accent's origin is ADX less ASB behind the left sidebearing point, and at the height ADY.
 abbrev pub accent_origin : Point → Seac → Point
 accent_origin start seac = at (start.x +ℤ (seac.x -ℤ seac.sidebearing)) seac.y
 
 -- The base stands at the origin of the glyph.
-abbrev pub components_by : FontValue → Point → Option Seac → Option Components
-components_by font start None = None
-components_by font start (Some seac) =
+abbrev pub seac_parts_by : FontValue → Point → Option Seac → Option SeacParts
+seac_parts_by font start None = None
+seac_parts_by font start (Some seac) =
     Some (record {
-      base = component_at font seac.base origin;
-      accent = component_at font seac.accent (accent_origin start seac);
+      base = seac_part_at font seac.base origin;
+      accent = seac_part_at font seac.accent (accent_origin start seac);
     })
 
 -- Base and accent of a glyph; none without seac.
-abbrev pub components_in : FontValue → Composition → Option Components
-components_in font composition = components_by font (sidebearing_by composition.metrics) composition.seac
+abbrev pub seac_parts_in : FontValue → Composition → Option SeacParts
+seac_parts_in font composition = seac_parts_by font (sidebearing_by composition.metrics) composition.seac
 
 -- A component that isn't there is no part of the picture.
-abbrev pub part_of : Component → List Part
+abbrev pub part_of : SeacPart → List Part
 part_of (There p) = p ∷ []
 part_of _ = []
 
-abbrev pub parts_of_both : Option Components → List Part
+abbrev pub parts_of_both : Option SeacParts → List Part
 parts_of_both None = []
 parts_of_both (Some components) = part_of components.base ++ part_of components.accent
 
--- The parts of a glyph's picture: the glyph itself, its base and its accent. Each is drawn from its own steps; so a component has no
--- say in what else is drawn, and its own seac draws nothing.
+-- The parts of a glyph's picture: the glyph itself, its base and its accent. Each is drawn from its own steps; so a component has
+-- no say in what else is drawn, and its own seac draws nothing.
 abbrev pub parts_of : FontValue → ℕ → List StepView → List Part
-parts_of font glyph steps = part glyph origin ∷ parts_of_both (components_in font (composition_of steps))
+parts_of font glyph steps = part glyph origin ∷ parts_of_both (seac_parts_in font (composition_of steps))
 
 -- A component that is there is a glyph of the font.
-abbrev pub IsIn : FontValue → Component → Type 0
+abbrev pub IsIn : FontValue → SeacPart → Type 0
 IsIn font component = (p : Part) → component ≡ There p → p.glyph < length font.glyphs

@@ -3,12 +3,12 @@
 ghost use Rattle.std.specs.Prelude.{◌≡◌, ◌+ℤ◌, ◌-ℤ◌, IfSome, ℕ, List, [], ◌∷◌, ◌++◌};
 ghost use Rattle.t1_char.specs.Steps.{StepView};
 ghost use Rattle.t1_char.specs.StepValues.{step_view};
-ghost use Rattle.t1_outline.specs.Parts.{IsIn, accent_origin, components_in, composition_of, metrics_in, part, parts_of, parts_of_both, seac_in, sidebearing_by};
+ghost use Rattle.t1_outline.specs.Parts.{IsIn, accent_origin, seac_parts_in, composition_of, metrics_in, part, parts_of, parts_of_both, seac_in, sidebearing_by};
 ghost use Rattle.t1_outline.specs.Private.Composing.{metrics_with, seac_with};
 ghost use Rattle.t1_rules.specs.StepRules.Flex.{at, origin};
 ghost use Rattle.t1_rules.specs.Watches.{IsWithin, reach};
 
-use crate::parts::{Components, ORIGIN, component_at};
+use crate::parts::{ORIGIN, SeacParts, seac_part_at};
 use t1_char::{CharToken, Command, Step};
 use t1_font::Font;
 use t1_rules::{Point, accent_code, base_code, is_seac, sets_width};
@@ -78,10 +78,10 @@ impl Composition {
         }
     }
 
-    /// Base and accent of the seac, and where their origins stand; none without seac. Those that are there make a picture with the
-    /// glyph itself.
-    pub fn components(&self, font: &Font<'_>) -> Option<Components>
-        ensures value { result ≡ components_in font.now self.now }
+    /// Base and accent of the seac, and where their origins stand; none without seac. Those that are there make a picture with
+    /// the glyph itself.
+    pub fn seac_parts(&self, font: &Font<'_>) -> Option<SeacParts>
+        ensures value { result ≡ seac_parts_in font.now self.now }
         ensures parts { (glyph : ℕ) (steps : List StepView) → self.now ≡ composition_of steps →
             parts_of font.now glyph steps ≡ part glyph origin ∷ parts_of_both result }
         ensures base { IfSome result (λ components. IsIn font.now components.base) }
@@ -90,9 +90,9 @@ impl Composition {
         let Some(seac) = self.seac else {
             return None;
         };
-        Some(Components {
-            base: component_at(font, seac.base, ORIGIN),
-            accent: component_at(font, seac.accent, self.accent_origin(seac)),
+        Some(SeacParts {
+            base: seac_part_at(font, seac.base, ORIGIN),
+            accent: seac_part_at(font, seac.accent, self.accent_origin(seac)),
         })
     }
 

@@ -10,8 +10,8 @@
 //!
 //! - A line or a curve where no subpath is there, since no move came or the last one was closed, begins one at the current point.
 //! - A flex draws its two curves where the rules find no fault in it but its end's arguments (X05), and else nothing.
-//! - A seac draws no segments of its own: its components are glyphs, each with an outline of its own. [`Composition`] sees the steps of
-//!   a glyph too, and tells which glyphs these are, and where their origins stand.
+//! - A seac draws no segments of its own: its components are glyphs, each with an outline of its own. [`Composition`] sees the
+//!   steps of a glyph too, and tells which glyphs these are, and where their origins stand.
 //!
 //! What is promised, for all fonts:
 //!
@@ -44,6 +44,6 @@ pub use laws::{
     whole_flexes_are_drawn,
 };
 pub use outline::{Drawn, Outline};
-pub use parts::{Component, Components, ORIGIN, Part};
+pub use parts::{ORIGIN, Part, SeacPart, SeacParts};
 pub use pen::{DrawnStep, Pen};
 pub use segment::{Segment, Segments};

@@ -1,7 +1,7 @@
 //! Which glyphs a picture is made of, and where they stand: Type 1 Font Format 1.1, chapter 6 (seac).
 
 ghost use Rattle.std.specs.Prelude.{◌≡◌};
-ghost use Rattle.t1_outline.specs.Parts.{IsIn, component_at, component_named};
+ghost use Rattle.t1_outline.specs.Parts.{IsIn, seac_part_at, seac_part_named};
 
 use t1_font::Font;
 use t1_rules::{Point, glyph_named, standard_name};
@@ -20,7 +20,7 @@ pub struct Part {
 
 /// A component of a seac.
 #[derive(Clone, Copy, Debug, PartialEq, Eq)]
-pub enum Component {
+pub enum SeacPart {
     /// A glyph of the font.
     There(Part),
     /// K01: its code isn't a whole number from 0 to 255.
@@ -33,32 +33,32 @@ pub enum Component {
 
 /// The components of a seac.
 #[derive(Clone, Copy, Debug, PartialEq, Eq)]
-pub struct Components {
-    pub base: Component,
-    pub accent: Component,
+pub struct SeacParts {
+    pub base: SeacPart,
+    pub accent: SeacPart,
 }
 
 /// What a code names, with its origin at a point.
-pub(crate) fn component_at(font: &Font<'_>, code: Option<u8>, origin: Point) -> Component
-    ensures value { result ≡ component_at font.now code origin }
+pub(crate) fn seac_part_at(font: &Font<'_>, code: Option<u8>, origin: Point) -> SeacPart
+    ensures value { result ≡ seac_part_at font.now code origin }
     ensures within { IsIn font.now result }
 {
     match code {
-        Some(code) => component_named(font, code, standard_name(code), origin),
-        None => Component::NoCode,
+        Some(code) => seac_part_named(font, code, standard_name(code), origin),
+        None => SeacPart::NoCode,
     }
 }
 
 /// What a name names, given its code; nothing without letters.
-fn component_named(font: &Font<'_>, code: u8, name: &str, origin: Point) -> Component
-    ensures value { result ≡ component_named font.now code origin name.now }
+fn seac_part_named(font: &Font<'_>, code: u8, name: &str, origin: Point) -> SeacPart
+    ensures value { result ≡ seac_part_named font.now code origin name.now }
     ensures within { IsIn font.now result }
 {
     if name.is_empty() {
-        return Component::NoName(code);
+        return SeacPart::NoName(code);
     }
     match glyph_named(font, name.as_bytes()) {
-        Some(glyph) => Component::There(Part { glyph, origin }),
-        None => Component::NoGlyph(code),
+        Some(glyph) => SeacPart::There(Part { glyph, origin }),
+        None => SeacPart::NoGlyph(code),
     }
 }

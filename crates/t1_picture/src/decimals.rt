@@ -3,6 +3,7 @@
 ghost use Rattle.std.specs.Prelude.{◌<◌};
 
 use std::fmt;
+use t1_char::UNIT;
 use t1_rules::Point;
 
 /// How many decimal places 1/65536 has; 10^-9 has fewer.
@@ -26,7 +27,7 @@ pub(crate) struct Exact {
 
 /// The coordinates of a point, written with a blank between.
 #[derive(Clone, Copy, Debug, PartialEq, Eq)]
-pub(crate) struct Place(pub(crate) Point);
+pub(crate) struct Coordinates(pub(crate) Point);
 
 /// A coordinate, given in units of 1/65536.
 pub(crate) fn coordinate(number: i64) -> Exact {
@@ -50,7 +51,7 @@ impl Unit {
         ensures { 0 < result }
     {
         match self {
-            Unit::Coordinate => 65_536,
+            Unit::Coordinate => UNIT as u64,
             Unit::Value => 1_000_000_000,
         }
     }
@@ -69,7 +70,7 @@ impl fmt::Display for Exact {
     }
 }
 
-impl fmt::Display for Place {
+impl fmt::Display for Coordinates {
     fn fmt<W: fmt::Write>(&self, f: &mut fmt::Formatter<W>) -> fmt::Result {
         let x = coordinate(self.0.x);
         let y = coordinate(self.0.y);

@@ -14,7 +14,7 @@ use t1_rules::Point;
 
 /// A mark at a point: the numbers of faults that follow one another and stand there.
 #[derive(Clone, Copy, Debug, PartialEq, Eq)]
-pub(crate) struct Mark {
+pub(crate) struct FaultMark {
     pub(crate) point: Point,
     pub(crate) first: u64,
     pub(crate) last: u64,
@@ -23,7 +23,7 @@ pub(crate) struct Mark {
 /// The faults that are marked.
 #[derive(Drop)]
 pub(crate) struct Faults {
-    pub(crate) marks: Vec<Mark>,
+    pub(crate) marks: Vec<FaultMark>,
     /// Their lines, as t1check writes them, without ends.
     pub(crate) lines: Vec<String>,
 }
@@ -64,7 +64,7 @@ impl Faults {
                 return Ok(());
             }
         }
-        self.marks.push(Mark {
+        self.marks.push(FaultMark {
             point,
             first: number,
             last: number,

@@ -2,7 +2,7 @@
 
 use crate::bands::{Band, Direction};
 use crate::bounds::Bounds;
-use crate::decimals::{Place, coordinate};
+use crate::decimals::{Coordinates, coordinate};
 use crate::subpath::Subpath;
 use std::alloc::{AllocError, Global};
 use t1_char::Edition;
@@ -49,12 +49,12 @@ impl Layers {
     pub(crate) fn draw(&mut self, before: &Subpath, segment: Segment) -> Result<(), AllocError> {
         match segment {
             Segment::Move(to) => {
-                let place = Place(to);
+                let place = Coordinates(to);
                 writeln!(self.outline, "M{place}")?;
                 self.add_point(to)
             }
             Segment::Line(to) => {
-                let place = Place(to);
+                let place = Coordinates(to);
                 writeln!(self.outline, "L{place}")?;
                 self.add_point(to)
             }
@@ -70,9 +70,9 @@ impl Layers {
         second: Point,
         to: Point,
     ) -> Result<(), AllocError> {
-        let one = Place(first);
-        let two = Place(second);
-        let end = Place(to);
+        let one = Coordinates(first);
+        let two = Coordinates(second);
+        let end = Coordinates(to);
         writeln!(self.outline, "C{one} {two} {end}")?;
         write_stretch(&mut self.handles, from, first)?;
         write_stretch(&mut self.handles, second, to)?;
@@ -87,10 +87,10 @@ impl Layers {
             Segment::Move(_) => Ok(()),
             Segment::Line(to) => write_stretch(&mut self.stretch, before.end, to),
             Segment::Curve(first, second, to) => {
-                let start = Place(before.end);
-                let one = Place(first);
-                let two = Place(second);
-                let end = Place(to);
+                let start = Coordinates(before.end);
+                let one = Coordinates(first);
+                let two = Coordinates(second);
+                let end = Coordinates(to);
                 writeln!(self.stretch, "M{start}C{one} {two} {end}")
             }
             Segment::Close => write_stretch(&mut self.stretch, before.end, before.first),
@@ -131,8 +131,8 @@ impl Layers {
 
 /// Writes a straight stretch as data of a path.
 fn write_stretch(data: &mut String, from: Point, to: Point) -> Result<(), AllocError> {
-    let start = Place(from);
-    let end = Place(to);
+    let start = Coordinates(from);
+    let end = Coordinates(to);
     writeln!(data, "M{start}L{end}")
 }
 

@@ -14,7 +14,7 @@ use std::alloc::{AllocError, Global};
 use t1_char::{Edition, Step};
 use t1_font::Font;
 use t1_io::Out;
-use t1_outline::{Component, Composition, DrawnStep, ORIGIN, Part};
+use t1_outline::{Composition, DrawnStep, ORIGIN, Part, SeacPart};
 use t1_report::write_step;
 use t1_rules::standard_name;
 
@@ -67,7 +67,7 @@ impl Drawing {
             label: "",
         };
         drawing.composition = drawing.draw(alloc, &drawn)?;
-        if let Some(components) = drawing.composition.components(view.font) {
+        if let Some(components) = drawing.composition.seac_parts(view.font) {
             drawing.draw_component(alloc, view, "base", components.base)?;
             drawing.draw_component(alloc, view, "accent", components.accent)?;
         }
@@ -80,12 +80,12 @@ impl Drawing {
         alloc: Global,
         view: &View<'_>,
         called: &str,
-        component: Component,
+        component: SeacPart,
     ) -> Result<(), AllocError>
         requires { IsIn view.now.font.now component }
     {
         let part = match component {
-            Component::There(part) => part,
+            SeacPart::There(part) => part,
             missing => return self.miss(alloc, called, missing),
         };
         let name = legible(alloc, name_of(view.font, part.glyph))?;
@@ -107,16 +107,16 @@ impl Drawing {
     }
 
     /// Notes that a component isn't there.
-    fn miss(&mut self, alloc: Global, called: &str, missing: Component) -> Result<(), AllocError> {
+    fn miss(&mut self, alloc: Global, called: &str, missing: SeacPart) -> Result<(), AllocError> {
         let note = match missing {
-            Component::There(_) => return Ok(()),
-            Component::NoCode => {
+            SeacPart::There(_) => return Ok(()),
+            SeacPart::NoCode => {
                 format!(in alloc; "{called} isn't drawn: its code is not 0 to 255")?
             }
-            Component::NoName(code) => {
+            SeacPart::NoName(code) => {
                 format!(in alloc; "{called} {code} isn't drawn: not in StandardEncoding")?
             }
-            Component::NoGlyph(code) => {
+            SeacPart::NoGlyph(code) => {
                 let name = standard_name(code);
                 format!(in alloc; "{called} {name} isn't drawn: no such glyph")?
             }

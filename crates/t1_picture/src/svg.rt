@@ -4,7 +4,7 @@ ghost use Rattle.t1_picture.specs.Views.{CanBeDrawn};
 
 use crate::bands::write_zones;
 use crate::decimals::coordinate;
-use crate::faults::{Faults, Mark};
+use crate::faults::{FaultMark, Faults};
 use crate::frame::Frame;
 use crate::layers::{Layers, write_mark};
 use crate::legend::legend;
@@ -278,7 +278,7 @@ fn write_numbers(svg: &mut String, frame: &Frame, faults: &Faults) -> Result<(),
 }
 
 /// Writes the numbers of a mark: one, or the first and the last of them.
-fn write_number(svg: &mut String, frame: &Frame, mark: &Mark) -> Result<(), AllocError> {
+fn write_number(svg: &mut String, frame: &Frame, mark: &FaultMark) -> Result<(), AllocError> {
     let away = frame.units(MARK);
     let x = coordinate(mark.point.x.saturating_add(away));
     let y = coordinate(mark.point.y.saturating_add(away).wrapping_neg());

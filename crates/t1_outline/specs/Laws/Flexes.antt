@@ -9,8 +9,8 @@ use Rattle.t1_rules.specs.declared.step_rules.flex.Point.{Point}
 use Rattle.t1_rules.specs.StepRules.Paths.{in_flex}
 use Rattle.t1_rules.specs.StepRules.Tokens.{clears, is_move}
 
--- A step within a flex that says nothing of it: no command that takes arguments from the bottom of the stack, as a move does, and no
--- start, point or end.
+-- A step within a flex that says nothing of it: no command that takes arguments from the bottom of the stack, as a move does, and
+-- no start, point or end.
 pub record IsAside (step : StepView) : Type 0 where
   pub no_command : clears step.token ≡ false
   pub no_start : is_flex_start step ≡ false

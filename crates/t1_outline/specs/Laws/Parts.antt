@@ -25,8 +25,8 @@ pub record NamesGlyph (font : FontValue) (code : Option ℕ) (glyph : ℕ) : Typ
   pub has_letters : (length (standard_name number) == 0) ≡ false
   pub is_named : glyph_named font (standard_name number) ≡ Some glyph
 
--- Behind a seac whose codes name two glyphs it is made of these too: the base at the origin of the glyph, and the accent by the left
--- sidebearing point and what the seac says.
+-- Behind a seac whose codes name two glyphs it is made of these too: the base at the origin of the glyph, and the accent by the
+-- left sidebearing point and what the seac says.
 abbrev pub SeacsDrawBaseAndAccent : Type 0
 SeacsDrawBaseAndAccent =
     (font : FontValue) (glyph base accent : ℕ) (before : List StepView) (step : StepView) → step_is_seac step ≡ true →
