@@ -23,8 +23,8 @@ pub data TellsWhy (errors errors' : SinkState) (result : Status) : Type 0 where
   read_failed : Tells (codes "t1check: read failed\n") Failed errors errors' result → TellsWhy errors errors' result
   no_memory : Tells (codes "t1check: out of memory\n") Failed errors errors' result → TellsWhy errors errors' result
 
--- A picture was written whole, and flushed once, and nothing was told; a put or the flush failed, a beginning of it went out, and this
--- was told; or nothing was put on the output, and it was told why: so wherever the font or the waivers are refused.
+-- A picture was written whole, and flushed once, and nothing was told; a put or the flush failed, a beginning of it went out, and
+-- this was told; or nothing was put on the output, and it was told why: so wherever the font or the waivers are refused.
 pub data Draws (out out' errors errors' : SinkState) (status : Status) : Type 0 where
   drawn : (text : List ℕ) → Delivered out out' text → errors' ≡ errors → status ≡ Drawn → Draws out out' errors errors' status
   broken :

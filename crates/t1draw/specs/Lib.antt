@@ -1,3 +1,3 @@
 pub mod Ends
-pub mod Failures
+pub mod Private
 pub mod Statuses

@@ -2,7 +2,7 @@
 
 ghost use Rattle.std.specs.Prelude.{◌≡◌, ◌≤◌, IfOk, length};
 ghost use Rattle.t1draw.specs.Ends.{Draws, TellsWhy};
-ghost use Rattle.t1draw.specs.Failures.{failure_of_font, failure_of_waivers};
+ghost use Rattle.t1draw.specs.Private.Failures.{failure_of_font, failure_of_waivers};
 ghost use Rattle.t1draw.specs.declared.running.Failure.TheVariants.{Memory};
 
 use crate::command_line::Options;
