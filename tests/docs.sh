@@ -300,7 +300,7 @@ list_cases >"$scratch/list"
 compare_codes 'tests/program, cases of the rules and their fonts' codes <"$scratch/list"
 
 # Other files that have all rules.
-sed -n '/^## From a rule/,/^## t1_io/p' "$top/docs/ARCHITECTURE.md" >"$scratch/passage"
+sed -n '/^## From a rule/,$p' "$top/docs/ARCHITECTURE.md" >"$scratch/passage"
 (cd "$top" && find README.md bin completions crates docs man tests bench -name out -prune -o -type f -exec grep -lw U01 {} +) >"$scratch/files"
 while IFS= read -r file; do
     codes_in "$top/$file" | cmp -s - "$scratch/sorted" || continue
