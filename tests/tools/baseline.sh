@@ -13,6 +13,7 @@ try 'known faults that are missing' 3 "$all" --baseline known glyphs.pfb edge.pf
 wanted <<'END'
 --
 2 fonts: 2 clean, 0 with faults, 0 refused, 0 not checked
+known faults: 6 rows
 END
 try 'known faults are written' 0 "$all" --baseline known --update-baseline glyphs.pfb edge.pfb
 wanted <<'END'
