@@ -1,7 +1,6 @@
 //! The program's run: line by line.
 
-ghost use Rattle.std.specs.Prelude.{◌≡◌, ◌<◌, ◌++◌, ◌^◌, ℕ, List, true, Option, Some, IfOk, OnOk, IfSome, codes, length, option_map};
-ghost use Rattle.std.specs.Io.BufRead.{drop_through, first_piece};
+ghost use Rattle.std.specs.Prelude.{◌≡◌, ◌<◌, ◌^◌, ℕ, List, true, Some, IfOk, length, option_map};
 ghost use Rattle.t1_format.specs.Tellings.{told_value};
 ghost use Rattle.t1_io.specs.Devices.{Wrote};
 ghost use Rattle.t1format.specs.declared.command_line.Form.TheVariants.{JsonLines};
