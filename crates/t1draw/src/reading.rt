@@ -1,6 +1,6 @@
 //! Reading a file to its end, within a limit.
 
-ghost use Rattle.std.specs.Prelude.{◌≤◌, IfOk, length};
+ghost use Rattle.std.specs.Prelude.{◌≡◌, ◌≤◌, ◌<◌, IfOk, List, MatchResult, Some, length, ℕ};
 
 use std::alloc::Global;
 use std::io::{ErrorKind, Read};
@@ -22,7 +22,9 @@ pub fn read_all<R: Read + Drop>(
     source: R,
     most: usize,
 ) -> Result<Vec<u8>, Unreadable>
-    ensures { IfOk result (λ bytes. length bytes.items ≤ most) }
+    ensures most { IfOk result (λ bytes. length bytes.items ≤ most) }
+    ensures bytes { (text : List ℕ) → R.remaining source ≡ Some text → MatchResult result (λ bytes. bytes.items ≡ text)
+        (λ reason. reason ≡ Unreadable.TooLarge → most < length text) }
 {
     let mut bytes = Vec::new(alloc);
     let limit = (most as u64).saturating_add(1);

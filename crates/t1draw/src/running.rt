@@ -1,9 +1,9 @@
 //! A run: reads a font, and the waivers, and draws what the options ask for.
 
-ghost use Rattle.std.specs.Prelude.{◌≡◌, ◌≤◌, IfOk, length};
+ghost use Rattle.std.specs.Prelude.{◌≡◌, ◌≤◌, ◌<◌, IfOk, List, MatchResult, Some, length, ℕ};
 ghost use Rattle.t1draw.specs.Ends.{Draws, TellsWhy};
 ghost use Rattle.t1draw.specs.Private.Failures.{failure_of_font, failure_of_waivers};
-ghost use Rattle.t1draw.specs.declared.running.Failure.TheVariants.{Memory};
+ghost use Rattle.t1draw.specs.declared.running.Failure.TheVariants.{Memory, Refused};
 
 use crate::command_line::Options;
 use crate::reading::{Unreadable, read_all};
@@ -134,7 +134,9 @@ fn read<R: Read + Drop>(
     most: usize,
     past: RefusalCode,
 ) -> Result<Vec<u8>, Failure>
-    ensures { IfOk result (λ bytes. length bytes.items ≤ most) }
+    ensures most { IfOk result (λ bytes. length bytes.items ≤ most) }
+    ensures bytes { (text : List ℕ) → R.remaining source ≡ Some text → MatchResult result (λ bytes. bytes.items ≡ text)
+        (λ failure. failure ≡ Refused past → most < length text) }
 {
     match read_all(alloc, source, most) {
         Ok(bytes) => Ok(bytes),
