@@ -14,7 +14,7 @@
 #   docs/DEFINITIONS.md, or in the last one of a rule's row in docs/RULES.md; and each word that stands in the former is defined. Left out is
 #   what docs/DEFINITIONS.md leaves out: words of laws and of private functions, and types that the code declares. Public are all functions
 #   of the program, and of a library those of the modules of which it hands on more than a constant. The words of private functions stand in
-#   specs/Private, and no definition elsewhere rests on them.
+#   specs/Private, and no definition elsewhere rests on them; there the relations of watchers and pens stand in Standing, with nothing else.
 # - The README's lines for an editor are lines of crates/example.
 # - Each link between the pages leads to a file, and to a heading where it names one. Each file of crates/, docs/ and tests/ that a page
 #   names is there.
@@ -359,7 +359,7 @@ list_cited() {
             if ($0 !~ /;$/) next
             bringing = 0
             if (using !~ /use Rattle\.t1[a-z_]*\.specs\./ ||
-                using ~ /specs\.(declared|Laws)\./) next
+                using ~ /specs\.(declared|Laws|Private\.Standing)\./) next
             sub(/^.*specs\.[A-Za-z.]*[{]?/, "", using)
             sub(/[}]?;$/, "", using)
             count = split(using, names, /, */)
@@ -416,12 +416,21 @@ while read -r word; do
     fi
 done <"$scratch/defining"
 
-# No definition outside specs/Private rests on a word of it, and so no clause of a public function does by another word.
-grep -l 'specs\.Private\.' "$top"/crates/*/specs/*.antt "$top"/crates/*/specs/[!P]*/*.antt >"$scratch/resting"
-while IFS= read -r file; do
-    fail "${file#"$top"/}: rests on a word of specs/Private"
+# No definition outside specs/Private rests on a word of it, and so no clause of a public function does by another word; but for the
+# relations of watchers and pens, which stand in Standing, by their names and alone.
+grep 'specs\.Private\.' "$top"/crates/*/specs/*.antt "$top"/crates/*/specs/[!P]*/*.antt | grep -v 'specs\.Private\.Standing\.' >"$scratch/resting"
+while IFS= read -r line; do
+    fail "${line#"$top"/}: rests on a word of specs/Private"
 done <"$scratch/resting"
 [ -s "$scratch/resting" ] || pass
+cat "$top"/crates/*/specs/Private/Standing.antt | sed -n 's/^\([a-z][a-z]* \)\{0,1\}pub \(record \)\{0,1\}\([A-Za-z_]*\).*/\3/p' >"$scratch/relations"
+while IFS= read -r word; do
+    case $word in
+        *StandFor | *StandsFor | StandsForAny) pass ;;
+        *) fail "specs/Private/Standing: $word is no relation of a watcher or a pen" ;;
+    esac
+done <"$scratch/relations"
+[ "$(wc -l <"$scratch/relations")" -eq 8 ] || fail "the relations of watchers and pens aren't read"
 
 # The README's lines for an editor stand in the example.
 sed -n '/^## In an editor$/,/^## /s/^    //p' "$top/README.md" >"$scratch/editor"

@@ -193,7 +193,7 @@ fn hand_over(stack: &mut Stack, waiting: &mut Waiting, number: Option<u32>, coun
     waiting.clear();
     let numbers = stack.as_slice();
     let results = results(number, &numbers[numbers.len() - count..]);
-    // They fit: the stack held no more, but for the count and the number.
+    // This can't fail: the stack held no more, but for the count and the number.
     let _fits = waiting.try_extend_from_slice(results);
     stack.take_off(count);
 }

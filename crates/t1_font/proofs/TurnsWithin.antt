@@ -15,7 +15,7 @@ use Rattle.t1_font.specs.Readings.{◌>>=◌}
 use Rattle.t1_font.specs.Keys.{same_name, private_key, clear_key}
 use Rattle.t1_font.specs.Tokens.{wanted, token_ahead, natural, whole, whole_up_to, is_number_kind, is_name_kind, name_of, spells, past_word, charstring_at, ◌>?◌}
 use Rattle.t1_font.specs.Fonts.{Stated, FontValue, plain, encoding, code, bad_code, size, subr, glyph}
-use Rattle.t1_font.specs.TextTurns.{TextTurn, over, goes}
+use Rattle.t1_font.specs.TextTurns.{TextTurn, goes}
 use Rattle.t1_font.specs.ClearText.{clear_value, array_at, encoding_at, encoding_turn, clear_outside, code_statement, code_at, code_turn, code_token, clear_turn, begins}
 use Rattle.t1_font.specs.PrivateText.{has_key, private_value, subrs_at, subrs_turn, glyphs_at, private_outside, subr_at, dup_turn, subrs_token, glyph_turn, glyphs_token, private_turn}
 use Rattle.t1_font.specs.Private.Room.{HasRoom, HasRoomFor}

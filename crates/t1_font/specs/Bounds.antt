@@ -1,5 +1,5 @@
 -- How many codes an Encoding has (Type 1 Font Format 1.1, chapter 2), and this project's own limits: how many Subrs and
--- glyphs a font states at most, how many bytes a charstring has, and the greatest lenIV.
+-- glyphs a font states at most, how many bytes a charstring has, how many numbers of a list are kept, and the greatest lenIV.
 use Rattle.std.specs.Prelude.{ℕ}
 
 abbrev pub code_count : ℕ
@@ -13,6 +13,9 @@ most_glyphs = 65535
 
 abbrev pub longest_charstring : ℕ
 longest_charstring = 65535
+
+abbrev pub kept_numbers : ℕ
+kept_numbers = 16
 
 abbrev pub greatest_len_iv : ℕ
 greatest_len_iv = 64

@@ -57,6 +57,9 @@ index_of StdVw = 15
 index_of StemSnapH = 16
 index_of StemSnapV = 17
 
--- All places, in order.
+-- How many plain keys there are, and all places, in order.
+abbrev pub plain_keys : ℕ
+plain_keys = 18
+
 abbrev pub key_places : List ℕ
 key_places = 0 ∷ 1 ∷ 2 ∷ 3 ∷ 4 ∷ 5 ∷ 6 ∷ 7 ∷ 8 ∷ 9 ∷ 10 ∷ 11 ∷ 12 ∷ 13 ∷ 14 ∷ 15 ∷ 16 ∷ 17 ∷ []

@@ -5,6 +5,7 @@ use Rattle.t1_scan.specs.declared.token.Kind.{Kind}
 use Rattle.t1_scan.specs.declared.token.Kind.TheVariants.{Number, Name, Word, Text, Proc, Array}
 use Rattle.t1_scan.specs.Texts.{Lexeme}
 use Rattle.t1_font.specs.Tokens.{token_at, inside_of}
+use Rattle.t1_font.specs.Bounds.{kept_numbers}
 
 -- What a key has; numbers are counted in billionths.
 pub data Value : Type 0 where
@@ -51,7 +52,7 @@ numbers_of s = numbers_within (suc (length s)) s
 -- The value of a list, where so many numbers were passed, and these of them kept.
 abbrev pub list_after : ℕ → List ℤ → Option (List ℤ) → Value
 list_after count first None = other
-list_after count first (Some zs) = numbers (count + length zs) (take 16 (first ++ zs))
+list_after count first (Some zs) = numbers (count + length zs) (take kept_numbers (first ++ zs))
 
 unfoldable pub list_value : List ℕ → Value
 list_value inside = list_after 0 [] (numbers_of inside)

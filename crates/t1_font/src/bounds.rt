@@ -12,5 +12,8 @@ pub const MOST_GLYPHS: u32 = 65_535;
 /// A charstring has at most so many bytes.
 pub const LONGEST_CHARSTRING: u32 = 65_535;
 
+/// Of the numbers of an array or a procedure so many are kept, the first.
+pub const KEPT_NUMBERS: usize = 16;
+
 /// The greatest lenIV.
 pub const GREATEST_LEN_IV: u32 = 64;

@@ -9,7 +9,7 @@ pub fn copy_of<T: Copy + Default, const N: usize>(items: &ArrayVec<T, N>) -> Arr
     ensures { result.items ≡ items.now.items }
 {
     let mut copy = ArrayVec::new();
-    // They fit, since the copy has the room of the list.
+    // This can't fail: the copy has the room of the list.
     let _fits = copy.try_extend_from_slice(items.as_slice());
     copy
 }

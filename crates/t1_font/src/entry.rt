@@ -1,19 +1,17 @@
 //! Plain values: Type 1 Font Format 1.1, chapters 2 and 5.
 
 ghost use Rattle.std.specs.Prelude.{◌≡◌, ◌++◌, ◌∷◌, ◌≤◌, [], false, length, take};
+ghost use Rattle.t1_font.specs.Bounds.{kept_numbers};
 ghost use Rattle.t1_font.specs.Entries.{entry_view};
 ghost use Rattle.t1_font.specs.Private.Items.{item_view};
 ghost use Rattle.t1_font.specs.LenIv.{len_iv_of};
 ghost use Rattle.t1_font.specs.Values.{item_at, item_of, list_value, value_of_token};
 
-use crate::bounds::GREATEST_LEN_IV;
+use crate::bounds::{GREATEST_LEN_IV, KEPT_NUMBERS};
 use crate::copies::copy_of;
 use crate::tokens::{BILLION, first, inside};
 use arrayvec::ArrayVec;
 use t1_scan::Kind;
-
-/// How many numbers of a list are kept.
-const KEPT: usize = 16;
 
 /// How many random bytes stand in front of each charstring, unless the font says so.
 const DEFAULT_LEN_IV: i8 = 4;
@@ -24,10 +22,10 @@ pub enum Entry {
     /// The key isn't there.
     Absent,
     Number(i64),
-    /// The numbers of an array or a procedure: how many there are, and the first 16.
+    /// The numbers of an array or a procedure: how many there are, and the first 16 of them.
     Numbers {
         count: usize,
-        first: ArrayVec<i64, 16>,
+        first: ArrayVec<i64, KEPT_NUMBERS>,
     },
     /// Anything else.
     Other,
@@ -99,11 +97,11 @@ fn first_item(text: &[u8]) -> Item<'_>
 }
 
 /// Keeps a number where there is room.
-fn keep(first: &mut ArrayVec<i64, 16>, number: i64)
-    requires { length first.old.items ≤ 16 }
-    ensures { first.new.items ≡ take 16 (first.old.items ++ number ∷ []) }
+fn keep(first: &mut ArrayVec<i64, KEPT_NUMBERS>, number: i64)
+    requires { length first.old.items ≤ kept_numbers }
+    ensures { first.new.items ≡ take kept_numbers (first.old.items ++ number ∷ []) }
 {
-    if first.len() < KEPT {
+    if first.len() < KEPT_NUMBERS {
         first.push(number);
     }
 }

@@ -1,7 +1,7 @@
 //! The plain keys of a font: Type 1 Font Format 1.1, chapters 2 and 5.
 
 ghost use Rattle.std.specs.Prelude.{◌≡◌, ◌<◌};
-ghost use Rattle.t1_font.specs.Keys.{clear_key, index_of, private_key};
+ghost use Rattle.t1_font.specs.Keys.{clear_key, index_of, plain_keys, private_key};
 
 /// A key with a plain value: three of the clear text, and then those of the Private dictionary.
 #[derive(Clone, Copy, Debug, PartialEq, Eq)]
@@ -31,7 +31,7 @@ impl Key {
     /// The place of a key among them.
     pub(crate) fn place(self) -> usize
         ensures place { result ≡ index_of self }
-        ensures bound { result < 18 }
+        ensures bound { result < plain_keys }
     {
         self as usize
     }

@@ -43,7 +43,7 @@ mod tokens;
 mod unread;
 mod value_laws;
 
-pub use bounds::{CODES, LONGEST_CHARSTRING, MOST_GLYPHS, MOST_SUBRS};
+pub use bounds::{CODES, KEPT_NUMBERS, LONGEST_CHARSTRING, MOST_GLYPHS, MOST_SUBRS};
 pub use clear::{Clear, read_clear, read_font};
 pub use copies::copy_of;
 pub use encoding::Encoding;

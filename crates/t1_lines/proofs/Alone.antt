@@ -25,9 +25,6 @@ or-true : (b : Bool) → (b || true) ≡ true
 or-true true = refl
 or-true false = refl
 
-or-any : (b x : Bool) → x ≡ true → (b || x) ≡ true
-or-any b x is = rw is (or-true b)
-
 and-false : (b : Bool) → (b && false) ≡ false
 and-false true = refl
 and-false false = refl

@@ -1,5 +1,5 @@
 -- The names of keys and the codes of rules, read back.
-use Rattle.std.proofs.Common.{◌≡◌, ◌+◌, ◌<◌, ◌≤◌, ℕ, zero, suc, true, false, if◌then◌else◌, List, [], ◌∷◌, drop, length, refl, sym, subst, ◌∙◌, inl, inr, arith, Some, slice_index_or, add-one}
+use Rattle.std.proofs.Common.{◌≡◌, ◌+◌, ◌<◌, ℕ, zero, suc, true, false, if◌then◌else◌, List, [], ◌∷◌, drop, length, refl, sym, subst, ◌∙◌, inl, inr, arith, Some, slice_index_or, add-one}
 use Rattle.std.proofs.lemmas.Bool.{cases_Bool}
 use Rattle.t1_rules.specs.Keys.{key_text_of, key_texts, key_count}
 use Rattle.t1_rules.specs.declared.rule.Rule.{Rule}

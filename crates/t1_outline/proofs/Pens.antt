@@ -7,7 +7,7 @@ use Rattle.t1_outline.specs.declared.flex_run.FlexRun.{FlexRun}
 use Rattle.t1_outline.specs.declared.segment.Segment.{Segment}
 use Rattle.t1_outline.specs.declared.segment.Segment.TheVariants.{Move}
 use Rattle.t1_outline.specs.Outlines.{draws_flex, drawn, drawn_by, flex_curves, flex_places, has_subpath, is_spoiled, makes_subpath, stroke}
-use Rattle.t1_outline.specs.Pens.{FlexRunStandsFor}
+use Rattle.t1_outline.specs.Private.Standing.{FlexRunStandsFor}
 use Rattle.t1_outline.specs.Private.Drawing.{drawn_in, makes_subpath_in, places_kept, spoils}
 use Rattle.t1_outline.proofs.Flexes.{curves_kept, kept_is, places_go_on, spoiled_goes_on, spoils_is}
 use Rattle.t1_rules.specs.declared.mask.Mask.{Mask}

@@ -2,5 +2,4 @@ pub mod DrawnValues
 pub mod Laws
 pub mod Outlines
 pub mod Parts
-pub mod Pens
 pub mod Private

@@ -1,4 +1,6 @@
--- Words that private contracts alone cite: no clause of a public function rests on them.
+-- Words that private contracts alone cite, and the relation of a pen (Standing): what clauses of public functions say by it is
+-- that there is such a relation.
 pub mod Composing
 pub mod Drawing
 pub mod Outlining
+pub mod Standing

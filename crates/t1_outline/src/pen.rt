@@ -5,7 +5,7 @@ ghost use Rattle.t1_char.specs.declared.edition.Edition.{Edition as Editions};
 ghost use Rattle.t1_char.specs.Steps.{StepView};
 ghost use Rattle.t1_char.specs.StepValues.{step_view};
 ghost use Rattle.t1_outline.specs.Outlines.{drawn, drawn_by, stroke};
-ghost use Rattle.t1_outline.specs.Pens.{PenStandsFor};
+ghost use Rattle.t1_outline.specs.Private.Standing.{PenStandsFor};
 ghost use Rattle.t1_outline.specs.Private.Drawing.{drawn_in, ends_whole, makes_subpath_in, moves_outside};
 ghost use Rattle.t1_rules.specs.StepRules.Flex.{current_point};
 ghost use Rattle.t1_rules.specs.StepRules.Paths.{in_flex, is_open, leaves_open};

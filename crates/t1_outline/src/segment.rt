@@ -50,7 +50,7 @@ pub(crate) fn with_opening(there: bool, start: Point, strokes: &[Segment]) -> Se
     if !there {
         segments.push(Segment::Move(start));
     }
-    // They fit: there is room for a move and two curves.
+    // This can't fail: there is room for a move and two curves.
     let _fits = segments.try_extend_from_slice(strokes);
     segments
 }

@@ -1,4 +1,5 @@
 -- What a walk has in hand: the next of its rules, the next place, and that there is none.
+use Rattle.t1_io.specs.Devices.{one_more}
 use Rattle.std.proofs.Common.{◌≡◌, ◌⊎◌, ℕ, suc, ◌+◌, ◌-◌, ◌*◌, ◌<◌, ◌≤◌, inl, inr, true, false, true≢false, List, length, refl, sym, ap, subst, ◌∙◌, arith, cond}
 use Rattle.std.proofs.lemmas.Bool.{cases_lt, eq-eqb, le-leb, lt-leb, ne_eqb}
 use Rattle.t1_report.specs.Private.Units.{executed}
@@ -18,7 +19,7 @@ use Rattle.t1_report.specs.Faults.{FaultValue, fault_value}
 use Rattle.t1_report.specs.Reports.{Comes, Place, path_in, IsTold, is_told, spot, spot_of}
 use Rattle.t1_report.specs.Private.Searches.{Aim, HasNoneFrom, IsDone, aim_of, checked_in, IsFirstPlace, IsFirstTold, IsFrom, IsPart, IsSearch, TellsNoneFrom, step_of_part, turns_in}
 use Rattle.t1_report.specs.UnitFaults.{HasNoneLaterInUnit, IsNextInUnit, turns_of_whole}
-use Rattle.t1_report.specs.Walks.{HasNoneLater, IsLater, IsNext, mark_of, number_behind, turns_at, turns_before, turns_asked, turns_in_all, turns_of_unit}
+use Rattle.t1_report.specs.Walks.{HasNoneLater, IsLater, IsNext, mark_of, turns_at, turns_before, turns_asked, turns_in_all, turns_of_unit}
 use Rattle.t1_report.proofs.Fronts.{comes_on}
 use Rattle.t1_report.proofs.Units.{few_steps, turns_none}
 use Rattle.t1_report.specs.Waivers.{Waiver}
@@ -85,7 +86,7 @@ value n u t r path = record { number = n; unit = u; step = t; rule = r; path = p
 
 next_value : (s : Search) (found : Found) (mark : Mark) (floor : ℕ) (rule : Rule) → HasInHand s found mark → IsFloor mark found.unit found.step floor
     → IsLeastAbove found.rules floor rule
-    → IsNext (checked_in s) s.waivers.now mark (value (number_behind mark.number) found.unit found.step rule found.path.items)
+    → IsNext (checked_in s) s.waivers.now mark (value (one_more mark.number) found.unit found.step rule found.path.items)
 next_value s found mark floor rule hand is_floor least =
     record {
       violation = record { violated = hand.broken (number_of rule) least.is_in; path = hand.path (number_of rule) least.is_in };
@@ -96,13 +97,13 @@ next_value s found mark floor rule hand is_floor least =
 
 -- The fault of the next rule in hand is the next one, and its mark leaves the rest.
 pub record IsFaultOf (found : Found) (mark : Mark) (rule : Rule) (fault : Fault) : Type 0 where
-  pub number_is : fault.number ≡ number_behind mark.number
+  pub number_is : fault.number ≡ one_more mark.number
   pub unit_is : fault.unit ≡ found.unit
   pub step_is : fault.step ≡ found.step
   pub rule_is : fault.rule ≡ rule
   pub path_is : fault.path.items ≡ found.path.items
 
-value_is : (found : Found) (mark : Mark) (rule : Rule) (fault : Fault) → IsFaultOf found mark rule fault → value (number_behind mark.number) found.unit
+value_is : (found : Found) (mark : Mark) (rule : Rule) (fault : Fault) → IsFaultOf found mark rule fault → value (one_more mark.number) found.unit
     found.step rule found.path.items ≡ fault_value fault
 value_is found mark rule fault is =
     ap (λ n. value n found.unit found.step rule found.path.items) (sym is.number_is)

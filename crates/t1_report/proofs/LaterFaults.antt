@@ -11,7 +11,7 @@ use Rattle.t1_report.specs.Reports.{IsReport, IsReportOf, Place, path_at, IsTold
 use Rattle.t1_report.specs.Walks.{AreLater, AreLaterOf, IsSoFar, first_mark, mark_of}
 use Rattle.t1_report.proofs.FewFaults.{few_faults}
 use Rattle.t1_report.proofs.HasReport.{has_report}
-use Rattle.t1_report.proofs.SoFar.{has_none_later, is_next, next_in_font, next_is, none_left, one_more, one_more_in_font, so_far_at, so_far_start}
+use Rattle.t1_report.proofs.SoFar.{has_none_later, is_next, next_in_font, next_is, none_left, one_fault_more, one_more_in_font, so_far_at, so_far_start}
 use Rattle.t1_report.specs.Waivers.{Waiver}
 
 drop_next : (faults : List FaultValue) (k : ℕ) (fault : FaultValue) → slice_get faults k ≡ Some fault → drop k faults ≡ fault ∷ drop (k + 1) faults
@@ -30,7 +30,7 @@ module _ (Violated : Place → Type 0) (path_of : Place → List ℕ) where
   later_are faults k mark (fault ∷ rest) few report so_far (next, later) =
       let is = (next_is Violated path_of faults k mark fault few report so_far next).1 in
       ap (λ (fs : List FaultValue). fault ∷ fs)
-      (later_are faults (k + 1) (mark_of fault) rest few report (one_more Violated path_of faults k mark fault few report so_far next) later)
+      (later_are faults (k + 1) (mark_of fault) rest few report (one_fault_more Violated path_of faults k mark fault few report so_far next) later)
       ∙ sym (drop_next faults k fault is)
 
   later_from : (left : ℕ) (faults : List FaultValue) (k : ℕ) (mark : Mark) → k + left ≡ length faults → length faults < 2 ^ 64

@@ -26,7 +26,8 @@ use Rattle.t1_rules.specs.declared.watches.Watches.{Watches}
 use Rattle.t1_rules.specs.Book.{number_of}
 use Rattle.t1_rules.specs.Components.{components_of}
 use Rattle.t1_rules.specs.StepRules.{StepRule, breaks, breaks_next, component_rules}
-use Rattle.t1_rules.specs.Watches.{IsCalm, WatchesStandFor}
+use Rattle.t1_rules.specs.Private.Standing.{WatchesStandFor}
+use Rattle.t1_rules.specs.Watches.{IsCalm}
 use Rattle.t1_rules.specs.StepRules.Stems.{popping}
 use Rattle.t1_rules.proofs.Lemmas.Before.{was_last}
 use Rattle.t1_rules.proofs.Lemmas.PassedNumbers.{kept}

@@ -1,4 +1,5 @@
 -- How far a report was given: the next fault, the mark behind it, and the end.
+use Rattle.t1_io.specs.Devices.{one_more}
 use Rattle.std.proofs.Common.{◌≡◌, ℕ, ◌+◌, ◌-◌, ◌^◌, length-take, length-drop, ◌<◌, ◌≤◌, ◌⊎◌, inl, inr, List, length, slice_get, slice_index_or, Some, refl, sym, ap, subst, ◌∙◌, arith}
 use Rattle.std.proofs.lemmas.Bool.{cases_lt, cases_order}
 use Rattle.std.proofs.lemmas.List.{get_or-drop, get_or-take}
@@ -11,7 +12,7 @@ use Rattle.t1_rules.proofs.Lemmas.Book.{in_book}
 use Rattle.t1_report.specs.declared.marks.Mark.{Mark}
 use Rattle.t1_report.specs.Faults.{FaultValue}
 use Rattle.t1_report.specs.Reports.{AreNumbered, Comes, IsBefore, IsReport, IsReportOf, IsRising, IsViolationOf, Place, StandsAt, path_at, place_of, IsTold, spot}
-use Rattle.t1_report.specs.Walks.{HasNoneLater, HasNoneLaterOf, IsLater, IsNext, IsNextOf, IsSoFar, first_mark, mark_of, number_behind}
+use Rattle.t1_report.specs.Walks.{HasNoneLater, HasNoneLaterOf, IsLater, IsNext, IsNextOf, IsSoFar, first_mark, mark_of}
 use Rattle.t1_report.proofs.FewFaults.{few_faults}
 use Rattle.t1_report.proofs.Numbered.{number_there}
 use Rattle.t1_report.proofs.OneReport.{both, itself, same_fault}
@@ -102,8 +103,8 @@ so_far_at faults k fault rising numbered is =
 
 -- ---- the next fault
 
-number_next : (number mark k count : ℕ) → number ≡ number_behind mark → mark ≡ k → k < count → count < 2 ^ 64 → number ≡ k + 1
-number_next number mark k count is at less few = is ∙ ap number_behind at ∙ min-eq_left (omega arith)
+number_next : (number mark k count : ℕ) → number ≡ one_more mark → mark ≡ k → k < count → count < 2 ^ 64 → number ≡ k + 1
+number_next number mark k count is at less few = is ∙ ap one_more at ∙ min-eq_left (omega arith)
 
 -- what comes after the mark isn't among the given
 not_given : (faults : List FaultValue) (k : ℕ) (mark : Mark) → IsSoFar faults k mark → (j : ℕ) (x : FaultValue) → slice_index_or faults j x ≡ x
@@ -160,9 +161,9 @@ module _ (Violated : Place → Type 0) (path_of : Place → List ℕ) where
   next_is faults k mark fault few report so_far next =
       found_next faults k mark fault report so_far next few (report.complete (place_of fault) next.violation.violated)
 
-  pub one_more : (faults : List FaultValue) (k : ℕ) (mark : Mark) (fault : FaultValue) → length faults < 2 ^ 64 → IsReportOf Violated path_of faults
+  pub one_fault_more : (faults : List FaultValue) (k : ℕ) (mark : Mark) (fault : FaultValue) → length faults < 2 ^ 64 → IsReportOf Violated path_of faults
       → IsSoFar faults k mark → IsNextOf Violated path_of mark fault → IsSoFar faults (k + 1) (mark_of fault)
-  one_more faults k mark fault few report so_far next =
+  one_fault_more faults k mark fault few report so_far next =
       so_far_at faults k fault report.rising report.numbered (next_is faults k mark fault few report so_far next).1
 
   -- the fault behind the first k is the next one
@@ -190,7 +191,7 @@ module _ (Violated : Place → Type 0) (path_of : Place → List ℕ) where
         later = subst (λ (f : FaultValue). IsLater mark (place_of f)) here (coming_at faults k mark so_far k fault (omega arith) within);
         first = λ p violated later. next_at faults k mark fault report so_far is p later (report.complete p violated);
         number = number_at faults k fault report.numbered is
-            ∙ sym (number_next (number_behind mark.number) mark.number k (length faults) refl so_far.number within few);
+            ∙ sym (number_next (one_more mark.number) mark.number k (length faults) refl so_far.number within few);
       }
 
   none_later : (faults : List FaultValue) (k : ℕ) (mark : Mark) → IsSoFar faults k mark → length faults ≤ k → (p : Place) → IsLater mark p
@@ -226,7 +227,7 @@ next_in_font font waivers faults k mark fault few few_waivers report = next_is (
 pub one_more_in_font : (font : CheckedFont) (waivers : List Waiver) (faults : List FaultValue) (k : ℕ) (mark : Mark) (fault : FaultValue)
     → length font.value.glyphs ≤ 65535 → length waivers ≤ 1048576 → IsReport font waivers faults
     → IsSoFar faults k mark → IsNext font waivers mark fault → IsSoFar faults (k + 1) (mark_of fault)
-one_more_in_font font waivers faults k mark fault few few_waivers report = one_more (IsTold font waivers) (path_at font) faults k mark fault
+one_more_in_font font waivers faults k mark fault few few_waivers report = one_fault_more (IsTold font waivers) (path_at font) faults k mark fault
     (few_faults font waivers faults few few_waivers report) report
 
 pub none_left_in_font : (font : CheckedFont) (waivers : List Waiver) (faults : List FaultValue) (k : ℕ) (mark : Mark) → IsReport font waivers faults

@@ -16,7 +16,7 @@ use Rattle.t1_report.specs.Walks.{IsLater, IsSoFar}
 use Rattle.t1_report.proofs.FewFaults.{few_faults}
 use Rattle.t1_report.proofs.LaterFaults.{rest_is}
 use Rattle.t1_report.proofs.Numbered.{numbered_head, numbered_tail}
-use Rattle.t1_report.proofs.SoFar.{next_is, none_left, one_more, so_far_by_places}
+use Rattle.t1_report.proofs.SoFar.{next_is, none_left, one_fault_more, so_far_by_places}
 use Rattle.t1_report.proofs.WaivedFaults.{any_left}
 
 -- ---- numbered anew
@@ -168,7 +168,7 @@ marks_of_unit_go_on_counting font waivers unit faults given k mark fault few few
     let count = few_of_unit font waivers unit faults given (few_faults font waivers faults few few_waivers report) are in
     let own = is_report font waivers unit faults given report are in (
       (next_is (IsToldOf font waivers unit) (path_at font) given k mark fault count own so_far next).1,
-      one_more (IsToldOf font waivers unit) (path_at font) given k mark fault count own so_far next,
+      one_fault_more (IsToldOf font waivers unit) (path_at font) given k mark fault count own so_far next,
     )
 
 pub all_of_unit_are_given_at_last : AllOfUnitAreGivenAtLast

@@ -1,8 +1,8 @@
 -- Waivers: a glyph's name and a rule that isn't told of that glyph; and the text that they are read from.
 use Rattle.std.specs.Prelude.{ℕ, ◌-◌, ◌==◌, ◌&&◌, nat_le, if◌then◌else◌, Bool, Option, None, Some, List, [], ◌∷◌, ◌++◌, drop, length, option_and_then, option_map, take}
-use Rattle.std.specs.List.{list_any, prefix_len}
+use Rattle.std.specs.List.{list_any}
 use Rattle.t1_font.specs.Keys.{same_name}
-use Rattle.t1_scan.specs.Bytes.{is_regular}
+use Rattle.t1_scan.specs.Lengths.{run_len}
 use Rattle.t1_rules.specs.declared.rule.Rule.{Rule}
 use Rattle.t1_rules.specs.declared.rule.Rule.TheVariants.{C01, L01}
 use Rattle.t1_rules.specs.Book.{number_of, rule_coded}
@@ -48,7 +48,7 @@ waiver_at name (b ∷ code) = if b == 32 then waiver_by name (rule_coded code) e
 
 -- A name of regular bytes, byte 32, and the code of a rule.
 abbrev pub waiver_of : List ℕ → Option Waiver
-waiver_of text = waiver_at (take (prefix_len is_regular text) text) (drop (prefix_len is_regular text) text)
+waiver_of text = waiver_at (take (run_len text) text) (drop (run_len text) text)
 
 -- The waivers behind a line, without byte 13 at its end; an empty one says nothing.
 abbrev pub text_read : List Waiver → List ℕ → Option (List Waiver)

@@ -1,5 +1,6 @@
 -- A report that is given one fault at a time, from a mark on.
-use Rattle.std.specs.Prelude.{◌≡◌, ℕ, zero, suc, ◌+◌, ◌-◌, ◌^◌, ◌≤◌, ◌⊎◌, min, List, [], ◌∷◌, drop, length, take, ◌==◌, nat_lt, if◌then◌else◌, Option, Some, None, slice_range}
+use Rattle.std.specs.Prelude.{◌≡◌, ℕ, zero, suc, ◌+◌, ◌-◌, ◌≤◌, ◌⊎◌, List, [], ◌∷◌, drop, length, take, ◌==◌, nat_lt, if◌then◌else◌, Option, Some, None, slice_range}
+use Rattle.t1_io.specs.Devices.{one_more}
 use Rattle.t1_char.specs.Steps.{steps_of}
 use Rattle.t1_rules.specs.Book.{number_of}
 use Rattle.t1_report.specs.declared.marks.Mark.{Mark}
@@ -23,17 +24,13 @@ abbrev pub mark_of : FaultValue → Mark
 mark_of fault =
     record { number = fault.number; unit = fault.unit; step = fault.step; rule = number_of fault.rule }
 
--- The number behind one; numbers stay at the greatest of 64 bits.
-abbrev pub number_behind : ℕ → ℕ
-number_behind number = min (number + 1) (2 ^ 64 - 1)
-
 -- Over any violations: the fault is the least of them after a mark.
 pub record IsNextOf (Violated : Place → Type 0) (path_of : Place
     → List ℕ) (mark : Mark) (fault : FaultValue) : Type 0 where
   pub violation : IsViolationOf Violated path_of fault
   pub later : IsLater mark (place_of fault)
   pub first : (p : Place) → Violated p → IsLater mark p → (place_of fault ≡ p) ⊎ IsBefore (place_of fault) p
-  pub number : fault.number ≡ number_behind mark.number
+  pub number : fault.number ≡ one_more mark.number
 
 abbrev pub HasNoneLaterOf : (Place → Type 0) → Mark → Type 0
 HasNoneLaterOf Violated mark = (p : Place) → Violated p → IsLater mark p → ⊥

@@ -1,20 +1,18 @@
 //! Waivers: which rules aren't told of which glyphs.
 
 ghost use Rattle.std.specs.Prelude.{◌≡◌, ◌≤◌, ◌+◌, ℕ, [], ◌&&◌, not, length, slice_get};
-ghost use Rattle.std.specs.List.{prefix_len};
 ghost use Rattle.indexmap.specs.IndexSet.{index_set_len};
 ghost use Rattle.t1_report.specs.WaiverViews.{IsReadAs, waiver_if_any, waivers_now};
 ghost use Rattle.t1_report.specs.Waivers.{Waiver, is_waivable, is_waived, line_read, waiver_of, waivers_of, largest_waivers};
 ghost use Rattle.t1_report.specs.declared.waivers.WaiverError.TheVariants.{Memory};
 ghost use Rattle.t1_rules.specs.Book.{number_of};
 ghost use Rattle.t1_rules.specs.Mask.{has};
-ghost use Rattle.t1_scan.specs.Bytes.{is_regular};
 
 use indexmap::IndexSet;
 use std::alloc::{AllocError, AllocFailed, Global};
 use std::marker::Model;
 use t1_rules::{Mask, Rule};
-use t1_scan::is_regular;
+use t1_scan::run_len;
 
 /// The greatest size of a text of waivers, in bytes.
 pub const LARGEST_WAIVERS: usize = 1_048_576;
@@ -148,7 +146,7 @@ fn add_line<'a>(pairs: &mut IndexSet<Pair<'a>>, line: &'a [u8]) -> Result<(), Wa
 fn pair_in(text: &[u8]) -> Option<Pair<'_>>
     ensures { waiver_if_any result ≡ waiver_of text.now }
 {
-    let (name, rest) = text.split_at(name_len(text));
+    let (name, rest) = text.split_at(run_len(text));
     match rest.split_first() {
         Some((b' ', code)) => match Rule::from_code(code) {
             Some(rule) if is_waivable(rule) => Some((name, rule)),
@@ -164,17 +162,4 @@ fn is_waivable(rule: Rule) -> bool
 {
     let number = rule.number();
     Rule::C01.number() <= number && number <= Rule::L01.number()
-}
-
-/// The longest run of regular bytes.
-fn name_len(text: &[u8]) -> usize
-    ensures value { result ≡ prefix_len is_regular text.now }
-    ensures bound { result ≤ length text.now }
-{
-    for (at, b) in text.iter().enumerate() {
-        if !is_regular(*b) {
-            return at;
-        }
-    }
-    text.len()
 }

@@ -1,10 +1,12 @@
--- Words that private contracts alone cite: no clause of a public function rests on them.
+-- Words that private contracts alone cite, and the relations of watchers (Standing): what clauses of public functions say by
+-- these is that there is such a relation.
 pub mod BookRows
 pub mod Edges
 pub mod KeyKinds
 pub mod KeyTests
 pub mod Quiet
 pub mod Seac
+pub mod Standing
 pub mod Stems
 pub mod StepTests
 pub mod Sums

@@ -7,7 +7,8 @@ ghost use Rattle.t1_char.specs.Steps.{StepView};
 ghost use Rattle.t1_char.specs.StepValues.{step_view};
 ghost use Rattle.t1_rules.specs.Mask.{has};
 ghost use Rattle.t1_rules.specs.StepRules.{breaks, step_rules};
-ghost use Rattle.t1_rules.specs.Watches.{IsCalm, WatchesStandFor, most_steps};
+ghost use Rattle.t1_rules.specs.Private.Standing.{WatchesStandFor};
+ghost use Rattle.t1_rules.specs.Watches.{IsCalm, most_steps};
 ghost use Rattle.t1_rules.specs.StepRules.Tokens.{IsCommand};
 
 use crate::mask::Mask;
@@ -36,7 +37,7 @@ pub struct Watches {
 
 impl Watch for Watches {
     ghost use Rattle.t1_rules.specs.StepRules.{step_rules};
-    ghost use Rattle.t1_rules.specs.Watches.{WatchesStandFor};
+    ghost use Rattle.t1_rules.specs.Private.Standing.{WatchesStandFor};
 
     ghost stands_for = { WatchesStandFor };
 

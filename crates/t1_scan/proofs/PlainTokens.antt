@@ -1,5 +1,5 @@
 -- Names, words and digits in front of a text.
-use Rattle.std.proofs.Common.{◌≡◌, ◌+◌, ◌-◌, ◌*◌, ◌<◌, ◌≤◌, ◌==◌, ◌&&◌, ℕ, ℤ, pos, zero, suc, Bool, true, false, not, nat_lt, Option, Some, None, Ok, List, [], ◌∷◌, ◌++◌, length, drop, take, get_or, refl, sym, subst, ap, ◌∙◌, arith}
+use Rattle.std.proofs.Common.{◌≡◌, ◌+◌, ◌-◌, ◌*◌, ◌<◌, ◌≤◌, ◌==◌, ℕ, ℤ, pos, zero, suc, true, false, nat_lt, Some, None, List, [], ◌∷◌, length, drop, take, get_or, refl, subst, ap, ◌∙◌, arith}
 use Rattle.std.proofs.Math.Seq.{take-nil}
 use Rattle.std.proofs.lemmas.Bool.{or_parts}
 use Rattle.std.proofs.lemmas.Bool.Decides.{nat_tests}
@@ -13,7 +13,7 @@ use Rattle.t1_scan.specs.Bytes.{is_regular, is_decimal_digit}
 use Rattle.t1_scan.specs.Lengths.{run_len, token_len}
 use Rattle.t1_scan.specs.Numbers.{decimal_of, magnitude_of, number_of, radix_of, scaled}
 use Rattle.t1_scan.specs.Private.Forms.{begun, AreDigits, begins_number, begins_digits}
-use Rattle.t1_scan.specs.Tokens.{number_or_word, kind_of, first_of}
+use Rattle.t1_scan.specs.Tokens.{kind_of, first_of}
 use Rattle.t1_scan.specs.Spelling.{no_sign, is_decimal}
 use Rattle.t1_scan.proofs.NumbersRead.{decimal_value}
 use Rattle.t1_scan.proofs.TokensRead.{regular_is, regular_len, regular_kind}

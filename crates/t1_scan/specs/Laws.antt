@@ -4,6 +4,7 @@ use Rattle.std.specs.Char.{digit_value}
 use Rattle.std.specs.Str.Parse.{digits_value, AllDigits}
 use Rattle.t1_scan.specs.declared.error.ScanError.TheVariants.{Unclosed}
 use Rattle.t1_scan.specs.Bytes.{is_blank}
+use Rattle.t1_scan.specs.Lengths.{most_nested}
 use Rattle.t1_scan.specs.Numbers.{number_of, scaled, billion}
 use Rattle.t1_scan.specs.Tokens.{Found, token_of}
 use Rattle.t1_scan.specs.Spelling.{Plain, Sign, spelled, meant, depth_of, is_plain, is_decimal, is_radix, sign_text, signed, fraction_text, decimals_of}
@@ -32,9 +33,9 @@ abbrev pub RoundTrip : Type 0
 RoundTrip = (blank : ℕ) (ts : List Plain) → is_blank blank ≡ true → AreReadable ts →
     IsReadAs (written blank ts) (map lexeme_of ts)
 
--- a token that nests deeper than 32 is never read, whatever follows it
+-- a token that nests too deep is never read, whatever follows it
 abbrev pub TooDeep : Type 0
-TooDeep = (t : Plain) (after : List ℕ) → is_plain t ≡ true → 32 < depth_of t →
+TooDeep = (t : Plain) (after : List ℕ) → is_plain t ≡ true → most_nested < depth_of t →
     token_of (spelled t ++ after) ≡ Err Unclosed
 
 -- a number in plain decimal form has its value

@@ -70,8 +70,12 @@ arrays_after b arrays braces =
 abbrev pub braces_after : ℕ → ℕ → ℕ
 braces_after b braces = if b == 123 then braces + 1 else (if b == 125 then braces - 1 else braces)
 
+-- how deep arrays and procedures nest at most; the limit is this project's own
+abbrev pub most_nested : ℕ
+most_nested = 32
+
 -- an array or a procedure, behind its first bracket, to its last, while so many arrays, and in them
--- procedures, are open: at most 32 together. So many bytes as are still to `skip`, of a string or a comment,
+-- procedures, are open: at most that many together. So many bytes as are still to `skip`, of a string or a comment,
 -- open and close nothing
 unfoldable pub inside_len : ℕ → ℕ → ℕ → List ℕ → Option ℕ
 inside_len skip arrays braces [] = None
@@ -80,7 +84,7 @@ inside_len zero arrays braces (b ∷ s) =
     let a = arrays_after b arrays braces in
     let p = braces_after b braces in
     if a + p == 0 then Some 1
-    else (if nat_lt 32 (a + p) then None
+    else (if nat_lt most_nested (a + p) then None
     else option_and_then (λ n. further 1 (inside_len (n - 1) a p s)) (part_len b s))
 
 abbrev pub begins_with_close : List ℕ → Bool

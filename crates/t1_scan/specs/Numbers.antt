@@ -1,6 +1,6 @@
 -- The number that a run of regular bytes spells, in billionths. The forms are PostScript's, as Type
 -- 1 Font Format uses it (chapters 2 and 10); the limit and the unit are this product's own.
-use Rattle.std.specs.Prelude.{ℕ, ℤ, pos, neg_ℤ, Bool, true, false, Option, Some, None, List, [], ◌∷◌, ◌++◌, ◌+◌, ◌*◌, ◌/◌, ◌^◌, ◌==◌, ◌&&◌, ◌||◌, not, if◌then◌else◌, nat_lt, nat_le, length, drop, slice_index}
+use Rattle.std.specs.Prelude.{ℕ, ℤ, pos, neg_ℤ, Bool, true, Option, Some, None, List, [], ◌∷◌, ◌++◌, ◌+◌, ◌*◌, ◌/◌, ◌^◌, ◌==◌, ◌&&◌, not, if◌then◌else◌, nat_lt, nat_le, length, drop, slice_index}
 use Rattle.std.specs.Option.{option_map, option_or}
 use Rattle.std.specs.List.{prefix_len, take_while, list_all}
 use Rattle.std.specs.Char.{digit_value}
@@ -52,14 +52,18 @@ decimal_of (b ∷ s) =
     else (if b == 43 then option_map pos (magnitude_of s)
     else option_map pos (magnitude_of (b ∷ s)))
 
--- digits of a base from 2 to 36, letters in either case, below a billion
+-- the greatest base: its digits are all digits and all letters
+abbrev pub greatest_base : ℕ
+greatest_base = 36
+
+-- digits of a base from 2 on, letters in either case, below a billion
 abbrev pub are_in_base : ℕ → List ℕ → Bool
 are_in_base base digits = list_all (λ c. nat_lt (digit_value c) base) digits
 
 abbrev pub in_base : ℕ → List ℕ → Option ℤ
 in_base base digits =
     if nat_le 2 base
-    && nat_le base 36
+    && nat_le base greatest_base
     && not (length digits == 0)
     && are_in_base base digits
     && nat_lt (digits_value base digits) billion

@@ -6,7 +6,7 @@ use Rattle.std.specs.Str.Parse.{digits_value}
 use Rattle.t1_scan.specs.declared.token.Kind.{Kind}
 use Rattle.t1_scan.specs.declared.token.Kind.TheVariants.{Number, Name, Word, Text, Proc, Array}
 use Rattle.t1_scan.specs.Bytes.{is_line_end, is_regular, is_decimal_digit}
-use Rattle.t1_scan.specs.Numbers.{scaled, are_in_base, number_of, billion}
+use Rattle.t1_scan.specs.Numbers.{scaled, are_in_base, number_of, billion, greatest_base}
 
 -- the inside of a string
 pub data Letters : Type 0 where
@@ -174,13 +174,13 @@ is_decimal whole fraction =
     && not (length whole + length (decimals_of fraction) == 0)
     && nat_lt (digits_value 10 whole) billion
 
--- a base from 2 to 36, and digits of it, below a billion
+-- a base from 2 to the greatest, and digits of it, below a billion
 abbrev pub is_radix : List ℕ → List ℕ → Bool
 is_radix base digits =
     list_all is_decimal_digit base
     && not (length base == 0)
     && nat_le 2 (digits_value 10 base)
-    && nat_le (digits_value 10 base) 36
+    && nat_le (digits_value 10 base) greatest_base
     && not (length digits == 0)
     && are_in_base (digits_value 10 base) digits
     && nat_lt (digits_value (digits_value 10 base) digits) billion

@@ -2,7 +2,7 @@
 use Rattle.std.specs.Prelude.{◌≡◌, ◌≤◌, ℕ, Bool, true, false, Some, None, Ok, List, [], ◌∷◌, ◌++◌, ◌&&◌, ◌||◌, ◌==◌, not, length}
 use Rattle.t1_scan.specs.declared.token.Kind.{Kind}
 use Rattle.t1_scan.specs.Bytes.{is_blank, is_regular}
-use Rattle.t1_scan.specs.Lengths.{is_comment_after, begins_with_close}
+use Rattle.t1_scan.specs.Lengths.{is_comment_after, begins_with_close, most_nested}
 use Rattle.t1_scan.specs.Tokens.{Found, token_of}
 use Rattle.t1_scan.specs.Spelling.{Plain, name, word, decimal, radix, single, spelled, meant, depth_of, is_plain}
 
@@ -31,16 +31,16 @@ can_end (radix _ _) rest = ends_run rest
 can_end (single b) rest = not (b == 62 && begins_with_close rest)
 can_end _ rest = true
 
--- a token that can be read: in its plain form, and nested at most 32 deep
+-- a token that can be read: in its plain form, and not nested too deep
 pub record IsReadable (t : Plain) : Type 0 where
   pub plain : is_plain t ≡ true
-  pub shallow : depth_of t ≤ 32
+  pub shallow : depth_of t ≤ most_nested
 
 abbrev pub AreReadable : List Plain → Type 0
 AreReadable [] = Unit {0}
 AreReadable (t ∷ ts) = IsReadable t × AreReadable ts
 
--- a text is blanks and comments, a token in its plain form, nested at most 32 deep, and a rest
+-- a text is blanks and comments, a token that can be read, and a rest
 pub record BeginsWith (s : List ℕ) (t : Plain) (rest : List ℕ) : Type 0 where
   pub gap : List ℕ
   pub blanks : is_gap false gap ≡ true

@@ -5,7 +5,7 @@ ghost use Rattle.std.specs.List.{list_all};
 ghost use Rattle.std.specs.Char.{digit_value};
 ghost use Rattle.std.specs.Str.Parse.{digits_value};
 ghost use Rattle.t1_scan.specs.Bytes.{is_decimal_digit};
-ghost use Rattle.t1_scan.specs.Numbers.{are_in_base, below_billion, billion};
+ghost use Rattle.t1_scan.specs.Numbers.{are_in_base, below_billion, billion, greatest_base};
 ghost use Rattle.t1_scan.specs.Private.Forms.{AreDigits};
 
 use crate::bytes::{is_decimal_digit, is_regular};
@@ -13,16 +13,19 @@ use crate::bytes::{is_decimal_digit, is_regular};
 /// Numbers are below it, and have that many billionths in one.
 pub const BILLION: u64 = 1_000_000_000;
 
-/// What a digit of a base up to 36 stands for, letters in either case, or 36.
+/// The greatest base: its digits are all digits and all letters.
+pub const GREATEST_BASE: u64 = 36;
+
+/// What a digit of any base stands for, letters in either case, or the greatest base.
 fn digit_value(b: u8) -> u64
     ensures value { result ≡ digit_value b }
-    ensures bound { result ≤ 36 }
+    ensures bound { result ≤ greatest_base }
 {
     match b {
         b'0'..=b'9' => (b - b'0') as u64,
         b'A'..=b'Z' => (b - b'A' + 10) as u64,
         b'a'..=b'z' => (b - b'a' + 10) as u64,
-        _ => 36,
+        _ => GREATEST_BASE,
     }
 }
 
@@ -44,7 +47,7 @@ pub fn are_in_base(base: u64, digits: &[u8]) -> bool
 #[tactic(auto, using(std::proofs::lemmas::Int::Digits::digits_value_more))]
 pub fn small_value(base: u64, digits: &[u8]) -> Option<u64>
     requires low { 1 ≤ base }
-    requires high { base ≤ 36 }
+    requires high { base ≤ greatest_base }
     ensures value { result ≡ below_billion (digits_value base digits.now) }
     ensures bound { IfSome result (λ n. n < billion) }
 {

@@ -46,5 +46,6 @@ pub use laws::{
     numbers_have_their_values, plain_tokens_are_read, tokens_cover_the_text, tokens_take_bytes,
     written_tokens_are_read,
 };
+pub use runs::run_len;
 pub use scanner::Scanner;
 pub use token::{Kind, Token};

@@ -5,8 +5,8 @@ ghost use Rattle.t1_scan.specs.Lengths.{arrays_after, braces_after, inside_len};
 
 use crate::strings::part_len;
 
-/// How deep procedures and arrays nest at most. The limit is this product's own.
-const MAX_DEPTH: usize = 32;
+/// How deep procedures and arrays nest at most. The limit is this project's own.
+const MOST_NESTED: usize = 32;
 
 /// How many arrays are open behind a byte. Brackets count where no brace is open.
 fn arrays_after(b: u8, arrays: usize, braces: usize) -> usize
@@ -48,7 +48,7 @@ pub fn inside_len(text: &[u8], mut arrays: usize, mut braces: usize) -> Option<u
         if arrays + braces == 0 {
             return Some(at + 1);
         }
-        if arrays + braces > MAX_DEPTH {
+        if arrays + braces > MOST_NESTED {
             return None;
         }
         at += part_len(b, &text[at + 1..])?;

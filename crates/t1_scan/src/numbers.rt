@@ -7,7 +7,7 @@ ghost use Rattle.t1_scan.specs.Private.Forms.{begins_number, begins_digits};
 ghost use Rattle.t1_scan.specs.Numbers.{value_of, magnitude_of, decimal_of, in_base, radix_of, number_of};
 
 use crate::bytes::is_decimal_digit;
-use crate::digits::{BILLION, are_digits, are_in_base, billionths, small_value};
+use crate::digits::{BILLION, GREATEST_BASE, are_digits, are_in_base, billionths, small_value};
 use crate::runs::digits_len;
 
 /// The number with these digits before and behind its point, if it is below a billion.
@@ -52,11 +52,11 @@ fn decimal(run: &[u8]) -> Option<i64>
     }
 }
 
-/// Digits of a base from 2 to 36, below a billion.
+/// Digits of a base from 2 to the greatest, below a billion.
 fn in_base(base: u64, digits: &[u8]) -> Option<i64>
     ensures { result ≡ in_base base digits.now }
 {
-    if !(2..=36).contains(&base) || digits.is_empty() || !are_in_base(base, digits) {
+    if !(2..=GREATEST_BASE).contains(&base) || digits.is_empty() || !are_in_base(base, digits) {
         return None;
     }
     Some((small_value(base, digits)? * BILLION) as i64)

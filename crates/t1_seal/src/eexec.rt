@@ -128,7 +128,7 @@ fn byte_of_digits(high: u8, low: u8) -> u8
     requires low { is_digit low ≡ true }
     ensures { result ≡ digit_value high * 16 + digit_value low }
 {
-    // It can't fail: both are digits, and two digits are one byte.
+    // This can't fail: both are digits, and two digits are one byte.
     let [byte] = <[u8; 1]>::from_hex([high, low]).unwrap();
     byte
 }

@@ -77,7 +77,7 @@ fn join_row(alloc: Global, row: &[u8]) -> Result<Joined, SealError>
                 payload,
                 rest: following,
             } => {
-                // It can't fail: there is room for the whole row, of which the payloads are parts.
+                // This can't fail: there is room for the whole row, of which the payloads are parts.
                 bytes.extend_from_slice(payload).unwrap();
                 rest = following;
             }

@@ -73,7 +73,7 @@ fn number(text: Option<&str>) -> Option<u64>
     ensures { AreNumber (option_map (λ s. s.now) text.entry) result }
 {
     match text {
-        // It can't fail: the rule of the argument takes no other text.
+        // This can't fail: the rule of the argument takes no other text.
         Some(text) => Some(text.parse::<u64>().unwrap()),
         None => None,
     }

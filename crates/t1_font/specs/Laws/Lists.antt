@@ -7,6 +7,7 @@ use Rattle.t1_scan.specs.declared.token.Kind.TheVariants.{Number}
 use Rattle.t1_scan.specs.Bytes.{is_blank}
 use Rattle.t1_scan.specs.Spelling.{Plain, Body, braced, bracketed, body_text}
 use Rattle.t1_scan.specs.Texts.{Lexeme, lexeme_of, are_blanks, IsReadAs, IsReadable, AreReadable, written}
+use Rattle.t1_font.specs.Bounds.{kept_numbers}
 use Rattle.t1_font.specs.Tokens.{is_number_kind}
 use Rattle.t1_font.specs.Laws.Example.{flat}
 use Rattle.t1_font.specs.Values.{Value, numbers, other, list_value, value_of_token}
@@ -35,12 +36,12 @@ BothAre body value =
 -- Numbers alone are counted, and the first 16 of their values are kept.
 abbrev pub CountsNumbers : Type 0
 CountsNumbers = (s : List ℕ) (values : List ℤ) → IsReadAsNumbers s values →
-    list_value s ≡ numbers (length values) (take 16 values)
+    list_value s ≡ numbers (length values) (take kept_numbers values)
 
 -- What has a count and values is numbers alone, so many and these.
 abbrev pub NumbersAlone : Type 0
 NumbersAlone = (s : List ℕ) (count : ℕ) (first : List ℤ) → list_value s ≡ numbers count first →
-    (values : List ℤ) × IsReadAsNumbers s values × (count ≡ length values) × (first ≡ take 16 values)
+    (values : List ℤ) × IsReadAsNumbers s values × (count ≡ length values) × (first ≡ take kept_numbers values)
 
 -- Another kind is exactly what isn't numbers alone: another token stands there, or one isn't closed.
 abbrev pub OtherElse : Type 0
@@ -66,7 +67,7 @@ pub record IsWrittenWith (body : Body) (ts : List Plain) : Type 0 where
 abbrev pub WrittenNumbers : Type 0
 WrittenNumbers = (body : Body) (ts : List Plain) (values : List ℤ) → IsWrittenWith body ts →
     kinds_of (map lexeme_of ts) ≡ map Number values →
-    BothAre body (numbers (length values) (take 16 values))
+    BothAre body (numbers (length values) (take kept_numbers values))
 
 -- Tokens so written, one of them no number, are another kind.
 abbrev pub WrittenOthers : Type 0
@@ -84,7 +85,7 @@ pub record IsList (s : List ℕ) (value : Value) : Type 0 where
 abbrev pub NumbersAreLists : Type 0
 NumbersAreLists = (blank : ℕ) (ts : List Plain) (values : List ℤ) → is_blank blank ≡ true →
     AreReadable ts → kinds_of (map lexeme_of ts) ≡ map Number values →
-    IsList (written blank ts) (numbers (length values) (take 16 values))
+    IsList (written blank ts) (numbers (length values) (take kept_numbers values))
 
 -- The numbers of a FontMatrix are such a text.
 abbrev pub MatrixIsList : Type 0

@@ -6,7 +6,7 @@ use Rattle.t1_char.specs.Turns.{MachineView}
 use Rattle.t1_outline.specs.declared.pen.Pen.{Pen}
 use Rattle.t1_outline.specs.declared.segment.Segment.{Segment}
 use Rattle.t1_outline.specs.Outlines.{DrawnView, drawn_from, placed}
-use Rattle.t1_outline.specs.Pens.{PenStandsFor}
+use Rattle.t1_outline.specs.Private.Standing.{PenStandsFor}
 
 -- The steps of a machine's glyph, up to the limit.
 abbrev pub steps_in : MachineView → List StepView

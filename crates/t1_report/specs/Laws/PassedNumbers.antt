@@ -5,7 +5,8 @@ use Rattle.t1_char.specs.Passing.{ArePassed}
 use Rattle.t1_char.specs.Steps.{StepView, steps_of}
 use Rattle.t1_rules.specs.declared.watches.Watches.{Watches}
 use Rattle.t1_rules.specs.StepRules.Stems.{is_replaced, is_replaced_and_popped}
-use Rattle.t1_rules.specs.Watches.{IsCalm, WatchesStandFor}
+use Rattle.t1_rules.specs.Private.Standing.{WatchesStandFor}
+use Rattle.t1_rules.specs.Watches.{IsCalm}
 use Rattle.t1_report.specs.Checked.{CheckedFont, step_limit}
 use Rattle.t1_report.specs.Reports.{is_broken}
 

@@ -7,7 +7,7 @@ use Rattle.t1_char.specs.Steps.{StepView}
 use Rattle.t1_rules.specs.declared.mask.Mask.{Mask}
 use Rattle.t1_rules.specs.declared.watches.Watches.{Watches}
 use Rattle.t1_rules.specs.Mask.{has}
-use Rattle.t1_rules.specs.Watches.{WatchesStandFor}
+use Rattle.t1_rules.specs.Private.Standing.{WatchesStandFor}
 use Rattle.t1_report.specs.declared.reporting.FaultPlace.{FaultPlace}
 use Rattle.t1_report.specs.Checked.{CheckedFont}
 use Rattle.t1_report.specs.Reports.{path_in, is_told}

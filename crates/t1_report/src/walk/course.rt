@@ -1,13 +1,14 @@
 //! How a walk goes on from its mark: the rules of the place in hand, and then the next place.
 
 ghost use Rattle.std.specs.Prelude.{◌≡◌, ◌≤◌, ◌*◌, ◌+◌, IfSome, MatchOption, length};
+ghost use Rattle.t1_io.specs.Devices.{one_more};
 ghost use Rattle.t1_report.specs.Courses.{mark_after, turns_after};
 ghost use Rattle.t1_report.specs.Private.Courses.{AreToBeFound, IsCourse, IsFloor, IsUnitCourse, turns_so_far};
 ghost use Rattle.t1_report.specs.Faults.{fault_value};
 ghost use Rattle.t1_report.specs.Checked.{checked, step_limit};
 ghost use Rattle.t1_report.specs.Private.Searches.{aim_of, checked_in};
 ghost use Rattle.t1_report.specs.UnitFaults.{HasNoneLaterInUnit, IsNextInUnit, turns_after_in};
-ghost use Rattle.t1_report.specs.Walks.{HasNoneLater, IsNext, mark_of, number_behind, turns_at};
+ghost use Rattle.t1_report.specs.Walks.{HasNoneLater, IsNext, mark_of, turns_at};
 ghost use Rattle.t1_rules.specs.Components.{AreOf};
 
 use crate::faults::Fault;
@@ -166,7 +167,7 @@ fn floor(mark: Mark, unit: u32, step: u32) -> u8
 
 /// The fault of one of the rules in hand, behind the fault of a number.
 fn fault_in(found: &Found, rule: Rule, number: u64) -> Fault
-    ensures number { result.number ≡ number_behind number }
+    ensures number { result.number ≡ one_more number }
     ensures unit { result.unit ≡ found.now.unit }
     ensures step { result.step ≡ found.now.step }
     ensures rule { result.rule ≡ rule }

@@ -12,7 +12,8 @@ use Rattle.t1_rules.specs.StepRules.Flex.{at, current_point, displacement, movin
 use Rattle.t1_rules.specs.StepRules.Paths.{flex_start, flex_end}
 use Rattle.t1_rules.specs.StepRules.Stems.{popping}
 use Rattle.t1_rules.specs.StepRules.Tokens.{is_move, is_pop, sets_point}
-use Rattle.t1_rules.specs.Watches.{FlexStandsFor, IsNear}
+use Rattle.t1_rules.specs.Private.Standing.{FlexStandsFor}
+use Rattle.t1_rules.specs.Watches.{IsNear}
 use Rattle.t1_rules.proofs.Lemmas.Tokens.{IsNoCommand}
 use Rattle.t1_rules.proofs.Lemmas.Before.{counted_on, was_last, was_before}
 use Rattle.t1_font.specs.Fonts.{after_last}

@@ -8,7 +8,7 @@ use Rattle.t1_rules.specs.declared.step_rules.paths.PathWatcher.{PathWatcher}
 use Rattle.t1_rules.specs.StepRules.{breaks, path_rules}
 use Rattle.t1_rules.specs.StepRules.Paths.{clearing_step, flex_start, flex_end, closing_step, outer_move, drawing}
 use Rattle.t1_rules.specs.StepRules.Tokens.{clears, closes, is_line, is_move}
-use Rattle.t1_rules.specs.Watches.{PathsStandFor}
+use Rattle.t1_rules.specs.Private.Standing.{PathsStandFor}
 use Rattle.t1_rules.specs.Private.Quiet.{IsQuietForPaths}
 
 -- What is kept after a step, by what was kept before it.

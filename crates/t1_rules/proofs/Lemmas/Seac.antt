@@ -9,7 +9,7 @@ use Rattle.t1_rules.specs.StepRules.Paths.{flex_start, flex_end}
 use Rattle.t1_rules.specs.StepRules.Seac.{makes_outline}
 use Rattle.t1_rules.specs.StepRules.Stems.{is_stem}
 use Rattle.t1_rules.specs.StepRules.Tokens.{closes, is_line, is_move}
-use Rattle.t1_rules.specs.Watches.{SeacStandsFor}
+use Rattle.t1_rules.specs.Private.Standing.{SeacStandsFor}
 use Rattle.t1_rules.proofs.Lemmas.Tokens.{IsNoCommand}
 
 -- What is kept after a step, by what was kept before it.

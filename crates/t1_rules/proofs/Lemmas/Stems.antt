@@ -11,7 +11,7 @@ use Rattle.t1_rules.specs.declared.step_rules.stems.StemWatcher.{StemWatcher}
 use Rattle.t1_rules.specs.StepRules.Paths.{drawing, flex_start, flex_end}
 use Rattle.t1_rules.specs.StepRules.Stems.{hint_set, lies_across, popping, replacing_step, stands_upright, stems_in, stems_of}
 use Rattle.t1_rules.specs.StepRules.Tokens.{is_command, is_line, is_pop}
-use Rattle.t1_rules.specs.Watches.{StemsStandFor}
+use Rattle.t1_rules.specs.Private.Standing.{StemsStandFor}
 use Rattle.t1_rules.specs.Private.Stems.{IsQuietForStems, kept_after}
 use Rattle.t1_rules.proofs.Lemmas.Before.{take_more, was_last, was_before}
 use Rattle.t1_font.specs.Fonts.{after_last}

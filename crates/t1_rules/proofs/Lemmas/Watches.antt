@@ -7,7 +7,8 @@ use Rattle.t1_char.specs.declared.token.CharToken.TheVariants.{Number}
 use Rattle.t1_rules.specs.declared.watches.Watches.{Watches}
 use Rattle.t1_rules.specs.StepRules.{StepRule, argument_rules, breaks, call_rules, flex_rules, othersubr_rules, path_rules, seac_rules, stem_rules, step_rules}
 use Rattle.t1_rules.specs.StepRules.Stems.{is_replaced, is_replaced_and_popped}
-use Rattle.t1_rules.specs.Watches.{IsCalm, WatchesStandFor}
+use Rattle.t1_rules.specs.Private.Standing.{WatchesStandFor}
+use Rattle.t1_rules.specs.Watches.{IsCalm}
 use Rattle.t1_rules.proofs.Lemmas.Flex.{flex_stays}
 use Rattle.t1_rules.proofs.Lemmas.Paths.{stays}
 use Rattle.t1_rules.proofs.Lemmas.Seac.{outline_stays}

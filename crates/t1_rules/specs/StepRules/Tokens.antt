@@ -1,7 +1,7 @@
 -- The kinds of tokens that charstring rules speak of. Type 1 Font Format 1.1, chapter 6.
 use Rattle.std.specs.Prelude.{◌≡◌, ◌||◌, Bool, true, false}
 use Rattle.t1_char.specs.declared.command.Command.{Command as Commands}
-use Rattle.t1_char.specs.declared.command.Command.TheVariants.{Vmoveto, Rlineto, Hlineto, Vlineto, Rrcurveto, Closepath, Hsbw, Rmoveto, Hmoveto, Vhcurveto, Hvcurveto, Sbw, Div, Pop, Seac, Setcurrentpoint}
+use Rattle.t1_char.specs.declared.command.Command.TheVariants.{Vmoveto, Rlineto, Hlineto, Vlineto, Rrcurveto, Closepath, Hsbw, Rmoveto, Hmoveto, Vhcurveto, Hvcurveto, Sbw, Div, Pop, Setcurrentpoint}
 use Rattle.t1_char.specs.declared.token.CharToken.{CharToken}
 use Rattle.t1_char.specs.declared.token.CharToken.TheVariants.{Command, Unknown, Unknown12, Cut, Short}
 use Rattle.t1_char.specs.Steps.{StepView}

@@ -25,7 +25,7 @@ pub struct ArgumentWatcher;
 
 impl Watch for ArgumentWatcher {
     ghost use Rattle.t1_rules.specs.StepRules.{argument_rules};
-    ghost use Rattle.t1_rules.specs.Watches.{StandsForAny};
+    ghost use Rattle.t1_rules.specs.Private.Standing.{StandsForAny};
 
     ghost stands_for = { λ edition. StandsForAny };
 

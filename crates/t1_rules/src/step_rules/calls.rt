@@ -23,7 +23,7 @@ pub struct CallWatcher;
 
 impl Watch for CallWatcher {
     ghost use Rattle.t1_rules.specs.StepRules.{call_rules};
-    ghost use Rattle.t1_rules.specs.Watches.{StandsForAny};
+    ghost use Rattle.t1_rules.specs.Private.Standing.{StandsForAny};
 
     ghost stands_for = { λ edition. StandsForAny };
 

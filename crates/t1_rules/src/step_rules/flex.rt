@@ -10,7 +10,8 @@ ghost use Rattle.t1_rules.specs.StepRules.{breaks, flex_rules};
 ghost use Rattle.t1_rules.specs.StepRules.Flex.{at, current_point, displacement, ends_away_from, flex_moves, flex_points, is_elsewhere, miscounts, moved_by, origin, plus, point_set};
 ghost use Rattle.t1_rules.specs.StepRules.Paths.{in_flex};
 ghost use Rattle.t1_rules.specs.StepRules.Tokens.{clears, is_move, is_pop, sets_point};
-ghost use Rattle.t1_rules.specs.Watches.{FlexStandsFor, IsNear, IsWithin, most_steps, reach};
+ghost use Rattle.t1_rules.specs.Private.Standing.{FlexStandsFor};
+ghost use Rattle.t1_rules.specs.Watches.{IsNear, IsWithin, most_steps, reach};
 ghost use Rattle.t1_rules.specs.Private.Quiet.{IsQuietForFlex};
 
 use crate::mask::Mask;
@@ -51,7 +52,7 @@ pub struct FlexWatcher {
 
 impl Watch for FlexWatcher {
     ghost use Rattle.t1_rules.specs.StepRules.{flex_rules};
-    ghost use Rattle.t1_rules.specs.Watches.{FlexStandsFor};
+    ghost use Rattle.t1_rules.specs.Private.Standing.{FlexStandsFor};
 
     ghost stands_for = { λ edition. FlexStandsFor };
 

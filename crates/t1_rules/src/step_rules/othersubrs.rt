@@ -23,7 +23,7 @@ pub struct OthersubrWatcher;
 
 impl Watch for OthersubrWatcher {
     ghost use Rattle.t1_rules.specs.StepRules.{othersubr_rules};
-    ghost use Rattle.t1_rules.specs.Watches.{StandsForAny};
+    ghost use Rattle.t1_rules.specs.Private.Standing.{StandsForAny};
 
     ghost stands_for = { λ edition. StandsForAny };
 

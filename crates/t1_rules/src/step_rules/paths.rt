@@ -8,7 +8,7 @@ ghost use Rattle.t1_rules.specs.Mask.{has};
 ghost use Rattle.t1_rules.specs.StepRules.{breaks, path_rules};
 ghost use Rattle.t1_rules.specs.StepRules.Paths.{is_open};
 ghost use Rattle.t1_rules.specs.StepRules.Tokens.{is_line, is_move};
-ghost use Rattle.t1_rules.specs.Watches.{PathsStandFor};
+ghost use Rattle.t1_rules.specs.Private.Standing.{PathsStandFor};
 ghost use Rattle.t1_rules.specs.Private.Quiet.{IsQuietForPaths};
 
 use crate::mask::Mask;
@@ -35,7 +35,7 @@ pub struct PathWatcher {
 
 impl Watch for PathWatcher {
     ghost use Rattle.t1_rules.specs.StepRules.{path_rules};
-    ghost use Rattle.t1_rules.specs.Watches.{PathsStandFor};
+    ghost use Rattle.t1_rules.specs.Private.Standing.{PathsStandFor};
 
     ghost stands_for = { λ edition. PathsStandFor };
 

@@ -10,7 +10,7 @@ ghost use Rattle.t1_rules.specs.StepRules.{breaks, seac_rules};
 ghost use Rattle.t1_rules.specs.StepRules.Seac.{accent_code, base_code, has_no_code, has_unnamed_code, is_unnamed, seac_code};
 ghost use Rattle.t1_rules.specs.StepRules.Stems.{is_stem};
 ghost use Rattle.t1_rules.specs.StepRules.Tokens.{closes, is_line, is_move};
-ghost use Rattle.t1_rules.specs.Watches.{SeacStandsFor};
+ghost use Rattle.t1_rules.specs.Private.Standing.{SeacStandsFor};
 
 use crate::mask::Mask;
 use crate::rule::Rule;
@@ -33,7 +33,7 @@ pub struct SeacWatcher {
 
 impl Watch for SeacWatcher {
     ghost use Rattle.t1_rules.specs.StepRules.{seac_rules};
-    ghost use Rattle.t1_rules.specs.Watches.{SeacStandsFor};
+    ghost use Rattle.t1_rules.specs.Private.Standing.{SeacStandsFor};
 
     ghost stands_for = { λ edition. SeacStandsFor };
 

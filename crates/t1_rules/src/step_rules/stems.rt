@@ -13,7 +13,8 @@ ghost use Rattle.t1_rules.specs.Mask.{has};
 ghost use Rattle.t1_rules.specs.StepRules.{breaks, stem_rules};
 ghost use Rattle.t1_rules.specs.StepRules.Stems.{are_unequal, has_no_width, has_one_edge, is_off_middle, hint_set, is_stem, is_triple, lies_across, lower, one_overlaps, overlap, overlap_by, sets_unequal, stands_upright, stem_at, stems_meet, stems_of, two_overlap, twice_middle, upper, most_stems};
 ghost use Rattle.t1_rules.specs.StepRules.Tokens.{is_command, is_line};
-ghost use Rattle.t1_rules.specs.Watches.{IsWithin, StemsStandFor, reach};
+ghost use Rattle.t1_rules.specs.Private.Standing.{StemsStandFor};
+ghost use Rattle.t1_rules.specs.Watches.{IsWithin, reach};
 ghost use Rattle.t1_rules.specs.Private.Stems.{IsQuietForStems, kept_after};
 ghost use Rattle.t1_char.specs.Stacks.{most_numbers};
 
@@ -66,7 +67,8 @@ pub struct StemWatcher {
 
 impl Watch for StemWatcher {
     ghost use Rattle.t1_rules.specs.StepRules.{stem_rules};
-    ghost use Rattle.t1_rules.specs.Watches.{IsWithin, StemsStandFor, reach};
+    ghost use Rattle.t1_rules.specs.Private.Standing.{StemsStandFor};
+    ghost use Rattle.t1_rules.specs.Watches.{IsWithin, reach};
 
     ghost stands_for = { StemsStandFor };
 
@@ -367,7 +369,7 @@ fn keep_own(kept: &mut Stems, token: CharToken, step: &Step)
 fn keep(kept: &mut Stems, stems: &[Stem])
     ensures { kept.new.items ≡ take most_stems (kept.old.items ++ stems.now) }
 {
-    // They fit: there are no more than there is room for.
+    // This can't fail: there are no more than there is room for.
     let _fits = kept.try_extend_from_slice(first(kept.remaining_capacity(), stems));
 }
 

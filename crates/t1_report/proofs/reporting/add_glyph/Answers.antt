@@ -5,7 +5,7 @@ use Rattle.t1_char.specs.StepValues.{step_view, step_value}
 use Rattle.t1_rules.specs.Book.{number_of}
 use Rattle.t1_rules.specs.StepRules.{StepRule}
 use Rattle.t1_char.specs.Editions.{limit_of}
-use Rattle.t1_rules.specs.Watches.{WatchesStandFor}
+use Rattle.t1_rules.specs.Private.Standing.{WatchesStandFor}
 use Rattle.t1_report.specs.Checked.{checked, step_limit}
 use Rattle.t1_report.specs.Faults.{faults_of}
 use Rattle.t1_report.specs.Reports.{is_broken, path_at, path_of_step, rules_of, step_breaks, is_told}

@@ -8,9 +8,9 @@ returns-then-arrays-braces-eq0-clause-value c =
     sym (inside_close (record { within = c.loop-at-test.true; arrays = c.arrays_after-arrays.ensures; braces = c.braces_after-braces.ensures }) (omega arith))
     ∙ c.loop-at.invariant.rest
 
-pub returns-then-arrays-braces-gt-MAX_DEPTH-clause-value :
-    goal.returns-then-arrays-braces-gt-MAX_DEPTH-clause-value
-returns-then-arrays-braces-gt-MAX_DEPTH-clause-value c =
+pub returns-then-arrays-braces-gt-MOST_NESTED-clause-value :
+    goal.returns-then-arrays-braces-gt-MOST_NESTED-clause-value
+returns-then-arrays-braces-gt-MOST_NESTED-clause-value c =
     sym (inside_deep (record { within = c.loop-at-test.true; arrays = c.arrays_after-arrays.ensures; braces = c.braces_after-braces.ensures }) (omega arith))
     ∙ c.loop-at.invariant.rest
 

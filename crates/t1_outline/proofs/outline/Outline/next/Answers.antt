@@ -2,7 +2,7 @@ use Rattle.std.proofs.Common.{◌≡◌, ◌≤◌, ◌++◌, ◌∷◌, [], len
 use Rattle.t1_char.specs.Steps.{NumberedStep, StepView}
 use Rattle.t1_char.specs.StepValues.{step_view}
 use Rattle.t1_outline.specs.Outlines.{drawn}
-use Rattle.t1_outline.specs.Pens.{PenStandsFor}
+use Rattle.t1_outline.specs.Private.Standing.{PenStandsFor}
 use Rattle.t1_outline.specs.Private.Outlining.{steps_in}
 use Rattle.t1_outline.proofs.Outlining.{IsOver, few_seen, next_drawn, none_behind, none_left, outlining_stays, over, told}
 use Rattle.t1_outline.proofs.outline.Outline.next.Goals as goal

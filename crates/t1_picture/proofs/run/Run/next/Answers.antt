@@ -2,7 +2,7 @@ use Rattle.std.proofs.Common.{◌≡◌, ◌++◌, ◌∷◌, [], take, ap, subs
 use Rattle.t1_char.specs.declared.machine.Answer.TheVariants.{Ended, Limit, Step}
 use Rattle.t1_char.specs.Steps.{NumberedStep, StepView}
 use Rattle.t1_char.specs.StepValues.{step_view}
-use Rattle.t1_outline.specs.Pens.{PenStandsFor}
+use Rattle.t1_outline.specs.Private.Standing.{PenStandsFor}
 use Rattle.t1_outline.specs.Private.Outlining.{steps_in}
 use Rattle.t1_outline.proofs.Outlining.{few_seen, outlining_stays, over, told}
 use Rattle.t1_picture.proofs.run.Run.next.Goals as goal

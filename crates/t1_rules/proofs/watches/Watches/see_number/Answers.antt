@@ -1,6 +1,7 @@
 use Rattle.std.proofs.Common.{◌<◌, length, sym, ◌∙◌, arith}
 use Rattle.t1_char.specs.StepValues.{step_view}
-use Rattle.t1_rules.specs.Watches.{IsCalm, WatchesStandFor}
+use Rattle.t1_rules.specs.Private.Standing.{WatchesStandFor}
+use Rattle.t1_rules.specs.Watches.{IsCalm}
 use Rattle.t1_rules.proofs.Lemmas.Watches.{no_fault_at_number, stays_at_number}
 use Rattle.t1_rules.proofs.watches.Watches.see_number.Goals as goal
 

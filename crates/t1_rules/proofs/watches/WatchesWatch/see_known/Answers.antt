@@ -1,6 +1,6 @@
 use Rattle.t1_char.specs.StepValues.{step_view}
 use Rattle.t1_rules.specs.StepRules.{argument_rules, call_rules, flex_rules, othersubr_rules, path_rules, seac_rules, stem_rules, step_rules}
-use Rattle.t1_rules.specs.Watches.{WatchesStandFor}
+use Rattle.t1_rules.specs.Private.Standing.{WatchesStandFor}
 use Rattle.t1_rules.proofs.Lemmas.Watches.{joined}
 use Rattle.t1_rules.proofs.watches.WatchesWatch.see_known.Goals as goal
 

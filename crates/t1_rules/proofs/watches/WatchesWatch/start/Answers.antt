@@ -1,4 +1,4 @@
-use Rattle.t1_rules.specs.Watches.{WatchesStandFor}
+use Rattle.t1_rules.specs.Private.Standing.{WatchesStandFor}
 use Rattle.t1_rules.proofs.watches.WatchesWatch.start.Goals as goal
 
 pub returns : goal.returns

@@ -5,7 +5,7 @@ use Rattle.t1_char.specs.Steps.{StepView}
 use Rattle.t1_outline.specs.declared.flex_run.FlexRun.{FlexRun}
 use Rattle.t1_outline.specs.declared.pen.Pen.{Pen}
 use Rattle.t1_outline.specs.Outlines.{flex_places, has_subpath, is_spoiled}
-use Rattle.t1_rules.specs.Watches.{FlexStandsFor, PathsStandFor, StemsStandFor}
+use Rattle.t1_rules.specs.Private.Standing.{FlexStandsFor, PathsStandFor, StemsStandFor}
 
 -- The places of the last flex, the first eight of them, and whether it is spoiled.
 pub record FlexRunStandsFor (run : FlexRun) (before : List StepView) : Type 0 where

@@ -1,7 +1,0 @@
-use Rattle.std.proofs.Common.{◌≡◌, ◌+◌, drop}
-use Rattle.std.specs.List.{prefix_len}
-use Rattle.t1_scan.specs.Bytes.{is_regular}
-use Rattle.t1_report.proofs.waivers.name_len.Given as goal
-
-abbrev pub invariant-loop-at : goal.invariant-loop-at
-invariant-loop-at l = l.at + prefix_len is_regular (drop l.at l.text) ≡ prefix_len is_regular l.text
