@@ -8,6 +8,7 @@ pub mod EditionLemmas
 pub mod Enciphered
 pub mod Executing
 pub mod Expanding
+pub mod Finishing
 pub mod FirstSteps
 pub mod LastSteps
 pub mod Lasts

@@ -5,7 +5,7 @@ ghost use Rattle.t1_char.specs.Laws.Effects.{DivDivides, OthersubrsAreCalled, Wh
 ghost use Rattle.t1_char.specs.Laws.Frames.{CallsGoIn, EndsStop, GlyphsBegin, ReturnsGoBack, TokensGoOn};
 ghost use Rattle.t1_char.specs.Laws.Numbers.{NoQuotientIsZero, QuotientsAreCut, QuotientsAreKept};
 ghost use Rattle.t1_char.specs.Laws.Since.{AfterLastGoesOn, AnyGoesOn, LastGoesOn, SinceGoesOn, SinceIsByPlaces};
-ghost use Rattle.t1_char.specs.Laws.Steps.{CalledSubrsAreFound, FoundSubrsAreCalled, LastsAreByWhatFollows, NothingFollows, PlainGlyphsGoOn, StepsAreBounded, StepsGoOn};
+ghost use Rattle.t1_char.specs.Laws.Steps.{CalledSubrsAreFound, FoundSubrsAreCalled, GlyphsAreFinished, LastsAreByWhatFollows, NothingFollows, PlainGlyphsGoOn, StepsAreBounded, StepsGoOn};
 ghost use Rattle.t1_char.specs.Laws.Turns.{EndsAreTold, LastAnswersAreToldAgain, LimitsAreTold, StepsAreTold};
 ghost use Rattle.t1_char.specs.Laws.Written.{EachNumberIsWritten, EncipheredIsRead, ReadIsWritten, WrittenIsRead};
 
@@ -26,11 +26,12 @@ pub fn stacks_are_taken_from_the_top()
     ensures whole { WholeNumbersAreRead }
 {}
 
-/// A glyph without calls goes token by token; nothing follows the step that finishes a glyph; and no
+/// A glyph without calls goes token by token; each glyph has a step that finishes it, and nothing follows that; and no
 /// step has more than ten Subrs in its path, 24 numbers on the stack, or 22 results that wait.
 pub fn steps_follow_the_tokens()
     ensures plain { PlainGlyphsGoOn }
     ensures last { NothingFollows }
+    ensures finished { GlyphsAreFinished }
     ensures bounds { StepsAreBounded }
 {}
 

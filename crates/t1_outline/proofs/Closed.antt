@@ -20,7 +20,7 @@ use Rattle.t1_rules.specs.StepRules.Tokens.{closes, is_line, is_move}
 use Rattle.t1_rules.proofs.Lemmas.OthersubrCalls.{and_both}
 
 -- The same of segments alone.
-abbrev left_open : Bool → List Segment → Bool
+abbrev pub left_open : Bool → List Segment → Bool
 left_open is [] = is
 left_open is (s ∷ ss) = left_open (open_behind is s) ss
 
@@ -32,7 +32,7 @@ of_segments : (is : Bool) (number : ℕ) (path : List ℕ) (ss : List Segment) �
 of_segments is number path [] = refl
 of_segments is number path (s ∷ ss) = of_segments (open_behind is s) number path ss
 
-open_on : (before : List StepView) (t : StepView) → is_left_open false (drawn_of (before ++ t ∷ [])) ≡ left_open (is_left_open false (drawn_of before)) (drawn before t)
+pub open_on : (before : List StepView) (t : StepView) → is_left_open false (drawn_of (before ++ t ∷ [])) ≡ left_open (is_left_open false (drawn_of before)) (drawn before t)
 open_on before t =
     ap (is_left_open false) (drawn_more before t)
     ∙ behind_more false (drawn_of before) (map (placed (length before + 1) t.path) (drawn before t))
@@ -48,11 +48,11 @@ closed left true is segments e old = ap (left_open left) e
 closed true false is segments e old = let no : false ≡ true = (old refl).0 in cc
 closed false false is segments e old = ap (left_open false) e
 
-or_true : (a : Bool) → (a || true) ≡ true
+pub or_true : (a : Bool) → (a || true) ≡ true
 or_true true = refl
 or_true false = refl
 
-or_first : (a b : Bool) → a ≡ true → (a || b) ≡ true
+pub or_first : (a b : Bool) → a ≡ true → (a || b) ≡ true
 or_first true b is = refl
 or_first false b is = let no : false ≡ true = is in cc
 
@@ -82,7 +82,7 @@ on_step false false false false draws left there is segments no_move no_flex no_
     let both = old (sym (ap (left_open left) (of_rest refl refl refl)) ∙ left_now) in
     (kept false there both.0, kept draws is both.1)
 
-abbrev IsLeftOpen : List StepView → Type 0
+abbrev pub IsLeftOpen : List StepView → Type 0
 IsLeftOpen before = IsOpenBoth (is_left_open false (drawn_of before)) (has_subpath before) (is_open before)
 
 close_no_move : (token : CharToken) → closes token ≡ true → is_move token ≡ false
@@ -127,7 +127,7 @@ left_open_from : (front steps : List StepView) → IsLeftOpen front → IsLeftOp
 left_open_from front [] old = subst IsLeftOpen (sym (append-nil front)) old
 left_open_from front (s ∷ ss) old = subst IsLeftOpen (append_assoc front (s ∷ []) ss) (left_open_from (front ++ s ∷ []) ss (left_open_on front s old))
 
-left_is_open : (before : List StepView) → IsLeftOpen before
+pub left_is_open : (before : List StepView) → IsLeftOpen before
 left_is_open before = left_open_from [] before (λ left_now. let no : false ≡ true = left_now in cc)
 
 pub drawn_subpaths_are_closed : DrawnSubpathsAreClosed

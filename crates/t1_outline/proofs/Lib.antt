@@ -1,6 +1,7 @@
 pub mod Closed
 pub mod Flexes
 pub mod Fronts
+pub mod Glyphs
 pub mod LastPlaces
 pub mod Outlining
 pub mod PictureParts

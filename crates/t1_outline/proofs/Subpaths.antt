@@ -91,7 +91,7 @@ close_opens_none start false true = refl
 close_opens_none start true false = refl
 close_opens_none start false false = refl
 
-strokes_open_none : (start : Point) (v : List ℤ) (closing : Bool) (token : CharToken) → list_any is_opening (drawn_by true start closing (stroke_at start v token)) ≡ false
+pub strokes_open_none : (start : Point) (v : List ℤ) (closing : Bool) (token : CharToken) → list_any is_opening (drawn_by true start closing (stroke_at start v token)) ≡ false
 strokes_open_none start v closing (Command Rlineto) = refl
 strokes_open_none start v closing (Command Hlineto) = refl
 strokes_open_none start v closing (Command Vlineto) = refl
@@ -101,7 +101,7 @@ strokes_open_none start v closing (Command Hvcurveto) = refl
 strokes_open_none start v closing (Command _) = close_opens_none start true closing
 strokes_open_none start v closing _ = close_opens_none start true closing
 
-curves_open_none : (places : List Point) → list_any is_opening (flex_curves true places) ≡ false
+pub curves_open_none : (places : List Point) → list_any is_opening (flex_curves true places) ≡ false
 curves_open_none (start ∷ reference ∷ a ∷ b ∷ c ∷ d ∷ e ∷ f ∷ []) = refl
 curves_open_none _ = refl
 

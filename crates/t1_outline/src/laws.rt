@@ -2,15 +2,17 @@
 
 ghost use Rattle.t1_outline.specs.Laws.Flexes.{FlexesAreTwoCurves, OtherFlexesDrawNothing, WholeFlexesAreDrawn};
 ghost use Rattle.t1_outline.specs.Laws.Fronts.{FrontsDrawFronts};
+ghost use Rattle.t1_outline.specs.Laws.Glyphs.{GlyphsAreClosed, GlyphsBeginAtMoves};
 ghost use Rattle.t1_outline.specs.Laws.Parts.{AccentsStandByTheirSidebearings, GlyphsWithoutSeacAreOnePart, SeacsDrawBaseAndAccent};
 ghost use Rattle.t1_outline.specs.Laws.Paths.{DrawnSubpathsAreClosed, RulesAskIsOpen, SubpathsBeginAtMoves};
 ghost use Rattle.t1_outline.specs.Laws.Points.{StepsEndAtTheCurrentPoint};
-ghost use Rattle.t1_outline.specs.Laws.ShortForms.{ShortFormsDrawAlike};
+ghost use Rattle.t1_outline.specs.Laws.ShortForms.{ShortFormsDrawAlike, ShortStepsDrawAlike};
 
-/// Each short form of a line or a curve draws what the full one draws.
-#[tactic(auto, using(crate::proofs::ShortForms::short_forms_draw_alike))]
+/// Each short form of a line or a curve draws from any point what the full one draws; and a step that has a short form, of a move
+/// too, draws behind any steps what it draws with the full one.
 pub fn short_forms_draw_alike()
-    ensures { ShortFormsDrawAlike }
+    ensures strokes { ShortFormsDrawAlike }
+    ensures steps { ShortStepsDrawAlike }
 {}
 
 /// A front of the steps draws a front of what they draw.
@@ -28,6 +30,18 @@ pub fn rules_ask_is_open()
 #[tactic(auto, using(crate::proofs::Subpaths::subpaths_begin_at_moves))]
 pub fn subpaths_begin_at_moves()
     ensures { SubpathsBeginAtMoves }
+{}
+
+/// In a glyph without P01 each subpath begins at a move outside flex.
+#[tactic(auto, using(crate::proofs::Glyphs::glyphs_begin_at_moves))]
+pub fn glyphs_begin_at_moves()
+    ensures { GlyphsBeginAtMoves }
+{}
+
+/// In a glyph without P02 that ends within the limit each subpath that draws is closed.
+#[tactic(auto, using(crate::proofs::Glyphs::glyphs_are_closed))]
+pub fn glyphs_are_closed()
+    ensures { GlyphsAreClosed }
 {}
 
 /// But for closepath, the last segment of a step ends at the current point of the rules.

@@ -39,9 +39,9 @@ mod strokes;
 
 pub use composition::{Composition, Metrics, Seac};
 pub use laws::{
-    drawn_subpaths_are_closed, fronts_draw_fronts, rules_ask_is_open, seacs_draw_their_components,
-    short_forms_draw_alike, steps_end_at_the_current_point, subpaths_begin_at_moves,
-    whole_flexes_are_drawn,
+    drawn_subpaths_are_closed, fronts_draw_fronts, glyphs_are_closed, glyphs_begin_at_moves,
+    rules_ask_is_open, seacs_draw_their_components, short_forms_draw_alike,
+    steps_end_at_the_current_point, subpaths_begin_at_moves, whole_flexes_are_drawn,
 };
 pub use outline::{Drawn, Outline};
 pub use parts::{ORIGIN, Part, SeacPart, SeacParts};

@@ -40,6 +40,17 @@ NothingFollows = (font : FontValue) (glyph : ℕ) (front rest : List StepView) (
     steps_of font glyph ≡ front ++ step ∷ rest →
     finishes_at step.token step.path ≡ true → rest ≡ []
 
+-- The steps have a last one, and that finishes the glyph.
+pub record IsFinished (steps : List StepView) : Type 0 where
+  pub front : List StepView
+  pub end : StepView
+  pub is : steps ≡ front ++ end ∷ []
+  pub finishes : finishes_at end.token end.path ≡ true
+
+-- Each glyph is finished by its last step: endchar, seac, or the end of its own charstring.
+abbrev pub GlyphsAreFinished : Type 0
+GlyphsAreFinished = (font : FontValue) (glyph : ℕ) → IsFinished (steps_of font glyph)
+
 -- The bounds of a step.
 pub record IsBounded (step : StepView) : Type 0 where
   pub path : length step.path ≤ most_calls
