@@ -15,7 +15,7 @@ use t1_samples::{font_of, long_glyph, opened};
 /// The faults of a font by an edition, in its report and by a walk.
 fn faults_by(alloc: Global, font: &Font<'_>, edition: Edition) -> Result<String, Fail> {
     let (faults, _turns) = both(alloc, font, &Waivers::none(), edition)?;
-    in_short(alloc, font, faults.as_slice())
+    in_short(alloc, font, &Waivers::none(), faults.as_slice())
 }
 
 /// The faults of a font with Subrs and glyphs by the first edition and by the second.
@@ -145,7 +145,10 @@ fn long_components(rt: HostRuntime) -> Result<(), Fail> {
 /// The faults of a font by the second edition, by a walk, and how often that asks machines.
 fn walked_in_short(alloc: Global, font: &Font<'_>) -> Result<(String, u64), Fail> {
     let (faults, turns) = walked(alloc, font, &Waivers::none(), Edition::Two)?;
-    Ok((in_short(alloc, font, faults.as_slice())?, turns))
+    Ok((
+        in_short(alloc, font, &Waivers::none(), faults.as_slice())?,
+        turns,
+    ))
 }
 
 /// The faults of a font whose glyph A calls Subr 5 so often and goes on: in its report by the first edition, and by a

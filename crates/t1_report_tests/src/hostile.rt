@@ -98,7 +98,7 @@ fn reported(alloc: Global, font: &Font<'_>) -> Result<Vec<Fault>, Fail> {
 fn faults_in(alloc: Global, file: &mut OpenFont) -> Result<String, Fail> {
     let font = font_of(alloc, file)?;
     let faults = reported(alloc, &font)?;
-    in_short(alloc, &font, faults.as_slice())
+    in_short(alloc, &font, &Waivers::none(), faults.as_slice())
 }
 
 /// The lines of a font.

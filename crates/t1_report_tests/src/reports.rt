@@ -75,10 +75,14 @@ pub(super) fn lines_of(
     Ok(String::from_utf8(text)?)
 }
 
-/// What a fault's line says besides its number, `glyph` or `font`, and the text of its rule, which are as they
+/// What a fault's line says besides its number, `font`, `glyph` or `waiver`, and the text of its rule, which are as they
 /// have to be; nor does it say the `-` of a path without Subrs.
 fn short_of(alloc: Global, line: &str, number: u64, fault: &Fault) -> Result<String, Fail> {
-    let kind = if fault.unit == 0 { "font" } else { "glyph" };
+    let kind = match fault.rule {
+        Rule::U01 => "waiver",
+        _ if fault.unit == 0 => "font",
+        _ => "glyph",
+    };
     let front = format!(in alloc; "{number}: {kind} ")?;
     let text = rule_text(fault.rule);
     let back = format!(in alloc; " {text}\n")?;
@@ -95,23 +99,29 @@ fn add_short(
     alloc: Global,
     faults: &mut String,
     font: &Font<'_>,
+    waivers: &Waivers<'_>,
     number: u64,
     fault: &Fault,
 ) -> Result<(), Fail> {
     let mut line = Vec::new(alloc);
-    add_line(&mut line, font, &Waivers::none(), fault)?;
+    add_line(&mut line, font, waivers, fault)?;
     let line = String::from_utf8(line)?;
     let short = short_of(alloc, line.as_str(), number, fault)?;
     Ok(add_fault(faults, short.as_str())?)
 }
 
 /// The faults of a report in short.
-pub(super) fn in_short(alloc: Global, font: &Font<'_>, faults: &[Fault]) -> Result<String, Fail> {
+pub(super) fn in_short(
+    alloc: Global,
+    font: &Font<'_>,
+    waivers: &Waivers<'_>,
+    faults: &[Fault],
+) -> Result<String, Fail> {
     let mut text = String::new(alloc);
     let mut number = 0u64;
     for fault in faults {
         number = number.saturating_add(1);
-        add_short(alloc, &mut text, font, number, fault)?;
+        add_short(alloc, &mut text, font, waivers, number, fault)?;
     }
     Ok(text)
 }
@@ -134,7 +144,7 @@ pub(super) fn faults_of_file(alloc: Global, bytes: &[u8]) -> Result<String, Fail
     let mut file = OpenFont::open(alloc, bytes)?;
     let font = font_of(alloc, &mut file)?;
     let faults = reported(alloc, &font, bytes.len())?;
-    in_short(alloc, &font, faults.as_slice())
+    in_short(alloc, &font, &Waivers::none(), faults.as_slice())
 }
 
 /// The faults of a sample in short.

@@ -3,7 +3,7 @@
 ghost use Rattle.t1_rules.specs.Components.{AreOf};
 
 use crate::fonts::with_glyphs;
-use crate::reports::{in_short, lines_of};
+use crate::reports::in_short;
 use crate::waivers::waivers_in;
 use std::alloc::Global;
 use std::test::Fail;
@@ -83,9 +83,15 @@ const UNITS: &[(u32, &str, u64)] = &[
 ];
 
 /// The faults of a unit in short, whose numbers count from 1, and how often machines were asked.
-fn short_of_unit(alloc: Global, font: &Font<'_>, unit: u32) -> Result<(String, u64), Fail> {
-    let (faults, turns) = faults_of_unit(alloc, font, &Waivers::none(), Edition::One, unit)?;
-    Ok((in_short(alloc, font, faults.as_slice())?, turns))
+fn short_of_unit(
+    alloc: Global,
+    font: &Font<'_>,
+    waivers: &Waivers<'_>,
+    edition: Edition,
+    unit: u32,
+) -> Result<(String, u64), Fail> {
+    let (faults, turns) = faults_of_unit(alloc, font, waivers, edition, unit)?;
+    Ok((in_short(alloc, font, waivers, faults.as_slice())?, turns))
 }
 
 #[test]
@@ -94,7 +100,13 @@ fn each_unit_has_its_faults(rt: HostRuntime) -> Result<(), Fail> {
     let mut file = opened(rt.alloc(), &sample)?;
     let font = font_of(rt.alloc(), &mut file)?;
     for (unit, faults, turns) in UNITS {
-        let (found, asked) = short_of_unit(rt.alloc(), &font, *unit)?;
+        let (found, asked) = short_of_unit(
+            rt.alloc(),
+            &font,
+            &Waivers::none(),
+            Edition::One,
+            *unit,
+        )?;
         assert_eq!(rt; (found.as_str(), asked), (*faults, *turns), "unit {unit}");
     }
     Ok(())
@@ -103,59 +115,29 @@ fn each_unit_has_its_faults(rt: HostRuntime) -> Result<(), Fail> {
 /// A stem of one edge lies in another: they overlap in edition 1 alone. W01 is broken in both.
 const EDGES: &str = "A: 0 20 hstem 10 -20 hstem endchar | B: endchar";
 
-/// The lines of a unit, and how often machines were asked.
+/// The faults of a unit in short, and how often machines were asked.
 type Told = (&'static str, u64);
 
 /// Waivers, a unit, and what is told of it in editions 1 and 2. Unit 2 is glyph A, of seven steps, and 4 is the waivers':
 /// for one that is used machines are asked up to its first use.
 const WAIVED: &[(&[u8], u32, Told, Told)] = &[
-    (
-        b"",
-        2,
-        (
-            "1: glyph A - 3 W01 hsbw or sbw not first\n2: glyph A - 6 H02 stems overlap\n",
-            8,
-        ),
-        ("1: glyph A - 3 W01 hsbw or sbw not first\n", 8),
-    ),
-    (
-        b"A W01\nB P03\n",
-        2,
-        ("1: glyph A - 6 H02 stems overlap\n", 8),
-        ("", 8),
-    ),
-    (
-        b"A H02\n",
-        2,
-        ("1: glyph A - 3 W01 hsbw or sbw not first\n", 8),
-        ("1: glyph A - 3 W01 hsbw or sbw not first\n", 8),
-    ),
+    (b"", 2, ("A 3 W01, A 6 H02", 8), ("A 3 W01", 8)),
+    (b"A W01\nB P03\n", 2, ("A 6 H02", 8), ("", 8)),
+    (b"A H02\n", 2, ("A 3 W01", 8), ("A 3 W01", 8)),
     (b"A H02\nA W01\n", 2, ("", 8), ("", 8)),
     (
         b"A H02\nB W01\nB P03\nA P03\n",
         4,
-        (
-            "1: waiver B P03 U01 waiver not used\n2: waiver A P03 U01 waiver not used\n",
-            17,
-        ),
-        (
-            "1: waiver A H02 U01 waiver not used\n2: waiver B P03 U01 waiver not used\n\
-3: waiver A P03 U01 waiver not used\n",
-            19,
-        ),
+        ("B P03 U01, A P03 U01", 17),
+        ("A H02 U01, B P03 U01, A P03 U01", 19),
     ),
-    (
-        b"A P03\n",
-        3,
-        ("1: glyph B - 1 W01 hsbw or sbw not first\n", 2),
-        ("1: glyph B - 1 W01 hsbw or sbw not first\n", 2),
-    ),
+    (b"A P03\n", 3, ("B 1 W01", 2), ("B 1 W01", 2)),
     (b"A P03\n", 0, ("", 0), ("", 0)),
     (b"A P03\n", 5, ("", 0), ("", 0)),
 ];
 
-/// The lines of a unit with waivers, by an edition, and how often machines were asked.
-fn lines_of_unit(
+/// The same of a unit with a text of waivers.
+fn short_with_waivers(
     alloc: Global,
     font: &Font<'_>,
     text: &[u8],
@@ -163,8 +145,7 @@ fn lines_of_unit(
     unit: u32,
 ) -> Result<(String, u64), Fail> {
     let waivers = waivers_in(alloc, text)?;
-    let (faults, turns) = faults_of_unit(alloc, font, &waivers, edition, unit)?;
-    Ok((lines_of(alloc, font, &waivers, faults.as_slice())?, turns))
+    short_of_unit(alloc, font, &waivers, edition, unit)
 }
 
 #[test]
@@ -172,9 +153,9 @@ fn waivers_leave_faults_of_a_unit(rt: HostRuntime) -> Result<(), Fail> {
     let mut file = opened(rt.alloc(), &with_glyphs(rt.alloc(), "", EDGES)?)?;
     let font = font_of(rt.alloc(), &mut file)?;
     for (text, unit, first, second) in WAIVED {
-        let (one, asked) = lines_of_unit(rt.alloc(), &font, text, Edition::One, *unit)?;
+        let (one, asked) = short_with_waivers(rt.alloc(), &font, text, Edition::One, *unit)?;
         assert_eq!(rt; (one.as_str(), asked), *first, "unit {unit}, edition 1");
-        let (two, asked) = lines_of_unit(rt.alloc(), &font, text, Edition::Two, *unit)?;
+        let (two, asked) = short_with_waivers(rt.alloc(), &font, text, Edition::Two, *unit)?;
         assert_eq!(rt; (two.as_str(), asked), *second, "unit {unit}, edition 2");
     }
     Ok(())

@@ -3,7 +3,7 @@
 
 ghost use Rattle.t1_rules.specs.Components.{AreOf};
 
-use crate::reports::lines_of;
+use crate::reports::in_short;
 use crate::walks::{FIRST, FOUR_FAULTS, both, six_answers};
 use std::alloc::{AllocError, Global};
 use std::test::Fail;
@@ -110,21 +110,14 @@ const REPORTS: &[(&[u8], &[u8], &str, u64)] = &[
     (
         b"",
         b"A GE01\nA C05\nB C05\nA C05\n",
-        "1: waiver A C05 U01 waiver not used\n2: waiver B C05 U01 waiver not used\n",
+        "A C05 U01, B C05 U01",
         10,
     ),
-    (
-        FOUR_FAULTS,
-        b"A C05",
-        "1: glyph A - 3 C07 number out of range\n\
-2: glyph A - 3 W01 hsbw or sbw not first\n\
-3: glyph A - 4 P03 closepath without a path\n",
-        14,
-    ),
+    (FOUR_FAULTS, b"A C05", "A 3 C07, A 3 W01, A 4 P03", 14),
     (
         FOUR_FAULTS,
         b"A P03\nA C05\nA W01\nA C07\n.notdef C05",
-        "1: waiver .notdef C05 U01 waiver not used\n",
+        ".notdef C05 U01",
         29,
     ),
 ];
@@ -142,25 +135,25 @@ pub(super) fn waivers_in(alloc: Global, text: &[u8]) -> Result<Waivers<'_>, Fail
     Waivers::read(alloc, text).map_err(|_| Fail::from("waivers"))
 }
 
-/// The lines with waivers, and how often a walk asks machines.
-fn lines_with(alloc: Global, font: &Font<'_>, text: &[u8]) -> Result<(String, u64), Fail> {
+/// The faults with waivers in short, and how often a walk asks machines.
+fn faults_with(alloc: Global, font: &Font<'_>, text: &[u8]) -> Result<(String, u64), Fail> {
     let waivers = waivers_in(alloc, text)?;
     let (faults, turns) = both(alloc, font, &waivers, Edition::One)?;
-    Ok((lines_of(alloc, font, &waivers, faults.as_slice())?, turns))
+    Ok((in_short(alloc, font, &waivers, faults.as_slice())?, turns))
 }
 
 /// The same of a font with this glyph A.
-fn lines_of_glyph(alloc: Global, glyph: &[u8], text: &[u8]) -> Result<(String, u64), Fail> {
+fn faults_of_glyph(alloc: Global, glyph: &[u8], text: &[u8]) -> Result<(String, u64), Fail> {
     let mut file = with_glyph(alloc, glyph)?;
     let font = font_of(alloc, &mut file)?;
-    lines_with(alloc, &font, text)
+    faults_with(alloc, &font, text)
 }
 
 #[test]
 fn reports_with_waivers(rt: HostRuntime) -> Result<(), Fail> {
-    for (glyph, text, lines, turns) in REPORTS {
-        let (found, asked) = lines_of_glyph(rt.alloc(), glyph, text)?;
-        assert_eq!(rt; (found.as_str(), asked), (*lines, *turns), "{text:?}");
+    for (glyph, text, faults, turns) in REPORTS {
+        let (found, asked) = faults_of_glyph(rt.alloc(), glyph, text)?;
+        assert_eq!(rt; (found.as_str(), asked), (*faults, *turns), "{text:?}");
     }
     Ok(())
 }
