@@ -94,7 +94,7 @@ fn write_fraction<W: fmt::Write>(
         if rest == 0 {
             return Ok(());
         }
-        // It fits: the rest is below one, which is 10^9 at most.
+        // This can't fail: the rest is below one, which is 10^9 at most.
         let tenths = rest.saturating_mul(10);
         let digit = tenths / one;
         write!(f, "{digit}")?;

@@ -46,17 +46,34 @@ fn step_line(alloc: Global, step: u64, drawing: &Drawing) -> Result<String, Allo
     }
 }
 
-/// Adds the faults, or that there is none.
+/// Adds how many faults are waived, and the others, or that there is none.
 fn add_faults(
     alloc: Global,
     lines: &mut Vec<String>,
     faults: &mut Faults,
 ) -> Result<(), AllocError> {
+    if faults.waived > 0 {
+        lines.push(waived_line(alloc, faults.waived)?)?;
+    }
     if faults.lines.is_empty() {
-        lines.push(String::from_str(alloc, "no fault")?)?;
+        let none = if faults.waived > 0 {
+            "no other fault"
+        } else {
+            "no fault"
+        };
+        lines.push(String::from_str(alloc, none)?)?;
         return Ok(());
     }
     lines.push(String::from_str(alloc, NUMBERS)?)?;
     lines.append(&mut faults.lines)?;
     Ok(())
+}
+
+/// How many faults are waived.
+fn waived_line(alloc: Global, waived: u64) -> Result<String, AllocError> {
+    if waived == 1 {
+        String::from_str(alloc, "1 waived fault isn't shown")
+    } else {
+        format!(in alloc; "{waived} waived faults aren't shown")
+    }
 }
