@@ -97,9 +97,6 @@ shorter byte (c ∷ d ∷ text) some = elim (cases_Bool (c == byte)) [
   | inr e ↦ (let later = shorter byte (d ∷ text) (omega arith) in rw e (omega (arith, later)))
 ]
 
-some_same : {A : Type 0} (x y : A) → Some x ≡ Some y → x ≡ y
-some_same x y e = cc
-
 -- One line more.
 pub one_more : (font : Option (List ℕ)) (text : List ℕ) (number : ℕ) (left left' : Option (List ℕ)) (line : List ℕ)
     (out out' out'' errors errors' errors'' : SinkState) (are is : Bool)
