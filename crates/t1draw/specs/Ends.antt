@@ -1,7 +1,16 @@
 -- How a run ends, as its devices show it.
-use Rattle.std.specs.Prelude.{◌≡◌, ℕ, List, [], ◌∷◌, codes}
+use Rattle.std.specs.Prelude.{◌≡◌, ℕ, List, [], ◌∷◌, Option, None, Some, IfSome, codes}
 use Rattle.std.specs.List.{concat}
+use Rattle.t1_font.specs.Fonts.{FontValue}
+use Rattle.t1_format.specs.Shown.{shown}
 use Rattle.t1_io.specs.Devices.{Delivered, DeliveryFailed, PutFailed, SinkState, Wrote}
+use Rattle.t1_lines.specs.RefusalTexts.{refusal_text_of}
+use Rattle.t1_lines.specs.declared.refusal.RefusalCode.{RefusalCode}
+use Rattle.t1_report.specs.Waivers.{Waiver}
+use Rattle.t1_rules.specs.Components.{glyph_named}
+use Rattle.t1draw.specs.FontFiles.{IsFont, IsRefusedFont}
+use Rattle.t1draw.specs.WaiverTexts.{AreRefusedWaivers, AreWaivers}
+use Rattle.t1draw.specs.declared.command_line.Options.{Options}
 use Rattle.t1draw.specs.declared.status.Status.{Status}
 use Rattle.t1draw.specs.declared.status.Status.TheVariants.{Drawn, Failed, Refused}
 
@@ -16,18 +25,66 @@ refusal_line reason = concat (codes "refused: " ∷ reason ∷ codes "\n" ∷ []
 abbrev pub no_glyph_line : List ℕ → List ℕ
 no_glyph_line name = concat (codes "t1check: no glyph " ∷ name ∷ codes "\n" ∷ [])
 
--- It was told why there is no picture.
-pub data TellsWhy (errors errors' : SinkState) (result : Status) : Type 0 where
-  refused : (reason : List ℕ) → Tells (refusal_line reason) Refused errors errors' result → TellsWhy errors errors' result
-  no_glyph : (name : List ℕ) → Tells (no_glyph_line name) Failed errors errors' result → TellsWhy errors errors' result
-  read_failed : Tells (codes "t1check: read failed\n") Failed errors errors' result → TellsWhy errors errors' result
-  no_memory : Tells (codes "t1check: out of memory\n") Failed errors errors' result → TellsWhy errors errors' result
+-- The bytes of the font's file, where its reader knows them, are read as this font.
+abbrev pub FontIs : Option (List ℕ) → FontValue → Type 0
+FontIs file font = IfSome file (λ bytes. IsFont bytes font)
 
--- A picture was written whole, and flushed once, and nothing was told; a put or the flush failed, a beginning of it went out, and
--- this was told; or nothing was put on the output, and it was told why: so wherever the font or the waivers are refused.
-pub data Draws (out out' errors errors' : SinkState) (status : Status) : Type 0 where
-  drawn : (text : List ℕ) → Delivered out out' text → errors' ≡ errors → status ≡ Drawn → Draws out out' errors errors' status
-  broken :
-      (text : List ℕ) → DeliveryFailed out out' text → Tells (codes "t1check: write failed\n") Failed errors errors' status
-      → Draws out out' errors errors' status
-  none : out' ≡ out → TellsWhy errors errors' status → Draws out out' errors errors' status
+-- They are refused by this number.
+abbrev pub FontRefused : Option (List ℕ) → RefusalCode → Type 0
+FontRefused file code = IfSome file (λ bytes. IsRefusedFont bytes code)
+
+-- The text of the waivers, where its reader knows it, is read as these.
+abbrev pub WaiversAre : Option (List ℕ) → List Waiver → Type 0
+WaiversAre text waivers = IfSome text (λ bytes. AreWaivers bytes waivers)
+
+-- It is refused by this number.
+abbrev pub WaiversRefused : Option (List ℕ) → RefusalCode → Type 0
+WaiversRefused text code = IfSome text (λ bytes. AreRefusedWaivers bytes code)
+
+-- Of this font there is a picture of the glyph of this name.
+pub record IsDrawable (name : List ℕ) (font : FontValue) (text : Option (List ℕ)) : Type 0 where
+  -- The waivers are read.
+  pub waivers : List Waiver
+  pub waived : WaiversAre text waivers
+  -- The font has a glyph of the name.
+  pub glyph : ℕ
+  pub named : glyph_named font name ≡ Some glyph
+
+-- How a run ends, given the options, the bytes of the font's file and the text of the waivers.
+pub data Draws (options : Options) (file text : Option (List ℕ)) (out out' errors errors' : SinkState)
+    (status : Status) : Type 0 where
+  -- A picture was written whole, and flushed once, and nothing was told: status 0.
+  drawn :
+      (font : FontValue) → FontIs file font → IsDrawable options.glyph.items font text
+      → (picture : List ℕ) → Delivered out out' picture → errors' ≡ errors → status ≡ Drawn
+      → Draws options file text out out' errors errors' status
+  -- A put or the flush failed, a beginning of the picture went out, and this was told: status 3.
+  write_failed :
+      (font : FontValue) → FontIs file font → IsDrawable options.glyph.items font text
+      → (picture : List ℕ) → DeliveryFailed out out' picture
+      → Tells (codes "t1check: write failed\n") Failed errors errors' status
+      → Draws options file text out out' errors errors' status
+  -- The font is refused, and nothing was put on the output: status 2.
+  font_refused :
+      (code : RefusalCode) → FontRefused file code
+      → out' ≡ out → Tells (refusal_line (refusal_text_of code)) Refused errors errors' status
+      → Draws options file text out out' errors errors' status
+  -- The font is read and the waivers are refused, and nothing was put on the output: status 2.
+  waivers_refused :
+      (font : FontValue) → FontIs file font → (code : RefusalCode) → WaiversRefused text code
+      → out' ≡ out → Tells (refusal_line (refusal_text_of code)) Refused errors errors' status
+      → Draws options file text out out' errors errors' status
+  -- Both are read, the font has no glyph of the name, and nothing was put on the output: status 3.
+  no_glyph :
+      (font : FontValue) → FontIs file font → (waivers : List Waiver) → WaiversAre text waivers
+      → glyph_named font options.glyph.items ≡ None
+      → out' ≡ out → Tells (no_glyph_line (shown options.glyph.items)) Failed errors errors' status
+      → Draws options file text out out' errors errors' status
+  -- A read failed, and nothing was put on the output: status 3.
+  read_failed :
+      out' ≡ out → Tells (codes "t1check: read failed\n") Failed errors errors' status
+      → Draws options file text out out' errors errors' status
+  -- Memory ran out, and nothing was put on the output: status 3.
+  no_memory :
+      out' ≡ out → Tells (codes "t1check: out of memory\n") Failed errors errors' status
+      → Draws options file text out out' errors errors' status

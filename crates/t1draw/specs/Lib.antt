@@ -1,3 +1,5 @@
 pub mod Ends
+pub mod FontFiles
 pub mod Private
 pub mod Statuses
+pub mod WaiverTexts

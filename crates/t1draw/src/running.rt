@@ -1,7 +1,9 @@
 //! A run: reads a font, and the waivers, and draws what the options ask for.
 
-ghost use Rattle.std.specs.Prelude.{◌≡◌, ◌≤◌, ◌<◌, IfOk, List, MatchResult, Some, length, ℕ};
-ghost use Rattle.t1draw.specs.Ends.{Draws, TellsWhy};
+ghost use Rattle.std.specs.Prelude.{◌≡◌, ◌≤◌, ◌<◌, IfErr, IfOk, List, MatchResult, Some, length, ℕ};
+ghost use Rattle.t1draw.specs.Ends.{Draws};
+ghost use Rattle.t1draw.specs.FontFiles.{refusal_of};
+ghost use Rattle.t1draw.specs.Private.Failures.{DrawsFile, DrawsGlyph, IsUnreadable, TellsWhy};
 ghost use Rattle.t1draw.specs.Private.Failures.{failure_of_font, failure_of_waivers};
 ghost use Rattle.t1draw.specs.declared.running.Failure.TheVariants.{Memory, Refused};
 
@@ -25,8 +27,6 @@ const LARGEST_FILE: usize = 16_777_216;
 /// Why there is no picture.
 #[derive(Clone, Copy, Debug, PartialEq, Eq)]
 enum Failure {
-    /// The bytes aren't read as a font.
-    Unread(Unread),
     /// The font or the waivers are refused, by their numbers.
     Refused(RefusalCode),
     /// The font has no glyph of the name.
@@ -41,9 +41,9 @@ impl From<Unread> for Failure {
     ghost from_gives = { λ unread failure. failure ≡ failure_of_font unread };
 
     fn from(unread: Unread) -> Failure {
-        match unread {
-            Unread::Memory => Failure::Memory,
-            _ => Failure::Unread(unread),
+        match refusal_of(unread) {
+            Some(code) => Failure::Refused(code),
+            None => Failure::Memory,
         }
     }
 }
@@ -67,8 +67,32 @@ impl From<AllocError> for Failure {
     }
 }
 
+/// The refusal of bytes that aren't read as a font; want of memory is none.
+fn refusal_of(unread: Unread) -> Option<RefusalCode>
+    ensures { result ≡ refusal_of unread }
+{
+    match unread {
+        Unread::NotAFont => Some(RefusalCode::E01),
+        Unread::BadHeader => Some(RefusalCode::E02),
+        Unread::CutShort => Some(RefusalCode::E03),
+        Unread::NoEexec => Some(RefusalCode::E04),
+        Unread::TooShort => Some(RefusalCode::E06),
+        Unread::Unclosed => Some(RefusalCode::E07),
+        Unread::BadSubrs => Some(RefusalCode::E08),
+        Unread::BadCharStrings => Some(RefusalCode::E09),
+        Unread::BadLenIv => Some(RefusalCode::E10),
+        Unread::PastLimit => Some(RefusalCode::E11),
+        Unread::SecondSubrs => Some(RefusalCode::E12),
+        Unread::MultipleMaster => Some(RefusalCode::E13),
+        Unread::Memory => None,
+    }
+}
+
 /// Reads a font to its end, then the waivers, which are empty where none are asked for, and writes the picture of the glyph that
 /// the options name. Where there is none, it is told why, and nothing is put on the output.
+///
+/// Where memory is there and no reader and no device fails, the options, the font's bytes and the text of the waivers decide
+/// whether there is a picture, and what is told where there is none.
 pub fn draw<R: Read + Drop, V: Read + Drop, W: Sink, E: Sink>(
     alloc: Global,
     options: &Options,
@@ -77,7 +101,8 @@ pub fn draw<R: Read + Drop, V: Read + Drop, W: Sink, E: Sink>(
     out: &mut W,
     errors: &mut E,
 ) -> Status
-    ensures { Draws (W.state out.old) (W.state out.new) (E.state errors.old) (E.state errors.new) result }
+    ensures { Draws options.now (R.remaining font) (V.remaining waivers) (W.state out.old) (W.state out.new)
+        (E.state errors.old) (E.state errors.new) result }
 {
     match drawn(alloc, options, font, waivers) {
         Ok(text) => match deliver(out, text.as_bytes()) {
@@ -94,7 +119,9 @@ fn drawn<R: Read + Drop, V: Read + Drop>(
     options: &Options,
     font: R,
     waivers: V,
-) -> Result<String, Failure> {
+) -> Result<String, Failure>
+    ensures { DrawsFile options.now.glyph.items (R.remaining font) (V.remaining waivers) result }
+{
     let bytes = read(alloc, font, LARGEST_FILE, RefusalCode::E05)?;
     let mut file = OpenFont::open(alloc, bytes.as_slice())?;
     drop(bytes);
@@ -110,7 +137,9 @@ fn drawn_of<V: Read + Drop>(
     options: &Options,
     font: &Font<'_>,
     waivers: V,
-) -> Result<String, Failure> {
+) -> Result<String, Failure>
+    ensures { DrawsGlyph options.now.glyph.items font.now (V.remaining waivers) result }
+{
     let text = read(alloc, waivers, LARGEST_WAIVERS, RefusalCode::E15)?;
     let waivers = Waivers::read(alloc, text.as_slice())?;
     let Some(glyph) = glyph_named(font, options.glyph.as_slice()) else {
@@ -137,6 +166,7 @@ fn read<R: Read + Drop>(
     ensures most { IfOk result (λ bytes. length bytes.items ≤ most) }
     ensures bytes { (text : List ℕ) → R.remaining source ≡ Some text → MatchResult result (λ bytes. bytes.items ≡ text)
         (λ failure. failure ≡ Refused past → most < length text) }
+    ensures failures { IfErr result (IsUnreadable past) }
 {
     match read_all(alloc, source, most) {
         Ok(bytes) => Ok(bytes),
@@ -153,13 +183,9 @@ fn tell_failure<E: Sink>(
     failure: Failure,
     errors: &mut E,
 ) -> Status
-    ensures { TellsWhy (E.state errors.old) (E.state errors.new) result }
+    ensures { TellsWhy options.now.glyph.items failure (E.state errors.old) (E.state errors.new) result }
 {
     match failure {
-        Failure::Unread(unread) => match unread.to_string(alloc) {
-            Ok(text) => refuse(errors, text.as_str()),
-            Err(_) => tell(errors, OUT_OF_MEMORY, Status::Failed),
-        },
         Failure::Refused(code) => refuse(errors, refusal_text(code)),
         Failure::NoGlyph => match shown(alloc, options.glyph.as_slice()) {
             Ok(name) => tell_no_glyph(errors, name.as_str()),
