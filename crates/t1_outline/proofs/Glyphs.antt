@@ -49,7 +49,8 @@ none_opens is (s ∷ ss) none = by_first (is_opening s) refl none (λ rest. none
     by_first false e rest others = rw e (others rest)
     by_first true e rest others = let isnt : true ≡ false = rest in cc
 
-strokes_begin : (start : Point) (v : List ℤ) (closing : Bool) (token : CharToken) → moves_fine false (drawn_by false start closing (stroke_at start v token)) ≡ true
+strokes_begin : (start : Point) (v : List ℤ) (closing : Bool) (token : CharToken)
+    → moves_fine false (drawn_by false start closing (stroke_at start v token)) ≡ true
 strokes_begin start v closing token = by_token token
   where
     by_close : (b : Bool) → moves_fine false (drawn_by false start b None) ≡ true
@@ -72,7 +73,8 @@ curves_begin _ = refl
 
 strokes_fine : (left there : Bool) → (left ≡ true → there ≡ true) → (start : Point) (v : List ℤ) (closing : Bool) (token : CharToken)
     → moves_fine left (drawn_by there start closing (stroke_at start v token)) ≡ true
-strokes_fine left true old start v closing token = none_opens left (drawn_by true start closing (stroke_at start v token)) (strokes_open_none start v closing token)
+strokes_fine left true old start v closing token =
+    none_opens left (drawn_by true start closing (stroke_at start v token)) (strokes_open_none start v closing token)
 strokes_fine false false old start v closing token = strokes_begin start v closing token
 strokes_fine true false old start v closing token = let isnt : false ≡ true = old refl in cc
 

@@ -44,5 +44,6 @@ BeginAtMoves steps (d ∷ ds) = (is_opening d.segment ≡ true → IsOuterMove s
 -- So it is in a glyph without P01.
 abbrev pub GlyphsBeginAtMoves : Type 0
 GlyphsBeginAtMoves =
-    (edition : Edition) (font : FontValue) (glyph : ℕ) → NoneViolates edition P01 (take (limit_of edition) (steps_of font glyph)) →
+    (edition : Edition) (font : FontValue) (glyph : ℕ) →
+    NoneViolates edition P01 (take (limit_of edition) (steps_of font glyph)) →
     BeginAtMoves (take (limit_of edition) (steps_of font glyph)) (outline_of edition font glyph)
