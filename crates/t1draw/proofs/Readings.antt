@@ -16,8 +16,10 @@ use Rattle.t1draw.specs.Private.Failures.{DrawsFile, DrawsGlyph, IsUndrawn, IsUn
 use Rattle.t1draw.specs.Private.Failures.IsUndrawn.{font_refused, font_read as read_as, read_failed, no_memory}
 use Rattle.t1draw.specs.Private.Failures.IsUndrawnOf.{waivers_refused, read_failed as waivers_broken, no_memory as no_room}
 use Rattle.t1draw.specs.Private.Failures.IsUnreadable.{refused, read_failed as broken, no_memory as unroomed}
+use Rattle.t1draw.specs.Subjects.{Subject}
 use Rattle.t1draw.specs.WaiverTexts.{AreRefusedWaivers, AreWaivers}
 use Rattle.t1draw.specs.WaiverTexts.AreRefusedWaivers.{malformed, too_large as text_too_large}
+use Rattle.t1draw.specs.declared.command_line.Options.{Options}
 use Rattle.t1draw.specs.declared.running.Failure.{Failure}
 use Rattle.t1draw.specs.declared.running.Failure.TheVariants as failure
 
@@ -85,18 +87,20 @@ waivers_unreadable name font text reason large (unroomed is) = no_room is
 -- ---- what is answered
 
 -- A failure that a `?` hands on.
-pub file_fails : {X : Type 0} (name : List ℕ) (file text : Option (List ℕ)) (r : Result X Failure) (P : Failure → Type 0) → IsErrAnd r P
-    → ((reason : Failure) → P reason → IsUndrawn name file text reason) → DrawsFile name file text r
-file_fails name file text (Ok x) P never why = absurd never
-file_fails name file text (Err reason) P is why = why reason is
+pub file_fails : {X : Type 0} (bytes : X → List ℕ) (shows : Subject → List ℕ → Type 0) (options : Options) (file text : Option (List ℕ))
+    (r : Result X Failure) (P : Failure → Type 0) → IsErrAnd r P
+    → ((reason : Failure) → P reason → IsUndrawn options.glyph.items file text reason) → DrawsFile bytes shows options file text r
+file_fails bytes shows options file text (Ok x) P never why = absurd never
+file_fails bytes shows options file text (Err reason) P is why = why reason is
 
-pub glyph_fails : {X : Type 0} (name : List ℕ) (font : FontValue) (text : Option (List ℕ)) (r : Result X Failure) (P : Failure → Type 0) → IsErrAnd r P
-    → ((reason : Failure) → P reason → IsUndrawnOf name font text reason) → DrawsGlyph name font text r
-glyph_fails name font text (Ok x) P never why = absurd never
-glyph_fails name font text (Err reason) P is why = why reason is
+pub glyph_fails : {X : Type 0} (bytes : X → List ℕ) (shows : Subject → List ℕ → Type 0) (options : Options) (font : FontValue) (text : Option (List ℕ))
+    (r : Result X Failure) (P : Failure → Type 0) → IsErrAnd r P
+    → ((reason : Failure) → P reason → IsUndrawnOf options.glyph.items font text reason) → DrawsGlyph bytes shows options font text r
+glyph_fails bytes shows options font text (Ok x) P never why = absurd never
+glyph_fails bytes shows options font text (Err reason) P is why = why reason is
 
 -- What is answered of a font that was read is answered of its file.
-pub of_file : {X : Type 0} (name : List ℕ) (file text : Option (List ℕ)) (font : FontValue) (r : Result X Failure) → FontIs file font
-    → DrawsGlyph name font text r → DrawsFile name file text r
-of_file name file text font (Ok picture) is drawable = (font, is, drawable)
-of_file name file text font (Err reason) is why = read_as font is why
+pub of_file : {X : Type 0} (bytes : X → List ℕ) (shows : Subject → List ℕ → Type 0) (options : Options) (file text : Option (List ℕ)) (font : FontValue)
+    (r : Result X Failure) → FontIs file font → DrawsGlyph bytes shows options font text r → DrawsFile bytes shows options file text r
+of_file bytes shows options file text font (Ok picture) is drawn = (font, is, drawn)
+of_file bytes shows options file text font (Err reason) is why = read_as font is why

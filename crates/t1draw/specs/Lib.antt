@@ -2,4 +2,5 @@ pub mod Ends
 pub mod FontFiles
 pub mod Private
 pub mod Statuses
+pub mod Subjects
 pub mod WaiverTexts
