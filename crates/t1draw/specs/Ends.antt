@@ -56,8 +56,8 @@ pub record IsPicture (shows : Subject → List ℕ → Type 0) (options : Option
       shows (record { font = font; edition = options.edition; waivers = waivers; glyph = glyph; step = options.step }) picture
 
 -- How a run ends, given which texts show what, the options, the bytes of the font's file and the text of the waivers.
-pub data Draws (shows : Subject → List ℕ → Type 0) (options : Options) (file text : Option (List ℕ)) (out out' errors errors' : SinkState)
-    (status : Status) : Type 0 where
+pub data Draws (shows : Subject → List ℕ → Type 0) (options : Options) (file text : Option (List ℕ))
+    (out out' errors errors' : SinkState) (status : Status) : Type 0 where
   -- A picture was written whole, and flushed once, and nothing was told: status 0.
   drawn :
       (font : FontValue) → FontIs file font → (picture : List ℕ) → IsPicture shows options font text picture
