@@ -1,0 +1,6 @@
+pub mod FaultSteps
+pub mod Joined
+pub mod Made
+pub mod PartSteps
+pub mod Runs
+pub mod Written

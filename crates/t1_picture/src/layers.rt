@@ -1,9 +1,14 @@
 //! What is drawn, layer by layer: each is a text of SVG, or a list of what can be written once the frame is known.
 
+ghost use Rattle.std.specs.Prelude.{◌≡◌, ◌++◌, OnOk, codes, string_bytes};
+ghost use Rattle.t1_picture.specs.Layers.{begun, layers_view, mark_text, no_layers, segment_text, stretch_of, stretch_text, thick_text, use_text, with_bands, with_control, with_gap, with_mark, with_points, with_segment, with_segments};
+ghost use Rattle.t1_outline.specs.declared.segment.Segment.TheVariants.{Curve};
+ghost use Rattle.t1_picture.specs.Parts.{bands_of};
+
 use crate::bands::{Band, Direction};
 use crate::bounds::Bounds;
-use crate::decimals::{Coordinates, coordinate};
-use crate::subpath::Subpath;
+use crate::decimals::{Coordinates, Exact, coordinate};
+use crate::subpath::{Subpath, placed};
 use std::alloc::{AllocError, Global};
 use t1_char::Edition;
 use t1_outline::Segment;
@@ -12,12 +17,14 @@ use t1_rules::{Point, Stem};
 /// The layers of a drawing.
 #[derive(Drop)]
 pub(crate) struct Layers {
-    /// How far all of it reaches.
+    /// How far its points reach.
     pub(crate) bounds: Bounds,
+    /// The subpath that is being drawn.
+    pub(crate) subpath: Subpath,
     /// The outline, as data of a path.
     pub(crate) outline: String,
     /// The stretches that P02 speaks of.
-    pub(crate) open: String,
+    pub(crate) unclosed: String,
     /// The stretch of the step that was asked for.
     pub(crate) stretch: String,
     /// The lines from the ends of curves to their control points.
@@ -32,11 +39,14 @@ pub(crate) struct Layers {
 
 impl Layers {
     /// Nothing is drawn.
-    pub(crate) fn new(alloc: Global) -> Layers {
+    pub(crate) fn new(alloc: Global) -> Layers
+        ensures { layers_view result ≡ no_layers }
+    {
         Layers {
             bounds: Bounds::new(),
+            subpath: Subpath::new(),
             outline: String::new(alloc),
-            open: String::new(alloc),
+            unclosed: String::new(alloc),
             stretch: String::new(alloc),
             handles: String::new(alloc),
             points: String::new(alloc),
@@ -45,69 +55,78 @@ impl Layers {
         }
     }
 
-    /// Draws a segment behind a subpath.
-    pub(crate) fn draw(&mut self, before: &Subpath, segment: Segment) -> Result<(), AllocError> {
+    /// Begins a part: no subpath is there.
+    pub(crate) fn begin(&mut self)
+        ensures { layers_view self.new ≡ begun (layers_view self.old) }
+    {
+        self.subpath = Subpath::new();
+    }
+
+    /// Draws segments of a glyph whose origin stands at a point, each by itself too where it is thick.
+    pub(crate) fn draw_all(
+        &mut self,
+        origin: Point,
+        segments: &[Segment],
+        is_thick: bool,
+    ) -> Result<(), AllocError>
+        ensures { OnOk result (layers_view self.new ≡ with_segments origin is_thick (layers_view self.old) segments.now) }
+    {
+        for segment in segments {
+            self.draw(placed(origin, *segment), is_thick)?;
+        }
+        Ok(())
+    }
+
+    /// Draws a segment.
+    fn draw(&mut self, segment: Segment, is_thick: bool) -> Result<(), AllocError>
+        ensures { OnOk result (layers_view self.new ≡ with_segment is_thick (layers_view self.old) segment) }
+    {
+        write_if(is_thick, &mut self.stretch, &self.subpath, segment)?;
+        self.add_points(segment)?;
+        self.subpath.go_on(segment);
+        write_segment(&mut self.outline, segment)
+    }
+
+    /// Adds the points of a segment, and the handles of a curve.
+    fn add_points(&mut self, segment: Segment) -> Result<(), AllocError>
+        ensures { OnOk result (layers_view self.new ≡ with_points (layers_view self.old) segment) }
+    {
         match segment {
-            Segment::Move(to) => {
-                let place = Coordinates(to);
-                writeln!(self.outline, "M{place}")?;
-                self.add_point(to)
-            }
-            Segment::Line(to) => {
-                let place = Coordinates(to);
-                writeln!(self.outline, "L{place}")?;
-                self.add_point(to)
-            }
-            Segment::Curve(first, second, to) => self.draw_curve(before.end, first, second, to),
-            Segment::Close => self.outline.push_str("Z\n"),
+            Segment::Move(to) => self.add_point(to),
+            Segment::Line(to) => self.add_point(to),
+            Segment::Curve(first, second, to) => self.add_curve(first, second, to),
+            Segment::Close => Ok(()),
         }
     }
 
-    fn draw_curve(
-        &mut self,
-        from: Point,
-        first: Point,
-        second: Point,
-        to: Point,
-    ) -> Result<(), AllocError> {
-        let one = Coordinates(first);
-        let two = Coordinates(second);
-        let end = Coordinates(to);
-        writeln!(self.outline, "C{one} {two} {end}")?;
-        write_stretch(&mut self.handles, from, first)?;
+    /// Adds the points of a curve that goes on from the subpath, and its handles.
+    fn add_curve(&mut self, first: Point, second: Point, to: Point) -> Result<(), AllocError>
+        ensures { OnOk result (layers_view self.new ≡ with_points (layers_view self.old) (Curve first second to)) }
+    {
+        write_stretch(&mut self.handles, self.subpath.end, first)?;
         write_stretch(&mut self.handles, second, to)?;
         self.add_control(first)?;
         self.add_control(second)?;
         self.add_point(to)
     }
 
-    /// Draws a segment thickly.
-    pub(crate) fn thicken(&mut self, before: &Subpath, segment: Segment) -> Result<(), AllocError> {
-        match segment {
-            Segment::Move(_) => Ok(()),
-            Segment::Line(to) => write_stretch(&mut self.stretch, before.end, to),
-            Segment::Curve(first, second, to) => {
-                let start = Coordinates(before.end);
-                let one = Coordinates(first);
-                let two = Coordinates(second);
-                let end = Coordinates(to);
-                writeln!(self.stretch, "M{start}C{one} {two} {end}")
-            }
-            Segment::Close => write_stretch(&mut self.stretch, before.end, before.first),
-        }
+    /// Draws the stretch that would close the subpath.
+    pub(crate) fn leave_open(&mut self) -> Result<(), AllocError>
+        ensures { OnOk result (layers_view self.new ≡ with_gap (layers_view self.old)) }
+    {
+        write_stretch(&mut self.unclosed, self.subpath.end, self.subpath.first)
     }
 
-    /// Draws the stretch that would close a subpath.
-    pub(crate) fn leave_open(&mut self, subpath: &Subpath) -> Result<(), AllocError> {
-        write_stretch(&mut self.open, subpath.end, subpath.first)
-    }
-
-    fn add_point(&mut self, point: Point) -> Result<(), AllocError> {
+    fn add_point(&mut self, point: Point) -> Result<(), AllocError>
+        ensures { OnOk result (layers_view self.new ≡ with_mark (layers_view self.old) point) }
+    {
         self.bounds.take(point);
         write_mark(&mut self.points, "on", point)
     }
 
-    fn add_control(&mut self, point: Point) -> Result<(), AllocError> {
+    fn add_control(&mut self, point: Point) -> Result<(), AllocError>
+        ensures { OnOk result (layers_view self.new ≡ with_control (layers_view self.old) point) }
+    {
         self.bounds.take(point);
         write_mark(&mut self.controls, "off", point)
     }
@@ -119,26 +138,92 @@ impl Layers {
         direction: Direction,
         start: i64,
         edition: Edition,
-    ) -> Result<(), AllocError> {
+    ) -> Result<(), AllocError>
+        ensures { OnOk result (layers_view self.new
+            ≡ with_bands (layers_view self.old) (bands_of direction start edition stems.now)) }
+    {
         for stem in stems {
-            let band = Band::of(*stem, direction, start, edition);
-            band.widen(&mut self.bounds);
-            self.bands.push(band)?;
+            self.bands.push(Band::of(*stem, direction, start, edition))?;
         }
         Ok(())
     }
 }
 
+/// Writes a segment as data of a path.
+fn write_segment(text: &mut String, segment: Segment) -> Result<(), AllocError>
+    ensures { OnOk result (string_bytes text.new ≡ string_bytes text.old ++ segment_text segment) }
+{
+    match segment {
+        Segment::Move(to) => {
+            let place = Coordinates(to);
+            writeln!(text, "M{place}")
+        }
+        Segment::Line(to) => {
+            let place = Coordinates(to);
+            writeln!(text, "L{place}")
+        }
+        Segment::Curve(first, second, to) => {
+            let one = Coordinates(first);
+            let two = Coordinates(second);
+            let end = Coordinates(to);
+            writeln!(text, "C{one} {two} {end}")
+        }
+        Segment::Close => text.push_str("Z\n"),
+    }
+}
+
+/// Writes a segment by itself if it is thick, as it goes on from a subpath.
+fn write_if(
+    is_thick: bool,
+    text: &mut String,
+    before: &Subpath,
+    segment: Segment,
+) -> Result<(), AllocError>
+    ensures { OnOk result (string_bytes text.new ≡ string_bytes text.old ++ stretch_of is_thick before.now segment) }
+{
+    if is_thick {
+        write_thick(text, before, segment)
+    } else {
+        Ok(())
+    }
+}
+
+/// Writes a segment by itself, as it goes on from a subpath.
+fn write_thick(text: &mut String, before: &Subpath, segment: Segment) -> Result<(), AllocError>
+    ensures { OnOk result (string_bytes text.new ≡ string_bytes text.old ++ thick_text before.now segment) }
+{
+    match segment {
+        Segment::Move(_) => Ok(()),
+        Segment::Line(to) => write_stretch(text, before.end, to),
+        Segment::Curve(first, second, to) => {
+            let start = Coordinates(before.end);
+            let one = Coordinates(first);
+            let two = Coordinates(second);
+            let end = Coordinates(to);
+            writeln!(text, "M{start}C{one} {two} {end}")
+        }
+        Segment::Close => write_stretch(text, before.end, before.first),
+    }
+}
+
 /// Writes a straight stretch as data of a path.
-fn write_stretch(data: &mut String, from: Point, to: Point) -> Result<(), AllocError> {
+fn write_stretch(text: &mut String, from: Point, to: Point) -> Result<(), AllocError>
+    ensures { OnOk result (string_bytes text.new ≡ string_bytes text.old ++ stretch_text from to) }
+{
     let start = Coordinates(from);
     let end = Coordinates(to);
-    writeln!(data, "M{start}L{end}")
+    writeln!(text, "M{start}L{end}")
 }
 
 /// Writes a mark at a point, by the name of its form.
-pub(crate) fn write_mark(svg: &mut String, form: &str, point: Point) -> Result<(), AllocError> {
-    let x = coordinate(point.x);
-    let y = coordinate(point.y);
+pub(crate) fn write_mark(svg: &mut String, form: &str, point: Point) -> Result<(), AllocError>
+    ensures { OnOk result (string_bytes svg.new ≡ string_bytes svg.old ++ mark_text form.now point) }
+{
+    write_use(svg, form, coordinate(point.x), coordinate(point.y))
+}
+
+fn write_use(svg: &mut String, form: &str, x: Exact, y: Exact) -> Result<(), AllocError>
+    ensures { OnOk result (string_bytes svg.new ≡ string_bytes svg.old ++ use_text form.now x y) }
+{
     writeln!(svg, r##"<use xlink:href="#{form}" x="{x}" y="{y}"/>"##)
 }

@@ -23,10 +23,13 @@
 mod bands;
 mod bounds;
 mod decimals;
+mod drawing;
 mod faults;
 mod frame;
 mod layers;
 mod legend;
+mod line;
+mod marks;
 mod parts;
 mod run;
 mod subpath;

@@ -1,6 +1,11 @@
 //! A glyph that is executed, with what its steps draw.
 
-ghost use Rattle.std.specs.Prelude.{◌<◌, length};
+ghost use Rattle.std.specs.Prelude.{◌≡◌, ◌<◌, ◌≤◌, length};
+ghost use Rattle.t1_char.specs.StepValues.{step_value};
+ghost use Rattle.t1_picture.specs.Runs.{GivesNext, GoesTo, IsInHand, IsOfSameGlyph, seen_steps};
+ghost use Rattle.t1_rules.specs.StepRules.Flex.{current_point};
+ghost use Rattle.t1_rules.specs.StepRules.Paths.{in_flex};
+ghost use Rattle.t1_rules.specs.StepRules.Stems.{hint_set, lies_across, stands_upright};
 
 use std::marker::Model;
 use t1_char::{Answer, Edition, Machine, Numbers, Step};
@@ -29,18 +34,23 @@ pub(crate) struct Run<'a> {
 impl<'a> Model for Run<'a> {
     ghost use Rattle.t1_char.specs.Turns.{MachineView};
     ghost use Rattle.t1_outline.specs.Private.Outlining.{IsOutlining};
+    ghost use Rattle.t1_picture.specs.Runs.{IsInHand};
 
     ghost Value = { MachineView };
 
     ghost view = { λ r. r.machine };
 
-    ghost invariant = { λ r. IsOutlining r.machine r.pen };
+    ghost invariant = { λ r. IsOutlining r.machine r.pen × IsInHand r.machine };
 }
 
 impl<'a> Run<'a> {
     /// Before the first step of a glyph, by its place.
     pub(crate) fn start(font: &'a Font<'a>, glyph: usize, edition: Edition) -> Run<'a>
         requires { glyph < length font.now.glyphs }
+        ensures font { result.font ≡ font.now }
+        ensures glyph { result.glyph ≡ glyph }
+        ensures edition { result.edition ≡ edition }
+        ensures counted { result.counted ≡ 0 }
     {
         Run {
             machine: Machine::start(font, glyph, edition),
@@ -49,7 +59,10 @@ impl<'a> Run<'a> {
     }
 
     /// What the next step draws.
-    pub(crate) fn next(&mut self) -> Next {
+    pub(crate) fn next(&mut self) -> Next
+        ensures same { IsOfSameGlyph self.old self.new }
+        ensures gives { GivesNext self.old self.new result }
+    {
         match self.machine.go_on(Numbers::Told) {
             Answer::Step => Next::Step(self.pen.draw(self.machine.current())),
             Answer::Ended => Next::Ended,
@@ -57,9 +70,12 @@ impl<'a> Run<'a> {
         }
     }
 
-    /// Goes on until the next step is the one of a number.
-    pub(crate) fn go_before(&mut self, number: u32) {
-        for _step in self.machine.counted() + 1..number {
+    /// Goes on until so many steps were executed, or all.
+    pub(crate) fn go_to(&mut self, count: u32)
+        ensures same { IsOfSameGlyph self.old self.new }
+        ensures goes { self.old.counted ≤ count → GoesTo self.old self.new count }
+    {
+        for _step in self.machine.counted()..count {
             let Next::Step(_) = self.next() else {
                 return;
             };
@@ -67,27 +83,38 @@ impl<'a> Run<'a> {
     }
 
     /// The step that was executed last.
-    pub(crate) fn step(&self) -> &Step {
+    pub(crate) fn step(&self) -> &Step
+        ensures value { step_value result.now ≡ self.now.step }
+        ensures in_hand { IsInHand self.now }
+    {
         self.machine.current()
     }
 
     /// The current point, in front of the next step.
-    pub(crate) fn point(&self) -> Point {
+    pub(crate) fn point(&self) -> Point
+        ensures { result ≡ current_point (seen_steps self.now) }
+    {
         self.pen.point()
     }
 
     /// Whether a flex was started, and not ended since.
-    pub(crate) fn is_in_flex(&self) -> bool {
+    pub(crate) fn is_in_flex(&self) -> bool
+        ensures { result ≡ in_flex (seen_steps self.now) }
+    {
         self.pen.is_in_flex()
     }
 
     /// The stems of hstem and hstem3 that are in force.
-    pub(crate) fn across(&self) -> &[Stem] {
+    pub(crate) fn across(&self) -> &[Stem]
+        ensures { result.now ≡ hint_set lies_across (seen_steps self.now) }
+    {
         self.pen.across()
     }
 
     /// Those of vstem and vstem3.
-    pub(crate) fn upright(&self) -> &[Stem] {
+    pub(crate) fn upright(&self) -> &[Stem]
+        ensures { result.now ≡ hint_set stands_upright (seen_steps self.now) }
+    {
         self.pen.upright()
     }
 }

@@ -1,5 +1,8 @@
 //! The subpath that is being drawn.
 
+ghost use Rattle.std.specs.Prelude.{◌≡◌};
+ghost use Rattle.t1_picture.specs.Subpaths.{behind, gone_on, no_subpath, placed};
+
 use t1_outline::{ORIGIN, Segment};
 use t1_rules::Point;
 
@@ -16,7 +19,9 @@ pub(crate) struct Subpath {
 
 impl Subpath {
     /// None is begun.
-    pub(crate) fn new() -> Subpath {
+    pub(crate) fn new() -> Subpath
+        ensures { result ≡ no_subpath }
+    {
         Subpath {
             first: ORIGIN,
             end: ORIGIN,
@@ -25,7 +30,9 @@ impl Subpath {
     }
 
     /// Goes on by a segment.
-    pub(crate) fn go_on(&mut self, segment: Segment) {
+    pub(crate) fn go_on(&mut self, segment: Segment)
+        ensures { self.new ≡ gone_on self.old segment }
+    {
         match segment {
             Segment::Move(to) => {
                 self.first = to;
@@ -45,7 +52,9 @@ impl Subpath {
 }
 
 /// A point behind another one.
-pub(crate) fn behind(origin: Point, point: Point) -> Point {
+pub(crate) fn behind(origin: Point, point: Point) -> Point
+    ensures { result ≡ behind origin point }
+{
     Point {
         x: origin.x.saturating_add(point.x),
         y: origin.y.saturating_add(point.y),
@@ -53,7 +62,9 @@ pub(crate) fn behind(origin: Point, point: Point) -> Point {
 }
 
 /// A segment of a glyph whose origin stands at a point.
-pub(crate) fn placed(origin: Point, segment: Segment) -> Segment {
+pub(crate) fn placed(origin: Point, segment: Segment) -> Segment
+    ensures { result ≡ placed origin segment }
+{
     match segment {
         Segment::Move(to) => Segment::Move(behind(origin, to)),
         Segment::Line(to) => Segment::Line(behind(origin, to)),

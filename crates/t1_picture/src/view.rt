@@ -1,5 +1,9 @@
 //! What is to be drawn.
 
+ghost use Rattle.std.specs.Prelude.{◌≡◌, unwrap_or};
+ghost use Rattle.t1_picture.specs.Drawings.{all_steps};
+ghost use Rattle.t1_report.specs.Lines.{glyph_name};
+
 use t1_char::Edition;
 use t1_font::Font;
 use t1_report::Waivers;
@@ -22,23 +26,31 @@ pub struct View<'a> {
 
 impl<'a> View<'a> {
     /// The edition that counts.
-    pub(crate) fn edition(&self) -> Edition {
+    pub(crate) fn edition(&self) -> Edition
+        ensures { result ≡ self.now.sidebearings.now.edition }
+    {
         self.sidebearings.edition()
     }
 
     /// How many steps are drawn at most.
-    pub(crate) fn last(&self) -> u64 {
+    pub(crate) fn last(&self) -> u64
+        ensures { result ≡ unwrap_or self.now.step all_steps }
+    {
         self.step.unwrap_or(u64::MAX)
     }
 
     /// The glyph's name.
-    pub(crate) fn name(&self) -> &'a [u8] {
+    pub(crate) fn name(&self) -> &'a [u8]
+        ensures { result.now ≡ glyph_name self.now.font.now self.now.glyph }
+    {
         name_of(self.font, self.glyph)
     }
 }
 
 /// The name of a glyph, by its place.
-pub(crate) fn name_of<'a>(font: &Font<'a>, glyph: usize) -> &'a [u8] {
+pub(crate) fn name_of<'a>(font: &Font<'a>, glyph: usize) -> &'a [u8]
+    ensures { result.now ≡ glyph_name font.now glyph }
+{
     match font.glyphs().get_index(glyph) {
         Some((name, _)) => *name,
         None => &[],

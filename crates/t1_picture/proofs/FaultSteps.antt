@@ -1,0 +1,354 @@
+-- The faults of a glyph that were added so far.
+use Rattle.std.proofs.Common.{◌≡◌, ℕ, zero, suc, ◌+◌, ◌-◌, ◌<◌, ◌≤◌, ◌==◌, ◌&&◌, inl, inr, min, Bool, true, false, true≢false, cond, nat_le, nat_lt, if◌then◌else◌, Option, None, Some, List, [], ◌∷◌, ◌++◌, length, length-take, take, append_assoc, append-nil, slice_get, refl, sym, ap, subst, ◌∙◌, arith}
+use Rattle.std.proofs.lemmas.Bool.{leb-true, leb-false, ltb-true}
+use Rattle.std.proofs.lemmas.List.Sums.{sum_by-cons}
+use Rattle.std.specs.List.{count_by}
+use Rattle.std.specs.Option.{option_to_list}
+use Rattle.std.specs.Option.{option_and_then}
+use Rattle.t1_char.specs.Steps.{NumberedStep, StepView, steps_of}
+use Rattle.t1_char.specs.Turns.{MachineView, step_of_number}
+use Rattle.t1_outline.specs.Private.Outlining.{steps_in}
+use Rattle.t1_picture.specs.declared.marks.FaultMark.{FaultMark}
+use Rattle.t1_picture.specs.declared.marks.Marks.{Marks}
+use Rattle.t1_picture.specs.Drawings.{all_steps}
+use Rattle.t1_picture.specs.FaultViews.{AreThose, IsRunFor, IsStepOf, counted}
+use Rattle.t1_picture.specs.MarkViews.{IsMarked, done_with, last_with}
+use Rattle.t1_picture.specs.Marks.{AreShownOf, fault_lines, glyph_steps, is_X05, is_waived_of, last_of, lines_of, marks_from, miss_lines, named_at, named_by, pen_at, same_point, shown_of, up_to, waived_of}
+use Rattle.t1_picture.specs.Runs.{GoesTo, IsInHand, IsOfSameGlyph, seen_steps}
+use Rattle.t1_picture.specs.Subjects.{Subject}
+use Rattle.t1_picture.specs.Texts.{legible_line}
+use Rattle.t1_picture.proofs.Runs.{none_past}
+use Rattle.t1_report.specs.declared.marks.Mark.{Mark}
+use Rattle.t1_report.specs.Checked.{CheckedFont, checked, step_limit}
+use Rattle.t1_report.specs.Faults.{FaultValue}
+use Rattle.t1_report.specs.Lines.{glyph_name, line_of}
+use Rattle.t1_report.specs.Reports.{Place, is_broken, is_told, path_at, place_of, rules_of, step_breaks}
+use Rattle.t1_report.specs.UnitFaults.{HasNoneLaterInUnit, IsNextInUnit, IsToldOf, first_mark_of}
+use Rattle.t1_report.specs.Waivers.{Waiver, is_waived}
+use Rattle.t1_report.specs.Walks.{AreLaterOf, IsNextOf, mark_of}
+use Rattle.t1_report.proofs.Broken.{past_steps}
+use Rattle.t1_report.proofs.OneReport.{both, same_fault}
+use Rattle.t1_report.proofs.Told.{quiet_told}
+use Rattle.t1_rules.specs.declared.rule.Rule.{Rule}
+use Rattle.t1_rules.specs.declared.rule.Rule.TheVariants.{L01, X05}
+use Rattle.t1_rules.specs.declared.step_rules.flex.Point.{Point}
+use Rattle.t1_rules.specs.Book.{number_of}
+use Rattle.t1_rules.specs.StepRules.{breaks_at}
+use Rattle.t1_rules.specs.StepRules.Flex.{current_point}
+
+-- There is one next fault.
+pub one_next : (Violated : Place → Type 0) (path_of : Place → List ℕ) (mark : Mark) (a b : FaultValue)
+    → IsNextOf Violated path_of mark a → IsNextOf Violated path_of mark b → a ≡ b
+one_next Violated path_of mark a b next other = elim (next.first (place_of b) other.violation.violated other.later) [
+  | inl same ↦ same_fault path_of a b (next.number ∙ sym other.number) same next.violation.path other.violation.path
+  | inr before ↦ elim (other.first (place_of a) next.violation.violated next.later) [
+    | inl same ↦ same_fault path_of a b (next.number ∙ sym other.number) (sym same) next.violation.path other.violation.path
+    | inr after ↦ absurd (both (place_of a) (place_of b) before after)
+  ]
+]
+
+-- In a unit faults come by their steps.
+pub steps_rise : (font : CheckedFont) (waivers : List Waiver) (unit : ℕ) (mark : Mark) (fault : FaultValue) → mark.unit ≡ unit
+    → IsNextInUnit font waivers unit mark fault → mark.step ≤ fault.step
+steps_rise font waivers unit mark fault at next = elim next.later [
+  | inl unit_less ↦ absurd (omega (arith, unit_less, at, next.violation.violated.0))
+  | inr same_unit ↦ elim same_unit.1 [ inl less ↦ omega (arith, less) | inr same ↦ omega (arith, same.0) ]
+]
+
+-- Where X05 is told a step stands.
+told_is_broken : (font : CheckedFont) (waivers : List Waiver) (unit step n : ℕ) → unit ≤ length font.value.glyphs
+    → is_told font waivers unit step n ≡ true → is_broken font unit step n ≡ true
+told_is_broken font waivers unit step n within told = by_test (is_broken font unit step n) refl
+  where
+    by_test : (b : Bool) → is_broken font unit step n ≡ b → b ≡ true
+    by_test true is = refl
+    by_test false is = absurd (true≢false (sym told ∙ quiet_told font waivers unit step n within is))
+
+and_right : (a b : Bool) → (a && b) ≡ true → b ≡ true
+and_right true b is = is
+and_right false b is = absurd (true≢false (sym is))
+
+below_limit : (font : CheckedFont) (glyph i : ℕ) → is_broken font (suc glyph) (suc i) (number_of X05) ≡ true → i < step_limit font
+unfolding is_broken
+below_limit font glyph i is = by_test (nat_lt i (step_limit font)) refl
+    (and_right (nat_lt glyph (length font.value.glyphs)) _ is)
+  where
+    by_test : (b : Bool) → nat_lt i (step_limit font) ≡ b
+        → step_breaks (step_limit font) (rules_of font) (number_of X05) (steps_of font.value glyph) i ≡ true → i < step_limit font
+    by_test true less breaks = ltb-true i (step_limit font) less
+    by_test false more breaks = absurd (true≢false (sym (and_right _ (number_of L01 == number_of X05)
+        (sym (ap (λ b. cond b (breaks_at (rules_of font) (number_of X05) (steps_of font.value glyph) i)
+        ((i == step_limit font && nat_lt i (length (steps_of font.value glyph))) && number_of L01 == number_of X05)) more) ∙ breaks))))
+
+no_step : (font : CheckedFont) (glyph n : ℕ) → is_broken font (suc glyph) 0 n ≡ true → ⊥
+unfolding is_broken
+no_step font glyph n is = true≢false (sym is)
+
+of_step : (s : Subject) (i : ℕ) → i < length (steps_of s.font s.glyph) → i < step_limit (checked s.font s.edition) → IsStepOf s (suc i)
+of_step s i less below = record {
+  some = omega arith;
+  within = omega (arith, less, below, length-take (step_limit (checked s.font s.edition)) (steps_of s.font s.glyph));
+}
+
+pub x05_stands : (s : Subject) (waivers : List Waiver) (fault : FaultValue) → s.glyph < length s.font.glyphs → fault.rule ≡ X05
+    → IsToldOf (checked s.font s.edition) waivers (s.glyph + 1) (place_of fault) → IsStepOf s fault.step
+x05_stands s waivers fault there rule told = by_step fault.step refl
+  where
+    font : CheckedFont
+    font = checked s.font s.edition
+
+    broken : is_broken font (s.glyph + 1) fault.step (number_of X05) ≡ true
+    broken =
+        ap (λ (u : ℕ). is_broken font u fault.step (number_of X05)) (sym told.0)
+        ∙ ap (λ (r : Rule). is_broken font fault.unit fault.step (number_of r)) (sym rule)
+        ∙ told_is_broken font waivers fault.unit fault.step (number_of fault.rule) (omega (arith, told.0, there)) told.1
+
+    in_unit : (step : ℕ) → fault.step ≡ step → is_broken font (suc s.glyph) step (number_of X05) ≡ true
+    in_unit step is = let unit : suc s.glyph ≡ s.glyph + 1 = omega arith in
+        ap (λ (u : ℕ). is_broken font u step (number_of X05)) unit ∙ ap (λ (k : ℕ). is_broken font (s.glyph + 1) k (number_of X05)) (sym is) ∙ broken
+
+    within : (i : ℕ) → is_broken font (suc s.glyph) (suc i) (number_of X05) ≡ true → i < length (steps_of s.font s.glyph)
+    within i is = by_test (nat_le (suc i) (length (take (step_limit font + 1) (steps_of s.font s.glyph)))) refl
+      where
+        by_test : (b : Bool) → nat_le (suc i) (length (take (step_limit font + 1) (steps_of s.font s.glyph))) ≡ b → i < length (steps_of s.font s.glyph)
+        by_test true less =
+            omega (
+              arith,
+              leb-true (suc i) (length (take (step_limit font + 1) (steps_of s.font s.glyph))) less,
+              length-take (step_limit font + 1) (steps_of s.font s.glyph),
+            )
+        by_test false more = absurd (true≢false (sym is ∙ past_steps font (suc s.glyph) s.glyph (suc i) (number_of X05) (omega arith)
+            (leb-false (suc i) (length (take (step_limit font + 1) (steps_of s.font s.glyph))) more)))
+
+    by_step : (step : ℕ) → fault.step ≡ step → IsStepOf s fault.step
+    by_step zero is = absurd (no_step font s.glyph (number_of X05) (in_unit 0 is))
+    by_step (suc i) is =
+        subst (λ (k : ℕ). IsStepOf s k) (sym is) (of_step s i (within i (in_unit (suc i) is)) (below_limit font s.glyph i (in_unit (suc i) is)))
+
+-- ---- faults that were added
+
+-- What is left to be added.
+abbrev pub left_to_add : Subject → ℕ → List FaultValue → List FaultValue
+left_to_add s n rest = take (all_steps - n) (up_to (last_of s) rest)
+
+pub record HasAdded (s : Subject) (faults : List FaultValue) (n : ℕ) (mark : Mark) (marks : Marks) (lines : List (List ℕ)) : Type 0 where
+  pub rest : List FaultValue
+  pub are : AreLaterOf (IsToldOf (checked s.font s.edition) s.waivers (s.glyph + 1)) (path_at (checked s.font s.edition)) mark rest
+  pub marks_are : marks.done.items ++ marks_from s marks.last (left_to_add s n rest) ≡ marks_from s None (shown_of s faults)
+  pub lines_are : lines ++ lines_of s (left_to_add s n rest) ≡ lines_of s (shown_of s faults)
+
+pub none_added : (s : Subject) (faults : List FaultValue) (mark : Mark) (marks : Marks) (lines : List (List ℕ)) → AreShownOf s s.waivers faults
+    → mark ≡ first_mark_of (s.glyph + 1) → marks.done.items ≡ [] → marks.last ≡ None → lines ≡ [] → HasAdded s faults 0 mark marks lines
+none_added s faults mark marks lines are first none no_last no_lines = record {
+  rest = faults;
+  are = subst (λ (m : Mark). AreLaterOf (IsToldOf (checked s.font s.edition) s.waivers (s.glyph + 1)) (path_at (checked s.font s.edition)) m faults)
+      (sym first) are;
+  marks_are = rw (none, no_last) refl;
+  lines_are = rw no_lines refl;
+}
+
+marks_next : (s : Subject) (o : Option FaultMark) (f : FaultValue) (fs : List FaultValue)
+    → marks_from s o (f ∷ fs) ≡ done_with o (pen_at s f.step) ++ marks_from s (Some (last_with o (pen_at s f.step) f.number)) fs
+marks_next s None f fs = refl
+marks_next s (Some mark) f fs = by_test (same_point mark.point (pen_at s f.step)) refl
+  where
+    by_test : (b : Bool) → same_point mark.point (pen_at s f.step) ≡ b
+        → marks_from s (Some mark) (f ∷ fs) ≡ done_with (Some mark) (pen_at s f.step) ++ marks_from s (Some (last_with (Some mark) (pen_at s f.step) f.number)) fs
+    by_test true same = rw same refl
+    by_test false other = rw other refl
+
+left_next : (s : Subject) (n : ℕ) (f : FaultValue) (fs : List FaultValue) → n < all_steps → nat_le f.step (last_of s) ≡ true
+    → left_to_add s n (f ∷ fs) ≡ f ∷ left_to_add s (n + 1) fs
+left_next s n f fs less shown =
+    let more : all_steps - n ≡ suc (all_steps - (n + 1)) = omega (arith, less) in
+    ap (λ b. take (all_steps - n) (cond b (f ∷ up_to (last_of s) fs) [])) shown ∙ ap (λ (k : ℕ). take k (f ∷ up_to (last_of s) fs)) more
+
+pub one_added : (s : Subject) (faults : List FaultValue) (n : ℕ) (mark : Mark) (marks marks' : Marks) (lines lines' : List (List ℕ)) (f : FaultValue)
+    → HasAdded s faults n mark marks lines → n < all_steps → IsNextInUnit (checked s.font s.edition) s.waivers (s.glyph + 1) mark f
+    → nat_le f.step (last_of s) ≡ true → IsMarked marks marks' (pen_at s f.step) f.number → lines' ≡ lines ++ fault_lines s f
+    → HasAdded s faults (n + 1) (mark_of f) marks' lines'
+one_added s faults n mark marks marks' lines lines' f has less next shown marked lined = go has.rest has.are has.marks_are has.lines_are
+  where
+    Told : Place → Type 0
+    Told = IsToldOf (checked s.font s.edition) s.waivers (s.glyph + 1)
+
+    go : (rest : List FaultValue) → AreLaterOf (IsToldOf (checked s.font s.edition) s.waivers (s.glyph + 1)) (path_at (checked s.font s.edition)) mark rest
+        → marks.done.items ++ marks_from s marks.last (left_to_add s n rest) ≡ marks_from s None (shown_of s faults)
+        → lines ++ lines_of s (left_to_add s n rest) ≡ lines_of s (shown_of s faults)
+        → HasAdded s faults (n + 1) (mark_of f) marks' lines'
+    go [] none marks_are lines_are = absurd (none (place_of f) next.violation.violated next.later)
+    go (x ∷ xs) later marks_are lines_are =
+        let same : x ≡ f =
+        one_next (IsToldOf (checked s.font s.edition) s.waivers (s.glyph + 1)) (path_at (checked s.font s.edition)) mark x f later.0 next in
+        let left : left_to_add s n (x ∷ xs) ≡ f ∷ left_to_add s (n + 1) xs =
+        ap (λ (y : FaultValue). left_to_add s n (y ∷ xs)) same ∙ left_next s n f xs less shown in
+        let tail = marks_from s (Some (last_with marks.last (pen_at s f.step) f.number)) (left_to_add s (n + 1) xs) in record {
+          rest = xs;
+          are = subst (λ (y : FaultValue). AreLaterOf (IsToldOf (checked s.font s.edition) s.waivers (s.glyph + 1)) (path_at (checked s.font s.edition)) (mark_of y) xs)
+              same later.1;
+          marks_are =
+              ap (λ (o : Option FaultMark). marks'.done.items ++ marks_from s o (left_to_add s (n + 1) xs)) marked.last
+              ∙ ap (λ (ms : List FaultMark). ms ++ tail) marked.done
+              ∙ append_assoc marks.done.items (done_with marks.last (pen_at s f.step)) tail
+              ∙ ap (λ (ms : List FaultMark). marks.done.items ++ ms) (sym (marks_next s marks.last f (left_to_add s (n + 1) xs)))
+              ∙ ap (λ (fs : List FaultValue). marks.done.items ++ marks_from s marks.last fs) (sym left)
+              ∙ marks_are;
+          lines_are =
+              ap (λ (ls : List (List ℕ)). ls ++ lines_of s (left_to_add s (n + 1) xs)) lined
+              ∙ append_assoc lines (fault_lines s f) (lines_of s (left_to_add s (n + 1) xs))
+              ∙ ap (λ (fs : List FaultValue). lines ++ lines_of s fs) (sym left)
+              ∙ lines_are;
+        }
+
+last_alone : (s : Subject) (o : Option FaultMark) → option_to_list o ≡ marks_from s o []
+last_alone s None = refl
+last_alone s (Some mark) = refl
+
+pub all_added : (s : Subject) (faults : List FaultValue) (n : ℕ) (mark : Mark) (marks : Marks) (lines : List (List ℕ))
+    → (has : HasAdded s faults n mark marks lines) → left_to_add s n has.rest ≡ [] → AreThose s faults marks lines
+all_added s faults n mark marks lines has none = record {
+  marks_are = ap (λ (ms : List FaultMark). marks.done.items ++ ms) (last_alone s marks.last)
+      ∙ ap (λ (fs : List FaultValue). marks.done.items ++ marks_from s marks.last fs) (sym none) ∙ has.marks_are;
+  lines_are = sym (append-nil lines) ∙ ap (λ (fs : List FaultValue). lines ++ lines_of s fs) (sym none) ∙ has.lines_are;
+}
+
+-- Why nothing is left: no fault comes, the next one stands behind the last step, or so many were added.
+none_of_none : (k : ℕ) → take {A = FaultValue} k [] ≡ []
+none_of_none zero = refl
+none_of_none (suc k) = refl
+
+pub none_comes : (s : Subject) (waivers : List Waiver) (n : ℕ) (mark : Mark) (rest : List FaultValue)
+    → AreLaterOf (IsToldOf (checked s.font s.edition) waivers (s.glyph + 1)) (path_at (checked s.font s.edition)) mark rest
+    → HasNoneLaterInUnit (checked s.font s.edition) waivers (s.glyph + 1) mark → left_to_add s n rest ≡ []
+none_comes s waivers n mark [] are none = none_of_none (all_steps - n)
+none_comes s waivers n mark (x ∷ xs) are none = absurd (none (place_of x) are.0.violation.violated are.0.later)
+
+pub none_drawn : (s : Subject) (waivers : List Waiver) (n : ℕ) (mark : Mark) (rest : List FaultValue) (f : FaultValue)
+    → AreLaterOf (IsToldOf (checked s.font s.edition) waivers (s.glyph + 1)) (path_at (checked s.font s.edition)) mark rest
+    → IsNextInUnit (checked s.font s.edition) waivers (s.glyph + 1) mark f → nat_le f.step (last_of s) ≡ false → left_to_add s n rest ≡ []
+none_drawn s waivers n mark [] f are next past = none_of_none (all_steps - n)
+none_drawn s waivers n mark (x ∷ xs) f are next past =
+    let same : x ≡ f = one_next (IsToldOf (checked s.font s.edition) waivers (s.glyph + 1)) (path_at (checked s.font s.edition)) mark x f are.0 next in
+    ap (λ b. take (all_steps - n) (cond b (x ∷ up_to (last_of s) xs) [])) (ap (λ (y : FaultValue). nat_le y.step (last_of s)) same ∙ past)
+    ∙ none_of_none (all_steps - n)
+
+pub none_fits : (s : Subject) (n : ℕ) (rest : List FaultValue) → all_steps ≤ n → left_to_add s n rest ≡ []
+none_fits s n rest full =
+    let none : all_steps - n ≡ 0 = omega (arith, full) in ap (λ (k : ℕ). take k (up_to (last_of s) rest)) none
+
+-- ---- waived faults that were counted
+
+pub record HasCounted (s : Subject) (faults : List FaultValue) (n : ℕ) (mark : Mark) (count : ℕ) : Type 0 where
+  pub rest : List FaultValue
+  pub are : AreLaterOf (IsToldOf (checked s.font s.edition) [] (s.glyph + 1)) (path_at (checked s.font s.edition)) mark rest
+  pub count_is : min (count + count_by (is_waived_of s) (left_to_add s n rest)) all_steps ≡ waived_of s faults
+  pub small : count ≤ all_steps
+
+pub none_counted : (s : Subject) (faults : List FaultValue) (mark : Mark) → AreShownOf s [] faults
+    → mark ≡ first_mark_of (s.glyph + 1) → HasCounted s faults 0 mark 0
+none_counted s faults mark are first = record {
+  rest = faults;
+  are = subst (λ (m : Mark). AreLaterOf (IsToldOf (checked s.font s.edition) [] (s.glyph + 1)) (path_at (checked s.font s.edition)) m faults) (sym first) are;
+  count_is = ap (λ (k : ℕ). min k all_steps) (omega arith);
+  small = omega arith;
+}
+
+count_next : (s : Subject) (count more : ℕ) (b : Bool) → count ≤ all_steps
+    → min (counted count b + more) all_steps ≡ min (count + ((if b then 1 else 0) + more)) all_steps
+count_next s count more true small = omega (arith, small)
+count_next s count more false small = omega (arith, small)
+
+still_small : (count : ℕ) (b : Bool) → count ≤ all_steps → counted count b ≤ all_steps
+still_small count true small = omega (arith, small)
+still_small count false small = small
+
+pub one_counted : (s : Subject) (faults : List FaultValue) (n : ℕ) (mark : Mark) (count count' : ℕ) (f : FaultValue)
+    → HasCounted s faults n mark count → n < all_steps → IsNextInUnit (checked s.font s.edition) [] (s.glyph + 1) mark f
+    → nat_le f.step (last_of s) ≡ true → count' ≡ counted count (is_waived_of s f) → HasCounted s faults (n + 1) (mark_of f) count'
+one_counted s faults n mark count count' f has less next shown is = go has.rest has.are has.count_is
+  where
+    go : (rest : List FaultValue) → AreLaterOf (IsToldOf (checked s.font s.edition) [] (s.glyph + 1)) (path_at (checked s.font s.edition)) mark rest
+        → min (count + count_by (is_waived_of s) (left_to_add s n rest)) all_steps ≡ waived_of s faults → HasCounted s faults (n + 1) (mark_of f) count'
+    go [] none count_is = absurd (none (place_of f) next.violation.violated next.later)
+    go (x ∷ xs) later count_is =
+        let same : x ≡ f = one_next (IsToldOf (checked s.font s.edition) [] (s.glyph + 1)) (path_at (checked s.font s.edition)) mark x f later.0 next in
+        let left : left_to_add s n (x ∷ xs) ≡ f ∷ left_to_add s (n + 1) xs =
+        ap (λ (y : FaultValue). left_to_add s n (y ∷ xs)) same ∙ left_next s n f xs less shown in record {
+          rest = xs;
+          are = subst (λ (y : FaultValue). AreLaterOf (IsToldOf (checked s.font s.edition) [] (s.glyph + 1)) (path_at (checked s.font s.edition)) (mark_of y) xs)
+              same later.1;
+          count_is =
+              ap (λ (k : ℕ). min (k + count_by (is_waived_of s) (left_to_add s (n + 1) xs)) all_steps) is
+              ∙ count_next s count (count_by (is_waived_of s) (left_to_add s (n + 1) xs)) (is_waived_of s f) has.small
+              ∙ ap (λ (k : ℕ). min (count + k) all_steps) (sym (sum_by-cons (λ x. cond (is_waived_of s x) 1 0) f (left_to_add s (n + 1) xs)))
+              ∙ ap (λ (fs : List FaultValue). min (count + count_by (is_waived_of s) fs) all_steps) (sym left)
+              ∙ count_is;
+          small = subst (λ (k : ℕ). k ≤ all_steps) (sym is) (still_small count (is_waived_of s f) has.small);
+        }
+
+pub all_counted : (s : Subject) (faults : List FaultValue) (n : ℕ) (mark : Mark) (count : ℕ)
+    → (has : HasCounted s faults n mark count) → left_to_add s n has.rest ≡ [] → count ≡ waived_of s faults
+all_counted s faults n mark count has none =
+    let end : min (count + 0) all_steps ≡ waived_of s faults =
+    ap (λ (fs : List FaultValue). min (count + count_by (is_waived_of s) fs) all_steps) (sym none) ∙ has.count_is in
+    omega (arith, end, has.small)
+
+-- ---- the point that the end of a flex names
+
+-- Behind a step that was gone to, it is in hand.
+pub named_there : (s : Subject) (m m' : MachineView) (number : ℕ) → IsRunFor s m' → IsStepOf s number → GoesTo m m' number → IsInHand m'
+    → named_at s number ≡ named_by m'.step.step
+named_there s m m' number run stands goes hand = by_step (slice_get (glyph_steps s) (number - 1)) refl
+  where
+    steps : steps_in m' ≡ glyph_steps s
+    steps = rw (run.font, run.glyph, run.edition) refl
+
+    counted_is : m'.counted ≡ number
+    counted_is = goes.counted (omega (arith, stands.within, ap length steps))
+
+    by_step : (o : Option StepView) → slice_get (glyph_steps s) (number - 1) ≡ o → named_at s number ≡ named_by m'.step.step
+    by_step None none = absurd (omega (arith, none_past (glyph_steps s) (number - 1) none, stands.within, stands.some))
+    by_step (Some step) there =
+        let held : m'.step ≡ step_of_number m'.counted step =
+        hand step (omega (arith, counted_is, stands.some))
+        (ap (λ (ss : List StepView). slice_get ss (m'.counted - 1)) steps ∙ ap (λ (k : ℕ). slice_get (glyph_steps s) (k - 1)) counted_is ∙ there) in
+        ap (option_and_then named_by) there ∙ ap (λ (n : NumberedStep). named_by n.step) (sym held)
+
+-- The lines of an X05.
+pub with_miss : (s : Subject) (fault : FaultValue) (pen : Point) (named : Option Point) (line : List ℕ) → is_X05 fault.rule ≡ true
+    → pen ≡ pen_at s fault.step → named_at s fault.step ≡ named → line ≡ legible_line (line_of s.font s.waivers fault)
+    → line ∷ miss_lines pen named ≡ fault_lines s fault
+with_miss s fault pen named line rule at names is =
+    ap (λ (l : List ℕ). l ∷ miss_lines pen named) is
+    ∙ ap (λ (p : Point). legible_line (line_of s.font s.waivers fault) ∷ miss_lines p named) at
+    ∙ ap (λ (o : Option Point). legible_line (line_of s.font s.waivers fault) ∷ miss_lines (pen_at s fault.step) o) (sym names)
+    ∙ ap (λ b. legible_line (line_of s.font s.waivers fault) ∷ cond b (miss_lines (pen_at s fault.step) (named_at s fault.step)) []) (sym rule)
+
+pub still_for : (s : Subject) (m m' : MachineView) → IsRunFor s m → IsOfSameGlyph m m' → IsRunFor s m'
+still_for s m m' run same = record {
+  font = same.font ∙ run.font;
+  glyph = same.glyph ∙ run.glyph;
+  edition = same.edition ∙ run.edition;
+}
+
+pub was_x05 : (rule : Rule) → is_X05 rule ≡ true → rule ≡ X05
+was_x05 X05 is = refl
+was_x05 _ is = cc
+
+-- Without waivers nothing is waived.
+none_is_waived : (s : Subject) (faults : List FaultValue) → s.waivers ≡ [] → count_by (is_waived_of s) faults ≡ 0
+none_is_waived s [] none = refl
+none_is_waived s (f ∷ fs) none =
+    let first : ◌≡◌ {A = ℕ} (cond (is_waived_of s f) 1 0) 0 =
+    ap (λ (ws : List Waiver). cond (is_waived ws (glyph_name s.font s.glyph) (number_of f.rule)) 1 0) none in
+    omega (arith, sum_by-cons (λ x. cond (is_waived_of s x) 1 0) f fs, first, none_is_waived s fs none)
+
+pub none_waived : (s : Subject) (faults : List FaultValue) → s.waivers ≡ [] → 0 ≡ waived_of s faults
+none_waived s faults none = sym (ap (λ (k : ℕ). min k all_steps) (none_is_waived s (shown_of s faults) none))
+
+-- The pen in front of a step.
+pub pen_there : (s : Subject) (m m' : MachineView) (count number : ℕ) → IsRunFor s m' → GoesTo m m' count → count ≡ number - 1
+    → current_point (seen_steps m') ≡ pen_at s number
+pen_there s m m' count number run goes is =
+    let steps : steps_in m' ≡ glyph_steps s = rw (run.font, run.glyph, run.edition) refl in
+    ap current_point (goes.seen ∙ ap (λ (ss : List StepView). take count ss) steps ∙ ap (λ (k : ℕ). take k (glyph_steps s)) is)

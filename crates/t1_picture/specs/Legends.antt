@@ -1,0 +1,55 @@
+-- The lines below the drawing.
+use Rattle.std.specs.Prelude.{ℕ, ◌==◌, nat_lt, if◌then◌else◌, Bool, true, false, not, Option, None, Some, List, [], ◌∷◌, ◌++◌, codes}
+use Rattle.std.specs.Fmt.{decimal}
+use Rattle.t1_char.specs.declared.edition.Edition.{Edition}
+use Rattle.t1_char.specs.declared.edition.Edition.TheVariants.{One, Two}
+use Rattle.t1_picture.specs.Drawings.{DrawingView}
+use Rattle.t1_picture.specs.Marks.{FaultsView}
+use Rattle.t1_picture.specs.Parts.{note_if}
+use Rattle.t1_picture.specs.Subjects.{Subject}
+use Rattle.t1_picture.specs.Texts.{legible}
+use Rattle.t1_report.specs.Lines.{glyph_name}
+
+-- Which glyph it is, and by which edition.
+abbrev pub title_of : Subject → List ℕ
+title_of s = codes "glyph " ++ legible (glyph_name s.font s.glyph)
+
+abbrev pub title_line : Edition → List ℕ → List ℕ
+title_line One title = title
+title_line Two title = title ++ codes ", edition 2"
+
+-- The last step that was asked for.
+abbrev pub step_line : ℕ → Option (List ℕ) → List ℕ
+step_line number (Some line) = codes "up to step " ++ line
+step_line number None = codes "up to step " ++ (decimal number ++ codes ", which isn't reached")
+
+abbrev pub step_lines : Option ℕ → Option (List ℕ) → List (List ℕ)
+step_lines None line = []
+step_lines (Some number) line = step_line number line ∷ []
+
+-- How many faults are waived.
+abbrev pub waived_line : ℕ → List ℕ
+waived_line waived =
+    if waived == 1 then codes "1 waived fault isn't shown" else decimal waived ++ codes " waived faults aren't shown"
+
+-- The others, or that there is none.
+abbrev pub no_fault : ℕ → List ℕ
+no_fault waived = if nat_lt 0 waived then codes "no other fault" else codes "no fault"
+
+abbrev pub lines_or_none : ℕ → List (List ℕ) → List (List ℕ)
+lines_or_none waived [] = no_fault waived ∷ []
+lines_or_none waived (line ∷ lines) = codes "faults, by numbers that count in this glyph:" ∷ line ∷ lines
+
+abbrev pub lines_of_faults : FaultsView → List (List ℕ)
+lines_of_faults faults = note_if (nat_lt 0 faults.waived) (waived_line faults.waived) ++ lines_or_none faults.waived faults.lines
+
+abbrev pub is_empty : List ℕ → Bool
+is_empty [] = true
+is_empty (c ∷ cs) = false
+
+-- What is drawn, what isn't, and the faults.
+abbrev pub legend_of : Subject → DrawingView → FaultsView → List (List ℕ)
+legend_of s drawing faults =
+    title_line s.edition (title_of s)
+    ∷ (step_lines s.step drawing.last_step ++ (drawing.notes
+    ++ (note_if (not (is_empty drawing.layers.unclosed)) (codes "dashed: a path that isn't closed") ++ lines_of_faults faults)))
