@@ -1,5 +1,6 @@
 pub mod Ends
 pub mod FontFiles
+pub mod GlyphWords
 pub mod Private
 pub mod Statuses
 pub mod Subjects
