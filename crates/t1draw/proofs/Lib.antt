@@ -1,3 +1,6 @@
+pub mod CommandLemmas
 pub mod Endings
 pub mod GlyphWordLemmas
 pub mod Readings
+pub mod SingleFault
+pub mod ValueLemmas

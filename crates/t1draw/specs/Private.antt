@@ -1,3 +1,4 @@
 -- Words that private contracts alone cite: no clause of a public function rests on them.
 pub mod Failures
 pub mod FirstBytes
+pub mod Numbers

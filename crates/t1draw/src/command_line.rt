@@ -1,8 +1,16 @@
 //! The command line, by clap.
 
+ghost use Rattle.std.specs.Prelude.{◌≡◌, ℕ, List, [], true, codes, map, option_map, string_bytes, IfErr, IfOk, IsSome};
+ghost use Rattle.clap.specs.Words.{FailsBy, app_of, fault_of, first_value, found_of, kind_of, matches_of, rows_of, takes};
+ghost use Rattle.clap.specs.declared.error.kind.ErrorKind.TheVariants.{OutOfMemory, DisplayHelp};
+ghost use Rattle.t1draw.specs.CommandLine.{t1draw, AreGiven, AreNumber, AsksHelp, HasText, IsBadName};
+ghost use Rattle.t1draw.specs.CommandLine.{IsBadNameOrMemory, IsEditionOrFirst, IsHelp, IsHelpOrMemory, NamesNothing};
+ghost use Rattle.t1draw.specs.Private.Numbers.{IsNumberArgument, IsTextOfNumber};
+
 use crate::glyph_word::name_in;
+use crate::usage::UsageError;
 use clap::error::ErrorKind;
-use clap::{Arg, ArgMatches, Command, value_parser};
+use clap::{Arg, ArgAction, ArgMatches, Command, value_parser};
 use std::alloc::{AllocError, Global};
 use std::convert::AsStr;
 use t1_char::Edition;
@@ -46,14 +54,75 @@ pub struct Options {
     pub font: Option<String>,
 }
 
-/// What the words of the command line ask for.
-#[derive(Drop)]
-pub enum Asked {
-    Draw(Options),
-    Help(String),
+/// Reads the words of the command line, the program's name first.
+pub fn read_words<S: AsStr>(alloc: Global, words: &[S]) -> Result<Options, UsageError>
+    ensures given { IfOk result (AreGiven (map S.text words.now)) }
+    ensures sound { IfOk result (λ _. fault_of t1draw (map S.text words.now) ≡ []) }
+    ensures taken { IfErr result (λ e. takes t1draw (map S.text words.now) ≡ true → IsBadNameOrMemory e) }
+    ensures text { IfErr result HasText }
+    ensures help { IfErr result (λ e. AsksHelp (map S.text words.now) → IsHelpOrMemory e) }
+    ensures only_help { IfErr result (λ e. IsHelp e → AsksHelp (map S.text words.now)) }
+    ensures bad_name { IfErr result (λ e. NamesNothing (map S.text words.now) → IsBadNameOrMemory e) }
+    ensures only_bad_name { IfErr result (λ e. IsBadName e → NamesNothing (map S.text words.now)) }
+{
+    let matches = match matches_in(alloc, words) {
+        Ok(matches) => matches,
+        Err(error) => return Err(usage_error(alloc, &error)),
+    };
+    let edition = edition(matches.get_str("edition"));
+    // This can't fail: the argument is required.
+    let word = matches.get_str("glyph").unwrap();
+    let Some(glyph) = name_in(alloc, word)? else {
+        return Err(UsageError::BadName(String::from_str(alloc, BAD_NAME)?));
+    };
+    let waive = owned(alloc, matches.get_str("waive"))?;
+    let step = number(matches.get_str("step"));
+    let font = owned(alloc, matches.get_str("font"))?;
+    Ok(Options {
+        edition,
+        waive,
+        step,
+        glyph,
+        font,
+    })
 }
 
-fn command<'a>(alloc: Global) -> Result<Command<'a>, AllocError> {
+/// The number that an argument was given.
+fn number(text: Option<&str>) -> Option<u64>
+    requires { IsTextOfNumber 1 18446744073709551615 (option_map (λ s. s.now) text) }
+    ensures { AreNumber (option_map (λ s. s.now) text.entry) result }
+{
+    match text {
+        // This can't fail: the rule of the argument takes no other text.
+        Some(text) => Some(text.parse::<u64>().unwrap()),
+        None => None,
+    }
+}
+
+/// The edition whose number an argument was given; the first without it.
+fn edition(text: Option<&str>) -> Edition
+    requires { IsTextOfNumber 1 2 (option_map (λ s. s.now) text) }
+    ensures { IsEditionOrFirst (option_map (λ s. s.now) text.entry) result }
+{
+    match number(text) {
+        Some(2) => Edition::Two,
+        _ => Edition::One,
+    }
+}
+
+/// A copy of the text that an argument was given.
+fn owned(alloc: Global, text: Option<&str>) -> Result<Option<String>, AllocError>
+    ensures { IfOk result (λ copy. option_map string_bytes copy ≡ option_map (λ s. s.now) text.entry) }
+{
+    match text {
+        Some(text) => Ok(Some(String::from_str(alloc, text)?)),
+        None => Ok(None),
+    }
+}
+
+fn command<'a>(alloc: Global) -> Result<Command<'a>, AllocError>
+    ensures { IfOk result (λ c. app_of c ≡ t1draw) }
+{
     let edition = Arg::new(alloc, "edition")
         .long("edition")
         .value_name("N")
@@ -70,6 +139,7 @@ fn command<'a>(alloc: Global) -> Result<Command<'a>, AllocError> {
         .value_parser(value_parser!(u64).range(1..));
     let glyph = Arg::new(alloc, "glyph")
         .value_name("GLYPH")
+        .action(ArgAction::Set)
         .required(true)
         .help("The name of the glyph");
     let font = Arg::new(alloc, "font")
@@ -85,66 +155,39 @@ fn command<'a>(alloc: Global) -> Result<Command<'a>, AllocError> {
         .arg(font)
 }
 
-/// A copy of the text that an argument was given.
-fn owned(alloc: Global, text: Option<&str>) -> Result<Option<String>, AllocError> {
-    match text {
-        Some(text) => Ok(Some(String::from_str(alloc, text)?)),
-        None => Ok(None),
-    }
-}
-
-/// The number that an argument was given.
-fn number(text: Option<&str>) -> Option<u64> {
-    text?.parse::<u64>().ok()
-}
-
-/// What clap tells: help, or what is wrong with the words; none where memory ran out.
-fn told(alloc: Global, error: &clap::Error) -> Result<Asked, Option<String>> {
+/// What is told of clap's error; where its text can't be had memory ran out.
+fn usage_error(alloc: Global, error: &clap::Error) -> UsageError
+    ensures memory { kind_of error.now ≡ OutOfMemory → result ≡ UsageError.Memory }
+    ensures help { kind_of error.now ≡ DisplayHelp → IsHelpOrMemory result }
+    ensures only_help { IsHelp result → kind_of error.now ≡ DisplayHelp }
+    ensures named { ¬ IsBadName result }
+    ensures text { HasText result }
+{
     let kind = error.kind();
     if kind == ErrorKind::OutOfMemory {
-        return Err(None);
+        return UsageError::Memory;
     }
     let Ok(text) = error.to_string(alloc) else {
-        return Err(None);
+        return UsageError::Memory;
     };
+    if text.is_empty() {
+        return UsageError::Memory;
+    }
     if kind == ErrorKind::DisplayHelp {
-        Ok(Asked::Help(text))
+        UsageError::Help(text)
     } else {
-        Err(Some(text))
+        UsageError::Usage(text)
     }
 }
 
-/// The options that were found; none where the glyph's name is none.
-fn options_in(alloc: Global, matches: &ArgMatches<'_>) -> Result<Option<Options>, AllocError> {
-    let edition = match number(matches.get_str("edition")) {
-        Some(2) => Edition::Two,
-        _ => Edition::One,
-    };
-    let Some(glyph) = name_in(alloc, matches.get_str("glyph").unwrap_or(""))? else {
-        return Ok(None);
-    };
-    Ok(Some(Options {
-        edition,
-        waive: owned(alloc, matches.get_str("waive"))?,
-        step: number(matches.get_str("step")),
-        glyph,
-        font: owned(alloc, matches.get_str("font"))?,
-    }))
-}
-
-/// Reads the words of the command line, the program's name first. What is wrong with them is the error, none where memory ran
-/// out.
-pub fn read_words<S: AsStr>(alloc: Global, words: &[S]) -> Result<Asked, Option<String>> {
-    let Ok(command) = command(alloc) else {
-        return Err(None);
-    };
-    let matches = match command.try_get_matches_from(words) {
-        Ok(matches) => matches,
-        Err(error) => return told(alloc, &error),
-    };
-    match options_in(alloc, &matches) {
-        Ok(Some(options)) => Ok(Asked::Draw(options)),
-        Ok(None) => Err(String::from_str(alloc, BAD_NAME).ok()),
-        Err(AllocError) => Err(None),
-    }
+fn matches_in<'a, S: AsStr>(alloc: Global, words: &'a [S]) -> Result<ArgMatches<'a>, clap::Error>
+    ensures rows { IfOk result (λ m. rows_of (found_of m) ≡ matches_of t1draw (map S.text words.entry.now)) }
+    ensures number { IfOk result (λ m. (low high : ℕ) (id : List ℕ) → IsNumberArgument low high id
+        → IsTextOfNumber low high (first_value (found_of m) id)) }
+    ensures glyph { IfOk result (λ m. IsSome (first_value (found_of m) (codes "glyph"))) }
+    ensures taken { IfErr result (λ e. takes t1draw (map S.text words.entry.now) ≡ true
+        → kind_of e ≡ OutOfMemory) }
+    ensures faults { FailsBy (fault_of t1draw (map S.text words.entry.now)) result }
+{
+    command(alloc)?.try_get_matches_from(words)
 }

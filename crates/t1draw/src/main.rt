@@ -17,12 +17,14 @@ mod reading;
 mod running;
 mod status;
 mod telling;
+mod usage;
 
-use crate::command_line::{Asked, Options, read_words};
+use crate::command_line::{Options, read_words};
 use crate::pictures::SvgPictures;
 use crate::running::draw;
 use crate::status::Status;
 use crate::telling::{NOT_UTF8, OUT_OF_MEMORY, READ_FAILED, WRITE_FAILED, tell};
+use crate::usage::UsageError;
 use std::alloc::Global;
 use std::fs::File;
 use std::io::{BufWriter, ErrorKind, Read, Write};
@@ -45,10 +47,12 @@ fn main(rt: HostRuntime) -> Status {
         return tell(&mut errors, OUT_OF_MEMORY, Status::Failed);
     };
     match read_words(alloc, words.as_slice()) {
-        Ok(Asked::Draw(options)) => open(&rt, &options, &mut out, &mut errors),
-        Ok(Asked::Help(text)) => help(text.as_str(), &mut out, &mut errors),
-        Err(Some(text)) => tell(&mut errors, text.as_str(), Status::Failed),
-        Err(None) => tell(&mut errors, OUT_OF_MEMORY, Status::Failed),
+        Ok(options) => open(&rt, &options, &mut out, &mut errors),
+        Err(UsageError::Help(text)) => help(text.as_str(), &mut out, &mut errors),
+        Err(UsageError::Usage(text) | UsageError::BadName(text)) => {
+            tell(&mut errors, text.as_str(), Status::Failed)
+        }
+        Err(UsageError::Memory) => tell(&mut errors, OUT_OF_MEMORY, Status::Failed),
     }
 }
 
