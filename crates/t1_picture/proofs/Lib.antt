@@ -3,4 +3,5 @@ pub mod Joined
 pub mod Made
 pub mod PartSteps
 pub mod Runs
+pub mod Shown
 pub mod Written

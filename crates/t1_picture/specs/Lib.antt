@@ -4,6 +4,7 @@ pub mod Decimals
 pub mod Drawings
 pub mod FaultViews
 pub mod Frames
+pub mod Laws
 pub mod Layers
 pub mod Legends
 pub mod MarkViews

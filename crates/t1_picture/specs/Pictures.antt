@@ -283,6 +283,11 @@ abbrev pub picture_of : Subject → List FaultValue → List FaultValue → List
 picture_of s faults all = picture_with s (drawing_of s) (faults_of s faults all)
 
 -- This text is the picture of a subject.
-abbrev pub IsPictureOf : Subject → List ℕ → Type 0
-IsPictureOf s text =
-    (faults all : List FaultValue) → AreShownOf s s.waivers faults → AreShownOf s [] all → text ≡ picture_of s faults all
+pub record IsPictureOf (s : Subject) (text : List ℕ) : Type 0 where
+  -- The faults of its glyph with its waivers, and without waivers.
+  pub faults : List FaultValue
+  pub are : AreShownOf s s.waivers faults
+  pub all : List FaultValue
+  pub are_all : AreShownOf s [] all
+  -- It is that text.
+  pub is : text ≡ picture_of s faults all

@@ -26,6 +26,7 @@ mod decimals;
 mod drawing;
 mod faults;
 mod frame;
+mod laws;
 mod layers;
 mod legend;
 mod line;
@@ -37,5 +38,6 @@ mod svg;
 mod texts;
 mod view;
 
+pub use laws::a_subject_has_one_picture;
 pub use svg::picture;
 pub use view::View;

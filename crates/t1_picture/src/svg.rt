@@ -25,6 +25,7 @@ use crate::view::View;
 use std::alloc::{AllocError, Global};
 use t1_font::Font;
 use t1_outline::Metrics;
+use t1_report::{each_font_has_a_report, faults_of_a_unit_are_the_reports};
 
 /// What stands in front of the size.
 const HEAD: &str = r#"<?xml version="1.0" encoding="UTF-8"?>
@@ -94,6 +95,11 @@ pub fn picture(alloc: Global, view: &View<'_>) -> Result<String, AllocError>
     requires { CanBeDrawn view.now }
     ensures { IfOk result (λ text. IsPictureOf (subject_of view.now) (string_bytes text)) }
 {
+    // The calls of laws do nothing: the proof cites what they ensure.
+    each_font_has_a_report();
+    faults_of_a_unit_are_the_reports();
+    let _few_glyphs = view.font.glyphs();
+    let _few_waivers = view.waivers.len();
     let mut drawing = Drawing::of(alloc, view)?;
     let mut faults = Faults::of(alloc, view)?;
     let bounds = bounds_of(&drawing, &faults);
