@@ -1,6 +1,7 @@
 pub mod CommandLemmas
 pub mod Endings
 pub mod GlyphWordLemmas
+pub mod OneAnswer
 pub mod Readings
 pub mod SingleFault
 pub mod ValueLemmas

@@ -16,7 +16,6 @@ use Rattle.t1draw.specs.Private.Failures.{DrawsFile, DrawsGlyph, IsUndrawn, IsUn
 use Rattle.t1draw.specs.Private.Failures.IsUndrawn.{font_refused, font_read as read_as, read_failed, no_memory}
 use Rattle.t1draw.specs.Private.Failures.IsUndrawnOf.{waivers_refused, read_failed as waivers_broken, no_memory as no_room}
 use Rattle.t1draw.specs.Private.Failures.IsUnreadable.{refused, read_failed as broken, no_memory as unroomed}
-use Rattle.t1draw.specs.Subjects.{Subject}
 use Rattle.t1draw.specs.WaiverTexts.{AreRefusedWaivers, AreWaivers}
 use Rattle.t1draw.specs.WaiverTexts.AreRefusedWaivers.{malformed, too_large as text_too_large}
 use Rattle.t1draw.specs.declared.command_line.Options.{Options}
@@ -87,20 +86,20 @@ waivers_unreadable name font text reason large (unroomed is) = no_room is
 -- ---- what is answered
 
 -- A failure that a `?` hands on.
-pub file_fails : {X : Type 0} (bytes : X → List ℕ) (shows : Subject → List ℕ → Type 0) (options : Options) (file text : Option (List ℕ))
+pub file_fails : {X : Type 0} (bytes : X → List ℕ) (options : Options) (file text : Option (List ℕ))
     (r : Result X Failure) (P : Failure → Type 0) → IsErrAnd r P
-    → ((reason : Failure) → P reason → IsUndrawn options.glyph.items file text reason) → DrawsFile bytes shows options file text r
-file_fails bytes shows options file text (Ok x) P never why = absurd never
-file_fails bytes shows options file text (Err reason) P is why = why reason is
+    → ((reason : Failure) → P reason → IsUndrawn options.glyph.items file text reason) → DrawsFile bytes options file text r
+file_fails bytes options file text (Ok x) P never why = absurd never
+file_fails bytes options file text (Err reason) P is why = why reason is
 
-pub glyph_fails : {X : Type 0} (bytes : X → List ℕ) (shows : Subject → List ℕ → Type 0) (options : Options) (font : FontValue) (text : Option (List ℕ))
+pub glyph_fails : {X : Type 0} (bytes : X → List ℕ) (options : Options) (font : FontValue) (text : Option (List ℕ))
     (r : Result X Failure) (P : Failure → Type 0) → IsErrAnd r P
-    → ((reason : Failure) → P reason → IsUndrawnOf options.glyph.items font text reason) → DrawsGlyph bytes shows options font text r
-glyph_fails bytes shows options font text (Ok x) P never why = absurd never
-glyph_fails bytes shows options font text (Err reason) P is why = why reason is
+    → ((reason : Failure) → P reason → IsUndrawnOf options.glyph.items font text reason) → DrawsGlyph bytes options font text r
+glyph_fails bytes options font text (Ok x) P never why = absurd never
+glyph_fails bytes options font text (Err reason) P is why = why reason is
 
 -- What is answered of a font that was read is answered of its file.
-pub of_file : {X : Type 0} (bytes : X → List ℕ) (shows : Subject → List ℕ → Type 0) (options : Options) (file text : Option (List ℕ)) (font : FontValue)
-    (r : Result X Failure) → FontIs file font → DrawsGlyph bytes shows options font text r → DrawsFile bytes shows options file text r
-of_file bytes shows options file text font (Ok picture) is drawn = (font, is, drawn)
-of_file bytes shows options file text font (Err reason) is why = read_as font is why
+pub of_file : {X : Type 0} (bytes : X → List ℕ) (options : Options) (file text : Option (List ℕ)) (font : FontValue)
+    (r : Result X Failure) → FontIs file font → DrawsGlyph bytes options font text r → DrawsFile bytes options file text r
+of_file bytes options file text font (Ok picture) is drawn = (font, is, drawn)
+of_file bytes options file text font (Err reason) is why = read_as font is why

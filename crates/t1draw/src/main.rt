@@ -12,7 +12,7 @@
 
 mod command_line;
 mod glyph_word;
-mod pictures;
+mod laws;
 mod reading;
 mod running;
 mod status;
@@ -20,7 +20,6 @@ mod telling;
 mod usage;
 
 use crate::command_line::{Options, read_words};
-use crate::pictures::SvgPictures;
 use crate::running::draw;
 use crate::status::Status;
 use crate::telling::{NOT_UTF8, OUT_OF_MEMORY, READ_FAILED, WRITE_FAILED, tell};
@@ -91,17 +90,9 @@ fn open_waivers<R: Read + Drop, W: Sink, E: Sink>(
     let alloc = rt.alloc();
     match &options.waive {
         Some(name) => match fs::open(rt, name.as_str()) {
-            Ok(waivers) => draw(alloc, &SvgPictures, options, font, waivers, out, errors),
+            Ok(waivers) => draw(alloc, options, font, waivers, out, errors),
             Err(_) => tell(errors, READ_FAILED, Status::Failed),
         },
-        None => draw(
-            alloc,
-            &SvgPictures,
-            options,
-            font,
-            std::io::empty(),
-            out,
-            errors,
-        ),
+        None => draw(alloc, options, font, std::io::empty(), out, errors),
     }
 }

@@ -8,7 +8,6 @@ ghost use Rattle.t1draw.specs.Private.Failures.{failure_of_font, failure_of_waiv
 ghost use Rattle.t1draw.specs.declared.running.Failure.TheVariants.{Memory, Refused};
 
 use crate::command_line::Options;
-use crate::pictures::Pictures;
 use crate::reading::{Unreadable, read_all};
 use crate::status::Status;
 use crate::telling::{OUT_OF_MEMORY, READ_FAILED, WRITE_FAILED, refuse, tell, tell_no_glyph};
@@ -18,7 +17,7 @@ use t1_font::{Font, OpenFont, Unread};
 use t1_format::shown;
 use t1_io::{Sink, deliver};
 use t1_lines::{RefusalCode, refusal_text};
-use t1_picture::View;
+use t1_picture::{View, picture};
 use t1_report::{LARGEST_WAIVERS, WaiverError, Waivers};
 use t1_rules::{Sidebearings, glyph_named};
 
@@ -92,21 +91,21 @@ fn refusal_of(unread: Unread) -> Option<RefusalCode>
 /// Reads a font to its end, then the waivers, which are empty where none are asked for, and writes the picture of the glyph that
 /// the options name. Where there is none, it is told why, and nothing is put on the output.
 ///
-/// Where memory is there and no reader and no device fails, the options, the font's bytes and the text of the waivers decide
-/// whether there is a picture, of what it is, and what is told where there is none.
-pub fn draw<P: Pictures, R: Read + Drop, V: Read + Drop, W: Sink, E: Sink>(
+/// Where memory is there and no reader and no device fails, the options, the font's bytes and the text of the waivers decide the
+/// picture, to its last byte, or what is told where there is none
+/// ([`a_file_has_one_answer`](crate::laws::a_file_has_one_answer)).
+pub fn draw<R: Read + Drop, V: Read + Drop, W: Sink, E: Sink>(
     alloc: Global,
-    pictures: &P,
     options: &Options,
     font: R,
     waivers: V,
     out: &mut W,
     errors: &mut E,
 ) -> Status
-    ensures { Draws P.shows options.now (R.remaining font) (V.remaining waivers) (W.state out.old) (W.state out.new)
+    ensures { Draws options.now (R.remaining font) (V.remaining waivers) (W.state out.old) (W.state out.new)
         (E.state errors.old) (E.state errors.new) result }
 {
-    match drawn(alloc, pictures, options, font, waivers) {
+    match drawn(alloc, options, font, waivers) {
         Ok(text) => match deliver(out, text.as_bytes()) {
             Ok(()) => Status::Drawn,
             Err(_) => tell(errors, WRITE_FAILED, Status::Failed),
@@ -116,33 +115,31 @@ pub fn draw<P: Pictures, R: Read + Drop, V: Read + Drop, W: Sink, E: Sink>(
 }
 
 /// The picture of the glyph that the options name, of a font and waivers that are read.
-fn drawn<P: Pictures, R: Read + Drop, V: Read + Drop>(
+fn drawn<R: Read + Drop, V: Read + Drop>(
     alloc: Global,
-    pictures: &P,
     options: &Options,
     font: R,
     waivers: V,
 ) -> Result<String, Failure>
-    ensures { DrawsFile string_bytes P.shows options.now (R.remaining font) (V.remaining waivers) result }
+    ensures { DrawsFile string_bytes options.now (R.remaining font) (V.remaining waivers) result }
 {
     let bytes = read(alloc, font, LARGEST_FILE, RefusalCode::E05)?;
     let mut file = OpenFont::open(alloc, bytes.as_slice())?;
     drop(bytes);
     let font = file.font(alloc)?;
-    let text = drawn_of(alloc, pictures, options, &font, waivers);
+    let text = drawn_of(alloc, options, &font, waivers);
     font.let_go();
     text
 }
 
 /// The picture of a glyph of a font, with waivers that are read.
-fn drawn_of<P: Pictures, V: Read + Drop>(
+fn drawn_of<V: Read + Drop>(
     alloc: Global,
-    pictures: &P,
     options: &Options,
     font: &Font<'_>,
     waivers: V,
 ) -> Result<String, Failure>
-    ensures { DrawsGlyph string_bytes P.shows options.now font.now (V.remaining waivers) result }
+    ensures { DrawsGlyph string_bytes options.now font.now (V.remaining waivers) result }
 {
     let text = read(alloc, waivers, LARGEST_WAIVERS, RefusalCode::E15)?;
     let waivers = Waivers::read(alloc, text.as_slice())?;
@@ -157,7 +154,7 @@ fn drawn_of<P: Pictures, V: Read + Drop>(
         glyph,
         step: options.step,
     };
-    Ok(pictures.picture(alloc, &view)?)
+    Ok(picture(alloc, &view)?)
 }
 
 /// Reads a file to its end, which is refused where it has more bytes than it may have.

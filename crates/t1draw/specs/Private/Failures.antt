@@ -13,7 +13,6 @@ use Rattle.t1_report.specs.declared.waivers.WaiverError.TheVariants as waivers
 use Rattle.t1_rules.specs.Components.{glyph_named}
 use Rattle.t1draw.specs.Ends.{FontIs, FontRefused, IsPicture, Tells, WaiversAre, WaiversRefused, no_glyph_line, refusal_line}
 use Rattle.t1draw.specs.FontFiles.{refusal_of}
-use Rattle.t1draw.specs.Subjects.{Subject}
 use Rattle.t1draw.specs.declared.command_line.Options.{Options}
 use Rattle.t1draw.specs.declared.running.Failure.{Failure}
 use Rattle.t1draw.specs.declared.running.Failure.TheVariants as failure
@@ -52,10 +51,10 @@ pub data IsUndrawnOf (name : List ℕ) (font : FontValue) (text : Option (List �
   no_memory : reason ≡ failure.Memory → IsUndrawnOf name font text reason
 
 -- This is a picture, given the bytes of its text, or this is why there is none.
-abbrev pub DrawsGlyph : {X : Type 0} → (X → List ℕ) → (Subject → List ℕ → Type 0) → Options → FontValue → Option (List ℕ)
+abbrev pub DrawsGlyph : {X : Type 0} → (X → List ℕ) → Options → FontValue → Option (List ℕ)
     → Result X Failure → Type 0
-DrawsGlyph bytes shows options font text (Ok picture) = IsPicture shows options font text (bytes picture)
-DrawsGlyph bytes shows options font text (Err reason) = IsUndrawnOf options.glyph.items font text reason
+DrawsGlyph bytes options font text (Ok picture) = IsPicture options font text (bytes picture)
+DrawsGlyph bytes options font text (Err reason) = IsUndrawnOf options.glyph.items font text reason
 
 -- Why there is no picture of the glyph of this name of a font's file.
 pub data IsUndrawn (name : List ℕ) (file text : Option (List ℕ)) (reason : Failure) : Type 0 where
@@ -65,11 +64,11 @@ pub data IsUndrawn (name : List ℕ) (file text : Option (List ℕ)) (reason : F
   no_memory : reason ≡ failure.Memory → IsUndrawn name file text reason
 
 -- The font is read and this is a picture, or this is why there is none.
-abbrev pub DrawsFile : {X : Type 0} → (X → List ℕ) → (Subject → List ℕ → Type 0) → Options → Option (List ℕ) → Option (List ℕ)
+abbrev pub DrawsFile : {X : Type 0} → (X → List ℕ) → Options → Option (List ℕ) → Option (List ℕ)
     → Result X Failure → Type 0
-DrawsFile bytes shows options file text (Ok picture) =
-    (font : FontValue) × FontIs file font × IsPicture shows options font text (bytes picture)
-DrawsFile bytes shows options file text (Err reason) = IsUndrawn options.glyph.items file text reason
+DrawsFile bytes options file text (Ok picture) =
+    (font : FontValue) × FontIs file font × IsPicture options font text (bytes picture)
+DrawsFile bytes options file text (Err reason) = IsUndrawn options.glyph.items file text reason
 
 -- ---- what is told
 

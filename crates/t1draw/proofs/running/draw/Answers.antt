@@ -10,4 +10,4 @@ pub returns-in-Ok : goal.returns-in-Ok
 returns-in-Ok g c = write_failed c.in-Ok.ensures.0 c.in-Ok.ensures.1 _ c.in-Ok.ensures.2 (rw c.as_bytes.ensures.value at c.in-Err-deliver.ensures) c.tell.ensures
 
 pub returns : goal.returns
-returns g c = undrawn _ c.args.options.now _ _ _ _ _ _ _ c.in-Err.ensures c.tell_failure.ensures
+returns g c = undrawn c.args.options.now _ _ _ _ _ _ _ c.in-Err.ensures c.tell_failure.ensures

@@ -7,12 +7,12 @@ use Rattle.t1draw.proofs.running.drawn_of.Goals as goal
 
 pub returns-in_err-text : goal.returns-in_err-text
 returns-in_err-text g c =
-    glyph_fails _ _ _ _ _ c.from_residual.result _ c.from_residual.ensures.1
+    glyph_fails _ _ _ _ c.from_residual.result _ c.from_residual.ensures.1
     (λ reason is. rw is (waivers_unreadable _ _ _ _ c.in_err-text.ensures.bytes c.in_err-text.ensures.failures))
 
 pub returns-in_err-waivers : goal.returns-in_err-waivers
 returns-in_err-waivers g c =
-    glyph_fails _ _ _ _ _ c.from_residual-in_err-waivers.result _ c.from_residual-in_err-waivers.ensures.1
+    glyph_fails _ _ _ _ c.from_residual-in_err-waivers.result _ c.from_residual-in_err-waivers.ensures.1
     (λ reason is. waivers_unread (λ (w : List Waiver). w) _ _ _ c.in_ok-text.text.items _ reason c.in_ok-text.ensures.most c.in_ok-text.ensures.bytes
     (subst (λ bytes. IsReadAs (λ (w : List Waiver). w) (waivers_of bytes) (Err c.in_err-waivers.field-0.0)) c.as_slice.ensures.value
     c.in_err-waivers.ensures) is)
