@@ -11,10 +11,10 @@ use Rattle.t1_outline.specs.Private.Outlining.{steps_in}
 use Rattle.t1_picture.specs.declared.marks.FaultMark.{FaultMark}
 use Rattle.t1_picture.specs.declared.marks.Marks.{Marks}
 use Rattle.t1_picture.specs.Drawings.{all_steps}
-use Rattle.t1_picture.specs.FaultViews.{AreThose, IsRunFor, IsStepOf, counted}
-use Rattle.t1_picture.specs.MarkViews.{IsMarked, done_with, last_with}
+use Rattle.t1_picture.specs.Private.FaultViews.{AreThose, IsRunFor, IsStepOf, counted}
+use Rattle.t1_picture.specs.Private.MarkViews.{IsMarked, done_with, last_with}
 use Rattle.t1_picture.specs.Marks.{AreShownOf, fault_lines, glyph_steps, is_X05, is_waived_of, last_of, lines_of, marks_from, miss_lines, named_at, named_by, pen_at, same_point, shown_of, up_to, waived_of}
-use Rattle.t1_picture.specs.Runs.{GoesTo, IsInHand, IsOfSameGlyph, seen_steps}
+use Rattle.t1_picture.specs.Private.Runs.{GoesTo, IsInHand, IsOfSameGlyph, seen_steps}
 use Rattle.t1_picture.specs.Subjects.{Subject}
 use Rattle.t1_picture.specs.Texts.{legible_line}
 use Rattle.t1_picture.proofs.Runs.{none_past}

@@ -15,9 +15,9 @@ use Rattle.t1_outline.specs.Private.Outlining.{steps_in}
 use Rattle.t1_picture.specs.declared.parts.Stop.{Stop}
 use Rattle.t1_picture.specs.declared.parts.Stop.TheVariants.{Reached, Ended, Limit}
 use Rattle.t1_picture.specs.Layers.{LayersView}
-use Rattle.t1_picture.specs.PartViews.{DrawsSteps, IsRunOf, stop_of}
+use Rattle.t1_picture.specs.Private.PartViews.{DrawsSteps, IsRunOf, stop_of}
 use Rattle.t1_picture.specs.Parts.{PartView, drawn_steps, flex_note, flex_notes, last_step_of, limited_steps, line_of_step, with_step, with_steps}
-use Rattle.t1_picture.specs.Runs.{AreAllSeen, IsDrawnNext, IsInHand, IsOfSameGlyph, seen_steps}
+use Rattle.t1_picture.specs.Private.Runs.{AreAllSeen, IsDrawnNext, IsInHand, IsOfSameGlyph, seen_steps}
 use Rattle.t1_picture.specs.Texts.{legible_line}
 use Rattle.t1_picture.proofs.Runs.{none_past}
 use Rattle.t1_report.specs.Traces.{step_line}

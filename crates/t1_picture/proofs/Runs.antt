@@ -9,7 +9,7 @@ use Rattle.t1_char.specs.Steps.{NumberedStep, StepView, steps_of}
 use Rattle.t1_char.specs.Turns.{MachineView, TurnValue, answered, counted_after, ended, is_told, limit_or_end, limited, step_of_number, step_or_end, turn_at}
 use Rattle.t1_outline.proofs.Outlining.{IsOver, IsTold, same_steps}
 use Rattle.t1_outline.specs.Private.Outlining.{steps_in}
-use Rattle.t1_picture.specs.Runs.{AreAllSeen, IsInHand}
+use Rattle.t1_picture.specs.Private.Runs.{AreAllSeen, IsInHand}
 
 -- What is left of a list begins with what stands at its place.
 pub at_drop : (n : ℕ) (xs : List StepView) (y : StepView) (ys : List StepView) → drop n xs ≡ y ∷ ys → slice_get xs n ≡ Some y

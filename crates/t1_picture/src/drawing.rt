@@ -4,7 +4,7 @@ ghost use Rattle.std.specs.Prelude.{◌≡◌, ◌<◌, ◌++◌, IfOk, IfSome, 
 ghost use Rattle.t1_outline.specs.Parts.{IsIn};
 ghost use Rattle.t1_picture.specs.Drawings.{component_notes, component_part, drawing_of, drawing_view, label_of, missing_note, notes_of_components, notes_of_part, own_part, seac_note, texts_of, with_component, with_components};
 ghost use Rattle.t1_picture.specs.Layers.{layers_view};
-ghost use Rattle.t1_picture.specs.PartViews.{part_view};
+ghost use Rattle.t1_picture.specs.Private.PartViews.{part_view};
 ghost use Rattle.t1_picture.specs.Parts.{note_if, with_part};
 ghost use Rattle.t1_picture.specs.Subjects.{subject_of};
 ghost use Rattle.t1_picture.specs.Views.{CanBeDrawn};

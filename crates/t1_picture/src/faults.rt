@@ -3,7 +3,7 @@
 ghost use Rattle.std.specs.Prelude.{◌≡◌, ◌≤◌, ◌+◌, ◌++◌, IfOk, None, OnOk, List, [], nat_le, string_bytes};
 ghost use Rattle.t1_char.specs.StepValues.{step_view};
 ghost use Rattle.t1_picture.specs.Drawings.{texts_of};
-ghost use Rattle.t1_picture.specs.FaultViews.{AreAdded, IsRunFor, IsStepOf, counted};
+ghost use Rattle.t1_picture.specs.Private.FaultViews.{AreAdded, IsRunFor, IsStepOf, counted};
 ghost use Rattle.t1_picture.specs.Marks.{AreFaultsOf, AreShownOf, fault_lines, faults_view, is_X05, miss_line, miss_lines, named_by, pen_at, waived_of};
 ghost use Rattle.t1_picture.specs.Subjects.{subject_of};
 ghost use Rattle.t1_picture.specs.Texts.{legible_line};

@@ -6,11 +6,11 @@
 //!
 //! What is promised, for all fonts:
 //!
-//! - the text is a function of the font, the glyph, the waivers, the edition and the step;
+//! - the text is the picture that the definition says, byte for byte (`IsPictureOf`), and a subject has no other
+//!   ([`a_subject_has_one_picture`]);
 //! - no index, sum or cast goes wrong, and each call returns.
 //!
-//! That the text shows what it should is shown by tests alone. Coordinates are exact, in units of 1/65536. The text is made in
-//! memory, so that where memory runs out there is none.
+//! Coordinates are exact, in units of 1/65536. The text is made in memory, so that where memory runs out there is none.
 //!
 //! ```
 //! let sidebearings = Sidebearings::prepare(alloc, font, Edition::One)?;

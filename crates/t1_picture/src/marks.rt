@@ -2,7 +2,7 @@
 
 ghost use Rattle.std.specs.Prelude.{◌≡◌, ◌++◌, IfOk, None, OnOk, []};
 ghost use Rattle.std.specs.Option.{option_to_list};
-ghost use Rattle.t1_picture.specs.MarkViews.{IsMarked};
+ghost use Rattle.t1_picture.specs.Private.MarkViews.{IsMarked};
 ghost use Rattle.t1_picture.specs.Marks.{same_point};
 
 use std::alloc::{AllocError, Global};

@@ -2,7 +2,7 @@
 
 ghost use Rattle.std.specs.Prelude.{◌≡◌, ◌<◌, ◌≤◌, length};
 ghost use Rattle.t1_char.specs.StepValues.{step_value};
-ghost use Rattle.t1_picture.specs.Runs.{GivesNext, GoesTo, IsInHand, IsOfSameGlyph, seen_steps};
+ghost use Rattle.t1_picture.specs.Private.Runs.{GivesNext, GoesTo, IsInHand, IsOfSameGlyph, seen_steps};
 ghost use Rattle.t1_rules.specs.StepRules.Flex.{current_point};
 ghost use Rattle.t1_rules.specs.StepRules.Paths.{in_flex};
 ghost use Rattle.t1_rules.specs.StepRules.Stems.{hint_set, lies_across, stands_upright};
@@ -34,7 +34,7 @@ pub(crate) struct Run<'a> {
 impl<'a> Model for Run<'a> {
     ghost use Rattle.t1_char.specs.Turns.{MachineView};
     ghost use Rattle.t1_outline.specs.Private.Outlining.{IsOutlining};
-    ghost use Rattle.t1_picture.specs.Runs.{IsInHand};
+    ghost use Rattle.t1_picture.specs.Private.Runs.{IsInHand};
 
     ghost Value = { MachineView };
 

@@ -5,9 +5,10 @@
 //! $ t1draw A font.pfb >A.svg
 //! ```
 //!
-//! Promised, where memory is there and no device fails: what is written and told and the status are a function of the words, the
-//! font's bytes and the waivers' ([`running::draw`]). Where the font, the waivers or the words are refused, nothing is put on the
-//! output.
+//! Promised, where memory is there and no device fails: the words give options or none, by clap's rules
+//! ([`command_line::read_words`]), and the options, the font's bytes and the waivers' decide the picture, to its last byte, or
+//! what is told, and the status ([`running::draw`]). Where the font, the waivers or the words are refused, nothing is put on
+//! the output.
 #![tactic(auto)]
 
 mod command_line;

@@ -1,6 +1,6 @@
 use Rattle.std.proofs.Common.{◌≡◌, ◌≤◌, ◌+◌, ◌-◌, true, false, ap, arith, nat_le, subst, sym, ◌∙◌}
 use Rattle.t1_picture.specs.Drawings.{texts_of}
-use Rattle.t1_picture.specs.MarkViews.{IsMarked}
+use Rattle.t1_picture.specs.Private.MarkViews.{IsMarked}
 use Rattle.t1_picture.specs.Marks.{last_of, pen_at}
 use Rattle.t1_picture.specs.Subjects.{subject_of}
 use Rattle.t1_picture.proofs.FaultSteps.{HasAdded, all_added, none_comes, none_drawn, none_fits, one_added, pen_there, steps_rise, still_for, x05_stands}

@@ -1,6 +1,6 @@
 use Rattle.std.proofs.Common.{◌≡◌, ◌≤◌, ◌+◌, ◌-◌, List}
 use Rattle.t1_picture.specs.Drawings.{texts_of}
-use Rattle.t1_picture.specs.FaultViews.{IsRunFor}
+use Rattle.t1_picture.specs.Private.FaultViews.{IsRunFor}
 use Rattle.t1_picture.specs.Marks.{AreShownOf}
 use Rattle.t1_picture.specs.Subjects.{subject_of}
 use Rattle.t1_picture.proofs.FaultSteps.{HasAdded}

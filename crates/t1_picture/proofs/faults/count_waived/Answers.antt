@@ -1,5 +1,5 @@
 use Rattle.std.proofs.Common.{◌≡◌, ◌+◌, ℕ, List, [], true, false, ap, nat_le, subst, sym, ◌∙◌}
-use Rattle.t1_picture.specs.FaultViews.{counted}
+use Rattle.t1_picture.specs.Private.FaultViews.{counted}
 use Rattle.t1_picture.specs.Marks.{is_waived_of, last_of}
 use Rattle.t1_picture.specs.Subjects.{subject_of}
 use Rattle.t1_picture.proofs.FaultSteps.{HasCounted, all_counted, none_comes, none_drawn, one_counted}

@@ -5,7 +5,7 @@ use Rattle.t1_outline.specs.declared.parts.SeacParts.{SeacParts}
 use Rattle.t1_outline.specs.Parts.{composition_of, seac_parts_in}
 use Rattle.t1_picture.specs.Drawings.{components_of, drawing_of, notes_of_components, own_composition, own_part, texts_of, with_components}
 use Rattle.t1_picture.specs.Layers.{LayersView, no_layers}
-use Rattle.t1_picture.specs.PartViews.{part_view}
+use Rattle.t1_picture.specs.Private.PartViews.{part_view}
 use Rattle.t1_picture.specs.Parts.{PartView, drawn_steps, last_step_of, part_notes, with_part}
 use Rattle.t1_picture.specs.Subjects.{subject_of}
 use Rattle.t1_picture.proofs.Made.{same_drawing}

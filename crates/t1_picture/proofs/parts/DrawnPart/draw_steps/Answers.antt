@@ -4,7 +4,7 @@ use Rattle.t1_outline.specs.Parts.{composition_of}
 use Rattle.t1_picture.specs.declared.parts.Stop.TheVariants.{Reached, Ended, Limit}
 use Rattle.t1_picture.specs.Drawings.{texts_of}
 use Rattle.t1_picture.specs.Layers.{layers_view}
-use Rattle.t1_picture.specs.PartViews.{part_view}
+use Rattle.t1_picture.specs.Private.PartViews.{part_view}
 use Rattle.t1_picture.specs.Parts.{flex_note, with_step}
 use Rattle.t1_picture.proofs.PartSteps.{all_drawn, all_executed, none_drawn, one_executed, steps_of_run, still_of, why_ended, why_limited}
 use Rattle.t1_picture.proofs.parts.DrawnPart.draw_steps.Goals as goal

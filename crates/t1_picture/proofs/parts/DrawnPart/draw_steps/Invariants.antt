@@ -1,7 +1,7 @@
 use Rattle.std.proofs.Common.{◌≡◌}
 use Rattle.t1_picture.specs.Drawings.{texts_of}
 use Rattle.t1_picture.specs.Layers.{layers_view}
-use Rattle.t1_picture.specs.PartViews.{IsRunOf, part_view}
+use Rattle.t1_picture.specs.Private.PartViews.{IsRunOf, part_view}
 use Rattle.t1_picture.proofs.PartSteps.{HasDrawn}
 use Rattle.t1_picture.proofs.parts.DrawnPart.draw_steps.Given as goal
 

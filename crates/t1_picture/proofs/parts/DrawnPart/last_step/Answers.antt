@@ -2,7 +2,7 @@ use Rattle.std.proofs.Common.{◌≡◌, true, ap, sym, ◌∙◌, arith}
 use Rattle.t1_char.specs.Steps.{NumberedStep}
 use Rattle.t1_picture.specs.declared.parts.Stop.{Stop}
 use Rattle.t1_picture.specs.declared.parts.Stop.TheVariants.{Reached, Ended, Limit}
-use Rattle.t1_picture.specs.PartViews.{is_reached, part_view}
+use Rattle.t1_picture.specs.Private.PartViews.{is_reached, part_view}
 use Rattle.t1_picture.specs.Texts.{legible_line}
 use Rattle.t1_picture.proofs.PartSteps.{last_in_hand}
 use Rattle.t1_picture.proofs.parts.DrawnPart.last_step.Goals as goal

@@ -1,6 +1,6 @@
 use Rattle.std.proofs.Common.{◌≡◌, subst}
 use Rattle.t1_char.specs.Turns.{MachineView}
-use Rattle.t1_picture.specs.Runs.{seen_steps}
+use Rattle.t1_picture.specs.Private.Runs.{seen_steps}
 use Rattle.t1_picture.proofs.run.Run.across.Goals as goal
 use Rattle.t1_rules.specs.StepRules.Stems.{hint_set, lies_across}
 

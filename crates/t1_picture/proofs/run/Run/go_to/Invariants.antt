@@ -1,5 +1,5 @@
 use Rattle.std.proofs.Common.{◌≡◌}
-use Rattle.t1_picture.specs.Runs.{IsOfSameGlyph}
+use Rattle.t1_picture.specs.Private.Runs.{IsOfSameGlyph}
 use Rattle.t1_picture.proofs.run.Run.go_to.Given as goal
 
 abbrev pub invariant-loop-step : goal.invariant-loop-step

@@ -8,7 +8,7 @@ use Rattle.t1_outline.specs.Private.Standing.{PenStandsFor}
 use Rattle.t1_outline.specs.Private.Outlining.{steps_in}
 use Rattle.t1_outline.proofs.Outlining.{few_seen, outlining_stays, over, told}
 use Rattle.t1_picture.specs.declared.run.Next.TheVariants as next
-use Rattle.t1_picture.specs.Runs.{GivesNext, IsDrawnNext}
+use Rattle.t1_picture.specs.Private.Runs.{GivesNext, IsDrawnNext}
 use Rattle.t1_picture.proofs.Runs.{all_seen, ends_within, goes_past, in_hand_next, in_hand_over}
 use Rattle.t1_picture.proofs.run.Run.next.Goals as goal
 use Rattle.t1_rules.specs.StepRules.Paths.{leaves_open}

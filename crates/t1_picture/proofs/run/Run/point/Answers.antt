@@ -1,6 +1,6 @@
 use Rattle.std.proofs.Common.{◌≡◌, subst}
 use Rattle.t1_char.specs.Turns.{MachineView}
-use Rattle.t1_picture.specs.Runs.{seen_steps}
+use Rattle.t1_picture.specs.Private.Runs.{seen_steps}
 use Rattle.t1_picture.proofs.run.Run.point.Goals as goal
 use Rattle.t1_rules.specs.StepRules.Flex.{current_point}
 

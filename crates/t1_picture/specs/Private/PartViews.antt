@@ -10,7 +10,7 @@ use Rattle.t1_picture.specs.declared.parts.Stop.{Stop}
 use Rattle.t1_picture.specs.declared.parts.Stop.TheVariants.{Reached, Ended, Limit}
 use Rattle.t1_picture.specs.Layers.{LayersView}
 use Rattle.t1_picture.specs.Parts.{PartView, drawn_steps, flex_notes, limited_steps, with_steps}
-use Rattle.t1_picture.specs.Runs.{seen_steps}
+use Rattle.t1_picture.specs.Private.Runs.{seen_steps}
 
 abbrev pub part_view : DrawnPart → PartView
 part_view p =

@@ -1,0 +1,5 @@
+-- Words that private contracts alone cite: no clause of a public function rests on them.
+pub mod FaultViews
+pub mod MarkViews
+pub mod PartViews
+pub mod Runs
