@@ -8,6 +8,9 @@ ghost use Rattle.t1_picture.specs.Marks.{same_point};
 use std::alloc::{AllocError, Global};
 use t1_rules::Point;
 
+/// The radius of a mark; its number stands as far to the right of its middle, and as far above.
+pub(crate) const MARK: i64 = 9;
+
 /// A mark at a point: the numbers of faults that follow one another and stand there.
 #[derive(Clone, Copy, Debug, PartialEq, Eq)]
 pub(crate) struct FaultMark {

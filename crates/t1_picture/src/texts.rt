@@ -7,6 +7,9 @@ ghost use Rattle.t1_picture.specs.Texts.{legible, legible_char, legible_line, xm
 use std::alloc::{AllocError, Global};
 use t1_format::shown;
 
+/// The end of a group.
+pub(crate) const END: &str = "</g>\n";
+
 /// A name, or a line with one, as text that XML can hold: as t1_format shows names, and the two characters U+FFFE and U+FFFF by
 /// their bytes.
 pub(crate) fn legible(alloc: Global, bytes: &[u8]) -> Result<String, AllocError>

@@ -1,6 +1,0 @@
-use Rattle.t1_picture.specs.Pictures.{zones_start}
-use Rattle.t1_picture.proofs.svg.start_zones.Goals as goal
-
-pub returns : goal.returns
-unfolding zones_start
-returns c = c.push.ensures

@@ -1,0 +1,208 @@
+//! What stands in front of the drawing: the size, the title, the forms of points and marks, and the ground.
+
+ghost use Rattle.std.specs.Prelude.{◌≡◌, ◌++◌, OnOk, string_bytes};
+ghost use Rattle.t1_picture.specs.Drawings.{texts_of};
+ghost use Rattle.t1_picture.specs.Pictures.{circles_text, clip_text, columns_from, defs_text, ground_part, ground_text, head_by, head_text, letters_of, plane_text, size_text, square_text, svg_start, title_text, view_box_text};
+
+use crate::decimals::Exact;
+use crate::frame::Frame;
+use crate::marks::MARK;
+use crate::texts::{push, push_escaped};
+use std::alloc::AllocError;
+
+/// What stands in front of the size.
+const HEAD: &str = r#"<?xml version="1.0" encoding="UTF-8"?>
+<svg xmlns="http://www.w3.org/2000/svg" xmlns:xlink="http://www.w3.org/1999/xlink" version="1.1""#;
+
+/// Half the side of the square of a point, and the radius of the circle of a control point, in units of the frame.
+const POINT: i64 = 4;
+
+/// Writes what stands in front of the drawing: the size, the title, and the forms of points and marks.
+pub(crate) fn write_head(
+    svg: &mut String,
+    frame: &Frame,
+    title: &str,
+    lines: &[String],
+) -> Result<(), AllocError>
+    ensures { OnOk result (string_bytes svg.new ≡ string_bytes svg.old ++ head_text frame.now title.now (texts_of lines.now)) }
+{
+    let width = frame.width(columns_of(lines));
+    let height = frame.height(lines.len());
+    write_head_by(svg, frame, width, height, title)
+}
+
+#[tactic(auto, unfolding(crate::specs::Pictures::head_by))]
+fn write_head_by(
+    svg: &mut String,
+    frame: &Frame,
+    width: i64,
+    height: i64,
+    title: &str,
+) -> Result<(), AllocError>
+    ensures { OnOk result (string_bytes svg.new ≡ string_bytes svg.old ++ head_by frame.now width height title.now) }
+{
+    write_plane(svg, frame, width, height)?;
+    write_title(svg, title)?;
+    write_defs(svg, frame)?;
+    write_ground_part(svg, frame, width, height)
+}
+
+/// Writes the size, and the part of the plane that is shown.
+#[tactic(auto, unfolding(crate::specs::Pictures::plane_text))]
+fn write_plane(svg: &mut String, frame: &Frame, width: i64, height: i64) -> Result<(), AllocError>
+    ensures { OnOk result (string_bytes svg.new ≡ string_bytes svg.old ++ plane_text frame.now width height) }
+{
+    start_svg(svg)?;
+    write_size(svg, width, height)?;
+    write_view_box(
+        svg,
+        frame.left(),
+        frame.upper_edge(),
+        frame.length(width),
+        frame.length(height),
+    )
+}
+
+fn start_svg(svg: &mut String) -> Result<(), AllocError>
+    ensures { OnOk result (string_bytes svg.new ≡ string_bytes svg.old ++ svg_start) }
+{
+    push(svg, HEAD)
+}
+
+/// Writes what lies below all.
+#[tactic(auto, unfolding(crate::specs::Pictures::ground_part))]
+fn write_ground_part(
+    svg: &mut String,
+    frame: &Frame,
+    width: i64,
+    height: i64,
+) -> Result<(), AllocError>
+    ensures { OnOk result (string_bytes svg.new ≡ string_bytes svg.old ++ ground_part frame.now width height) }
+{
+    write_ground(
+        svg,
+        frame.left(),
+        frame.upper_edge(),
+        frame.length(width),
+        frame.length(height),
+    )
+}
+
+/// How many letters the longest line has.
+fn columns_of(lines: &[String]) -> usize
+    ensures { result ≡ columns_from 0 (texts_of lines.now) }
+{
+    let mut most = 0usize;
+    for line in lines {
+        most = most.max(letters_of(line.as_str()));
+    }
+    most
+}
+
+/// How many letters a line has.
+fn letters_of(line: &str) -> usize
+    ensures { result ≡ letters_of line.now }
+{
+    let mut letters = 0usize;
+    for _letter in line.chars() {
+        letters = letters.saturating_add(1);
+    }
+    letters
+}
+
+/// Writes the size, in units.
+#[tactic(auto, unfolding(crate::specs::Pictures::size_text))]
+fn write_size(svg: &mut String, width: i64, height: i64) -> Result<(), AllocError>
+    ensures { OnOk result (string_bytes svg.new ≡ string_bytes svg.old ++ size_text width height) }
+{
+    write!(svg, r#" width="{width}" height="{height}""#)
+}
+
+/// Writes the part of the plane that is shown.
+fn write_view_box(
+    svg: &mut String,
+    x: Exact,
+    y: Exact,
+    across: Exact,
+    down: Exact,
+) -> Result<(), AllocError>
+    ensures { OnOk result (string_bytes svg.new ≡ string_bytes svg.old ++ view_box_text x y across down) }
+{
+    writeln!(svg, r#" viewBox="{x} {y} {across} {down}">"#)
+}
+
+#[tactic(auto, unfolding(crate::specs::Pictures::title_text))]
+fn write_title(svg: &mut String, title: &str) -> Result<(), AllocError>
+    ensures { OnOk result (string_bytes svg.new ≡ string_bytes svg.old ++ title_text title.now) }
+{
+    push(svg, "<title>")?;
+    push_escaped(svg, title)?;
+    push(svg, "</title>\n")
+}
+
+/// Writes the forms of points and marks, and the frame, by which zones are cut.
+#[tactic(auto, unfolding(crate::specs::Pictures::defs_text))]
+fn write_defs(svg: &mut String, frame: &Frame) -> Result<(), AllocError>
+    ensures { OnOk result (string_bytes svg.new ≡ string_bytes svg.old ++ defs_text frame.now) }
+{
+    push(svg, "<defs>\n")?;
+    write_square(svg, frame.length(POINT))?;
+    write_circle_forms(svg, frame.length(POINT), frame.length(MARK))?;
+    write_clip(
+        svg,
+        frame.left(),
+        frame.bottom(),
+        frame.right(),
+        frame.top(),
+    )?;
+    push(svg, "</defs>\n")
+}
+
+fn write_square(svg: &mut String, size: Exact) -> Result<(), AllocError>
+    ensures { OnOk result (string_bytes svg.new ≡ string_bytes svg.old ++ square_text size) }
+{
+    writeln!(
+        svg,
+        r#"<path id="on" d="M-{size} -{size}H{size}V{size}H-{size}Z"/>"#
+    )
+}
+
+fn write_circle_forms(svg: &mut String, size: Exact, radius: Exact) -> Result<(), AllocError>
+    ensures { OnOk result (string_bytes svg.new ≡ string_bytes svg.old ++ circles_text size radius) }
+{
+    writeln!(
+        svg,
+        r#"<circle id="off" r="{size}"/>
+<circle id="mark" r="{radius}"/>"#
+    )
+}
+
+fn write_clip(
+    svg: &mut String,
+    left: Exact,
+    bottom: Exact,
+    right: Exact,
+    top: Exact,
+) -> Result<(), AllocError>
+    ensures { OnOk result (string_bytes svg.new ≡ string_bytes svg.old ++ clip_text left bottom right top) }
+{
+    writeln!(
+        svg,
+        r#"<clipPath id="frame"><path d="M{left} {bottom}H{right}V{top}H{left}Z"/></clipPath>"#
+    )
+}
+
+fn write_ground(
+    svg: &mut String,
+    x: Exact,
+    y: Exact,
+    across: Exact,
+    down: Exact,
+) -> Result<(), AllocError>
+    ensures { OnOk result (string_bytes svg.new ≡ string_bytes svg.old ++ ground_text x y across down) }
+{
+    writeln!(
+        svg,
+        r#"<rect x="{x}" y="{y}" width="{across}" height="{down}" fill="white"/>"#
+    )
+}
