@@ -1,6 +1,10 @@
 -- Options, a font's file and the text of waivers have one answer.
-use Rattle.std.proofs.Common.{◌≡◌, ℕ, List, Option, None, Some, Result, Ok, Err, MatchResult, ap, arith, subst, sym, ◌∙◌}
+use Rattle.std.proofs.Common.{◌≡◌, ℕ, List, Option, None, Some, Result, Ok, Err, MatchResult, option_and_then, ap, arith, refl, subst, sym, ◌∙◌}
+use Rattle.std.proofs.lemmas.Bool.{false≢true}
 use Rattle.std.specs.Prelude.{⊤}
+use Rattle.clap.specs.Words.{Text}
+use Rattle.t1_char.specs.declared.edition.Edition.{Edition}
+use Rattle.t1_char.specs.declared.edition.Edition.TheVariants.{One, Two}
 use Rattle.t1_font.specs.FontFiles.{font_in}
 use Rattle.t1_font.specs.Fonts.{FontValue}
 use Rattle.t1_lines.specs.declared.refusal.RefusalCode.{RefusalCode}
@@ -8,10 +12,12 @@ use Rattle.t1_picture.specs.Laws.{HasNoOtherPicture}
 use Rattle.t1_picture.specs.Pictures.{IsPictureOf}
 use Rattle.t1_report.specs.Waivers.{Waiver, waivers_of}
 use Rattle.t1_rules.specs.Components.{glyph_named}
+use Rattle.t1draw.specs.CommandLine.{AreGiven, AreNumber, IsEditionOrFirst, glyph_word}
 use Rattle.t1draw.specs.Ends.{IsPicture}
 use Rattle.t1draw.specs.FontFiles.{IsFont, IsRefusedFont, refusal_of}
 use Rattle.t1draw.specs.FontFiles.IsRefusedFont.{too_large as large_font, unread}
-use Rattle.t1draw.specs.Laws.{HasNoOtherAnswer}
+use Rattle.t1draw.specs.GlyphWords.{name_of_word}
+use Rattle.t1draw.specs.Laws.{Answer, HasNoOtherAnswer, IsAnswer}
 use Rattle.t1draw.specs.Laws.Answer.{Picture, Refused}
 use Rattle.t1draw.specs.Laws.IsAnswer.{drawn, font_refused, no_glyph, waivers_refused}
 use Rattle.t1draw.specs.WaiverTexts.{AreRefusedWaivers, AreWaivers}
@@ -106,34 +112,89 @@ never_missing options text font font' a is same none =
 
 -- ---- the answer
 
-pub one_answer : HasNoOtherPicture → HasNoOtherAnswer
-one_answer no_other options file text a b (drawn font is p shown at) (drawn font' is' p' shown' at') =
+one_answer_of : HasNoOtherPicture → (options : Options) (file text : List ℕ) (a b : Answer)
+    → IsAnswer options file text a → IsAnswer options file text b → a ≡ b
+one_answer_of no_other options file text a b (drawn font is p shown at) (drawn font' is' p' shown' at') =
     at
     ∙ ap Picture (one_picture no_other options text font' p p' (subst (λ (f : FontValue). IsPicture options f (Some text) p) (one_font file font font' is is') shown)
     shown')
     ∙ sym at'
-one_answer no_other options file text a b (drawn font is p shown at) (font_refused code refused at') = absurd (never_refused file font code is refused)
-one_answer no_other options file text a b (drawn font is p shown at) (waivers_refused font' is' code refused at') =
+one_answer_of no_other options file text a b (drawn font is p shown at) (font_refused code refused at') = absurd (never_refused file font code is refused)
+one_answer_of no_other options file text a b (drawn font is p shown at) (waivers_refused font' is' code refused at') =
     absurd (never_waived text shown.waivers code shown.waived refused)
-one_answer no_other options file text a b (drawn font is p shown at) (no_glyph font' is' ws waived none at') =
+one_answer_of no_other options file text a b (drawn font is p shown at) (no_glyph font' is' ws waived none at') =
     absurd (never_missing options text font font' p shown (one_font file font font' is is') none)
-one_answer no_other options file text a b (font_refused code refused at) (drawn font is p shown at') = absurd (never_refused file font code is refused)
-one_answer no_other options file text a b (font_refused code refused at) (font_refused code' refused' at') =
+one_answer_of no_other options file text a b (font_refused code refused at) (drawn font is p shown at') = absurd (never_refused file font code is refused)
+one_answer_of no_other options file text a b (font_refused code refused at) (font_refused code' refused' at') =
     at ∙ ap Refused (one_number file code code' refused refused') ∙ sym at'
-one_answer no_other options file text a b (font_refused code refused at) (waivers_refused font is code' refused' at') =
+one_answer_of no_other options file text a b (font_refused code refused at) (waivers_refused font is code' refused' at') =
     absurd (never_refused file font code is refused)
-one_answer no_other options file text a b (font_refused code refused at) (no_glyph font is ws waived none at') = absurd (never_refused file font code is refused)
-one_answer no_other options file text a b (waivers_refused font is code refused at) (drawn font' is' p shown at') =
+one_answer_of no_other options file text a b (font_refused code refused at) (no_glyph font is ws waived none at') = absurd (never_refused file font code is refused)
+one_answer_of no_other options file text a b (waivers_refused font is code refused at) (drawn font' is' p shown at') =
     absurd (never_waived text shown.waivers code shown.waived refused)
-one_answer no_other options file text a b (waivers_refused font is code refused at) (font_refused code' refused' at') =
+one_answer_of no_other options file text a b (waivers_refused font is code refused at) (font_refused code' refused' at') =
     absurd (never_refused file font code' is refused')
-one_answer no_other options file text a b (waivers_refused font is code refused at) (waivers_refused font' is' code' refused' at') =
+one_answer_of no_other options file text a b (waivers_refused font is code refused at) (waivers_refused font' is' code' refused' at') =
     at ∙ ap Refused (one_waiver_number text code code' refused refused') ∙ sym at'
-one_answer no_other options file text a b (waivers_refused font is code refused at) (no_glyph font' is' ws waived none at') =
+one_answer_of no_other options file text a b (waivers_refused font is code refused at) (no_glyph font' is' ws waived none at') =
     absurd (never_waived text ws code waived refused)
-one_answer no_other options file text a b (no_glyph font is ws waived none at) (drawn font' is' p shown at') =
+one_answer_of no_other options file text a b (no_glyph font is ws waived none at) (drawn font' is' p shown at') =
     absurd (never_missing options text font' font p shown (one_font file font' font is' is) none)
-one_answer no_other options file text a b (no_glyph font is ws waived none at) (font_refused code refused at') = absurd (never_refused file font code is refused)
-one_answer no_other options file text a b (no_glyph font is ws waived none at) (waivers_refused font' is' code refused at') =
+one_answer_of no_other options file text a b (no_glyph font is ws waived none at) (font_refused code refused at') = absurd (never_refused file font code is refused)
+one_answer_of no_other options file text a b (no_glyph font is ws waived none at) (waivers_refused font' is' code refused at') =
     absurd (never_waived text ws code waived refused)
-one_answer no_other options file text a b (no_glyph font is ws waived none at) (no_glyph font' is' ws' waived' none' at') = at ∙ sym at'
+one_answer_of no_other options file text a b (no_glyph font is ws waived none at) (no_glyph font' is' ws' waived' none' at') = at ∙ sym at'
+
+-- ---- options of the same words
+
+one_edition : (text : Option Text) (e e' : Edition) → IsEditionOrFirst text e → IsEditionOrFirst text e' → e ≡ e'
+one_edition None e e' is is' = is ∙ sym is'
+one_edition (Some text) One One is is' = refl
+one_edition (Some text) One Two is is' = absurd (omega (arith, is.1, is'.1))
+one_edition (Some text) Two One is is' = absurd (omega (arith, is.1, is'.1))
+one_edition (Some text) Two Two is is' = refl
+
+one_step : (text : Option Text) (step step' : Option ℕ) → AreNumber text step → AreNumber text step' → step ≡ step'
+one_step None step step' is is' = is ∙ sym is'
+one_step (Some text) None step' is is' = absurd (false≢true is.1)
+one_step (Some text) (Some n) None is is' = absurd (false≢true is'.1)
+one_step (Some text) (Some n) (Some n') is is' = ap (λ (k : ℕ). Some k) (is.0.1 ∙ sym is'.0.1)
+
+-- What options ask for beside the files.
+record AskTheSame (options options' : Options) : Type 0 where
+  edition : options'.edition ≡ options.edition
+  step : options'.step ≡ options.step
+  glyph : options'.glyph.items ≡ options.glyph.items
+
+same_words : (words : List Text) (options options' : Options) → AreGiven words options → AreGiven words options' → AskTheSame options options'
+same_words words options options' given given' = record {
+  edition = one_edition _ options'.edition options.edition given'.edition given.edition;
+  step = one_step _ options'.step options.step given'.step given.step;
+  glyph = one_some (option_and_then name_of_word (glyph_word words)) options'.glyph.items options.glyph.items given'.glyph given.glyph;
+}
+
+same_picture : (options options' : Options) (font : FontValue) (text : Option (List ℕ)) (picture : List ℕ) → AskTheSame options options'
+    → IsPicture options' font text picture → IsPicture options font text picture
+same_picture options options' font text picture same is = record {
+  waivers = is.waivers;
+  waived = is.waived;
+  glyph = is.glyph;
+  named = sym (ap (glyph_named font) same.glyph) ∙ is.named;
+  is =
+      subst (λ (e : Edition). IsPictureOf (record { font = font; edition = e; waivers = is.waivers; glyph = is.glyph; step = options.step }) picture)
+      same.edition
+      (subst (λ (s : Option ℕ). IsPictureOf (record { font = font; edition = options'.edition; waivers = is.waivers; glyph = is.glyph; step = s }) picture)
+      same.step is.is);
+}
+
+same_answer : (options options' : Options) (file text : List ℕ) (b : Answer) → AskTheSame options options' → IsAnswer options' file text b
+    → IsAnswer options file text b
+same_answer options options' file text b same (drawn font is p shown at) = drawn font is p (same_picture options options' font (Some text) p same shown) at
+same_answer options options' file text b same (font_refused code refused at) = font_refused code refused at
+same_answer options options' file text b same (waivers_refused font is code refused at) = waivers_refused font is code refused at
+same_answer options options' file text b same (no_glyph font is ws waived none at) =
+    no_glyph font is ws waived (sym (ap (glyph_named font) same.glyph) ∙ none) at
+
+pub one_answer : HasNoOtherPicture → HasNoOtherAnswer
+one_answer no_other words options options' file text a b given given' is is' =
+    one_answer_of no_other options file text a b is (same_answer options options' file text b (same_words words options options' given given') is')

@@ -1,9 +1,11 @@
 -- The statements of laws.
 use Rattle.std.specs.Prelude.{◌≡◌, ℕ, List, None, Some}
+use Rattle.clap.specs.Words.{Text}
 use Rattle.t1_font.specs.Fonts.{FontValue}
 use Rattle.t1_lines.specs.declared.refusal.RefusalCode.{RefusalCode}
 use Rattle.t1_report.specs.Waivers.{Waiver}
 use Rattle.t1_rules.specs.Components.{glyph_named}
+use Rattle.t1draw.specs.CommandLine.{AreGiven}
 use Rattle.t1draw.specs.Ends.{IsPicture}
 use Rattle.t1draw.specs.FontFiles.{IsFont, IsRefusedFont}
 use Rattle.t1draw.specs.WaiverTexts.{AreRefusedWaivers, AreWaivers}
@@ -29,7 +31,9 @@ pub data IsAnswer (options : Options) (file text : List ℕ) (answer : Answer) :
       → glyph_named font options.glyph.items ≡ None → answer ≡ NoGlyph
       → IsAnswer options file text answer
 
--- No two answers are given to the same.
+-- Options that the same words give have no two answers for the same bytes.
 abbrev pub HasNoOtherAnswer : Type 0
 HasNoOtherAnswer =
-    (options : Options) (file text : List ℕ) (a b : Answer) → IsAnswer options file text a → IsAnswer options file text b → a ≡ b
+    (words : List Text) (options options' : Options) (file text : List ℕ) (a b : Answer)
+    → AreGiven words options → AreGiven words options'
+    → IsAnswer options file text a → IsAnswer options' file text b → a ≡ b

@@ -4,8 +4,8 @@ ghost use Rattle.t1draw.specs.Laws.{HasNoOtherAnswer};
 
 use t1_picture::a_subject_has_one_picture;
 
-/// The options, the bytes of a font's file and the text of the waivers decide the answer: the picture, to its last byte, or why
-/// there is none.
+/// The words of the command line, where they give options, the bytes of a font's file and the text of the waivers decide the
+/// answer: the picture, to its last byte, or why there is none.
 pub fn a_file_has_one_answer()
     ensures { HasNoOtherAnswer }
 {

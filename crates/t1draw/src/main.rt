@@ -6,9 +6,9 @@
 //! ```
 //!
 //! Promised, where memory is there and no device fails: the words give options or none, by clap's rules
-//! ([`command_line::read_words`]), and the options, the font's bytes and the waivers' decide the picture, to its last byte, or
-//! what is told, and the status ([`running::draw`]). Where the font, the waivers or the words are refused, nothing is put on
-//! the output.
+//! ([`command_line::read_words`]); where they do, the words, the font's bytes and the waivers' decide the picture, to its last
+//! byte, or what is told, and the status ([`running::draw`], [`laws`]). Where the font, the waivers or the words are refused,
+//! nothing is put on the output.
 #![tactic(auto)]
 
 mod command_line;
