@@ -20,6 +20,14 @@ pub data Tells (text : List ℕ) (status : Status) (errors errors' : SinkState) 
   told : Wrote errors errors' text → result ≡ status → Tells text status errors errors' result
   untold : PutFailed errors errors' text → result ≡ Failed → Tells text status errors errors' result
 
+-- A text of help was written whole, and flushed once, and nothing was told: status 0; or a put or the flush failed, a beginning
+-- of it went out, and this was told: status 3.
+pub data GivesHelp (text : List ℕ) (out out' errors errors' : SinkState) (status : Status) : Type 0 where
+  given : Delivered out out' text → errors' ≡ errors → status ≡ Drawn → GivesHelp text out out' errors errors' status
+  help_failed :
+      DeliveryFailed out out' text → Tells (codes "t1check: write failed\n") Failed errors errors' status
+      → GivesHelp text out out' errors errors' status
+
 abbrev pub refusal_line : List ℕ → List ℕ
 refusal_line reason = concat (codes "refused: " ∷ reason ∷ codes "\n" ∷ [])
 

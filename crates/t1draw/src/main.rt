@@ -11,6 +11,8 @@
 //! nothing is put on the output.
 #![tactic(auto)]
 
+ghost use Rattle.t1draw.specs.Ends.{GivesHelp};
+
 mod command_line;
 mod glyph_word;
 mod laws;
@@ -57,7 +59,9 @@ fn main(rt: HostRuntime) -> Status {
 }
 
 /// Gives the text of help on the output.
-fn help<W: Sink, E: Sink>(text: &str, out: &mut W, errors: &mut E) -> Status {
+fn help<W: Sink, E: Sink>(text: &str, out: &mut W, errors: &mut E) -> Status
+    ensures { GivesHelp text.now (W.state out.old) (W.state out.new) (E.state errors.old) (E.state errors.new) result }
+{
     match deliver(out, text.as_bytes()) {
         Ok(()) => Status::Drawn,
         Err(_) => tell(errors, WRITE_FAILED, Status::Failed),
