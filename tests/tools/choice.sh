@@ -39,10 +39,10 @@ END
 try 'edition 2' 0 "$all" -q --edition=2 edge20.pfb
 
 # Shards: what they write one behind the other is what one run writes.
-"$all" -q "$fonts" >whole 2>/dev/null
+limited "$all" -q "$fonts" >whole 2>/dev/null
 : >joined
 for part in 1 2 3 4 5; do
-    "$all" -q --shard "$part/5" "$fonts" >>joined
+    limited "$all" -q --shard "$part/5" "$fonts" >>joined
 done
 wanted <<'END'
 --

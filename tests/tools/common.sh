@@ -1,6 +1,6 @@
 #!/bin/sh
-# What the scripts of tests/tools share, each of which reads this in first: how an answer is compared and counted, made fonts, a parser of
-# JSON, and a folder to install into. They then stand in a folder of their own, $scratch; the last line of each is `finish`.
+# What the scripts of tests/tools share, each of which reads this in first: how an answer is compared and counted, a time limit, made fonts, a
+# parser of JSON, and a folder to install into. They then stand in a folder of their own, $scratch; the last line of each is `finish`.
 # shellcheck disable=SC2034
 set -u
 LC_ALL=C
@@ -11,7 +11,7 @@ fonts=$top/tests/program/fonts
 all=$top/bin/t1check-all
 explain=$top/bin/t1explain
 format=$top/bin/t1format
-# Status 3 tells tests/tools.sh to stop: without the programs no script here can try anything.
+# Status 3 tells tests/tools.sh to stop: without the programs no script here can try anything. There is no time limit, since this may build.
 for tool in t1check t1format t1draw; do
     if ! "$top/bin/$tool" --help >/dev/null; then
         echo "failed: bin/$tool --help, which builds the program"
@@ -34,6 +34,11 @@ fail() {
     printf 'failed: %s\n' "$1"
 }
 
+# Runs a command for 60 seconds at most, so that one that hangs fails its test and the next ones run.
+limited() {
+    timeout -k 5 60 "$@"
+}
+
 # The answer that is wanted, on standard input: the output, and behind a line `--` the standard error.
 wanted() {
     cat >"$scratch/wanted"
@@ -45,7 +50,7 @@ try() {
     shift 2
     sed '/^--$/,$d' >"$scratch/out.wanted" <"$scratch/wanted"
     awk 'behind { print } /^--$/ { behind = 1 }' >"$scratch/err.wanted" <"$scratch/wanted"
-    timeout 60 "$@" >"$scratch/out" 2>"$scratch/err" </dev/null
+    limited "$@" >"$scratch/out" 2>"$scratch/err" </dev/null
     given=$?
     for text in out err; do
         if ! cmp -s "$scratch/$text.wanted" "$scratch/$text"; then
@@ -200,12 +205,12 @@ leave_home() {
 
 install_all() {
     leave_home
-    "$top/bin/install" --prefix "$prefix" >/dev/null || exit 1
+    limited "$top/bin/install" --prefix "$prefix" >/dev/null || exit 1
 }
 
 # The options that the --help of an installed tool lists.
 options() {
-    "$prefix/bin/$1" --help | awk '/^ *-/ {
+    limited "$prefix/bin/$1" --help | awk '/^ *-/ {
         sub(/^ */, "")
         sub(/  .*/, "")
         count = split($0, words, /[ ,]+/)

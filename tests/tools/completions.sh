@@ -89,7 +89,7 @@ fi
 if command -v fish >/dev/null; then
     ask() {
         # shellcheck disable=SC2016
-        PATH=$prefix/bin:$PATH XDG_DATA_DIRS=$prefix/share:/usr/local/share:/usr/share fish -c 'complete -C $argv[1]' "$1"
+        limited env PATH="$prefix/bin:$PATH" XDG_DATA_DIRS="$prefix/share:/usr/local/share:/usr/share" fish -c 'complete -C $argv[1]' "$1"
     }
     for line in 't1check --ed' 't1check --edition ' 't1check f' 't1check tw' 't1check --waive f' 't1check-all --only H02,Z1' \
         't1explain h0' 't1check-all --format ' 't1draw A f' 't1format s' 't1format --font f'; do
@@ -140,7 +140,7 @@ for tool in t1check t1check-all t1draw t1format; do
     try "options of $tool in zsh's completions" 0 diff "$scratch/options" "$scratch/completed"
 done
 
-if command -v zsh >/dev/null && zsh -fc 'zmodload zsh/zpty' 2>/dev/null; then
+if command -v zsh >/dev/null && limited zsh -fc 'zmodload zsh/zpty' 2>/dev/null; then
     # Keys as a user types them: each Tab puts the next completion in, and control-G tells the line.
     cat >"$scratch/ask.zsh" <<'END'
 zmodload zsh/zpty
@@ -165,6 +165,7 @@ done
 zpty -d shell
 cat told
 END
+    # shellcheck disable=SC2016
     wanted <<END
 t1check --edition=
 t1check --edition 2
@@ -173,7 +174,7 @@ t1check two\\ words.PFA
 t1check-all --only H02,Z11,
 t1check-all --except=L,
 t1explain H03
-$(zsh -fc 'print -r -- ${(q)1}' zsh "$prefix")/bin/t1explain GE01
+$(limited zsh -fc 'print -r -- ${(q)1}' zsh "$prefix")/bin/t1explain GE01
 t1check-all --format jsonl
 t1draw A font.pfb
 t1format sarif

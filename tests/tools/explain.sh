@@ -4,9 +4,9 @@
 # shellcheck source=tests/tools/common.sh
 . "$(dirname "$0")/common.sh"
 
-"$explain" f03 | sed -n 1,2p >"$scratch/head"
-"$explain" F03 >"$scratch/upper"
-"$explain" f03 >"$scratch/lower"
+limited "$explain" f03 | sed -n 1,2p >"$scratch/head"
+limited "$explain" F03 >"$scratch/upper"
+limited "$explain" f03 >"$scratch/lower"
 wanted <<'END'
 --
 END
@@ -32,9 +32,9 @@ t1explain: there is no rule and no refusal 'H'
 t1explain: there is no rule and no refusal 'E16'
 END
 try 'a page, and codes that are none' 3 "$explain" H e06 E16
-"$explain" >"$scratch/listed"
+limited "$explain" >"$scratch/listed"
 for code in F01 Z11 C09 GE02 K07 L01 U01 E01 E05 E15; do
-    if grep -q "^$code " "$scratch/listed" && [ -n "$("$explain" "$code" | sed -n 3p)" ]; then
+    if grep -q "^$code " "$scratch/listed" && [ -n "$(limited "$explain" "$code" | sed -n 3p)" ]; then
         pass
     else
         fail "t1explain: no page of $code"

@@ -122,7 +122,7 @@ for signal in $signals; do
             kill -s "$signal" "$(cat "$scratch/main")"
         ) &
         # shellcheck disable=SC2086
-        TMPDIR=$scratch/tmp $with sh -c "echo \$\$ >'$scratch/main'
+        limited env TMPDIR="$scratch/tmp" $with sh -c "echo \$\$ >'$scratch/main'
             exec '$stand/bin/t1check-all' -j2 $form wait.pfb wait2.pfb" >given 2>/dev/null
         status=$?
         wait
@@ -138,7 +138,7 @@ done
 
 if [ -c /dev/full ]; then
     : >"$scratch/running"
-    TMPDIR=$scratch/tmp "$all" -q glyphs.pfb 2>given >/dev/full
+    limited env TMPDIR="$scratch/tmp" "$all" -q glyphs.pfb 2>given >/dev/full
     given=$?
     if [ "$given" -eq 3 ] && grep -qx 't1check-all: write failed' given; then
         pass
@@ -147,7 +147,7 @@ if [ -c /dev/full ]; then
     fi
     nothing_left 'a full device'
     for form in jsonl sarif; do
-        TMPDIR=$scratch/tmp "$all" -q --format "$form" glyphs.pfb 2>given >/dev/full
+        limited env TMPDIR="$scratch/tmp" "$all" -q --format "$form" glyphs.pfb 2>given >/dev/full
         given=$?
         if [ "$given" -eq 3 ] && grep -qx 't1check-all: write failed' given; then
             pass

@@ -86,7 +86,7 @@ if [ -n "$reader" ]; then
 --
 END
     try 'no pages of rules' 1 grep helpUri "$scratch/values"
-    "$all" -q --format sarif --docs https://example.org/RULES.md . >"$scratch/docs.sarif"
+    limited "$all" -q --format sarif --docs https://example.org/RULES.md . >"$scratch/docs.sarif"
     "$reader" "$scratch/read" "$scratch/docs.sarif" >"$scratch/values"
     sed -n 's/^\.runs\.0\.tool\.driver\.rules\.[0-9]*\.id "\([A-Z0-9]*\)"$/\1/p' "$scratch/values" >"$scratch/codes"
     while read -r code; do
@@ -145,11 +145,11 @@ END
 try 'a name with a line end, as jsonl' 3 sh -c "cd '$lines' && '$all' -q --format jsonl ."
 
 # Shards in a form: one behind the other they are the whole, of which each line has one.
-"$all" -q "$fonts" >whole 2>/dev/null
-"$all" -q --format jsonl "$fonts" >whole.jsonl 2>/dev/null
+limited "$all" -q "$fonts" >whole 2>/dev/null
+limited "$all" -q --format jsonl "$fonts" >whole.jsonl 2>/dev/null
 : >joined
 for part in 1 2 3 4; do
-    "$all" -q --format jsonl --shard "$part/4" "$fonts" >>joined 2>/dev/null
+    limited "$all" -q --format jsonl --shard "$part/4" "$fonts" >>joined 2>/dev/null
 done
 wanted <<'END'
 --

@@ -147,16 +147,16 @@ install: nothing is installed in $prefix
 END
 try 'taking away what is not there' 3 "$top/bin/install" --prefix "$prefix" --remove
 mkdir -p "$scratch/before/share/man"
-DESTDIR="$scratch/before" "$top/bin/install" --prefix "/" >given
-DESTDIR="$scratch/before/stage" "$top/bin/install" --prefix /usr/local >>given
+limited env DESTDIR="$scratch/before" "$top/bin/install" --prefix "/" >given
+limited env DESTDIR="$scratch/before/stage" "$top/bin/install" --prefix /usr/local >>given
 wanted <<END
 t1check, t1check-all, t1draw, t1explain and t1format are in $scratch/before/bin.
 t1check, t1check-all, t1draw, t1explain and t1format are in $scratch/before/stage/usr/local/bin.
 --
 END
 try 'installing with DESTDIR' 0 cat given
-DESTDIR="$scratch/before" "$top/bin/install" --prefix / --remove
-DESTDIR="$scratch/before/stage" "$top/bin/install" --prefix /usr/local --remove
+limited env DESTDIR="$scratch/before" "$top/bin/install" --prefix / --remove
+limited env DESTDIR="$scratch/before/stage" "$top/bin/install" --prefix /usr/local --remove
 wanted <<'END'
 before
 before/share

@@ -8,7 +8,7 @@ install_all
 
 printf '.TH A 1 2026-01-01\n.SH NAME\na \\- b\n' >"$scratch/a.1"
 readers=''
-man --warnings -E UTF-8 -l -Tutf8 -Z "$scratch/a.1" >/dev/null 2>&1 && readers='man --warnings -E UTF-8 -l -Tutf8 -Z' ||
+limited man --warnings -E UTF-8 -l -Tutf8 -Z "$scratch/a.1" >/dev/null 2>&1 && readers='man --warnings -E UTF-8 -l -Tutf8 -Z' ||
     echo 'skipped: manual pages read by man, since man-db is not here'
 pages="man1/t1check.1 man1/t1check-all.1 man1/t1draw.1 man1/t1explain.1 man1/t1format.1 man7/t1check-rules.7"
 wanted <<'END'
@@ -26,7 +26,7 @@ for tool in t1check t1check-all t1draw t1format; do
         grep -vx -e -h | sort >"$scratch/paged"
     try "options in the manual page of $tool" 0 diff "$scratch/options" "$scratch/paged"
 done
-"$explain" >"$scratch/listed"
+limited "$explain" >"$scratch/listed"
 sed -n 's/^\.SS \([A-Z]*[0-9][0-9] .*\)/\1/p' "$prefix/share/man/man7/t1check-rules.7" >"$scratch/paged"
 try 'rules in the manual page' 0 diff "$scratch/listed" "$scratch/paged"
 

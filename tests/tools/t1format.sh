@@ -142,7 +142,7 @@ try_document 'no line as sarif' 0 "$scratch/form" sarif
 # Usage faults of t1format, whose words are not compared: nothing is written, something is told.
 for words in '' 'json' 'jsonl sarif' '--form jsonl' 'jsonl --font' 'sarif --docs' 'jsonl --font a --font b'; do
     # shellcheck disable=SC2086
-    "$format" $words </dev/null >"$scratch/out" 2>"$scratch/err"
+    limited "$format" $words </dev/null >"$scratch/out" 2>"$scratch/err"
     given=$?
     if [ "$given" -eq 3 ] && [ ! -s "$scratch/out" ] && [ -s "$scratch/err" ]; then
         pass
