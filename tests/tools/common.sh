@@ -1,6 +1,7 @@
 #!/bin/sh
-# What the scripts of tests/tools share, each of which reads this in first: how an answer is compared and counted, a time limit, made fonts, a
-# parser of JSON, and a folder to install into. They then stand in a folder of their own, $scratch; the last line of each is `finish`.
+# What the scripts of tests/tools share, each of which reads this in first: how an answer is compared and counted, a time limit, made fonts,
+# a program in t1check's place, a parser of JSON, and a folder to install into. They then stand in a folder of their own, $scratch; the last
+# line of each is `finish`.
 # shellcheck disable=SC2034
 set -u
 LC_ALL=C
@@ -95,6 +96,21 @@ cp "$fonts/Z05.pfb" "$lines/one.pfb"
 # A font with lines of its dictionaries and of its glyphs, and one with a line of a glyph.
 cp "$fonts/zones_and_glyphs.pfb" "$scratch/glyphs.pfb"
 cp "$fonts/H02.pfb" "$scratch/edge.pfb"
+
+# A copy of t1check-all, $stand/bin/t1check-all, that runs another program in t1check's place: a script, on standard input, that finds its
+# font on its own. Each WORD makes a font WORD.pfb of that word: WORD...
+stand_in() {
+    stand=$scratch/stand
+    mkdir -p "$stand/bin" "$stand/docs" "$stand/crates/t1check/out"
+    cp "$all" "$stand/bin/"
+    cp "$top/docs/RULES.md" "$stand/docs/"
+    printf '#!/bin/sh\n' >"$stand/bin/t1check"
+    cat >"$stand/crates/t1check/out/t1check"
+    chmod +x "$stand/bin/t1check" "$stand/crates/t1check/out/t1check"
+    for word; do
+        echo "$word" >"$word.pfb"
+    done
+}
 
 # Programs that print what a parser reads in a file of JSON: a line a value, the way to it and the value. With `lines` each line is
 # read by itself.

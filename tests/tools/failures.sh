@@ -5,12 +5,8 @@
 . "$(dirname "$0")/common.sh"
 
 # A program in t1check's place that writes a line and then waits, ends itself by a signal, or with a status of its own.
-stand=$scratch/stand
-mkdir -p "$stand/bin" "$stand/docs" "$stand/crates/t1check/out" "$scratch/tmp"
-cp "$all" "$stand/bin/"
-cp "$top/docs/RULES.md" "$stand/docs/"
-printf '#!/bin/sh\n' >"$stand/bin/t1check"
-cat >"$stand/crates/t1check/out/t1check" <<END
+mkdir "$scratch/tmp"
+stand_in wait crash line seven words <<END
 #!/bin/sh
 read -r kind
 case \$kind in
@@ -21,10 +17,6 @@ case \$kind in
     words) echo 'words of its own' >&2; exit 9 ;;
 esac
 END
-chmod +x "$stand/bin/t1check" "$stand/crates/t1check/out/t1check"
-for kind in wait crash line seven words; do
-    echo "$kind" >"$kind.pfb"
-done
 wanted <<'END'
 line.pfb: 1: font file 0 F01 no end segment
 --
