@@ -1,5 +1,5 @@
 #!/bin/sh
-# Tries the pages of rules and refusals that t1explain prints.
+# Tries the pages of rules and refusals that t1explain prints, on a terminal too.
 
 # shellcheck source=tests/tools/common.sh
 . "$(dirname "$0")/common.sh"
@@ -45,5 +45,82 @@ wanted <<'END'
 --
 END
 try 'the list of rules and refusals' 0 sh -c "'$explain' | wc -l | tr -d ' '"
+while read -r code text; do
+    limited "$explain" "$code"
+done <"$scratch/listed" >"$scratch/pages"
+wanted <<'END'
+--
+END
+try 'no links and no pictures in pages' 1 grep -e '](' -e '^!' "$scratch/pages"
+
+# Pages of a book of our own, with a picture, links and an example.
+mkdir -p own/bin own/docs
+cp "$explain" own/bin/
+cat >own/docs/RULES.md <<'END'
+# Rules
+
+### A01 one rule
+
+![A01: a glyph](pictures/A01.svg)
+
+A glyph has [one thing](#one) and more, by
+[its lines](OTHER.md#two) of 30 columns and one of them.
+
+    A: 0 500 hsbw endchar
+    1: glyph A - 3 A01 a line that is longer than the terminal
+
+- A point of a list that is longer than the terminal.
+
+### B02 another rule
+
+Cure: none.
+
+## End
+
+Nothing.
+END
+wanted <<'END'
+A01 one rule
+
+A glyph has one thing and more, by
+its lines of 30 columns and one of them.
+
+    A: 0 500 hsbw endchar
+    1: glyph A - 3 A01 a line that is longer than the terminal
+
+- A point of a list that is longer than the terminal.
+
+B02 another rule
+
+Cure: none.
+--
+t1explain: there is no rule and no refusal 'C03'
+END
+try 'two pages, and a code in front that is none' 3 own/bin/t1explain C03 a01 B02
+
+# On a terminal paragraphs are broken anew; script makes one, and tput says how wide it is.
+mkdir "$scratch/narrow"
+printf '#!/bin/sh\necho 30\n' >"$scratch/narrow/tput"
+chmod +x "$scratch/narrow/tput"
+if [ "$(limited script -qec 'echo here' /dev/null </dev/null 2>/dev/null | tr -d '\r')" = here ]; then
+    limited env PATH="$scratch/narrow:$PATH" PAGER=cat script -qec 'own/bin/t1explain a01' /dev/null </dev/null |
+        tr -d '\r' >typed
+    wanted <<'END'
+A01 one rule
+
+A glyph has one thing and
+more, by its lines of 30
+columns and one of them.
+
+    A: 0 500 hsbw endchar
+    1: glyph A - 3 A01 a line that is longer than the terminal
+
+- A point of a list that is longer than the terminal.
+--
+END
+    try 'a page on a terminal of 30 columns' 0 cat typed
+else
+    echo 'skipped: a page on a terminal, since script does not make one here'
+fi
 
 finish
