@@ -6,7 +6,7 @@
 
 # A program in t1check's place that writes a line and then waits, ends itself by a signal, or with a status of its own.
 mkdir "$scratch/tmp"
-stand_in wait crash line seven words <<END
+stand_in wait crash line seven words mask <<END
 #!/bin/sh
 read -r kind
 case \$kind in
@@ -15,6 +15,7 @@ case \$kind in
     line) echo '1: font file 0 F01 no end segment'; exit 1 ;;
     seven) exit 7 ;;
     words) echo 'words of its own' >&2; exit 9 ;;
+    mask) ls -ld '$scratch'/tmp/t1check-all.* | cut -c 1-10 >&2; exit 9 ;;
 esac
 END
 wanted <<'END'
@@ -24,6 +25,13 @@ crash.pfb: t1check: ended by signal 11
 seven.pfb: t1check: ended with status 7
 END
 try 'a program that crashes' 3 "$stand/bin/t1check-all" -q -j1 crash.pfb line.pfb seven.pfb
+
+# Nobody else may read what is kept while fonts are checked.
+wanted <<'END'
+--
+mask.pfb: drwx------
+END
+try 'the folder of what is kept' 3 env TMPDIR="$scratch/tmp" "$stand/bin/t1check-all" -q mask.pfb
 
 # What t1format gets: one in its place writes its words, then what it reads, and fails where it is asked for sarif.
 mkdir -p "$stand/crates/t1format/out"
@@ -127,6 +135,29 @@ for signal in $signals; do
         [ "$(cat given)" = "${form:+<jsonl>}" ] || fail "$signal $form: $(cat given)"
     done
 done
+
+# A signal while known faults are put in their place, which mv does.
+mkdir "$scratch/moves" kept
+cat >"$scratch/moves/mv" <<'END'
+#!/bin/sh
+kill -s TERM "$PPID"
+exit 1
+END
+chmod +x "$scratch/moves/mv"
+: >"$scratch/running"
+limited env PATH="$scratch/moves:$PATH" TMPDIR="$scratch/tmp" \
+    "$stand/bin/t1check-all" -q --baseline kept/known --update-baseline line.pfb >given 2>/dev/null
+status=$?
+if [ "$status" -eq 143 ] && [ ! -s given ]; then
+    pass
+else
+    fail "TERM while known faults are written: status $status, $(cat given)"
+fi
+nothing_left 'TERM while known faults are written'
+wanted <<'END'
+--
+END
+try 'nothing beside known faults' 0 ls kept
 
 if [ -c /dev/full ]; then
     : >"$scratch/running"
