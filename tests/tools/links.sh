@@ -1,0 +1,58 @@
+#!/bin/sh
+# Tries the tools where a folder on the way to them is a link: in the repository, where they are installed, and where they are installed
+# into a folder whose bin is a link.
+
+# shellcheck source=tests/tools/common.sh
+. "$(dirname "$0")/common.sh"
+
+install_all
+
+mkdir linked another another/programs
+ln -s "$top/bin" linked/repository
+ln -s "$prefix/bin" linked/installed
+mkdir linked/below
+ln -s ../../another/programs linked/below/bin
+limited "$top/bin/install" --prefix "$scratch/linked/below" >/dev/null
+echo '1: glyph A - 9 H02 stems overlap' >lines.in
+for place in repository installed below/bin; do
+    wanted <<'END'
+edge.pfb: 1: glyph A - 9 H02 stems overlap
+--
+END
+    try "t1check-all, $place" 1 "linked/$place/t1check-all" -q edge.pfb
+    wanted <<'END'
+1: glyph A - 9 H02 stems overlap
+--
+END
+    try "t1check, $place" 1 "linked/$place/t1check" edge.pfb
+    wanted <<'END'
+{"code":"H02","name":"A","number":1,"path":[],"step":9,"text":"stems overlap","unit":"glyph"}
+--
+END
+    try "t1format, $place" 0 sh -c "'linked/$place/t1format' jsonl <lines.in"
+    { cat "$top/tests/draw/square.svg" && echo --; } >wanted
+    try "t1draw, $place" 0 "linked/$place/t1draw" A "$top/tests/draw/fonts/square.pfb"
+    wanted <<'END'
+E06 encrypted part too short
+
+Fewer than four encrypted bytes stand behind `eexec`.
+
+The file was cut, or an editor changed the encrypted bytes.
+
+Example: a file that ends behind `currentfile eexec`.
+
+Cure: take it from its source again.
+--
+END
+    try "t1explain, $place" 0 "linked/$place/t1explain" e06
+    ln -sf "$place/t1explain" linked/explain
+    try "a link to t1explain, $place" 0 linked/explain e06
+done
+wanted <<END
+--
+install: $top is the repository itself
+install: 'bin/install --help' says how it is used
+END
+try 'install' 3 linked/repository/install --prefix "$top"
+
+finish
