@@ -1,5 +1,6 @@
 #!/bin/sh
-# Tries that t1check-all tells the rules that are asked for, in either edition, and that the shards of a list are together all of it.
+# Tries that t1check-all tells the rules that are asked for, in either edition, that the shards of a list are together all of it, that the
+# greatest status of its fonts is its own, and that no line is lost.
 
 # shellcheck source=tests/tools/common.sh
 . "$(dirname "$0")/common.sh"
@@ -37,6 +38,12 @@ wanted <<'END'
 --
 END
 try 'edition 2' 0 "$all" -q --edition=2 edge20.pfb
+echo 'A C05' >edge20.pfb.waivers
+wanted <<'END'
+edge20.pfb: 1: waiver A C05 U01 waiver not used
+--
+END
+try 'edition 2 with waivers' 1 "$all" -q --edition 2 edge20.pfb
 
 # Shards: what they write one behind the other is what one run writes.
 limited "$all" -q "$fonts" >whole 2>/dev/null
@@ -54,5 +61,33 @@ glyphs.pfb: 3: glyph A 5 6 P03 closepath without a path
 --
 END
 try 'a shard' 1 "$all" -q --shard 2/2 glyphs.pfb --only P03
+
+# The status is the greatest of all fonts, whichever comes last.
+cp "$fonts/E03.bin" cut.pfa
+wanted <<'END'
+cut.pfa: refused: E03 segment cut short
+edge.pfb: 1: glyph A - 9 H02 stems overlap
+--
+missing.pfb: t1check: read failed
+END
+try 'a font that is missing, one that is refused, and one with a line' 3 "$all" -q missing.pfb cut.pfa edge.pfb
+
+# Lines of a program in t1check's place: one of a glyph whose name is empty, and more than a thousand.
+stand_in nameless many <<'END'
+#!/bin/sh
+read -r word
+case $word in
+    nameless) echo '1: glyph  - 9 H02 stems overlap' ;;
+    many) awk 'BEGIN { for (i = 1; i <= 1001; i++) print i ": glyph A - " i " H02 stems overlap" }' ;;
+esac
+exit 1
+END
+wanted <<'END'
+nameless.pfb: 1: glyph  - 9 H02 stems overlap
+--
+END
+try 'a rule of a glyph whose name is empty' 1 "$stand/bin/t1check-all" -q --only H02 nameless.pfb
+awk 'BEGIN { for (i = 1; i <= 1001; i++) print "many.pfb: " i ": glyph A - " i " H02 stems overlap"; print "--" }' >wanted
+try 'a thousand and one lines' 1 "$stand/bin/t1check-all" -q --only H02 many.pfb
 
 finish
