@@ -1,5 +1,6 @@
 #!/bin/sh
-# Tries when the scripts in bin/ build their programs: where there is none yet, and where a source is newer. A build that fails runs nothing.
+# Tries when the scripts in bin/ build their programs: where there is none yet, and where a source is newer. Where a build fails, no program
+# runs.
 
 # shellcheck source=tests/tools/common.sh
 . "$(dirname "$0")/common.sh"
@@ -50,7 +51,9 @@ for source in crates.txt crates/t1_x/specs/new.antt crates/t1_x/specs/deep/new.a
     : >"$build/runs"
     touch -t 203001010000 "$build/$source"
     # shellcheck disable=SC2016
-    try "building for $source" 0 env PATH="$scratch/kit:$PATH" sh -c '"$0/bin/t1check" a; touch -t 200001010000 "$0/$1"; "$0/bin/t1check" a
+    try "building for $source" 0 env PATH="$scratch/kit:$PATH" sh -c '"$0/bin/t1check" a
+        touch -t 200001010000 "$0/$1"
+        "$0/bin/t1check" a
         echo built $(wc -l <"$0/runs")' "$build" "$source"
 done
 
@@ -66,10 +69,13 @@ built 2
 --
 END
 # shellcheck disable=SC2016
-try 'a source that is edited during a build' 0 env PATH="$scratch/kit:$PATH" sh -c '"$0/bin/t1check" a; touch -t 200001010000 "$0/crates.txt"
-    "$0/bin/t1check" a; "$0/bin/t1check" a; echo built $(wc -l <"$0/runs")' "$build"
+try 'a source that is edited during a build' 0 env PATH="$scratch/kit:$PATH" sh -c '"$0/bin/t1check" a
+    touch -t 200001010000 "$0/crates.txt"
+    "$0/bin/t1check" a
+    "$0/bin/t1check" a
+    echo built $(wc -l <"$0/runs")' "$build"
 
-# The program of an earlier build stands there, and is not run.
+# The program of an earlier build is there, and does not run.
 : >"$build/fails"
 touch -t 203001010000 "$build/crates.txt"
 wanted <<'END'

@@ -56,6 +56,16 @@ B GE01
 --
 END
 try 'the overwritten waivers' 0 cat glyphs.pfb.waivers
+wanted <<'END'
+--
+END
+try 'waivers of some rules are written' 0 "$all" -q --write-waivers --force --only P glyphs.pfb
+wanted <<'END'
+A P03
+A P02
+--
+END
+try 'the waivers of some rules' 0 cat glyphs.pfb.waivers
 echo 'A H02' >glyphs.pfb.waivers
 wanted <<'END'
 glyphs.pfb: 6: waiver A H02 U01 waiver not used
@@ -68,5 +78,8 @@ glyphs.pfb: refused: E14 waivers malformed
 --
 END
 try 'malformed waivers' 2 "$all" -q glyphs.pfb
+awk 'BEGIN { print "A H02"; for (i = 1; i <= 5000; i++) print "g" i " C05" }' >edge.pfb.waivers
+awk 'BEGIN { for (i = 1; i <= 5000; i++) print "edge.pfb: " i ": waiver g" i " C05 U01 waiver not used"; print "--" }' >wanted
+try 'five thousand waivers' 1 "$all" -q edge.pfb
 
 finish

@@ -5,8 +5,8 @@
 # shellcheck source=tests/tools/common.sh
 . "$(dirname "$0")/common.sh"
 
-# A program in t1check's place keeps the word of its font. Of pair it ends well only while another one runs, of alone only while none
-# does; of early it ends after late has begun; of parent it kills the worker; of sleep it runs for as long as a test may.
+# A program in t1check's place, which keeps the word of its font. For pair it ends well only if pair2 runs at the same time, for alone only if
+# no other alone does. For early it waits until late has begun, for parent it kills the worker, and for sleep it runs longer than a test may.
 stand_in pair pair2 alone alone2 early middle late parent clean sleep <<END
 #!/bin/sh
 read -r word
@@ -39,7 +39,7 @@ END
 try 'two at once' 0 "$stand/bin/t1check-all" -q -j2 pair.pfb pair2.pfb
 try 'one at once' 0 "$stand/bin/t1check-all" -q -j1 alone.pfb alone2.pfb
 
-# Two workers: the one that has not the first font checks both others, so that lines of the second font are there first.
+# One of two workers has the first font until the other has checked the second and begun with the third. So lines of the second come first.
 wanted <<'END'
 early.pfb: 1: font file 0 F01 no end segment
 middle.pfb: 1: font file 0 F01 no end segment
@@ -47,7 +47,7 @@ middle.pfb: 1: font file 0 F01 no end segment
 END
 try 'lines in the order of the list' 1 "$stand/bin/t1check-all" -q -j2 early.pfb middle.pfb late.pfb
 
-# Of 40 fonts, two workers take two at a time, and a single one five.
+# Of 40 fonts a single worker takes five at a time, each of two takes two, and each of forty one.
 awk 'BEGIN { for (number = 101; number <= 140; number++) print number }' >numbers
 mkdir shared
 while read -r number; do
@@ -64,15 +64,17 @@ END
     try "each of forty fonts once, $jobs at once" 0 sort runs
 done
 
-# The worker dies with the font in its hands, and nobody else is left.
+# The only worker dies before it has told of its font, so no worker is left. Some shells print a line of their own on that.
 wanted <<'END'
 --
 t1check-all: write failed
 END
-try 'a worker that dies' 3 "$stand/bin/t1check-all" -q -j1 clean.pfb parent.pfb middle.pfb
+try 'a worker that dies' 3 sh -c "'$stand/bin/t1check-all' -q -j1 clean.pfb parent.pfb middle.pfb 2>given
+    given=\$?
+    tail -n 1 given >&2
+    exit \$given"
 
-# The first signal of a run is lost, as one to a process that was just forked can be. A row that is none ends the run while its worker
-# is busy.
+# The first signal of a run is lost, as one to a worker that was just forked can be. A row that is none ends the run while its worker is busy.
 cat >"$stand/bin/lossy" <<END
 #!/bin/sh
 kill() {
