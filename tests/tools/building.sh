@@ -5,7 +5,7 @@
 # shellcheck source=tests/tools/common.sh
 . "$(dirname "$0")/common.sh"
 
-# One in the place of rt tells where it runs and with which words, and makes a program that tells its name and words. A file `fails`
+# A script in the place of rt prints where it runs and its words, and makes a program that prints its own name and words. A file `fails`
 # makes it fail, a file `edit` makes it edit a source in the middle of its work.
 build=$scratch/build
 mkdir -p "$build/crates/t1check/src" "$build/crates/t1format/src" "$build/crates/t1draw/src" "$scratch/kit"

@@ -1,6 +1,6 @@
 #!/bin/sh
-# Tries that t1check-all tells the rules that are asked for, in either edition, that the shards of a list are together all of it, that the
-# greatest status of its fonts is its own, and that no line is lost.
+# Tries that t1check-all prints the lines of the rules that are requested, in either edition, and loses none; that the shards of a list are
+# together all of it; and that its status is the greatest of its fonts.
 
 # shellcheck source=tests/tools/common.sh
 . "$(dirname "$0")/common.sh"

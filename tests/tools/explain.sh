@@ -96,7 +96,7 @@ Cure: none.
 --
 t1explain: there is no rule and no refusal 'C03'
 END
-try 'two pages, and a code in front that is none' 3 own/bin/t1explain C03 a01 B02
+try 'two pages, after a code that is none' 3 own/bin/t1explain C03 a01 B02
 
 # On a terminal paragraphs are broken anew; script makes one, and tput says how wide it is.
 mkdir "$scratch/narrow"

@@ -70,7 +70,7 @@ t1check-all: a name with a line end is passed over
 END
 try 'a word with a line end, and an empty shard' 3 "$all" -q --shard 1/2 "$(printf 'two\nlines.pfb')" edge.pfb
 
-# Links: a folder that is named may be one. Below a folder a link to a font is a font, and one to a folder is passed over, whatever its name.
+# Links: a folder that is named may be one. Below a folder a link to a font is a font, and one to a folder is skipped, whatever its name.
 mkdir named links
 cp edge.pfb named/real.pfb
 ln -s named linked

@@ -5,8 +5,9 @@
 # shellcheck source=tests/tools/common.sh
 . "$(dirname "$0")/common.sh"
 
-# A program in t1check's place, which keeps the word of its font. For pair it ends well only if pair2 runs at the same time, for alone only if
-# no other alone does. For early it waits until late has begun, for parent it kills the worker, and for sleep it runs longer than a test may.
+# A program in t1check's place, which keeps the word of its font. For pair it ends well only if pair2 runs at the same time, for alone only
+# if no other alone does. For early it waits until late has begun, for parent it kills the worker, and for sleep it runs longer than a test
+# may.
 stand_in pair pair2 alone alone2 early middle late parent clean sleep <<END
 #!/bin/sh
 read -r word
@@ -64,7 +65,7 @@ END
     try "each of forty fonts once, $jobs at once" 0 sort runs
 done
 
-# The only worker dies before it has told of its font, so no worker is left. Some shells print a line of their own on that.
+# The only worker dies before it reports its font, so no worker is left. Some shells print a line of their own on that.
 wanted <<'END'
 --
 t1check-all: write failed
@@ -74,7 +75,8 @@ try 'a worker that dies' 3 sh -c "'$stand/bin/t1check-all' -q -j1 clean.pfb pare
     tail -n 1 given >&2
     exit \$given"
 
-# The first signal of a run is lost, as one to a worker that was just forked can be. A row that is none ends the run while its worker is busy.
+# The first signal of a run is lost, as one to a worker that was just forked can be. A row that is none ends the run while its worker is
+# busy.
 cat >"$stand/bin/lossy" <<END
 #!/bin/sh
 kill() {
