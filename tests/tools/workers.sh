@@ -46,7 +46,7 @@ early.pfb: 1: font file 0 F01 no end segment
 middle.pfb: 1: font file 0 F01 no end segment
 --
 END
-try 'lines in the order of the list' 1 "$stand/bin/t1check-all" -q -j2 early.pfb middle.pfb late.pfb
+try 'lines in the order of the list' 1 "$stand/bin/t1check-all" -qj2 early.pfb middle.pfb late.pfb
 
 # Of 40 fonts a single worker takes five at a time, each of two takes two, and each of forty one.
 awk 'BEGIN { for (number = 101; number <= 140; number++) print number }' >numbers
