@@ -1,5 +1,5 @@
 #!/bin/sh
-# Tries t1format by itself, on lines of each kind, lines that are none, and wrong words.
+# Tries t1format by itself, on lines of each kind, lines that are none, wrong words, and devices that fail.
 
 # shellcheck source=tests/tools/common.sh
 . "$(dirname "$0")/common.sh"
@@ -138,6 +138,132 @@ wanted <<'END'
 --
 END
 try_document 'no line as sarif' 0 "$scratch/form" sarif
+
+# A document of SARIF, a line a result: its place, its text, and the fingerprint that stays the same from run to run. The document's rules,
+# and each result's place among them, are compared elsewhere.
+cat >lines.in <<'END'
+a b%.pfb: 1: font file 0 F01 no end segment
+a b%.pfb: 2: glyph A 5>6 8 P01 drawing without a move
+a b%.pfb: 3: glyph A - 9 P01 drawing without a move
+a b%.pfb: 4: glyph B - 9 P01 drawing without a move
+a b%.pfb: 5: waiver A P01 U01 waiver not used
+c.pfb: refused: E03 segment cut short
+d.pfb: t1check: read failed
+END
+cat >"$scratch/split.awk" <<'END'
+{
+    sub(/"rules":\[.*\][}][}]/, "\"rules\":[]}}")
+    gsub(/"ruleIndex":[0-9]+/, "\"ruleIndex\":N")
+    gsub(/[{]"level"/, "\n&")
+    print
+}
+END
+cat >"$scratch/wanted" <<'END'
+{"$schema":"https://json.schemastore.org/sarif-2.1.0.json","version":"2.1.0","runs":[{"tool":{"driver":{"name":"t1check","rules":[]}},"results":[
+{"level":"warning","locations":[{"logicalLocations":[{"kind":"key","name":"file"},{"kind":"index","name":"0"}],"physicalLocation":{"artifactLocation":{"uri":"a%20b%25.pfb"},"region":{"startLine":1}}}],"message":{"text":"1: font file 0 F01 no end segment"},"partialFingerprints":{"t1check/v1":"a b%.pfb font file F01 1"},"ruleId":"F01","ruleIndex":N},
+{"level":"warning","locations":[{"logicalLocations":[{"kind":"glyph","name":"A"},{"kind":"subr","name":"5"},{"kind":"subr","name":"6"},{"kind":"step","name":"8"}],"physicalLocation":{"artifactLocation":{"uri":"a%20b%25.pfb"},"region":{"startLine":1}}}],"message":{"text":"2: glyph A 5>6 8 P01 drawing without a move"},"partialFingerprints":{"t1check/v1":"a b%.pfb glyph A P01 1"},"ruleId":"P01","ruleIndex":N},
+{"level":"warning","locations":[{"logicalLocations":[{"kind":"glyph","name":"A"},{"kind":"step","name":"9"}],"physicalLocation":{"artifactLocation":{"uri":"a%20b%25.pfb"},"region":{"startLine":1}}}],"message":{"text":"3: glyph A - 9 P01 drawing without a move"},"partialFingerprints":{"t1check/v1":"a b%.pfb glyph A P01 2"},"ruleId":"P01","ruleIndex":N},
+{"level":"warning","locations":[{"logicalLocations":[{"kind":"glyph","name":"B"},{"kind":"step","name":"9"}],"physicalLocation":{"artifactLocation":{"uri":"a%20b%25.pfb"},"region":{"startLine":1}}}],"message":{"text":"4: glyph B - 9 P01 drawing without a move"},"partialFingerprints":{"t1check/v1":"a b%.pfb glyph B P01 1"},"ruleId":"P01","ruleIndex":N},
+{"level":"warning","locations":[{"logicalLocations":[{"kind":"waiver","name":"A"},{"kind":"rule","name":"P01"}],"physicalLocation":{"artifactLocation":{"uri":"a%20b%25.pfb"},"region":{"startLine":1}}}],"message":{"text":"5: waiver A P01 U01 waiver not used"},"partialFingerprints":{"t1check/v1":"a b%.pfb waiver A P01 U01 1"},"ruleId":"U01","ruleIndex":N},
+{"level":"error","locations":[{"physicalLocation":{"artifactLocation":{"uri":"c.pfb"},"region":{"startLine":1}}}],"message":{"text":"refused: E03 segment cut short"},"partialFingerprints":{"t1check/v1":"c.pfb refused E03 1"},"ruleId":"E03","ruleIndex":N}],"invocations":[{"executionSuccessful":false,"toolExecutionNotifications":[
+{"level":"error","locations":[{"physicalLocation":{"artifactLocation":{"uri":"d.pfb"},"region":{"startLine":1}}}],"message":{"text":"t1check: read failed"}}]}]}]}
+--
+END
+# shellcheck disable=SC2016
+try 'a document of sarif' 0 sh -c '"$0/form" sarif | awk -f "$0/split.awk"' "$scratch"
+
+# What a document says of each rule and refusal: its heading in docs/RULES.md, its level, and its page as text and as markdown.
+cat >"$scratch/rules.awk" <<'AWK'
+index($1, ".runs.0.tool.driver.rules.") == 1 {
+    value = substr($0, length($1) + 2)
+    gsub(/^"|"$/, "", value)
+    split($1, way, ".")
+    key = way[8] (way[9] == "" ? "" : "." way[9])
+    rules = way[7] + 1
+    said[way[7], key] = value
+}
+END {
+    for (i = 0; i < rules; i++) {
+        text = said[i, "shortDescription.text"]
+        help = said[i, "help.text"]
+        is_page = help == said[i, "help.markdown"] && length(help) > length(text)
+        print said[i, "id"], text, said[i, "defaultConfiguration.level"], (is_page ? "page" : "no page")
+    }
+}
+AWK
+sed -n 's/^### \([A-Z]*[0-9][0-9] .*\)/\1/p' "$top/docs/RULES.md" |
+    awk '{ print $0, ($1 ~ /^E/ ? "error" : "warning"), "page" } END { print "--" }' >wanted
+: >lines.in
+# shellcheck disable=SC2016
+[ -z "$reader" ] || try 'what sarif says of rules' 0 \
+    sh -c '"$0/form" sarif >rules.sarif && "$1" "$0/read" rules.sarif | awk -f "$0/rules.awk"' "$scratch" "$reader"
+
+# Of fonts that were not checked a run of SARIF names a thousand, then the next run begins.
+{
+    echo 'a.pfb: 1: font file 0 F01 no end segment'
+    awk 'BEGIN { for (i = 1; i <= 1001; i++) print i ".pfb: t1check: read failed" }'
+    echo 'b.pfb: 1: font file 0 F01 no end segment'
+} >lines.in
+cat >"$scratch/runs.awk" <<'AWK'
+$1 ~ /^\.runs\.[0-9]+\..*\.uri$/ {
+    split($1, way, ".")
+    part = way[3] " " way[4]
+    if (part != last) {
+        if (last != "") print last, count, first, file
+        last = part
+        first = $2
+        count = 0
+    }
+    file = $2
+    count++
+}
+END { print last, count, first, file }
+AWK
+wanted <<'END'
+0 results 1 "a.pfb" "a.pfb"
+0 invocations 1000 "1.pfb" "1000.pfb"
+1 results 1 "b.pfb" "b.pfb"
+1 invocations 1 "1001.pfb" "1001.pfb"
+--
+END
+# shellcheck disable=SC2016
+[ -z "$reader" ] || try 'a thousand and one fonts that were not checked' 0 \
+    sh -c '"$0/form" sarif >many.sarif && "$1" "$0/read" many.sarif | awk -f "$0/runs.awk"' "$scratch" "$reader"
+
+# A message of a command has bytes that end it, or begin a byte in hexadecimal, in hexadecimal.
+printf 'a.pfb: t1check: 100%% of\r it\n' >lines.in
+wanted <<'END'
+::error file=a.pfb,line=1,title=not checked::t1check: 100%25 of%0D it
+--
+END
+try_form 'a message with odd bytes as a command' 0 github
+
+# A line of more than 65,536 bytes.
+name=$(printf '%070000d' 0)
+echo "$name.pfb: 1: font file 0 F01 no end segment" >lines.in
+{ echo "{\"code\":\"F01\",\"file\":\"$name.pfb\",\"index\":0,\"key\":\"file\",\"number\":1,\"text\":\"no end segment\",\"unit\":\"font\"}"; echo --; } >wanted
+try_form 'a line of 70,000 bytes as jsonl' 0 jsonl
+
+# Devices that fail.
+wanted <<'END'
+--
+t1format: read failed
+END
+try 'a folder in the place of lines' 3 sh -c "'$format' jsonl <."
+if [ -c /dev/full ]; then
+    echo 'a.pfb: 1: font file 0 F01 no end segment' >lines.in
+    wanted <<'END'
+--
+t1format: write failed
+END
+    try 'lines on a full device' 3 sh -c "'$format' github <lines.in >/dev/full"
+    wanted <<'END'
+--
+END
+    try 'help on a full device' 3 sh -c "'$format' --help >/dev/full"
+else
+    echo 'skipped: t1format on a full device, since there is no /dev/full'
+fi
 
 # Usage faults of t1format, whose words are not compared: nothing is written, something is told.
 for words in '' 'json' 'jsonl sarif' '--form jsonl' 'jsonl --font' 'sarif --docs' 'jsonl --font a --font b'; do
