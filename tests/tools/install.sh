@@ -172,6 +172,93 @@ install: this is there already, and no install put it there:
 $scratch/home/.local/bin/t1explain
 END
 try 'a file that another put there' 3 "$top/bin/install"
+
+# What was there before stays: folders, also those with nothing in them, and files of others in folders that install made.
+mkdir -p there/below/share/man/man1 there/below/lib
+limited "$top/bin/install" --prefix "$scratch/there/below" >/dev/null
+: >there/below/share/zsh/site-functions/_other
+wanted <<'END'
+--
+END
+try 'taking away beside what was there' 0 "$top/bin/install" --prefix "$scratch/there/below" --remove
+wanted <<'END'
+there
+there/below
+there/below/lib
+there/below/share
+there/below/share/man
+there/below/share/man/man1
+there/below/share/zsh
+there/below/share/zsh/site-functions
+there/below/share/zsh/site-functions/_other
+--
+END
+try 'what was there before' 0 sh -c 'find there | sort'
+rm -rf there
+mkdir -p there/below
+limited "$top/bin/install" --prefix "$scratch/there/below" >/dev/null
+limited "$top/bin/install" --prefix "$scratch/there/below" --remove
+wanted <<'END'
+there
+there/below
+--
+END
+try 'an empty folder as prefix' 0 sh -c 'find there | sort'
+
+# A prefix is relative to the folder where install runs. Whatever the mask there, all users may read what is installed.
+limited sh -c "umask 077; cd there && '$top/bin/install' --prefix below" >given
+wanted <<END
+t1check, t1check-all, t1draw, t1explain and t1format are in $scratch/there/below/bin.
+export PATH='$scratch/there/below/bin':"\$PATH"
+--
+END
+try 'a relative prefix' 0 sed -n '1p; /^export PATH=/p' given
+wanted <<'END'
+--
+END
+try 'what others may not read' 0 find there/below/bin there/below/share ! -perm -044 -o -type d ! -perm -055
+
+# Files of an older version, which had more, go.
+echo share/t1check/old >>there/below/share/t1check/installed
+: >there/below/share/t1check/old
+limited "$top/bin/install" --prefix there/below >/dev/null
+wanted <<'END'
+RULES.md
+commit
+installed
+--
+END
+try 'files of an older version' 0 ls there/below/share/t1check
+
+# A file that is there and not in the record is of another, and so is a link that leads nowhere.
+grep -v '^bin/t1check$' there/below/share/t1check/installed >record
+cat record >there/below/share/t1check/installed
+wanted <<END
+--
+install: this is there already, and no install put it there:
+$scratch/there/below/bin/t1check
+END
+try 'a file that is not in the record' 3 "$top/bin/install" --prefix there/below
+rm there/below/bin/t1draw
+mkdir there/below/bin/t1draw
+wanted <<END
+--
+install: $scratch/there/below/bin/t1draw can't be taken away
+END
+# Before that rm says in its own words that this is a folder.
+try "a file that can't be taken away" 3 sh -c "'$top/bin/install' --prefix there/below --remove 2>given
+    given=\$?
+    tail -n 1 given >&2
+    exit \$given"
+rm -rf there
+mkdir -p there/bin
+ln -s nowhere there/bin/t1draw
+wanted <<END
+--
+install: this is there already, and no install put it there:
+$scratch/there/bin/t1draw
+END
+try 'a link that leads nowhere' 3 "$top/bin/install" --prefix there
 wanted <<END
 --
 install: $top is the repository itself
