@@ -97,8 +97,8 @@ cp "$fonts/Z05.pfb" "$lines/one.pfb"
 cp "$fonts/zones_and_glyphs.pfb" "$scratch/glyphs.pfb"
 cp "$fonts/H02.pfb" "$scratch/edge.pfb"
 
-# A copy of t1check-all, $stand/bin/t1check-all, that runs another program in t1check's place: a script, on standard input, that finds its
-# font on its own. Each WORD makes a font WORD.pfb of that word: WORD...
+# Makes a copy of t1check-all, $stand/bin/t1check-all, that runs a script in t1check's place. The script is on standard input here, and
+# finds a font on its own. Each font WORD.pfb, which this makes too, has that word alone: WORD...
 stand_in() {
     stand=$scratch/stand
     mkdir -p "$stand/bin" "$stand/docs" "$stand/crates/t1check/out"
