@@ -241,7 +241,10 @@ try_form 'a message with odd bytes as a command' 0 github
 # A line of more than 65,536 bytes.
 name=$(printf '%070000d' 0)
 echo "$name.pfb: 1: font file 0 F01 no end segment" >lines.in
-{ echo "{\"code\":\"F01\",\"file\":\"$name.pfb\",\"index\":0,\"key\":\"file\",\"number\":1,\"text\":\"no end segment\",\"unit\":\"font\"}"; echo --; } >wanted
+wanted <<END
+{"code":"F01","file":"$name.pfb","index":0,"key":"file","number":1,"text":"no end segment","unit":"font"}
+--
+END
 try_form 'a line of 70,000 bytes as jsonl' 0 jsonl
 
 # Devices that fail.
