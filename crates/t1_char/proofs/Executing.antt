@@ -160,3 +160,21 @@ goes_over_one font f new is path callers waiting =
       path = path;
       callers = callers;
     }
+
+-- The same of any token that goes on.
+pub token_over : (font : FontValue) (f new : Frames) (t : CharToken) → tokens_left f.current ≡ t ∷ tokens_left new.current
+    → IsPlainEffect t f.step.stack new.step.stack → new.step.path.items ≡ f.step.path.items → new.callers.items ≡ f.callers.items
+    → new.waiting.items ≡ f.waiting.items →
+    steps_behind font f ≡ step_at font f.step.path.items t (tokens_left new.current) (state_in f) ∷ steps_behind font new
+token_over font f new t token plain path callers waiting =
+    let old : List ℕ = f.step.path.items in
+    let x : State = state_of new.step.stack f.waiting.items in
+    let left : List CharToken = tokens_left new.current in
+    let here : StepView = step_at font old t left (state_in f) in
+    ap (λ tokens. (rest_of font (frames_with f tokens) (state_in f)).steps) token
+    ∙ ap (λ run. run.steps) (rest_goes font old t left (callers_of old 0 f.callers.items) (state_in f) x
+    (sym (plain (named_at font t f.step.stack) (length old) f.waiting.items)))
+    ∙ ap (λ all. here ∷ (rest_of font (frame old left ∷ callers_of old 0 all) x).steps) (sym callers)
+    ∙ ap (λ p. here ∷ (rest_of font (frame p left ∷ callers_of p 0 new.callers.items) x).steps) (sym path)
+    ∙ ap (λ zs. here ∷ (rest_of font (frame new.step.path.items left ∷ callers_of new.step.path.items 0 new.callers.items)
+    (state_of new.step.stack zs)).steps) (sym waiting)

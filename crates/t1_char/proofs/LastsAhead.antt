@@ -1,13 +1,13 @@
 -- Where more than one byte is left, neither End nor a return and End follows.
-use Rattle.std.proofs.Common.{◌≡◌, ℕ, zero, suc, ◌<◌, ◌==◌, Bool, true, false, nat_lt, ◌&&◌, if◌then◌else◌, cond, Option, List, [], ◌∷◌, length, refl, ap, ◌∙◌, arith}
+use Rattle.std.proofs.Common.{◌≡◌, ℕ, zero, suc, ◌<◌, ◌==◌, Bool, true, false, not, nat_lt, ◌&&◌, if◌then◌else◌, cond, Option, List, [], ◌∷◌, length, refl, ap, ◌∙◌, arith}
 use Rattle.t1_char.specs.declared.command.Command.{Command as Commands}
 use Rattle.t1_char.specs.declared.cursor.Cursor.{Cursor}
 use Rattle.t1_char.specs.declared.token.CharToken.{CharToken}
-use Rattle.t1_char.specs.declared.token.CharToken.TheVariants.{Short}
+use Rattle.t1_char.specs.declared.token.CharToken.TheVariants.{End, Short}
 use Rattle.t1_char.specs.Commands.{escaped_of}
 use Rattle.t1_char.specs.Tokens.{Form, whole, two, five, form_of, completed, more_in, escaped_code, long_number, tokens_behind, tokens_of}
 use Rattle.t1_char.specs.Steps.{is_end, is_return, is_last}
-use Rattle.t1_char.specs.Private.Cursors.{bytes_left, tokens_left, behind_token, deciphered, key_after}
+use Rattle.t1_char.specs.Private.Cursors.{bytes_left, tokens_left, behind_token, deciphered, key_after, key_of}
 
 -- As many bytes are left as are to be deciphered.
 pub length_deciphered : (key : Option ℕ) (bytes : List ℕ) → length (deciphered key bytes) ≡ length bytes
@@ -104,3 +104,22 @@ last_nowhere depth token cursor more = by_end (is_end token)
     by_end : (b : Bool) → is_last depth (cond b [] (tokens_left cursor)) ≡ false
     by_end true = refl
     by_end false = tokens_follow depth cursor.short (bytes_left cursor) more
+
+-- The end alone.
+pub none_behind : (cursor : Cursor) → cursor.short ≡ false → length cursor.left.now ≡ 0 → tokens_left cursor ≡ End ∷ []
+unfolding deciphered tokens_behind
+none_behind cursor full none = by_parts cursor.short (key_of cursor.cipher) cursor.left.now full none
+  where
+    by_parts : (short : Bool) (key : Option ℕ) (left : List ℕ) → short ≡ false → length left ≡ 0
+        → (if short then Short ∷ tokens_of (deciphered key left) else tokens_of (deciphered key left)) ≡ End ∷ []
+    by_parts true key left is none = let no : true ≡ false = is in cc
+    by_parts false key [] is none = refl
+    by_parts false key (c ∷ rest) is none = absurd (omega (arith, none))
+
+pub last_of_none : (depth : ℕ) (token : CharToken) (tokens : List CharToken) → tokens ≡ End ∷ []
+    → is_last depth (behind_token token tokens) ≡ not (is_end token)
+last_of_none depth token tokens is = ap (λ ts. is_last depth (behind_token token ts)) is ∙ by_end (is_end token)
+  where
+    by_end : (b : Bool) → is_last depth (cond b [] (End ∷ [])) ≡ not b
+    by_end true = refl
+    by_end false = refl

@@ -1,4 +1,5 @@
 pub mod Additions
+pub mod Advancing
 pub mod Bounds
 pub mod Chains
 pub mod CutTokens
@@ -16,8 +17,10 @@ pub mod LastsAhead
 pub mod Listed
 pub mod LookingBack
 pub mod MachineSteps
+pub mod NearNumbers
 pub mod Numbering
 pub mod Othersubrs
+pub mod Pairs
 pub mod PlainGlyphs
 pub mod Quotients
 pub mod ReadBack
@@ -28,6 +31,8 @@ pub mod Skipping
 pub mod Spelling
 pub mod StepByStep
 pub mod StepsLackSeac
+pub mod TakenLines
+pub mod TakenNumbers
 pub mod Telling
 pub mod TextsReadBack
 pub mod TurnTests

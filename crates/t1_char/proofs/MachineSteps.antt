@@ -11,16 +11,18 @@ use Rattle.t1_char.specs.Effects.{State, Action, goes, calls, returns, finishes,
 use Rattle.t1_char.specs.Steps.{StepView, Run, and_then, expansion, step_at, effect_at, led_to}
 use Rattle.t1_char.specs.StepValues.{step_view, step_value}
 use Rattle.t1_char.specs.Turns.{ended, limited, stepped, step_of_number, step_or_end, limit_or_end, turn_at, counted_after}
-use Rattle.t1_char.specs.Asking.{IsAskedBehind}
 use Rattle.t1_char.specs.AnswerViews.{answer_view}
-use Rattle.t1_char.specs.declared.machine.Numbers.{Numbers}
-use Rattle.t1_char.specs.declared.machine.Numbers.TheVariants.{Told}
+use Rattle.t1_char.specs.declared.lines.Passing.{Passing}
+use Rattle.t1_char.specs.declared.lines.Passing.TheVariants as passing
+use Rattle.t1_char.specs.declared.lines.Way.{Way}
+use Rattle.t1_char.specs.Lines.{IsAskedFarBehind, is_lines, no_way}
 use Rattle.t1_char.specs.Private.Cursors.{tokens_left}
 use Rattle.t1_char.specs.Rests.{Frame, frame, rest_of}
-use Rattle.t1_char.specs.Private.Frames.{IsReady, callers_of, state_in, left_behind, step_here, steps_behind, steps_from}
+use Rattle.t1_char.specs.Private.Frames.{callers_of, state_in, left_behind, step_here, steps_behind, steps_from}
 use Rattle.t1_char.specs.Passing.{IsPassed}
+use Rattle.t1_char.specs.Private.Advancing.{Advances, HasGoneFar, IsNext}
 use Rattle.t1_char.specs.Private.Machines.{GoesOnFrom, IsAt, IsBehind}
-use Rattle.t1_char.specs.Private.Plain.{GoesOver, GoesOverOne, HasGoneOver}
+use Rattle.t1_char.specs.Private.Plain.{GoesOver, GoesOverOne}
 use Rattle.std.proofs.lemmas.Bool.{cases_lt}
 use Rattle.t1_char.proofs.Additions.{and_then_front}
 use Rattle.t1_char.proofs.TurnTests.{turn_by_limit}
@@ -74,18 +76,18 @@ get_past [] n short = refl
 get_past (step ∷ steps) zero short = absurd (omega (arith, short))
 get_past (step ∷ steps) (suc n) short = get_past steps n (omega (arith, short))
 
-get_there : (n : ℕ) (steps rest : List StepView) (step : StepView) → drop n steps ≡ step ∷ rest → slice_get steps n ≡ Some step
+pub get_there : (n : ℕ) (steps rest : List StepView) (step : StepView) → drop n steps ≡ step ∷ rest → slice_get steps n ≡ Some step
 get_there zero steps rest step is = ap (λ l. slice_get l 0) is
 get_there (suc n) [] rest step is = absurd (empty_is step rest is)
 get_there (suc n) (_ ∷ steps) rest step is = get_there n steps rest step is
 
-drop_next : (n : ℕ) (steps rest : List StepView) (step : StepView) → drop n steps ≡ step ∷ rest → drop (suc n) steps ≡ rest
+pub drop_next : (n : ℕ) (steps rest : List StepView) (step : StepView) → drop n steps ≡ step ∷ rest → drop (suc n) steps ≡ rest
 drop_next zero [] rest step is = absurd (empty_is step rest is)
 drop_next zero (_ ∷ steps) rest step is = ap tail_of is
 drop_next (suc n) [] rest step is = absurd (empty_is step rest is)
 drop_next (suc n) (_ ∷ steps) rest step is = drop_next n steps rest step is
 
-is_within : (n : ℕ) (steps rest : List StepView) (step : StepView) → drop n steps ≡ step ∷ rest → n + 1 ≤ length steps
+pub is_within : (n : ℕ) (steps rest : List StepView) (step : StepView) → drop n steps ≡ step ∷ rest → n + 1 ≤ length steps
 is_within zero [] rest step is = absurd (empty_is step rest is)
 is_within zero (_ ∷ steps) rest step is = omega arith
 is_within (suc n) [] rest step is = absurd (empty_is step rest is)
@@ -145,13 +147,6 @@ pub behind_executed : (limit : ℕ) (steps : List StepView) (font : FontValue) (
     → IsBehind limit steps font n new
 behind_executed limit steps font n f new h over even =
     record { even = even; steps_are = sym (ap tail_of (sym h.steps_are ∙ over)); near = h.near; within = h.within }
-
--- The next step was read.
-pub record IsNext (font : FontValue) (n : ℕ) (f new : Frames) : Type 0 where
-  pub ready : IsReady font new
-  pub behind : steps_from font new ≡ steps_behind font f
-  pub step_is : step_view new.step ≡ step_here font new
-  pub number : new.step.number ≡ n + 1
 
 next_is : (limit : ℕ) (steps : List StepView) (font : FontValue) (n : ℕ) (f new : Frames) → IsBehind limit steps font n f → IsNext font n f new
     → drop n steps ≡ step_here font new ∷ (leads font new).0
@@ -247,33 +242,43 @@ over_one_more limit font n m f g new over one near = λ steps behind.
     }
 
 -- What was asked, by what the answer leaves.
-pub asked_none : (numbers : Numbers) (limit : ℕ) (steps : List StepView) (font : FontValue) (n : ℕ) (answer : Answer) (f : Frames)
-    → Answers limit steps font n answer f → IsAskedBehind numbers limit steps n (n + 1) (answer_view answer (step_value f.step))
-asked_none numbers limit steps font n answer f answers =
+pub asked_far_none : (what : Passing) (limit : ℕ) (steps : List StepView) (font : FontValue) (n : ℕ) (answer : Answer) (f : Frames)
+    → Answers limit steps font n answer f → IsAskedFarBehind what limit steps n (n + 1) (answer_view answer (step_value f.step)) no_way
+asked_far_none what limit steps font n answer f answers =
+    let same : n ≡ n + 0 = omega arith in
     record {
-      before = n;
-      least = omega arith;
-      passed = λ k from to. absurd (omega (arith, from, to));
+      taken = 0;
+      passed = refl;
       told = λ is. refl;
-      turn =
-          answers.turn;
-      counted = answers.count;
+      turn = answers.turn ∙ ap (turn_at limit steps) same;
+      counted = answers.count ∙ ap (counted_after limit steps) same;
     }
 
-pub asked_behind : (numbers : Numbers) (limit : ℕ) (steps : List StepView) (font : FontValue) (n before : ℕ) (f : Frames) (answer : Answer) (new : Frames)
-    → HasGoneOver limit steps font n before f → (numbers ≡ Told → before ≡ n) → Answers limit steps font before answer new
-    → IsAskedBehind numbers limit steps n (before + 1) (answer_view answer (step_value new.step))
-asked_behind numbers limit steps font n before f answer new over told answers =
-    record { before = before; least = over.least; passed = over.passed; told = told; turn = answers.turn; counted = answers.count }
+pub asked_far : (what : Passing) (limit : ℕ) (steps : List StepView) (font : FontValue) (n before taken : ℕ) (way : Way) (f : Frames) (answer : Answer) (new : Frames)
+    → before ≡ n + taken → HasGoneFar (is_lines what) limit steps font n taken way f → (what ≡ passing.Told → before ≡ n)
+    → Answers limit steps font before answer new
+    → IsAskedFarBehind what limit steps n (before + 1) (answer_view answer (step_value new.step)) way
+asked_far what limit steps font n before taken way f answer new is over told answers =
+    record {
+      taken = taken;
+      passed = over.passed;
+      told = λ no. omega (arith, told no, is);
+      turn = answers.turn ∙ ap (turn_at limit steps) is;
+      counted = answers.count ∙ ap (counted_after limit steps) is;
+    }
 
--- The step in hand was executed, numbers were gone over, and the next step was read.
-pub record IsRead (font : FontValue) (f executed passed new : Frames) (limit n before : ℕ) : Type 0 where
+-- The step in hand was executed, steps were gone over, and the next was read.
+pub record IsRead (font : FontValue) (f executed new : Frames) (lines : Bool) (limit n before : ℕ) (way : Way) : Type 0 where
   pub executed_is : steps_from font f ≡ step_here font f ∷ steps_behind font executed
   pub even : length executed.step.path.items ≡ length executed.callers.items
-  pub over : GoesOver limit font n executed before passed
-  pub next : IsNext font before passed new
+  pub over : Advances lines limit font n executed before way new
 
-pub gone_behind : (limit : ℕ) (steps : List StepView) (font : FontValue) (n before : ℕ) (f executed passed new : Frames) → GoesOnFrom limit steps font n f
-    → IsRead font f executed passed new limit n before → HasGoneOver limit steps font n before passed
-gone_behind limit steps font n before f executed passed new h read =
-    read.over steps (behind_executed limit steps font n f executed h read.executed_is read.even)
+pub gone_behind : (lines : Bool) (limit : ℕ) (steps : List StepView) (font : FontValue) (n before : ℕ) (way : Way) (f executed new : Frames)
+    → GoesOnFrom limit steps font n f → (read : IsRead font f executed new lines limit n before way)
+    → HasGoneFar lines limit steps font n read.over.taken way read.over.passed
+gone_behind lines limit steps font n before way f executed new h read =
+    read.over.over steps (behind_executed limit steps font n f executed h read.executed_is read.even)
+
+pub behind_gone : (lines : Bool) (limit : ℕ) (steps : List StepView) (font : FontValue) (n before taken : ℕ) (way : Way) (passed : Frames) → before ≡ n + taken
+    → HasGoneFar lines limit steps font n taken way passed → IsBehind limit steps font before passed
+behind_gone lines limit steps font n before taken way passed is gone = subst (λ m. IsBehind limit steps font m passed) (sym is) gone.behind

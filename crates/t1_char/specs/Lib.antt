@@ -7,6 +7,7 @@ pub mod Editions
 pub mod Effects
 pub mod Laws
 pub mod Lending
+pub mod Lines
 pub mod Loans
 pub mod Numbers
 pub mod Passing

@@ -1,5 +1,6 @@
 -- Words that private contracts alone cite: no clause of a public function rests on them.
 pub mod Actions
+pub mod Advancing
 pub mod Cursors
 pub mod Frames
 pub mod Listings
@@ -7,3 +8,5 @@ pub mod Machines
 pub mod Plain
 pub mod Seacs
 pub mod Steps
+pub mod Sums
+pub mod Taking

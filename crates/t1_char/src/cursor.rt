@@ -1,15 +1,18 @@
 //! A place in a charstring, at which it is deciphered as it is read: Type 1 Font Format 1.1, chapters 6 and 7.
 
-ghost use Rattle.std.specs.Prelude.{◌≡◌, false, true, ◌/◌, bit_xor, IfSome, MatchOption, [], ◌∷◌, drop, length};
+ghost use Rattle.std.specs.Prelude.{◌≡◌, false, true, ◌/◌, bit_xor, IfSome, MatchOption, ◌<◌, [], ◌∷◌, drop, length};
 ghost use Rattle.t1_seal.specs.Laws.Cipher.{next_state};
 ghost use Rattle.t1_char.specs.Tokens.{charstring_tokens, long_number, more_of, random_of, token_at};
 ghost use Rattle.t1_seal.specs.Cipher.{charstring_start, decrypted};
 ghost use Rattle.t1_char.specs.Steps.{is_end};
-ghost use Rattle.t1_char.specs.Private.Cursors.{behind_token, bytes_left, key_after, key_of, plain_by, tokens_left};
+ghost use Rattle.t1_char.specs.Private.Cursors.{AtFirst, behind_token, bytes_left, cursor_of, key_after, key_of, plain_by, tokens_left};
 ghost use Rattle.std.specs.List.{list_any};
 ghost use Rattle.t1_char.specs.Seacs.{is_seac};
-ghost use Rattle.t1_char.specs.Private.Seacs.{has_pair};
-ghost use Rattle.t1_char.specs.declared.token.CharToken.TheVariants.{Cut, Number};
+ghost use Rattle.t1_char.specs.Lines.{IsWithin, is_far};
+ghost use Rattle.t1_char.specs.Numbers.{units};
+ghost use Rattle.t1_char.specs.Private.Seacs.{begins_with_6, has_pair};
+ghost use Rattle.t1_char.specs.declared.cursor.Cursor.{Cursor};
+ghost use Rattle.t1_char.specs.declared.token.CharToken.TheVariants.{Cut, End, Number};
 
 use crate::token::{CharToken, escaped_token, joined, pair, plain_token, signed};
 use t1_seal::Cipher;
@@ -18,13 +21,123 @@ use t1_seal::Cipher;
 /// lenIV, which is told first.
 #[derive(Clone, Copy, Default)]
 pub(crate) struct Cursor<'a> {
-    left: &'a [u8],
+    pub(crate) left: &'a [u8],
     /// None where charstrings aren't encrypted.
-    cipher: Option<Cipher>,
-    short: bool,
+    pub(crate) cipher: Option<Cipher>,
+    pub(crate) short: bool,
+}
+
+/// What is left of an enciphered charstring that isn't short.
+#[derive(Clone, Copy)]
+pub(crate) struct Enciphered<'a> {
+    pub(crate) left: &'a [u8],
+    pub(crate) cipher: Cipher,
+}
+
+impl<'a> Enciphered<'a> {
+    /// The next plain byte.
+    #[inline(always)]
+    #[tactic(auto, unfolding(crate::specs::Private::Cursors::deciphered))]
+    pub(crate) fn next_byte(&mut self) -> Option<u8>
+        ensures byte { MatchOption result (bytes_left (cursor_of self.old) ≡ [])
+            (λ b. bytes_left (cursor_of self.old) ≡ b ∷ bytes_left (cursor_of self.new)) }
+        ensures left { bytes_left (cursor_of self.new) ≡ drop 1 (bytes_left (cursor_of self.old)) }
+    {
+        match first_of(self.left) {
+            None => None,
+            Some((byte, rest)) => {
+                self.left = rest;
+                Some(next_plain(&mut self.cipher, byte))
+            }
+        }
+    }
+
+    /// Returns the token that begins with the byte before it, which isn't 255.
+    #[inline(always)]
+    #[tactic(auto, using(crate::proofs::Skipping::tokens_behind_is), unfolding(crate::specs::Tokens::tokens_behind))]
+    pub(crate) fn token_from(&mut self, first: u8) -> CharToken
+        requires { first < 255 }
+        ensures { (before : Cursor) → AtFirst first before (cursor_of self.old) →
+            tokens_left before ≡ result ∷ behind_token result (tokens_left (cursor_of self.new)) }
+    {
+        self.token_behind(first)
+    }
+
+    /// Returns the token of its first byte, which isn't 255, and of the byte after that.
+    #[inline(always)]
+    fn token_behind(&mut self, first: u8) -> CharToken
+        requires { first < 255 }
+        ensures token { result ≡ token_at first (bytes_left (cursor_of self.old)) }
+        ensures left { bytes_left (cursor_of self.new) ≡ drop (more_of first) (bytes_left (cursor_of self.old)) }
+        ensures goes_on { is_end result ≡ false }
+    {
+        match first {
+            12 => match self.next_byte() {
+                Some(second) => escaped_token(second),
+                None => CharToken::Cut,
+            },
+            0..=31 => plain_token(first),
+            32..=246 => CharToken::Number(i32::from(first) - 139),
+            247..=250 => match self.next_byte() {
+                Some(second) => CharToken::Number(i32::from(pair(first - 247, second))),
+                None => CharToken::Cut,
+            },
+            _ => match self.next_byte() {
+                Some(second) => CharToken::Number(-i32::from(pair(first - 251, second))),
+                None => CharToken::Cut,
+            },
+        }
+    }
+
+    /// The number of its first byte and the byte behind it.
+    #[inline(always)]
+    pub(crate) fn number_behind(&mut self, first: u8) -> Option<i64>
+        ensures token { IfSome result (λ number. token_at first (bytes_left (cursor_of self.old)) ≡ Number number) }
+        ensures left { IfSome result (λ number. bytes_left (cursor_of self.new)
+            ≡ drop (more_of first) (bytes_left (cursor_of self.old))) }
+        ensures near { IfSome result (λ number. is_far (units number) ≡ false) }
+        ensures short { IfSome result (λ number. IsWithin 1131 number) }
+    {
+        match first {
+            32..=246 => Some(i64::from(first) - 139),
+            247..=250 => match self.next_byte() {
+                Some(second) => Some(i64::from(pair(first - 247, second))),
+                None => None,
+            },
+            251..=254 => match self.next_byte() {
+                Some(second) => Some(-i64::from(pair(first - 251, second))),
+                None => None,
+            },
+            _ => None,
+        }
+    }
 }
 
 impl<'a> Cursor<'a> {
+    /// Returns the token that begins with 255, the byte before it.
+    #[inline(always)]
+    #[tactic(auto, using(crate::proofs::Skipping::tokens_behind_is), unfolding(crate::specs::Tokens::tokens_behind))]
+    pub(crate) fn long_token(&mut self) -> CharToken
+        ensures { (before : Cursor) → AtFirst 255 before self.old →
+            tokens_left before ≡ result ∷ behind_token result (tokens_left self.new) }
+    {
+        self.token_behind(255)
+    }
+
+    /// What is left, where it is enciphered and not short.
+    #[inline(always)]
+    pub(crate) fn enciphered(&self) -> Option<Enciphered<'a>>
+        ensures { IfSome result (λ ahead. cursor_of ahead ≡ self.now) }
+    {
+        match self.cipher {
+            Some(cipher) if !self.short => Some(Enciphered {
+                left: self.left,
+                cipher,
+            }),
+            _ => None,
+        }
+    }
+
     /// A cursor at the start of a charstring, behind its random bytes.
     #[tactic(auto, using(crate::proofs::Deciphering::deciphered_plain), unfolding(crate::specs::Tokens::charstring_tokens, crate::specs::Tokens::tokens_behind))]
     pub(crate) fn start(code: &'a [u8], len_iv: i8) -> Cursor<'a>
@@ -66,6 +179,15 @@ impl<'a> Cursor<'a> {
         ensures { result ≡ length (bytes_left self.now) }
     {
         self.left.len()
+    }
+
+    /// Whether the end alone is left.
+    #[inline(always)]
+    #[tactic(auto, using(crate::proofs::LastsAhead::none_behind))]
+    pub(crate) fn is_empty(&self) -> bool
+        ensures { result ≡ true → tokens_left self.now ≡ End ∷ [] }
+    {
+        !self.short && self.left.len() == 0
     }
 
     /// The next token.
@@ -182,20 +304,38 @@ impl<'a> Cursor<'a> {
         ensures { result ≡ has_pair 0 (bytes_left self.now) }
     {
         let mut ahead = *self;
-        let mut before = 0;
         while let Some(byte) = ahead.next_byte() {
-            if byte == 6 && before == 12 {
+            if byte == 12 && ahead.begins_with_6() {
                 return true;
             }
-            before = byte;
         }
         false
+    }
+
+    /// Whether 6 comes next.
+    #[inline(always)]
+    fn begins_with_6(&self) -> bool
+        ensures { result ≡ begins_with_6 (bytes_left self.now) }
+    {
+        let mut ahead = *self;
+        match ahead.next_byte() {
+            Some(byte) => byte == 6,
+            None => false,
+        }
     }
 
     fn discard(&mut self, count: usize)
         ensures left { bytes_left self.new ≡ drop count (bytes_left self.old) }
         ensures short { self.new.short ≡ self.old.short }
     {
+        // Most fonts have four random bytes, and each call of a Subr comes here.
+        if count == 4 && self.left.len() >= 4 {
+            self.next_byte();
+            self.next_byte();
+            self.next_byte();
+            self.next_byte();
+            return;
+        }
         for _taken in 0..count {
             self.next_byte();
         }

@@ -1,25 +1,33 @@
 //! The charstrings that are being executed: a glyph's, and those of the Subrs that it calls. Type 1 Font Format 1.1, chapters 6
 //! and 8.
 
-ghost use Rattle.std.specs.Prelude.{◌≡◌, ◌<◌, ◌≤◌, ◌-◌, ◌++◌, ◌∷◌, [], if◌then◌else◌, false, is_some, length, take, true};
+ghost use Rattle.std.specs.Prelude.{◌≡◌, ◌<◌, ◌≤◌, ◌+◌, ◌-◌, ◌++◌, ◌∷◌, [], if◌then◌else◌, false, is_some, length, take, true};
 ghost use Rattle.t1_char.specs.Charstrings.{tokens_in};
 ghost use Rattle.t1_char.specs.Effects.{most_calls};
 ghost use Rattle.t1_char.specs.Steps.{named_at, steps_of};
 ghost use Rattle.t1_char.specs.Private.Actions.{named_of};
 ghost use Rattle.t1_char.specs.StepValues.{step_view};
-ghost use Rattle.t1_char.specs.Private.Cursors.{tokens_left};
+ghost use Rattle.t1_char.specs.Private.Cursors.{AtFirst, behind_token, cursor_of, tokens_left};
+ghost use Rattle.t1_char.specs.Private.Advancing.{Advances, ReadsToken};
+ghost use Rattle.t1_char.specs.Private.Taking.{IsTokenRead};
+ghost use Rattle.t1_char.specs.declared.cursor.Cursor.{Cursor};
+ghost use Rattle.t1_char.specs.Lines.{is_lines, no_way};
+ghost use Rattle.t1_char.specs.Stacks.{most_numbers};
 ghost use Rattle.t1_char.specs.Private.Frames.{IsReady, state_in, step_here, steps_behind, steps_from};
 ghost use Rattle.t1_char.specs.Private.Plain.{GoesOver, PassesNumber};
-ghost use Rattle.t1_char.specs.declared.machine.Numbers.TheVariants.{Told};
+ghost use Rattle.t1_char.specs.declared.edition.Edition.TheVariants.{Two};
+ghost use Rattle.t1_char.specs.Editions.{limit_of};
+ghost use Rattle.t1_char.specs.declared.lines.Passing.TheVariants.{Told};
 
 use crate::action::Action;
 use crate::charstrings::{code_at, cursor_at};
-use crate::cursor::Cursor;
+use crate::cursor::{Cursor, Enciphered};
 use crate::effect::{Waiting, apply, apply_plain, put_number};
-use crate::machine::Numbers;
-use crate::stack::Stack;
+use crate::lines::{Passing, Way, is_any, is_lines};
+use crate::stack::{MOST_NUMBERS, Stack};
 use crate::step::{MOST_CALLS, Step, is_last, named_at};
 use crate::subr::Subr;
+use crate::taking::Next;
 use crate::token::{CharToken, is_callsubr};
 use arrayvec::ArrayVec;
 use t1_font::Font;
@@ -36,6 +44,13 @@ pub(crate) struct Frames<'a> {
     named: Option<Subr<'a>>,
     waiting: Waiting,
     pub(crate) step: Step,
+}
+
+/// How many steps a run has behind it, and the way of those that it passed.
+#[derive(Clone, Copy)]
+pub(crate) struct Gone {
+    pub(crate) before: u32,
+    pub(crate) way: Way,
 }
 
 impl<'a> Frames<'a> {
@@ -148,33 +163,158 @@ impl<'a> Frames<'a> {
         }
     }
 
-    /// Goes over the numbers that come next where they are to be passed, and tells behind how many steps the run
-    /// stands, where it stood behind `counted`.
+    /// Passes the steps that come next as far as it may, and reads the step after them. Returns how many steps are before that,
+    /// where there were `counted` before the first.
     #[inline(always)]
-    pub(crate) fn pass(
+    pub(crate) fn advance(
         &mut self,
-        numbers: Numbers,
+        passing: Passing,
         font: &'a Font<'a>,
         counted: u32,
         limit: u32,
-    ) -> u32
-        requires { counted ≤ limit }
-        ensures over { GoesOver limit font.now counted self.old result self.new }
-        ensures told { numbers ≡ Told → result ≡ counted }
-        ensures near { result ≤ limit }
+    ) -> Gone
+        requires counted { counted ≤ limit }
+        requires few { limit ≤ limit_of Two }
+        requires even { length self.old.step.path.items ≡ length self.old.callers.items }
+        ensures over { Advances (is_lines passing) limit font.now counted self.old result.before result.way self.new }
+        ensures told { passing ≡ Told → result.before ≡ counted }
+        ensures near { result.before ≤ limit }
     {
-        match numbers {
-            Numbers::Told => counted,
-            Numbers::Passed => self.pass_numbers(font, counted, limit),
+        let gone = self.go_over(passing, font, counted, limit);
+        self.hold(font, gone.before + 1);
+        gone
+    }
+
+    /// Passes the steps that come next as far as it may, and reads the token after them.
+    #[inline(always)]
+    fn go_over(&mut self, passing: Passing, font: &'a Font<'a>, counted: u32, limit: u32) -> Gone
+        requires counted { counted ≤ limit }
+        requires few { limit ≤ limit_of Two }
+        ensures over { ReadsToken (is_lines passing) limit font.now counted self.old result.before result.way self.new }
+        ensures path { self.new.step.path.items ≡ self.old.step.path.items }
+        ensures callers { self.new.callers.items ≡ self.old.callers.items }
+        ensures told { passing ≡ Told → result.before ≡ counted }
+        ensures near { result.before ≤ limit }
+    {
+        if limit - counted >= MOST_NUMBERS as u32 && is_any(passing) {
+            if let Some(ahead) = self.current.enciphered() {
+                return self.go_over_enciphered(ahead, font, counted, limit, is_lines(passing));
+            }
+        }
+        Gone {
+            before: self.go_over_any(passing, font, counted, limit),
+            way: Way::NONE,
         }
     }
 
-    /// Goes over the numbers that come next and that the stack has room for, up to the limit.
+    /// The same of an enciphered charstring far from the limit, where numbers are passed.
     #[inline(always)]
+    fn go_over_enciphered(
+        &mut self,
+        ahead: Enciphered<'a>,
+        font: &'a Font<'a>,
+        counted: u32,
+        limit: u32,
+        lines: bool,
+    ) -> Gone
+        requires ahead { cursor_of ahead ≡ self.old.current }
+        requires far { counted + most_numbers ≤ limit }
+        requires few { limit ≤ limit_of Two }
+        ensures over { ReadsToken lines limit font.now counted self.old result.before result.way self.new }
+        ensures path { self.new.step.path.items ≡ self.old.step.path.items }
+        ensures callers { self.new.callers.items ≡ self.old.callers.items }
+        ensures near { result.before ≤ limit }
+    {
+        let stop = self.step.stack.take_lines(ahead, limit - counted, lines);
+        self.current = Cursor {
+            left: stop.left,
+            cipher: Some(stop.cipher),
+            short: false,
+        };
+        self.take_token(stop.token);
+        Gone {
+            before: counted + stop.passed,
+            way: stop.way,
+        }
+    }
+
+    /// The same of any charstring; no line is passed.
+    #[inline(never)]
+    fn go_over_any(&mut self, passing: Passing, font: &'a Font<'a>, counted: u32, limit: u32) -> u32
+        requires { counted ≤ limit }
+        ensures over { ReadsToken (is_lines passing) limit font.now counted self.old result no_way self.new }
+        ensures path { self.new.step.path.items ≡ self.old.step.path.items }
+        ensures callers { self.new.callers.items ≡ self.old.callers.items }
+        ensures told { passing ≡ Told → result ≡ counted }
+        ensures near { result ≤ limit }
+    {
+        let before = self.pass(passing, font, counted, limit);
+        self.step.token = self.current.next_token();
+        before
+    }
+
+    /// Takes a token that was read, or reads it.
+    #[inline(always)]
+    fn take_token(&mut self, token: Next)
+        ensures token { (before : Cursor) → IsTokenRead token before self.old.current →
+            tokens_left before ≡ self.new.step.token ∷ behind_token self.new.step.token (tokens_left self.new.current) }
+        ensures kept { self.new
+            ≡ record self.old { current = self.new.current; step = record self.old.step { token = self.new.step.token } } }
+    {
+        match token {
+            Next::Token(token) => self.step.token = token,
+            Next::Long => self.read_long(),
+            Next::End => self.read_token(),
+        }
+    }
+
+    /// Reads the token that 255 begins.
+    #[inline(never)]
+    fn read_long(&mut self)
+        ensures token { (before : Cursor) → AtFirst 255 before self.old.current →
+            tokens_left before ≡ self.new.step.token ∷ behind_token self.new.step.token (tokens_left self.new.current) }
+        ensures kept { self.new
+            ≡ record self.old { current = self.new.current; step = record self.old.step { token = self.new.step.token } } }
+    {
+        self.step.token = self.current.long_token();
+    }
+
+    /// Reads the next token.
+    #[inline(never)]
+    fn read_token(&mut self)
+        ensures token { tokens_left self.old.current
+            ≡ self.new.step.token ∷ behind_token self.new.step.token (tokens_left self.new.current) }
+        ensures kept { self.new
+            ≡ record self.old { current = self.new.current; step = record self.old.step { token = self.new.step.token } } }
+    {
+        self.step.token = self.current.next_token();
+    }
+
+    /// Passes the numbers that come next if it may. Returns how many steps are before the next, where there were `counted`
+    /// before the first.
+    fn pass(&mut self, passing: Passing, font: &'a Font<'a>, counted: u32, limit: u32) -> u32
+        requires { counted ≤ limit }
+        ensures over { GoesOver limit font.now counted self.old result self.new }
+        ensures path { self.new.step.path.items ≡ self.old.step.path.items }
+        ensures callers { self.new.callers.items ≡ self.old.callers.items }
+        ensures told { passing ≡ Told → result ≡ counted }
+        ensures near { result ≤ limit }
+        ensures least { counted ≤ result }
+    {
+        match passing {
+            Passing::Told => counted,
+            Passing::Numbers | Passing::Lines => self.pass_numbers(font, counted, limit),
+        }
+    }
+
+    /// Passes the numbers that come next and that the stack has room for, up to the limit.
     fn pass_numbers(&mut self, font: &'a Font<'a>, counted: u32, limit: u32) -> u32
         requires { counted ≤ limit }
         ensures over { GoesOver limit font.now counted self.old result self.new }
+        ensures path { self.new.step.path.items ≡ self.old.step.path.items }
+        ensures callers { self.new.callers.items ≡ self.old.callers.items }
         ensures near { result ≤ limit }
+        ensures least { counted ≤ result }
     {
         let mut passed = counted;
         let mut ahead = self.current;
@@ -185,16 +325,24 @@ impl<'a> Frames<'a> {
         passed
     }
 
-    /// Reads the next step.
+    /// Notes what belongs to the token that was read.
     #[inline(always)]
-    pub(crate) fn read(&mut self, font: &'a Font<'a>, number: u32)
+    fn hold(&mut self, font: &'a Font<'a>, number: u32)
         requires even { length self.old.step.path.items ≡ length self.old.callers.items }
         ensures ready { IsReady font.now self.new }
-        ensures steps { steps_from font.now self.new ≡ steps_behind font.now self.old }
         ensures step { step_view self.new.step ≡ step_here font.now self.new }
         ensures number { self.new.step.number ≡ number }
+        ensures kept { self.new
+            ≡ record self.old {
+              named = self.new.named;
+              step = record self.old.step {
+                number = self.new.step.number;
+                waiting = self.new.step.waiting;
+                found = self.new.step.found;
+                last = self.new.step.last;
+              };
+            } }
     {
-        self.step.token = self.current.next_token();
         self.step.number = number;
         self.step.waiting = self.waiting.len();
         self.step.found = false;

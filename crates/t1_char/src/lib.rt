@@ -42,12 +42,14 @@ mod effect;
 mod expansion;
 mod frames;
 mod laws;
+mod lines;
 mod machine;
 mod numbers;
 mod seacs;
 mod stack;
 mod step;
 mod subr;
+mod taking;
 mod token;
 mod token_list;
 
@@ -60,7 +62,8 @@ pub use laws::{
     short_and_cut_charstrings_are_told, stacks_are_taken_from_the_top, steps_are_looked_back_on,
     steps_follow_the_tokens, steps_go_on, steps_tell_calls_and_ends, written_charstrings_are_read,
 };
-pub use machine::{Answer, Machine, Numbers, Turn};
+pub use lines::{Drawn, Passing, Way};
+pub use machine::{Answer, Far, Machine, Numbers, Turn};
 pub use numbers::{GREATEST, UNIT, cut_quotient, natural};
 pub use seacs::{steps_lack_seac, subrs_lack_seac};
 pub use stack::{MOST_NUMBERS, Stack};

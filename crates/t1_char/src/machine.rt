@@ -3,6 +3,10 @@
 ghost use Rattle.std.specs.Prelude.{◌≡◌, ◌<◌, ◌≤◌, ◌+◌, length};
 ghost use Rattle.t1_char.specs.Editions.{limit_of};
 ghost use Rattle.t1_char.specs.Asking.{IsAsked};
+ghost use Rattle.t1_char.specs.Lines.{IsAskedFar, is_lines};
+ghost use Rattle.t1_char.specs.declared.machine.Numbers.TheVariants.{Told};
+ghost use Rattle.t1_char.specs.declared.lines.Passing.TheVariants as passing;
+ghost use Rattle.std.specs.Prelude.{false};
 ghost use Rattle.t1_char.specs.Steps.{steps_of};
 ghost use Rattle.t1_char.specs.StepValues.{step_value};
 ghost use Rattle.t1_char.specs.Turns.{counted_after, turn_at};
@@ -11,6 +15,7 @@ ghost use Rattle.t1_char.specs.TurnViews.{turn_value};
 
 use crate::edition::Edition;
 use crate::frames::Frames;
+use crate::lines::{Passing, Way};
 use crate::step::Step;
 use std::marker::Model;
 use t1_font::Font;
@@ -56,6 +61,13 @@ pub enum Numbers {
     Passed,
 }
 
+/// What a machine answers after it passed steps, and the way of these.
+#[derive(Clone, Copy)]
+pub struct Far {
+    pub answer: Answer,
+    pub way: Way,
+}
+
 /// A glyph that is executed step by step: no list is made, and no memory is taken.
 ///
 /// ```
@@ -74,6 +86,18 @@ pub struct Machine<'a> {
     counted: u32,
     answer: Answer,
     frames: Frames<'a>,
+}
+
+/// The same without lines.
+#[inline(always)]
+fn passing_of(numbers: Numbers) -> Passing
+    ensures lines { is_lines result ≡ false }
+    ensures told { numbers ≡ Told → result ≡ passing.Told }
+{
+    match numbers {
+        Numbers::Told => Passing::Told,
+        Numbers::Passed => Passing::Numbers,
+    }
 }
 
 impl<'a> Model for Machine<'a> {
@@ -103,6 +127,7 @@ impl<'a> Machine<'a> {
     ghost use Rattle.t1_char.specs.Lending.{MovesOn};
 
     /// A machine before the first step of a glyph, by its place.
+    #[inline(always)]
     pub fn start(font: &'a Font<'a>, glyph: usize, edition: Edition) -> Machine<'a>
         requires { glyph < length font.now.glyphs }
         ensures font { result.font ≡ font.now }
@@ -174,25 +199,48 @@ impl<'a> Machine<'a> {
         ensures glyph { self.new.glyph ≡ self.old.glyph }
         ensures edition { self.new.edition ≡ self.old.edition }
     {
+        let far = self.go_far(passing_of(numbers));
+        far.answer
+    }
+
+    /// The same with lines, and the way of the passed ones.
+    #[inline(always)]
+    pub fn go_far(&mut self, passing: Passing) -> Far
+        ensures asked { IsAskedFar passing self.old self.new (answer_view result.answer self.new.step) result.way }
+        ensures font { self.new.font ≡ self.old.font }
+        ensures glyph { self.new.glyph ≡ self.old.glyph }
+        ensures edition { self.new.edition ≡ self.old.edition }
+    {
         match self.answer {
             Answer::Step => {
                 if !self.frames.execute(self.font) {
                     self.counted += 1;
                     self.answer = Answer::Ended;
-                    return Answer::Ended;
+                    return Far {
+                        answer: Answer::Ended,
+                        way: Way::NONE,
+                    };
                 }
-                let before = self
+                let gone = self
                     .frames
-                    .pass(numbers, self.font, self.counted, self.limit);
-                self.counted = before + 1;
-                self.frames.read(self.font, self.counted);
+                    .advance(passing, self.font, self.counted, self.limit);
+                self.counted = gone.before + 1;
                 if self.counted > self.limit {
                     self.answer = Answer::Limit;
-                    return Answer::Limit;
+                    return Far {
+                        answer: Answer::Limit,
+                        way: gone.way,
+                    };
                 }
-                Answer::Step
+                Far {
+                    answer: Answer::Step,
+                    way: gone.way,
+                }
             }
-            other => other,
+            other => Far {
+                answer: other,
+                way: Way::NONE,
+            },
         }
     }
 

@@ -2,7 +2,10 @@
 
 ghost use Rattle.std.specs.Prelude.{◌≡◌, ◌≤◌, ◌<◌, [], length, nat_eq, nat_le};
 ghost use Rattle.t1_char.specs.Stacks.{from_top, most_numbers, put, without};
+ghost use Rattle.t1_char.specs.Private.Taking.{TakesLines};
 
+use crate::cursor::Enciphered;
+use crate::taking::{Lines, take_lines};
 use std::marker::Model;
 
 /// The most numbers that a stack holds: Type 1 Font Format 1.1, chapter 6.
@@ -95,6 +98,25 @@ impl Stack {
             self.cells[self.len] = number;
             self.len += 1;
         }
+    }
+
+    /// Takes the numbers that come next, as long as there is room, and with `lines` the lines and curves after them: `room`
+    /// steps at most.
+    #[inline(always)]
+    pub(crate) fn take_lines<'a>(
+        &mut self,
+        ahead: Enciphered<'a>,
+        room: u32,
+        lines: bool,
+    ) -> Lines<'a>
+        requires room { most_numbers ≤ room }
+        requires limited { room < 16777216 }
+        ensures takes { TakesLines lines ahead.entry self.old self.new result }
+        ensures near { result.passed ≤ room }
+    {
+        let stop = take_lines(&mut self.cells, self.len, ahead, room, lines);
+        self.len = stop.len;
+        stop
     }
 
     /// The number so many below the top, which is there.

@@ -38,7 +38,7 @@ pub struct Step {
 }
 
 /// The Subr that the top of the stack names, where the token calls it.
-#[inline(never)]
+#[inline(always)]
 pub(crate) fn named_at<'a>(font: &'a Font<'a>, token: CharToken, stack: &Stack) -> Option<Subr<'a>>
     ensures { named_of result ≡ named_at font.now token stack.now }
 {
@@ -62,6 +62,9 @@ pub(crate) fn is_last(token: &CharToken, behind: &Cursor<'_>, depth: usize) -> b
     // A return is a byte, and End none: where more bytes are left, more follows.
     if behind.left_len() > 1 {
         return false;
+    }
+    if behind.is_empty() {
+        return !is_end(*token);
     }
     ends(token, behind, depth)
 }

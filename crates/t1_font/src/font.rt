@@ -106,13 +106,22 @@ impl<'a> Font<'a> {
     }
 
     /// The charstring of a Subr. Most fonts give their Subrs in the order of their numbers, from 0 on.
+    #[inline(always)]
     pub fn subr(&self, number: u32) -> Option<&'a [u8]>
         ensures { bytes_of result ≡ lookup (nat_eq number) self.now.subrs }
     {
         match self.subrs.get_index(number as usize) {
             Some((there, bytes)) if *there == number => Some(*bytes),
-            _ => self.subrs.get(&number).copied(),
+            _ => self.subr_elsewhere(number),
         }
+    }
+
+    /// The same of a font that gives them in another order.
+    #[inline(never)]
+    fn subr_elsewhere(&self, number: u32) -> Option<&'a [u8]>
+        ensures { bytes_of result ≡ lookup (nat_eq number) self.now.subrs }
+    {
+        self.subrs.get(&number).copied()
     }
 
     /// How many Subrs the private text says that there are; 0 where it has none.

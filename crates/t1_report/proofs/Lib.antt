@@ -12,6 +12,7 @@ pub mod InFont
 pub mod LaterFaults
 pub mod Numbered
 pub mod OneReport
+pub mod PassedLines
 pub mod PassedNumbers
 pub mod PlaceSearch
 pub mod Pushed

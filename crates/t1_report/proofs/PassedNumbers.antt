@@ -42,7 +42,7 @@ use Rattle.t1_report.proofs.GlyphSteps.{take_next}
 use Rattle.t1_report.proofs.RunSteps.{IsRunAt, IsTold, count_at_end, run_at, run_of, told_at, told_end}
 
 -- Calm watchers stand for what is behind such numbers.
-stands_more : (edition : Edition) (w : Watches) (limit : ℕ) (all : List StepView) (k : ℕ) → IsCalm w → IsPassed limit all k
+pub stands_more : (edition : Edition) (w : Watches) (limit : ℕ) (all : List StepView) (k : ℕ) → IsCalm w → IsPassed limit all k
     → WatchesStandFor edition w (take k all) → WatchesStandFor edition w (take (k + 1) all)
 stands_more edition w limit all k calm passed st =
     let is = kept limit all k passed in
@@ -69,12 +69,12 @@ stands_at edition w limit all n m k calm passed from to st =
     (stands_behind edition w limit all n (k - n) calm (λ i past less. passed i past (omega (arith, past, less, from, to))) st)
 
 -- No rule is broken at such a number.
-no_component_fault : (components : List Component) (n : ℕ) (before : List StepView) (t : StepView) (z : ℤ) → t.token ≡ Number z
+pub no_component_fault : (components : List Component) (n : ℕ) (before : List StepView) (t : StepView) (z : ℤ) → t.token ≡ Number z
     → breaks (component_rules components) n before t ≡ false
 unfolding component_rules
 no_component_fault components n before t z is = rw is refl
 
-none_at : (font : CheckedFont) (unit glyph k n : ℕ) → unit ≡ glyph + 1 → glyph < length font.value.glyphs
+pub none_at : (font : CheckedFont) (unit glyph k n : ℕ) → unit ≡ glyph + 1 → glyph < length font.value.glyphs
     → IsPassed (step_limit font) (steps_of font.value glyph) k
     → IsBehindNoReplacement (take k (steps_of font.value glyph)) → is_broken font unit (k + 1) n ≡ false
 none_at font unit glyph k n at there passed none =
@@ -250,7 +250,7 @@ turn_behind numbers m new answer step w font glyph unit from calm of_font of_gly
     }
 
 -- Or that there is none.
-ended_view : (answer : Answer) (step : NumberedStep) → is_over answer ≡ true → ended ≡ answer_view answer step
+pub ended_view : (answer : Answer) (step : NumberedStep) → is_over answer ≡ true → ended ≡ answer_view answer step
 ended_view Ended step is = refl
 ended_view answers.Step step is = let no : false ≡ true = is in cc
 ended_view Limit step is = let no : false ≡ true = is in cc

@@ -1,6 +1,7 @@
 -- The statements of laws.
 pub mod Editions
 pub mod Limits
+pub mod PassedLines
 pub mod PassedNumbers
 pub mod Reports
 pub mod UnitFaults

@@ -1,5 +1,6 @@
 -- Words that private contracts alone cite: no clause of a public function rests on them.
 pub mod Courses
+pub mod Fitting
 pub mod Fronts
 pub mod Reporting
 pub mod Searches

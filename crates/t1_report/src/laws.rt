@@ -3,6 +3,7 @@
 ghost use Rattle.t1_report.specs.Laws.Editions.{UsualFontsHaveOneReport};
 ghost use Rattle.t1_char.specs.declared.edition.Edition.TheVariants.{One, Two};
 ghost use Rattle.t1_report.specs.Laws.Limits.{AreCheckedTo};
+ghost use Rattle.t1_report.specs.Laws.PassedLines.{PassedLinesBreakNoRule, WatchersMoveOnByLines};
 ghost use Rattle.t1_report.specs.Laws.PassedNumbers.{CalmIsBehindNoReplacement, CalmWatchersStandBehindNumbers, PassedNumbersBreakNoRule};
 ghost use Rattle.t1_report.specs.Laws.Reports.{HasNoOtherReport, HasReport};
 ghost use Rattle.t1_report.specs.Laws.UnitFaults.{AllOfUnitAreGivenAtLast, GivenAreTheReports, MarksOfUnitGoOnCounting, NoneOfUnitIsGivenAtFirst};
@@ -66,6 +67,13 @@ pub fn passed_numbers_break_no_rule()
     ensures rules { PassedNumbersBreakNoRule }
     ensures calm { CalmIsBehindNoReplacement }
     ensures kept { CalmWatchersStandBehindNumbers }
+{}
+
+/// Numbers, lines, curves and closepaths that a machine passes in a path break no rule. The watchers, which don't see them,
+/// keep the same after them, but for the current point and what is drawn: these are moved on by the way of the steps.
+pub fn passed_lines_break_no_rule()
+    ensures rules { PassedLinesBreakNoRule }
+    ensures kept { WatchersMoveOnByLines }
 {}
 
 /// A font has the same report in both editions where no glyph has more than 100,000 steps, and none of its

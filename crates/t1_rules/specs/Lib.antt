@@ -6,5 +6,6 @@ pub mod Laws
 pub mod Mask
 pub mod Private
 pub mod StandardEncoding
+pub mod Steady
 pub mod StepRules
 pub mod Watches

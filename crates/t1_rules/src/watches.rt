@@ -2,13 +2,15 @@
 
 ghost use Rattle.std.specs.Prelude.{◌≡◌, true, ℕ, ◌<◌, List, [], ◌∷◌, ◌++◌, length};
 ghost use Rattle.t1_char.specs.declared.edition.Edition.{Edition as Editions};
+ghost use Rattle.t1_char.specs.declared.command.Command.TheVariants.{Callsubr, Hstem, Return, Vstem};
 ghost use Rattle.t1_char.specs.declared.token.CharToken.TheVariants.{Number};
 ghost use Rattle.t1_char.specs.Steps.{StepView};
 ghost use Rattle.t1_char.specs.StepValues.{step_view};
 ghost use Rattle.t1_rules.specs.Mask.{has};
 ghost use Rattle.t1_rules.specs.StepRules.{breaks, step_rules};
 ghost use Rattle.t1_rules.specs.Private.Standing.{WatchesStandFor};
-ghost use Rattle.t1_rules.specs.Watches.{IsCalm, most_steps};
+ghost use Rattle.t1_rules.specs.Watches.{IsCalm, IsNear, most_steps};
+ghost use Rattle.t1_rules.specs.Steady.{IsSteady, drawn_on, moved_on, point_on};
 ghost use Rattle.t1_rules.specs.StepRules.Tokens.{IsCommand};
 
 use crate::mask::Mask;
@@ -21,7 +23,7 @@ use crate::step_rules::seac::SeacWatcher;
 use crate::step_rules::stems::StemWatcher;
 use crate::step_rules::tokens::call_of;
 use crate::watch::Watch;
-use t1_char::{CharToken, Command, Edition, MOST_NUMBERS, OthersubrCall, Step};
+use t1_char::{CharToken, Command, Drawn, Edition, MOST_NUMBERS, OthersubrCall, Step, Way};
 
 /// Watches for the rules from C01 to O04, K01, K02 and K06, which a glyph's own steps decide.
 #[derive(Drop)]
@@ -134,9 +136,72 @@ impl Watches {
         self.stems.is_calm() & self.flex.is_calm()
     }
 
-    /// What all watchers say of a step of this command.
-    #[inline(never)]
+    /// Whether the steps so far are such that no rule is broken by lines and curves with exactly their arguments, none past
+    /// 32000, and a closepath right after these.
+    #[inline(always)]
+    pub fn is_steady(&self) -> bool
+        ensures { result ≡ true → IsSteady self.now }
+    {
+        self.paths.is_steady()
+            && self.stems.is_steady()
+            && self.flex.is_steady()
+            && self.seac.is_steady()
+    }
+
+    /// Keeps what such steps change: the current point, and what is drawn.
+    #[inline(always)]
+    pub fn go(&mut self, way: Way)
+        requires { (n : ℕ) × (IsNear n (point_on self.old.flex.point way) × (n < most_steps)) }
+        ensures { self.new ≡ moved_on self.old way }
+    {
+        self.flex.go(way);
+        match way.drawn {
+            Drawn::Nothing => {}
+            Drawn::Open => self.draw(),
+            Drawn::Closed => {
+                self.draw();
+                self.paths.close();
+            }
+        }
+    }
+
+    /// Keeps what a line draws.
+    #[inline(always)]
+    fn draw(&mut self)
+        ensures { self.new ≡ drawn_on self.old }
+    {
+        self.paths.draw();
+        self.stems.draw();
+        self.seac.draw();
+    }
+
+    /// What all watchers say of a step of this command. Calls, returns and stems have functions of their own, which don't save
+    /// the registers that other commands need.
+    #[inline(always)]
     fn see_command(&mut self, command: Command, step: &Step) -> Mask
+        requires token { IsCommand (step_view step.now) command }
+        requires steps { (edition : Editions) × ((before : List StepView) ×
+            (WatchesStandFor edition self.old before × (length before < most_steps))) }
+        ensures stands { (edition : Editions) (before : List StepView) →
+            WatchesStandFor edition self.old before → length before < most_steps →
+            WatchesStandFor edition self.new (before ++ step_view step.now ∷ []) }
+        ensures answer { (edition : Editions) (before : List StepView) →
+            WatchesStandFor edition self.old before → length before < most_steps →
+            (n : ℕ) → has result n ≡ breaks (step_rules edition) n before (step_view step.now) }
+    {
+        match command {
+            Command::Callsubr => self.see_call(step),
+            Command::Return => self.see_return(step),
+            Command::Hstem => self.see_hstem(step),
+            Command::Vstem => self.see_vstem(step),
+            _ => self.see_other(command, step),
+        }
+    }
+
+    /// The same of any command. Lines, curves and closepaths come here where machines don't pass them, as in charstrings without
+    /// encryption.
+    #[inline(never)]
+    fn see_other(&mut self, command: Command, step: &Step) -> Mask
         requires token { IsCommand (step_view step.now) command }
         requires steps { (edition : Editions) × ((before : List StepView) ×
             (WatchesStandFor edition self.old before × (length before < most_steps))) }
@@ -185,10 +250,6 @@ impl Watches {
                 step,
             ),
             Command::Closepath => self.see_each(CharToken::Command(Command::Closepath), step),
-            Command::Hstem => self.see_each(CharToken::Command(Command::Hstem), step),
-            Command::Vstem => self.see_each(CharToken::Command(Command::Vstem), step),
-            Command::Callsubr => self.see_each(CharToken::Command(Command::Callsubr), step),
-            Command::Return => self.see_each(CharToken::Command(Command::Return), step),
             Command::Hsbw => self.see_each(CharToken::Command(Command::Hsbw), step),
             Command::Endchar => self.see_each(CharToken::Command(Command::Endchar), step),
             Command::Callothersubr => self.see_each(
@@ -204,8 +265,78 @@ impl Watches {
         }
     }
 
-    /// Whether a move, a line or a curve is as most are. That is asked first, so that in the copy of the
-    /// watchers for such a step hardly a test is left.
+    /// What all watchers say of a call of a Subr.
+    #[inline(never)]
+    fn see_call(&mut self, step: &Step) -> Mask
+        requires token { IsCommand (step_view step.now) Callsubr }
+        requires steps { (edition : Editions) × ((before : List StepView) ×
+            (WatchesStandFor edition self.old before × (length before < most_steps))) }
+        ensures stands { (edition : Editions) (before : List StepView) →
+            WatchesStandFor edition self.old before → length before < most_steps →
+            WatchesStandFor edition self.new (before ++ step_view step.now ∷ []) }
+        ensures answer { (edition : Editions) (before : List StepView) →
+            WatchesStandFor edition self.old before → length before < most_steps →
+            (n : ℕ) → has result n ≡ breaks (step_rules edition) n before (step_view step.now) }
+    {
+        self.see_each(CharToken::Command(Command::Callsubr), step)
+    }
+
+    /// The same of the way back from it.
+    #[inline(never)]
+    fn see_return(&mut self, step: &Step) -> Mask
+        requires token { IsCommand (step_view step.now) Return }
+        requires steps { (edition : Editions) × ((before : List StepView) ×
+            (WatchesStandFor edition self.old before × (length before < most_steps))) }
+        ensures stands { (edition : Editions) (before : List StepView) →
+            WatchesStandFor edition self.old before → length before < most_steps →
+            WatchesStandFor edition self.new (before ++ step_view step.now ∷ []) }
+        ensures answer { (edition : Editions) (before : List StepView) →
+            WatchesStandFor edition self.old before → length before < most_steps →
+            (n : ℕ) → has result n ≡ breaks (step_rules edition) n before (step_view step.now) }
+    {
+        self.see_each(CharToken::Command(Command::Return), step)
+    }
+
+    /// The same of a horizontal stem.
+    #[inline(never)]
+    fn see_hstem(&mut self, step: &Step) -> Mask
+        requires token { IsCommand (step_view step.now) Hstem }
+        requires steps { (edition : Editions) × ((before : List StepView) ×
+            (WatchesStandFor edition self.old before × (length before < most_steps))) }
+        ensures stands { (edition : Editions) (before : List StepView) →
+            WatchesStandFor edition self.old before → length before < most_steps →
+            WatchesStandFor edition self.new (before ++ step_view step.now ∷ []) }
+        ensures answer { (edition : Editions) (before : List StepView) →
+            WatchesStandFor edition self.old before → length before < most_steps →
+            (n : ℕ) → has result n ≡ breaks (step_rules edition) n before (step_view step.now) }
+    {
+        if self.is_usual(Command::Hstem, step) {
+            return self.see_each(CharToken::Command(Command::Hstem), step);
+        }
+        self.see_rare(step)
+    }
+
+    /// The same of a vertical stem.
+    #[inline(never)]
+    fn see_vstem(&mut self, step: &Step) -> Mask
+        requires token { IsCommand (step_view step.now) Vstem }
+        requires steps { (edition : Editions) × ((before : List StepView) ×
+            (WatchesStandFor edition self.old before × (length before < most_steps))) }
+        ensures stands { (edition : Editions) (before : List StepView) →
+            WatchesStandFor edition self.old before → length before < most_steps →
+            WatchesStandFor edition self.new (before ++ step_view step.now ∷ []) }
+        ensures answer { (edition : Editions) (before : List StepView) →
+            WatchesStandFor edition self.old before → length before < most_steps →
+            (n : ℕ) → has result n ≡ breaks (step_rules edition) n before (step_view step.now) }
+    {
+        if self.is_usual(Command::Vstem, step) {
+            return self.see_each(CharToken::Command(Command::Vstem), step);
+        }
+        self.see_rare(step)
+    }
+
+    /// Whether a move, a line, a curve or a stem is as most are. That is asked first, so that in the copy of the watchers for
+    /// such a step hardly a test is left.
     #[inline(always)]
     fn is_usual(&self, command: Command, step: &Step) -> bool {
         self.is_calm() && has_its_arguments(command, step.stack.as_slice())

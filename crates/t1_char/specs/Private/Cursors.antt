@@ -1,8 +1,9 @@
 -- What a cursor has left: the bytes that are left of a slice, deciphered from the cipher's state on.
-use Rattle.std.specs.Prelude.{ℕ, ◌/◌, if◌then◌else◌, Option, Some, None, List, [], ◌∷◌, bit_xor}
+use Rattle.std.specs.Prelude.{◌≡◌, ℕ, false, ◌/◌, if◌then◌else◌, Option, Some, None, List, [], ◌∷◌, bit_xor}
 use Rattle.t1_seal.specs.declared.cipher.Cipher.{Cipher}
 use Rattle.t1_seal.specs.Laws.Cipher.{next_state}
 use Rattle.t1_char.specs.declared.cursor.Cursor.{Cursor}
+use Rattle.t1_char.specs.declared.cursor.Enciphered.{Enciphered}
 use Rattle.t1_char.specs.declared.token.CharToken.{CharToken}
 use Rattle.t1_char.specs.declared.token.CharToken.TheVariants.{Short}
 use Rattle.t1_char.specs.Tokens.{tokens_of}
@@ -37,3 +38,13 @@ tokens_left cursor =
 -- What stands behind a token: nothing behind End.
 abbrev pub behind_token : CharToken → List CharToken → List CharToken
 behind_token token rest = if is_end token then [] else rest
+
+-- What is left of an enciphered charstring, as a cursor.
+abbrev pub cursor_of : Enciphered → Cursor
+cursor_of ahead = record { left = ahead.left; cipher = Some ahead.cipher; short = false }
+
+-- A cursor before a byte and one after it, neither of them short.
+pub record AtFirst (first : ℕ) (before behind : Cursor) : Type 0 where
+  pub bytes : bytes_left before ≡ first ∷ bytes_left behind
+  pub before_short : before.short ≡ false
+  pub behind_short : behind.short ≡ false

@@ -5,3 +5,8 @@ use Rattle.std.specs.Prelude.{ℕ, ◌==◌, ◌&&◌, ◌||◌, Bool, false, Li
 abbrev pub has_pair : ℕ → List ℕ → Bool
 has_pair before [] = false
 has_pair before (byte ∷ rest) = (byte == 6 && before == 12) || has_pair byte rest
+
+-- Whether 6 comes first.
+abbrev pub begins_with_6 : List ℕ → Bool
+begins_with_6 [] = false
+begins_with_6 (byte ∷ rest) = byte == 6

@@ -6,14 +6,13 @@ ghost use Rattle.t1_report.specs.Private.Units.{IsFirst, IsQuietFrom, IsRun, exe
 ghost use Rattle.t1_report.specs.Walks.{turns_of_glyph};
 ghost use Rattle.t1_rules.specs.Components.{AreOf};
 ghost use Rattle.t1_rules.specs.Mask.{HasNoneAbove};
-ghost use Rattle.t1_rules.specs.Watches.{IsCalm};
-ghost use Rattle.t1_char.specs.declared.machine.Numbers.TheVariants.{Passed};
+ghost use Rattle.t1_report.specs.Private.Fitting.{IsFit};
 ghost use Rattle.t1_char.specs.Editions.{limit_of};
 ghost use Rattle.t1_char.specs.declared.edition.Edition.TheVariants.{Two};
 
 use crate::violations::broken_at;
 use crate::walk::found::Found;
-use t1_char::{Edition, Machine, Numbers};
+use t1_char::{Edition, Machine, Passing};
 use t1_font::{Font, copy_of};
 use t1_rules::{Mask, Sidebearings, Watch, Watches};
 
@@ -102,7 +101,9 @@ fn next_broken(
 {
     let limit = sidebearings.edition().step_limit();
     while machine.counted() <= limit {
-        if machine.go_on(numbers_by(watches)).is_over() {
+        let far = machine.go_far(passing_by(watches));
+        watches.go(far.way);
+        if far.answer.is_over() {
             return None;
         }
         let step = machine.current();
@@ -119,15 +120,18 @@ fn next_broken(
     None
 }
 
-/// What becomes of the numbers that come next: they are passed, unless a rule speaks of them.
+/// What becomes of the steps that come next: numbers are passed, unless a rule speaks of them, and lines in the midst of a
+/// path.
 #[inline(always)]
-fn numbers_by(watches: &Watches) -> Numbers
-    ensures { result ≡ Passed → IsCalm watches.now }
+fn passing_by(watches: &Watches) -> Passing
+    ensures { IsFit result watches.now }
 {
-    if watches.is_calm() {
-        Numbers::Passed
+    if !watches.is_calm() {
+        Passing::Told
+    } else if watches.is_steady() {
+        Passing::Lines
     } else {
-        Numbers::Told
+        Passing::Numbers
     }
 }
 

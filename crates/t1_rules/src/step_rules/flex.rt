@@ -13,6 +13,7 @@ ghost use Rattle.t1_rules.specs.StepRules.Tokens.{clears, is_move, is_pop, sets_
 ghost use Rattle.t1_rules.specs.Private.Standing.{FlexStandsFor};
 ghost use Rattle.t1_rules.specs.Watches.{IsNear, IsWithin, most_steps, reach};
 ghost use Rattle.t1_rules.specs.Private.Quiet.{IsQuietForFlex};
+ghost use Rattle.t1_rules.specs.Steady.{point_on};
 
 use crate::mask::Mask;
 use crate::rule::Rule;
@@ -22,7 +23,7 @@ use crate::step_rules::tokens::{
     sets_point, starts_flex,
 };
 use crate::watch::Watch;
-use t1_char::{CharToken, Command, Edition, OthersubrCall, Step, is_callothersubr};
+use t1_char::{CharToken, Command, Edition, OthersubrCall, Step, Way, is_callothersubr};
 
 /// A point, in units of 1/65536.
 #[derive(Clone, Copy, Debug, Default, PartialEq, Eq)]
@@ -117,6 +118,26 @@ impl FlexWatcher {
         ensures popped_twice { result ≡ true → self.now.popped_twice ≡ false }
     {
         !(self.ended | (self.popped | self.popped_twice))
+    }
+
+    /// Whether no flex was started, or it was ended since.
+    #[inline(always)]
+    pub(crate) fn is_steady(&self) -> bool
+        ensures { result ≡ true → self.now.in_flex ≡ false }
+    {
+        !self.in_flex
+    }
+
+    /// Moves the current point on.
+    #[inline(always)]
+    pub(crate) fn go(&mut self, way: Way)
+        requires { (n : ℕ) × (IsNear n (point_on self.old.point way) × (n < most_steps)) }
+        ensures { self.new ≡ record self.old { point = point_on self.old.point way } }
+    {
+        self.point = Point {
+            x: sum(self.point.x, way.x),
+            y: sum(self.point.y, way.y),
+        };
     }
 
     /// What a step breaks.

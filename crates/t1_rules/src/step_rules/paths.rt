@@ -1,6 +1,6 @@
 //! The rules on widths and paths, W01, W02 and P01 to P03: Type 1 Font Format 1.1, chapters 6 and 8.
 
-ghost use Rattle.std.specs.Prelude.{◌≡◌, ◌&&◌, ◌||◌, not, ℕ, List, [], ◌∷◌, ◌++◌, true};
+ghost use Rattle.std.specs.Prelude.{◌≡◌, ◌&&◌, ◌||◌, not, ℕ, List, [], ◌∷◌, ◌++◌, true, false};
 ghost use Rattle.t1_char.specs.Arguments.{is_flex_end, othersubr_call};
 ghost use Rattle.t1_char.specs.Steps.{StepView};
 ghost use Rattle.t1_char.specs.StepValues.{step_view};
@@ -72,6 +72,33 @@ impl PathWatcher {
         ensures { (before : List StepView) → PathsStandFor self.now before → result ≡ is_open before }
     {
         self.drawn
+    }
+
+    /// Whether a path is begun by a move, outside flex.
+    #[inline(always)]
+    pub(crate) fn is_steady(&self) -> bool
+        ensures begun { result ≡ true → self.now.begun ≡ true }
+        ensures in_flex { result ≡ true → self.now.in_flex ≡ false }
+        ensures moved { result ≡ true → self.now.moved ≡ true }
+    {
+        self.moved && self.begun && !self.in_flex
+    }
+
+    /// Notes a line.
+    #[inline(always)]
+    pub(crate) fn draw(&mut self)
+        ensures { self.new ≡ record self.old { drawn = true } }
+    {
+        self.drawn = true;
+    }
+
+    /// Notes a closepath.
+    #[inline(always)]
+    pub(crate) fn close(&mut self)
+        ensures { self.new ≡ record self.old { drawn = false; moved = false } }
+    {
+        self.drawn = false;
+        self.moved = false;
     }
 
     /// What a step breaks.

@@ -1,7 +1,7 @@
 //! The rules on accented characters that a glyph's own steps decide, K01, K02 and K06: Type 1 Font Format
 //! 1.1, chapter 6 (seac).
 
-ghost use Rattle.std.specs.Prelude.{◌≡◌, ◌&&◌, ◌||◌, is_none, not, ℕ, List, [], ◌∷◌, ◌++◌, false};
+ghost use Rattle.std.specs.Prelude.{◌≡◌, ◌&&◌, ◌||◌, is_none, not, ℕ, List, [], ◌∷◌, ◌++◌, true, false};
 ghost use Rattle.t1_char.specs.Arguments.{is_flex_end, othersubr_call};
 ghost use Rattle.t1_char.specs.Steps.{StepView};
 ghost use Rattle.t1_char.specs.StepValues.{step_view};
@@ -59,6 +59,22 @@ impl Watch for SeacWatcher {
 }
 
 impl SeacWatcher {
+    /// Whether no flex was started, or it was ended since.
+    #[inline(always)]
+    pub(crate) fn is_steady(&self) -> bool
+        ensures { result ≡ true → self.now.in_flex ≡ false }
+    {
+        !self.in_flex
+    }
+
+    /// Notes a line.
+    #[inline(always)]
+    pub(crate) fn draw(&mut self)
+        ensures { self.new ≡ record self.old { outlined = true } }
+    {
+        self.outlined = true;
+    }
+
     /// What a step breaks.
     #[inline(always)]
     #[tactic(auto, unfolding(crate::specs::StepRules::seac_rules))]

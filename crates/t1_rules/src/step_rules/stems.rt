@@ -139,6 +139,22 @@ impl StemWatcher {
         !(self.replaced | self.popped)
     }
 
+    /// Whether no flex was started, or it was ended since.
+    #[inline(always)]
+    pub(crate) fn is_steady(&self) -> bool
+        ensures { result ≡ true → self.now.in_flex ≡ false }
+    {
+        !self.in_flex
+    }
+
+    /// Notes a line.
+    #[inline(always)]
+    pub(crate) fn draw(&mut self)
+        ensures { self.new ≡ record self.old { drawn = true } }
+    {
+        self.drawn = true;
+    }
+
     /// What a step breaks.
     #[inline(always)]
     #[tactic(auto, unfolding(crate::specs::StepRules::stem_rules))]
@@ -360,7 +376,17 @@ fn keep_own(kept: &mut Stems, token: CharToken, step: &Step)
     if is_triple(token) {
         keep(kept, &three_stems(step));
     } else {
-        keep(kept, &[stem_at(step, 0)]);
+        keep_one(kept, stem_at(step, 0));
+    }
+}
+
+/// Keeps a stem, as long as there are fewer than 96.
+#[inline(always)]
+fn keep_one(kept: &mut Stems, stem: Stem)
+    ensures { kept.new.items ≡ take most_stems (kept.old.items ++ stem ∷ []) }
+{
+    if kept.len() < MOST_STEMS {
+        kept.push(stem);
     }
 }
 

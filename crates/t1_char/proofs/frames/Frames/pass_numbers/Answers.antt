@@ -11,4 +11,7 @@ loop-passed-preserved c =
           c.loop-passed.invariant.over (goes_over_one c.args.font.now _ _ (c.pass_number.ensures.passed c.if-pass_number.true) refl refl refl)
           (omega (arith, c.loop-passed-test.true));
       near = omega (arith, c.loop-passed-test.true);
+      least = omega (arith, c.loop-passed.invariant.least);
+      path = c.loop-passed.invariant.path;
+      callers = c.loop-passed.invariant.callers;
     }

@@ -11,8 +11,3 @@ returns-in-Some c =
     subst (λ k. get_by (nat_eq k) c.self.inside.subrs ≡ Some c.in-Some.bytes.now) c.if-there-number.true c.in-Some.ensures.value in
     ap bytes_of (sym found) ∙ number_found c.self.inside.subrs.entries c.args.number
     ∙ ap (λ v. lookup (nat_eq c.args.number) v.subrs) c.self.view_is
-
-pub returns-in_default : goal.returns-in_default
-returns-in_default c =
-    ap bytes_of (c.copied.ensures ∙ c.get.ensures.value) ∙ number_found c.self.inside.subrs.entries c.args.number
-    ∙ ap (λ v. lookup (nat_eq c.args.number) v.subrs) c.self.view_is

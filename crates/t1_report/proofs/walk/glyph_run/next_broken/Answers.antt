@@ -3,30 +3,61 @@ use Rattle.t1_char.specs.Editions.{limit_of}
 use Rattle.t1_char.specs.Steps.{steps_of}
 use Rattle.t1_char.specs.StepValues.{step_view}
 use Rattle.t1_report.proofs.GlyphSteps.{is_next_by}
-use Rattle.t1_report.proofs.PassedNumbers.{EndsBehind, IsTurn, StandsBehind, ended_behind, fewer_turns_left, stands_behind_numbers, turn_behind}
+use Rattle.t1_rules.specs.Steady.{moved_on}
+use Rattle.t1_report.proofs.PassedLines.{GoneFar, ended_far, gone_far, turn_far}
+use Rattle.t1_report.proofs.PassedNumbers.{EndsBehind, IsTurn, StandsBehind, fewer_turns_left}
 use Rattle.t1_report.proofs.RunSteps.{same_executed, found_at, quiet_limit, quiet_more, quiet_over, run_at, run_more, run_of, run_over, step_agrees, turns_at_limit}
 use Rattle.t1_report.specs.Private.Units.{IsQuiet, executed}
 use Rattle.t1_report.specs.Private.Reporting.{HaveSeen}
 use Rattle.t1_report.proofs.walk.glyph_run.next_broken.Goals as goal
 
 -- The glyph is over.
-abbrev stands : (c : goal.Then-is_over) → StandsBehind (executed c.args.machine.now) c.args.machine.now.glyph c.args.unit (c.args.machine.now.counted + 1)
-    c.go_on.ensures.asked.before c.loop-machine.watches
-stands c =
-    stands_behind_numbers c.numbers_by.result c.loop-machine.machine c.go_on.new.self _ c.loop-machine.watches (executed c.args.machine.now)
+abbrev gone : (c : goal.Then-is_over) → GoneFar (executed c.args.machine.now) c.args.machine.now.glyph c.args.unit (c.args.machine.now.counted + 1)
+    (c.loop-machine.machine.counted + c.go_far-far.ensures.asked.taken) (moved_on c.loop-machine.watches c.go_far-far.result.way)
+gone c =
+    gone_far c.passing_by.result c.loop-machine.machine c.go_far-far.new.self _ c.go_far-far.result.way c.loop-machine.watches (executed c.args.machine.now)
     c.args.machine.now.glyph c.args.unit (c.args.machine.now.counted + 1)
-    c.numbers_by.ensures c.loop-machine.invariant.font c.loop-machine.invariant.glyph c.requires.unit c.loop-machine.invariant.run
-    c.loop-machine.invariant.quiet c.go_on.ensures.asked
+    c.passing_by.ensures c.loop-machine.invariant.font c.loop-machine.invariant.glyph c.requires.unit c.loop-machine.invariant.run
+    c.loop-machine.invariant.quiet
+    (omega (
+      arith,
+      c.loop-machine-test.true,
+      c.counted.ensures.counted,
+      c.step_limit-limit.ensures.limit
+          ∙ ap limit_of (c.edition.ensures ∙ c.requires.edition),
+    )) c.go_far-far.ensures.asked
 
-abbrev ended : (c : goal.Then-is_over) → EndsBehind (executed c.args.machine.now) c.args.machine.now.glyph c.go_on.ensures.asked.before c.go_on.new.self.counted
+abbrev stands : (c : goal.Then-is_over) → StandsBehind (executed c.args.machine.now) c.args.machine.now.glyph c.args.unit (c.args.machine.now.counted + 1)
+    (c.loop-machine.machine.counted + c.go_far-far.ensures.asked.taken) c.go.new.self
+stands c =
+    subst (StandsBehind (executed c.args.machine.now) c.args.machine.now.glyph c.args.unit (c.args.machine.now.counted + 1)
+    (c.loop-machine.machine.counted + c.go_far-far.ensures.asked.taken)) (sym c.go.ensures) (gone c).stands
+
+abbrev ended : (c : goal.Then-is_over) → EndsBehind (executed c.args.machine.now) c.args.machine.now.glyph
+    (c.loop-machine.machine.counted + c.go_far-far.ensures.asked.taken) c.go_far-far.new.self.counted
 ended c =
-    ended_behind c.numbers_by.result c.loop-machine.machine c.go_on.new.self c.go_on.result (executed c.args.machine.now) c.args.machine.now.glyph
-    c.loop-machine.invariant.font c.loop-machine.invariant.glyph
-    (sym c.is_over.ensures ∙ c.if-is_over.true) c.go_on.ensures.asked (stands c).run.counted_few
+    ended_far c.passing_by.result c.loop-machine.machine c.go_far-far.new.self c.go_far-far.result.answer c.go_far-far.result.way
+    (executed c.args.machine.now) c.args.machine.now.glyph c.loop-machine.invariant.font c.loop-machine.invariant.glyph
+    (sym c.is_over.ensures ∙ c.if-is_over.true) c.go_far-far.ensures.asked (stands c).run.counted_few
+
+-- The watchers can be moved on.
+pub go-requires : goal.go-requires
+go-requires c =
+    (gone_far c.passing_by.result c.loop-machine.machine c.go_far-far.new.self _ c.go_far-far.result.way c.loop-machine.watches
+    (executed c.args.machine.now) c.args.machine.now.glyph c.args.unit (c.args.machine.now.counted + 1)
+    c.passing_by.ensures c.loop-machine.invariant.font c.loop-machine.invariant.glyph c.requires.unit c.loop-machine.invariant.run
+    c.loop-machine.invariant.quiet
+    (omega (
+      arith,
+      c.loop-machine-test.true,
+      c.counted.ensures.counted,
+      c.step_limit-limit.ensures.limit
+          ∙ ap limit_of (c.edition.ensures ∙ c.requires.edition),
+    )) c.go_far-far.ensures.asked).point
 
 pub returns-then-is_over-clause-found : goal.returns-then-is_over-clause-found
 returns-then-is_over-clause-found c =
-    quiet_over (executed c.args.machine.now) c.args.unit c.args.machine.now.glyph (c.args.machine.now.counted + 1) c.go_on.ensures.asked.before c.requires.unit
+    quiet_over (executed c.args.machine.now) c.args.unit c.args.machine.now.glyph (c.args.machine.now.counted + 1) (c.loop-machine.machine.counted + c.go_far-far.ensures.asked.taken) c.requires.unit
     (ended c).over (stands c).quiet
 
 pub returns-then-is_over-clause-counted : goal.returns-then-is_over-clause-counted
@@ -36,10 +67,10 @@ pub returns-then-is_over-clause-run : goal.returns-then-is_over-clause-run
 returns-then-is_over-clause-run c =
     let font = executed c.args.machine.now in
     let glyph = c.args.machine.now.glyph in
-    run_of font glyph c.go_on.new.self c.loop-machine.watches
-    (same_executed c.go_on.new.self c.loop-machine.machine c.go_on.ensures.font c.go_on.ensures.edition ∙ c.loop-machine.invariant.font)
-    (c.go_on.ensures.glyph ∙ c.loop-machine.invariant.glyph) c.requires.run.there
-    (run_over font glyph c.go_on.ensures.asked.before c.go_on.new.self.counted c.loop-machine.watches (ended c).over (ended c).counted_is (stands c).run)
+    run_of font glyph c.go_far-far.new.self c.go.new.self
+    (same_executed c.go_far-far.new.self c.loop-machine.machine c.go_far-far.ensures.font c.go_far-far.ensures.edition ∙ c.loop-machine.invariant.font)
+    (c.go_far-far.ensures.glyph ∙ c.loop-machine.invariant.glyph) c.requires.run.there
+    (run_over font glyph (c.loop-machine.machine.counted + c.go_far-far.ensures.asked.taken) c.go_far-far.new.self.counted c.go.new.self (ended c).over (ended c).counted_is (stands c).run)
 
 -- The step, and that it is the next one for the watchers.
 pub broken_at-rules-requires-clause-next : goal.broken_at-rules-requires-clause-next
@@ -47,9 +78,10 @@ broken_at-rules-requires-clause-next c =
     let font = executed c.args.machine.now in
     let all = steps_of font.value c.args.machine.now.glyph in
     let turn =
-    turn_behind c.numbers_by.result c.loop-machine.machine c.go_on.new.self c.go_on.result c.current-step.result.now c.loop-machine.watches
+    turn_far c.passing_by.result c.loop-machine.machine c.go_far-far.new.self c.go_far-far.result.answer c.go_far-far.result.way c.current-step.result.now
+    c.loop-machine.watches c.go.new.self
     (executed c.args.machine.now) c.args.machine.now.glyph c.args.unit (c.args.machine.now.counted + 1)
-    c.numbers_by.ensures c.loop-machine.invariant.font c.loop-machine.invariant.glyph c.requires.unit c.loop-machine.invariant.run
+    c.passing_by.ensures c.loop-machine.invariant.font c.loop-machine.invariant.glyph c.requires.unit c.loop-machine.invariant.run
     c.loop-machine.invariant.quiet
     (omega (
       arith,
@@ -58,19 +90,20 @@ broken_at-rules-requires-clause-next c =
       c.step_limit-limit.ensures.limit
           ∙ ap limit_of (c.edition.ensures ∙ c.requires.edition),
     ))
-    (sym c.is_over.ensures ∙ c.if-is_over.false) c.current-step.ensures c.go_on.ensures.asked in (
+    (sym c.is_over.ensures ∙ c.if-is_over.false) c.current-step.ensures c.go_far-far.ensures.asked c.go.ensures in (
       take turn.before all,
-      is_next_by c.args.sidebearings.now.edition font.edition c.requires.edition all c.loop-machine.watches turn.before
+      is_next_by c.args.sidebearings.now.edition font.edition c.requires.edition all c.go.new.self turn.before
           c.current-step.result.now turn.told.listed turn.stands.run.seen_are,
     )
 
 -- A rule is broken at it.
 abbrev turn_broken : (c : goal.After-copy_of) → IsTurn (executed c.args.machine.now) c.args.machine.now.glyph c.args.unit (c.args.machine.now.counted + 1)
-    c.loop-machine.machine.counted c.go_on.new.self.counted c.loop-machine.watches c.current-step.result.now
+    c.loop-machine.machine.counted c.go_far-far.new.self.counted c.go.new.self c.current-step.result.now
 turn_broken c =
-    turn_behind c.numbers_by.result c.loop-machine.machine c.go_on.new.self c.go_on.result c.current-step.result.now c.loop-machine.watches
+    turn_far c.passing_by.result c.loop-machine.machine c.go_far-far.new.self c.go_far-far.result.answer c.go_far-far.result.way c.current-step.result.now
+    c.loop-machine.watches c.go.new.self
     (executed c.args.machine.now) c.args.machine.now.glyph c.args.unit (c.args.machine.now.counted + 1)
-    c.numbers_by.ensures c.loop-machine.invariant.font c.loop-machine.invariant.glyph c.requires.unit c.loop-machine.invariant.run
+    c.passing_by.ensures c.loop-machine.invariant.font c.loop-machine.invariant.glyph c.requires.unit c.loop-machine.invariant.run
     c.loop-machine.invariant.quiet
     (omega (
       arith,
@@ -79,7 +112,7 @@ turn_broken c =
       c.step_limit-limit.ensures.limit
           ∙ ap limit_of (c.edition.ensures ∙ c.requires.edition),
     ))
-    (sym c.is_over.ensures ∙ c.if-is_over.false) c.current-step.ensures c.go_on.ensures.asked
+    (sym c.is_over.ensures ∙ c.if-is_over.false) c.current-step.ensures c.go_far-far.ensures.asked c.go.ensures
 
 pub returns-then-has_rules-clause-found : goal.returns-then-has_rules-clause-found
 returns-then-has_rules-clause-found c =
@@ -88,7 +121,7 @@ returns-then-has_rules-clause-found c =
     let turn = turn_broken c in
     let n = turn.before in
     let step = c.current-step.result.now in
-    let next = is_next_by c.args.sidebearings.now.edition font.edition c.requires.edition (steps_of font.value glyph) c.loop-machine.watches n step
+    let next = is_next_by c.args.sidebearings.now.edition font.edition c.requires.edition (steps_of font.value glyph) c.go.new.self n step
     turn.told.listed turn.stands.run.seen_are in
     let agrees = step_agrees font c.args.unit glyph n step c.args.sidebearings.now c.broken_at-rules.result c.requires.unit c.requires.run.there
     turn.told.listed c.requires.sidebearings c.requires.edition
@@ -107,22 +140,23 @@ returns-then-has_rules-clause-run c =
     let turn = turn_broken c in
     let n = turn.before in
     let step = c.current-step.result.now in
-    let next = is_next_by c.args.sidebearings.now.edition font.edition c.requires.edition (steps_of font.value glyph) c.loop-machine.watches n step
+    let next = is_next_by c.args.sidebearings.now.edition font.edition c.requires.edition (steps_of font.value glyph) c.go.new.self n step
     turn.told.listed turn.stands.run.seen_are in
-    run_of font glyph c.go_on.new.self c.broken_at-rules.new.watches
-    (same_executed c.go_on.new.self c.loop-machine.machine c.go_on.ensures.font c.go_on.ensures.edition ∙ c.loop-machine.invariant.font)
-    (c.go_on.ensures.glyph ∙ c.loop-machine.invariant.glyph) c.requires.run.there
-    (run_more font glyph n c.go_on.new.self.counted step c.broken_at-rules.new.watches turn.told
+    run_of font glyph c.go_far-far.new.self c.broken_at-rules.new.watches
+    (same_executed c.go_far-far.new.self c.loop-machine.machine c.go_far-far.ensures.font c.go_far-far.ensures.edition ∙ c.loop-machine.invariant.font)
+    (c.go_far-far.ensures.glyph ∙ c.loop-machine.invariant.glyph) c.requires.run.there
+    (run_more font glyph n c.go_far-far.new.self.counted step c.broken_at-rules.new.watches turn.told
     (subst (λ e. HaveSeen e c.broken_at-rules.new.watches (take n (steps_of font.value glyph) ++ step_view step ∷ [])) c.requires.edition
     (c.broken_at-rules.ensures.seen (take n (steps_of font.value glyph)) next)))
 
 -- No rule is broken at it.
 abbrev turn_quiet : (c : goal.Else-has_rules) → IsTurn (executed c.args.machine.now) c.args.machine.now.glyph c.args.unit (c.args.machine.now.counted + 1)
-    c.loop-machine.machine.counted c.go_on.new.self.counted c.loop-machine.watches c.current-step.result.now
+    c.loop-machine.machine.counted c.go_far-far.new.self.counted c.go.new.self c.current-step.result.now
 turn_quiet c =
-    turn_behind c.numbers_by.result c.loop-machine.machine c.go_on.new.self c.go_on.result c.current-step.result.now c.loop-machine.watches
+    turn_far c.passing_by.result c.loop-machine.machine c.go_far-far.new.self c.go_far-far.result.answer c.go_far-far.result.way c.current-step.result.now
+    c.loop-machine.watches c.go.new.self
     (executed c.args.machine.now) c.args.machine.now.glyph c.args.unit (c.args.machine.now.counted + 1)
-    c.numbers_by.ensures c.loop-machine.invariant.font c.loop-machine.invariant.glyph c.requires.unit c.loop-machine.invariant.run
+    c.passing_by.ensures c.loop-machine.invariant.font c.loop-machine.invariant.glyph c.requires.unit c.loop-machine.invariant.run
     c.loop-machine.invariant.quiet
     (omega (
       arith,
@@ -131,12 +165,12 @@ turn_quiet c =
       c.step_limit-limit.ensures.limit
           ∙ ap limit_of (c.edition.ensures ∙ c.requires.edition),
     ))
-    (sym c.is_over.ensures ∙ c.if-is_over.false) c.current-step.ensures c.go_on.ensures.asked
+    (sym c.is_over.ensures ∙ c.if-is_over.false) c.current-step.ensures c.go_far-far.ensures.asked c.go.ensures
 
 pub loop-machine-smaller : goal.loop-machine-smaller
 loop-machine-smaller c =
     fewer_turns_left (executed c.args.machine.now) c.args.machine.now.glyph c.args.unit (c.args.machine.now.counted + 1) c.loop-machine.machine.counted
-    c.go_on.new.self.counted c.loop-machine.watches c.current-step.result.now (turn_quiet c)
+    c.go_far-far.new.self.counted c.go.new.self c.current-step.result.now (turn_quiet c)
     (omega (
       arith,
       c.loop-machine-test.true,
@@ -152,16 +186,16 @@ loop-machine-preserved c =
     let turn = turn_quiet c in
     let n = turn.before in
     let step = c.current-step.result.now in
-    let next = is_next_by c.args.sidebearings.now.edition font.edition c.requires.edition (steps_of font.value glyph) c.loop-machine.watches n step
+    let next = is_next_by c.args.sidebearings.now.edition font.edition c.requires.edition (steps_of font.value glyph) c.go.new.self n step
     turn.told.listed turn.stands.run.seen_are in
     let agrees = step_agrees font c.args.unit glyph n step c.args.sidebearings.now c.broken_at-rules.result c.requires.unit c.requires.run.there
     turn.told.listed c.requires.sidebearings c.requires.edition
     (λ k. c.broken_at-rules.ensures.broken (take n (steps_of font.value glyph)) next k) in
-    let of_font = same_executed c.go_on.new.self c.loop-machine.machine c.go_on.ensures.font c.go_on.ensures.edition ∙ c.loop-machine.invariant.font in
-    let of_glyph = c.go_on.ensures.glyph ∙ c.loop-machine.invariant.glyph in
+    let of_font = same_executed c.go_far-far.new.self c.loop-machine.machine c.go_far-far.ensures.font c.go_far-far.ensures.edition ∙ c.loop-machine.invariant.font in
+    let of_glyph = c.go_far-far.ensures.glyph ∙ c.loop-machine.invariant.glyph in
     record {
-      run = run_of font glyph c.go_on.new.self c.broken_at-rules.new.watches of_font of_glyph c.requires.run.there
-          (run_more font glyph n c.go_on.new.self.counted step c.broken_at-rules.new.watches turn.told
+      run = run_of font glyph c.go_far-far.new.self c.broken_at-rules.new.watches of_font of_glyph c.requires.run.there
+          (run_more font glyph n c.go_far-far.new.self.counted step c.broken_at-rules.new.watches turn.told
           (subst (λ e. HaveSeen e c.broken_at-rules.new.watches (take n (steps_of font.value glyph) ++ step_view step ∷ [])) c.requires.edition
           (c.broken_at-rules.ensures.seen (take n (steps_of font.value glyph)) next)));
       font = of_font;

@@ -1,0 +1,192 @@
+-- Numbers and lines that are taken one after another.
+use Rattle.std.proofs.Common.{◌≡◌, inl, inr, ℕ, zero, suc, ℤ, ◌+◌, ◌-◌, ◌<◌, ◌≤◌, Bool, true, false, Option, Some, None, if◌then◌else◌, List, [], ◌∷◌, length, take, length-take, refl, sym, ap, subst, ◌∙◌, arith}
+use Rattle.std.proofs.lemmas.Int.{ints}
+use Rattle.t1_char.specs.declared.command.Command.{Command as Commands}
+use Rattle.t1_char.specs.declared.command.Command.TheVariants.{Rlineto, Hlineto, Vlineto, Rrcurveto, Vhcurveto, Hvcurveto, Closepath}
+use Rattle.t1_char.specs.declared.cursor.Cursor.{Cursor}
+use Rattle.t1_char.specs.declared.cursor.Enciphered.{Enciphered}
+use Rattle.t1_char.specs.declared.lines.Way.{Way}
+use Rattle.t1_char.specs.declared.taking.Lines.{Lines}
+use Rattle.t1_char.specs.declared.taking.Stop.{Stop}
+use Rattle.t1_char.specs.declared.token.CharToken.TheVariants.{Command, Short}
+use Rattle.t1_char.specs.Lines.{ClosesPath, IsWayNear, further, is_closed, is_line_command, no_way}
+use Rattle.t1_char.specs.Stacks.{most_numbers}
+use Rattle.t1_char.specs.Tokens.{more_of, token_at, tokens_behind, tokens_of}
+use Rattle.t1_char.specs.Private.Cursors.{AtFirst, bytes_left, cursor_of, tokens_left}
+use Rattle.t1_char.specs.Private.Plain.{IsPlainEffect}
+use Rattle.t1_char.specs.Private.Taking.{Finishes, IsLineFirst, IsTakingLines, IsTokenRead, PassesCommand, PassesNumbers, PassesOne, PassesRow, StopsAt, Takes, TakesLines, closepath_byte, left_of, lines_cursor, stop_cursor}
+
+near_none : IsWayNear 0 no_way
+near_none = record {
+  x = record { low = omega (arith, ints); high = omega (arith, ints) };
+  y = record { low = omega (arith, ints); high = omega (arith, ints) };
+}
+
+pub path_none : (room : ℕ) (ahead : Enciphered) → most_numbers ≤ room
+    → IsTakingLines room ahead [] [] 0 (cursor_of ahead) no_way × (0 + most_numbers ≤ room)
+path_none room ahead enough = (
+  record { passes = (refl, (refl, refl)); near = near_none; room_is = omega arith; short = refl; unclosed = refl },
+  omega (arith, enough),
+)
+
+row_numbers : (lines : Bool) (n k : ℕ) (a m b : Cursor) (s t u : List ℤ) (way : Way) → PassesRow lines n a m s t way → PassesNumbers k m b t u
+    → PassesRow lines (n + k) a b s u way
+row_numbers lines n zero a m b s t u way row passes =
+    let same : n ≡ n + 0 = omega arith in
+    subst (λ i. PassesRow lines i a b s u way) same
+    (subst (λ x. PassesRow lines n a x s u way) (sym passes.0)
+    (subst (λ x. PassesRow lines n a m s x way) (sym passes.1) row))
+row_numbers lines n (suc k) a m b s t u way row passes =
+    let so_far : PassesRow lines (n + k) a passes.0 s passes.1.0 way = row_numbers lines n k a m passes.0 s t passes.1.0 way row passes.1.1.0 in
+    let one : PassesOne lines passes.0 b passes.1.0 u way way = inl (passes.1.1.1, refl) in
+    let same : suc (n + k) ≡ n + suc k = omega arith in
+    subst (λ i. PassesRow lines i a b s u way) same (row_one lines (n + k) a passes.0 b s passes.1.0 u way way so_far one)
+  where
+    row_one : (lines : Bool) (n : ℕ) (a m b : Cursor) (s t u : List ℤ) (before way : Way) → PassesRow lines n a m s t before
+        → PassesOne lines m b t u before way → PassesRow lines (suc n) a b s u way
+    row_one lines n a m b s t u before way row one = (m, (t, (before, (row, one))))
+
+near_more : (n k : ℕ) (way : Way) → IsWayNear n way → IsWayNear (n + k) way
+near_more n k way near = record {
+  x = record { low = omega (arith, ints, near.x.low); high = omega (arith, ints, near.x.high) };
+  y = record { low = omega (arith, ints, near.y.low); high = omega (arith, ints, near.y.high) };
+}
+
+pub path_numbers : (room : ℕ) (ahead left : Enciphered) (new : List ℤ) (passed : ℕ) (way : Way) (stop : Stop)
+    → IsTakingLines room ahead [] [] passed (cursor_of left) way → passed + most_numbers ≤ room → (takes : Takes left [] new stop)
+    → stop.len ≡ length new → stop.len ≤ most_numbers → IsTakingLines room ahead [] new (passed + stop.len) takes.before way
+path_numbers room ahead left new passed way stop so_far enough takes is few =
+    let count : takes.count ≡ stop.len = omega (arith, takes.more, is) in
+    record {
+      passes = subst (λ k. PassesRow true (passed + k) (cursor_of ahead) takes.before [] new way) count
+          (row_numbers true passed takes.count (cursor_of ahead) (cursor_of left) takes.before [] [] new way so_far.passes takes.passes);
+      near = near_more passed stop.len way so_far.near;
+      room_is = omega (arith, enough, few);
+      short = takes.near refl;
+      unclosed = so_far.unclosed;
+    }
+
+-- A line empties the stack.
+line_effect : (command : Commands) → is_line_command command ≡ true → (old : List ℤ) → IsPlainEffect (Command command) old []
+line_effect Rlineto is old = λ named depth waiting. refl
+line_effect Hlineto is old = λ named depth waiting. refl
+line_effect Vlineto is old = λ named depth waiting. refl
+line_effect Rrcurveto is old = λ named depth waiting. refl
+line_effect Vhcurveto is old = λ named depth waiting. refl
+line_effect Hvcurveto is old = λ named depth waiting. refl
+line_effect _ is old = let no : false ≡ true = is in cc
+
+-- The token of a first byte that alone writes it.
+first_token : (first : ℕ) (before ahead : Cursor) → AtFirst first before ahead → more_of first ≡ 0
+    → tokens_left before ≡ token_at first (bytes_left ahead) ∷ tokens_left ahead
+unfolding tokens_behind
+first_token first before ahead at none =
+    ap (λ b. if b then Short ∷ tokens_of (bytes_left before) else tokens_of (bytes_left before)) at.before_short
+    ∙ ap tokens_of at.bytes
+    ∙ ap (λ n. token_at first (bytes_left ahead) ∷ tokens_behind n (bytes_left ahead)) none
+    ∙ ap (λ b. token_at first (bytes_left ahead) ∷ (if b then Short ∷ tokens_of (bytes_left ahead) else tokens_of (bytes_left ahead))) (sym at.behind_short)
+
+line_read : (first : Option ℕ) (before ahead : Cursor) (numbers : List ℤ) (so_far one way : Way) → StopsAt first before ahead
+    → IsLineFirst first numbers one → is_closed so_far.drawn ≡ false → way ≡ further so_far one → PassesCommand before ahead numbers [] so_far way
+line_read None before ahead numbers so_far one way at line unclosed is = absurd line
+line_read (Some first) before ahead numbers so_far one way at line unclosed is =
+    let this = line.0 (bytes_left ahead) in
+    record {
+      command = this.command;
+      token = first_token first before ahead at line.1 ∙ ap (λ t. t ∷ tokens_left ahead) this.token_is;
+      plain = line_effect this.command this.is.line numbers;
+      goes_on = inl (record { is = this.is; unclosed = unclosed; way = is ∙ ap (further so_far) this.way_is });
+    }
+
+-- A closepath right after a line.
+close_read : (before ahead : Cursor) (numbers : List ℤ) (so_far way : Way) → AtFirst closepath_byte before ahead → ClosesPath Closepath numbers so_far way
+    → PassesCommand before ahead numbers [] so_far way
+close_read before ahead numbers so_far way at close = record {
+  command = Closepath;
+  token = first_token closepath_byte before ahead at refl;
+  plain = λ named depth waiting. refl;
+  goes_on = inr close;
+}
+
+row_more : (n : ℕ) (a m b : Cursor) (s t u : List ℤ) (before way : Way) → PassesRow true n a m s t before
+    → PassesCommand m b t u before way → PassesRow true (suc n) a b s u way
+row_more n a m b s t u before way row one = (m, (t, (before, (row, inr (refl, one)))))
+
+pub path_line : (room : ℕ) (ahead : Enciphered) (numbers : List ℤ) (passed : ℕ) (before : Cursor) (so_far one way : Way) (stop : Stop)
+    → IsTakingLines room ahead [] numbers passed before so_far → StopsAt stop.first before (stop_cursor stop) → IsLineFirst stop.first numbers one
+    → way ≡ further so_far one → IsWayNear (passed + 1) way → most_numbers < room - passed
+    → IsTakingLines room ahead [] [] (passed + 1) (cursor_of (left_of stop.left stop.cipher)) way × (passed + 1 + most_numbers ≤ room)
+path_line room ahead numbers passed before so_far one way stop round at line is near enough =
+    let same : suc passed ≡ passed + 1 = omega arith in (
+      record {
+        passes = subst (λ n. PassesRow true n (cursor_of ahead) (stop_cursor stop) [] [] way) same
+            (row_more passed (cursor_of ahead) before (stop_cursor stop) [] numbers [] so_far way round.passes
+            (line_read stop.first before (stop_cursor stop) numbers so_far one way at line round.unclosed is));
+        near = near;
+        room_is = omega (arith, enough);
+        short = refl;
+        unclosed = ap (λ w. is_closed w.drawn) is;
+      },
+      omega (arith, enough),
+    )
+
+-- The path ends at the next token, or after a closepath.
+pub path_all : (room : ℕ) (ahead : Enciphered) (cells numbers : List ℤ) (passed : ℕ) (before : Cursor) (way : Way) (stop : Stop) (lines : Lines)
+    → IsTakingLines room ahead [] numbers passed before way → StopsAt stop.first before (stop_cursor stop) → numbers ≡ take stop.len cells
+    → Finishes stop passed way lines → TakesLines true ahead [] (take lines.len cells) lines
+path_all room ahead cells numbers passed before way stop lines round at is (inl there) =
+    record {
+      before = before;
+      passes = subst (λ n. PassesRow true lines.passed (cursor_of ahead) before [] (take n cells) lines.way) (sym there.len)
+          (subst (λ ns. PassesRow true lines.passed (cursor_of ahead) before [] ns lines.way) is
+          (subst (λ n. PassesRow true n (cursor_of ahead) before [] numbers lines.way) (sym there.passed_is)
+          (subst (λ w. PassesRow true passed (cursor_of ahead) before [] numbers w) (sym there.way_is) round.passes)));
+      token = there.token before at;
+    }
+path_all room ahead cells numbers passed before way stop lines round at is (inr behind) =
+    let none : numbers ≡ [] = is ∙ ap (λ n. take n cells) behind.alone in
+    let first : AtFirst closepath_byte before (stop_cursor stop) = subst (λ f. StopsAt f before (stop_cursor stop)) behind.first at in
+    let close : ClosesPath Closepath numbers way lines.way =
+    record { closes = refl; alone = none; drawn = behind.drawn; way = behind.way_is } in
+    let count : suc passed ≡ lines.passed = omega (arith, behind.passed_is) in
+    record {
+      before = stop_cursor stop;
+      passes = subst (λ n. PassesRow true lines.passed (cursor_of ahead) (stop_cursor stop) [] (take n cells) lines.way) (sym behind.len)
+          (subst (λ n. PassesRow true n (cursor_of ahead) (stop_cursor stop) [] [] lines.way) count
+          (row_more passed (cursor_of ahead) before (stop_cursor stop) [] numbers [] way lines.way round.passes
+          (close_read before (stop_cursor stop) numbers way lines.way first close)));
+      token = behind.token;
+    }
+
+-- No more than there is room for.
+pub path_near : (room passed : ℕ) (way : Way) (stop : Stop) (lines : Lines) → passed ≤ room → (stop.len ≡ 0 → passed < room)
+    → Finishes stop passed way lines → lines.passed ≤ room
+path_near room passed way stop lines near less (inl there) = omega (arith, near, there.passed_is)
+path_near room passed way stop lines near less (inr behind) = omega (arith, less behind.alone, behind.passed_is)
+
+pub path_few : (passed : ℕ) (way : Way) (stop : Stop) (lines : Lines) → stop.len ≤ most_numbers → Finishes stop passed way lines
+    → lines.len ≤ most_numbers
+path_few passed way stop lines few (inl there) = omega (arith, few, there.len)
+path_few passed way stop lines few (inr behind) = omega (arith, behind.len)
+
+pub path_len : (passed : ℕ) (way : Way) (stop : Stop) (lines : Lines) (cells : List ℤ) → stop.len ≡ length (take stop.len cells)
+    → Finishes stop passed way lines → lines.len ≡ length (take lines.len cells)
+path_len passed way stop lines cells is (inl there) = subst (λ n. n ≡ length (take n cells)) (sym there.len) is
+path_len passed way stop lines cells is (inr behind) = subst (λ n. n ≡ length (take n cells)) (sym behind.len) refl
+
+-- Numbers alone.
+pub front_all : (lines : Bool) (ahead : Enciphered) (old new : List ℤ) (at : Stop) (stop : Lines) → (takes : Takes ahead old new at)
+    → stop.passed ≡ takes.count → stop.way ≡ no_way → IsTokenRead stop.token takes.before (lines_cursor stop) → TakesLines lines ahead old new stop
+front_all lines ahead old new at stop takes passed_is way_is read =
+    let none : 0 + takes.count ≡ takes.count = omega arith in
+    record {
+      before = takes.before;
+      passes = subst (λ n. PassesRow lines n (cursor_of ahead) takes.before old new stop.way) (sym passed_is)
+          (subst (λ w. PassesRow lines takes.count (cursor_of ahead) takes.before old new w) (sym way_is)
+          (subst (λ n. PassesRow lines n (cursor_of ahead) takes.before old new no_way) none
+          (row_numbers lines 0 takes.count (cursor_of ahead) (cursor_of ahead) takes.before old old new no_way (refl, (refl, refl)) takes.passes)));
+      token = read;
+    }
+
+pub front_count : (cells : List ℤ) (len : ℕ) → length cells ≡ most_numbers → len ≤ most_numbers → length (take len cells) ≡ len
+front_count cells len long few = omega (arith, long, few, length-take len cells)

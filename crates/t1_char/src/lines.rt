@@ -1,0 +1,231 @@
+//! Lines, curves and closepaths that a machine passes: Type 1 Font Format 1.1, chapter 6.
+
+ghost use Rattle.std.specs.Prelude.{◌≡◌, ◌+ℤ◌, ◌+◌, ◌<◌, ℕ, List, false, true, IfSome};
+ghost use Rattle.std.specs.List.{list_any};
+ghost use Rattle.t1_char.specs.declared.lines.Drawn.TheVariants.{Open};
+ghost use Rattle.t1_char.specs.declared.lines.Passing.TheVariants.{Told};
+ghost use Rattle.t1_char.specs.Arguments.{argument};
+ghost use Rattle.t1_char.specs.Tokens.{more_of, token_at};
+ghost use Rattle.t1_char.specs.Private.Taking.{IsLineOf};
+ghost use Rattle.t1_char.specs.Private.Sums.{SumFits};
+ghost use Rattle.t1_char.specs.Lines.{IsLine, IsWayNear, IsWithin, argument_reach, is_line_command, is_lines, way_reach, closed, further, is_far, way_at, way_by};
+
+use crate::command::Command;
+
+/// What becomes of the steps that come next.
+#[derive(Clone, Copy)]
+pub enum Passing {
+    /// Each is told: the machine returns at it.
+    Told,
+    /// The machine passes numbers that the stack has room for.
+    Numbers,
+    /// And lines and curves with exactly their arguments, none past 32000, and a closepath right after these.
+    Lines,
+}
+
+/// Whether lines are passed.
+#[inline(always)]
+pub(crate) fn is_lines(passing: Passing) -> bool
+    ensures { result ≡ is_lines passing }
+{
+    matches!(passing, Passing::Lines)
+}
+
+/// Whether steps are passed.
+#[inline(always)]
+pub(crate) fn is_any(passing: Passing) -> bool
+    ensures { result ≡ true → passing ≡ Told → ⊥ }
+{
+    !matches!(passing, Passing::Told)
+}
+
+/// What steps draw of a path.
+#[derive(Clone, Copy, Debug, PartialEq, Eq)]
+pub enum Drawn {
+    Nothing,
+    /// Lines and curves.
+    Open,
+    /// Lines and curves, and the closepath after them.
+    Closed,
+}
+
+/// How far steps lead together, in units of 1/65536, and what they draw.
+#[derive(Clone, Copy, Debug, PartialEq, Eq)]
+pub struct Way {
+    pub x: i64,
+    pub y: i64,
+    pub drawn: Drawn,
+}
+
+impl Way {
+    /// The way of no step.
+    pub(crate) const NONE: Way = Way {
+        x: 0,
+        y: 0,
+        drawn: Drawn::Nothing,
+    };
+
+    /// Returns this way with a line after it.
+    #[inline(always)]
+    pub(crate) fn further(self, other: Way, count: u32) -> Way
+        requires few { count < 16777216 }
+        requires near { IsWayNear count self }
+        requires one { IsWayNear 1 other }
+        ensures value { result ≡ further self other }
+        ensures near { IsWayNear (count + 1) result }
+    {
+        Way {
+            x: sum(self.x, other.x),
+            y: sum(self.y, other.y),
+            drawn: Drawn::Open,
+        }
+    }
+
+    /// Whether a line was drawn, and not closed.
+    #[inline(always)]
+    pub(crate) fn is_open(self) -> bool
+        ensures { result ≡ true → self.drawn ≡ Open }
+    {
+        matches!(self.drawn, Drawn::Open)
+    }
+
+    /// Returns this way with a closepath after it.
+    #[inline(always)]
+    pub(crate) fn closed(self) -> Way
+        ensures { result ≡ closed self }
+    {
+        Way {
+            x: self.x,
+            y: self.y,
+            drawn: Drawn::Closed,
+        }
+    }
+}
+
+/// How far the line or the curve leads that a byte alone writes, if it has just its arguments.
+#[inline(always)]
+pub(crate) fn line_at(first: u8, numbers: &[i64]) -> Option<Way>
+    requires { list_any is_far numbers.now ≡ false }
+    ensures line { IfSome result (λ way. (rest : List ℕ) → IsLineOf (token_at first rest) numbers.now way) }
+    ensures more { IfSome result (λ way. more_of first ≡ 0) }
+    ensures near { IfSome result (λ way. IsWayNear 1 way) }
+{
+    match first {
+        5 => line_way(Command::Rlineto, numbers),
+        6 => line_way(Command::Hlineto, numbers),
+        7 => line_way(Command::Vlineto, numbers),
+        8 => line_way(Command::Rrcurveto, numbers),
+        30 => line_way(Command::Vhcurveto, numbers),
+        31 => line_way(Command::Hvcurveto, numbers),
+        _ => None,
+    }
+}
+
+/// How far a line or a curve leads, if it has just its arguments.
+#[inline(always)]
+fn line_way(command: Command, numbers: &[i64]) -> Option<Way>
+    requires { list_any is_far numbers.now ≡ false }
+    ensures line { IfSome result (λ way. IsLine command numbers.now) }
+    ensures value { IfSome result (λ way. way ≡ way_by command numbers.now) }
+    ensures near { IfSome result (λ way. IsWayNear 1 way) }
+{
+    match command {
+        Command::Rlineto if has_just_its_arguments(Command::Rlineto, numbers) => {
+            Some(way_at(one(numbers, 0), one(numbers, 1)))
+        }
+        Command::Hlineto if has_just_its_arguments(Command::Hlineto, numbers) => {
+            Some(way_at(one(numbers, 0), 0))
+        }
+        Command::Vlineto if has_just_its_arguments(Command::Vlineto, numbers) => {
+            Some(way_at(0, one(numbers, 0)))
+        }
+        Command::Vhcurveto if has_just_its_arguments(Command::Vhcurveto, numbers) => {
+            Some(way_at(two(numbers, 1, 3), two(numbers, 0, 2)))
+        }
+        Command::Hvcurveto if has_just_its_arguments(Command::Hvcurveto, numbers) => {
+            Some(way_at(two(numbers, 0, 1), two(numbers, 2, 3)))
+        }
+        Command::Rrcurveto if has_just_its_arguments(Command::Rrcurveto, numbers) => {
+            Some(way_at(three(numbers, 0, 2, 4), three(numbers, 1, 3, 5)))
+        }
+        _ => None,
+    }
+}
+
+#[inline(always)]
+fn way_at(x: i64, y: i64) -> Way
+    requires x { IsWithin way_reach x }
+    requires y { IsWithin way_reach y }
+    ensures value { result ≡ way_at x y }
+    ensures near { IsWayNear 1 result }
+{
+    Way {
+        x,
+        y,
+        drawn: Drawn::Open,
+    }
+}
+
+#[inline(always)]
+fn sum(one: i64, other: i64) -> i64
+    requires { SumFits one other }
+    ensures { result ≡ one +ℤ other }
+{
+    one + other
+}
+
+/// An argument: it needs not be kept within -32000 to 32000.
+#[inline(always)]
+#[tactic(auto, using(crate::proofs::NearNumbers::argument_is, crate::proofs::NearNumbers::argument_within))]
+fn argument(numbers: &[i64], place: usize) -> i64
+    requires { list_any is_far numbers.now ≡ false }
+    ensures value { result ≡ argument numbers.now place }
+    ensures within { IsWithin argument_reach result }
+{
+    match numbers.get(place) {
+        Some(number) => *number,
+        None => 0,
+    }
+}
+
+#[inline(always)]
+fn one(numbers: &[i64], place: usize) -> i64
+    requires { list_any is_far numbers.now ≡ false }
+    ensures value { result ≡ argument numbers.now place }
+    ensures within { IsWithin way_reach result }
+{
+    argument(numbers, place)
+}
+
+#[inline(always)]
+fn two(numbers: &[i64], one: usize, other: usize) -> i64
+    requires { list_any is_far numbers.now ≡ false }
+    ensures value { result ≡ argument numbers.now one +ℤ argument numbers.now other }
+    ensures within { IsWithin way_reach result }
+{
+    sum(argument(numbers, one), argument(numbers, other))
+}
+
+#[inline(always)]
+fn three(numbers: &[i64], one: usize, two: usize, three: usize) -> i64
+    requires { list_any is_far numbers.now ≡ false }
+    ensures value { result ≡ argument numbers.now one +ℤ argument numbers.now two +ℤ argument numbers.now three }
+    ensures within { IsWithin way_reach result }
+{
+    sum(
+        sum(argument(numbers, one), argument(numbers, two)),
+        argument(numbers, three),
+    )
+}
+
+/// Whether a line or a curve takes exactly so many numbers.
+#[inline(always)]
+fn has_just_its_arguments(command: Command, numbers: &[i64]) -> bool
+    requires { list_any is_far numbers.now ≡ false }
+    ensures { result ≡ true → is_line_command command ≡ true → IsLine command numbers.now }
+{
+    match command.arguments() {
+        Some(count) => usize::from(count) == numbers.len(),
+        None => false,
+    }
+}

@@ -1,0 +1,298 @@
+//! Numbers and lines that are taken from a charstring in a row: Type 1 Font Format 1.1, chapter 6. What is left of the
+//! charstring is copied field by field, so that it stays in registers.
+
+ghost use Rattle.std.specs.Prelude.{◌≡◌, ◌+◌, ◌<◌, ◌≤◌, [], Bool, IfSome, false, length, take, true, Some};
+ghost use Rattle.std.specs.List.{list_any};
+ghost use Rattle.t1_char.specs.Lines.{IsWayNear, IsWithin, is_far};
+ghost use Rattle.t1_char.specs.Numbers.{units};
+ghost use Rattle.t1_char.specs.Stacks.{most_numbers, put};
+ghost use Rattle.t1_char.specs.Private.Cursors.{cursor_of};
+ghost use Rattle.t1_char.specs.Private.Taking.{Finishes, IsLineFirst, IsTokenRead, StopsAt, Takes, TakesLines, closepath_byte, lines_cursor, stop_cursor};
+ghost use Rattle.t1_char.specs.declared.cursor.Cursor.{Cursor};
+
+use crate::cursor::Enciphered;
+use crate::lines::{Way, line_at};
+use crate::numbers::UNIT;
+use crate::stack::MOST_NUMBERS;
+use crate::token::CharToken;
+use t1_seal::Cipher;
+
+/// The byte that writes closepath.
+const CLOSEPATH: u8 = 9;
+
+/// Where numbers were no longer taken.
+#[derive(Clone, Copy)]
+pub(crate) struct Stop<'a> {
+    /// What is left after the first byte of the next token, or nothing.
+    pub(crate) left: &'a [u8],
+    pub(crate) cipher: Cipher,
+    /// That byte, unless the charstring ends.
+    pub(crate) first: Option<u8>,
+    /// How many numbers there are then.
+    pub(crate) len: usize,
+}
+
+/// Puts the numbers that come next after the first `len` ones, as long as there is room.
+#[inline(always)]
+pub(crate) fn take_numbers<'a>(
+    cells: &mut [i64; MOST_NUMBERS],
+    len: usize,
+    ahead: Enciphered<'a>,
+) -> Stop<'a>
+    requires { len ≤ most_numbers }
+    ensures takes { Takes ahead.entry (take len cells.old) (take result.len cells.new) result }
+    ensures room { result.len ≤ most_numbers }
+    ensures len { result.len ≡ length (take result.len cells.new) }
+{
+    let mut len = len;
+    let mut ahead = Enciphered {
+        left: ahead.left,
+        cipher: ahead.cipher,
+    };
+    loop {
+        let mut behind = Enciphered {
+            left: ahead.left,
+            cipher: ahead.cipher,
+        };
+        match behind.next_byte() {
+            None => {
+                return Stop {
+                    left: ahead.left,
+                    cipher: ahead.cipher,
+                    first: None,
+                    len,
+                };
+            }
+            Some(first) => {
+                let left = behind.left;
+                let cipher = behind.cipher;
+                if len >= MOST_NUMBERS {
+                    return Stop {
+                        left,
+                        cipher,
+                        first: Some(first),
+                        len,
+                    };
+                }
+                match behind.number_behind(first) {
+                    None => {
+                        return Stop {
+                            left,
+                            cipher,
+                            first: Some(first),
+                            len,
+                        };
+                    }
+                    Some(number) => put_in(cells, len, number),
+                }
+                len += 1;
+                ahead = Enciphered {
+                    left: behind.left,
+                    cipher: behind.cipher,
+                };
+            }
+        }
+    }
+}
+
+/// What comes after what was taken.
+#[derive(Clone, Copy)]
+pub(crate) enum Next {
+    Token(CharToken),
+    /// 255; the number of four bytes after it isn't read yet.
+    Long,
+    End,
+}
+
+/// What was taken, up to a token.
+#[derive(Clone, Copy)]
+pub(crate) struct Lines<'a> {
+    /// What is left after the token.
+    pub(crate) left: &'a [u8],
+    pub(crate) cipher: Cipher,
+    pub(crate) token: Next,
+    /// How many numbers there are then.
+    pub(crate) len: usize,
+    /// How many steps were taken.
+    pub(crate) passed: u32,
+    /// How far they lead.
+    pub(crate) way: Way,
+}
+
+/// Takes the numbers that come next, as long as there is room, and with `lines` the lines and curves after them, as long as
+/// there is room for a full stack of steps more.
+#[inline(always)]
+pub(crate) fn take_lines<'a>(
+    cells: &mut [i64; MOST_NUMBERS],
+    len: usize,
+    ahead: Enciphered<'a>,
+    room: u32,
+    lines: bool,
+) -> Lines<'a>
+    requires few { len ≤ most_numbers }
+    requires room { most_numbers ≤ room }
+    requires limited { room < 16777216 }
+    ensures takes { TakesLines lines ahead.entry (take len cells.old) (take result.len cells.new) result }
+    ensures few { result.len ≤ most_numbers }
+    ensures len { result.len ≡ length (take result.len cells.new) }
+    ensures near { result.passed ≤ room }
+{
+    if lines && len == 0 {
+        take_path(cells, ahead, room)
+    } else {
+        take_front(cells, len, ahead)
+    }
+}
+
+/// Takes numbers alone.
+#[inline(always)]
+fn take_front<'a>(cells: &mut [i64; MOST_NUMBERS], len: usize, ahead: Enciphered<'a>) -> Lines<'a>
+    requires few { len ≤ most_numbers }
+    ensures takes { (lines : Bool) → TakesLines lines ahead.entry (take len cells.old) (take result.len cells.new) result }
+    ensures few { result.len ≤ most_numbers }
+    ensures len { result.len ≡ length (take result.len cells.new) }
+    ensures near { result.passed ≤ most_numbers }
+{
+    let stop = take_numbers(cells, len, ahead);
+    let passed = (stop.len - len) as u32;
+    finish(stop, passed, Way::NONE)
+}
+
+/// Takes lines and curves with the numbers before them, as long as there is room for a full stack of steps more, and the
+/// closepath after them.
+#[inline(always)]
+fn take_path<'a>(cells: &mut [i64; MOST_NUMBERS], ahead: Enciphered<'a>, room: u32) -> Lines<'a>
+    requires room { most_numbers ≤ room }
+    requires limited { room < 16777216 }
+    ensures takes { TakesLines true ahead.entry [] (take result.len cells.new) result }
+    ensures few { result.len ≤ most_numbers }
+    ensures len { result.len ≡ length (take result.len cells.new) }
+    ensures near { result.passed ≤ room }
+{
+    let mut ahead = Enciphered {
+        left: ahead.left,
+        cipher: ahead.cipher,
+    };
+    let mut passed = 0;
+    let mut way = Way::NONE;
+    loop {
+        let stop = take_numbers(cells, 0, ahead);
+        passed += stop.len as u32;
+        match line_of(stop.first, &cells[..stop.len]) {
+            Some(one) if room - passed > MOST_NUMBERS as u32 => {
+                way = way.further(one, passed);
+                passed += 1;
+                ahead = Enciphered {
+                    left: stop.left,
+                    cipher: stop.cipher,
+                };
+            }
+            _ => return finish_path(stop, passed, way),
+        }
+    }
+}
+
+/// Takes a closepath that comes right after a line, and reads the next token.
+#[inline(always)]
+fn finish_path<'a>(stop: Stop<'a>, passed: u32, way: Way) -> Lines<'a>
+    requires { passed < 16777216 }
+    ensures { Finishes stop.entry passed way result }
+{
+    if way.is_open() && is_closepath(stop.first) && stop.len == 0 {
+        let behind = stop_at(Enciphered {
+            left: stop.left,
+            cipher: stop.cipher,
+        });
+        finish(behind, passed + 1, way.closed())
+    } else {
+        finish(stop, passed, way)
+    }
+}
+
+/// Whether it is the byte that writes closepath.
+#[inline(always)]
+fn is_closepath(first: Option<u8>) -> bool
+    ensures { result ≡ true → first ≡ Some closepath_byte }
+{
+    match first {
+        Some(first) => first == CLOSEPATH,
+        None => false,
+    }
+}
+
+/// Reads the first byte of the next token.
+#[inline(always)]
+fn stop_at<'a>(ahead: Enciphered<'a>) -> Stop<'a>
+    ensures first { StopsAt result.first (cursor_of ahead.entry) (stop_cursor result) }
+    ensures len { result.len ≡ 0 }
+{
+    let mut behind = Enciphered {
+        left: ahead.left,
+        cipher: ahead.cipher,
+    };
+    match behind.next_byte() {
+        None => Stop {
+            left: ahead.left,
+            cipher: ahead.cipher,
+            first: None,
+            len: 0,
+        },
+        Some(first) => Stop {
+            left: behind.left,
+            cipher: behind.cipher,
+            first: Some(first),
+            len: 0,
+        },
+    }
+}
+
+/// How far the line leads that has this first byte, if there is one.
+#[inline(always)]
+fn line_of(first: Option<u8>, numbers: &[i64]) -> Option<Way>
+    requires { list_any is_far numbers.now ≡ false }
+    ensures line { IfSome result (λ way. IsLineFirst first numbers.now way) }
+    ensures near { IfSome result (λ way. IsWayNear 1 way) }
+{
+    match first {
+        Some(first) => line_at(first, numbers),
+        None => None,
+    }
+}
+
+/// Reads the token of the first byte, if it isn't 255.
+#[inline(always)]
+fn finish<'a>(stop: Stop<'a>, passed: u32, way: Way) -> Lines<'a>
+    ensures token { (before : Cursor) → StopsAt stop.entry.first before (stop_cursor stop.entry) →
+        IsTokenRead result.token before (lines_cursor result) }
+    ensures len { result.len ≡ stop.entry.len }
+    ensures passed { result.passed ≡ passed }
+    ensures way { result.way ≡ way }
+{
+    let mut ahead = Enciphered {
+        left: stop.left,
+        cipher: stop.cipher,
+    };
+    let token = match stop.first {
+        None => Next::End,
+        Some(255) => Next::Long,
+        Some(first) => Next::Token(ahead.token_from(first)),
+    };
+    Lines {
+        left: ahead.left,
+        cipher: ahead.cipher,
+        token,
+        len: stop.len,
+        passed,
+        way,
+    }
+}
+
+/// Puts a number after the first `len` ones.
+#[inline(always)]
+fn put_in(cells: &mut [i64; MOST_NUMBERS], len: usize, number: i64)
+    requires len { len < most_numbers }
+    requires short { IsWithin 1131 number }
+    ensures { take (len + 1) cells.new ≡ put (take len cells.old) (units number) }
+{
+    cells[len] = number * UNIT;
+}

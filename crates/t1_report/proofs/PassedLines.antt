@@ -1,0 +1,378 @@
+-- Numbers, lines and closepaths that a machine passes, while the watchers are calm, or in the midst of a path.
+use Rattle.std.proofs.Common.{◌≡◌, ℕ, ℤ, zero, suc, ◌+◌, ◌-◌, ◌<◌, ◌≤◌, inl, inr, Bool, true, false, List, [], ◌∷◌, ◌++◌, length, length-take, take, refl, sym, ap, subst, ◌∙◌, arith}
+use Rattle.std.proofs.lemmas.Int.{ints}
+use Rattle.std.proofs.lemmas.Bool.{cases_lt}
+use Rattle.std.proofs.lemmas.Option.{slice_get_within}
+use Rattle.t1_char.specs.declared.command.Command.{Command as Commands}
+use Rattle.t1_char.specs.declared.lines.Passing.{Passing}
+use Rattle.t1_char.specs.declared.lines.Passing.TheVariants as passing
+use Rattle.t1_char.specs.declared.edition.Edition.{Edition}
+use Rattle.t1_char.specs.declared.command.Command.TheVariants.{Closepath}
+use Rattle.t1_char.specs.declared.lines.Drawn.{Drawn}
+use Rattle.t1_char.specs.declared.lines.Drawn.TheVariants.{Nothing, Open, Closed}
+use Rattle.t1_char.specs.declared.lines.Way.{Way}
+use Rattle.t1_char.specs.Seacs.{is_seac}
+use Rattle.t1_char.specs.declared.machine.Answer.{Answer}
+use Rattle.t1_char.specs.declared.machine.Answer.TheVariants as answers
+use Rattle.t1_char.specs.declared.machine.Answer.TheVariants.{Ended, Limit}
+use Rattle.t1_char.specs.declared.step.Step.{Step}
+use Rattle.t1_char.specs.declared.token.CharToken.TheVariants.{Command}
+use Rattle.t1_char.specs.AnswerViews.{answer_view, is_over}
+use Rattle.t1_char.specs.Editions.{limit_of}
+use Rattle.t1_char.specs.Lines.{GoesOn, IsAskedFar, IsCommandPassed, LeadsOn, PassesStep, PassesSteps, closed, further, is_closed, is_lines, no_way, way_by}
+use Rattle.t1_char.specs.Passing.{IsPassed}
+use Rattle.t1_char.specs.Steps.{StepView, steps_of}
+use Rattle.t1_char.specs.StepValues.{step_value}
+use Rattle.t1_char.specs.Turns.{MachineView, TurnValue, limited, stepped}
+use Rattle.t1_char.proofs.EditionLemmas.{limit_few}
+use Rattle.t1_char.proofs.TurnsTaken.{behind}
+use Rattle.t1_rules.specs.declared.sidebearings.Component.{Component}
+use Rattle.t1_rules.specs.declared.step_rules.flex.Point.{Point}
+use Rattle.t1_rules.specs.declared.watches.Watches.{Watches}
+use Rattle.t1_rules.specs.Book.{number_of}
+use Rattle.t1_rules.specs.Components.{components_of}
+use Rattle.t1_rules.specs.StepRules.{StepRule, breaks, breaks_next, component_rules, step_rules}
+use Rattle.t1_rules.specs.Private.Standing.{WatchesStandFor}
+use Rattle.t1_rules.specs.StepRules.Flex.{at}
+use Rattle.t1_rules.specs.Steady.{IsSteady, closed_on, drawn_on, led_by, moved_on, point_on}
+use Rattle.t1_rules.specs.Watches.{IsCalm, IsNear, most_steps}
+use Rattle.t1_rules.proofs.Lemmas.Flex.{plus_origin}
+use Rattle.t1_rules.proofs.Lemmas.Lines.{IsDrawn, line_open, line_token, no_fault_at_close, no_fault_at_line, stays_at_close, stays_at_line}
+use Rattle.t1_report.specs.Checked.{CheckedFont, step_limit}
+use Rattle.t1_report.specs.Reports.{is_broken, rules_of}
+use Rattle.t1_report.specs.Laws.PassedLines.{PassedLinesBreakNoRule, WatchersMoveOnByLines}
+use Rattle.t1_report.specs.Private.Fitting.{IsFit}
+use Rattle.t1_report.specs.Private.Units.{IsQuiet, IsRun, executed}
+use Rattle.t1_report.specs.Walks.{turns_of_glyph}
+use Rattle.t1_report.proofs.Broken.{at_step, both_kinds, rules_by, within_limit}
+use Rattle.t1_report.proofs.GlyphSteps.{take_next}
+use Rattle.t1_report.proofs.PassedNumbers.{EndsBehind, IsTurn, StandsBehind, calm_is_behind_none, ended_view, none_at, stands_more}
+use Rattle.t1_report.proofs.RunSteps.{IsRunAt, IsTold, count_at_end, run_at, told_at, told_end}
+
+-- Watchers that were moved on.
+calm_on : (w : Watches) (way : Way) → IsCalm w → IsCalm (moved_on w way)
+calm_on w way calm = by_drawn way.drawn
+  where
+    by_drawn : (drawn : Drawn) → IsCalm (record (led_by drawn w) { flex = record w.flex { point = point_on w.flex.point way } })
+    by_drawn Nothing = record { replaced = calm.replaced; hints_popped = calm.hints_popped; ended = calm.ended; popped = calm.popped; popped_twice = calm.popped_twice }
+    by_drawn Open = record { replaced = calm.replaced; hints_popped = calm.hints_popped; ended = calm.ended; popped = calm.popped; popped_twice = calm.popped_twice }
+    by_drawn Closed = record { replaced = calm.replaced; hints_popped = calm.hints_popped; ended = calm.ended; popped = calm.popped; popped_twice = calm.popped_twice }
+
+steady_on : (w : Watches) (way : Way) → is_closed way.drawn ≡ false → IsSteady w → IsSteady (moved_on w way)
+steady_on w way unclosed steady = by_drawn way.drawn unclosed
+  where
+    by_drawn : (drawn : Drawn) → is_closed drawn ≡ false → IsSteady (record (led_by drawn w) { flex = record w.flex { point = point_on w.flex.point way } })
+    by_drawn Nothing is = record { begun = steady.begun; path_flex = steady.path_flex; moved = steady.moved; stem_flex = steady.stem_flex; flex = steady.flex; seac_flex = steady.seac_flex }
+    by_drawn Open is = record { begun = steady.begun; path_flex = steady.path_flex; moved = steady.moved; stem_flex = steady.stem_flex; flex = steady.flex; seac_flex = steady.seac_flex }
+    by_drawn Closed is = let no : true ≡ false = is in cc
+
+drawn_by : (w : Watches) (way : Way) → way.drawn ≡ Open → IsDrawn (moved_on w way)
+drawn_by w way is = record {
+  path = ap (λ drawn. (led_by drawn w).paths.drawn) is;
+  stems = ap (λ drawn. (led_by drawn w).stems.drawn) is;
+  outlined = ap (λ drawn. (led_by drawn w).seac.outlined) is;
+}
+
+moved_nowhere : (w : Watches) → moved_on w no_way ≡ w
+moved_nowhere w = ap (λ point. record w { flex = record w.flex { point = point } }) (plus_origin w.flex.point)
+
+same_point : (a b c d : ℤ) → a ≡ c → b ≡ d → at a b ≡ at c d
+same_point a b c d x y = rw (x, y) refl
+
+further_on : (p : Point) (one other : Way) → point_on (point_on p one) other ≡ point_on p (further one other)
+further_on p one other = same_point _ _ _ _ (omega (arith, ints)) (omega (arith, ints))
+
+abbrev is_open_way : Drawn → Bool
+is_open_way Open = true
+is_open_way _ = false
+
+not_open : (drawn : Drawn) → drawn ≡ Open → is_open_way drawn ≡ false → ⊥
+not_open drawn is not = let no : true ≡ false = sym (ap is_open_way is) ∙ not in cc
+
+moved_twice : (w : Watches) (one other : Way) → is_closed one.drawn ≡ false → other.drawn ≡ Open
+    → moved_on (moved_on w one) other ≡ moved_on w (further one other)
+moved_twice w one other unclosed is = by_drawn one.drawn unclosed other.drawn is
+  where
+    by_drawn : (first : Drawn) → is_closed first ≡ false → (second : Drawn) → second ≡ Open
+        → record (led_by second (record (led_by first w) { flex = record w.flex { point = point_on w.flex.point one } }))
+        { flex = record w.flex { point = point_on (point_on w.flex.point one) other } }
+        ≡ moved_on w (further one other)
+    by_drawn Nothing unclosed Open is = ap (λ point. record (drawn_on w) { flex = record w.flex { point = point } }) (further_on w.flex.point one other)
+    by_drawn Open unclosed Open is = ap (λ point. record (drawn_on w) { flex = record w.flex { point = point } }) (further_on w.flex.point one other)
+    by_drawn Closed unclosed second is = let no : true ≡ false = unclosed in cc
+    by_drawn Nothing unclosed Nothing is = absurd (not_open Nothing is refl)
+    by_drawn Nothing unclosed Closed is = absurd (not_open Closed is refl)
+    by_drawn Open unclosed Nothing is = absurd (not_open Nothing is refl)
+    by_drawn Open unclosed Closed is = absurd (not_open Closed is refl)
+
+moved_closed : (w : Watches) (way : Way) → way.drawn ≡ Open → closed_on (moved_on w way) ≡ moved_on w (closed way)
+moved_closed w way is =
+    ap (λ drawn. closed_on (record (led_by drawn w) { flex = record w.flex { point = point_on w.flex.point way } })) is
+
+-- No rule is broken at a line in the midst of a path, nor at a closepath.
+no_component_fault : (components : List Component) (n : ℕ) (before : List StepView) (t : StepView) → is_seac t.token ≡ false
+    → breaks (component_rules components) n before t ≡ false
+unfolding component_rules
+no_component_fault components n before t no_seac = rw (no_seac) refl
+
+none_at_command : (font : CheckedFont) (glyph k n : ℕ) (before after : Way) → glyph < length font.value.glyphs
+    → (passed : IsCommandPassed (step_limit font) (steps_of font.value glyph) k before after) → is_seac passed.step.token ≡ false
+    → breaks (step_rules font.edition) n (take k (steps_of font.value glyph)) passed.step ≡ false
+    → is_broken font (glyph + 1) (k + 1) n ≡ false
+none_at_command font glyph k n before after there passed no_seac none =
+    let all : List StepView = steps_of font.value glyph in
+    let components = components_of (step_limit font) font.value in
+    at_step font (glyph + 1) (k + 1) glyph k n refl refl there
+    ∙ within_limit (step_limit font) (rules_of font) n all k passed.near
+    ∙ ap (breaks_next (rules_of font) n (take k all)) passed.there
+    ∙ ap (λ (rules : List StepRule). breaks rules n (take k all) passed.step) (sym (rules_by font components refl))
+    ∙ sym (both_kinds font.edition components n (take k all) passed.step false false false refl
+    (sym none) (sym (no_component_fault components n (take k all) passed.step no_seac)))
+
+none_at_line : (edition : Edition) (before : List StepView) (w : Watches) (n : ℕ) (step : StepView) (command : Commands) (so_far way : Way)
+    → step.token ≡ Command command → LeadsOn command step.stack so_far way → IsCalm w → IsSteady w → WatchesStandFor edition w before
+    → breaks (step_rules edition) n before step ≡ false
+unfolding WatchesStandFor
+none_at_line edition before w n step command so_far way token leads calm steady st =
+    let behind_none = calm_is_behind_none edition w before st calm in
+    no_fault_at_line edition n before step command token leads.is behind_none.0 behind_none.1
+    (sym st.0.begun ∙ steady.begun) (sym st.0.in_flex ∙ steady.path_flex) (sym st.0.moved ∙ steady.moved)
+
+none_at_close : (edition : Edition) (before : List StepView) (w : Watches) (n : ℕ) (step : StepView) → step.token ≡ Command Closepath
+    → step.stack ≡ [] → IsCalm w → IsSteady w → IsDrawn w → WatchesStandFor edition w before → breaks (step_rules edition) n before step ≡ false
+unfolding WatchesStandFor
+none_at_close edition before w n step token alone calm steady drawn st =
+    let behind_none = calm_is_behind_none edition w before st calm in
+    no_fault_at_close edition n before step token alone behind_none.0 behind_none.1
+    (sym st.0.begun ∙ steady.begun) (sym st.0.in_flex ∙ steady.path_flex) (sym st.0.drawn ∙ drawn.path)
+
+-- What watchers stand for after the passed steps, and that no rule is broken at these.
+pub record PassedOver (font : CheckedFont) (glyph n taken : ℕ) (w : Watches) (way : Way) : Type 0 where
+  pub stands : WatchesStandFor font.edition (moved_on w way) (take (n + taken) (steps_of font.value glyph))
+  pub quiet : (k r : ℕ) → n ≤ k → k < n + taken → is_broken font (glyph + 1) (k + 1) r ≡ false
+
+over_number : (font : CheckedFont) (glyph n taken : ℕ) (w : Watches) (before way : Way) → glyph < length font.value.glyphs
+    → PassedOver font glyph n taken w before → IsCalm w → IsPassed (step_limit font) (steps_of font.value glyph) (n + taken) → way ≡ before
+    → PassedOver font glyph n (suc taken) w way
+over_number font glyph n taken w before way there so_far calm passed same =
+    let all : List StepView = steps_of font.value glyph in
+    let k : ℕ = n + taken in
+    let next : k + 1 ≡ n + suc taken = omega arith in
+    let now_calm : IsCalm (moved_on w before) = calm_on w before calm in
+    record {
+      stands = subst (λ i. WatchesStandFor font.edition (moved_on w way) (take i all)) next
+          (subst (λ (l : Way). WatchesStandFor font.edition (moved_on w l) (take (k + 1) all)) (sym same)
+          (stands_more font.edition (moved_on w before) (step_limit font) all k now_calm passed so_far.stands));
+      quiet = λ i r from to. elim (cases_lt i k) [
+        | inl less ↦ so_far.quiet i r from less
+        | inr here ↦
+            let at : k ≡ i = omega (arith, here, to) in
+            subst (λ j. is_broken font (glyph + 1) (j + 1) r ≡ false) at
+            (none_at font (glyph + 1) glyph k r refl there passed
+            (calm_is_behind_none font.edition (moved_on w before) (take k all) so_far.stands now_calm))
+      ];
+    }
+
+over_command : (font : CheckedFont) (glyph n taken : ℕ) (w after : Watches) (before way : Way) → glyph < length font.value.glyphs
+    → PassedOver font glyph n taken w before → (passed : IsCommandPassed (step_limit font) (steps_of font.value glyph) (n + taken) before way)
+    → is_seac passed.step.token ≡ false
+    → ((r : ℕ) → breaks (step_rules font.edition) r (take (n + taken) (steps_of font.value glyph)) passed.step ≡ false)
+    → WatchesStandFor font.edition after (take (n + taken) (steps_of font.value glyph) ++ passed.step ∷ []) → after ≡ moved_on w way
+    → PassedOver font glyph n (suc taken) w way
+over_command font glyph n taken w after before way there so_far passed no_seac none stands same =
+    let all : List StepView = steps_of font.value glyph in
+    let k : ℕ = n + taken in
+    let next : k + 1 ≡ n + suc taken = omega arith in
+    record {
+      stands = subst (λ i. WatchesStandFor font.edition (moved_on w way) (take i all)) next
+          (subst (WatchesStandFor font.edition (moved_on w way)) (sym (take_next all k passed.step passed.there))
+          (subst (λ (v : Watches). WatchesStandFor font.edition v (take k all ++ passed.step ∷ [])) same stands));
+      quiet = λ i r from to. elim (cases_lt i k) [
+        | inl less ↦ so_far.quiet i r from less
+        | inr here ↦
+            let at : k ≡ i = omega (arith, here, to) in
+            subst (λ j. is_broken font (glyph + 1) (j + 1) r ≡ false) at
+            (none_at_command font glyph k r before way there passed no_seac (none r))
+      ];
+    }
+
+over_one : (font : CheckedFont) (glyph n taken : ℕ) (w : Watches) (before way : Way) → glyph < length font.value.glyphs
+    → PassedOver font glyph n taken w before → IsCalm w → IsSteady w
+    → (passed : IsCommandPassed (step_limit font) (steps_of font.value glyph) (n + taken) before way)
+    → GoesOn passed.command passed.step.stack before way → PassedOver font glyph n (suc taken) w way
+over_one font glyph n taken w before way there so_far calm steady passed (inl leads) =
+    let now_calm : IsCalm (moved_on w before) = calm_on w before calm in
+    let now_steady : IsSteady (moved_on w before) = steady_on w before leads.unclosed steady in
+    let one : Way = way_by passed.command passed.step.stack in
+    let no_seac : is_seac passed.step.token ≡ false = ap is_seac passed.token ∙ (line_token passed.command leads.is.line).seac in
+    over_command font glyph n taken w (moved_on (moved_on w before) one) before way there so_far passed no_seac
+    (λ r. none_at_line font.edition (take (n + taken) (steps_of font.value glyph)) (moved_on w before) r passed.step passed.command before way
+    passed.token leads now_calm now_steady so_far.stands)
+    (stays_at_line font.edition (moved_on w before) (take (n + taken) (steps_of font.value glyph)) passed.step passed.command passed.token
+    leads.is.line now_calm now_steady so_far.stands)
+    (moved_twice w before one leads.unclosed (line_open passed.command leads.is.line passed.step.stack) ∙ ap (moved_on w) (sym leads.way))
+over_one font glyph n taken w before way there so_far calm steady passed (inr closes) =
+    let now_calm : IsCalm (moved_on w before) = calm_on w before calm in
+    let now_steady : IsSteady (moved_on w before) = steady_on w before (ap is_closed closes.drawn) steady in
+    let token : passed.step.token ≡ Command Closepath = passed.token ∙ ap Command closes.closes in
+    over_command font glyph n taken w (closed_on (moved_on w before)) before way there so_far passed (ap is_seac token)
+    (λ r. none_at_close font.edition (take (n + taken) (steps_of font.value glyph)) (moved_on w before) r passed.step token closes.alone
+    now_calm now_steady (drawn_by w before closes.drawn) so_far.stands)
+    (stays_at_close font.edition (moved_on w before) (take (n + taken) (steps_of font.value glyph)) passed.step token now_calm now_steady
+    (drawn_by w before closes.drawn) so_far.stands)
+    (moved_closed w before closes.drawn ∙ ap (moved_on w) (sym closes.way))
+
+over_step : (font : CheckedFont) (glyph n taken : ℕ) (w : Watches) (lines : Bool) (before way : Way) → glyph < length font.value.glyphs
+    → PassedOver font glyph n taken w before → IsCalm w → (lines ≡ true → IsSteady w)
+    → PassesStep lines (step_limit font) (steps_of font.value glyph) (n + taken) before way → PassedOver font glyph n (suc taken) w way
+over_step font glyph n taken w lines before way there so_far calm steady (inl number) =
+    over_number font glyph n taken w before way there so_far calm number.0 number.1
+over_step font glyph n taken w lines before way there so_far calm steady (inr line) =
+    over_one font glyph n taken w before way there so_far calm (steady line.0) line.1 line.1.goes_on
+
+pub passes_over : (font : CheckedFont) (glyph n taken : ℕ) (w : Watches) (lines : Bool) (way : Way) → glyph < length font.value.glyphs
+    → (0 < taken → IsCalm w) → (lines ≡ true → IsSteady w) → WatchesStandFor font.edition w (take n (steps_of font.value glyph))
+    → PassesSteps lines (step_limit font) (steps_of font.value glyph) n taken way → PassedOver font glyph n taken w way
+passes_over font glyph n zero w lines way there calm steady st passes =
+    let same : n ≡ n + 0 = omega arith in
+    let where_from : w ≡ moved_on w way = sym (ap (moved_on w) passes ∙ moved_nowhere w) in
+    record {
+      stands = subst (λ i. WatchesStandFor font.edition (moved_on w way) (take i (steps_of font.value glyph))) same
+          (subst (λ (v : Watches). WatchesStandFor font.edition v (take n (steps_of font.value glyph))) where_from st);
+      quiet = λ k r from to. absurd (omega (arith, from, to));
+    }
+passes_over font glyph n (suc taken) w lines way there calm steady st passes =
+    over_step font glyph n taken w lines passes.0 way there
+    (passes_over font glyph n taken w lines passes.0 there (λ some. calm (omega arith)) steady st passes.1.0) (calm (omega arith)) steady passes.1.1
+
+-- They are there, and within the limit.
+record AreThere (limit : ℕ) (all : List StepView) (n taken : ℕ) : Type 0 where
+  near : n + taken ≤ limit
+  within : n + taken ≤ length (take limit all) + 1
+
+step_there : (lines : Bool) (limit : ℕ) (all : List StepView) (k : ℕ) (before way : Way) → PassesStep lines limit all k before way → (k < limit) × (k < length all)
+step_there lines limit all k before way (inl number) = (number.0.near, slice_get_within all k number.0.step number.0.there)
+step_there lines limit all k before way (inr line) = (line.1.near, slice_get_within all k line.1.step line.1.there)
+
+are_there : (lines : Bool) (limit : ℕ) (all : List StepView) (n taken : ℕ) (way : Way) → PassesSteps lines limit all n taken way → n ≤ limit
+    → n ≤ length (take limit all) + 1 → AreThere limit all n taken
+are_there lines limit all n zero way passes near few = record { near = omega (arith, near); within = omega (arith, few) }
+are_there lines limit all n (suc taken) way passes near few =
+    let last = step_there lines limit all (n + taken) passes.0 way passes.1.1 in
+    record { near = omega (arith, last.0); within = omega (arith, last.0, last.1, length-take limit all) }
+
+turns_there : (font : CheckedFont) (glyph n : ℕ) (limit : ℕ) → n ≤ length (take (step_limit font) (steps_of font.value glyph)) + 1 → n ≤ turns_of_glyph font glyph
+unfolding turns_of_glyph
+turns_there font glyph n limit few = few
+
+turns_few : (font : CheckedFont) (glyph n : ℕ) → n ≤ turns_of_glyph font glyph → n ≤ length (take (step_limit font) (steps_of font.value glyph)) + 1
+unfolding turns_of_glyph
+turns_few font glyph n few = few
+
+-- What fits watchers.
+fit_calm : (what : Passing) (w : Watches) (taken : ℕ) → IsFit what w → (what ≡ passing.Told → taken ≡ 0) → 0 < taken → IsCalm w
+fit_calm passing.Told w taken fit told some = absurd (omega (arith, told refl, some))
+fit_calm passing.Numbers w taken fit told some = fit
+fit_calm passing.Lines w taken fit told some = fit.0
+
+fit_steady : (what : Passing) (w : Watches) → IsFit what w → is_lines what ≡ true → IsSteady w
+fit_steady passing.Told w fit is = let no : false ≡ true = is in cc
+fit_steady passing.Numbers w fit is = let no : false ≡ true = is in cc
+fit_steady passing.Lines w fit is = fit.1
+
+-- Behind the steps that a machine went over.
+pub record GoneFar (font : CheckedFont) (glyph unit from before : ℕ) (w : Watches) : Type 0 where
+  pub stands : StandsBehind font glyph unit from before w
+  pub near : before ≤ step_limit font
+  pub point : (n : ℕ) × (IsNear n w.flex.point × (n < most_steps))
+
+gone_of : (what : Passing) (font : CheckedFont) (glyph unit from n taken : ℕ) (w : Watches) (way : Way) → IsFit what w → (what ≡ passing.Told → taken ≡ 0)
+    → unit ≡ glyph + 1 → glyph < length font.value.glyphs → n ≤ step_limit font → IsRunAt font glyph n w → IsQuiet font unit from (n + 1)
+    → PassesSteps (is_lines what) (step_limit font) (steps_of font.value glyph) n taken way
+    → GoneFar font glyph unit from (n + taken) (moved_on w way)
+unfolding WatchesStandFor
+gone_of what font glyph unit from n taken w way fit told at there near run quiet passes =
+    let all : List StepView = steps_of font.value glyph in
+    let limit : ℕ = step_limit font in
+    let over : PassedOver font glyph n taken w way =
+    passes_over font glyph n taken w (is_lines what) way there (fit_calm what w taken fit told) (fit_steady what w fit)
+    (run.seen_are (omega (arith, near, length-take n all))) passes in
+    let those : AreThere limit all n taken = are_there (is_lines what) limit all n taken way passes near (turns_few font glyph n run.counted_few) in
+    let few : length (take (n + taken) all) < most_steps = omega (arith, those.near, length-take (n + taken) all, limit_few font.edition) in
+    record {
+      stands = record {
+        run = record { counted_few = turns_there font glyph (n + taken) limit those.within; seen_are = λ less. over.stands };
+        quiet = λ s rule past less. elim (cases_lt s (n + 1)) [
+          | inl before ↦ quiet s rule past before
+          | inr behind ↦
+              let place : s - 1 + 1 ≡ s = omega (arith, behind) in
+              subst (λ u. is_broken font u s (number_of rule) ≡ false) (sym at)
+              (subst (λ i. is_broken font (glyph + 1) i (number_of rule) ≡ false) place
+              (over.quiet (s - 1) (number_of rule) (omega (arith, behind)) (omega (arith, behind, less))))
+        ];
+      };
+      near = those.near;
+      point = (length (take (n + taken) all), (over.stands.1.1.0.near, few));
+    }
+
+-- The same of a machine.
+of_machine : (what : Passing) (m : MachineView) (font : CheckedFont) (glyph taken : ℕ) (way : Way) → executed m ≡ font → m.glyph ≡ glyph
+    → PassesSteps (is_lines what) (limit_of m.edition) (steps_of m.font m.glyph) m.counted taken way
+    → PassesSteps (is_lines what) (step_limit font) (steps_of font.value glyph) m.counted taken way
+of_machine what m font glyph taken way of_font of_glyph passes =
+    subst (λ (f : CheckedFont). PassesSteps (is_lines what) (step_limit f) (steps_of f.value glyph) m.counted taken way) of_font
+    (subst (λ g. PassesSteps (is_lines what) (limit_of m.edition) (steps_of m.font g) m.counted taken way) of_glyph passes)
+
+pub gone_far : (what : Passing) (m new : MachineView) (answer : TurnValue) (way : Way) (w : Watches) (font : CheckedFont) (glyph unit from : ℕ)
+    → IsFit what w → executed m ≡ font → m.glyph ≡ glyph → unit ≡ glyph + 1 → IsRun m w → IsQuiet font unit from (m.counted + 1)
+    → m.counted ≤ step_limit font → (asked : IsAskedFar what m new answer way)
+    → GoneFar font glyph unit from (m.counted + asked.taken) (moved_on w way)
+gone_far what m new answer way w font glyph unit from fit of_font of_glyph at run quiet near asked =
+    gone_of what font glyph unit from m.counted asked.taken w way fit asked.told at
+    (subst (λ (f : CheckedFont). glyph < length f.value.glyphs) of_font (subst (λ g. g < length m.font.glyphs) of_glyph run.there))
+    near (run_at font glyph m w of_font of_glyph run) quiet (of_machine what m font glyph asked.taken way of_font of_glyph asked.passed)
+
+-- Two laws.
+pub passed_lines_break_none : PassedLinesBreakNoRule
+passed_lines_break_none font glyph from count place n w way is least less =
+    let over = passes_over font glyph from count w true way is.there (λ any. is.calm) (λ on. is.steady) is.seen is.passed in
+    let unit_is : glyph + 1 ≡ suc glyph = omega arith in
+    let step_is : place + 1 ≡ suc place = omega arith in
+    subst (λ unit. is_broken font unit (suc place) n ≡ false) unit_is
+    (subst (λ step. is_broken font (glyph + 1) step n ≡ false) step_is (over.quiet place n least less))
+
+pub watchers_move_on : WatchersMoveOnByLines
+watchers_move_on font glyph from count w way is =
+    (passes_over font glyph from count w true way is.there (λ any. is.calm) (λ on. is.steady) is.seen is.passed).stands
+
+-- What the machine told after them: a step, or the first past the limit.
+told_far : (what : Passing) (m new : MachineView) (answer : Answer) (way : Way) (step : Step) (font : CheckedFont) (glyph : ℕ) → executed m ≡ font
+    → m.glyph ≡ glyph → is_over answer ≡ false → step_value step ≡ new.step
+    → (asked : IsAskedFar what m new (answer_view answer new.step) way) → m.counted + asked.taken ≤ step_limit font
+    → IsTold font glyph (m.counted + asked.taken) new.counted step
+told_far what m new Ended way step font glyph of_font of_glyph on here asked near = let no : true ≡ false = on in cc
+told_far what m new answers.Step way step font glyph of_font of_glyph on here asked near =
+    told_at (behind m (m.counted + asked.taken)) font glyph new.counted step of_font of_glyph near asked.counted (inl (ap stepped here ∙ asked.turn))
+told_far what m new Limit way step font glyph of_font of_glyph on here asked near =
+    told_at (behind m (m.counted + asked.taken)) font glyph new.counted step of_font of_glyph near asked.counted (inr (ap limited here ∙ asked.turn))
+
+pub turn_far : (what : Passing) (m new : MachineView) (answer : Answer) (way : Way) (step : Step) (w moved : Watches) (font : CheckedFont) (glyph unit from : ℕ)
+    → IsFit what w → executed m ≡ font → m.glyph ≡ glyph → unit ≡ glyph + 1 → IsRun m w → IsQuiet font unit from (m.counted + 1)
+    → m.counted ≤ step_limit font → is_over answer ≡ false → step_value step ≡ new.step → IsAskedFar what m new (answer_view answer new.step) way
+    → moved ≡ moved_on w way → IsTurn font glyph unit from m.counted new.counted moved step
+turn_far what m new answer way step w moved font glyph unit from fit of_font of_glyph at run quiet near on here asked is =
+    let gone = gone_far what m new (answer_view answer new.step) way w font glyph unit from fit of_font of_glyph at run quiet near asked in
+    record {
+      before = m.counted + asked.taken;
+      least = omega arith;
+      stands = subst (StandsBehind font glyph unit from (m.counted + asked.taken)) (sym is) gone.stands;
+      told = told_far what m new answer way step font glyph of_font of_glyph on here asked gone.near;
+    }
+
+-- Or that there is none.
+pub ended_far : (what : Passing) (m new : MachineView) (answer : Answer) (way : Way) (font : CheckedFont) (glyph : ℕ) → executed m ≡ font → m.glyph ≡ glyph
+    → is_over answer ≡ true → (asked : IsAskedFar what m new (answer_view answer new.step) way) → m.counted + asked.taken ≤ turns_of_glyph font glyph
+    → EndsBehind font glyph (m.counted + asked.taken) new.counted
+ended_far what m new answer way font glyph of_font of_glyph is asked few =
+    let over = told_end (behind m (m.counted + asked.taken)) font glyph of_font of_glyph (ended_view answer new.step is ∙ asked.turn) in
+    record { over = over; counted_is = count_at_end (behind m (m.counted + asked.taken)) font glyph new.counted of_font of_glyph over few asked.counted }
