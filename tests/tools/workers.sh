@@ -50,9 +50,9 @@ try 'lines in the order of the list' 1 "$stand/bin/t1check-all" -qj2 early.pfb m
 
 # Of 40 fonts a single worker takes five at a time, each of two takes two, and each of forty one.
 awk 'BEGIN { for (number = 101; number <= 140; number++) print number }' >numbers
-mkdir shared
+mkdir forty
 while read -r number; do
-    echo "$number" >"shared/$number.pfb"
+    echo "$number" >"forty/$number.pfb"
 done <numbers
 for jobs in 1 2 40; do
     : >runs
@@ -60,7 +60,7 @@ for jobs in 1 2 40; do
 --
 40 fonts: 40 clean, 0 with faults, 0 refused, 0 not checked
 END
-    try "forty fonts, $jobs at once" 0 "$stand/bin/t1check-all" -j "$jobs" shared
+    try "forty fonts, $jobs at once" 0 "$stand/bin/t1check-all" -j "$jobs" forty
     { cat numbers && echo --; } >wanted
     try "each of forty fonts once, $jobs at once" 0 sort runs
 done
