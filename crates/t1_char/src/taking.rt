@@ -115,7 +115,7 @@ pub(crate) struct Lines<'a> {
     pub(crate) len: usize,
     /// How many steps were taken.
     pub(crate) passed: u32,
-    /// How far they lead.
+    /// The way of these steps.
     pub(crate) way: Way,
 }
 
