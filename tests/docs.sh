@@ -6,7 +6,7 @@
 #   tokens that are written out are those that the program traces in the case's font: `A: ..` and `Subr 5: ..`. A line
 #   `X … (seven times) Y` stands for seven X and one Y.
 # - Each rule and each refusal has its text in the table of its kind, and each rule in its heading too; t1_lines reads the same texts of
-#   refusals, and t1_font has those of a font's bytes. The pages that t1_format keeps are those of docs/RULES.md.
+#   refusals, and t1_font has those of a font's bytes. The pages that t1_forms keeps are those of docs/RULES.md.
 # - Each rule stands in all places that docs/ARCHITECTURE.md names for it; one that lacks rules is told with their codes. A file that has all
 #   of them is named there. The definitions in a rule's row of docs/RULES.md are in the files that stand behind them, and the first of them
 #   is cited where specs/ says what breaks the rule. Above each row in specs/ stands a source.
@@ -185,10 +185,10 @@ done <"$scratch/refusals"
 [ "$(wc -l <"$scratch/book")" -eq 70 ] || fail "the book's rows aren't read: $(wc -l <"$scratch/book")"
 [ "$(wc -l <"$scratch/refusals")" -eq 15 ] || fail "the refusals' texts aren't read: $(wc -l <"$scratch/refusals")"
 
-if sh "$top/crates/t1_format/pages.sh" | cmp -s - "$top/crates/t1_format/src/pages.rt"; then
+if sh "$top/crates/t1_forms/pages.sh" | cmp -s - "$top/crates/t1_forms/src/pages.rt"; then
     pass
 else
-    fail "crates/t1_format/src/pages.rt: crates/t1_format/pages.sh writes another one of docs/RULES.md"
+    fail "crates/t1_forms/src/pages.rt: crates/t1_forms/pages.sh writes another one of docs/RULES.md"
 fi
 
 # The places in which each rule stands.
@@ -294,8 +294,8 @@ sed -n 's/^### \([A-Z]*[0-9][0-9]\) .*/\1/p' "$rules" | grep -v '^E[0-9]' >"$scr
 compare_codes 'docs/RULES.md, the headings' codes <"$scratch/list"
 list_contents >"$scratch/list"
 compare_codes 'docs/RULES.md, the contents' codes <"$scratch/list"
-sed -n 's/^        code: "\(.*\)",$/\1/p' "$top/crates/t1_format/src/pages.rt" | grep -v '^E[0-9]' >"$scratch/list"
-compare_codes crates/t1_format/src/pages.rt codes <"$scratch/list"
+sed -n 's/^        code: "\(.*\)",$/\1/p' "$top/crates/t1_forms/src/pages.rt" | grep -v '^E[0-9]' >"$scratch/list"
+compare_codes crates/t1_forms/src/pages.rt codes <"$scratch/list"
 list_cases >"$scratch/list"
 compare_codes 'tests/program, cases of the rules and their fonts' codes <"$scratch/list"
 

@@ -3,7 +3,7 @@ use Rattle.std.specs.Prelude.{ℕ, ◌-◌, ◌==◌, List, codes, if◌then◌e
 use Rattle.std.specs.Char.{encode_utf8}
 use Rattle.std.specs.List.{flat_map}
 use Rattle.std.specs.Str.{chars}
-use Rattle.t1_format.specs.Shown.{shown}
+use Rattle.t1_forms.specs.Shown.{shown}
 
 -- XML can't hold the characters U+FFFE and U+FFFF: they are written by their bytes.
 abbrev pub legible_char : ℕ → List ℕ

@@ -5,12 +5,12 @@ ghost use Rattle.t1_picture.specs.Drawings.{texts_of};
 ghost use Rattle.t1_picture.specs.Texts.{legible, legible_char, legible_line, xml_char, xml_text};
 
 use std::alloc::{AllocError, Global};
-use t1_format::shown;
+use t1_forms::shown;
 
 /// The end of a group.
 pub(crate) const END: &str = "</g>\n";
 
-/// A name, or a line with one, as text that XML can hold: as t1_format shows names, and the two characters U+FFFE and U+FFFF by
+/// A name, or a line with one, as text that XML can hold: as t1_forms shows names, and the two characters U+FFFE and U+FFFF by
 /// their bytes.
 pub(crate) fn legible(alloc: Global, bytes: &[u8]) -> Result<String, AllocError>
     ensures { IfOk result (λ text. string_bytes text ≡ legible bytes.now) }

@@ -2,7 +2,7 @@
 use Rattle.std.specs.Prelude.{◌≡◌, ℕ, List, [], ◌∷◌, Option, None, Some, IfSome, codes}
 use Rattle.std.specs.List.{concat}
 use Rattle.t1_font.specs.Fonts.{FontValue}
-use Rattle.t1_format.specs.Shown.{shown}
+use Rattle.t1_forms.specs.Shown.{shown}
 use Rattle.t1_io.specs.Devices.{Delivered, DeliveryFailed, PutFailed, SinkState, Wrote}
 use Rattle.t1_lines.specs.RefusalTexts.{refusal_text_of}
 use Rattle.t1_lines.specs.declared.refusal.RefusalCode.{RefusalCode}

@@ -14,7 +14,7 @@ use crate::telling::{OUT_OF_MEMORY, READ_FAILED, WRITE_FAILED, refuse, tell, tel
 use std::alloc::{AllocError, Global};
 use std::io::Read;
 use t1_font::{Font, OpenFont, Unread};
-use t1_format::shown;
+use t1_forms::shown;
 use t1_io::{Sink, deliver};
 use t1_lines::{RefusalCode, refusal_text};
 use t1_picture::{View, picture};

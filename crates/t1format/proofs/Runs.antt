@@ -6,9 +6,9 @@ use Rattle.std.specs.Io.BufRead.{drop_through}
 use Rattle.std.specs.Io.KnownBytes.{Appends}
 use Rattle.t1_io.proofs.SinkLemmas.{Wrote-trans}
 use Rattle.t1_io.specs.Devices.{SinkState, Wrote}
-use Rattle.t1_format.specs.Objects.{object_line}
-use Rattle.t1_format.specs.Tellings.{IsNotTold, IsToldAs, IsUncheckedOnly, behind_name, told_value}
-use Rattle.t1_format.specs.declared.told.Told.{Told}
+use Rattle.t1_forms.specs.Objects.{object_line}
+use Rattle.t1_forms.specs.Tellings.{IsNotTold, IsToldAs, IsUncheckedOnly, behind_name, told_value}
+use Rattle.t1_forms.specs.declared.told.Told.{Told}
 use Rattle.t1format.specs.Private.Lines.{AreWritten, IsDone, IsSoFar, ReadsLine}
 use Rattle.t1format.specs.Private.Lines.ReadsLine.{none as none_read, some as some_read}
 use Rattle.t1format.specs.Runs.{AreOfLines, IsOfLine, of_font, passed_line}

@@ -2,8 +2,8 @@
 use Rattle.std.specs.Prelude.{◌≡◌, ℕ, ◌+◌, ◌<◌, ◌==◌, List, [], ◌++◌, codes, length, Bool, true, false, Option, Some, None, option_map, string_bytes}
 use Rattle.std.specs.Fmt.{decimal}
 use Rattle.std.specs.Io.BufRead.{drop_through, first_piece}
-use Rattle.t1_format.specs.Objects.{object_line}
-use Rattle.t1_format.specs.Tellings.{IsNoLine, IsNotTold, IsWhat, ToldValue, of_unchecked, told_spelled}
+use Rattle.t1_forms.specs.Objects.{object_line}
+use Rattle.t1_forms.specs.Tellings.{IsNoLine, IsNotTold, IsWhat, ToldValue, of_unchecked, told_spelled}
 use Rattle.t1_io.specs.Devices.{Delivered, SinkState, Wrote}
 use Rattle.t1format.specs.declared.command_line.Options.{Options}
 use Rattle.t1format.specs.declared.writer.Writer.{Writer}

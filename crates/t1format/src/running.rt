@@ -1,7 +1,7 @@
 //! The program's run: line by line.
 
 ghost use Rattle.std.specs.Prelude.{◌≡◌, ◌<◌, ◌^◌, ℕ, List, true, Some, IfOk, length, option_map};
-ghost use Rattle.t1_format.specs.Tellings.{told_value};
+ghost use Rattle.t1_forms.specs.Tellings.{told_value};
 ghost use Rattle.t1_io.specs.Devices.{Wrote};
 ghost use Rattle.t1format.specs.declared.command_line.Form.TheVariants.{JsonLines};
 ghost use Rattle.t1format.specs.Runs.{IsRunOver, font_of, is_json, of_font, passed_line};
@@ -11,7 +11,7 @@ use crate::command_line::Options;
 use crate::writer::Writer;
 use std::alloc::{AllocError, Global};
 use std::io::{BufRead, ErrorKind};
-use t1_format::{FormatError, Told, read_told};
+use t1_forms::{FormatError, Told, read_told};
 use t1_io::{Broken, Sink, put_all, put_parts};
 
 /// Why the run ended before all lines were written.

@@ -1,14 +1,14 @@
 //! The form in which lines are written.
 
 ghost use Rattle.std.specs.Prelude.{◌≡◌, true, IfOk};
-ghost use Rattle.t1_format.specs.Objects.{object_line};
-ghost use Rattle.t1_format.specs.Tellings.{told_value};
-ghost use Rattle.t1_format.specs.Writing.{WritesLine};
+ghost use Rattle.t1_forms.specs.Objects.{object_line};
+ghost use Rattle.t1_forms.specs.Tellings.{told_value};
+ghost use Rattle.t1_forms.specs.Writing.{WritesLine};
 ghost use Rattle.t1format.specs.Runs.{is_json};
 
 use crate::command_line::{Form, Options};
 use std::alloc::Global;
-use t1_format::{FormatError, Sarif, Told, write_command, write_object};
+use t1_forms::{FormatError, Sarif, Told, write_command, write_object};
 use t1_io::Sink;
 
 /// A form, with what it keeps from line to line.

@@ -2,7 +2,7 @@
 use Rattle.std.specs.Prelude.{◌≡◌, ℕ, List, Option, None, Some, Result, Ok, Err, codes}
 use Rattle.t1_font.specs.Fonts.{FontValue}
 use Rattle.t1_font.specs.declared.unread.Unread.{Unread}
-use Rattle.t1_format.specs.Shown.{shown}
+use Rattle.t1_forms.specs.Shown.{shown}
 use Rattle.t1_io.specs.Devices.{SinkState}
 use Rattle.t1_lines.specs.RefusalTexts.{refusal_text_of}
 use Rattle.t1_lines.specs.declared.refusal.RefusalCode.{RefusalCode}

@@ -1,0 +1,86 @@
+//! Names as text: those of fonts and glyphs are bytes, and JSON wants UTF-8.
+
+ghost use Rattle.std.specs.Prelude.{◌≡◌, ◌<◌, ◌++◌, IfOk, OnOk, string_bytes};
+ghost use Rattle.std.specs.Str.{chars};
+ghost use Rattle.std.specs.List.{flat_map};
+ghost use Rattle.t1_forms.specs.Shown.{escaped, hexadecimal_digit, shown, shown_byte, shown_char};
+
+use std::alloc::{AllocError, Global};
+
+/// A digit of a hexadecimal number, in upper case.
+pub(crate) fn hexadecimal_digit(digit: u8) -> char
+    requires { digit < 16 }
+    ensures { result ≡ hexadecimal_digit digit }
+{
+    if digit < 10 {
+        char::from(b'0' + digit)
+    } else {
+        char::from(b'A' + (digit - 10))
+    }
+}
+
+/// Appends `\xNN`.
+fn push_escaped(text: &mut String, byte: u8) -> Result<(), AllocError>
+    ensures { OnOk result (string_bytes text.new ≡ string_bytes text.old ++ escaped byte) }
+{
+    text.push_str("\\x")?;
+    text.push(hexadecimal_digit(byte / 16))?;
+    text.push(hexadecimal_digit(byte % 16))
+}
+
+/// Appends a character.
+fn push_char(text: &mut String, c: char) -> Result<(), AllocError>
+    ensures { OnOk result (string_bytes text.new ≡ string_bytes text.old ++ shown_char c) }
+{
+    if c == '\\' {
+        text.push_str("\\\\")
+    } else if c < ' ' || c == '\x7f' {
+        push_escaped(text, c as u8)
+    } else {
+        text.push(c)
+    }
+}
+
+/// The characters of a text.
+fn shown_text(alloc: Global, text: &str) -> Result<String, AllocError>
+    ensures { IfOk result (λ s. string_bytes s ≡ flat_map shown_char (chars text.now)) }
+{
+    let mut shown = String::new(alloc);
+    for c in text.chars() {
+        push_char(&mut shown, c)?;
+    }
+    Ok(shown)
+}
+
+/// Appends a byte of a name that is no UTF-8.
+fn push_byte(text: &mut String, byte: u8) -> Result<(), AllocError>
+    ensures { OnOk result (string_bytes text.new ≡ string_bytes text.old ++ shown_byte byte) }
+{
+    if byte < 128 {
+        push_char(text, char::from(byte))
+    } else {
+        push_escaped(text, byte)
+    }
+}
+
+/// The bytes of a name that is no UTF-8.
+fn shown_bytes(alloc: Global, name: &[u8]) -> Result<String, AllocError>
+    ensures { IfOk result (λ s. string_bytes s ≡ flat_map shown_byte name.now) }
+{
+    let mut shown = String::new(alloc);
+    for byte in name {
+        push_byte(&mut shown, *byte)?;
+    }
+    Ok(shown)
+}
+
+/// A name as text: `\` is written as `\\`, and a byte below 32, or 127, as `\xNN`. Where the whole name is no UTF-8 each byte
+/// from 128 on is written so too.
+pub fn shown(alloc: Global, name: &[u8]) -> Result<String, AllocError>
+    ensures { IfOk result (λ s. string_bytes s ≡ shown name.now) }
+{
+    match str::from_utf8(name) {
+        Ok(text) => shown_text(alloc, text),
+        Err(_) => shown_bytes(alloc, name),
+    }
+}

@@ -1,0 +1,243 @@
+//! A line as an object of JSON.
+
+ghost use Rattle.std.specs.Prelude.{◌≡◌, IfOk, string_bytes};
+ghost use Rattle.serde_json.specs.Data.{string};
+ghost use Rattle.serde_json.specs.View.{members_view, view};
+ghost use Rattle.t1_lines.specs.Lines.{at_key, at_step, at_waiver, place_value};
+ghost use Rattle.t1_forms.specs.Objects.{fault_members, list_of, members_of_all, object_line, object_of, refusal_code_of, refusal_reason_of, what_members, with_font};
+ghost use Rattle.t1_forms.specs.Shown.{shown};
+ghost use Rattle.t1_forms.specs.Tellings.{told_value, what_value};
+ghost use Rattle.t1_forms.specs.Writing.{WritesLine};
+
+use crate::{FormatError, Told, What, shown};
+use serde_json::{Map, Value, put};
+use std::alloc::{AllocError, Global};
+use t1_io::{Sink, put_all};
+use t1_lines::{FaultLine, Line, Place, RefusalCode, refusal_text};
+use t1_rules::{Rule, key_text, rule_code, rule_text};
+
+/// The code of a refusal: `E03`.
+pub(crate) fn refusal_code(code: RefusalCode) -> &'static [u8]
+    ensures { result.now ≡ refusal_code_of code }
+{
+    &refusal_text(code).as_bytes()[..3]
+}
+
+/// What is told of a refusal behind its code.
+pub(crate) fn refusal_reason(code: RefusalCode) -> &'static [u8]
+    ensures { result.now ≡ refusal_reason_of code }
+{
+    &refusal_text(code).as_bytes()[4..]
+}
+
+/// Numbers of Subrs as a list.
+fn list(alloc: Global, numbers: &[u32]) -> Result<Value, AllocError>
+    ensures { IfOk result (λ v. view v ≡ list_of numbers.now) }
+{
+    let mut items = Vec::new(alloc);
+    for number in numbers {
+        items.push(Value::from(*number))?;
+    }
+    Ok(Value::Array(items))
+}
+
+/// A text as a value.
+fn text(alloc: Global, text: &[u8]) -> Result<Value, AllocError>
+    ensures { IfOk result (λ v. view v ≡ string (shown text.now)) }
+{
+    Ok(Value::String(shown(alloc, text)?))
+}
+
+/// The members that each fault has.
+fn members_of_all(
+    alloc: Global,
+    number: u64,
+    rule: Rule,
+    unit: &str,
+) -> Result<Map<String, Value>, AllocError>
+    ensures { IfOk result (λ m. members_view m.entries ≡ members_of_all number rule unit.now) }
+{
+    let mut members = Map::new(alloc);
+    put(
+        &mut members,
+        alloc,
+        "code",
+        Value::try_from_str(alloc, rule_code(rule))?,
+    )?;
+    put(&mut members, alloc, "number", Value::from(number))?;
+    put(
+        &mut members,
+        alloc,
+        "text",
+        Value::try_from_str(alloc, rule_text(rule))?,
+    )?;
+    put(
+        &mut members,
+        alloc,
+        "unit",
+        Value::try_from_str(alloc, unit)?,
+    )?;
+    Ok(members)
+}
+
+/// The members of a fault of the font.
+fn key_members(
+    alloc: Global,
+    number: u64,
+    rule: Rule,
+    key: u8,
+    index: u16,
+) -> Result<Map<String, Value>, AllocError>
+    ensures { IfOk result (λ m. members_view m.entries ≡ fault_members number (at_key key index) rule) }
+{
+    let mut members = members_of_all(alloc, number, rule, "font")?;
+    put(
+        &mut members,
+        alloc,
+        "key",
+        Value::try_from_str(alloc, key_text(key))?,
+    )?;
+    put(&mut members, alloc, "index", Value::from(index))?;
+    Ok(members)
+}
+
+/// The members of a fault of a glyph.
+fn step_members(
+    alloc: Global,
+    number: u64,
+    rule: Rule,
+    name: &[u8],
+    path: &[u32],
+    step: u32,
+) -> Result<Map<String, Value>, AllocError>
+    ensures { IfOk result (λ m. members_view m.entries ≡ fault_members number (at_step name.now path.now step) rule) }
+{
+    let mut members = members_of_all(alloc, number, rule, "glyph")?;
+    put(&mut members, alloc, "name", text(alloc, name)?)?;
+    put(&mut members, alloc, "path", list(alloc, path)?)?;
+    put(&mut members, alloc, "step", Value::from(step))?;
+    Ok(members)
+}
+
+/// The members of a waiver that isn't used.
+fn waiver_members(
+    alloc: Global,
+    number: u64,
+    rule: Rule,
+    name: &[u8],
+    waived: Rule,
+) -> Result<Map<String, Value>, AllocError>
+    ensures { IfOk result (λ m. members_view m.entries ≡ fault_members number (at_waiver name.now waived) rule) }
+{
+    let mut members = members_of_all(alloc, number, rule, "waiver")?;
+    put(&mut members, alloc, "name", text(alloc, name)?)?;
+    put(
+        &mut members,
+        alloc,
+        "waived",
+        Value::try_from_str(alloc, rule_code(waived))?,
+    )?;
+    Ok(members)
+}
+
+/// The members of a fault of the font or of a glyph, or of a waiver that isn't used.
+fn fault_members(alloc: Global, fault: &FaultLine<'_>) -> Result<Map<String, Value>, AllocError>
+    ensures { IfOk result (λ m. members_view m.entries
+        ≡ fault_members fault.now.number (place_value fault.now.place) fault.now.rule) }
+{
+    match &fault.place {
+        Place::Key { key, index } => key_members(alloc, fault.number, fault.rule, *key, *index),
+        Place::Step { name, path, step } => step_members(
+            alloc,
+            fault.number,
+            fault.rule,
+            name,
+            path.as_slice(),
+            *step,
+        ),
+        Place::Waiver { name, rule } => waiver_members(
+            alloc,
+            fault.number,
+            fault.rule,
+            name,
+            *rule,
+        ),
+    }
+}
+
+/// The members of what is told, without the font's name.
+fn what_members(alloc: Global, what: &What<'_>) -> Result<Map<String, Value>, AllocError>
+    ensures { IfOk result (λ m. members_view m.entries ≡ what_members (what_value what.now)) }
+{
+    let mut members = Map::new(alloc);
+    match what {
+        What::Line(Line::Fault(fault)) => return fault_members(alloc, fault),
+        What::Line(Line::Refusal(refusal)) => {
+            put(
+                &mut members,
+                alloc,
+                "unit",
+                Value::try_from_str(alloc, "refused")?,
+            )?;
+            put(
+                &mut members,
+                alloc,
+                "code",
+                text(alloc, refusal_code(*refusal))?,
+            )?;
+            put(
+                &mut members,
+                alloc,
+                "text",
+                text(alloc, refusal_reason(*refusal))?,
+            )?;
+        }
+        What::Unchecked(reason) => {
+            put(
+                &mut members,
+                alloc,
+                "unit",
+                Value::try_from_str(alloc, "unchecked")?,
+            )?;
+            put(&mut members, alloc, "text", text(alloc, reason)?)?;
+        }
+    }
+    Ok(members)
+}
+
+/// The object that a line stands for.
+///
+/// Its members: `unit` (`font`, `glyph`, `waiver`, `refused`, `unchecked`) and `text`; `file`, the font's name, where there is
+/// one; of a fault `number` and `code`, of a refusal `code`; in the font `key` and `index`, in a glyph `name`, `path` and
+/// `step`, of a waiver `name` and `waived`.
+pub fn object(alloc: Global, told: &Told<'_>) -> Result<Value, AllocError>
+    ensures { IfOk result (λ v. view v ≡ object_of (told_value told.now)) }
+{
+    let mut members = what_members(alloc, &told.what)?;
+    if let Some(font) = told.font {
+        put(&mut members, alloc, "file", text(alloc, font)?)?;
+    }
+    Ok(Value::Object(members))
+}
+
+/// The line that is written of it.
+fn object_line(alloc: Global, told: &Told<'_>) -> Result<String, AllocError>
+    ensures { IfOk result (λ s. string_bytes s ≡ object_line (told_value told.now)) }
+{
+    let mut text = object(alloc, told)?.to_string(alloc)?;
+    text.push_str("\n")?;
+    Ok(text)
+}
+
+/// Writes the object that a line stands for, without blanks, and byte 10.
+pub fn write_object<W: Sink>(
+    alloc: Global,
+    sink: &mut W,
+    told: &Told<'_>,
+) -> Result<(), FormatError>
+    ensures { WritesLine (W.state sink.old) (W.state sink.new) (object_line (told_value told.now)) result }
+{
+    let line = object_line(alloc, told)?;
+    put_all(sink, line.as_bytes())?;
+    Ok(())
+}
