@@ -12,8 +12,7 @@
 //! | `scan` | t1_scan |
 //! | `font` | t1_font |
 //!
-//! They stand above the libraries since a crate with tests is proved twice, with them and without, and apart from
-//! those of t1_tests so that they are proved while the libraries above t1_font are.
+//! They stand above the libraries since a crate with tests is proved twice, with them and without.
 #![tactic(auto)]
 
 #[cfg(test)]

@@ -1,19 +1,6 @@
 //! What the tests of font rules share: a font that breaks none, and what others say of a key. A row of a table has a
 //! part of a font and the faults in short: `BlueValues 1 Z07` is Z07 at index 1 of that key.
 
-mod book;
-mod encoding;
-mod entries;
-mod file;
-mod glyphs;
-mod hints;
-mod ids;
-mod keys;
-mod mask;
-mod stems;
-mod subrs;
-mod zones;
-
 use std::alloc::{AllocError, Global};
 use std::process::Abort;
 use std::test::Fail;
@@ -22,24 +9,24 @@ use t1_rules::{KEYS, Mask, Rule, font_faults, key_text, places, rule_code};
 use t1_samples::{FontFile, add_fault, font_of};
 
 /// A clear text that breaks no rule.
-const CLEAR: &str = "%!\n/FontType 1 def /PaintType 0 def /Encoding StandardEncoding def eexec\n";
+pub(super) const CLEAR: &str = "%!\n/FontType 1 def /PaintType 0 def /Encoding StandardEncoding def eexec\n";
 
 /// A private text that breaks no rule.
-const PRIVATE: &str = "/password 5839 def /MinFeature {16 16} def \
+pub(super) const PRIVATE: &str = "/password 5839 def /MinFeature {16 16} def \
 /CharStrings 2 dict dup begin /.notdef 0 RD  ND /A 0 RD  ND end";
 
 /// Where a row's text stands in its font: between which words of which text. The other text breaks no rule.
 #[derive(Clone, Copy)]
-enum Part {
+pub(super) enum Part {
     Clear(&'static str, &'static str),
     Private(&'static str, &'static str),
 }
 
 /// The clear text, but for the white space at its end.
-const CLEAR_TEXT: Part = Part::Clear("", "\n");
+pub(super) const CLEAR_TEXT: Part = Part::Clear("", "\n");
 
 /// More entries of the Private dictionary.
-const ENTRIES: Part = Part::Private(
+pub(super) const ENTRIES: Part = Part::Private(
     "/password 5839 def /MinFeature {16 16} def ",
     " /CharStrings 2 dict dup begin /.notdef 0 RD  ND /A 0 RD  ND end",
 );
@@ -84,13 +71,13 @@ fn faults_of(alloc: Global, font: &Font<'_>) -> Result<String, AllocError> {
 }
 
 /// The faults of a file's font.
-fn faults_in(alloc: Global, file: &mut OpenFont) -> Result<String, Unread> {
+pub(super) fn faults_in(alloc: Global, file: &mut OpenFont) -> Result<String, Unread> {
     let font = font_of(alloc, file)?;
     Ok(faults_of(alloc, &font)?)
 }
 
 /// The faults of a font with these texts. White space ends the clear text.
-fn faults_of_texts(alloc: Global, clear: &str, private: &str) -> Result<String, Unread> {
+pub(super) fn faults_of_texts(alloc: Global, clear: &str, private: &str) -> Result<String, Unread> {
     let file = FontFile::of(clear.as_bytes(), private.as_bytes()).pfa(alloc)?;
     faults_in(alloc, &mut OpenFont::open(alloc, file.as_slice())?)
 }
@@ -110,7 +97,7 @@ fn faults_with(alloc: Global, part: Part, text: &str) -> Result<String, Unread> 
 }
 
 /// A font with each of these texts as that part breaks the rules beside it.
-fn assert_faults(
+pub(super) fn assert_faults(
     rt: &impl Abort,
     alloc: Global,
     part: Part,

@@ -1,6 +1,6 @@
 //! Rules on alignment zones: Type 1 Font Format 1.1, chapter 5.
 
-use super::{ENTRIES, assert_faults};
+use crate::faults::{ENTRIES, assert_faults};
 use std::test::Fail;
 
 /// Lists of zone numbers, short and long, and the faults of a font with them.

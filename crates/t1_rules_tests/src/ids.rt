@@ -1,6 +1,6 @@
 //! Rules on UniqueID and XUID: Type 1 Font Format 1.1, chapter 2.
 
-use super::{CLEAR_TEXT, ENTRIES, PRIVATE, assert_faults, faults_of_texts};
+use crate::faults::{CLEAR_TEXT, ENTRIES, PRIVATE, assert_faults, faults_of_texts};
 use std::alloc::Global;
 use std::test::Fail;
 use t1_font::Unread;

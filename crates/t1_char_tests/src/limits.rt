@@ -1,7 +1,7 @@
 //! Glyphs of as many steps as an edition looks at, of one less, and of more. No chapter of the standard has the limit.
 
-use super::machines::{Lines, told_of};
-use super::{steps_of, trace_of};
+use crate::machines::{Lines, told_of};
+use crate::traces::{steps_of, trace_of};
 use std::alloc::Global;
 use std::test::Fail;
 use t1_char::Edition;

@@ -1,7 +1,7 @@
 //! A glyph that is executed one step a call: its steps are those of the list, and the end is answered again. Type 1
 //! Font Format 1.1, chapter 6.
 
-use super::{glyph_count, push_line, push_state, with_subrs};
+use crate::traces::{glyph_count, push_line, push_state, with_subrs};
 use std::alloc::{AllocError, Global};
 use std::test::Fail;
 use t1_char::{Answer, Edition, Machine, Numbers, Step, Turn};

@@ -1,6 +1,6 @@
 //! Rules on standard and snap widths: Type 1 Font Format 1.1, chapter 5.
 
-use super::{ENTRIES, assert_faults};
+use crate::faults::{ENTRIES, assert_faults};
 use std::test::Fail;
 
 /// Standard widths and snaps, and the faults of a font with them.

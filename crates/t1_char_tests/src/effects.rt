@@ -1,6 +1,6 @@
 //! What tokens do to the stack and to the results that wait: Type 1 Font Format 1.1, chapters 6 and 8.
 
-use super::{states_of, steps_with};
+use crate::traces::{states_of, steps_with};
 use std::alloc::Global;
 use std::process::Abort;
 use std::test::Fail;

@@ -1,6 +1,6 @@
 //! Rules on the file: Technical Note 5040.
 
-use super::faults_in;
+use crate::faults::faults_in;
 use std::alloc::Global;
 use std::test::Fail;
 use t1_font::{OpenFont, Unread};

@@ -3,7 +3,7 @@
 ghost use Rattle.std.specs.Prelude.{negsuc, pos, ◌≤ℤ◌};
 ghost use Rattle.t1_font.specs.Bounds.{greatest_len_iv};
 
-use super::push_token;
+use crate::traces::push_token;
 use std::alloc::{AllocError, Global};
 use std::process::Abort;
 use std::test::Fail;

@@ -1,6 +1,6 @@
 //! Rules on numbers of the Private dictionary: Type 1 Font Format 1.1, chapter 5.
 
-use super::{ENTRIES, assert_faults};
+use crate::faults::{ENTRIES, assert_faults};
 use std::test::Fail;
 
 /// Entries for hints, and the faults of a font with them.

@@ -1,6 +1,6 @@
 //! Rules on required and optional entries: Type 1 Font Format 1.1, chapters 2 and 5.
 
-use super::{CLEAR, CLEAR_TEXT, ENTRIES, assert_faults, faults_of_texts};
+use crate::faults::{CLEAR, CLEAR_TEXT, ENTRIES, assert_faults, faults_of_texts};
 use std::test::Fail;
 
 /// Clear texts, and the faults of a font with each.

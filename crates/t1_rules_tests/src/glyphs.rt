@@ -1,6 +1,6 @@
 //! Rules on the CharStrings: Type 1 Font Format 1.1, chapter 2.
 
-use super::{Part, assert_faults};
+use crate::faults::{Part, assert_faults};
 use std::test::Fail;
 
 /// The glyphs in the CharStrings.

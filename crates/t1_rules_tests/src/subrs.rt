@@ -1,6 +1,6 @@
 //! Rules on the Subrs: Type 1 Font Format 1.1, chapters 2 and 8.
 
-use super::{Part, assert_faults};
+use crate::faults::{Part, assert_faults};
 use std::test::Fail;
 
 /// The size and the Subrs behind the word `/Subrs`.

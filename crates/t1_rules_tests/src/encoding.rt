@@ -1,6 +1,6 @@
 //! Rules on the Encoding: Type 1 Font Format 1.1, chapter 2.
 
-use super::{Part, assert_faults};
+use crate::faults::{Part, assert_faults};
 use std::test::Fail;
 
 /// The codes of a custom Encoding.

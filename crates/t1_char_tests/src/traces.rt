@@ -1,16 +1,9 @@
 //! What the tests of charstrings share: fonts of made glyphs and Subrs, and steps as text: Type 1 Font Format 1.1,
 //! chapters 6 and 8.
 
-mod arguments;
-mod effects;
-mod limits;
-mod machines;
-mod steps;
-mod tokens;
-
 ghost use Rattle.std.specs.Prelude.{◌≡◌, length};
 
-use machines::{Lines, told_with};
+use crate::machines::{Lines, told_with};
 use std::alloc::{AllocError, Global};
 use std::process::Abort;
 use std::test::Fail;
@@ -31,7 +24,7 @@ fn push_byte(alloc: Global, text: &mut String, words: &str, byte: u8) -> Result<
 }
 
 /// Adds what a token is called: its number or its command's name.
-fn push_token(alloc: Global, text: &mut String, token: CharToken) -> Result<(), AllocError> {
+pub(super) fn push_token(alloc: Global, text: &mut String, token: CharToken) -> Result<(), AllocError> {
     match token {
         CharToken::Number(number) => push_number(alloc, text, i64::from(number)),
         CharToken::Command(command) => text.push_str(command_name(command)),
@@ -94,7 +87,7 @@ fn push_facts(alloc: Global, text: &mut String, step: &Step) -> Result<(), Alloc
 }
 
 /// Adds a step's number, its path and its token.
-fn push_line(alloc: Global, text: &mut String, step: &Step) -> Result<(), AllocError> {
+pub(super) fn push_line(alloc: Global, text: &mut String, step: &Step) -> Result<(), AllocError> {
     push_number(alloc, text, i64::from(step.number))?;
     text.push_str(" ")?;
     push_place(alloc, text, step)?;
@@ -102,7 +95,7 @@ fn push_line(alloc: Global, text: &mut String, step: &Step) -> Result<(), AllocE
 }
 
 /// A line for each step: its number, its path and its token.
-fn trace_of(alloc: Global, steps: &[Step]) -> Result<String, AllocError> {
+pub(super) fn trace_of(alloc: Global, steps: &[Step]) -> Result<String, AllocError> {
     let mut text = String::new(alloc);
     for step in steps {
         push_line(alloc, &mut text, step)?;
@@ -111,7 +104,7 @@ fn trace_of(alloc: Global, steps: &[Step]) -> Result<String, AllocError> {
 }
 
 /// Adds a step's path, its token, the stack, how many results wait, and its two facts.
-fn push_state(alloc: Global, text: &mut String, step: &Step) -> Result<(), AllocError> {
+pub(super) fn push_state(alloc: Global, text: &mut String, step: &Step) -> Result<(), AllocError> {
     push_place(alloc, text, step)?;
     text.push_str(" ")?;
     push_stack(alloc, text, &step.stack)?;
@@ -121,7 +114,7 @@ fn push_state(alloc: Global, text: &mut String, step: &Step) -> Result<(), Alloc
 }
 
 /// A line for each step: its path, its token, the stack, how many results wait, and its two facts.
-fn states_of(alloc: Global, steps: &[Step]) -> Result<String, AllocError> {
+pub(super) fn states_of(alloc: Global, steps: &[Step]) -> Result<String, AllocError> {
     let mut text = String::new(alloc);
     for step in steps {
         push_state(alloc, &mut text, step)?;
@@ -130,14 +123,14 @@ fn states_of(alloc: Global, steps: &[Step]) -> Result<String, AllocError> {
 }
 
 /// The steps of a sample's second glyph.
-fn steps_of(alloc: Global, sample: &Sample, edition: Edition) -> Result<Vec<Step>, Unread> {
+pub(super) fn steps_of(alloc: Global, sample: &Sample, edition: Edition) -> Result<Vec<Step>, Unread> {
     let mut file = opened(alloc, sample)?;
     let font = font_of(alloc, &mut file)?;
     Ok(steps_in(alloc, &font, edition)?)
 }
 
 /// How many glyphs a font has.
-fn glyph_count(font: &Font<'_>) -> usize
+pub(super) fn glyph_count(font: &Font<'_>) -> usize
     ensures { result ≡ length font.now.glyphs }
 {
     font.glyphs().len()
@@ -152,7 +145,7 @@ fn steps_in(alloc: Global, font: &Font<'_>, edition: Edition) -> Result<Vec<Step
 }
 
 /// A sound font with these Subrs.
-fn with_subrs(alloc: Global, subrs: &[(u32, &[u8])]) -> Result<Sample, AllocError> {
+pub(super) fn with_subrs(alloc: Global, subrs: &[(u32, &[u8])]) -> Result<Sample, AllocError> {
     let mut sample = Sample::new(alloc)?;
     for (number, code) in subrs {
         sample = sample.subr(*number, *code)?;
@@ -161,7 +154,7 @@ fn with_subrs(alloc: Global, subrs: &[(u32, &[u8])]) -> Result<Sample, AllocErro
 }
 
 /// The steps of a glyph with this charstring, in a font with these Subrs.
-fn steps_with(alloc: Global, subrs: &[(u32, &[u8])], glyph: &[u8]) -> Result<Vec<Step>, Unread> {
+pub(super) fn steps_with(alloc: Global, subrs: &[(u32, &[u8])], glyph: &[u8]) -> Result<Vec<Step>, Unread> {
     let sample = with_subrs(alloc, subrs)?.glyph(b"A", glyph)?;
     steps_of(alloc, &sample, Edition::One)
 }
@@ -179,10 +172,10 @@ fn trace_with(alloc: Global, subrs: &[(u32, &[u8])], glyph: &[u8]) -> Result<Str
 }
 
 /// Subrs, a glyph, and what is written of its steps.
-type Case<'a> = (&'a [(u32, &'a [u8])], &'a [u8], &'a str);
+pub(super) type Case<'a> = (&'a [(u32, &'a [u8])], &'a [u8], &'a str);
 
 /// The glyphs have the states of steps beside them.
-fn assert_states(rt: &impl Abort, alloc: Global, cases: &[Case<'_>]) -> Result<(), Fail> {
+pub(super) fn assert_states(rt: &impl Abort, alloc: Global, cases: &[Case<'_>]) -> Result<(), Fail> {
     for (subrs, glyph, want) in cases {
         let states = states_with(alloc, subrs, glyph)?;
         assert_eq!(rt; states.as_str(), *want, "of {glyph:?}");
@@ -193,7 +186,7 @@ fn assert_states(rt: &impl Abort, alloc: Global, cases: &[Case<'_>]) -> Result<(
 }
 
 /// The glyphs have the traces beside them.
-fn assert_traces(rt: &impl Abort, alloc: Global, cases: &[Case<'_>]) -> Result<(), Fail> {
+pub(super) fn assert_traces(rt: &impl Abort, alloc: Global, cases: &[Case<'_>]) -> Result<(), Fail> {
     for (subrs, glyph, want) in cases {
         let trace = trace_with(alloc, subrs, glyph)?;
         assert_eq!(rt; trace.as_str(), *want, "of {glyph:?}");

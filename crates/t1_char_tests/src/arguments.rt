@@ -1,6 +1,6 @@
 //! What commands and OtherSubrs are given: Type 1 Font Format 1.1, chapters 6 and 8.
 
-use super::steps_with;
+use crate::traces::steps_with;
 use std::alloc::Global;
 use std::test::Fail;
 
