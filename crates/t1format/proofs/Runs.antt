@@ -9,9 +9,9 @@ use Rattle.t1_io.specs.Devices.{SinkState, Wrote}
 use Rattle.t1_forms.specs.Objects.{object_line}
 use Rattle.t1_forms.specs.Tellings.{IsNotTold, IsToldAs, IsUncheckedOnly, behind_name, told_value}
 use Rattle.t1_forms.specs.declared.told.Told.{Told}
-use Rattle.t1format.specs.Private.Lines.{AreWritten, IsDone, IsSoFar, ReadsLine}
+use Rattle.t1format.specs.Private.Lines.{IsDone, IsSoFar, ReadsLine}
 use Rattle.t1format.specs.Private.Lines.ReadsLine.{none as none_read, some as some_read}
-use Rattle.t1format.specs.Runs.{AreOfLines, IsOfLine, of_font, passed_line}
+use Rattle.t1format.specs.Runs.{AreOfLines, IsOfLine, IsRunOver, of_font, passed_line}
 use Rattle.t1format.specs.Runs.AreOfLines.{line as and_line, none as no_line}
 use Rattle.t1format.specs.Runs.IsOfLine.{object as of_object, passed as of_none}
 
@@ -131,7 +131,7 @@ pub all_written : (font : Option (List ℕ)) (text : List ℕ) (number : ℕ) (l
     (out out' errors errors' : SinkState) (are : Bool)
     → IsSoFar font text number left out out' errors errors' are
     → ((rest : List ℕ) → left ≡ Some rest → ReadsLine rest line left' false)
-    → AreWritten font text out out' errors errors' are
+    → IsRunOver Wrote font text out out' errors errors' are
 all_written font text number left left' line out out' errors errors' are before reads =
     elim (reads before.rest before.is_left) [
       | none_read empty over ↦ (
@@ -142,7 +142,7 @@ all_written font text number left left' line out out' errors errors' are before 
             told = before.told;
             lines = subst (λ o. AreOfLines font 1 text o before.told) (append-nil before.objects)
                 (subst (λ t. AreOfLines font 1 text (before.objects ++ []) t) (append-nil before.told) all);
-            wrote = before.wrote;
+            written = before.wrote;
             said = before.said;
             all = before.all;
           })

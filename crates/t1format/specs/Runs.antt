@@ -4,7 +4,7 @@ use Rattle.std.specs.Fmt.{decimal}
 use Rattle.std.specs.Io.BufRead.{drop_through, first_piece}
 use Rattle.t1_forms.specs.Objects.{object_line}
 use Rattle.t1_forms.specs.Tellings.{IsNoLine, IsNotTold, IsWhat, ToldValue, of_unchecked, told_spelled}
-use Rattle.t1_io.specs.Devices.{Delivered, SinkState, Wrote}
+use Rattle.t1_io.specs.Devices.{SinkState, Wrote}
 use Rattle.t1format.specs.declared.command_line.Options.{Options}
 use Rattle.t1format.specs.declared.writer.Writer.{Writer}
 use Rattle.t1format.specs.declared.writer.Writer.TheVariants.{JsonLines}
@@ -52,12 +52,13 @@ pub data AreOfLines (font : Option (List ℕ)) : ℕ → List ℕ → List ℕ �
       → AreOfLines font (number + 1) (drop_through 10 text) more more_told
       → AreOfLines font number text (written ++ more) (told ++ more_told)
 
--- A run over a text: all lines were written, and flushed once. It is answered whether each was one.
+-- A run over a text: of all its lines this went out, written or delivered, and this was told. It is answered whether each was one.
 pub record IsRunOver
-    (font : Option (List ℕ)) (text : List ℕ) (out out' errors errors' : SinkState) (are_lines : Bool) : Type 0 where
+    (GoesOut : SinkState → SinkState → List ℕ → Type 0) (font : Option (List ℕ)) (text : List ℕ)
+    (out out' errors errors' : SinkState) (are_lines : Bool) : Type 0 where
   pub objects : List ℕ
   pub told : List ℕ
   pub lines : AreOfLines font 1 text objects told
-  pub written : Delivered out out' objects
+  pub written : GoesOut out out' objects
   pub said : Wrote errors errors' told
   pub all : are_lines ≡ (length told == 0)

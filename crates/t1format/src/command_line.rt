@@ -53,13 +53,15 @@ pub enum Asked {
     Help(String),
 }
 
-/// The form of this name.
-fn form_named(name: &str) -> Option<Form> {
+/// What forms are called: clap takes no other word.
+const FORMS: &[&str] = &["jsonl", "sarif", "github"];
+
+/// The form of one of these names.
+fn form_named(name: &str) -> Form {
     match name {
-        "jsonl" => Some(Form::JsonLines),
-        "sarif" => Some(Form::Sarif),
-        "github" => Some(Form::GitHub),
-        _ => None,
+        "sarif" => Form::Sarif,
+        "github" => Form::GitHub,
+        _ => Form::JsonLines,
     }
 }
 
@@ -67,7 +69,8 @@ fn command<'a>(alloc: Global) -> Result<Command<'a>, AllocError> {
     let form = Arg::new(alloc, "form")
         .value_name("FORM")
         .required(true)
-        .help("jsonl, sarif or github");
+        .value_parser(FORMS)
+        .help("How lines are written");
     let font = Arg::new(alloc, "font")
         .long("font")
         .value_name("NAME")
@@ -107,13 +110,6 @@ fn told(alloc: Global, error: &clap::Error) -> Result<Asked, Option<String>> {
     }
 }
 
-/// What is told of a form that there isn't.
-fn unknown_form(alloc: Global, name: &str) -> Option<String> {
-    format!(in alloc;
-        "error: there is no form '{name}': jsonl, sarif or github\n\nFor more information, try '--help'.\n"
-    ).ok()
-}
-
 /// Reads the words of the command line, the program's name first. What is wrong with them is the error, none where memory ran
 /// out.
 pub fn read_words<S: AsStr>(alloc: Global, words: &[S]) -> Result<Asked, Option<String>> {
@@ -124,10 +120,7 @@ pub fn read_words<S: AsStr>(alloc: Global, words: &[S]) -> Result<Asked, Option<
         Ok(matches) => matches,
         Err(error) => return told(alloc, &error),
     };
-    let name = matches.get_str("form").unwrap_or("");
-    let Some(form) = form_named(name) else {
-        return Err(unknown_form(alloc, name));
-    };
+    let form = form_named(matches.get_str("form").unwrap_or(""));
     let (Ok(font), Ok(docs)) = (
         owned(alloc, matches.get_str("font")),
         owned(alloc, matches.get_str("docs")),

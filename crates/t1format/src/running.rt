@@ -2,10 +2,10 @@
 
 ghost use Rattle.std.specs.Prelude.{◌≡◌, ◌<◌, ◌^◌, ℕ, List, true, Some, IfOk, length, option_map};
 ghost use Rattle.t1_forms.specs.Tellings.{told_value};
-ghost use Rattle.t1_io.specs.Devices.{Wrote};
+ghost use Rattle.t1_io.specs.Devices.{Delivered, Wrote};
 ghost use Rattle.t1format.specs.declared.command_line.Form.TheVariants.{JsonLines};
 ghost use Rattle.t1format.specs.Runs.{IsRunOver, font_of, is_json, of_font, passed_line};
-ghost use Rattle.t1format.specs.Private.Lines.{AreWritten, IsDone, ReadsLine};
+ghost use Rattle.t1format.specs.Private.Lines.{IsDone, ReadsLine};
 
 use crate::command_line::Options;
 use crate::writer::Writer;
@@ -136,7 +136,7 @@ fn write_lines<R: BufRead, W: Sink, E: Sink>(
     errors: &mut E,
 ) -> Result<bool, Failure>
     ensures written { is_json writer.old ≡ true → (text : List ℕ) → R.remaining input.old ≡ Some text → length text < 2 ^ 63
-        → IfOk result (AreWritten (option_map (λ name. name.now) font.entry) text
+        → IfOk result (IsRunOver Wrote (option_map (λ name. name.now) font.entry) text
         (W.state out.old) (W.state out.new) (E.state errors.old) (E.state errors.new)) }
     ensures json { is_json writer.old ≡ true → is_json writer.new ≡ true }
 {
@@ -163,7 +163,7 @@ pub fn run<R: BufRead, W: Sink, E: Sink>(
     errors: &mut E,
 ) -> Result<bool, Failure>
     ensures json { options.now.form ≡ JsonLines → (text : List ℕ) → R.remaining input.old ≡ Some text → length text < 2 ^ 63
-        → IfOk result (IsRunOver (font_of options.now) text
+        → IfOk result (IsRunOver Delivered (font_of options.now) text
         (W.state out.old) (W.state out.new) (E.state errors.old) (E.state errors.new)) }
 {
     let font = options.font.as_ref().map(String::as_bytes);

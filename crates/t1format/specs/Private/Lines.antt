@@ -19,16 +19,6 @@ pub record IsDone
   pub said : Wrote errors errors' told
   pub is : is_line ≡ (length told == 0)
 
--- The lines of a text were written, or told to be none; nothing was flushed.
-pub record AreWritten
-    (font : Option (List ℕ)) (text : List ℕ) (out out' errors errors' : SinkState) (are_lines : Bool) : Type 0 where
-  pub objects : List ℕ
-  pub told : List ℕ
-  pub lines : AreOfLines font 1 text objects told
-  pub wrote : Wrote out out' objects
-  pub said : Wrote errors errors' told
-  pub all : are_lines ≡ (length told == 0)
-
 -- The same of the lines in front of one of a number, given what is left of the text.
 pub record IsSoFar
     (font : Option (List ℕ)) (text : List ℕ) (number : ℕ) (left : Option (List ℕ)) (out out' errors errors' : SinkState)
