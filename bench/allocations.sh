@@ -7,7 +7,7 @@
 # the crates' out folders keep of earlier proofs. Each refusal has to be told, with nothing else written, and the
 # run without one has to give its own answer; else the script fails. It wants `rt`, `cc` and glibc.
 set -eu
-top=$(cd "$(dirname "$0")/.." && pwd)
+top=$(cd -P -- "$(dirname "$0")/.." && pwd -P)
 cases=$top/tests/program
 work=$(mktemp -d)
 trap 'rm -rf "$work"' EXIT

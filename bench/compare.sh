@@ -10,7 +10,7 @@ set -u
 export LC_ALL=C
 
 usage='usage: bench/compare.sh FOLDER [N]   (FOLDER holds fonts, N is a number of rounds from 1 to 999)'
-top=$(cd -- "$(dirname -- "$0")/.." && pwd) || exit 1
+top=$(cd -P -- "$(dirname -- "$0")/.." && pwd -P) || exit 1
 . "$top/bench/table.sh"
 built=$top/crates/t1check/out/t1check
 gnu_time=/usr/bin/time

@@ -4,7 +4,7 @@
 # It proves and builds a program over a copy of the crate in a temporary folder, and wants `rt` and
 # `rustc`.
 set -eu
-top=$(cd "$(dirname "$0")/.." && pwd)
+top=$(cd -P -- "$(dirname "$0")/.." && pwd -P)
 . "$top/bench/table.sh"
 work=$(mktemp -d)
 trap 'rm -rf "$work"' EXIT

@@ -9,7 +9,7 @@ set -u
 LC_ALL=C
 export LC_ALL
 
-top=$(CDPATH='' cd -- "$(dirname "$0")/.." && pwd -P) || exit 1
+top=$(CDPATH='' cd -P -- "$(dirname "$0")/.." && pwd -P) || exit 1
 kept=$top/bench/instructions/kept.txt
 program=$top/crates/t1check/out/t1check
 passed=0

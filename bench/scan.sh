@@ -2,7 +2,7 @@
 # Prints how many MB a second the scanner reads, on 16 MB of each of several texts, and what a call of `next` costs
 # behind a token that isn't closed. The program is proved and built in a folder of its own.
 set -e
-here=$(cd "$(dirname "$0")" && pwd)
+here=$(cd -P -- "$(dirname "$0")" && pwd -P)
 . "$here/table.sh"
 work=$(mktemp -d)
 trap 'rm -rf "$work"' EXIT

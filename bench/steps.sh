@@ -3,7 +3,7 @@
 # below a folder, which are told by their names' ends: ./bench/steps.sh FOLDER
 # The program is proved and built in a folder of its own, over what the crates' out folders keep of earlier proofs.
 set -eu
-top=$(cd "$(dirname "$0")/.." && pwd)
+top=$(cd -P -- "$(dirname "$0")/.." && pwd -P)
 if [ $# -ne 1 ] || [ ! -d "$1" ]; then
     echo 'usage: bench/steps.sh FOLDER   (FOLDER holds fonts)' >&2
     exit 2

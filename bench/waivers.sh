@@ -13,7 +13,7 @@ set -u
 export LC_ALL=C
 
 usage='usage: bench/waivers.sh [FOLDER]   (FOLDER holds fonts)'
-top=$(cd -- "$(dirname -- "$0")/.." && pwd) || exit 1
+top=$(cd -P -- "$(dirname -- "$0")/.." && pwd -P) || exit 1
 checker=$top/crates/t1check/out/t1check
 rules=$top/docs/RULES.md
 packages=(fonts-urw-base35 lmodern tex-gyre t1-cyrillic)

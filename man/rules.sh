@@ -8,7 +8,7 @@ set -u
 LC_ALL=C
 export LC_ALL
 
-top=$(CDPATH='' cd -- "$(dirname "$0")/.." && pwd -P) || exit 1
+top=$(CDPATH='' cd -P -- "$(dirname "$0")/.." && pwd -P) || exit 1
 
 cat <<'END' || exit 1
 .TH T1CHECK\-RULES 7 2026-11-25 t1check "rules of t1check"

@@ -24,7 +24,7 @@ set -u
 LC_ALL=C
 export LC_ALL
 
-top=$(CDPATH='' cd -- "$(dirname "$0")/.." && pwd -P) || exit 1
+top=$(CDPATH='' cd -P -- "$(dirname "$0")/.." && pwd -P) || exit 1
 program=$top/crates/t1check/out/t1check
 cases=$top/tests/program
 rules=$top/docs/RULES.md

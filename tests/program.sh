@@ -26,7 +26,7 @@ set -u
 LC_ALL=C
 export LC_ALL
 
-top=$(CDPATH='' cd -- "$(dirname "$0")/.." && pwd -P) || exit 1
+top=$(CDPATH='' cd -P -- "$(dirname "$0")/.." && pwd -P) || exit 1
 case ${0##*/} in
     draw.sh) name=t1draw cases=$top/tests/draw ;;
     *) name=t1check cases=$top/tests/program ;;

@@ -6,7 +6,7 @@ set -u
 LC_ALL=C
 export LC_ALL
 
-folder=$(CDPATH='' cd -- "$(dirname "$0")/tools" && pwd -P) || exit 1
+folder=$(CDPATH='' cd -P -- "$(dirname "$0")/tools" && pwd -P) || exit 1
 scratch=$(mktemp -d) || exit 1
 trap 'rm -rf "$scratch"' EXIT
 trap 'exit 1' HUP INT TERM

@@ -4,7 +4,7 @@ set -u
 LC_ALL=C
 export LC_ALL
 
-top=$(CDPATH='' cd -- "$(dirname "$0")/../.." && pwd -P) || exit 1
+top=$(CDPATH='' cd -P -- "$(dirname "$0")/../.." && pwd -P) || exit 1
 
 cat <<'HEAD' || exit 1
 //! The pages of rules and refusals, as docs/RULES.md has them. Made by pages.sh; what is changed here is lost.

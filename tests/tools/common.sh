@@ -7,7 +7,7 @@ set -u
 LC_ALL=C
 export LC_ALL
 
-top=$(CDPATH='' cd -- "$(dirname "$0")/../.." && pwd -P) || exit 1
+top=$(CDPATH='' cd -P -- "$(dirname "$0")/../.." && pwd -P) || exit 1
 fonts=$top/tests/program/fonts
 all=$top/bin/t1check-all
 explain=$top/bin/t1explain

@@ -54,5 +54,14 @@ install: $top is the repository itself
 install: 'bin/install --help' says how it is used
 END
 try 'install' 3 linked/repository/install --prefix "$top"
+wanted <<END
+--
+install: $scratch/linked/repository/.. is the repository itself
+install: 'bin/install --help' says how it is used
+END
+try 'install, the repository behind a link' 3 "$top/bin/install" --prefix "$scratch/linked/repository/.."
+ln -s "$top/man" linked/man
+{ limited "$top/man/rules.sh" && echo --; } >wanted
+try 'man/rules.sh' 0 linked/man/rules.sh
 
 finish
