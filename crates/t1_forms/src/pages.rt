@@ -470,7 +470,7 @@ static PAGES_13: [Page; 5] = [
         code: "U01",
         anchor: "u01-waiver-not-used",
         title: "waiver not used",
-        text: "The waiver leaves out nothing: the font has no glyph of that name, or the glyph doesn't break that rule. The fault was mended, or the glyph was\nrenamed or taken out; or the name or the code is misspelled; or the edition is the other one. So no waiver stays in the file that might later hide\na fault that nobody means. The whole font decides, also where `--after` and `--max` leave lines out. A waiver that stands twice in the file has\none line, by its first place. Here the file has the two lines `A GE01` and `A C05`.\n\n    A: 0 500 hsbw\n    1: waiver A C05 U01 waiver not used\n\nCure: take the line out of the file, each time that it stands there, or mend its name or its code.",
+        text: "The waiver leaves out nothing: the font has no glyph of that name, or the glyph doesn't break that rule. The fault was mended, or the glyph was\nrenamed or taken out; or the name or the code is misspelled, also by a byte order mark in front of the first name, which isn't\nseen; or the edition is the other one. So no waiver stays in the file that might later hide a fault that nobody means. The whole font decides, also\nwhere `--after` and `--max` leave lines out. A waiver that stands twice in the file has one line, by its first place. Here the file has the two lines\n`A GE01` and `A C05`.\n\n    A: 0 500 hsbw\n    1: waiver A C05 U01 waiver not used\n\nCure: take the line out of the file, each time that it stands there, or mend its name or its code.",
     },
 ];
 
