@@ -1,8 +1,9 @@
 -- The decimal digits of a number, read back.
-use Rattle.std.proofs.Common.{◌≡◌, ◌≢◌, ◌^◌, ℕ, true, false, ◌==◌, not, nat_lt, List, [], ◌∷◌, length, get_or, refl, sym, subst, ap, ◌∙◌, inl, inr, arith, Option, Some, None, Result, Ok, Err, ◌<◌, ◌≤◌, decimal, IsUtf8}
+use Rattle.std.proofs.Common.{◌≡◌, ◌≢◌, ◌^◌, ℕ, true, false, ◌==◌, not, nat_lt, List, [], ◌∷◌, length, get_or, refl, sym, subst, ap, ◌∙◌, inl, inr, arith, Some, None, Result, Ok, Err, ◌<◌, ◌≤◌, decimal, IsUtf8}
 use Rattle.std.proofs.lemmas.Bool.{cases_Bool}
 use Rattle.std.proofs.lemmas.Bool.Decides.{nat_tests}
 use Rattle.std.specs.Cmp.Lexicographic.{same_text}
+use Rattle.std.specs.Result.{OkIff, result_ok}
 use Rattle.std.specs.Str.Parse.{AllDigits, ParsesUnsigned, digits_value}
 use Rattle.std.proofs.lemmas.Str.Parse.{IsNumeralModel, numerals_by_value, tells_digits, parse_plain, digit_at}
 use Rattle.std.proofs.lemmas.Str.{IsUtf8-from_ascii}
@@ -75,13 +76,8 @@ number-zero text first longer = number-none 64 text (λ n small e.
 pub number-utf8 : (text : List ℕ) → (IsUtf8 text → ⊥) → number_of 64 text ≡ None
 number-utf8 text never = number-none 64 text (λ n small e. never (subst IsUtf8 e (IsUtf8-from_ascii (decimal n) (IsAscii-decimal n small))))
 
--- What a parse gives.
-abbrev pub if_ok : {E : Type 0} → Result ℕ E → Option ℕ
-if_ok (Ok n) = Some n
-if_ok (Err e) = None
-
 pub number-parsed : {E : Type 0} (text : List ℕ) (r : Result ℕ E) → ParsesUnsigned 64 10 text r → get_or text 0 0 ≢ 43
-    → (get_or text 0 0 ≡ 48 → length text ≡ 1) → if_ok r ≡ number_of 64 text
+    → (get_or text 0 0 ≡ 48 → length text ≡ 1) → result_ok r ≡ number_of 64 text
 number-parsed {E} text (Ok n) parses plain one =
     let told = parse_plain own {E = E} 64 text (Ok n) parses plain in
     let spelled : decimal (digits_value 10 text) ≡ text = decimal-digits_value own text told.0.0 told.0.1 one told.0.2 in
@@ -121,7 +117,7 @@ one_zero (c ∷ d ∷ text) e nought =
     let is : (c == 48) ≡ true = grind (arith, nat_tests) in
     let never : false ≡ true = rw (other, is) at e in cc
 
-pub number-here : {E : Type 0} (text : List ℕ) (r : Result ℕ E) → begins_plainly text ≡ true → ParsesUnsigned 64 10 text r → if_ok r ≡ number_of 64 text
+pub number-here : {E : Type 0} (text : List ℕ) (r : Result ℕ E) → begins_plainly text ≡ true → ParsesUnsigned 64 10 text r → result_ok r ≡ number_of 64 text
 number-here text r plain parses = number-parsed text r parses (not_plus text plain) (one_zero text plain)
 
 pub number-ok : (text digits : List ℕ) (n : ℕ) → digits ≡ text → begins_plainly text ≡ true → ParsesUnsigned {E = ℕ} 64 10 digits (Ok n)
@@ -153,6 +149,12 @@ number-wide bits text n read wide =
           wide (subst (λ m. m < 2 ^ bits) (sym same_value ∙ value) less))
       | inr large ↦ wide (let above : 2 ^ 64 ≤ k = grind (arith, nat_tests) in omega (arith, less, above, told.0))
     ]))
+
+-- A number that is made narrower, where it can be.
+pub number-fitted : {E : Type 0} (bits : ℕ) (text : List ℕ) (n : ℕ) (r : Result ℕ E) → bits ≤ 64 → number_of 64 text ≡ Some n
+    → OkIff r (n < 2 ^ bits) n → result_ok r ≡ number_of bits text
+number-fitted bits text n (Ok k) few read fits = ap Some fits.1 ∙ number-narrow bits text n few read fits.0
+number-fitted bits text n (Err e) few read wide = number-wide bits text n read wide
 
 pub number-absent : (bits : ℕ) (text : List ℕ) → bits ≤ 64 → number_of 64 text ≡ None → None ≡ number_of bits text
 number-absent bits text few absent =

@@ -59,20 +59,12 @@ pub fn number(text: &[u8]) -> Option<u64>
 pub fn small_number(text: &[u8]) -> Option<u32>
     ensures { result ≡ number_of 32 text.now }
 {
-    let number = number(text)?;
-    if number > 0xffff_ffff {
-        return None;
-    }
-    Some(number as u32)
+    u32::try_from(number(text)?).ok()
 }
 
 /// The number of 16 bits.
 pub fn tiny_number(text: &[u8]) -> Option<u16>
     ensures { result ≡ number_of 16 text.now }
 {
-    let number = number(text)?;
-    if number > 0xffff {
-        return None;
-    }
-    Some(number as u16)
+    u16::try_from(number(text)?).ok()
 }
