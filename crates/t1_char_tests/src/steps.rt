@@ -1,7 +1,9 @@
 //! Steps of glyphs: calls, returns, ends, and the two facts of each step. Type 1 Font Format 1.1, chapter 6.
 
 use crate::machines::{Lines, told_of};
-use crate::traces::{Case, assert_states, assert_traces, states_of, steps_of, steps_with, trace_of};
+use crate::traces::{
+    Case, assert_states, assert_traces, states_of, steps_of, steps_with, trace_of,
+};
 use std::alloc::{AllocError, Global};
 use std::process::Abort;
 use std::test::Fail;

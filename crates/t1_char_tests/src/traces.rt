@@ -24,7 +24,11 @@ fn push_byte(alloc: Global, text: &mut String, words: &str, byte: u8) -> Result<
 }
 
 /// Adds what a token is called: its number or its command's name.
-pub(super) fn push_token(alloc: Global, text: &mut String, token: CharToken) -> Result<(), AllocError> {
+pub(super) fn push_token(
+    alloc: Global,
+    text: &mut String,
+    token: CharToken,
+) -> Result<(), AllocError> {
     match token {
         CharToken::Number(number) => push_number(alloc, text, i64::from(number)),
         CharToken::Command(command) => text.push_str(command_name(command)),
@@ -123,7 +127,11 @@ pub(super) fn states_of(alloc: Global, steps: &[Step]) -> Result<String, AllocEr
 }
 
 /// The steps of a sample's second glyph.
-pub(super) fn steps_of(alloc: Global, sample: &Sample, edition: Edition) -> Result<Vec<Step>, Unread> {
+pub(super) fn steps_of(
+    alloc: Global,
+    sample: &Sample,
+    edition: Edition,
+) -> Result<Vec<Step>, Unread> {
     let mut file = opened(alloc, sample)?;
     let font = font_of(alloc, &mut file)?;
     Ok(steps_in(alloc, &font, edition)?)
@@ -154,7 +162,11 @@ pub(super) fn with_subrs(alloc: Global, subrs: &[(u32, &[u8])]) -> Result<Sample
 }
 
 /// The steps of a glyph with this charstring, in a font with these Subrs.
-pub(super) fn steps_with(alloc: Global, subrs: &[(u32, &[u8])], glyph: &[u8]) -> Result<Vec<Step>, Unread> {
+pub(super) fn steps_with(
+    alloc: Global,
+    subrs: &[(u32, &[u8])],
+    glyph: &[u8],
+) -> Result<Vec<Step>, Unread> {
     let sample = with_subrs(alloc, subrs)?.glyph(b"A", glyph)?;
     steps_of(alloc, &sample, Edition::One)
 }
@@ -175,7 +187,11 @@ fn trace_with(alloc: Global, subrs: &[(u32, &[u8])], glyph: &[u8]) -> Result<Str
 pub(super) type Case<'a> = (&'a [(u32, &'a [u8])], &'a [u8], &'a str);
 
 /// The glyphs have the states of steps beside them.
-pub(super) fn assert_states(rt: &impl Abort, alloc: Global, cases: &[Case<'_>]) -> Result<(), Fail> {
+pub(super) fn assert_states(
+    rt: &impl Abort,
+    alloc: Global,
+    cases: &[Case<'_>],
+) -> Result<(), Fail> {
     for (subrs, glyph, want) in cases {
         let states = states_with(alloc, subrs, glyph)?;
         assert_eq!(rt; states.as_str(), *want, "of {glyph:?}");
@@ -186,7 +202,11 @@ pub(super) fn assert_states(rt: &impl Abort, alloc: Global, cases: &[Case<'_>]) 
 }
 
 /// The glyphs have the traces beside them.
-pub(super) fn assert_traces(rt: &impl Abort, alloc: Global, cases: &[Case<'_>]) -> Result<(), Fail> {
+pub(super) fn assert_traces(
+    rt: &impl Abort,
+    alloc: Global,
+    cases: &[Case<'_>],
+) -> Result<(), Fail> {
     for (subrs, glyph, want) in cases {
         let trace = trace_with(alloc, subrs, glyph)?;
         assert_eq!(rt; trace.as_str(), *want, "of {glyph:?}");

@@ -41,11 +41,7 @@ const OF_TEXTS: &[(Refusal, RefusalCode, &str)] = &[
         RefusalCode::E07,
         "E07 unclosed or too deeply nested token",
     ),
-    (
-        Refusal::BadSubrs,
-        RefusalCode::E08,
-        "E08 Subrs malformed",
-    ),
+    (Refusal::BadSubrs, RefusalCode::E08, "E08 Subrs malformed"),
     (
         Refusal::BadCharStrings,
         RefusalCode::E09,
@@ -61,11 +57,7 @@ const OF_TEXTS: &[(Refusal, RefusalCode, &str)] = &[
         RefusalCode::E11,
         "E11 count past its limit",
     ),
-    (
-        Refusal::SecondSubrs,
-        RefusalCode::E12,
-        "E12 second Subrs",
-    ),
+    (Refusal::SecondSubrs, RefusalCode::E12, "E12 second Subrs"),
     (
         Refusal::MultipleMaster,
         RefusalCode::E13,

@@ -9,7 +9,8 @@ use t1_rules::{KEYS, Mask, Rule, font_faults, key_text, places, rule_code};
 use t1_samples::{FontFile, add_fault, font_of};
 
 /// A clear text that breaks no rule.
-pub(super) const CLEAR: &str = "%!\n/FontType 1 def /PaintType 0 def /Encoding StandardEncoding def eexec\n";
+pub(super) const CLEAR: &str =
+    "%!\n/FontType 1 def /PaintType 0 def /Encoding StandardEncoding def eexec\n";
 
 /// A private text that breaks no rule.
 pub(super) const PRIVATE: &str = "/password 5839 def /MinFeature {16 16} def \
