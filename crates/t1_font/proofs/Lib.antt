@@ -18,6 +18,7 @@ pub mod NumberLists
 pub mod PartsRefused
 pub mod PrivateItemsRead
 pub mod PrivateRead
+pub mod ReadKeys
 pub mod Reading
 pub mod Refused
 pub mod Room
