@@ -4,9 +4,8 @@ use Rattle.std.proofs.lemmas.List.Elements.{All-nil, All-cons, All-head, All-tai
 use Rattle.std.specs.List.{All, list_all}
 use Rattle.t1_scan.specs.Bytes.{is_regular}
 use Rattle.t1_font.specs.Keys.{same_name}
-use Rattle.t1_font.specs.Fonts.{Stated, Marks, FontValue, plain, encoding, code, bad_code, size, subr, glyph, value_of}
+use Rattle.t1_font.specs.Fonts.{Stated, Marks, FontValue, plain, encoding, code, bad_code, size, subr, glyph, value_of, glyph_name, name_in}
 use Rattle.t1_font.specs.Puts.{put, put_pair}
-use Rattle.t1_report.specs.Lines.{glyph_name, name_in}
 use Rattle.t1_lines.specs.Laws.{FontsHaveNames}
 use Rattle.t1_lines.specs.Names.{HasNames}
 use Rattle.t1_font.proofs.Kept.{font_holds}

@@ -8,6 +8,7 @@ use Rattle.std.specs.Option.{option_and_then}
 use Rattle.t1_char.specs.Steps.{NumberedStep, StepView, steps_of}
 use Rattle.t1_char.specs.Turns.{MachineView, step_of_number}
 use Rattle.t1_outline.specs.Private.Outlining.{steps_in}
+use Rattle.t1_font.specs.Fonts.{glyph_name}
 use Rattle.t1_picture.specs.declared.marks.FaultMark.{FaultMark}
 use Rattle.t1_picture.specs.declared.marks.Marks.{Marks}
 use Rattle.t1_picture.specs.Drawings.{all_steps}
@@ -21,7 +22,7 @@ use Rattle.t1_picture.proofs.Runs.{none_past}
 use Rattle.t1_report.specs.declared.marks.Mark.{Mark}
 use Rattle.t1_report.specs.Checked.{CheckedFont, checked, step_limit}
 use Rattle.t1_report.specs.Faults.{FaultValue}
-use Rattle.t1_report.specs.Lines.{glyph_name, line_of}
+use Rattle.t1_report.specs.Lines.{line_of}
 use Rattle.t1_report.specs.Reports.{Place, is_broken, is_told, path_at, place_of, rules_of, step_breaks}
 use Rattle.t1_report.specs.UnitFaults.{HasNoneLaterInUnit, IsNextInUnit, IsToldOf, first_mark_of}
 use Rattle.t1_report.specs.Waivers.{Waiver, is_waived}

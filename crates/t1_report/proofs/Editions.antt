@@ -8,7 +8,7 @@ use Rattle.std.proofs.lemmas.Option.{slice_get_cases}
 use Rattle.t1_char.specs.declared.edition.Edition.TheVariants.{One, Two}
 use Rattle.t1_char.specs.Editions.{limit_of}
 use Rattle.t1_char.specs.Steps.{StepView, steps_of}
-use Rattle.t1_font.specs.Fonts.{FontValue}
+use Rattle.t1_font.specs.Fonts.{FontValue, glyph_name}
 use Rattle.t1_font.specs.Keys.{same_name}
 use Rattle.t1_rules.specs.declared.rule.Rule.TheVariants.{U01}
 use Rattle.t1_rules.specs.Book.{number_of}
@@ -20,7 +20,6 @@ use Rattle.t1_rules.proofs.Lemmas.Editions.{agree_on_usual_steps, none_taken}
 use Rattle.t1_report.specs.Checked.{CheckedFont, checked}
 use Rattle.t1_report.specs.Faults.{FaultValue}
 use Rattle.t1_report.specs.Laws.Editions.{IsUsual, UsualFontsHaveOneReport}
-use Rattle.t1_report.specs.Lines.{glyph_name}
 use Rattle.t1_report.specs.Reports.{IsReport, is_broken, is_broken_below, is_told, is_unused, is_used, is_used_by, path_at, place_of, rules_of, step_breaks, tells_unused}
 use Rattle.t1_report.specs.Waivers.{Waiver, is_waived}
 use Rattle.t1_report.proofs.Broken.{past_last_step, within_limit}

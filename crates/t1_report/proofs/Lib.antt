@@ -4,7 +4,6 @@ pub mod DecimalLemmas
 pub mod Editions
 pub mod FewFaults
 pub mod Fronts
-pub mod GlyphNames
 pub mod GlyphSteps
 pub mod Hands
 pub mod HasReport
