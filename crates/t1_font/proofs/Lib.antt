@@ -14,6 +14,7 @@ pub mod LimitsKept
 pub mod ListValues
 pub mod Lists
 pub mod Maps
+pub mod NamesFound
 pub mod NumberLists
 pub mod PartsRefused
 pub mod PrivateItemsRead
