@@ -8,7 +8,9 @@ pub mod GlyphSteps
 pub mod Hands
 pub mod HasReport
 pub mod InFont
+pub mod JoinedLines
 pub mod LaterFaults
+pub mod NamesOnce
 pub mod Numbered
 pub mod OneReport
 pub mod PassedLines
@@ -28,3 +30,4 @@ pub mod WaivedFaults
 pub mod WaivedRules
 pub mod WaiverLines
 pub mod WaiverSets
+pub mod WrittenWaivers
