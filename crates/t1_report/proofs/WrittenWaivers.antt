@@ -71,8 +71,7 @@ text_is_line : (text : List ℕ) (w : Waiver) → waiver_of text ≡ Some w → 
 text_is_line text w e =
     let n = prefix_len is_regular text in
     let told = at_read (take n text) (drop n text) w e in
-    let regular : list_all is_regular (take n text) ≡ true = prefix_all is_regular text in
-    (
+    let regular : list_all is_regular (take n text) ≡ true = prefix_all is_regular text in (
       record { name = subst (λ (name : List ℕ). list_all is_regular name ≡ true) told.1.0 regular; rule = told.1.1 },
       ap (λ name. name ++ (32 ∷ code_of w.1)) (sym told.1.0) ∙ (ap (λ rest. take n text ++ rest) (sym told.0) ∙ whole n text),
     )

@@ -94,7 +94,10 @@ fn write_glyph_place<W: Sink>(sink: &mut W, font: &Font<'_>, fault: &Fault) -> R
     ensures { Writes (W.state sink.old) (W.state sink.new)
         (glyph_place font.now (fault_value fault.now)) result }
 {
-    put_parts(sink, &[b"glyph ", font.glyph_name((fault.unit - 1) as usize), b" "])?;
+    put_parts(
+        sink,
+        &[b"glyph ", font.glyph_name((fault.unit - 1) as usize), b" "],
+    )?;
     write_path(sink, fault.path.as_slice())?;
     let step = Decimal::new(u64::from(fault.step));
     put_parts(sink, &[b" ", step.digits()])

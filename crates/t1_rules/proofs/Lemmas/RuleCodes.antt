@@ -19,9 +19,9 @@ code_is_in code [] rule found = cc
 code_is_in code (r ∷ rs) rule found =
     elim (cases_Bool (same_name (code_of r) code)) [
       | inl same ↦ (
-        let here : Some r ≡ Some rule = rw same at found in
-        let it : r ≡ rule = cc in
-        subst (λ x. code_of x ≡ code) it (name_exact.exact (code_of r) code same))
+          let here : Some r ≡ Some rule = rw same at found in
+          let it : r ≡ rule = cc in
+          subst (λ x. code_of x ≡ code) it (name_exact.exact (code_of r) code same))
       | inr other ↦ (let there : coded_in code rs ≡ Some rule = rw other at found in code_is_in code rs rule there)
     ]
 
