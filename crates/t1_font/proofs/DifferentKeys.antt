@@ -1,10 +1,11 @@
 -- A table of different keys is the pairs as they stand.
-use Rattle.std.proofs.Common.{◌≡◌, Bool, false, not, Option, Some, None, List, [], ◌∷◌, map, filter, flat_map, nat_eq, refl, ap, ◌∙◌}
+use Rattle.std.proofs.Common.{◌≡◌, Bool, true, false, not, cond, inl, inr, Option, Some, None, List, [], ◌∷◌, map, filter, flat_map, nat_eq, refl, ap, sym, subst, ◌∙◌}
 use Rattle.std.specs.Option.{option_or, unwrap_or}
 use Rattle.std.specs.List.{AllByRecursion, IsDistinct}
 use Rattle.t1_font.specs.Keys.{same_name}
 use Rattle.t1_font.specs.Fonts.{code_of, subr_of, glyph_of, is_encoding, after_last, firsts, last_under, keys_of, table_of, value_of}
-use Rattle.t1_font.specs.Laws.Keys.{DifferentStay}
+use Rattle.t1_font.specs.Laws.Keys.{DifferentStay, NoneStandsTwice}
+use Rattle.std.proofs.lemmas.Bool.{cases_Bool}
 use Rattle.t1_font.proofs.Tables.{IsExact, nat_exact, name_exact, flipped}
 
 or_none : {A : Type 0} (x : Option A) → option_or x None ≡ x
@@ -22,7 +23,48 @@ module _ {K : Type 0} (eq : K → K → Bool) (e : IsExact eq) where
   all_first [] d = refl
   all_first (k ∷ ks) d = rw (all_first ks d.1) (ap (λ xs. k ∷ xs) (kept k ks d.0))
 
+  -- What a test leaves of keys that differ from one.
+  left_differ : (test : K → Bool) (k : K) (ks : List K) → AllByRecursion (λ y. eq k y ≡ false) ks
+      → AllByRecursion (λ y. eq k y ≡ false) (filter test ks)
+  left_differ test k [] a = tt
+  left_differ test k (j ∷ ks) a =
+      elim (test j) as (λ b. AllByRecursion (λ y. eq k y ≡ false) (cond b (j ∷ filter test ks) (filter test ks))) [
+        | true ↦ (a.0, left_differ test k ks a.1)
+        | false ↦ left_differ test k ks a.1
+      ]
+
+  others_differ : (k : K) (ks : List K) → AllByRecursion (λ y. eq k y ≡ false) (filter (λ j. not (eq k j)) ks)
+  others_differ k [] = tt
+  others_differ k (j ∷ ks) =
+      elim (cases_Bool (eq k j)) [
+        | inl y ↦ rw y (others_differ k ks)
+        | inr n ↦ rw n (n, others_differ k ks)
+      ]
+
+  distinct_left : (test : K → Bool) (ks : List K) → IsDistinct eq ks → IsDistinct eq (filter test ks)
+  unfolding IsDistinct
+  distinct_left test [] d = tt
+  distinct_left test (k ∷ ks) d =
+      elim (test k) as (λ b. IsDistinct eq (cond b (k ∷ filter test ks) (filter test ks))) [
+        | true ↦ (left_differ test k ks d.0, distinct_left test ks d.1)
+        | false ↦ distinct_left test ks d.1
+      ]
+
+  distinct_firsts : (ks : List K) → IsDistinct eq (firsts eq ks)
+  unfolding IsDistinct
+  distinct_firsts [] = tt
+  distinct_firsts (k ∷ ks) = (others_differ k (firsts eq ks), distinct_left (λ j. not (eq k j)) (firsts eq ks) (distinct_firsts ks))
+
   module _ {V : Type 0} (v : V) where
+    keys_of_pairs : (f : K → V) (ks : List K) → map (λ (p : K × V). p.0) (map (λ k. (k, f k)) ks) ≡ ks
+    keys_of_pairs f [] = refl
+    keys_of_pairs f (k ∷ ks) = ap (λ xs. k ∷ xs) (keys_of_pairs f ks)
+
+    pub distinct_table : (ps : List (K × V)) → IsDistinct eq (keys_of (table_of eq v ps))
+    distinct_table ps =
+        subst (IsDistinct eq) (sym (keys_of_pairs (λ k. unwrap_or (last_under eq k ps) v) (firsts eq (keys_of ps))))
+        (distinct_firsts (keys_of ps))
+
     abbrev under : List (K × V) → K → K × V
     under ps k = (k, unwrap_or (last_under eq k ps) v)
 
@@ -54,3 +96,11 @@ different_stay marks es = (
   table_same nat_eq
       nat_exact [] (flat_map code_of (after_last is_encoding es)),
 )
+
+pub none_stands_twice : NoneStandsTwice
+unfolding value_of
+none_stands_twice marks es = record {
+  subrs = distinct_table nat_eq nat_exact [] (flat_map subr_of es);
+  glyphs = distinct_table same_name name_exact [] (flat_map glyph_of es);
+  codes = distinct_table nat_eq nat_exact [] (flat_map code_of (after_last is_encoding es));
+}

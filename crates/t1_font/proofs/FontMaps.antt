@@ -1,6 +1,6 @@
 -- What an insertion and a look-up do to the pairs of a font's value.
 use Rattle.std.proofs.Common.{◌≡◌, ℕ, Bool, true, false, cond, Some, List, [], ◌∷◌, map, refl, ap, is_some, nat_eq, zero, suc, set, ◌++◌, ◌||◌, ◌∙◌, sym, slice_get, option_map, Option, None}
-use Rattle.t1_font.specs.Fonts.{FontValue, is_glyph_twice}
+use Rattle.t1_font.specs.Fonts.{FontValue, glyph_name, is_glyph_twice, name_in}
 use Rattle.std.proofs.lemmas.List.{map-append}
 use Rattle.std.specs.List.{list_any}
 use Rattle.indexmap.specs.IndexSet.{insert_key}
@@ -65,6 +65,18 @@ pair_at : (es : List (Bor (List ℕ) × Bor (List ℕ))) (i : ℕ) → slice_get
 pair_at [] i = refl
 pair_at (e ∷ es) zero = refl
 pair_at (e ∷ es) (suc i) = pair_at es i
+
+named_at : (v : FontValue) (es : List (Bor (List ℕ) × Bor (List ℕ))) (i : ℕ) (r : Option (Bor (List ℕ) × Bor (List ℕ))) → map name_pair es ≡ v.glyphs
+    → r ≡ slice_get es i → name_in (option_map name_pair r) ≡ glyph_name v i
+named_at v es i r glyphs entry = ap name_in (ap (option_map name_pair) entry ∙ sym (pair_at es i) ∙ ap (λ gs. slice_get gs i) glyphs)
+
+pub name_at : (v : FontValue) (es : List (Bor (List ℕ) × Bor (List ℕ))) (i : ℕ) (name bytes : Bor (List ℕ)) → map name_pair es ≡ v.glyphs
+    → Some (name, bytes) ≡ slice_get es i → name.now ≡ glyph_name v i
+name_at v es i name bytes glyphs entry = named_at v es i (Some (name, bytes)) glyphs entry
+
+pub no_name_past : (v : FontValue) (es : List (Bor (List ℕ) × Bor (List ℕ))) (i : ℕ) → map name_pair es ≡ v.glyphs → None ≡ slice_get es i
+    → [] ≡ glyph_name v i
+no_name_past v es i glyphs entry = named_at v es i None glyphs entry
 
 abbrev twice_by : FontValue → Option (List ℕ × List ℕ) → Bool
 twice_by v r = elim r [ None ↦ false | Some p ↦ list_any (same_name p.0) v.glyphs_twice ]

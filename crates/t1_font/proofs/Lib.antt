@@ -14,10 +14,12 @@ pub mod LimitsKept
 pub mod ListValues
 pub mod Lists
 pub mod Maps
+pub mod NamesFound
 pub mod NumberLists
 pub mod PartsRefused
 pub mod PrivateItemsRead
 pub mod PrivateRead
+pub mod ReadKeys
 pub mod Reading
 pub mod Refused
 pub mod Room

@@ -30,7 +30,7 @@ put_within v (code n name) w h = record { codes = keys_put (λ i. i < 256) v.cod
 put_within v bad_code w h = record { codes = w.codes; subrs = w.subrs; glyphs = w.glyphs; size = w.size }
 put_within v (size n) w h = record { codes = w.codes; subrs = w.subrs; glyphs = w.glyphs; size = h }
 put_within v (subr n bytes) w h = record { codes = w.codes; subrs = keys_put (λ i. i < 65535) v.subrs n bytes h w.subrs; glyphs = w.glyphs; size = w.size }
-put_within v (glyph name bytes) w h = record { codes = w.codes; subrs = w.subrs; glyphs = room_put v.glyphs name bytes w.glyphs h; size = w.size }
+put_within v (glyph name bytes) w h = record { codes = w.codes; subrs = w.subrs; glyphs = room_put v.glyphs name bytes w.glyphs h.0; size = w.size }
 
 -- Of nothing the value is within the limits.
 start_within : (marks : Marks) → IsWithinLimits (value_of marks [])

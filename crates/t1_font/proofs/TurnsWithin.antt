@@ -1,7 +1,9 @@
--- Each turn of a text states only what is within the limits.
-use Rattle.std.proofs.Common.{◌≡◌, ◌<◌, ◌≤◌, ◌&&◌, ℕ, not, if◌then◌else◌, Option, Some, None, Ok, Err, rules, IfOk, IfSome, List, length, nat_lt, nat_le, arith, codes, inl, inr}
+-- Each turn of a text states only what is within the limits, and only glyphs with names.
+use Rattle.std.proofs.Common.{◌≡◌, ◌<◌, ◌≤◌, ◌&&◌, ℕ, not, true, drop, IsTrue, if◌then◌else◌, Option, Some, None, Ok, Err, rules, IfOk, IfSome, List, length, nat_lt, nat_le, arith, codes, inl, inr}
 use Rattle.std.proofs.lemmas.Bool.{cases_Bool}
 use Rattle.std.proofs.lemmas.Bool.Decides.{nat_tests}
+use Rattle.std.specs.List.{list_all}
+use Rattle.t1_scan.specs.Bytes.{is_regular}
 use Rattle.t1_scan.specs.declared.token.Kind.{Kind}
 use Rattle.t1_font.specs.declared.key.Key.{Key}
 use Rattle.t1_font.specs.declared.encoding.Encoding.TheVariants.{Custom, Other}
@@ -13,16 +15,17 @@ use Rattle.t1_font.specs.declared.refusal.Refusal.{Refusal}
 use Rattle.t1_font.specs.declared.refusal.Refusal.TheVariants.{BadCharStrings, BadSubrs, NoEexec, PastLimit}
 use Rattle.t1_font.specs.Readings.{◌>>=◌}
 use Rattle.t1_font.specs.Keys.{same_name, private_key, clear_key}
-use Rattle.t1_font.specs.Tokens.{wanted, token_ahead, natural, whole, whole_up_to, is_number_kind, is_name_kind, name_of, spells, past_word, charstring_at, ◌>?◌}
+use Rattle.t1_font.specs.Tokens.{wanted, token_ahead, natural, whole, whole_up_to, is_number_kind, is_name_kind, is_word_kind, name_of, spells, past_word, charstring_at, ◌>?◌}
 use Rattle.t1_font.specs.Fonts.{Stated, FontValue, plain, encoding, code, bad_code, size, subr, glyph}
-use Rattle.t1_font.specs.TextTurns.{TextTurn, goes}
+use Rattle.t1_font.specs.TextTurns.{TextTurn, over, goes}
 use Rattle.t1_font.specs.ClearText.{clear_value, array_at, encoding_at, encoding_turn, clear_outside, code_statement, code_at, code_turn, code_token, clear_turn, begins}
 use Rattle.t1_font.specs.PrivateText.{has_key, private_value, subrs_at, subrs_turn, glyphs_at, private_outside, subr_at, dup_turn, subrs_token, glyph_turn, glyphs_token, private_turn}
 use Rattle.t1_font.specs.Private.Room.{HasRoom, HasRoomFor}
 use Rattle.t1_font.proofs.Compose.{bind, next, either, choose, glance, which, found_or}
 use Rattle.t1_font.proofs.Kept.{FitsOne, StatesFitting}
+use Rattle.t1_font.proofs.NamesFound.{NamedFound, wanted_named}
 
--- A statement that leaves a value within the limits.
+-- A statement that leaves a value within the limits; a glyph's has its name as well, of regular bytes.
 abbrev pub Fits : FontValue → Stated → Type 0
 Fits v (plain k t) = Unit {0}
 Fits v (encoding form) = Unit {0}
@@ -30,7 +33,7 @@ Fits v (code n name) = n < 256
 Fits v bad_code = Unit {0}
 Fits v (size n) = n ≤ 65535
 Fits v (subr n bytes) = n < 65535
-Fits v (glyph name bytes) = HasRoom v name
+Fits v (glyph name bytes) = HasRoom v name × IsTrue (list_all is_regular name)
 
 pub room_for : (v : FontValue) (e : Option Stated) → FitsOne (Fits v) e → HasRoomFor v e
 room_for v None h = tt
@@ -40,7 +43,7 @@ room_for v (Some (code n name)) h = tt
 room_for v (Some bad_code) h = tt
 room_for v (Some (size n)) h = tt
 room_for v (Some (subr n bytes)) h = tt
-room_for v (Some (glyph name bytes)) h = h
+room_for v (Some (glyph name bytes)) h = h.0
 
 -- What a turn states fits.
 abbrev pub Keeps : {M : Type 0} → FontValue → TextTurn M → Type 0
@@ -123,23 +126,31 @@ module _ (v : FontValue) where
   unfolding subrs_token
   subrs_token_fits kind text s = search (rules, either, dup_turn_fits s, private_outside_fits kind text s)
 
-  glyph_turn_fits : (name s : List ℕ) → IfOk (glyph_turn v name s) (Keeps v)
+  glyph_turn_fits : (name s : List ℕ) → IsTrue (list_all is_regular name) → IfOk (glyph_turn v name s) (Keeps v)
   unfolding glyph_turn
-  glyph_turn_fits name s =
+  glyph_turn_fits name s named =
       elim (cases_Bool (nat_le 65535 (length v.glyphs) && not (has_key same_name v.glyphs name))) [
         | inl y ↦ rw y tt
-        | inr n ↦ rw n (next (Keeps v) (charstring_at BadCharStrings s) (λ bytes. Ok (goes (Some (glyph name bytes.0)) Glyphs bytes.1)) (λ bytes. n))
+        | inr n ↦ rw n (next (Keeps v) (charstring_at BadCharStrings s) (λ bytes. Ok (goes (Some (glyph name bytes.0)) Glyphs bytes.1)) (λ bytes. (n, named)))
       ]
 
-  glyphs_token_fits : (kind : Kind) (text s : List ℕ) → IfOk (glyphs_token v kind text s) (Keeps v)
+  glyphs_token_fits : (kind : Kind) (text s : List ℕ) → (is_name_kind kind ≡ true → IsTrue (list_all is_regular (drop 1 text)))
+      → IfOk (glyphs_token v kind text s) (Keeps v)
   unfolding glyphs_token
-  glyphs_token_fits kind text s = search (rules, either, glyph_turn_fits (name_of text) s)
+  glyphs_token_fits kind text s named =
+      either (Keeps v) (spells (codes "end") kind text) (Ok (over s)) _ tt
+      (either (Keeps v) (is_word_kind kind) (Ok (goes None Glyphs s)) _ tt
+      (elim (cases_Bool (is_name_kind kind)) [
+        | inl y ↦ rw y (glyph_turn_fits (name_of text) s (named y))
+        | inr n ↦ rw n tt
+      ]))
 
   pub private_fits : (mode : PrivateMode) (s : List ℕ) → IfOk (private_turn v mode s) (Keeps v)
   unfolding private_turn
   private_fits Outside s = next (Keeps v) (wanted BadCharStrings s) _ (λ t. private_outside_fits t.kind t.text t.rest)
   private_fits Subrs s = next (Keeps v) (wanted BadCharStrings s) _ (λ t. subrs_token_fits t.kind t.text t.rest)
-  private_fits Glyphs s = next (Keeps v) (wanted BadCharStrings s) _ (λ t. glyphs_token_fits t.kind t.text t.rest)
+  private_fits Glyphs s = bind NamedFound (Keeps v) (wanted BadCharStrings s) _ (wanted_named BadCharStrings s)
+      (λ t named. glyphs_token_fits t.kind t.text t.rest named)
 
   clear_value_fits : (k : Option Key) (s : List ℕ) → IfOk (clear_value k s) (Keeps v)
   unfolding clear_value

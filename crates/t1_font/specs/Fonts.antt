@@ -144,3 +144,11 @@ is_glyph_twice v place = elim (slice_get v.glyphs place) [
   | None ↦ false
   | Some p ↦ list_any (same_name p.0) v.glyphs_twice
 ]
+
+-- The name of a glyph, by its place; empty past the last.
+abbrev pub name_in : Option (List ℕ × List ℕ) → List ℕ
+name_in None = []
+name_in (Some p) = p.0
+
+abbrev pub glyph_name : FontValue → ℕ → List ℕ
+glyph_name font place = name_in (slice_get font.glyphs place)

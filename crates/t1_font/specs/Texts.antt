@@ -1,6 +1,5 @@
 -- What the two texts of a font are read as.
-use Rattle.std.specs.Prelude.{ℕ, ◌-◌, not, ◌&&◌, Result, Ok, Err, List, length}
-use Rattle.t1_seal.specs.declared.joined.Joined.{Joined}
+use Rattle.std.specs.Prelude.{ℕ, ◌-◌, Result, Ok, Err, List, length}
 use Rattle.t1_font.specs.declared.mode.PrivateMode.TheVariants.{Outside}
 use Rattle.t1_font.specs.declared.refusal.Refusal.{Refusal}
 use Rattle.t1_font.specs.declared.refusal.Refusal.TheVariants.{BadCharStrings}
@@ -9,10 +8,6 @@ use Rattle.t1_font.specs.TextTurns.{TextRead}
 use Rattle.t1_font.specs.Runs.{FontRead, run_of}
 use Rattle.t1_font.specs.ClearText.{clear_of}
 use Rattle.t1_font.specs.PrivateText.{private_turn, private_of}
-
--- The marks of a font's file.
-abbrev pub marks_of : Joined → Marks
-marks_of joined = record { no_end = joined.pfb && not joined.end_segment; extra = joined.trailing }
 
 -- What was read of a clear text: the font so far, and the place behind the word eexec.
 pub record ClearValue : Type 0 where

@@ -4,7 +4,9 @@ ghost use Rattle.std.specs.Prelude.{◌≡◌, ◌≤◌, IfOk, List, Ok, drop, 
 ghost use Rattle.t1_font.specs.ClearText.{begins_as_font, clear_of};
 ghost use Rattle.t1_font.specs.Fonts.{Marks, Stated, value_of};
 ghost use Rattle.t1_font.specs.Readings.{Reads};
-ghost use Rattle.t1_font.specs.Texts.{clear_read, font_after, font_read, marks_of};
+ghost use Rattle.t1_font.specs.Texts.{clear_read, font_after, font_read};
+ghost use Rattle.t1_font.specs.FontFiles.{marks_in};
+ghost use Rattle.t1_seal.specs.Joined.{joined_text};
 ghost use Rattle.t1_font.specs.TextTurns.{TextRead};
 
 use crate::font::Font;
@@ -56,10 +58,10 @@ fn begins_as_font(text: &[u8]) -> bool
 
 /// Reads the clear text of a font, up to its word `eexec`.
 pub fn read_clear<'a>(alloc: Global, joined: &'a Joined) -> Result<Clear<'a>, Refusal>
-    ensures gives { Reads (λ c. c) result (clear_read (marks_of joined.now) joined.now.bytes.items) }
+    ensures gives { Reads (λ c. c) result (clear_read (marks_in (joined_text joined.now)) joined.now.bytes.items) }
     ensures within { IfOk result (λ clear. clear.after ≤ length joined.now.bytes.items) }
     ensures behind { IfOk result (λ clear. (read : TextRead) →
-        clear_of (marks_of joined.now) joined.now.bytes.items ≡ Ok read →
+        clear_of (marks_in (joined_text joined.now)) joined.now.bytes.items ≡ Ok read →
         read.rest ≡ drop clear.after joined.now.bytes.items) }
 {
     let text = joined.bytes.as_slice();

@@ -3,7 +3,7 @@
 ghost use Rattle.std.specs.Prelude.{◌≡◌, ◌≤◌, [], false, Some, nat_eq, length, map, is_some, OnOk, IfErr, slice_index_or};
 ghost use Rattle.std.specs.Option.{unwrap_or};
 ghost use Rattle.std.specs.Map.{lookup};
-ghost use Rattle.t1_font.specs.Fonts.{FontValue, Marks, value_of, plain, encoding, code, subr, glyph, is_glyph_twice, is_subr_twice};
+ghost use Rattle.t1_font.specs.Fonts.{FontValue, Marks, value_of, plain, encoding, code, subr, glyph, glyph_name, is_glyph_twice, is_subr_twice};
 ghost use Rattle.t1_font.specs.Entries.{entry_view};
 ghost use Rattle.t1_font.specs.Keys.{index_of, same_name};
 ghost use Rattle.t1_font.specs.LenIv.{len_iv_of};
@@ -96,6 +96,16 @@ impl<'a> Font<'a> {
         ensures few { length self.now.glyphs ≤ most_glyphs }
     {
         &self.glyphs
+    }
+
+    /// The name of a glyph by its place, from 0; empty past the last.
+    pub fn glyph_name(&self, place: usize) -> &'a [u8]
+        ensures { result.now ≡ glyph_name self.now place }
+    {
+        match self.glyphs.get_index(place) {
+            Some((name, _)) => *name,
+            None => &[],
+        }
     }
 
     /// The Subrs, in the order of their first appearance, each with its last charstring.

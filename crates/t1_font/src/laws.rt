@@ -1,7 +1,7 @@
 //! Laws of the definitions, each on a call that does nothing.
 
 ghost use Rattle.t1_font.specs.Laws.Blanks.{BlanksAgree};
-ghost use Rattle.t1_font.specs.Laws.Keys.{DifferentStay, TwiceIsAgain};
+ghost use Rattle.t1_font.specs.Laws.Keys.{DifferentStay, FontsHaveDistinctKeys, NoneStandsTwice, TwiceIsAgain};
 ghost use Rattle.t1_font.specs.Laws.Statements.{OneMore, ReadAsStated};
 ghost use Rattle.t1_font.specs.declared.mode.ClearMode.{ClearMode};
 ghost use Rattle.t1_font.specs.declared.mode.PrivateMode.{PrivateMode};
@@ -26,6 +26,12 @@ pub fn reading_by_statements()
 #[tactic(auto, using(crate::proofs::DifferentKeys::different_stay))]
 pub fn different_keys()
     ensures { DifferentStay }
+{}
+
+/// No Subr's number, no glyph's name and no code stands twice in the value of what is stated, and so in no font that is read.
+pub fn keys_stand_once()
+    ensures stated { NoneStandsTwice }
+    ensures read { FontsHaveDistinctKeys }
 {}
 
 /// The Subrs and the glyphs that a font has as given twice are those that were stated twice or more.

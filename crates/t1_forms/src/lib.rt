@@ -9,10 +9,9 @@
 //! - What is read is spelled as the line is, and a line that is spelled so is read. Whatever the font's name, a text is that of
 //!   one line at most.
 //! - The line of JSON is the compact text of the object that the line read stands for, and nothing else.
-//! - Each is written before the next one is read: memory doesn't grow with the lines, but for fonts that weren't checked, of
-//!   which a document keeps at most a thousand.
 //!
-//! The documents of SARIF and GitHub's commands are shown by tests alone.
+//! Each is written before the next one is read: memory doesn't grow with the lines, but for fonts that weren't checked, of which
+//! a document keeps at most a thousand. This, the documents of SARIF and GitHub's commands are shown by tests alone.
 //!
 //! ```
 //! match read_told(b"a.pfb: 1: glyph A - 9 H02 stems overlap") {

@@ -5,11 +5,11 @@ use Rattle.std.proofs.lemmas.List.{append-nil, append_assoc, append_cancel_right
 use Rattle.std.proofs.lemmas.List.Elements.{All-head, All-tail}
 use Rattle.std.specs.List.{list_all}
 use Rattle.t1_scan.specs.Bytes.{is_regular}
-use Rattle.t1_font.specs.Fonts.{FontValue}
+use Rattle.t1_font.specs.Fonts.{FontValue, glyph_name}
 use Rattle.t1_rules.specs.Book.{code_of, text_of}
 use Rattle.t1_rules.specs.Keys.{key_text_of}
 use Rattle.t1_report.specs.Faults.{FaultValue}
-use Rattle.t1_report.specs.Lines.{IsInFont, line_of, place_text, rule_part, glyph_name, path_text}
+use Rattle.t1_report.specs.Lines.{IsInFont, line_of, place_text, rule_part, path_text}
 use Rattle.t1_report.specs.Waivers.{Waiver}
 use Rattle.t1_lines.specs.Lines.{FaultLineValue, LineValue, of_fault, place_in, line_in, place_words, spaced, fault_spelled, IsPlace, IsSmall}
 use Rattle.t1_lines.specs.Laws.{ATextIsOneLine, FaultsAreWrittenAsLines}

@@ -4,10 +4,8 @@ pub mod Exact
 pub mod Lacking
 pub mod LinesRead
 pub mod LinesTold
-pub mod NamesFound
 pub mod NamesKept
 pub mod NamesRead
-pub mod NamesStated
 pub mod Numbers
 pub mod Paths
 pub mod WaiverNames

@@ -4,13 +4,12 @@ use Rattle.std.proofs.lemmas.List.Elements.{All-nil, All-cons, All-head, All-tai
 use Rattle.std.specs.List.{All, list_all}
 use Rattle.t1_scan.specs.Bytes.{is_regular}
 use Rattle.t1_font.specs.Keys.{same_name}
-use Rattle.t1_font.specs.Fonts.{Stated, Marks, FontValue, plain, encoding, code, bad_code, size, subr, glyph, value_of}
+use Rattle.t1_font.specs.Fonts.{Stated, Marks, FontValue, plain, encoding, code, bad_code, size, subr, glyph, value_of, glyph_name, name_in}
 use Rattle.t1_font.specs.Puts.{put, put_pair}
-use Rattle.t1_report.specs.Lines.{glyph_name, name_in}
 use Rattle.t1_lines.specs.Laws.{FontsHaveNames}
 use Rattle.t1_lines.specs.Names.{HasNames}
 use Rattle.t1_font.proofs.Kept.{font_holds}
-use Rattle.t1_lines.proofs.NamesStated.{Fits, clear_fits, private_fits}
+use Rattle.t1_font.proofs.TurnsWithin.{Fits, clear_fits, private_fits}
 
 abbrev Named : List ℕ × List ℕ → Type 0
 Named g = IsTrue (list_all is_regular g.0)
@@ -25,21 +24,21 @@ names_put (p ∷ ps) k v h a =
       | false ↦ All-cons Named p (put_pair same_name ps k v) first (names_put ps k v h others)
     ]
 
-put_within : (v : FontValue) (e : Stated) → HasNames v → Fits e → HasNames (put v e)
+put_within : (v : FontValue) (e : Stated) → HasNames v → Fits v e → HasNames (put v e)
 put_within v (plain k t) w h = w
 put_within v (encoding form) w h = w
 put_within v (code n name) w h = w
 put_within v bad_code w h = w
 put_within v (size n) w h = w
 put_within v (subr n bytes) w h = w
-put_within v (glyph name bytes) w h = names_put v.glyphs name bytes h w
+put_within v (glyph name bytes) w h = names_put v.glyphs name bytes h.1 w
 
 start_within : (marks : Marks) → HasNames (value_of marks [])
 unfolding value_of
 start_within marks = All-nil Named
 
 pub fonts_have_names : FontsHaveNames
-fonts_have_names = font_holds HasNames (λ v. Fits) put_within clear_fits private_fits start_within
+fonts_have_names = font_holds HasNames Fits put_within clear_fits private_fits start_within
 
 name_at : (glyphs : List (List ℕ × List ℕ)) (i : ℕ) → All Named glyphs → IsTrue (list_all is_regular (name_in (slice_get glyphs i)))
 name_at [] i all = refl

@@ -27,14 +27,6 @@ few_seen m = omega (arith, length-take m.counted (steps_in m), length-take (limi
     limit_is_small One = omega arith
     limit_is_small Two = omega arith
 
--- A segment is given.
-pub one_given : (m : MachineView) (segments : List Segment) (given : ℕ) (s : Segment) → given < length segments
-    → s ≡ slice_index_or segments given s
-    → left_in m segments given ≡ placed m.step.number m.step.step.path s ∷ left_in m segments (given + 1)
-one_given m segments given s less is =
-    ap (λ ss. map (placed m.step.number m.step.step.path) ss ++ drawn_from (take m.counted (steps_in m)) (drop m.counted (steps_in m)))
-    (drop_more segments given s less ∙ ap (λ x. x ∷ drop (given + 1) segments) (sym is))
-
 -- The same machine, one call further on.
 pub record IsSame (old new : MachineView) : Type 0 where
   pub font_is : new.font ≡ old.font

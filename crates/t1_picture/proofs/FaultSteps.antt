@@ -8,6 +8,7 @@ use Rattle.std.specs.Option.{option_and_then}
 use Rattle.t1_char.specs.Steps.{NumberedStep, StepView, steps_of}
 use Rattle.t1_char.specs.Turns.{MachineView, step_of_number}
 use Rattle.t1_outline.specs.Private.Outlining.{steps_in}
+use Rattle.t1_font.specs.Fonts.{glyph_name}
 use Rattle.t1_picture.specs.declared.marks.FaultMark.{FaultMark}
 use Rattle.t1_picture.specs.declared.marks.Marks.{Marks}
 use Rattle.t1_picture.specs.Drawings.{all_steps}
@@ -21,7 +22,7 @@ use Rattle.t1_picture.proofs.Runs.{none_past}
 use Rattle.t1_report.specs.declared.marks.Mark.{Mark}
 use Rattle.t1_report.specs.Checked.{CheckedFont, checked, step_limit}
 use Rattle.t1_report.specs.Faults.{FaultValue}
-use Rattle.t1_report.specs.Lines.{glyph_name, line_of}
+use Rattle.t1_report.specs.Lines.{line_of}
 use Rattle.t1_report.specs.Reports.{Place, is_broken, is_told, path_at, place_of, rules_of, step_breaks}
 use Rattle.t1_report.specs.UnitFaults.{HasNoneLaterInUnit, IsNextInUnit, IsToldOf, first_mark_of}
 use Rattle.t1_report.specs.Waivers.{Waiver, is_waived}
@@ -137,16 +138,6 @@ pub record HasAdded (s : Subject) (faults : List FaultValue) (n : ℕ) (mark : M
   pub marks_are : marks.done.items ++ marks_from s marks.last (left_to_add s n rest) ≡ marks_from s None (shown_of s faults)
   pub lines_are : lines ++ lines_of s (left_to_add s n rest) ≡ lines_of s (shown_of s faults)
 
-pub none_added : (s : Subject) (faults : List FaultValue) (mark : Mark) (marks : Marks) (lines : List (List ℕ)) → AreShownOf s s.waivers faults
-    → mark ≡ first_mark_of (s.glyph + 1) → marks.done.items ≡ [] → marks.last ≡ None → lines ≡ [] → HasAdded s faults 0 mark marks lines
-none_added s faults mark marks lines are first none no_last no_lines = record {
-  rest = faults;
-  are = subst (λ (m : Mark). AreLaterOf (IsToldOf (checked s.font s.edition) s.waivers (s.glyph + 1)) (path_at (checked s.font s.edition)) m faults)
-      (sym first) are;
-  marks_are = rw (none, no_last) refl;
-  lines_are = rw no_lines refl;
-}
-
 marks_next : (s : Subject) (o : Option FaultMark) (f : FaultValue) (fs : List FaultValue)
     → marks_from s o (f ∷ fs) ≡ done_with o (pen_at s f.step) ++ marks_from s (Some (last_with o (pen_at s f.step) f.number)) fs
 marks_next s None f fs = refl
@@ -243,15 +234,6 @@ pub record HasCounted (s : Subject) (faults : List FaultValue) (n : ℕ) (mark :
   pub are : AreLaterOf (IsToldOf (checked s.font s.edition) [] (s.glyph + 1)) (path_at (checked s.font s.edition)) mark rest
   pub count_is : min (count + count_by (is_waived_of s) (left_to_add s n rest)) all_steps ≡ waived_of s faults
   pub small : count ≤ all_steps
-
-pub none_counted : (s : Subject) (faults : List FaultValue) (mark : Mark) → AreShownOf s [] faults
-    → mark ≡ first_mark_of (s.glyph + 1) → HasCounted s faults 0 mark 0
-none_counted s faults mark are first = record {
-  rest = faults;
-  are = subst (λ (m : Mark). AreLaterOf (IsToldOf (checked s.font s.edition) [] (s.glyph + 1)) (path_at (checked s.font s.edition)) m faults) (sym first) are;
-  count_is = ap (λ (k : ℕ). min k all_steps) (omega arith);
-  small = omega arith;
-}
 
 count_next : (s : Subject) (count more : ℕ) (b : Bool) → count ≤ all_steps
     → min (counted count b + more) all_steps ≡ min (count + ((if b then 1 else 0) + more)) all_steps

@@ -1,7 +1,11 @@
+pub mod ExactPlaces
 pub mod FaultSteps
 pub mod Joined
 pub mod Made
+pub mod OutlineLayers
 pub mod PartSteps
 pub mod Runs
 pub mod Shown
 pub mod Written
+pub mod XmlCharacters
+pub mod XmlTexts

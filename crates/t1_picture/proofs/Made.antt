@@ -1,10 +1,8 @@
--- A drawing and its faults, part by part.
+-- A drawing, part by part.
 use Rattle.std.proofs.Common.{◌≡◌, ℕ, List, Option, ap, ◌∙◌}
 use Rattle.t1_outline.specs.declared.composition.Composition.{Composition}
-use Rattle.t1_picture.specs.declared.marks.FaultMark.{FaultMark}
 use Rattle.t1_picture.specs.Drawings.{DrawingView}
 use Rattle.t1_picture.specs.Layers.{LayersView}
-use Rattle.t1_picture.specs.Marks.{FaultsView}
 
 abbrev made : LayersView → List (List ℕ) → Composition → Option (List ℕ) → DrawingView
 made layers notes composition last_step =
@@ -16,12 +14,3 @@ same_drawing a b layers notes composition last_step =
     ∙ ap (λ (x : List (List ℕ)). made b.layers x a.composition a.last_step) notes
     ∙ ap (λ (x : Composition). made b.layers b.notes x a.last_step) composition
     ∙ ap (λ (x : Option (List ℕ)). made b.layers b.notes b.composition x) last_step
-
-abbrev told : List FaultMark → List (List ℕ) → ℕ → FaultsView
-told marks lines waived = record { marks = marks; lines = lines; waived = waived }
-
-pub same_faults : (a b : FaultsView) → a.marks ≡ b.marks → a.lines ≡ b.lines → a.waived ≡ b.waived → a ≡ b
-same_faults a b marks lines waived =
-    ap (λ (x : List FaultMark). told x a.lines a.waived) marks
-    ∙ ap (λ (x : List (List ℕ)). told b.marks x a.waived) lines
-    ∙ ap (λ (x : ℕ). told b.marks b.lines x) waived

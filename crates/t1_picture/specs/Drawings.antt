@@ -3,7 +3,7 @@ use Rattle.std.specs.Prelude.{ℕ, ◌-◌, ◌^◌, Bool, Option, None, Some, i
 use Rattle.std.specs.declared.alloc.Global.{Global}
 use Rattle.std.specs.Fmt.{decimal}
 use Rattle.std.specs.Option.{option_map}
-use Rattle.t1_font.specs.Fonts.{FontValue}
+use Rattle.t1_font.specs.Fonts.{FontValue, glyph_name}
 use Rattle.t1_outline.specs.declared.composition.Composition.{Composition}
 use Rattle.t1_outline.specs.declared.parts.Part.{Part}
 use Rattle.t1_outline.specs.declared.parts.SeacPart.{SeacPart}
@@ -15,7 +15,6 @@ use Rattle.t1_picture.specs.Layers.{LayersView, layers_view, no_layers}
 use Rattle.t1_picture.specs.Parts.{PartView, drawn_steps, last_step_of, note_if, part_notes, with_part}
 use Rattle.t1_picture.specs.Subjects.{Subject}
 use Rattle.t1_picture.specs.Texts.{legible}
-use Rattle.t1_report.specs.Lines.{glyph_name}
 use Rattle.t1_rules.specs.StandardEncoding.{standard_name}
 use Rattle.t1_rules.specs.StepRules.Flex.{origin}
 

@@ -3,12 +3,12 @@ use Rattle.std.specs.Prelude.{ℕ, ◌==◌, nat_lt, if◌then◌else◌, Bool, 
 use Rattle.std.specs.Fmt.{decimal}
 use Rattle.t1_char.specs.declared.edition.Edition.{Edition}
 use Rattle.t1_char.specs.declared.edition.Edition.TheVariants.{One, Two}
+use Rattle.t1_font.specs.Fonts.{glyph_name}
 use Rattle.t1_picture.specs.Drawings.{DrawingView}
 use Rattle.t1_picture.specs.Marks.{FaultsView}
 use Rattle.t1_picture.specs.Parts.{note_if}
 use Rattle.t1_picture.specs.Subjects.{Subject}
 use Rattle.t1_picture.specs.Texts.{legible}
-use Rattle.t1_report.specs.Lines.{glyph_name}
 
 -- Which glyph it is, and by which edition.
 abbrev pub title_of : Subject → List ℕ

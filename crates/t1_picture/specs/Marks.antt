@@ -6,6 +6,7 @@ use Rattle.std.specs.Ordering.{int_eq}
 use Rattle.t1_char.specs.Editions.{limit_of}
 use Rattle.t1_char.specs.Stacks.{from_top}
 use Rattle.t1_char.specs.Steps.{StepView, steps_of}
+use Rattle.t1_font.specs.Fonts.{glyph_name}
 use Rattle.t1_picture.specs.declared.faults.Faults.{Faults}
 use Rattle.t1_picture.specs.declared.marks.FaultMark.{FaultMark}
 use Rattle.t1_picture.specs.Decimals.{point_text}
@@ -14,7 +15,7 @@ use Rattle.t1_picture.specs.Subjects.{Subject}
 use Rattle.t1_picture.specs.Texts.{legible_line}
 use Rattle.t1_report.specs.Checked.{checked}
 use Rattle.t1_report.specs.Faults.{FaultValue}
-use Rattle.t1_report.specs.Lines.{glyph_name, line_of}
+use Rattle.t1_report.specs.Lines.{line_of}
 use Rattle.t1_report.specs.UnitFaults.{AreOfUnit}
 use Rattle.t1_report.specs.Waivers.{Waiver, is_waived}
 use Rattle.t1_rules.specs.declared.rule.Rule.{Rule}

@@ -12,7 +12,7 @@ ghost use Rattle.t1_picture.specs.Views.{CanBeDrawn};
 use crate::layers::Layers;
 use crate::parts::DrawnPart;
 use crate::texts::{add_line, legible};
-use crate::view::{View, name_of};
+use crate::view::View;
 use std::alloc::{AllocError, Global};
 use t1_font::Font;
 use t1_outline::{Composition, ORIGIN, Part, SeacPart, SeacParts};
@@ -124,7 +124,7 @@ fn label_of(
 ) -> Result<String, AllocError>
     ensures { IfOk result (λ label. string_bytes label ≡ label_of font.now called.now glyph) }
 {
-    let name = legible(alloc, name_of(font, glyph))?;
+    let name = legible(alloc, font.glyph_name(glyph))?;
     format!(in alloc; "{called} {name}: ")
 }
 

@@ -1,9 +1,35 @@
-//! Laws of pictures. A call of one does nothing: a proof cites what it ensures.
+//! Laws of pictures. A call of one does nothing but call the laws that it rests on: a proof cites what it ensures.
 
-ghost use Rattle.t1_picture.specs.Laws.{HasNoOtherPicture};
+ghost use Rattle.t1_picture.specs.Laws.{AmpersandsBeginEntities, HasNoOtherPicture, HasPicture, LegibleTextsAreFit, OutlineIsThatOfItsParts, PlacesAreExact, TextsHaveNoMarkup, WholePartsAreOutlines};
 
-/// A font, a glyph of it, waivers, an edition and a step have no two pictures: what [`picture`](crate::picture) gives is a function
-/// of these.
+use t1_report::faults_of_a_unit_are_the_reports;
+
+/// A font of at most 65,535 glyphs, a glyph of it, at most 1,048,576 waivers, an edition and a step have a picture, and no two:
+/// what [`picture`](crate::picture) gives is a function of these.
 pub fn a_subject_has_one_picture()
-    ensures { HasNoOtherPicture }
+    ensures some { HasPicture }
+    ensures no_other { HasNoOtherPicture }
+{
+    faults_of_a_unit_are_the_reports();
+}
+
+/// The outline of a picture is that of the glyph, up to the last step drawn, and then that of each component of its seac that is
+/// there; and where all steps of a part are drawn, its outline is that of t1_outline.
+pub fn outlines_are_drawn()
+    ensures parts { OutlineIsThatOfItsParts }
+    ensures whole { WholePartsAreOutlines }
+{}
+
+/// Coordinates, in units of 1/65536, and numbers of a dictionary, in units of 10^-9, are written exactly: their decimal places
+/// are the part behind the point, neither rounded nor cut.
+pub fn numbers_are_written_exactly()
+    ensures { PlacesAreExact }
+{}
+
+/// No text of a font ends an element of the picture or a value in double quotes: as it is written there, it has no `<`, `>` and
+/// `"`, and each `&` begins an entity. Nor has it a character that XML can't hold.
+pub fn texts_stay_in_their_elements()
+    ensures markup { TextsHaveNoMarkup }
+    ensures entities { AmpersandsBeginEntities }
+    ensures fit { LegibleTextsAreFit }
 {}

@@ -6,8 +6,9 @@
 //!
 //! What is promised, for all fonts:
 //!
-//! - the text is the picture that the definition says, byte for byte (`IsPictureOf`), and a subject has no other
+//! - the text is the picture that the definition says, byte for byte (`IsPictureOf`), and a subject has just one
 //!   ([`a_subject_has_one_picture`]);
+//! - no name in a font ends an element or an attribute of it ([`texts_stay_in_their_elements`]);
 //! - no index, sum or cast goes wrong, and each call returns.
 //!
 //! Coordinates are exact, in units of 1/65536. The text is made in memory, so that where memory runs out there is none.
@@ -41,6 +42,9 @@ mod svg;
 mod texts;
 mod view;
 
-pub use laws::a_subject_has_one_picture;
+pub use laws::{
+    a_subject_has_one_picture, numbers_are_written_exactly, outlines_are_drawn,
+    texts_stay_in_their_elements,
+};
 pub use svg::picture;
 pub use view::View;

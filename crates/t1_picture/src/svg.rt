@@ -23,15 +23,14 @@ use crate::texts::{legible, push};
 use crate::view::View;
 use std::alloc::{AllocError, Global};
 use t1_font::Font;
-use t1_report::{each_font_has_a_report, faults_of_a_unit_are_the_reports};
+use t1_report::faults_of_a_unit_are_the_reports;
 
 /// The picture of a glyph: a text of SVG 1.1. The same view has the same picture.
 pub fn picture(alloc: Global, view: &View<'_>) -> Result<String, AllocError>
     requires { CanBeDrawn view.now }
     ensures { IfOk result (λ text. IsPictureOf (subject_of view.now) (string_bytes text)) }
 {
-    // The calls of laws do nothing: the proof cites what they ensure.
-    each_font_has_a_report();
+    // The call of a law does nothing: the proof cites what it ensures.
     faults_of_a_unit_are_the_reports();
     let _few_glyphs = view.font.glyphs();
     let _few_waivers = view.waivers.len();

@@ -1,8 +1,8 @@
 //! What is to be drawn.
 
 ghost use Rattle.std.specs.Prelude.{◌≡◌, unwrap_or};
+ghost use Rattle.t1_font.specs.Fonts.{glyph_name};
 ghost use Rattle.t1_picture.specs.Drawings.{all_steps};
-ghost use Rattle.t1_report.specs.Lines.{glyph_name};
 
 use t1_char::Edition;
 use t1_font::Font;
@@ -43,16 +43,6 @@ impl<'a> View<'a> {
     pub(crate) fn name(&self) -> &'a [u8]
         ensures { result.now ≡ glyph_name self.now.font.now self.now.glyph }
     {
-        name_of(self.font, self.glyph)
-    }
-}
-
-/// The name of a glyph, by its place.
-pub(crate) fn name_of<'a>(font: &Font<'a>, glyph: usize) -> &'a [u8]
-    ensures { result.now ≡ glyph_name font.now glyph }
-{
-    match font.glyphs().get_index(glyph) {
-        Some((name, _)) => *name,
-        None => &[],
+        self.font.glyph_name(self.glyph)
     }
 }

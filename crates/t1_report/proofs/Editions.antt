@@ -1,29 +1,30 @@
--- Where a font has the same report in both editions.
+-- Where a font has the same report in both editions, and that one without a fault in the first has none in the second.
 use Rattle.std.proofs.Common.{◌≡◌, ℕ, zero, suc, ◌+◌, ◌<◌, ◌≤◌, ◌==◌, ◌&&◌, ◌||◌, not, nat_lt, if◌then◌else◌, Bool, true, false, Option, Some, None, List, [], ◌∷◌, length, map, take, slice_get, refl, sym, subst, ap, ◌∙◌, inl, inr, arith}
 use Rattle.std.specs.List.{list_any, slice_index_or}
 use Rattle.std.proofs.Math.Bool.{and-false}
-use Rattle.std.proofs.lemmas.Bool.{ltb-true}
+use Rattle.std.proofs.lemmas.Bool.{and_parts, cases_lt, ltb-true, true≢false}
+use Rattle.std.proofs.lemmas.Bool.Decides.{nat_tests}
 use Rattle.std.proofs.lemmas.List.Quantifiers.{position-Some}
 use Rattle.std.proofs.lemmas.Option.{slice_get_cases}
 use Rattle.t1_char.specs.declared.edition.Edition.TheVariants.{One, Two}
 use Rattle.t1_char.specs.Editions.{limit_of}
 use Rattle.t1_char.specs.Steps.{StepView, steps_of}
-use Rattle.t1_font.specs.Fonts.{FontValue}
+use Rattle.t1_font.specs.Fonts.{FontValue, glyph_name}
 use Rattle.t1_font.specs.Keys.{same_name}
-use Rattle.t1_rules.specs.declared.rule.Rule.TheVariants.{U01}
+use Rattle.t1_rules.specs.declared.rule.Rule.TheVariants.{L01, U01}
 use Rattle.t1_rules.specs.Book.{number_of}
 use Rattle.t1_rules.specs.Components.{glyph_named}
 use Rattle.t1_rules.specs.Laws.Editions.{HasShortComponents, rules_in, sets_one_edge}
 use Rattle.t1_rules.specs.StandardEncoding.{standard_name}
 use Rattle.t1_rules.specs.StepRules.{breaks, breaks_next}
-use Rattle.t1_rules.proofs.Lemmas.Editions.{agree_on_usual_steps, none_taken}
+use Rattle.t1_rules.proofs.Lemmas.Editions.{agree_on_usual_steps, none_taken, second_tells_no_more_in_fonts}
 use Rattle.t1_report.specs.Checked.{CheckedFont, checked}
 use Rattle.t1_report.specs.Faults.{FaultValue}
-use Rattle.t1_report.specs.Laws.Editions.{IsUsual, UsualFontsHaveOneReport}
-use Rattle.t1_report.specs.Lines.{glyph_name}
-use Rattle.t1_report.specs.Reports.{IsReport, is_broken, is_broken_below, is_told, is_unused, is_used, is_used_by, path_at, place_of, rules_of, step_breaks, tells_unused}
+use Rattle.t1_report.specs.Laws.Editions.{CleanFontsStayClean, IsUsual, UsualFontsHaveOneReport}
+use Rattle.t1_report.specs.Reports.{IsReport, IsTold, Place, is_broken, is_broken_below, is_told, is_unused, is_used, is_used_by, path_at, place_of, rules_of, step_breaks, tells_unused}
 use Rattle.t1_report.specs.Waivers.{Waiver, is_waived}
 use Rattle.t1_report.proofs.Broken.{past_last_step, within_limit}
+use Rattle.t1_report.proofs.StepLimit.{are_checked}
 
 -- A glyph that has a name is there.
 named_is_there : (font : FontValue) (name : List ℕ) (glyph : ℕ) → glyph_named font name ≡ Some glyph → glyph < length font.glyphs
@@ -186,3 +187,83 @@ usual_fonts_have_one_report font usual waivers faults = (
   reported_alike (checked font One) (checked font Two) waivers waivers faults refl (λ unit step n. sym (told_same font usual waivers unit step n)),
   reported_alike (checked font Two) (checked font One) waivers waivers faults refl (told_same font usual waivers),
 )
+
+-- ---- a font without a fault
+
+none_told : (font : CheckedFont) → IsReport font [] [] → (p : Place) → IsTold font [] p → ⊥
+none_told font report p told = omega (arith, (report.complete p told).2)
+
+-- Of a glyph, where nothing is waived, what is broken is told.
+told_of_glyph : (font : CheckedFont) (glyph step n : ℕ) → glyph < length font.value.glyphs → is_broken font (suc glyph) step n ≡ true
+    → is_told font [] (suc glyph) step n ≡ true
+unfolding is_told
+told_of_glyph font glyph step n there broken =
+    let other : (glyph == length font.value.glyphs) ≡ false = grind (arith, nat_tests, there) in
+    rw (other, broken) refl
+
+-- A glyph with more steps than the first edition looks at breaks L01.
+short_where_clean : (font : FontValue) → IsReport (checked font One) [] [] → (glyph : ℕ) → glyph < length font.glyphs
+    → length (steps_of font glyph) ≤ limit_of One
+short_where_clean font report glyph there = elim (cases_lt (limit_of One) (length (steps_of font glyph))) [
+  | inr few ↦ few
+  | inl more ↦
+      let is : nat_lt (limit_of One) (length (steps_of font glyph)) ≡ true = grind (arith, nat_tests, more) in
+      let broken : is_broken (checked font One) (suc glyph) (suc (limit_of One)) (number_of L01) ≡ true =
+      (are_checked One).first_past font glyph (number_of L01) there ∙ rw is refl in
+      absurd (none_told (checked font One) report (record { unit = suc glyph; step = suc (limit_of One); rule = L01 })
+      (told_of_glyph (checked font One) glyph (suc (limit_of One)) (number_of L01) there broken))
+]
+
+module _ (font : FontValue) (clean : IsReport (checked font One) [] []) where
+  short_components_there : HasShortComponents font
+  short_components_there code glyph letters is = short_where_clean font clean glyph (named_is_there font (standard_name code) glyph is)
+
+  step_more : (glyph : ℕ) → glyph < length font.glyphs → (i n : ℕ)
+      → step_breaks (limit_of Two) (rules_of (checked font Two)) n (steps_of font glyph) i ≡ true
+      → step_breaks (limit_of One) (rules_of (checked font One)) n (steps_of font glyph) i ≡ true
+  step_more glyph there i n broken =
+      let steps : List StepView = steps_of font glyph in
+      elim (slice_get_cases steps i).1 [
+        | inr (past, none) ↦
+            absurd (true≢false (sym broken ∙ past_last_step (limit_of Two) (rules_of (checked font Two)) n steps i past))
+        | inl (step, less, is, at) ↦
+            let few : length steps ≤ 100000 = short_where_clean font clean glyph there in
+            by_rules (checked font One) n steps i step (omega (arith, less, few)) is
+            ∙ second_tells_no_more_in_fonts font short_components_there n (take i steps) step
+            (sym (by_rules (checked font Two) n steps i step (omega (arith, less, few)) is) ∙ broken)
+      ]
+
+  broken_more : (unit step n : ℕ) → is_broken (checked font Two) unit step n ≡ true → is_broken (checked font One) unit step n ≡ true
+  unfolding is_broken
+  broken_more zero step n broken = broken
+  broken_more (suc glyph) zero n broken = broken
+  broken_more (suc glyph) (suc i) n broken =
+      let parts = and_parts (nat_lt glyph (length font.glyphs)) _ broken in
+      rw (parts.0, step_more glyph (ltb-true glyph (length font.glyphs) parts.0) i n parts.1) refl
+
+  told_more : (unit step n : ℕ) → is_told (checked font Two) [] unit step n ≡ true → is_told (checked font One) [] unit step n ≡ true
+  unfolding is_told
+  told_more zero step n told = broken_more 0 step n told
+  told_more (suc glyph) step n told = go (glyph == length font.glyphs) told
+    where
+      left : Bool
+      left = not (is_waived [] (glyph_name font glyph) n)
+
+      waivers_same : (step : ℕ) → tells_unused (checked font Two) [] step n ≡ tells_unused (checked font One) [] step n
+      waivers_same zero = refl
+      waivers_same (suc i) = refl
+
+      go : (b : Bool) → (if b then tells_unused (checked font Two) [] step n else is_broken (checked font Two) (suc glyph) step n && left) ≡ true
+          → (if b then tells_unused (checked font One) [] step n else is_broken (checked font One) (suc glyph) step n && left) ≡ true
+      go true unused = sym (waivers_same step) ∙ unused
+      go false broken =
+          let parts = and_parts (is_broken (checked font Two) (suc glyph) step n) left broken in
+          rw (broken_more (suc glyph) step n parts.0, parts.1) refl
+
+pub clean_fonts_stay_clean : CleanFontsStayClean
+clean_fonts_stay_clean font clean = record {
+  rising = clean.rising;
+  violations = λ k d less. absurd (omega (arith, less));
+  complete = λ p told. absurd (none_told (checked font One) clean p (told_more font clean p.unit p.step (number_of p.rule) told));
+  numbered = clean.numbered;
+}

@@ -4,12 +4,13 @@ pub mod DecimalLemmas
 pub mod Editions
 pub mod FewFaults
 pub mod Fronts
-pub mod GlyphNames
 pub mod GlyphSteps
 pub mod Hands
 pub mod HasReport
 pub mod InFont
+pub mod JoinedLines
 pub mod LaterFaults
+pub mod NamesOnce
 pub mod Numbered
 pub mod OneReport
 pub mod PassedLines
@@ -29,3 +30,4 @@ pub mod WaivedFaults
 pub mod WaivedRules
 pub mod WaiverLines
 pub mod WaiverSets
+pub mod WrittenWaivers

@@ -3,10 +3,10 @@ use Rattle.std.proofs.Common.{◌≡◌, ℕ, zero, suc, ◌+◌, ◌<◌, ◌�
 use Rattle.std.proofs.Math.Bool.{and-false, and-true}
 use Rattle.std.proofs.lemmas.Bool.{cases_lt, cases_order, eq-eqb, ne_eqb, true≢false}
 use Rattle.std.proofs.lemmas.Option.{slice_get_past}
+use Rattle.t1_font.specs.Fonts.{glyph_name}
 use Rattle.t1_report.specs.Checked.{CheckedFont}
 use Rattle.t1_rules.specs.declared.rule.Rule.TheVariants.{U01}
 use Rattle.t1_rules.specs.Book.{number_of}
-use Rattle.t1_report.specs.Lines.{glyph_name}
 use Rattle.t1_report.specs.Reports.{is_broken, is_broken_below, is_told, is_unused, tells_unused}
 use Rattle.t1_report.specs.Waivers.{Waiver, is_waived}
 use Rattle.t1_report.proofs.Broken.{at_no_step, past_glyphs}

@@ -1,5 +1,6 @@
 -- What a search tells of a unit, given waivers, from what is broken there.
 use Rattle.std.proofs.Common.{◌≡◌, ℕ, ◌+◌, ◌-◌, ◌<◌, ◌≤◌, ◌&&◌, inl, inr, not, false, List, [], length, slice_get, sym, ap, subst, ◌∙◌, arith, Option, None, Some, MatchOption}
+use Rattle.t1_font.specs.Fonts.{glyph_name}
 use Rattle.t1_report.specs.Checked.{CheckedFont}
 use Rattle.t1_rules.specs.Book.{number_of}
 use Rattle.t1_rules.specs.Mask.{has}
@@ -9,7 +10,6 @@ use Rattle.t1_report.specs.declared.walk.glyph_run.GlyphRun.{GlyphRun}
 use Rattle.t1_report.specs.declared.walk.search.Part.{Part}
 use Rattle.t1_report.specs.declared.walk.search.Part.TheVariants.{Font, Glyph, Waivers}
 use Rattle.t1_report.specs.declared.walk.search.Search.{Search}
-use Rattle.t1_report.specs.Lines.{glyph_name}
 use Rattle.t1_report.specs.Reports.{is_broken, is_told, path_in, tells_unused}
 use Rattle.t1_report.specs.Private.Units.{IsFirst, IsQuietFrom, font_step, executed}
 use Rattle.t1_report.specs.Private.Searches.{IsFirstTold, IsPart, IsSearch, IsWaiverPart, TellsNoneFrom, checked_in, step_of_part}

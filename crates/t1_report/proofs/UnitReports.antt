@@ -7,13 +7,14 @@ use Rattle.std.proofs.lemmas.List.Kept.{AllPairs-filter}
 use Rattle.t1_rules.proofs.Lemmas.Book.{in_book}
 use Rattle.t1_report.specs.Checked.{CheckedFont}
 use Rattle.t1_report.specs.Faults.{FaultValue}
-use Rattle.t1_report.specs.Laws.UnitFaults.{AllOfUnitAreGivenAtLast, AreTheReports, GivenAreTheReports, MarksOfUnitGoOnCounting, NoneOfUnitIsGivenAtFirst, is_in_unit}
+use Rattle.t1_report.specs.Laws.UnitFaults.{AllOfUnitAreGivenAtLast, AreTheReports, GivenAreTheReports, MarksOfUnitGoOnCounting, NoneOfUnitIsGivenAtFirst, UnitsHaveFaults, is_in_unit}
 use Rattle.t1_report.specs.Laws.WaivedFaults.{bare}
 use Rattle.t1_report.specs.Reports.{AreNumbered, IsBefore, IsReport, IsReportOf, IsTold, IsViolationOf, Place, StandsAt, path_at, place_of}
 use Rattle.t1_report.specs.UnitFaults.{IsToldOf, first_mark_of}
 use Rattle.t1_report.specs.Waivers.{Waiver}
 use Rattle.t1_report.specs.Walks.{IsLater, IsSoFar}
 use Rattle.t1_report.proofs.FewFaults.{few_faults}
+use Rattle.t1_report.proofs.HasReport.{has_report}
 use Rattle.t1_report.proofs.LaterFaults.{rest_is}
 use Rattle.t1_report.proofs.Numbered.{numbered_head, numbered_tail}
 use Rattle.t1_report.proofs.SoFar.{next_is, none_left, one_fault_more, so_far_by_places}
@@ -158,6 +159,12 @@ given_are_the_reports font waivers unit faults given few few_waivers report =
       λ later. subst (AreTheReports faults unit) (sym (rest.0 later)) (are_the_reports font waivers unit faults),
       λ are. rest.1 (the_reports font waivers unit faults given are),
     )
+
+pub units_have_faults : UnitsHaveFaults
+units_have_faults font waivers unit few few_waivers =
+    let (faults, report) = has_report font waivers in
+    let given = renumbered 1 (filter (of_unit font waivers unit) faults) in
+    (given, (given_are_the_reports font waivers unit faults given few few_waivers report).1 (are_the_reports font waivers unit faults))
 
 pub none_of_unit_is_given_at_first : NoneOfUnitIsGivenAtFirst
 none_of_unit_is_given_at_first font waivers unit faults given report are =

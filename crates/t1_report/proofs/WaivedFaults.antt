@@ -7,7 +7,7 @@ use Rattle.std.proofs.lemmas.List.Folds.{list_any-append}
 use Rattle.std.proofs.lemmas.List.Kept.{AllPairs-filter}
 use Rattle.std.proofs.lemmas.List.Quantifiers.{position-Some}
 use Rattle.t1_font.proofs.Tables.{name_exact}
-use Rattle.t1_font.specs.Fonts.{FontValue}
+use Rattle.t1_font.specs.Fonts.{FontValue, glyph_name, name_in}
 use Rattle.t1_font.specs.Keys.{same_name}
 use Rattle.t1_rules.specs.declared.rule.Rule.TheVariants.{U01}
 use Rattle.t1_rules.specs.Book.{number_of}
@@ -15,7 +15,6 @@ use Rattle.t1_rules.specs.Components.{glyph_named}
 use Rattle.t1_report.specs.Checked.{CheckedFont, step_limit}
 use Rattle.t1_report.specs.Faults.{FaultValue}
 use Rattle.t1_report.specs.Laws.WaivedFaults.{HasNoNameTwice, OrderLeavesFaults, OrderLeavesUses, RepeatedLinesSayNothing, UnusedWaiversChangeNothing, WaivedFaultsAreLeftOut, bare, faults_at, is_in_font, is_left, is_left_in}
-use Rattle.t1_report.specs.Lines.{glyph_name, name_in}
 use Rattle.t1_report.specs.Reports.{IsBefore, IsReport, IsReportOf, IsRising, IsTold, IsViolationOf, Place, StandsAt, is_broken, is_broken_below, is_told, is_unused, is_used, is_used_by, path_at, place_of, tells_unused}
 use Rattle.t1_report.specs.Waivers.{Waiver, is_waived, line_read, lines_read, text_read, waiver_of, with_waiver, without_return}
 use Rattle.t1_report.proofs.Broken.{past_glyphs}

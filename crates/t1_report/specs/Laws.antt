@@ -5,6 +5,7 @@ pub mod PassedLines
 pub mod PassedNumbers
 pub mod Reports
 pub mod UnitFaults
+pub mod WaiverLines
 pub mod WaivedFaults
 pub mod Walks
 pub mod WithWaivers

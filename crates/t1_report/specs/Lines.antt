@@ -2,7 +2,7 @@
 use Rattle.std.specs.Prelude.{◌≡◌, ℕ, ◌==◌, ◌/◌, ◌%◌, ◌-◌, ◌≤◌, List, [], ◌∷◌, ◌++◌, codes, length, if◌then◌else◌, Option, Some, None, slice_get, ◌+◌, ◌<◌}
 use Rattle.std.specs.List.{concat, flat_map}
 use Rattle.std.specs.Fmt.{decimal}
-use Rattle.t1_font.specs.Fonts.{FontValue}
+use Rattle.t1_font.specs.Fonts.{FontValue, glyph_name}
 use Rattle.t1_rules.specs.Keys.{key_text_of, index_count, key_count}
 use Rattle.t1_rules.specs.Book.{code_of, text_of}
 use Rattle.t1_report.specs.Faults.{FaultValue}
@@ -21,14 +21,6 @@ inner_text number = concat (codes ">" ∷ decimal number ∷ [])
 abbrev pub path_text : List ℕ → List ℕ
 path_text [] = codes "-"
 path_text (n ∷ ns) = decimal n ++ flat_map inner_text ns
-
--- The name of a glyph, by its number.
-abbrev pub name_in : Option (List ℕ × List ℕ) → List ℕ
-name_in None = []
-name_in (Some glyph) = glyph.0
-
-abbrev pub glyph_name : FontValue → ℕ → List ℕ
-glyph_name font glyph = name_in (slice_get font.glyphs glyph)
 
 -- `waiver NAME RULE`, by the step, which is the waiver's place from 1.
 abbrev pub waiver_text : Option Waiver → List ℕ

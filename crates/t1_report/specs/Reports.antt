@@ -2,7 +2,7 @@
 use Rattle.std.specs.Prelude.{◌≡◌, ℕ, zero, suc, ◌+◌, ◌/◌, ◌%◌, ◌<◌, ◌⊎◌, ◌==◌, ◌&&◌, nat_lt, if◌then◌else◌, Bool, true, false, Option, Some, None, List, [], length, map, slice_get, ◌||◌, not}
 use Rattle.std.specs.List.{All, AllPairs, Any, range_with_len}
 use Rattle.t1_char.specs.Steps.{StepView, steps_of}
-use Rattle.t1_font.specs.Fonts.{FontValue}
+use Rattle.t1_font.specs.Fonts.{FontValue, glyph_name}
 use Rattle.t1_rules.specs.declared.rule.Rule.{Rule}
 use Rattle.t1_rules.specs.FontRules.{font_rules, violated}
 use Rattle.t1_rules.specs.declared.rule.Rule.TheVariants.{L01, U01}
@@ -11,7 +11,6 @@ use Rattle.t1_rules.specs.StepRules.{StepRule, breaks_at, charstring_rules}
 use Rattle.t1_rules.specs.Book.{number_of}
 use Rattle.t1_report.specs.Checked.{CheckedFont, step_limit}
 use Rattle.t1_report.specs.Faults.{FaultValue}
-use Rattle.t1_report.specs.Lines.{glyph_name}
 use Rattle.t1_report.specs.Waivers.{Waiver, is_waived}
 use Rattle.t1_rules.specs.Keys.{index_count}
 

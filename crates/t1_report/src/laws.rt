@@ -1,14 +1,15 @@
 //! Laws above the definitions: each is the contract of a function without a body.
 
-ghost use Rattle.t1_report.specs.Laws.Editions.{UsualFontsHaveOneReport};
+ghost use Rattle.t1_report.specs.Laws.Editions.{CleanFontsStayClean, UsualFontsHaveOneReport};
 ghost use Rattle.t1_char.specs.declared.edition.Edition.TheVariants.{One, Two};
 ghost use Rattle.t1_report.specs.Laws.Limits.{AreCheckedTo};
 ghost use Rattle.t1_report.specs.Laws.PassedLines.{PassedLinesBreakNoRule, WatchersMoveOnByLines};
 ghost use Rattle.t1_report.specs.Laws.PassedNumbers.{CalmIsBehindNoReplacement, CalmWatchersStandBehindNumbers, PassedNumbersBreakNoRule};
 ghost use Rattle.t1_report.specs.Laws.Reports.{HasNoOtherReport, HasReport};
-ghost use Rattle.t1_report.specs.Laws.UnitFaults.{AllOfUnitAreGivenAtLast, GivenAreTheReports, MarksOfUnitGoOnCounting, NoneOfUnitIsGivenAtFirst};
-ghost use Rattle.t1_report.specs.Laws.WaivedFaults.{OrderLeavesFaults, OrderLeavesUses, RepeatedLinesSayNothing, UnusedWaiversChangeNothing, WaivedFaultsAreLeftOut};
+ghost use Rattle.t1_report.specs.Laws.UnitFaults.{AllOfUnitAreGivenAtLast, GivenAreTheReports, MarksOfUnitGoOnCounting, NoneOfUnitIsGivenAtFirst, UnitsHaveFaults};
+ghost use Rattle.t1_report.specs.Laws.WaivedFaults.{FontsHaveNoNameTwice, OrderLeavesFaults, OrderLeavesUses, RepeatedLinesSayNothing, UnusedWaiversChangeNothing, WaivedFaultsAreLeftOut};
 ghost use Rattle.t1_report.specs.Laws.Walks.{AllAreGivenAtLast, AreBehindTheCount, AreTheReport, AreTheRest, GivenAreTheFront, MarksGoOnCounting, NoneIsGivenAtFirst};
+ghost use Rattle.t1_report.specs.Laws.WaiverLines.{LinesAreWaivers, LinesMakeTheText};
 ghost use Rattle.t1_report.specs.Laws.WithWaivers.{AskedToTheEnd, AskedToTheFirst, NoneIsAsked, ToldIsBroken};
 
 /// Each font has a report.
@@ -44,10 +45,12 @@ pub fn marks_count_the_faults_given()
 {}
 
 /// The faults of a unit, each the next one from the unit's first mark on until there is none, are exactly the report's
-/// faults of that unit in their order, but for their numbers, which count from 1 in the unit. Where so many of these were
-/// given, as a mark's number says, the next fault of the unit is the one behind them; where there is none, all were given.
+/// faults of that unit in their order, but for their numbers, which count from 1 in the unit; so each unit has such faults, or
+/// none. Where so many of these were given, as a mark's number says, the next fault of the unit is the one behind them; where
+/// there is none, all were given.
 pub fn faults_of_a_unit_are_the_reports()
     ensures given { GivenAreTheReports }
+    ensures some { UnitsHaveFaults }
     ensures start { NoneOfUnitIsGivenAtFirst }
     ensures next { MarksOfUnitGoOnCounting }
     ensures end { AllOfUnitAreGivenAtLast }
@@ -82,10 +85,22 @@ pub fn usual_fonts_have_one_report()
     ensures { UsualFontsHaveOneReport }
 {}
 
+/// A font without a fault in edition 1 has none in edition 2, where nothing is waived.
+pub fn clean_fonts_stay_clean()
+    ensures { CleanFontsStayClean }
+{}
+
 /// Without waivers what is told is what is broken, and no machine is asked for one.
 pub fn no_waivers_change_nothing()
     ensures told { ToldIsBroken }
     ensures turns { NoneIsAsked }
+{}
+
+/// A text is read as a waiver exactly where it is the line of that waiver: a name without blanks and delimiters, a blank, the
+/// code of a rule that can be waived.
+pub fn waiver_lines_are_waivers()
+    ensures waiver { LinesAreWaivers }
+    ensures lines { LinesMakeTheText }
 {}
 
 /// For a waiver a machine is asked up to the first step of its glyph that breaks its rule, or for the whole
@@ -96,10 +111,12 @@ pub fn waivers_are_asked_to_the_first_use()
 {}
 
 /// The faults of the font and its glyphs with waivers are those without, in order, less those that are waived;
-/// a waiver is told unused exactly where they are the same without it.
+/// a waiver is told unused exactly where they are the same without it, if no two glyphs have one name, as in each font
+/// that is read.
 pub fn waivers_leave_out_what_they_say()
     ensures left { WaivedFaultsAreLeftOut }
     ensures unused { UnusedWaiversChangeNothing }
+    ensures once { FontsHaveNoNameTwice }
 {}
 
 /// The order of waivers decides only the order and the places of those that aren't used, and a line that stood

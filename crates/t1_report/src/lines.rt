@@ -3,8 +3,9 @@
 ghost use Rattle.std.specs.Prelude.{◌≡◌, ◌≤◌, ◌/◌, ◌<◌};
 ghost use Rattle.std.specs.List.{flat_map};
 ghost use Rattle.t1_io.specs.Devices.{Writes};
+ghost use Rattle.t1_font.specs.Fonts.{glyph_name};
 ghost use Rattle.t1_report.specs.Faults.{fault_value};
-ghost use Rattle.t1_report.specs.Lines.{IsInFont, glyph_name, glyph_place, inner_text, key_place, line_of, path_text, place_text, waiver_place};
+ghost use Rattle.t1_report.specs.Lines.{IsInFont, glyph_place, inner_text, key_place, line_of, path_text, place_text, waiver_place};
 ghost use Rattle.t1_rules.specs.Keys.{index_count, key_count};
 
 use crate::decimal::Decimal;
@@ -93,20 +94,13 @@ fn write_glyph_place<W: Sink>(sink: &mut W, font: &Font<'_>, fault: &Fault) -> R
     ensures { Writes (W.state sink.old) (W.state sink.new)
         (glyph_place font.now (fault_value fault.now)) result }
 {
-    put_parts(sink, &[b"glyph ", glyph_name(font, fault.unit - 1), b" "])?;
+    put_parts(
+        sink,
+        &[b"glyph ", font.glyph_name((fault.unit - 1) as usize), b" "],
+    )?;
     write_path(sink, fault.path.as_slice())?;
     let step = Decimal::new(u64::from(fault.step));
     put_parts(sink, &[b" ", step.digits()])
-}
-
-/// The name of a glyph, by its number.
-pub(crate) fn glyph_name<'a>(font: &Font<'a>, glyph: u32) -> &'a [u8]
-    ensures { result.now ≡ glyph_name font.now glyph }
-{
-    match font.glyphs().get_index(glyph as usize) {
-        Some((name, _)) => *name,
-        None => &[],
-    }
 }
 
 /// Writes the Subrs that are being executed: `5>6`, or `-` where there is none.

@@ -20,7 +20,6 @@ ghost use Rattle.t1_report.specs.Waivers.{Waiver, largest_waivers};
 ghost use Rattle.t1_font.specs.Bounds.{most_glyphs};
 
 use crate::faults::Fault;
-use crate::lines::glyph_name;
 use crate::usage::check_waiver;
 use crate::violations::broken_at;
 use crate::waivers::Waivers;
@@ -108,7 +107,7 @@ fn add_glyph(
     let edition = sidebearings.edition();
     let limit = edition.step_limit();
     let steps = expand(alloc, font, glyph, edition)?;
-    let name = glyph_name(font, glyph as u32);
+    let name = font.glyph_name(glyph);
     let mut watches = Watches::start(edition);
     for step in &steps {
         let place = FaultPlace {

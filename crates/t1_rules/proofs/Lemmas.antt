@@ -26,6 +26,7 @@ pub mod PassedNumbers
 pub mod Paths
 pub mod Products
 pub mod Rows
+pub mod RuleCodes
 pub mod Seac
 pub mod SeacComponents
 pub mod SeacLaws

@@ -1,11 +1,11 @@
 //! Laws of the definitions, each on a call that does nothing.
 
-ghost use Rattle.t1_rules.specs.Laws.Book.{EachRuleStands, NoMoreRulesStand};
+ghost use Rattle.t1_rules.specs.Laws.Book.{CodesAreOfTheirRules, EachRuleStands, NoMoreRulesStand};
 ghost use Rattle.t1_rules.specs.Laws.Arguments.{KeptIsNotPast, NoneAreTooManyAtTheTop, NumbersOverflowAt24, OthersHaveNoArguments, TooFewAreFewerThanWanted, TooManyAreMoreThanArguments};
 ghost use Rattle.t1_rules.specs.Laws.Calls.{SoundCallsGoIn};
 ghost use Rattle.t1_rules.specs.Laws.FontRules.{AbsentEntriesBreakNothing, BrokenIsInTheBook, NothingIsBrokenPastLast, NothingIsBrokenPastPlaces, RuleNumbersAreInOrder};
 ghost use Rattle.t1_rules.specs.Laws.Components.{CapitalsNameThemselves, CodesAreCounted, NamesAreCounted, NoNameStandsTwice, OwnEncodingHasNoSay, PlacesHaveNoSay, SmallLettersNameThemselves};
-ghost use Rattle.t1_rules.specs.Laws.Editions.{EditionsAgreeOnOtherRules, EditionsAgreeOnShortComponents, EditionsAgreeOnUsualSteps, EditionsAgreeWithoutOneEdge, OneEdgeOverlapsNothing, OtherStemsOverlapAsBefore, OverlapByIsMutual, StemsAreKept};
+ghost use Rattle.t1_rules.specs.Laws.Editions.{EditionsAgreeOnOtherRules, EditionsAgreeOnShortComponents, EditionsAgreeOnUsualSteps, EditionsAgreeWithoutOneEdge, OneEdgeOverlapsNothing, OtherStemsOverlapAsBefore, OverlapByIsMutual, SecondTellsNoMore, SecondTellsNoMoreInFonts, StemsAreKept};
 ghost use Rattle.t1_rules.specs.Laws.Flex.{ClosepathLeavesThePoint, EndsLeadOutOfFlex, GlyphsBeginAtTheOrigin, OtherCountsAreNoFlex, SetcurrentpointAloneFollows, SetcurrentpointFollowsFlex, SetcurrentpointPutsThePoint, SevenPairsAreAFlex, ShortFormsLeadAsFar, StartsLeadIntoFlex, StepsMoveThePoint, VectorsPutThePoint, WidthsSetThePoint};
 ghost use Rattle.t1_rules.specs.Laws.Othersubrs.{CallsAreOneOfFive, PopsAlonePopNothing, PopsOfNothingChangeNothing};
 ghost use Rattle.t1_rules.specs.Laws.Replacements.{ReplacementsWantCallsubr, ReplacementsWantPop, StemsAloneAreLate, StemsAreLateBehindDrawing};
@@ -116,23 +116,26 @@ pub fn stems_overlap_where_they_share_a_place()
 {}
 
 /// In the second edition a stem of one edge overlaps nothing, and other stems overlap as in the first. Both
-/// keep it, and both say the same of steps where there is none.
-#[tactic(auto, using(crate::proofs::Lemmas::Editions::overlap_by_is_mutual, crate::proofs::Lemmas::Editions::one_edge_overlaps_nothing, crate::proofs::Lemmas::Editions::other_stems_overlap_as_before, crate::proofs::Lemmas::Editions::stems_are_kept, crate::proofs::Lemmas::Editions::agree_without_one_edge))]
+/// keep it, and both say the same of steps where there is none. What a step breaks in the second it breaks in
+/// the first.
+#[tactic(auto, using(crate::proofs::Lemmas::Editions::overlap_by_is_mutual, crate::proofs::Lemmas::Editions::one_edge_overlaps_nothing, crate::proofs::Lemmas::Editions::other_stems_overlap_as_before, crate::proofs::Lemmas::Editions::stems_are_kept, crate::proofs::Lemmas::Editions::agree_without_one_edge, crate::proofs::Lemmas::Editions::second_tells_no_more))]
 pub fn editions_differ_in_stems_of_one_edge()
     ensures mutual { OverlapByIsMutual }
     ensures nothing { OneEdgeOverlapsNothing }
     ensures others { OtherStemsOverlapAsBefore }
     ensures kept { StemsAreKept }
     ensures without { EditionsAgreeWithoutOneEdge }
+    ensures no_more { SecondTellsNoMore }
 {}
 
 /// Both editions say the same of a step but by H02, K04, K05 and K07; where no component has more than
-/// 100,000 steps, but by H02 alone.
-#[tactic(auto, using(crate::proofs::Lemmas::Editions::agree_on_other_rules, crate::proofs::Lemmas::Editions::agree_on_short_components, crate::proofs::Lemmas::Editions::agree_on_usual_steps))]
+/// 100,000 steps, but by H02 alone, which the second tells only where the first does.
+#[tactic(auto, using(crate::proofs::Lemmas::Editions::agree_on_other_rules, crate::proofs::Lemmas::Editions::agree_on_short_components, crate::proofs::Lemmas::Editions::agree_on_usual_steps, crate::proofs::Lemmas::Editions::second_tells_no_more_in_fonts))]
 pub fn editions_agree_on_other_rules()
     ensures others { EditionsAgreeOnOtherRules }
     ensures short { EditionsAgreeOnShortComponents }
     ensures usual { EditionsAgreeOnUsualSteps }
+    ensures no_more { SecondTellsNoMoreInFonts }
 {}
 
 /// A hint replacement empties the hint sets, which have 96 stems at most.
@@ -294,9 +297,10 @@ pub fn codes_are_judged_by_their_names()
     ensures seac { SeacAloneHasCodes }
 {}
 
-/// The list of all rules has each rule at its number, and no other.
-#[tactic(auto, using(crate::proofs::Lemmas::Book::listed))]
+/// The list of all rules has each rule at its number, and no other; and a code is looked up as the rule that has it.
+#[tactic(auto, using(crate::proofs::Lemmas::Book::listed, crate::proofs::Lemmas::RuleCodes::codes_are_of_their_rules))]
 pub fn rules_are_in_the_book()
     ensures each { EachRuleStands }
     ensures no_more { NoMoreRulesStand }
+    ensures codes { CodesAreOfTheirRules }
 {}

@@ -1,6 +1,5 @@
 pub mod BodiesFound
 pub mod BodiesRead
-pub mod Calls
 pub mod Cover
 pub mod NumbersFound
 pub mod NumbersRead

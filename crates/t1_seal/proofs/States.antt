@@ -75,8 +75,3 @@ state_runs_along start front c =
 -- The next state, as the program computes it.
 pub state_step : (start r : ℕ) (front : List ℕ) (c : ℕ) → state_after start front ≡ r → next_state r c ≡ state_after start (front ++ c ∷ [])
 state_step start r front c is = sym (state_runs_along start front c ∙ ap (λ s. next_state s c) is)
-
--- The state is below 65536.
-pub state_after-small : (start : ℕ) (front : List ℕ) → state_after start front < 65536
-unfolding state_after
-state_after-small start front = omega arith

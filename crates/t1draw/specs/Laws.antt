@@ -1,13 +1,16 @@
 -- The statements of laws.
-use Rattle.std.specs.Prelude.{◌≡◌, ℕ, List, None, Some}
+use Rattle.std.specs.Prelude.{◌≡◌, ◌<◌, ℕ, List, None, Some}
+use Rattle.std.specs.List.{AllByRecursion}
 use Rattle.clap.specs.Words.{Text}
 use Rattle.t1_font.specs.Fonts.{FontValue}
+use Rattle.t1_forms.specs.Shown.{shown}
 use Rattle.t1_lines.specs.declared.refusal.RefusalCode.{RefusalCode}
 use Rattle.t1_report.specs.Waivers.{Waiver}
 use Rattle.t1_rules.specs.Components.{glyph_named}
 use Rattle.t1draw.specs.CommandLine.{AreGiven}
 use Rattle.t1draw.specs.Ends.{IsPicture}
 use Rattle.t1draw.specs.FontFiles.{IsFont, IsRefusedFont}
+use Rattle.t1draw.specs.GlyphWords.{name_of_word}
 use Rattle.t1draw.specs.WaiverTexts.{AreRefusedWaivers, AreWaivers}
 use Rattle.t1draw.specs.declared.command_line.Options.{Options}
 
@@ -37,3 +40,7 @@ HasNoOtherAnswer =
     (words : List Text) (options options' : Options) (file text : List ℕ) (a b : Answer)
     → AreGiven words options → AreGiven words options'
     → IsAnswer options file text a → IsAnswer options' file text b → a ≡ b
+
+-- A name of bytes, as it is shown, is a word for it: so no two names are shown alike, and each name has a word.
+abbrev pub ShownNamesAreWords : Type 0
+ShownNamesAreWords = (name : List ℕ) → AllByRecursion (λ byte. byte < 256) name → name_of_word (shown name) ≡ Some name

@@ -1,6 +1,6 @@
-//! The law above the definitions: the contract of a function that does nothing, but for calling the law on which it rests.
+//! Laws above the definitions: each is the contract of a function that does nothing, but for calling the law on which it rests.
 
-ghost use Rattle.t1draw.specs.Laws.{HasNoOtherAnswer};
+ghost use Rattle.t1draw.specs.Laws.{HasNoOtherAnswer, ShownNamesAreWords};
 
 use t1_picture::a_subject_has_one_picture;
 
@@ -11,3 +11,9 @@ pub fn a_file_has_one_answer()
 {
     a_subject_has_one_picture();
 }
+
+/// A name, as it is shown, is a word for it, so that what a legend or a line shows can be given as GLYPH: no two names are shown
+/// alike, and each name has a word.
+pub fn shown_names_are_words()
+    ensures { ShownNamesAreWords }
+{}

@@ -1,5 +1,5 @@
 -- Where a font has the same report in both editions.
-use Rattle.std.specs.Prelude.{◌≡◌, ◌↔◌, ℕ, ◌<◌, ◌≤◌, false, List, length}
+use Rattle.std.specs.Prelude.{◌≡◌, ◌↔◌, ℕ, ◌<◌, ◌≤◌, false, List, [], length}
 use Rattle.std.specs.List.{list_any}
 use Rattle.t1_char.specs.declared.edition.Edition.TheVariants.{One, Two}
 use Rattle.t1_char.specs.Editions.{limit_of}
@@ -22,3 +22,7 @@ abbrev pub UsualFontsHaveOneReport : Type 0
 UsualFontsHaveOneReport =
     (font : FontValue) → IsUsual font → (waivers : List Waiver) (faults : List FaultValue) →
     IsReport (checked font One) waivers faults ↔ IsReport (checked font Two) waivers faults
+
+-- A font without a fault in the first edition has none in the second, where nothing is waived.
+abbrev pub CleanFontsStayClean : Type 0
+CleanFontsStayClean = (font : FontValue) → IsReport (checked font One) [] [] → IsReport (checked font Two) [] []

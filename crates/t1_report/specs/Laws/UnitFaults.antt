@@ -26,6 +26,13 @@ GivenAreTheReports =
     IsReport font waivers faults →
     AreOfUnit font waivers unit given ↔ AreTheReports faults unit given
 
+-- So each unit has them, be they none.
+abbrev pub UnitsHaveFaults : Type 0
+UnitsHaveFaults =
+    (font : CheckedFont) (waivers : List Waiver) (unit : ℕ) →
+    length font.value.glyphs ≤ most_glyphs → length waivers ≤ largest_waivers →
+    (given : List FaultValue) × AreOfUnit font waivers unit given
+
 -- At the first mark of a unit none of them was given so far.
 abbrev pub NoneOfUnitIsGivenAtFirst : Type 0
 NoneOfUnitIsGivenAtFirst =

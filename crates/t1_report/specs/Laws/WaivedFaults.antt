@@ -1,12 +1,12 @@
 -- What waivers leave of a report, and which waivers have no say.
-use Rattle.std.specs.Prelude.{◌≡◌, ◌↔◌, ℕ, zero, suc, ◌+◌, ◌<◌, nat_le, not, Bool, true, false, Some, List, [], ◌∷◌, ◌++◌, length, map, slice_get}
+use Rattle.std.specs.Prelude.{◌≡◌, ◌↔◌, ℕ, zero, suc, ◌+◌, ◌<◌, nat_le, not, Bool, true, false, Some, Ok, List, [], ◌∷◌, ◌++◌, length, map, slice_get}
 use Rattle.std.specs.List.{filter}
-use Rattle.t1_font.specs.Fonts.{FontValue}
+use Rattle.t1_font.specs.FontFiles.{font_in}
+use Rattle.t1_font.specs.Fonts.{FontValue, glyph_name}
 use Rattle.t1_rules.specs.declared.rule.Rule.TheVariants.{U01}
 use Rattle.t1_rules.specs.Book.{number_of}
 use Rattle.t1_report.specs.Checked.{CheckedFont}
 use Rattle.t1_report.specs.Faults.{FaultValue}
-use Rattle.t1_report.specs.Lines.{glyph_name}
 use Rattle.t1_report.specs.Reports.{IsReport, Place, is_told, place_of}
 use Rattle.t1_report.specs.Waivers.{Waiver, is_waived, lines_read}
 
@@ -37,11 +37,15 @@ WaivedFaultsAreLeftOut =
     IsReport font waivers told → IsReport font [] broken →
     faults_at (is_in_font font) told ≡ faults_at (is_left font waivers) broken
 
--- No two glyphs have one name, as in each font that is read.
+-- No two glyphs have one name.
 abbrev pub HasNoNameTwice : FontValue → Type 0
 HasNoNameTwice font =
     (one other : ℕ) → one < length font.glyphs → other < length font.glyphs →
     glyph_name font one ≡ glyph_name font other → one ≡ other
+
+-- So it is in the font that any bytes are read as.
+abbrev pub FontsHaveNoNameTwice : Type 0
+FontsHaveNoNameTwice = (bytes : List ℕ) (font : FontValue) → font_in bytes ≡ Ok font → HasNoNameTwice font
 
 -- A waiver is told unused exactly where the faults of the font and its glyphs are the same without it.
 abbrev pub UnusedWaiversChangeNothing : Type 0

@@ -1,18 +1,17 @@
 //! The places where rules are broken, one after another: those of the font, those of each glyph, then those of the waivers.
 
 ghost use Rattle.std.specs.Prelude.{◌≡◌, ◌≤◌, ◌<◌, ◌+◌, ◌*◌, false, IfSome, MatchOption, length, ◌-◌, ◌&&◌, ℕ, not};
+ghost use Rattle.t1_font.specs.Fonts.{glyph_name};
 ghost use Rattle.t1_report.specs.Checked.{checked, step_limit};
 ghost use Rattle.t1_report.specs.Reports.{Place, IsTold};
 ghost use Rattle.t1_report.specs.Private.Searches.{aim_of, checked_in, HasNoneFrom, IsFirstPlace, IsOfFont, IsSearch, is_over, step_of_part, turns_in, IsDone, IsFirstTold, IsPartBegun, TellsNoneFrom};
 ghost use Rattle.t1_rules.specs.Components.{AreOf};
-ghost use Rattle.t1_report.specs.Lines.{glyph_name};
 ghost use Rattle.t1_report.specs.Waivers.{is_waived, largest_waivers};
 ghost use Rattle.t1_rules.specs.Mask.{has};
 ghost use Rattle.t1_font.specs.Bounds.{most_glyphs};
 ghost use Rattle.t1_char.specs.Editions.{limit_of};
 ghost use Rattle.t1_char.specs.declared.edition.Edition.TheVariants.{Two};
 
-use crate::lines::glyph_name;
 use crate::usage::check_waiver;
 use crate::waivers::Waivers;
 use crate::walk::font_places::FontPlaces;
@@ -259,7 +258,7 @@ fn told_of(found: Found, font: &Font<'_>, waivers: &Waivers<'_>) -> Found
     ensures rules { (n : ℕ) → has result.rules n
         ≡ (has found.rules n && not (is_waived waivers.now (glyph_name font.now (found.unit - 1)) n)) }
 {
-    let name = glyph_name(font, found.unit - 1);
+    let name = font.glyph_name((found.unit - 1) as usize);
     Found {
         unit: found.unit,
         step: found.step,

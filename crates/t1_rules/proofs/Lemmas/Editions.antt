@@ -2,7 +2,7 @@
 use Rattle.std.proofs.Common.{◌≡◌, ℕ, zero, suc, ◌<◌, ◌≤◌, ◌==◌, ◌&&◌, ◌||◌, not, if◌then◌else◌, Bool, true, false, Option, Some, None, List, [], ◌∷◌, ◌++◌, length, map, take, drop, flat_map, slice_index_or, refl, sym, subst, ◌∙◌, ap, arith}
 use Rattle.std.specs.List.{list_any, range_with_len}
 use Rattle.std.proofs.Math.Bool.{and-false}
-use Rattle.std.proofs.lemmas.Bool.{eqb-true, ne_eqb}
+use Rattle.std.proofs.lemmas.Bool.{and_parts, eqb-true, ne_eqb}
 use Rattle.std.proofs.lemmas.List.{take_all}
 use Rattle.std.proofs.lemmas.List.Folds.{list_any-append}
 use Rattle.t1_char.specs.declared.command.Command.{Command as Commands}
@@ -17,11 +17,11 @@ use Rattle.t1_rules.specs.declared.sidebearings.Component.{Component}
 use Rattle.t1_rules.specs.declared.step_rules.stems.Stem.{Stem}
 use Rattle.t1_rules.specs.Book.{number_of}
 use Rattle.t1_rules.specs.Components.{component_at, component_in, component_named, component_of_glyph, components_of, glyph_named, missing}
-use Rattle.t1_rules.specs.Laws.Editions.{EditionsAgreeOnOtherRules, EditionsAgreeOnShortComponents, EditionsAgreeOnUsualSteps, EditionsAgreeWithoutOneEdge, HasShortComponents, OneEdgeOverlapsNothing, OtherStemsOverlapAsBefore, OverlapByIsMutual, StemsAreKept, sets_one_edge}
+use Rattle.t1_rules.specs.Laws.Editions.{EditionsAgreeOnOtherRules, EditionsAgreeOnShortComponents, EditionsAgreeOnUsualSteps, EditionsAgreeWithoutOneEdge, HasShortComponents, OneEdgeOverlapsNothing, OtherStemsOverlapAsBefore, OverlapByIsMutual, SecondTellsNoMore, SecondTellsNoMoreInFonts, StemsAreKept, sets_one_edge}
 use Rattle.t1_rules.specs.StandardEncoding.{standard_name}
 use Rattle.t1_rules.specs.StepRules.{StepRule, row, argument_rules, call_rules, charstring_rules, component_rules, flex_rules, othersubr_rules, path_rules, seac_rules, stem_rules, step_rules, breaks}
 use Rattle.t1_rules.specs.StepRules.Seac.{accent_code, base_code, component_of_code, is_lacking, is_named, lacks_component}
-use Rattle.t1_rules.specs.StepRules.Stems.{has_one_edge, hint_set, lies_across, one_overlaps, overlap_by, overlap_in, sets_overlapping, stands_upright, stems_in, stems_meet, stems_of, two_overlap}
+use Rattle.t1_rules.specs.StepRules.Stems.{overlap, has_one_edge, hint_set, lies_across, one_overlaps, overlap_by, overlap_in, sets_overlapping, stands_upright, stems_in, stems_meet, stems_of, two_overlap}
 use Rattle.t1_rules.specs.StepRules.Tokens.{is_command}
 use Rattle.t1_rules.proofs.Lemmas.ComponentLaws.{map_same}
 use Rattle.t1_rules.proofs.Lemmas.Overlaps.{overlap_is_mutual}
@@ -182,6 +182,63 @@ agree_without_one_edge n before step none_before none_here = go (47 == n) refl
         subst (λ k. breaks (step_rules Two) k before step ≡ breaks (step_rules One) k before step) (eqb-true 47 n same)
         (stem_row Two before step ∙ (overlapping_same before step none_before none_here ∙ sym (stem_row One before step)))
 
+-- ---- what the second edition tells, the first does
+
+or_more : (a b c d : Bool) → (a ≡ true → b ≡ true) → (c ≡ true → d ≡ true) → (a || c) ≡ true → (b || d) ≡ true
+or_more true b c d f g h = rw (f refl) refl
+or_more false b true d f g h = rw (g refl) (turned b true)
+or_more false b false d f g h = let no : false ≡ true = h in cc
+
+and_more : (b a c : Bool) → (a ≡ true → c ≡ true) → (b && a) ≡ true → (b && c) ≡ true
+and_more true a c f h = f h
+and_more false a c f h = let no : false ≡ true = h in cc
+
+pair_more : (one other : Stem) → overlap_by Two one other ≡ true → overlap_by One one other ≡ true
+pair_more one other h = (and_parts (not (has_one_edge one || has_one_edge other)) (overlap one other) h).1
+
+any_more : (one : Stem) (others : List Stem) → list_any (overlap_by Two one) others ≡ true → list_any (overlap_by One one) others ≡ true
+any_more one [] h = h
+any_more one (other ∷ others) h =
+    or_more (overlap_by Two one other) (overlap_by One one other) (list_any (overlap_by Two one) others) (list_any (overlap_by One one) others)
+    (pair_more one other) (any_more one others) h
+
+ones_more : (stems kept : List Stem) → one_overlaps (overlap_by Two) stems kept ≡ true → one_overlaps (overlap_by One) stems kept ≡ true
+ones_more [] kept h = h
+ones_more (stem ∷ stems) kept h =
+    or_more (list_any (overlap_by Two stem) kept) (list_any (overlap_by One stem) kept) (one_overlaps (overlap_by Two) stems kept)
+    (one_overlaps (overlap_by One) stems kept) (any_more stem kept) (ones_more stems kept) h
+
+twos_more : (stems : List Stem) → two_overlap (overlap_by Two) stems ≡ true → two_overlap (overlap_by One) stems ≡ true
+twos_more [] h = h
+twos_more (stem ∷ stems) h =
+    or_more (list_any (overlap_by Two stem) stems) (list_any (overlap_by One stem) stems) (two_overlap (overlap_by Two) stems)
+    (two_overlap (overlap_by One) stems) (any_more stem stems) (twos_more stems) h
+
+direction_more : (direction : Commands → Bool) (before : List StepView) (step : StepView)
+    → overlap_in (overlap_by Two) direction before step ≡ true → overlap_in (overlap_by One) direction before step ≡ true
+direction_more direction before step h =
+    let stems = stems_of step in
+    let kept = hint_set direction before in
+    and_more (is_command direction step.token) (stems_meet (overlap_by Two) stems kept) (stems_meet (overlap_by One) stems kept)
+    (or_more (one_overlaps (overlap_by Two) stems kept) (one_overlaps (overlap_by One) stems kept) (two_overlap (overlap_by Two) stems)
+    (two_overlap (overlap_by One) stems) (ones_more stems kept) (twos_more stems)) h
+
+overlapping_more : (before : List StepView) (step : StepView) → sets_overlapping (overlap_by Two) before step ≡ true
+    → sets_overlapping (overlap_by One) before step ≡ true
+overlapping_more before step h =
+    or_more (overlap_in (overlap_by Two) lies_across before step) (overlap_in (overlap_by One) lies_across before step)
+    (overlap_in (overlap_by Two) stands_upright before step) (overlap_in (overlap_by One) stands_upright before step)
+    (direction_more lies_across before step) (direction_more stands_upright before step) h
+
+pub second_tells_no_more : SecondTellsNoMore
+second_tells_no_more n before step = go (47 == n) refl
+  where
+    go : (b : Bool) → (47 == n) ≡ b → breaks (step_rules Two) n before step ≡ true → breaks (step_rules One) n before step ≡ true
+    go false apart h = sym (step_rules_agree n before step apart) ∙ h
+    go true same h =
+        subst (λ k. breaks (step_rules Two) k before step ≡ true → breaks (step_rules One) k before step ≡ true) (eqb-true 47 n same)
+        (λ told. stem_row One before step ∙ overlapping_more before step (sym (stem_row Two before step) ∙ told)) h
+
 -- ---- components
 
 -- Whether a component is there, no limit has a say in.
@@ -279,6 +336,15 @@ agree_on_short_components font short n before step h02 =
     both_agree (components_of (limit_of One) font) (components_of (limit_of Two) font) n before step
     (step_rules_agree n before step (ne_eqb 47 n (λ e. h02 (sym e))))
     (ap (λ components. breaks (component_rules components) n before step) (short_components font short))
+
+pub second_tells_no_more_in_fonts : SecondTellsNoMoreInFonts
+second_tells_no_more_in_fonts font short n before step told =
+    let one = components_of (limit_of One) font in
+    let same = ap (λ (components : List Component). breaks (component_rules components) n before step) (short_components font short) in
+    all_rules One one n before step
+    ∙ or_more (breaks (step_rules Two) n before step) (breaks (step_rules One) n before step)
+    (breaks (component_rules (components_of (limit_of Two) font)) n before step) (breaks (component_rules one) n before step)
+    (second_tells_no_more n before step) (λ is. sym same ∙ is) (sym (all_rules Two (components_of (limit_of Two) font) n before step) ∙ told)
 
 pub agree_on_usual_steps : EditionsAgreeOnUsualSteps
 agree_on_usual_steps font short n before step none_before none_here =

@@ -51,6 +51,12 @@ EditionsAgreeWithoutOneEdge =
     list_any sets_one_edge before ≡ false → sets_one_edge step ≡ false →
     breaks (step_rules Two) n before step ≡ breaks (step_rules One) n before step
 
+-- What a step breaks in the second edition it breaks in the first too, given the steps before.
+abbrev pub SecondTellsNoMore : Type 0
+SecondTellsNoMore =
+    (n : ℕ) (before : List StepView) (step : StepView) →
+    breaks (step_rules Two) n before step ≡ true → breaks (step_rules One) n before step ≡ true
+
 -- ---- all rules on steps
 
 -- The rules on steps of a font's glyphs.
@@ -76,6 +82,12 @@ abbrev pub EditionsAgreeOnShortComponents : Type 0
 EditionsAgreeOnShortComponents =
     (font : FontValue) → HasShortComponents font → (n : ℕ) (before : List StepView) (step : StepView) →
     (n ≡ number_of H02 → ⊥) → breaks (rules_in Two font) n before step ≡ breaks (rules_in One font) n before step
+
+-- So in such a font a step breaks no more in the second edition than in the first.
+abbrev pub SecondTellsNoMoreInFonts : Type 0
+SecondTellsNoMoreInFonts =
+    (font : FontValue) → HasShortComponents font → (n : ℕ) (before : List StepView) (step : StepView) →
+    breaks (rules_in Two font) n before step ≡ true → breaks (rules_in One font) n before step ≡ true
 
 -- And nothing differs where no step so far sets a stem of one edge.
 abbrev pub EditionsAgreeOnUsualSteps : Type 0

@@ -12,7 +12,6 @@ use Rattle.t1_picture.specs.Legends.{legend_of}
 use Rattle.t1_picture.specs.Marks.{FaultsView, faults_of, faults_view}
 use Rattle.t1_picture.specs.Pictures.{bounds_of, svg_text}
 use Rattle.t1_picture.specs.Subjects.{subject_of}
-use Rattle.t1_picture.proofs.Shown.{have_faults}
 use Rattle.t1_picture.proofs.svg.picture.Goals as goal
 use Rattle.t1_report.specs.Checked.{checked}
 
@@ -27,10 +26,9 @@ returns c =
     IfOk-weaker c.svg.result _ _ (λ text is.
     let s = subject_of c.args.view.now in
     let few = c.glyphs-few_glyphs.ensures.few in
-    let shown = have_faults c.each_font_has_a_report.ensures c.faults_of_a_unit_are_the_reports.ensures.given (checked s.font s.edition) s.waivers
-    (s.glyph + 1) few (omega (arith, c.len-few_waivers.ensures.len, c.len-few_waivers.ensures.few)) in
-    let without = have_faults c.each_font_has_a_report.ensures c.faults_of_a_unit_are_the_reports.ensures.given (checked s.font s.edition) []
-    (s.glyph + 1) few (omega arith) in
+    let shown = c.faults_of_a_unit_are_the_reports.ensures.some (checked s.font s.edition) s.waivers (s.glyph + 1) few
+    (omega (arith, c.len-few_waivers.ensures.len, c.len-few_waivers.ensures.few)) in
+    let without = c.faults_of_a_unit_are_the_reports.ensures.some (checked s.font s.edition) [] (s.glyph + 1) few (omega arith) in
     let faults = shown.0 in
     let all = without.0 in
     let are = shown.1 in

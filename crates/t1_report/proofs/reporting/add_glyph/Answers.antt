@@ -28,9 +28,6 @@ loop-step-init c = record {
       (number_of rule) (omega arith) less);
 }
 
-pub overflow_cast-glyph : goal.overflow_cast-glyph
-overflow_cast-glyph c = omega (arith, c.requires.glyph, c.requires.few)
-
 pub overflow_cast-place : goal.overflow_cast-place
 overflow_cast-place c = omega (arith, c.requires.glyph, c.requires.few)
 
