@@ -1,5 +1,5 @@
 -- What a call of a machine answers, over its count and the steps of its glyph.
-use Rattle.std.proofs.Common.{◌≡◌, inl, inr, ℕ, zero, suc, ◌+◌, ◌-◌, ◌<◌, ◌≤◌, Bool, true, false, cond, nat_lt, None, Some, List, [], ◌∷◌, ◌++◌, length, take, drop, slice_get, length-take, refl, ap, sym, subst, ◌∙◌, lt-ltb, le-ltb, arith}
+use Rattle.std.proofs.Common.{◌≡◌, ℕ, zero, suc, ◌+◌, ◌-◌, ◌<◌, ◌≤◌, Bool, true, false, cond, nat_lt, None, Some, List, [], ◌∷◌, ◌++◌, length, take, drop, slice_get, length-take, refl, ap, sym, subst, ◌∙◌, lt-ltb, le-ltb, arith}
 use Rattle.t1_font.specs.Fonts.{FontValue}
 use Rattle.t1_char.specs.declared.frames.Frames.{Frames}
 use Rattle.t1_char.specs.declared.machine.Answer.{Answer}
@@ -22,8 +22,7 @@ use Rattle.t1_char.specs.Private.Frames.{callers_of, state_in, left_behind, step
 use Rattle.t1_char.specs.Passing.{IsPassed}
 use Rattle.t1_char.specs.Private.Advancing.{Advances, HasGoneFar, IsNext}
 use Rattle.t1_char.specs.Private.Machines.{GoesOnFrom, IsAt, IsBehind}
-use Rattle.t1_char.specs.Private.Plain.{GoesOver, GoesOverOne}
-use Rattle.std.proofs.lemmas.Bool.{cases_lt}
+use Rattle.t1_char.specs.Private.Plain.{GoesOverOne}
 use Rattle.t1_char.proofs.Additions.{and_then_front}
 use Rattle.t1_char.proofs.TurnTests.{turn_by_limit}
 
@@ -219,26 +218,6 @@ gone_over limit steps font n f new h over near =
         near = omega (arith, near);
         within = is_within n steps rest step there;
       };
-    }
-
--- None was gone over, and one more.
-pub over_none : (limit : ℕ) (font : FontValue) (n : ℕ) (f : Frames) → GoesOver limit font n f n f
-over_none limit font n f = λ steps behind. record { least = omega arith; passed = λ k from to. absurd (omega (arith, from, to)); behind = behind }
-
-pub over_one_more : (limit : ℕ) (font : FontValue) (n m : ℕ) (f g new : Frames) → GoesOver limit font n f m g → GoesOverOne font g new → m < limit
-    → GoesOver limit font n f (m + 1) new
-over_one_more limit font n m f g new over one near = λ steps behind.
-    let so_far = over steps behind in
-    let more = gone_over limit steps font m g new so_far.behind one near in
-    record {
-      least = omega (arith, so_far.least);
-      passed = λ k from to. elim (cases_lt k m) [
-        | inl before ↦ so_far.passed k from before
-        | inr here ↦
-            let same : m ≡ k = omega (arith, here, to) in
-            subst (IsPassed limit steps) same more.passed
-      ];
-      behind = more.behind;
     }
 
 -- What was asked, by what the answer leaves.

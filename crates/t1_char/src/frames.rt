@@ -11,18 +11,17 @@ ghost use Rattle.t1_char.specs.Private.Cursors.{AtFirst, behind_token, cursor_of
 ghost use Rattle.t1_char.specs.Private.Advancing.{Advances, ReadsToken};
 ghost use Rattle.t1_char.specs.Private.Taking.{IsTokenRead};
 ghost use Rattle.t1_char.specs.declared.cursor.Cursor.{Cursor};
-ghost use Rattle.t1_char.specs.Lines.{is_lines, no_way};
+ghost use Rattle.t1_char.specs.Lines.{is_lines};
 ghost use Rattle.t1_char.specs.Stacks.{most_numbers};
 ghost use Rattle.t1_char.specs.Private.Frames.{IsReady, state_in, step_here, steps_behind, steps_from};
-ghost use Rattle.t1_char.specs.Private.Plain.{GoesOver, PassesNumber};
 ghost use Rattle.t1_char.specs.declared.edition.Edition.TheVariants.{Two};
 ghost use Rattle.t1_char.specs.Editions.{limit_of};
 ghost use Rattle.t1_char.specs.declared.lines.Passing.TheVariants.{Told};
 
 use crate::action::Action;
 use crate::charstrings::{code_at, cursor_at};
-use crate::cursor::{Cursor, Enciphered};
-use crate::effect::{Waiting, apply, apply_plain, put_number};
+use crate::cursor::{Ahead, Cursor};
+use crate::effect::{Waiting, apply, apply_plain};
 use crate::lines::{Passing, Way, is_any, is_lines};
 use crate::stack::{MOST_NUMBERS, Stack};
 use crate::step::{MOST_CALLS, Step, is_last, named_at};
@@ -196,22 +195,48 @@ impl<'a> Frames<'a> {
         ensures told { passing ≡ Told → result.before ≡ counted }
         ensures near { result.before ≤ limit }
     {
-        if limit - counted >= MOST_NUMBERS as u32 && is_any(passing) {
+        if has_room(counted, limit) && is_any(passing) {
             if let Some(ahead) = self.current.enciphered() {
-                return self.go_over_enciphered(ahead, font, counted, limit, is_lines(passing));
+                return self.go_over_far(ahead, font, counted, limit, is_lines(passing));
             }
         }
+        self.go_over_other(passing, font, counted, limit)
+    }
+
+    /// The same where the charstring isn't enciphered, or no step is passed: each is told near the limit.
+    #[inline(never)]
+    fn go_over_other(
+        &mut self,
+        passing: Passing,
+        font: &'a Font<'a>,
+        counted: u32,
+        limit: u32,
+    ) -> Gone
+        requires counted { counted ≤ limit }
+        requires few { limit ≤ limit_of Two }
+        ensures over { ReadsToken (is_lines passing) limit font.now counted self.old result.before result.way self.new }
+        ensures path { self.new.step.path.items ≡ self.old.step.path.items }
+        ensures callers { self.new.callers.items ≡ self.old.callers.items }
+        ensures told { passing ≡ Told → result.before ≡ counted }
+        ensures near { result.before ≤ limit }
+    {
+        if has_room(counted, limit) && is_any(passing) {
+            if let Some(ahead) = self.current.unenciphered() {
+                return self.go_over_far(ahead, font, counted, limit, is_lines(passing));
+            }
+        }
+        self.step.token = self.current.next_token();
         Gone {
-            before: self.go_over_any(passing, font, counted, limit),
+            before: counted,
             way: Way::NONE,
         }
     }
 
-    /// The same of an enciphered charstring far from the limit, where numbers are passed.
+    /// The same far from the limit, where numbers are passed.
     #[inline(always)]
-    fn go_over_enciphered(
+    fn go_over_far(
         &mut self,
-        ahead: Enciphered<'a>,
+        ahead: Ahead<'a>,
         font: &'a Font<'a>,
         counted: u32,
         limit: u32,
@@ -228,7 +253,7 @@ impl<'a> Frames<'a> {
         let stop = self.step.stack.take_lines(ahead, limit - counted, lines);
         self.current = Cursor {
             left: stop.left,
-            cipher: Some(stop.cipher),
+            cipher: stop.cipher,
             short: false,
         };
         self.take_token(stop.token);
@@ -236,21 +261,6 @@ impl<'a> Frames<'a> {
             before: counted + stop.passed,
             way: stop.way,
         }
-    }
-
-    /// The same of any charstring; no line is passed.
-    #[inline(never)]
-    fn go_over_any(&mut self, passing: Passing, font: &'a Font<'a>, counted: u32, limit: u32) -> u32
-        requires { counted ≤ limit }
-        ensures over { ReadsToken (is_lines passing) limit font.now counted self.old result no_way self.new }
-        ensures path { self.new.step.path.items ≡ self.old.step.path.items }
-        ensures callers { self.new.callers.items ≡ self.old.callers.items }
-        ensures told { passing ≡ Told → result ≡ counted }
-        ensures near { result ≤ limit }
-    {
-        let before = self.pass(passing, font, counted, limit);
-        self.step.token = self.current.next_token();
-        before
     }
 
     /// Takes a token that was read, or reads it.
@@ -288,41 +298,6 @@ impl<'a> Frames<'a> {
             ≡ record self.old { current = self.new.current; step = record self.old.step { token = self.new.step.token } } }
     {
         self.step.token = self.current.next_token();
-    }
-
-    /// Passes the numbers that come next if it may. Returns how many steps are before the next, where there were `counted`
-    /// before the first.
-    fn pass(&mut self, passing: Passing, font: &'a Font<'a>, counted: u32, limit: u32) -> u32
-        requires { counted ≤ limit }
-        ensures over { GoesOver limit font.now counted self.old result self.new }
-        ensures path { self.new.step.path.items ≡ self.old.step.path.items }
-        ensures callers { self.new.callers.items ≡ self.old.callers.items }
-        ensures told { passing ≡ Told → result ≡ counted }
-        ensures near { result ≤ limit }
-        ensures least { counted ≤ result }
-    {
-        match passing {
-            Passing::Told => counted,
-            Passing::Numbers | Passing::Lines => self.pass_numbers(font, counted, limit),
-        }
-    }
-
-    /// Passes the numbers that come next and that the stack has room for, up to the limit.
-    fn pass_numbers(&mut self, font: &'a Font<'a>, counted: u32, limit: u32) -> u32
-        requires { counted ≤ limit }
-        ensures over { GoesOver limit font.now counted self.old result self.new }
-        ensures path { self.new.step.path.items ≡ self.old.step.path.items }
-        ensures callers { self.new.callers.items ≡ self.old.callers.items }
-        ensures near { result ≤ limit }
-        ensures least { counted ≤ result }
-    {
-        let mut passed = counted;
-        let mut ahead = self.current;
-        while passed < limit && pass_number(&mut ahead, &mut self.step.stack) {
-            passed += 1;
-        }
-        self.current = ahead;
-        passed
     }
 
     /// Notes what belongs to the token that was read.
@@ -365,23 +340,11 @@ impl<'a> Frames<'a> {
     }
 }
 
-/// Executes the number that comes next, if it is one and the stack has room for it; else nothing is done.
+/// Whether there is room for a full stack of steps before the limit.
 #[inline(always)]
-fn pass_number(ahead: &mut Cursor<'_>, stack: &mut Stack) -> bool
-    ensures passed { result ≡ true → PassesNumber ahead.old ahead.new stack.old stack.new }
-    ensures stays { result ≡ false → ahead.new ≡ ahead.old }
-    ensures kept { result ≡ false → stack.new ≡ stack.old }
+fn has_room(counted: u32, limit: u32) -> bool
+    requires { counted ≤ limit }
+    ensures { result ≡ true → counted + most_numbers ≤ limit }
 {
-    if stack.is_full() {
-        return false;
-    }
-    let mut behind = *ahead;
-    match behind.next_number() {
-        None => false,
-        Some(number) => {
-            *ahead = behind;
-            put_number(stack, number);
-            true
-        }
-    }
+    limit - counted >= MOST_NUMBERS as u32
 }
