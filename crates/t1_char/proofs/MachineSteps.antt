@@ -247,17 +247,28 @@ asked_far what limit steps font n before taken way f answer new is over told ans
     }
 
 -- The step in hand was executed, steps were gone over, and the next was read.
-pub record IsRead (font : FontValue) (f executed new : Frames) (lines : Bool) (limit n before : ℕ) (way : Way) : Type 0 where
-  pub executed_is : steps_from font f ≡ step_here font f ∷ steps_behind font executed
-  pub even : length executed.step.path.items ≡ length executed.callers.items
-  pub over : Advances lines limit font n executed before way new
+pub record HasRead (lines : Bool) (limit : ℕ) (steps : List StepView) (font : FontValue) (n before : ℕ) (way : Way) (new : Frames) : Type 0 where
+  pub taken : ℕ
+  pub taken_is : before ≡ n + taken
+  pub passed : Frames
+  pub gone : HasGoneFar lines limit steps font n taken way passed
+  pub behind : IsBehind limit steps font before passed
+  pub next : IsNext font before passed new
 
-pub gone_behind : (lines : Bool) (limit : ℕ) (steps : List StepView) (font : FontValue) (n before : ℕ) (way : Way) (f executed new : Frames)
-    → GoesOnFrom limit steps font n f → (read : IsRead font f executed new lines limit n before way)
-    → HasGoneFar lines limit steps font n read.over.taken way read.over.passed
-gone_behind lines limit steps font n before way f executed new h read =
-    read.over.over steps (behind_executed limit steps font n f executed h read.executed_is read.even)
-
-pub behind_gone : (lines : Bool) (limit : ℕ) (steps : List StepView) (font : FontValue) (n before taken : ℕ) (way : Way) (passed : Frames) → before ≡ n + taken
-    → HasGoneFar lines limit steps font n taken way passed → IsBehind limit steps font before passed
-behind_gone lines limit steps font n before taken way passed is gone = subst (λ m. IsBehind limit steps font m passed) (sym is) gone.behind
+pub has_read : (lines : Bool) (limit own : ℕ) (steps : List StepView) (font : FontValue) (n before : ℕ) (way : Way) (answer : Answer)
+    (f executed new : Frames) → own ≡ limit → answer ≡ Step → IsAt limit steps font n answer f
+    → steps_from font f ≡ step_here font f ∷ steps_behind font executed → length executed.step.path.items ≡ length executed.callers.items
+    → Advances lines own font n executed before way new → HasRead lines limit steps font n before way new
+has_read lines limit own steps font n before way answer f executed new limit_is is at executed_is even advances =
+    let over : Advances lines limit font n executed before way new =
+    subst (λ k. Advances lines k font n executed before way new) limit_is advances in
+    let gone : HasGoneFar lines limit steps font n over.taken way over.passed =
+    over.over steps (behind_executed limit steps font n f executed (still_goes_on limit steps font n answer f is at) executed_is even) in
+    record {
+      taken = over.taken;
+      taken_is = over.taken_is;
+      passed = over.passed;
+      gone = gone;
+      behind = subst (λ k. IsBehind limit steps font k over.passed) (sym over.taken_is) gone.behind;
+      next = over.next;
+    }
