@@ -1,29 +1,23 @@
 -- Numbers that a machine goes over, while the watchers are calm.
-use Rattle.std.proofs.Common.{◌≡◌, ℕ, ℤ, zero, suc, ◌+◌, ◌-◌, ◌<◌, ◌≤◌, ◌&&◌, inl, inr, true, false, List, [], ◌∷◌, ◌++◌, length, length-take, take, refl, sym, ap, subst, ◌∙◌, arith}
+use Rattle.std.proofs.Common.{◌≡◌, ℕ, ℤ, zero, suc, ◌+◌, ◌-◌, ◌<◌, ◌≤◌, ◌&&◌, inl, inr, true, false, List, [], ◌∷◌, ◌++◌, length, take, refl, sym, ap, subst, ◌∙◌, arith}
 use Rattle.std.proofs.Math.Bool.{and-false}
 use Rattle.std.proofs.lemmas.Bool.{cases_lt}
-use Rattle.std.proofs.lemmas.Option.{slice_get_within}
 use Rattle.t1_char.specs.declared.edition.Edition.{Edition}
 use Rattle.t1_char.specs.declared.token.CharToken.TheVariants.{Number}
 use Rattle.t1_char.specs.Arguments.{is_hint_replacement}
-use Rattle.t1_char.specs.Editions.{limit_of}
 use Rattle.t1_char.specs.Passing.{ArePassed, IsPassed}
 use Rattle.t1_char.specs.Since.{was}
 use Rattle.t1_char.specs.Steps.{NumberedStep, StepView, steps_of}
 use Rattle.t1_char.specs.AnswerViews.{answer_view, is_over}
-use Rattle.t1_char.specs.Asking.{IsAsked}
 use Rattle.t1_char.specs.declared.machine.Answer.{Answer}
 use Rattle.t1_char.specs.declared.machine.Answer.TheVariants as answers
 use Rattle.t1_char.specs.declared.machine.Answer.TheVariants.{Ended, Limit}
 use Rattle.t1_char.specs.declared.machine.Numbers.{Numbers}
-use Rattle.t1_char.specs.declared.machine.Numbers.TheVariants.{Passed, Told}
 use Rattle.t1_char.specs.declared.step.Step.{Step}
-use Rattle.t1_char.specs.StepValues.{step_value}
-use Rattle.t1_char.specs.Turns.{MachineView, TurnValue, ended, limited, stepped}
-use Rattle.t1_char.proofs.TurnsTaken.{IsOver, behind}
+use Rattle.t1_char.specs.Turns.{ended}
+use Rattle.t1_char.proofs.TurnsTaken.{IsOver}
 use Rattle.t1_rules.specs.declared.sidebearings.Component.{Component}
 use Rattle.t1_rules.specs.declared.watches.Watches.{Watches}
-use Rattle.t1_rules.specs.Book.{number_of}
 use Rattle.t1_rules.specs.Components.{components_of}
 use Rattle.t1_rules.specs.StepRules.{StepRule, breaks, breaks_next, component_rules}
 use Rattle.t1_rules.specs.Private.Standing.{WatchesStandFor}
@@ -35,11 +29,11 @@ use Rattle.t1_rules.proofs.Lemmas.Watches.{no_fault_at_number, stays_at_number}
 use Rattle.t1_report.specs.Checked.{CheckedFont, step_limit}
 use Rattle.t1_report.specs.Laws.PassedNumbers.{CalmIsBehindNoReplacement, CalmWatchersStandBehindNumbers, IsBehindNoReplacement, PassedNumbersBreakNoRule}
 use Rattle.t1_report.specs.Reports.{is_broken, rules_of}
-use Rattle.t1_report.specs.Private.Units.{IsQuiet, IsRun, executed}
+use Rattle.t1_report.specs.Private.Units.{IsQuiet}
 use Rattle.t1_report.specs.Walks.{turns_of_glyph}
 use Rattle.t1_report.proofs.Broken.{at_step, both_kinds, rules_by, within_limit}
 use Rattle.t1_report.proofs.GlyphSteps.{take_next}
-use Rattle.t1_report.proofs.RunSteps.{IsRunAt, IsTold, count_at_end, run_at, run_of, told_at, told_end}
+use Rattle.t1_report.proofs.RunSteps.{IsRunAt, IsTold}
 
 -- Calm watchers stand for what is behind such numbers.
 pub stands_more : (edition : Edition) (w : Watches) (limit : ℕ) (all : List StepView) (k : ℕ) → IsCalm w → IsPassed limit all k
