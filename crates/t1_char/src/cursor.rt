@@ -5,7 +5,7 @@ ghost use Rattle.t1_seal.specs.Laws.Cipher.{next_state};
 ghost use Rattle.t1_char.specs.Tokens.{charstring_tokens, long_number, more_of, random_of, token_at};
 ghost use Rattle.t1_seal.specs.Cipher.{charstring_start, decrypted};
 ghost use Rattle.t1_char.specs.Steps.{is_end};
-ghost use Rattle.t1_char.specs.Private.Cursors.{AtFirst, behind_token, bytes_left, cursor_of, key_after, key_of, plain_by, tokens_left};
+ghost use Rattle.t1_char.specs.Private.Cursors.{AtFirst, behind_token, bytes_left, cursor_of, key_after, key_of, plain_by, plain_cursor, tokens_left};
 ghost use Rattle.std.specs.List.{list_any};
 ghost use Rattle.t1_char.specs.Seacs.{is_seac};
 ghost use Rattle.t1_char.specs.Lines.{IsWithin, is_far};
@@ -139,13 +139,13 @@ impl<'a> Cursor<'a> {
         }
     }
 
-    /// What is left, where it is neither enciphered nor short.
+    /// What is left, where it is neither enciphered nor short and begins with a number: before a command nothing is passed.
     #[inline(always)]
     pub(crate) fn unenciphered(&self) -> Option<Ahead<'a>>
-        ensures { IfSome result (λ ahead. cursor_of ahead ≡ self.now) }
+        ensures { IfSome result (λ ahead. plain_cursor ahead.left ≡ self.now) }
     {
         match self.cipher {
-            None if !self.short => Some(Ahead {
+            None if !self.short && begins_with_number(self.left) => Some(Ahead {
                 left: self.left,
                 cipher: None,
             }),
@@ -230,20 +230,24 @@ impl<'a> Cursor<'a> {
         ensures goes_on { is_end result ≡ false }
     {
         match first {
+            12 => match self.next_byte() {
+                Some(second) => escaped_token(second),
+                None => CharToken::Cut,
+            },
+            0..=31 => plain_token(first),
+            32..=246 => CharToken::Number(i32::from(first) - 139),
+            247..=250 => match self.next_byte() {
+                Some(second) => CharToken::Number(i32::from(pair(first - 247, second))),
+                None => CharToken::Cut,
+            },
+            251..=254 => match self.next_byte() {
+                Some(second) => CharToken::Number(-i32::from(pair(first - 251, second))),
+                None => CharToken::Cut,
+            },
             255 => match self.long_number() {
                 Some(number) => CharToken::Number(number),
                 None => CharToken::Cut,
             },
-            first => {
-                let mut ahead = Ahead {
-                    left: self.left,
-                    cipher: self.cipher,
-                };
-                let token = ahead.token_behind(first);
-                self.left = ahead.left;
-                self.cipher = ahead.cipher;
-                token
-            }
         }
     }
 
@@ -343,6 +347,15 @@ fn random_bytes(len_iv: i8) -> Option<usize>
         None
     } else {
         Some(len_iv as usize)
+    }
+}
+
+/// Whether the first byte begins a number of one or two bytes.
+#[inline(always)]
+fn begins_with_number(left: &[u8]) -> bool {
+    match left {
+        [] => false,
+        [first, ..] => matches!(*first, 32..=254),
     }
 }
 

@@ -7,7 +7,7 @@ ghost use Rattle.t1_char.specs.Effects.{most_calls};
 ghost use Rattle.t1_char.specs.Steps.{named_at, steps_of};
 ghost use Rattle.t1_char.specs.Private.Actions.{named_of};
 ghost use Rattle.t1_char.specs.StepValues.{step_view};
-ghost use Rattle.t1_char.specs.Private.Cursors.{AtFirst, behind_token, cursor_of, tokens_left};
+ghost use Rattle.t1_char.specs.Private.Cursors.{AtFirst, behind_token, cursor_of, plain_cursor, tokens_left};
 ghost use Rattle.t1_char.specs.Private.Advancing.{Advances, ReadsToken};
 ghost use Rattle.t1_char.specs.Private.Taking.{IsTokenRead};
 ghost use Rattle.t1_char.specs.declared.cursor.Cursor.{Cursor};
@@ -42,6 +42,8 @@ pub(crate) struct Frames<'a> {
     /// The Subr that the step calls, where its token is callsubr.
     named: Option<Subr<'a>>,
     waiting: Waiting,
+    /// The way of the steps that were passed out of line.
+    way: Way,
     pub(crate) step: Step,
 }
 
@@ -63,6 +65,7 @@ impl<'a> Frames<'a> {
             callers: ArrayVec::new(),
             named: None,
             waiting: ArrayVec::new(),
+            way: Way::NONE,
             step: Step {
                 number: 0,
                 token: CharToken::Cut,
@@ -200,10 +203,19 @@ impl<'a> Frames<'a> {
                 return self.go_over_far(ahead, font, counted, limit, is_lines(passing));
             }
         }
-        self.go_over_other(passing, font, counted, limit)
+        let before = self.go_over_other(passing, font, counted, limit);
+        Gone {
+            before,
+            way: Way {
+                x: self.way.x,
+                y: self.way.y,
+                drawn: self.way.drawn,
+            },
+        }
     }
 
-    /// The same where the charstring isn't enciphered, or no step is passed: each is told near the limit.
+    /// The same where the charstring isn't enciphered, and where each step is told. It keeps the way, and returns how many steps
+    /// are before the one that it reads: the walk's state stays in registers.
     #[inline(never)]
     fn go_over_other(
         &mut self,
@@ -211,25 +223,50 @@ impl<'a> Frames<'a> {
         font: &'a Font<'a>,
         counted: u32,
         limit: u32,
-    ) -> Gone
+    ) -> u32
         requires counted { counted ≤ limit }
         requires few { limit ≤ limit_of Two }
-        ensures over { ReadsToken (is_lines passing) limit font.now counted self.old result.before result.way self.new }
+        ensures over { ReadsToken (is_lines passing) limit font.now counted self.old result self.new.way self.new }
         ensures path { self.new.step.path.items ≡ self.old.step.path.items }
         ensures callers { self.new.callers.items ≡ self.old.callers.items }
-        ensures told { passing ≡ Told → result.before ≡ counted }
-        ensures near { result.before ≤ limit }
+        ensures told { passing ≡ Told → result ≡ counted }
+        ensures near { result ≤ limit }
     {
         if has_room(counted, limit) && is_any(passing) {
             if let Some(ahead) = self.current.unenciphered() {
-                return self.go_over_far(ahead, font, counted, limit, is_lines(passing));
+                return self.go_over_plain(ahead.left, font, counted, limit, is_lines(passing));
             }
         }
         self.step.token = self.current.next_token();
-        Gone {
-            before: counted,
-            way: Way::NONE,
-        }
+        self.way = Way::NONE;
+        counted
+    }
+
+    /// The same of a charstring without encryption far from the limit, where numbers are passed. It has a function of its own, so
+    /// that steps that are told don't save its registers.
+    #[inline(never)]
+    fn go_over_plain(
+        &mut self,
+        left: &'a [u8],
+        font: &'a Font<'a>,
+        counted: u32,
+        limit: u32,
+        lines: bool,
+    ) -> u32
+        requires ahead { plain_cursor left ≡ self.old.current }
+        requires far { counted + most_numbers ≤ limit }
+        requires few { limit ≤ limit_of Two }
+        ensures over { ReadsToken lines limit font.now counted self.old result self.new.way self.new }
+        ensures path { self.new.step.path.items ≡ self.old.step.path.items }
+        ensures callers { self.new.callers.items ≡ self.old.callers.items }
+        ensures near { result ≤ limit }
+    {
+        let ahead = Ahead { left, cipher: None };
+        let gone = self.go_over_far(ahead, font, counted, limit, lines);
+        self.way.x = gone.way.x;
+        self.way.y = gone.way.y;
+        self.way.drawn = gone.way.drawn;
+        gone.before
     }
 
     /// The same far from the limit, where numbers are passed.
