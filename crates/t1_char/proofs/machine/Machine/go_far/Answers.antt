@@ -62,10 +62,9 @@ invariant_of-self-else-self c =
     c.execute.new.self c.advance-gone.new.self c.self.invariant.1 c.in-Step.is c.self.invariant.0 c.if-not-execute.ensures.steps
     c.if-not-execute.ensures.even c.advance-gone.ensures.over in
     let answers = answers_step (limit_of m.edition) (steps_of m.font.now m.glyph) m.font.now c.advance-gone.result.before read.passed
-    c.advance-gone.new.self read.behind read.next (omega (arith, c.self.invariant.1, c.if-self.false)) in
-    (
+    c.advance-gone.new.self read.behind read.next (omega (arith, c.self.invariant.1, c.if-self.false)) in (
       subst (λ answer. IsAt (limit_of m.edition) (steps_of m.font.now m.glyph) m.font.now (c.advance-gone.result.before + 1) answer
-      c.advance-gone.new.self) (sym c.in-Step.is) answers.stands,
+          c.advance-gone.new.self) (sym c.in-Step.is) answers.stands,
       c.self.invariant.1,
     )
 
