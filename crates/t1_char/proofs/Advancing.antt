@@ -20,7 +20,7 @@ use Rattle.t1_char.specs.Private.Advancing.{GoesFar, HasGoneFar}
 use Rattle.t1_char.specs.Private.Cursors.{tokens_left}
 use Rattle.t1_char.specs.Private.Frames.{state_in, steps_behind}
 use Rattle.t1_char.specs.Private.Machines.{IsBehind}
-use Rattle.t1_char.specs.Private.Plain.{GoesOver, HasGoneOver, PassesNumber}
+use Rattle.t1_char.specs.Private.Plain.{PassesNumber}
 use Rattle.t1_char.specs.Private.Taking.{PassesCommand, PassesOne, PassesRow}
 use Rattle.t1_char.proofs.Executing.{goes_over_one, token_over}
 use Rattle.t1_char.proofs.MachineSteps.{drop_next, get_there, gone_over, is_within}
@@ -106,22 +106,11 @@ pub lines_over : (lines : Bool) (limit : ℕ) (font : FontValue) (n : ℕ) (f : 
 lines_over lines limit font n f taken ahead behind stack way is row near = λ steps at.
     row_over lines limit steps font n f taken ahead behind stack way is at row near
 
--- Numbers alone.
-numbers_passed : (lines : Bool) (limit : ℕ) (steps : List StepView) (n taken : ℕ) → ArePassed limit steps n (n + taken) → PassesSteps lines limit steps n taken no_way
-numbers_passed lines limit steps n zero passed = refl
-numbers_passed lines limit steps n (suc taken) passed = (
-  no_way,
-  (
-    numbers_passed lines limit steps n taken (λ k from to. passed k from (omega (arith, to))),
-    inl (passed (n + taken) (omega arith) (omega arith), refl),
-  ),
-)
-
-pub numbers_far : (lines : Bool) (limit : ℕ) (font : FontValue) (n m : ℕ) (f new : Frames) (taken : ℕ) → m ≡ n + taken → GoesOver limit font n f m new
-    → GoesFar lines limit font n f taken no_way new
-numbers_far lines limit font n m f new taken is over = λ steps at.
-    let gone : HasGoneOver limit steps font n (n + taken) new = subst (λ k. HasGoneOver limit steps font n k new) is (over steps at) in
-    record { passed = numbers_passed lines limit steps n taken gone.passed; behind = gone.behind }
+-- None.
+pub none_over : (lines : Bool) (limit : ℕ) (font : FontValue) (n : ℕ) (f : Frames) → GoesFar lines limit font n f 0 no_way f
+none_over lines limit font n f = λ steps at.
+    let same : n ≡ n + 0 = omega arith in
+    record { passed = refl; behind = subst (λ m. IsBehind limit steps font m f) same at }
 
 -- Where no line is passed, numbers alone are.
 pub all_numbers : (limit : ℕ) (steps : List StepView) (n taken : ℕ) (way : Way) → PassesSteps false limit steps n taken way → ArePassed limit steps n (n + taken)

@@ -1,5 +1,5 @@
 -- What a call of a machine answers, over its count and the steps of its glyph.
-use Rattle.std.proofs.Common.{◌≡◌, inl, inr, ℕ, zero, suc, ◌+◌, ◌-◌, ◌<◌, ◌≤◌, Bool, true, false, cond, nat_lt, None, Some, List, [], ◌∷◌, ◌++◌, length, take, drop, slice_get, length-take, refl, ap, sym, subst, ◌∙◌, lt-ltb, le-ltb, arith}
+use Rattle.std.proofs.Common.{◌≡◌, ℕ, zero, suc, ◌+◌, ◌-◌, ◌<◌, ◌≤◌, Bool, true, false, cond, nat_lt, None, Some, List, [], ◌∷◌, ◌++◌, length, take, drop, slice_get, length-take, refl, ap, sym, subst, ◌∙◌, lt-ltb, le-ltb, arith}
 use Rattle.t1_font.specs.Fonts.{FontValue}
 use Rattle.t1_char.specs.declared.frames.Frames.{Frames}
 use Rattle.t1_char.specs.declared.machine.Answer.{Answer}
@@ -22,8 +22,7 @@ use Rattle.t1_char.specs.Private.Frames.{callers_of, state_in, left_behind, step
 use Rattle.t1_char.specs.Passing.{IsPassed}
 use Rattle.t1_char.specs.Private.Advancing.{Advances, HasGoneFar, IsNext}
 use Rattle.t1_char.specs.Private.Machines.{GoesOnFrom, IsAt, IsBehind}
-use Rattle.t1_char.specs.Private.Plain.{GoesOver, GoesOverOne}
-use Rattle.std.proofs.lemmas.Bool.{cases_lt}
+use Rattle.t1_char.specs.Private.Plain.{GoesOverOne}
 use Rattle.t1_char.proofs.Additions.{and_then_front}
 use Rattle.t1_char.proofs.TurnTests.{turn_by_limit}
 
@@ -221,26 +220,6 @@ gone_over limit steps font n f new h over near =
       };
     }
 
--- None was gone over, and one more.
-pub over_none : (limit : ℕ) (font : FontValue) (n : ℕ) (f : Frames) → GoesOver limit font n f n f
-over_none limit font n f = λ steps behind. record { least = omega arith; passed = λ k from to. absurd (omega (arith, from, to)); behind = behind }
-
-pub over_one_more : (limit : ℕ) (font : FontValue) (n m : ℕ) (f g new : Frames) → GoesOver limit font n f m g → GoesOverOne font g new → m < limit
-    → GoesOver limit font n f (m + 1) new
-over_one_more limit font n m f g new over one near = λ steps behind.
-    let so_far = over steps behind in
-    let more = gone_over limit steps font m g new so_far.behind one near in
-    record {
-      least = omega (arith, so_far.least);
-      passed = λ k from to. elim (cases_lt k m) [
-        | inl before ↦ so_far.passed k from before
-        | inr here ↦
-            let same : m ≡ k = omega (arith, here, to) in
-            subst (IsPassed limit steps) same more.passed
-      ];
-      behind = more.behind;
-    }
-
 -- What was asked, by what the answer leaves.
 pub asked_far_none : (what : Passing) (limit : ℕ) (steps : List StepView) (font : FontValue) (n : ℕ) (answer : Answer) (f : Frames)
     → Answers limit steps font n answer f → IsAskedFarBehind what limit steps n (n + 1) (answer_view answer (step_value f.step)) no_way
@@ -268,17 +247,28 @@ asked_far what limit steps font n before taken way f answer new is over told ans
     }
 
 -- The step in hand was executed, steps were gone over, and the next was read.
-pub record IsRead (font : FontValue) (f executed new : Frames) (lines : Bool) (limit n before : ℕ) (way : Way) : Type 0 where
-  pub executed_is : steps_from font f ≡ step_here font f ∷ steps_behind font executed
-  pub even : length executed.step.path.items ≡ length executed.callers.items
-  pub over : Advances lines limit font n executed before way new
+pub record HasRead (lines : Bool) (limit : ℕ) (steps : List StepView) (font : FontValue) (n before : ℕ) (way : Way) (new : Frames) : Type 0 where
+  pub taken : ℕ
+  pub taken_is : before ≡ n + taken
+  pub passed : Frames
+  pub gone : HasGoneFar lines limit steps font n taken way passed
+  pub behind : IsBehind limit steps font before passed
+  pub next : IsNext font before passed new
 
-pub gone_behind : (lines : Bool) (limit : ℕ) (steps : List StepView) (font : FontValue) (n before : ℕ) (way : Way) (f executed new : Frames)
-    → GoesOnFrom limit steps font n f → (read : IsRead font f executed new lines limit n before way)
-    → HasGoneFar lines limit steps font n read.over.taken way read.over.passed
-gone_behind lines limit steps font n before way f executed new h read =
-    read.over.over steps (behind_executed limit steps font n f executed h read.executed_is read.even)
-
-pub behind_gone : (lines : Bool) (limit : ℕ) (steps : List StepView) (font : FontValue) (n before taken : ℕ) (way : Way) (passed : Frames) → before ≡ n + taken
-    → HasGoneFar lines limit steps font n taken way passed → IsBehind limit steps font before passed
-behind_gone lines limit steps font n before taken way passed is gone = subst (λ m. IsBehind limit steps font m passed) (sym is) gone.behind
+pub has_read : (lines : Bool) (limit own : ℕ) (steps : List StepView) (font : FontValue) (n before : ℕ) (way : Way) (answer : Answer)
+    (f executed new : Frames) → own ≡ limit → answer ≡ Step → IsAt limit steps font n answer f
+    → steps_from font f ≡ step_here font f ∷ steps_behind font executed → length executed.step.path.items ≡ length executed.callers.items
+    → Advances lines own font n executed before way new → HasRead lines limit steps font n before way new
+has_read lines limit own steps font n before way answer f executed new limit_is is at executed_is even advances =
+    let over : Advances lines limit font n executed before way new =
+    subst (λ k. Advances lines k font n executed before way new) limit_is advances in
+    let gone : HasGoneFar lines limit steps font n over.taken way over.passed =
+    over.over steps (behind_executed limit steps font n f executed (still_goes_on limit steps font n answer f is at) executed_is even) in
+    record {
+      taken = over.taken;
+      taken_is = over.taken_is;
+      passed = over.passed;
+      gone = gone;
+      behind = subst (λ k. IsBehind limit steps font k over.passed) (sym over.taken_is) gone.behind;
+      next = over.next;
+    }

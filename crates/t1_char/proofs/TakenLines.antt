@@ -4,7 +4,7 @@ use Rattle.std.proofs.lemmas.Int.{ints}
 use Rattle.t1_char.specs.declared.command.Command.{Command as Commands}
 use Rattle.t1_char.specs.declared.command.Command.TheVariants.{Rlineto, Hlineto, Vlineto, Rrcurveto, Vhcurveto, Hvcurveto, Closepath}
 use Rattle.t1_char.specs.declared.cursor.Cursor.{Cursor}
-use Rattle.t1_char.specs.declared.cursor.Enciphered.{Enciphered}
+use Rattle.t1_char.specs.declared.cursor.Ahead.{Ahead}
 use Rattle.t1_char.specs.declared.lines.Way.{Way}
 use Rattle.t1_char.specs.declared.taking.Lines.{Lines}
 use Rattle.t1_char.specs.declared.taking.Stop.{Stop}
@@ -22,7 +22,7 @@ near_none = record {
   y = record { low = omega (arith, ints); high = omega (arith, ints) };
 }
 
-pub path_none : (room : ℕ) (ahead : Enciphered) → most_numbers ≤ room
+pub path_none : (room : ℕ) (ahead : Ahead) → most_numbers ≤ room
     → IsTakingLines room ahead [] [] 0 (cursor_of ahead) no_way × (0 + most_numbers ≤ room)
 path_none room ahead enough = (
   record { passes = (refl, (refl, refl)); near = near_none; room_is = omega arith; short = refl; unclosed = refl },
@@ -52,7 +52,7 @@ near_more n k way near = record {
   y = record { low = omega (arith, ints, near.y.low); high = omega (arith, ints, near.y.high) };
 }
 
-pub path_numbers : (room : ℕ) (ahead left : Enciphered) (new : List ℤ) (passed : ℕ) (way : Way) (stop : Stop)
+pub path_numbers : (room : ℕ) (ahead left : Ahead) (new : List ℤ) (passed : ℕ) (way : Way) (stop : Stop)
     → IsTakingLines room ahead [] [] passed (cursor_of left) way → passed + most_numbers ≤ room → (takes : Takes left [] new stop)
     → stop.len ≡ length new → stop.len ≤ most_numbers → IsTakingLines room ahead [] new (passed + stop.len) takes.before way
 path_numbers room ahead left new passed way stop so_far enough takes is few =
@@ -112,7 +112,7 @@ row_more : (n : ℕ) (a m b : Cursor) (s t u : List ℤ) (before way : Way) → 
     → PassesCommand m b t u before way → PassesRow true (suc n) a b s u way
 row_more n a m b s t u before way row one = (m, (t, (before, (row, inr (refl, one)))))
 
-pub path_line : (room : ℕ) (ahead : Enciphered) (numbers : List ℤ) (passed : ℕ) (before : Cursor) (so_far one way : Way) (stop : Stop)
+pub path_line : (room : ℕ) (ahead : Ahead) (numbers : List ℤ) (passed : ℕ) (before : Cursor) (so_far one way : Way) (stop : Stop)
     → IsTakingLines room ahead [] numbers passed before so_far → StopsAt stop.first before (stop_cursor stop) → IsLineFirst stop.first numbers one
     → way ≡ further so_far one → IsWayNear (passed + 1) way → most_numbers < room - passed
     → IsTakingLines room ahead [] [] (passed + 1) (cursor_of (left_of stop.left stop.cipher)) way × (passed + 1 + most_numbers ≤ room)
@@ -131,7 +131,7 @@ path_line room ahead numbers passed before so_far one way stop round at line is 
     )
 
 -- The path ends at the next token, or after a closepath.
-pub path_all : (room : ℕ) (ahead : Enciphered) (cells numbers : List ℤ) (passed : ℕ) (before : Cursor) (way : Way) (stop : Stop) (lines : Lines)
+pub path_all : (room : ℕ) (ahead : Ahead) (cells numbers : List ℤ) (passed : ℕ) (before : Cursor) (way : Way) (stop : Stop) (lines : Lines)
     → IsTakingLines room ahead [] numbers passed before way → StopsAt stop.first before (stop_cursor stop) → numbers ≡ take stop.len cells
     → Finishes stop passed way lines → TakesLines true ahead [] (take lines.len cells) lines
 path_all room ahead cells numbers passed before way stop lines round at is (inl there) =
@@ -175,7 +175,7 @@ path_len passed way stop lines cells is (inl there) = subst (λ n. n ≡ length 
 path_len passed way stop lines cells is (inr behind) = subst (λ n. n ≡ length (take n cells)) (sym behind.len) refl
 
 -- Numbers alone.
-pub front_all : (lines : Bool) (ahead : Enciphered) (old new : List ℤ) (at : Stop) (stop : Lines) → (takes : Takes ahead old new at)
+pub front_all : (lines : Bool) (ahead : Ahead) (old new : List ℤ) (at : Stop) (stop : Lines) → (takes : Takes ahead old new at)
     → stop.passed ≡ takes.count → stop.way ≡ no_way → IsTokenRead stop.token takes.before (lines_cursor stop) → TakesLines lines ahead old new stop
 front_all lines ahead old new at stop takes passed_is way_is read =
     let none : 0 + takes.count ≡ takes.count = omega arith in

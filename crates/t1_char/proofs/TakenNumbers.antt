@@ -1,6 +1,6 @@
 -- Numbers that are taken one after another.
-use Rattle.std.proofs.Common.{◌≡◌, ℕ, suc, ℤ, ◌+◌, ◌<◌, ◌≤◌, List, [], ◌∷◌, ◌++◌, length, take, drop, false, cond, refl, ap, sym, ◌∙◌, lt-ltb, length-append, length-take, arith}
-use Rattle.t1_char.specs.declared.cursor.Enciphered.{Enciphered}
+use Rattle.std.proofs.Common.{◌≡◌, ℕ, suc, ℤ, ◌+◌, ◌<◌, List, [], ◌∷◌, ◌++◌, length, take, drop, false, cond, ap, sym, ◌∙◌, lt-ltb, length-append, arith}
+use Rattle.t1_char.specs.declared.cursor.Ahead.{Ahead}
 use Rattle.t1_char.specs.declared.token.CharToken.TheVariants.{Number}
 use Rattle.t1_char.specs.Effects.{goes, effect, state_of}
 use Rattle.t1_char.specs.Numbers.{units}
@@ -13,14 +13,8 @@ use Rattle.t1_char.specs.Lines.{is_far}
 use Rattle.t1_char.proofs.NearNumbers.{near_more}
 use Rattle.t1_char.proofs.Skipping.{tokens_behind_is}
 
-pub taken_none : (ahead : Enciphered) (cells : List ℤ) (len : ℕ) → length cells ≡ most_numbers → len ≤ most_numbers
-    → IsTaking ahead (take len cells) cells len ahead
-taken_none ahead cells len long room =
-    let len_is : length (take len cells) ≡ len = omega (arith, long, room, length-take len cells) in
-    record { count = 0; passes = (refl, refl); more = omega (arith, len_is); len_is = len_is; room = room; near = λ near. near }
-
 -- The number of its first byte and what follows it.
-number_read : (first : ℕ) (number : ℤ) (ahead between behind : Enciphered) → bytes_left (cursor_of ahead) ≡ first ∷ bytes_left (cursor_of between)
+number_read : (first : ℕ) (number : ℤ) (ahead between behind : Ahead) → bytes_left (cursor_of ahead) ≡ first ∷ bytes_left (cursor_of between)
     → token_at first (bytes_left (cursor_of between)) ≡ Number number
     → bytes_left (cursor_of behind) ≡ drop (more_of first) (bytes_left (cursor_of between))
     → tokens_left (cursor_of ahead) ≡ Number number ∷ tokens_left (cursor_of behind)
@@ -34,7 +28,7 @@ number_read first number ahead between behind bytes token left =
 put_more : (stack : List ℤ) (z : ℤ) → length stack < most_numbers → length (put stack z) ≡ length stack + 1
 put_more stack z room = ap (λ b. length (cond b (stack ++ z ∷ []) stack)) (lt-ltb (length stack) most_numbers room) ∙ length-append stack (z ∷ [])
 
-pub taken_more : (ahead left between behind : Enciphered) (old cells more : List ℤ) (len first : ℕ) (number : ℤ) → IsTaking ahead old cells len left
+pub taken_more : (ahead left between behind : Ahead) (old cells more : List ℤ) (len first : ℕ) (number : ℤ) → IsTaking ahead old cells len left
     → bytes_left (cursor_of left) ≡ first ∷ bytes_left (cursor_of between)
     → token_at first (bytes_left (cursor_of between)) ≡ Number number
     → bytes_left (cursor_of behind) ≡ drop (more_of first) (bytes_left (cursor_of between))

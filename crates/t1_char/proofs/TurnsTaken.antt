@@ -3,18 +3,13 @@ use Rattle.std.proofs.Common.{◌≡◌, ℕ, zero, suc, ◌+◌, ◌-◌, ◌<�
 use Rattle.std.proofs.lemmas.Bool.{ltb-true, ltb-false}
 use Rattle.std.proofs.lemmas.List.{take_all, take_more, get_or-take}
 use Rattle.std.proofs.lemmas.Option.{get_or_from_slice_get, slice_get_within}
-use Rattle.std.specs.Borrow.{Bor}
 use Rattle.t1_font.specs.Fonts.{FontValue}
 use Rattle.t1_char.specs.declared.edition.Edition.{Edition}
 use Rattle.t1_char.specs.Editions.{limit_of}
 use Rattle.t1_char.specs.Steps.{StepView, NumberedStep, steps_of}
 use Rattle.t1_char.specs.declared.machine.Answer.{Answer}
 use Rattle.t1_char.specs.declared.machine.Answer.TheVariants as answers
-use Rattle.t1_char.specs.declared.machine.Turn.{Turn as Turns}
-use Rattle.t1_char.specs.declared.machine.Turn.TheVariants.{Step, Ended, Limit}
-use Rattle.t1_char.specs.declared.step.Step.{Step as Steps}
 use Rattle.t1_char.specs.AnswerViews.{answer_view}
-use Rattle.t1_char.specs.TurnViews.{turn_value}
 use Rattle.t1_char.specs.Turns.{MachineView, TurnValue, stepped, ended, limited, step_of_number, step_or_end, limit_or_end, turn_at, counted_after}
 use Rattle.t1_char.proofs.TurnTests.{turn_by_limit}
 
@@ -116,19 +111,7 @@ pub machine_counted : (edition : Edition) (m : MachineView) (font : FontValue) (
     → counted ≡ m.counted + 1
 machine_counted edition m font glyph answer counted same stepped_to is = is ∙ same_count edition m font glyph same ∙ stepped_to.counted
 
-not_step : (turn : Turns) → ((step : Bor Steps) → turn ≡ Step step → ⊥) → is_step (turn_value turn) ≡ false
-not_step (Step step) other = absurd (other step refl)
-not_step Ended other = refl
-not_step (Limit step) other = refl
-
-pub machine_over : (edition : Edition) (m : MachineView) (font : FontValue) (glyph : ℕ) (turn : Turns) → Executes edition font glyph m
-    → ((step : Bor Steps) → turn ≡ Step step → ⊥) → turn_value turn ≡ turn_at (limit_of m.edition) (steps_of m.font m.glyph) m.counted
-    → take m.counted (take (limit_of edition) (steps_of font glyph)) ≡ take (limit_of edition) (steps_of font glyph)
-machine_over edition m font glyph turn same other is =
-    take_all m.counted (take (limit_of edition) (steps_of font glyph))
-    (turns_over (limit_of edition) (steps_of font glyph) m.counted (ap is_step (sym (is ∙ same_turn edition m font glyph same)) ∙ not_step turn other))
-
--- The same of an answer without its step.
+-- An answer that isn't a step: all steps were taken.
 no_step : (answer : Answer) (step : NumberedStep) → (answer ≡ answers.Step → ⊥) → is_step (answer_view answer step) ≡ false
 no_step answers.Step step other = absurd (other refl)
 no_step answers.Ended step other = refl

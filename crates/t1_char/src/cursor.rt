@@ -5,7 +5,7 @@ ghost use Rattle.t1_seal.specs.Laws.Cipher.{next_state};
 ghost use Rattle.t1_char.specs.Tokens.{charstring_tokens, long_number, more_of, random_of, token_at};
 ghost use Rattle.t1_seal.specs.Cipher.{charstring_start, decrypted};
 ghost use Rattle.t1_char.specs.Steps.{is_end};
-ghost use Rattle.t1_char.specs.Private.Cursors.{AtFirst, behind_token, bytes_left, cursor_of, key_after, key_of, plain_by, tokens_left};
+ghost use Rattle.t1_char.specs.Private.Cursors.{AtFirst, behind_token, bytes_left, cursor_of, key_after, key_of, plain_by, plain_cursor, tokens_left};
 ghost use Rattle.std.specs.List.{list_any};
 ghost use Rattle.t1_char.specs.Seacs.{is_seac};
 ghost use Rattle.t1_char.specs.Lines.{IsWithin, is_far};
@@ -27,14 +27,15 @@ pub(crate) struct Cursor<'a> {
     pub(crate) short: bool,
 }
 
-/// What is left of an enciphered charstring that isn't short.
+/// What is left of a charstring that isn't short.
 #[derive(Clone, Copy)]
-pub(crate) struct Enciphered<'a> {
+pub(crate) struct Ahead<'a> {
     pub(crate) left: &'a [u8],
-    pub(crate) cipher: Cipher,
+    /// None where charstrings aren't encrypted.
+    pub(crate) cipher: Option<Cipher>,
 }
 
-impl<'a> Enciphered<'a> {
+impl<'a> Ahead<'a> {
     /// The next plain byte.
     #[inline(always)]
     #[tactic(auto, unfolding(crate::specs::Private::Cursors::deciphered))]
@@ -47,7 +48,7 @@ impl<'a> Enciphered<'a> {
             None => None,
             Some((byte, rest)) => {
                 self.left = rest;
-                Some(next_plain(&mut self.cipher, byte))
+                Some(plain(&mut self.cipher, byte))
             }
         }
     }
@@ -126,13 +127,27 @@ impl<'a> Cursor<'a> {
 
     /// What is left, where it is enciphered and not short.
     #[inline(always)]
-    pub(crate) fn enciphered(&self) -> Option<Enciphered<'a>>
+    pub(crate) fn enciphered(&self) -> Option<Ahead<'a>>
         ensures { IfSome result (λ ahead. cursor_of ahead ≡ self.now) }
     {
         match self.cipher {
-            Some(cipher) if !self.short => Some(Enciphered {
+            Some(cipher) if !self.short => Some(Ahead {
                 left: self.left,
-                cipher,
+                cipher: Some(cipher),
+            }),
+            _ => None,
+        }
+    }
+
+    /// What is left, where it is neither enciphered nor short and begins with a number: before a command nothing is passed.
+    #[inline(always)]
+    pub(crate) fn unenciphered(&self) -> Option<Ahead<'a>>
+        ensures { IfSome result (λ ahead. plain_cursor ahead.left ≡ self.now) }
+    {
+        match self.cipher {
+            None if !self.short && begins_with_number(self.left) => Some(Ahead {
+                left: self.left,
+                cipher: None,
             }),
             _ => None,
         }
@@ -203,42 +218,6 @@ impl<'a> Cursor<'a> {
         match self.next_byte() {
             None => CharToken::End,
             Some(first) => self.token_behind(first),
-        }
-    }
-
-    /// The next number, where it is one of one or two bytes.
-    #[inline(always)]
-    #[tactic(auto, using(crate::proofs::Skipping::tokens_behind_is), unfolding(crate::specs::Tokens::tokens_behind))]
-    pub(crate) fn next_number(&mut self) -> Option<i32>
-        ensures { IfSome result (λ number. tokens_left self.old ≡ Number number ∷ tokens_left self.new) }
-    {
-        if self.short {
-            return None;
-        }
-        match self.next_byte() {
-            None => None,
-            Some(first) => self.number_behind(first),
-        }
-    }
-
-    /// The number of its first byte and the byte behind it.
-    #[inline(always)]
-    fn number_behind(&mut self, first: u8) -> Option<i32>
-        ensures token { IfSome result (λ number. token_at first (bytes_left self.old) ≡ Number number) }
-        ensures left { IfSome result (λ number. bytes_left self.new ≡ drop (more_of first) (bytes_left self.old)) }
-        ensures short { self.new.short ≡ self.old.short }
-    {
-        match first {
-            32..=246 => Some(i32::from(first) - 139),
-            247..=250 => match self.next_byte() {
-                Some(second) => Some(i32::from(pair(first - 247, second))),
-                None => None,
-            },
-            251..=254 => match self.next_byte() {
-                Some(second) => Some(-i32::from(pair(first - 251, second))),
-                None => None,
-            },
-            _ => None,
         }
     }
 
@@ -354,22 +333,8 @@ impl<'a> Cursor<'a> {
             None => None,
             Some((byte, rest)) => {
                 self.left = rest;
-                Some(self.plain(byte))
+                Some(plain(&mut self.cipher, byte))
             }
-        }
-    }
-
-    /// The plain byte of a byte; the cipher goes on.
-    #[inline(always)]
-    fn plain(&mut self, byte: u8) -> u8
-        ensures byte { result ≡ plain_by (key_of self.old.cipher) byte }
-        ensures key { key_of self.new.cipher ≡ key_after (key_of self.old.cipher) byte }
-        ensures left { self.new.left.now ≡ self.old.left.now }
-        ensures short { self.new.short ≡ self.old.short }
-    {
-        match &mut self.cipher {
-            None => byte,
-            Some(cipher) => next_plain(cipher, byte),
         }
     }
 }
@@ -385,6 +350,15 @@ fn random_bytes(len_iv: i8) -> Option<usize>
     }
 }
 
+/// Whether the first byte begins a number of one or two bytes.
+#[inline(always)]
+fn begins_with_number(left: &[u8]) -> bool {
+    match left {
+        [] => false,
+        [first, ..] => matches!(*first, 32..=254),
+    }
+}
+
 /// The first byte and the rest.
 fn first_of(left: &[u8]) -> Option<(u8, &[u8])>
     ensures { MatchOption result (left.now ≡ []) (λ cut. left.now ≡ cut.0 ∷ cut.1.now) }
@@ -392,6 +366,18 @@ fn first_of(left: &[u8]) -> Option<(u8, &[u8])>
     match left {
         [] => None,
         [first, rest @ ..] => Some((*first, rest)),
+    }
+}
+
+/// The plain byte of a byte; the cipher goes on.
+#[inline(always)]
+fn plain(cipher: &mut Option<Cipher>, byte: u8) -> u8
+    ensures byte { result ≡ plain_by (key_of cipher.old) byte }
+    ensures key { key_of cipher.new ≡ key_after (key_of cipher.old) byte }
+{
+    match cipher {
+        None => byte,
+        Some(cipher) => next_plain(cipher, byte),
     }
 }
 

@@ -2,7 +2,6 @@
 //! 1.1, chapters 6 and 8.
 
 ghost use Rattle.std.specs.Prelude.{◌≡◌, ◌≤◌, false, length, true};
-ghost use Rattle.t1_char.specs.declared.token.CharToken.TheVariants.{Number};
 ghost use Rattle.t1_char.specs.Effects.{after_othersubr, call_of, divided, effect, effect_of, most_results, popped, results, work_of, working, state_of};
 ghost use Rattle.t1_char.specs.Stacks.{topmost, without};
 ghost use Rattle.t1_char.specs.Private.Actions.{IsNested, action_of, named_of, work_view};
@@ -55,14 +54,6 @@ pub(crate) fn apply<'a>(
             }
         }
     }
-}
-
-/// Executes a number.
-#[inline(always)]
-pub(crate) fn put_number(stack: &mut Stack, number: i32)
-    ensures { IsPlainEffect (Number number) stack.old stack.new }
-{
-    stack.put(units(number));
 }
 
 /// Executes a number or a command that empties the stack and does no more; tells whether it did.

@@ -7,22 +7,21 @@ ghost use Rattle.t1_char.specs.Effects.{most_calls};
 ghost use Rattle.t1_char.specs.Steps.{named_at, steps_of};
 ghost use Rattle.t1_char.specs.Private.Actions.{named_of};
 ghost use Rattle.t1_char.specs.StepValues.{step_view};
-ghost use Rattle.t1_char.specs.Private.Cursors.{AtFirst, behind_token, cursor_of, tokens_left};
+ghost use Rattle.t1_char.specs.Private.Cursors.{AtFirst, behind_token, cursor_of, plain_cursor, tokens_left};
 ghost use Rattle.t1_char.specs.Private.Advancing.{Advances, ReadsToken};
 ghost use Rattle.t1_char.specs.Private.Taking.{IsTokenRead};
 ghost use Rattle.t1_char.specs.declared.cursor.Cursor.{Cursor};
-ghost use Rattle.t1_char.specs.Lines.{is_lines, no_way};
+ghost use Rattle.t1_char.specs.Lines.{is_lines};
 ghost use Rattle.t1_char.specs.Stacks.{most_numbers};
 ghost use Rattle.t1_char.specs.Private.Frames.{IsReady, state_in, step_here, steps_behind, steps_from};
-ghost use Rattle.t1_char.specs.Private.Plain.{GoesOver, PassesNumber};
 ghost use Rattle.t1_char.specs.declared.edition.Edition.TheVariants.{Two};
 ghost use Rattle.t1_char.specs.Editions.{limit_of};
 ghost use Rattle.t1_char.specs.declared.lines.Passing.TheVariants.{Told};
 
 use crate::action::Action;
 use crate::charstrings::{code_at, cursor_at};
-use crate::cursor::{Cursor, Enciphered};
-use crate::effect::{Waiting, apply, apply_plain, put_number};
+use crate::cursor::{Ahead, Cursor};
+use crate::effect::{Waiting, apply, apply_plain};
 use crate::lines::{Passing, Way, is_any, is_lines};
 use crate::stack::{MOST_NUMBERS, Stack};
 use crate::step::{MOST_CALLS, Step, is_last, named_at};
@@ -43,6 +42,8 @@ pub(crate) struct Frames<'a> {
     /// The Subr that the step calls, where its token is callsubr.
     named: Option<Subr<'a>>,
     waiting: Waiting,
+    /// The way of the steps that were passed out of line.
+    way: Way,
     pub(crate) step: Step,
 }
 
@@ -64,6 +65,7 @@ impl<'a> Frames<'a> {
             callers: ArrayVec::new(),
             named: None,
             waiting: ArrayVec::new(),
+            way: Way::NONE,
             step: Step {
                 number: 0,
                 token: CharToken::Cut,
@@ -196,22 +198,82 @@ impl<'a> Frames<'a> {
         ensures told { passing ≡ Told → result.before ≡ counted }
         ensures near { result.before ≤ limit }
     {
-        if limit - counted >= MOST_NUMBERS as u32 && is_any(passing) {
+        if has_room(counted, limit) && is_any(passing) {
             if let Some(ahead) = self.current.enciphered() {
-                return self.go_over_enciphered(ahead, font, counted, limit, is_lines(passing));
+                return self.go_over_far(ahead, font, counted, limit, is_lines(passing));
             }
         }
+        let before = self.go_over_other(passing, font, counted, limit);
         Gone {
-            before: self.go_over_any(passing, font, counted, limit),
-            way: Way::NONE,
+            before,
+            way: Way {
+                x: self.way.x,
+                y: self.way.y,
+                drawn: self.way.drawn,
+            },
         }
     }
 
-    /// The same of an enciphered charstring far from the limit, where numbers are passed.
-    #[inline(always)]
-    fn go_over_enciphered(
+    /// The same where the charstring isn't enciphered, and where each step is told. It keeps the way, and returns how many steps
+    /// are before the one that it reads: the walk's state stays in registers.
+    #[inline(never)]
+    fn go_over_other(
         &mut self,
-        ahead: Enciphered<'a>,
+        passing: Passing,
+        font: &'a Font<'a>,
+        counted: u32,
+        limit: u32,
+    ) -> u32
+        requires counted { counted ≤ limit }
+        requires few { limit ≤ limit_of Two }
+        ensures over { ReadsToken (is_lines passing) limit font.now counted self.old result self.new.way self.new }
+        ensures path { self.new.step.path.items ≡ self.old.step.path.items }
+        ensures callers { self.new.callers.items ≡ self.old.callers.items }
+        ensures told { passing ≡ Told → result ≡ counted }
+        ensures near { result ≤ limit }
+    {
+        if has_room(counted, limit) && is_any(passing) {
+            if let Some(ahead) = self.current.unenciphered() {
+                return self.go_over_plain(ahead.left, font, counted, limit, is_lines(passing));
+            }
+        }
+        self.step.token = self.current.next_token();
+        self.way = Way::NONE;
+        counted
+    }
+
+    /// The same of a charstring without encryption far from the limit, where numbers are passed. It has a function of its own, so
+    /// that steps that are told don't save its registers.
+    #[inline(never)]
+    fn go_over_plain(
+        &mut self,
+        left: &'a [u8],
+        font: &'a Font<'a>,
+        counted: u32,
+        limit: u32,
+        lines: bool,
+    ) -> u32
+        requires ahead { plain_cursor left ≡ self.old.current }
+        requires far { counted + most_numbers ≤ limit }
+        requires few { limit ≤ limit_of Two }
+        ensures over { ReadsToken lines limit font.now counted self.old result self.new.way self.new }
+        ensures path { self.new.step.path.items ≡ self.old.step.path.items }
+        ensures callers { self.new.callers.items ≡ self.old.callers.items }
+        ensures near { result ≤ limit }
+    {
+        let ahead = Ahead { left, cipher: None };
+        let gone = self.go_over_far(ahead, font, counted, limit, lines);
+        self.way.x = gone.way.x;
+        self.way.y = gone.way.y;
+        self.way.drawn = gone.way.drawn;
+        gone.before
+    }
+
+    /// The same far from the limit, where numbers are passed.
+    #[inline(always)]
+    fn go_over_far(
+        &mut self,
+        ahead: Ahead<'a>,
         font: &'a Font<'a>,
         counted: u32,
         limit: u32,
@@ -228,7 +290,7 @@ impl<'a> Frames<'a> {
         let stop = self.step.stack.take_lines(ahead, limit - counted, lines);
         self.current = Cursor {
             left: stop.left,
-            cipher: Some(stop.cipher),
+            cipher: stop.cipher,
             short: false,
         };
         self.take_token(stop.token);
@@ -236,21 +298,6 @@ impl<'a> Frames<'a> {
             before: counted + stop.passed,
             way: stop.way,
         }
-    }
-
-    /// The same of any charstring; no line is passed.
-    #[inline(never)]
-    fn go_over_any(&mut self, passing: Passing, font: &'a Font<'a>, counted: u32, limit: u32) -> u32
-        requires { counted ≤ limit }
-        ensures over { ReadsToken (is_lines passing) limit font.now counted self.old result no_way self.new }
-        ensures path { self.new.step.path.items ≡ self.old.step.path.items }
-        ensures callers { self.new.callers.items ≡ self.old.callers.items }
-        ensures told { passing ≡ Told → result ≡ counted }
-        ensures near { result ≤ limit }
-    {
-        let before = self.pass(passing, font, counted, limit);
-        self.step.token = self.current.next_token();
-        before
     }
 
     /// Takes a token that was read, or reads it.
@@ -288,41 +335,6 @@ impl<'a> Frames<'a> {
             ≡ record self.old { current = self.new.current; step = record self.old.step { token = self.new.step.token } } }
     {
         self.step.token = self.current.next_token();
-    }
-
-    /// Passes the numbers that come next if it may. Returns how many steps are before the next, where there were `counted`
-    /// before the first.
-    fn pass(&mut self, passing: Passing, font: &'a Font<'a>, counted: u32, limit: u32) -> u32
-        requires { counted ≤ limit }
-        ensures over { GoesOver limit font.now counted self.old result self.new }
-        ensures path { self.new.step.path.items ≡ self.old.step.path.items }
-        ensures callers { self.new.callers.items ≡ self.old.callers.items }
-        ensures told { passing ≡ Told → result ≡ counted }
-        ensures near { result ≤ limit }
-        ensures least { counted ≤ result }
-    {
-        match passing {
-            Passing::Told => counted,
-            Passing::Numbers | Passing::Lines => self.pass_numbers(font, counted, limit),
-        }
-    }
-
-    /// Passes the numbers that come next and that the stack has room for, up to the limit.
-    fn pass_numbers(&mut self, font: &'a Font<'a>, counted: u32, limit: u32) -> u32
-        requires { counted ≤ limit }
-        ensures over { GoesOver limit font.now counted self.old result self.new }
-        ensures path { self.new.step.path.items ≡ self.old.step.path.items }
-        ensures callers { self.new.callers.items ≡ self.old.callers.items }
-        ensures near { result ≤ limit }
-        ensures least { counted ≤ result }
-    {
-        let mut passed = counted;
-        let mut ahead = self.current;
-        while passed < limit && pass_number(&mut ahead, &mut self.step.stack) {
-            passed += 1;
-        }
-        self.current = ahead;
-        passed
     }
 
     /// Notes what belongs to the token that was read.
@@ -365,23 +377,11 @@ impl<'a> Frames<'a> {
     }
 }
 
-/// Executes the number that comes next, if it is one and the stack has room for it; else nothing is done.
+/// Whether there is room for a full stack of steps before the limit.
 #[inline(always)]
-fn pass_number(ahead: &mut Cursor<'_>, stack: &mut Stack) -> bool
-    ensures passed { result ≡ true → PassesNumber ahead.old ahead.new stack.old stack.new }
-    ensures stays { result ≡ false → ahead.new ≡ ahead.old }
-    ensures kept { result ≡ false → stack.new ≡ stack.old }
+fn has_room(counted: u32, limit: u32) -> bool
+    requires { counted ≤ limit }
+    ensures { result ≡ true → counted + most_numbers ≤ limit }
 {
-    if stack.is_full() {
-        return false;
-    }
-    let mut behind = *ahead;
-    match behind.next_number() {
-        None => false,
-        Some(number) => {
-            *ahead = behind;
-            put_number(stack, number);
-            true
-        }
-    }
+    limit - counted >= MOST_NUMBERS as u32
 }

@@ -4,7 +4,7 @@ ghost use Rattle.std.specs.Prelude.{◌≡◌, ◌≤◌, ◌<◌, [], length, n
 ghost use Rattle.t1_char.specs.Stacks.{from_top, most_numbers, put, without};
 ghost use Rattle.t1_char.specs.Private.Taking.{TakesLines};
 
-use crate::cursor::Enciphered;
+use crate::cursor::Ahead;
 use crate::taking::{Lines, take_lines};
 use std::marker::Model;
 
@@ -103,12 +103,7 @@ impl Stack {
     /// Takes the numbers that come next, as long as there is room, and with `lines` the lines and curves after them: `room`
     /// steps at most.
     #[inline(always)]
-    pub(crate) fn take_lines<'a>(
-        &mut self,
-        ahead: Enciphered<'a>,
-        room: u32,
-        lines: bool,
-    ) -> Lines<'a>
+    pub(crate) fn take_lines<'a>(&mut self, ahead: Ahead<'a>, room: u32, lines: bool) -> Lines<'a>
         requires room { most_numbers ≤ room }
         requires limited { room < 16777216 }
         ensures takes { TakesLines lines ahead.entry self.old self.new result }

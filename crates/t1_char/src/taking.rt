@@ -10,7 +10,7 @@ ghost use Rattle.t1_char.specs.Private.Cursors.{cursor_of};
 ghost use Rattle.t1_char.specs.Private.Taking.{Finishes, IsLineFirst, IsTokenRead, StopsAt, Takes, TakesLines, closepath_byte, lines_cursor, stop_cursor};
 ghost use Rattle.t1_char.specs.declared.cursor.Cursor.{Cursor};
 
-use crate::cursor::Enciphered;
+use crate::cursor::Ahead;
 use crate::lines::{Way, line_at};
 use crate::numbers::UNIT;
 use crate::stack::MOST_NUMBERS;
@@ -25,7 +25,7 @@ const CLOSEPATH: u8 = 9;
 pub(crate) struct Stop<'a> {
     /// What is left after the first byte of the next token, or nothing.
     pub(crate) left: &'a [u8],
-    pub(crate) cipher: Cipher,
+    pub(crate) cipher: Option<Cipher>,
     /// That byte, unless the charstring ends.
     pub(crate) first: Option<u8>,
     /// How many numbers there are then.
@@ -37,7 +37,7 @@ pub(crate) struct Stop<'a> {
 pub(crate) fn take_numbers<'a>(
     cells: &mut [i64; MOST_NUMBERS],
     len: usize,
-    ahead: Enciphered<'a>,
+    ahead: Ahead<'a>,
 ) -> Stop<'a>
     requires { len ≤ most_numbers }
     ensures takes { Takes ahead.entry (take len cells.old) (take result.len cells.new) result }
@@ -45,12 +45,12 @@ pub(crate) fn take_numbers<'a>(
     ensures len { result.len ≡ length (take result.len cells.new) }
 {
     let mut len = len;
-    let mut ahead = Enciphered {
+    let mut ahead = Ahead {
         left: ahead.left,
         cipher: ahead.cipher,
     };
     loop {
-        let mut behind = Enciphered {
+        let mut behind = Ahead {
             left: ahead.left,
             cipher: ahead.cipher,
         };
@@ -86,7 +86,7 @@ pub(crate) fn take_numbers<'a>(
                     Some(number) => put_in(cells, len, number),
                 }
                 len += 1;
-                ahead = Enciphered {
+                ahead = Ahead {
                     left: behind.left,
                     cipher: behind.cipher,
                 };
@@ -109,7 +109,7 @@ pub(crate) enum Next {
 pub(crate) struct Lines<'a> {
     /// What is left after the token.
     pub(crate) left: &'a [u8],
-    pub(crate) cipher: Cipher,
+    pub(crate) cipher: Option<Cipher>,
     pub(crate) token: Next,
     /// How many numbers there are then.
     pub(crate) len: usize,
@@ -125,7 +125,7 @@ pub(crate) struct Lines<'a> {
 pub(crate) fn take_lines<'a>(
     cells: &mut [i64; MOST_NUMBERS],
     len: usize,
-    ahead: Enciphered<'a>,
+    ahead: Ahead<'a>,
     room: u32,
     lines: bool,
 ) -> Lines<'a>
@@ -146,7 +146,7 @@ pub(crate) fn take_lines<'a>(
 
 /// Takes numbers alone.
 #[inline(always)]
-fn take_front<'a>(cells: &mut [i64; MOST_NUMBERS], len: usize, ahead: Enciphered<'a>) -> Lines<'a>
+fn take_front<'a>(cells: &mut [i64; MOST_NUMBERS], len: usize, ahead: Ahead<'a>) -> Lines<'a>
     requires few { len ≤ most_numbers }
     ensures takes { (lines : Bool) → TakesLines lines ahead.entry (take len cells.old) (take result.len cells.new) result }
     ensures few { result.len ≤ most_numbers }
@@ -161,7 +161,7 @@ fn take_front<'a>(cells: &mut [i64; MOST_NUMBERS], len: usize, ahead: Enciphered
 /// Takes lines and curves with the numbers before them, as long as there is room for a full stack of steps more, and the
 /// closepath after them.
 #[inline(always)]
-fn take_path<'a>(cells: &mut [i64; MOST_NUMBERS], ahead: Enciphered<'a>, room: u32) -> Lines<'a>
+fn take_path<'a>(cells: &mut [i64; MOST_NUMBERS], ahead: Ahead<'a>, room: u32) -> Lines<'a>
     requires room { most_numbers ≤ room }
     requires limited { room < 16777216 }
     ensures takes { TakesLines true ahead.entry [] (take result.len cells.new) result }
@@ -169,7 +169,7 @@ fn take_path<'a>(cells: &mut [i64; MOST_NUMBERS], ahead: Enciphered<'a>, room: u
     ensures len { result.len ≡ length (take result.len cells.new) }
     ensures near { result.passed ≤ room }
 {
-    let mut ahead = Enciphered {
+    let mut ahead = Ahead {
         left: ahead.left,
         cipher: ahead.cipher,
     };
@@ -182,7 +182,7 @@ fn take_path<'a>(cells: &mut [i64; MOST_NUMBERS], ahead: Enciphered<'a>, room: u
             Some(one) if room - passed > MOST_NUMBERS as u32 => {
                 way = way.further(one, passed);
                 passed += 1;
-                ahead = Enciphered {
+                ahead = Ahead {
                     left: stop.left,
                     cipher: stop.cipher,
                 };
@@ -199,7 +199,7 @@ fn finish_path<'a>(stop: Stop<'a>, passed: u32, way: Way) -> Lines<'a>
     ensures { Finishes stop.entry passed way result }
 {
     if way.is_open() && is_closepath(stop.first) && stop.len == 0 {
-        let behind = stop_at(Enciphered {
+        let behind = stop_at(Ahead {
             left: stop.left,
             cipher: stop.cipher,
         });
@@ -222,11 +222,11 @@ fn is_closepath(first: Option<u8>) -> bool
 
 /// Reads the first byte of the next token.
 #[inline(always)]
-fn stop_at<'a>(ahead: Enciphered<'a>) -> Stop<'a>
+fn stop_at<'a>(ahead: Ahead<'a>) -> Stop<'a>
     ensures first { StopsAt result.first (cursor_of ahead.entry) (stop_cursor result) }
     ensures len { result.len ≡ 0 }
 {
-    let mut behind = Enciphered {
+    let mut behind = Ahead {
         left: ahead.left,
         cipher: ahead.cipher,
     };
@@ -268,7 +268,7 @@ fn finish<'a>(stop: Stop<'a>, passed: u32, way: Way) -> Lines<'a>
     ensures passed { result.passed ≡ passed }
     ensures way { result.way ≡ way }
 {
-    let mut ahead = Enciphered {
+    let mut ahead = Ahead {
         left: stop.left,
         cipher: stop.cipher,
     };

@@ -1,29 +1,23 @@
 -- Numbers that a machine goes over, while the watchers are calm.
-use Rattle.std.proofs.Common.{◌≡◌, ℕ, ℤ, zero, suc, ◌+◌, ◌-◌, ◌<◌, ◌≤◌, ◌&&◌, inl, inr, true, false, List, [], ◌∷◌, ◌++◌, length, length-take, take, refl, sym, ap, subst, ◌∙◌, arith}
+use Rattle.std.proofs.Common.{◌≡◌, ℕ, ℤ, zero, suc, ◌+◌, ◌-◌, ◌<◌, ◌≤◌, ◌&&◌, inl, inr, true, false, List, [], ◌∷◌, ◌++◌, length, take, refl, sym, ap, subst, ◌∙◌, arith}
 use Rattle.std.proofs.Math.Bool.{and-false}
 use Rattle.std.proofs.lemmas.Bool.{cases_lt}
-use Rattle.std.proofs.lemmas.Option.{slice_get_within}
 use Rattle.t1_char.specs.declared.edition.Edition.{Edition}
 use Rattle.t1_char.specs.declared.token.CharToken.TheVariants.{Number}
 use Rattle.t1_char.specs.Arguments.{is_hint_replacement}
-use Rattle.t1_char.specs.Editions.{limit_of}
 use Rattle.t1_char.specs.Passing.{ArePassed, IsPassed}
 use Rattle.t1_char.specs.Since.{was}
 use Rattle.t1_char.specs.Steps.{NumberedStep, StepView, steps_of}
 use Rattle.t1_char.specs.AnswerViews.{answer_view, is_over}
-use Rattle.t1_char.specs.Asking.{IsAsked}
 use Rattle.t1_char.specs.declared.machine.Answer.{Answer}
 use Rattle.t1_char.specs.declared.machine.Answer.TheVariants as answers
 use Rattle.t1_char.specs.declared.machine.Answer.TheVariants.{Ended, Limit}
 use Rattle.t1_char.specs.declared.machine.Numbers.{Numbers}
-use Rattle.t1_char.specs.declared.machine.Numbers.TheVariants.{Passed, Told}
 use Rattle.t1_char.specs.declared.step.Step.{Step}
-use Rattle.t1_char.specs.StepValues.{step_value}
-use Rattle.t1_char.specs.Turns.{MachineView, TurnValue, ended, limited, stepped}
-use Rattle.t1_char.proofs.TurnsTaken.{IsOver, behind}
+use Rattle.t1_char.specs.Turns.{ended}
+use Rattle.t1_char.proofs.TurnsTaken.{IsOver}
 use Rattle.t1_rules.specs.declared.sidebearings.Component.{Component}
 use Rattle.t1_rules.specs.declared.watches.Watches.{Watches}
-use Rattle.t1_rules.specs.Book.{number_of}
 use Rattle.t1_rules.specs.Components.{components_of}
 use Rattle.t1_rules.specs.StepRules.{StepRule, breaks, breaks_next, component_rules}
 use Rattle.t1_rules.specs.Private.Standing.{WatchesStandFor}
@@ -35,11 +29,11 @@ use Rattle.t1_rules.proofs.Lemmas.Watches.{no_fault_at_number, stays_at_number}
 use Rattle.t1_report.specs.Checked.{CheckedFont, step_limit}
 use Rattle.t1_report.specs.Laws.PassedNumbers.{CalmIsBehindNoReplacement, CalmWatchersStandBehindNumbers, IsBehindNoReplacement, PassedNumbersBreakNoRule}
 use Rattle.t1_report.specs.Reports.{is_broken, rules_of}
-use Rattle.t1_report.specs.Private.Units.{IsQuiet, IsRun, executed}
+use Rattle.t1_report.specs.Private.Units.{IsQuiet}
 use Rattle.t1_report.specs.Walks.{turns_of_glyph}
 use Rattle.t1_report.proofs.Broken.{at_step, both_kinds, rules_by, within_limit}
 use Rattle.t1_report.proofs.GlyphSteps.{take_next}
-use Rattle.t1_report.proofs.RunSteps.{IsRunAt, IsTold, count_at_end, run_at, run_of, told_at, told_end}
+use Rattle.t1_report.proofs.RunSteps.{IsRunAt, IsTold}
 
 -- Calm watchers stand for what is behind such numbers.
 pub stands_more : (edition : Edition) (w : Watches) (limit : ℕ) (all : List StepView) (k : ℕ) → IsCalm w → IsPassed limit all k
@@ -129,106 +123,10 @@ pub calm_stand_behind : CalmWatchersStandBehindNumbers
 calm_stand_behind font glyph from to w more passed calm st = stands_at font.edition w (step_limit font) (steps_of font.value glyph) from to to
     calm passed more (omega arith) st
 
--- How many were told with them.
-within : (limit : ℕ) (all : List StepView) (n m : ℕ) → n ≤ m → ArePassed limit all n m → n ≤ length (take limit all) + 1 → m ≤ length (take limit all) + 1
-within limit all n m more passed few =
-    elim (cases_lt n m) [
-      | inl less ↦
-          let last = passed (m - 1) (omega (arith, less)) (omega (arith, less)) in
-          omega (arith, less, last.near, slice_get_within all (m - 1) last.step last.there, length-take limit all)
-      | inr none ↦ omega (arith, none, few)
-    ]
-
-turns_within : (font : CheckedFont) (glyph n m : ℕ) → n ≤ m → ArePassed (step_limit font) (steps_of font.value glyph) n m → n ≤ turns_of_glyph font glyph
-    → m ≤ turns_of_glyph font glyph
-unfolding turns_of_glyph
-turns_within font glyph n m more passed few = within (step_limit font) (steps_of font.value glyph) n m more passed few
-
--- The run behind them.
-pub passed_run : (old new : MachineView) (w : Watches) → executed new ≡ executed old → new.glyph ≡ old.glyph → old.counted ≤ new.counted → IsCalm w
-    → ArePassed (limit_of old.edition) (steps_of old.font old.glyph) old.counted new.counted → IsRun old w → IsRun new w
-passed_run old new w of_font of_glyph more calm passed run =
-    let limit : ℕ = limit_of old.edition in
-    let all : List StepView = steps_of old.font old.glyph in
-    run_of (executed old) old.glyph new w of_font of_glyph run.there
-    (record {
-      counted_few = turns_within (executed old) old.glyph old.counted new.counted more passed run.counted;
-      seen_are = λ few. stands_at old.edition w limit all old.counted new.counted new.counted calm passed more (omega arith)
-          (run.seen (omega (arith, few, more, length-take old.counted all, length-take new.counted all)));
-    })
-
--- And no rule is broken at them.
-pub passed_quiet : (m : MachineView) (w : Watches) (counted : ℕ) → IsCalm w → ArePassed (limit_of m.edition) (steps_of m.font m.glyph) m.counted counted
-    → IsRun m w
-    → IsQuiet (executed m) (m.glyph + 1) (m.counted + 1) (counted + 1)
-passed_quiet m w counted calm passed run = λ s rule from to.
-    let limit : ℕ = limit_of m.edition in
-    let all : List StepView = steps_of m.font m.glyph in
-    let k : ℕ = s - 1 in
-    let this = passed k (omega (arith, from)) (omega (arith, from, to)) in
-    let first = passed m.counted (omega arith) (omega (arith, from, to)) in
-    let place : k + 1 ≡ s = omega (arith, from) in
-    subst (λ i. is_broken (executed m) (m.glyph + 1) i (number_of rule) ≡ false) place
-    (none_at (executed m) (m.glyph + 1) m.glyph k (number_of rule) refl run.there this
-    (behind_none limit all m.counted counted k passed (omega (arith, from)) (omega (arith, from, to))
-    (calm_is_behind_none m.edition w (take m.counted all) (run.seen (omega (arith, first.near, length-take m.counted all))) calm)))
-
--- One quiet stretch behind another, of a machine that executes this glyph of this font.
-pub quiet_on : (m : MachineView) (font : CheckedFont) (glyph unit from to : ℕ) → executed m ≡ font → m.glyph ≡ glyph → unit ≡ glyph + 1
-    → IsQuiet font unit from (m.counted + 1) → IsQuiet (executed m) (m.glyph + 1) (m.counted + 1) to → IsQuiet font unit from to
-quiet_on m font glyph unit from to of_font of_glyph at front back = λ s rule past less.
-    elim (cases_lt s (m.counted + 1)) [
-      | inl before ↦ front s rule past before
-      | inr behind ↦
-          subst (λ (f : CheckedFont). is_broken f unit s (number_of rule) ≡ false) of_font
-          (subst (λ u. is_broken (executed m) u s (number_of rule) ≡ false) (ap (λ g. g + 1) of_glyph ∙ sym at) (back s rule behind less))
-    ]
-
 -- Behind the numbers that a machine went over, none where a rule may speak of them.
 pub record StandsBehind (font : CheckedFont) (glyph unit from before : ℕ) (w : Watches) : Type 0 where
   pub run : IsRunAt font glyph before w
   pub quiet : IsQuiet font unit from (before + 1)
-
-pub stands_behind_numbers : (numbers : Numbers) (m new : MachineView) (answer : TurnValue) (w : Watches) (font : CheckedFont) (glyph unit from : ℕ)
-    → (numbers ≡ Passed → IsCalm w) → executed m ≡ font → m.glyph ≡ glyph → unit ≡ glyph + 1 → IsRun m w → IsQuiet font unit from (m.counted + 1)
-    → (asked : IsAsked numbers m new answer) → StandsBehind font glyph unit from asked.before w
-stands_behind_numbers Told m new answer w font glyph unit from calm of_font of_glyph at run quiet asked =
-    subst (λ k. StandsBehind font glyph unit from k w) (sym (asked.told refl)) (record { run = run_at font glyph m w of_font of_glyph run; quiet = quiet })
-stands_behind_numbers Passed m new answer w font glyph unit from calm of_font of_glyph at run quiet asked =
-    let is_calm : IsCalm w = calm refl in
-    record {
-      run = run_at font glyph (behind m asked.before) w of_font of_glyph
-          (passed_run m (behind m asked.before) w refl refl asked.least is_calm asked.passed run);
-      quiet = quiet_on m font glyph unit from (asked.before + 1) of_font of_glyph at quiet (passed_quiet m w asked.before is_calm asked.passed run);
-    }
-
-near_behind : (limit : ℕ) (all : List StepView) (n before : ℕ) → n ≤ before → ArePassed limit all n before → n ≤ limit → before ≤ limit
-near_behind limit all n before more passed near =
-    elim (cases_lt n before) [
-      | inl less ↦
-          let last = passed (before - 1) (omega (arith, less)) (omega (arith, less)) in
-          omega (arith, less, last.near)
-      | inr none ↦ omega (arith, none, near)
-    ]
-
-near_font : (m : MachineView) (font : CheckedFont) (before : ℕ) → executed m ≡ font → m.counted ≤ before
-    → ArePassed (limit_of m.edition) (steps_of m.font m.glyph) m.counted before → m.counted ≤ step_limit font → before ≤ step_limit font
-near_font m font before of_font more passed near =
-    subst (λ (f : CheckedFont). before ≤ step_limit f) of_font
-    (near_behind (limit_of m.edition) (steps_of m.font m.glyph) m.counted before more passed
-    (subst (λ (f : CheckedFont). m.counted ≤ step_limit f) (sym of_font) near))
-
--- What the machine told behind them: a step, or the first past the limit.
-told_behind : (numbers : Numbers) (m new : MachineView) (answer : Answer) (step : Step) (font : CheckedFont) (glyph : ℕ) → executed m ≡ font → m.glyph ≡ glyph
-    → m.counted ≤ step_limit font → is_over answer ≡ false → step_value step ≡ new.step
-    → (asked : IsAsked numbers m new (answer_view answer new.step)) → IsTold font glyph asked.before new.counted step
-told_behind numbers m new Ended step font glyph of_font of_glyph near on here asked = let no : true ≡ false = on in cc
-told_behind numbers m new answers.Step step font glyph of_font of_glyph near on here asked =
-    told_at (behind m asked.before) font glyph new.counted step of_font of_glyph (near_font m font asked.before of_font asked.least asked.passed near)
-    asked.counted (inl (ap stepped here ∙ asked.turn))
-told_behind numbers m new Limit step font glyph of_font of_glyph near on here asked =
-    told_at (behind m asked.before) font glyph new.counted step of_font of_glyph (near_font m font asked.before of_font asked.least asked.passed near)
-    asked.counted (inr (ap limited here ∙ asked.turn))
 
 -- The same with all that is known in front of the step.
 pub record IsTurn (font : CheckedFont) (glyph unit from n counted : ℕ) (w : Watches) (step : Step) : Type 0 where
@@ -236,18 +134,6 @@ pub record IsTurn (font : CheckedFont) (glyph unit from n counted : ℕ) (w : Wa
   pub least : n ≤ before
   pub stands : StandsBehind font glyph unit from before w
   pub told : IsTold font glyph before counted step
-
-pub turn_behind : (numbers : Numbers) (m new : MachineView) (answer : Answer) (step : Step) (w : Watches) (font : CheckedFont) (glyph unit from : ℕ)
-    → (numbers ≡ Passed → IsCalm w) → executed m ≡ font → m.glyph ≡ glyph → unit ≡ glyph + 1 → IsRun m w → IsQuiet font unit from (m.counted + 1)
-    → m.counted ≤ step_limit font → is_over answer ≡ false → step_value step ≡ new.step → IsAsked numbers m new (answer_view answer new.step)
-    → IsTurn font glyph unit from m.counted new.counted w step
-turn_behind numbers m new answer step w font glyph unit from calm of_font of_glyph at run quiet near on here asked =
-    record {
-      before = asked.before;
-      least = asked.least;
-      stands = stands_behind_numbers numbers m new (answer_view answer new.step) w font glyph unit from calm of_font of_glyph at run quiet asked;
-      told = told_behind numbers m new answer step font glyph of_font of_glyph near on here asked;
-    }
 
 -- Or that there is none.
 pub ended_view : (answer : Answer) (step : NumberedStep) → is_over answer ≡ true → ended ≡ answer_view answer step
@@ -258,13 +144,6 @@ ended_view Limit step is = let no : false ≡ true = is in cc
 pub record EndsBehind (font : CheckedFont) (glyph before counted : ℕ) : Type 0 where
   pub over : IsOver (step_limit font) (steps_of font.value glyph) before
   pub counted_is : counted ≡ turns_of_glyph font glyph
-
-pub ended_behind : (numbers : Numbers) (m new : MachineView) (answer : Answer) (font : CheckedFont) (glyph : ℕ) → executed m ≡ font → m.glyph ≡ glyph
-    → is_over answer ≡ true → (asked : IsAsked numbers m new (answer_view answer new.step)) → asked.before ≤ turns_of_glyph font glyph
-    → EndsBehind font glyph asked.before new.counted
-ended_behind numbers m new answer font glyph of_font of_glyph is asked few =
-    let over = told_end (behind m asked.before) font glyph of_font of_glyph (ended_view answer new.step is ∙ asked.turn) in
-    record { over = over; counted_is = count_at_end (behind m asked.before) font glyph new.counted of_font of_glyph over few asked.counted }
 
 -- How many more times the machine can be asked then.
 pub fewer_turns_left : (font : CheckedFont) (glyph unit from n counted : ℕ) (w : Watches) (step : Step) → IsTurn font glyph unit from n counted w step

@@ -72,6 +72,3 @@ keys_passed font from p last quiet = λ s rule behind.
 -- The measure: places that are left, and the keys.
 pub fewer_places : (key index : ℕ) → index < 65536 → (22 - key) * 65537 + (65536 - (index + 1)) < (22 - key) * 65537 + (65536 - index)
 fewer_places key index few = omega (arith, few)
-
-pub fewer_keys : (key index : ℕ) → key < 22 → (22 - (key + 1)) * 65537 + (65536 - 0) < (22 - key) * 65537 + (65536 - index)
-fewer_keys key index few = omega (arith, few)

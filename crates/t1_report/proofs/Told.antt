@@ -87,10 +87,6 @@ told_within font waivers unit step n is =
 
 -- ---- whether a waiver is used
 
-below_more : (font : CheckedFont) (unit s n : ℕ) → is_broken_below font unit (suc s) n ≡ (is_broken font unit s n || is_broken_below font unit s n)
-unfolding is_broken_below
-below_more font unit s n = refl
-
 pub none_below : (font : CheckedFont) (unit count n : ℕ) → ((s : ℕ) → s < count → is_broken font unit s n ≡ false) → is_broken_below font unit count n ≡ false
 unfolding is_broken_below
 none_below font unit zero n none = refl

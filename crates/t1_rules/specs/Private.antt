@@ -6,6 +6,7 @@ pub mod KeyKinds
 pub mod KeyTests
 pub mod Quiet
 pub mod Seac
+pub mod Seeing
 pub mod Standing
 pub mod Stems
 pub mod StepTests

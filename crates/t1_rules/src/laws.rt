@@ -220,6 +220,7 @@ pub fn sound_calls_go_in()
 {}
 
 /// A number is past the range of 32000 exactly where it isn't kept as it is.
+#[tactic(auto, using(crate::proofs::Lemmas::ArgumentLaws::kept_is_not_past))]
 pub fn kept_numbers_are_not_past()
     ensures { KeptIsNotPast }
 {}
@@ -233,6 +234,7 @@ pub fn hint_sets_grow()
 {}
 
 /// hstem3 and vstem3 break H04 unless the outer stems are equally wide and the gaps between the three too.
+#[tactic(auto, using(crate::proofs::Lemmas::StemLaws::three_stems_are_even, crate::proofs::Lemmas::StemLaws::others_are_not_uneven))]
 pub fn three_stems_are_even()
     ensures even { ThreeStemsAreEven }
     ensures others { OthersAreNotUneven }
@@ -240,6 +242,7 @@ pub fn three_stems_are_even()
 
 /// The codes of seac are the whole numbers from 0 to 255; an argument is no code, one without a name, or one
 /// with a name, and never two of these.
+#[tactic(auto, using(crate::proofs::Lemmas::SeacLaws::codes_are_whole_to_255, crate::proofs::Lemmas::SeacLaws::codes_are_one_of_three))]
 pub fn codes_are_whole_to_255()
     ensures whole { CodesAreWholeTo255 }
     ensures three { CodesAreOneOfThree }
@@ -247,6 +250,7 @@ pub fn codes_are_whole_to_255()
 
 /// A command breaks C04 where fewer numbers are on the stack than it wants, C05 where more are there than its
 /// arguments; and a number that comes to 24 breaks C06.
+#[tactic(auto, using(crate::proofs::Lemmas::ArgumentLaws::too_few_are_fewer, crate::proofs::Lemmas::ArgumentLaws::too_many_are_more, crate::proofs::Lemmas::ArgumentLaws::none_are_too_many))]
 pub fn numbers_are_counted()
     ensures few { TooFewAreFewerThanWanted }
     ensures many { TooManyAreMoreThanArguments }
@@ -256,6 +260,7 @@ pub fn numbers_are_counted()
 {}
 
 /// A stem breaks H01 where something was drawn at some place before it, and no hints were replaced since.
+#[tactic(auto, using(crate::proofs::Lemmas::Behind::stems_are_late_behind_drawing, crate::proofs::Lemmas::Behind::stems_alone_are_late))]
 pub fn stems_are_late_behind_drawing()
     ensures late { StemsAreLateBehindDrawing }
     ensures others { StemsAloneAreLate }
@@ -263,12 +268,14 @@ pub fn stems_are_late_behind_drawing()
 
 /// What follows a hint replacement breaks R01 unless it is pop; what follows that pop breaks R02 unless it is
 /// callsubr; and nothing else breaks them.
+#[tactic(auto, using(crate::proofs::Lemmas::Behind::replacements_want_pop, crate::proofs::Lemmas::Behind::replacements_want_callsubr))]
 pub fn replacements_are_followed()
     ensures pop { ReplacementsWantPop }
     ensures call { ReplacementsWantCallsubr }
 {}
 
 /// setcurrentpoint breaks X06 unless the end of a flex and two pops stand just before it.
+#[tactic(auto, using(crate::proofs::Lemmas::Behind::setcurrentpoint_follows_flex, crate::proofs::Lemmas::Behind::setcurrentpoint_alone_follows))]
 pub fn setcurrentpoint_follows_flex()
     ensures follows { SetcurrentpointFollowsFlex }
     ensures others { SetcurrentpointAloneFollows }
@@ -282,6 +289,7 @@ pub fn pops_of_nothing_change_nothing()
 
 /// seac breaks K03 where the font lacks a glyph that it names, K04 where such a glyph has a seac of its own, K05
 /// where the accent's first sidebearing is another than seac's, and K07 where such a glyph has none.
+#[tactic(auto, using(crate::proofs::Lemmas::SeacComponents::missing_glyphs_are_told, crate::proofs::Lemmas::SeacComponents::nested_seacs_are_told, crate::proofs::Lemmas::SeacComponents::other_sidebearings_are_told, crate::proofs::Lemmas::SeacComponents::missing_sidebearings_are_told, crate::proofs::Lemmas::SeacComponents::seac_alone_has_components))]
 pub fn components_are_judged_by_their_steps()
     ensures missing { MissingGlyphsAreTold }
     ensures nested { NestedSeacsAreTold }
@@ -291,6 +299,7 @@ pub fn components_are_judged_by_their_steps()
 {}
 
 /// seac breaks K01 where the base's or the accent's argument is no code, and K02 where it is a code without a name.
+#[tactic(auto, using(crate::proofs::Lemmas::SeacComponents::wrong_codes_are_told, crate::proofs::Lemmas::SeacComponents::unnamed_codes_are_told))]
 pub fn codes_are_judged_by_their_names()
     ensures wrong { WrongCodesAreTold }
     ensures unnamed { UnnamedCodesAreTold }

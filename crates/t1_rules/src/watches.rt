@@ -8,6 +8,7 @@ ghost use Rattle.t1_char.specs.Steps.{StepView};
 ghost use Rattle.t1_char.specs.StepValues.{step_view};
 ghost use Rattle.t1_rules.specs.Mask.{has};
 ghost use Rattle.t1_rules.specs.StepRules.{breaks, step_rules};
+ghost use Rattle.t1_rules.specs.Private.Seeing.{CanSee, Sees};
 ghost use Rattle.t1_rules.specs.Private.Standing.{WatchesStandFor};
 ghost use Rattle.t1_rules.specs.Watches.{IsCalm, IsNear, most_steps};
 ghost use Rattle.t1_rules.specs.Steady.{IsSteady, drawn_on, moved_on, point_on};
@@ -101,14 +102,8 @@ impl Watches {
     #[inline(always)]
     fn see_number(&mut self, number: i32, step: &Step) -> Mask
         requires token { step.now.token ≡ Number number }
-        requires steps { (edition : Editions) × ((before : List StepView) ×
-            (WatchesStandFor edition self.old before × (length before < most_steps))) }
-        ensures stands { (edition : Editions) (before : List StepView) →
-            WatchesStandFor edition self.old before → length before < most_steps →
-            WatchesStandFor edition self.new (before ++ step_view step.now ∷ []) }
-        ensures answer { (edition : Editions) (before : List StepView) →
-            WatchesStandFor edition self.old before → length before < most_steps →
-            (n : ℕ) → has result n ≡ breaks (step_rules edition) n before (step_view step.now) }
+        requires steps { CanSee self.old }
+        ensures { Sees self.old (step_view step.now) self.new result }
     {
         if self.is_calm() {
             if step.stack.len() < MOST_NUMBERS {
@@ -180,14 +175,8 @@ impl Watches {
     #[inline(always)]
     fn see_command(&mut self, command: Command, step: &Step) -> Mask
         requires token { IsCommand (step_view step.now) command }
-        requires steps { (edition : Editions) × ((before : List StepView) ×
-            (WatchesStandFor edition self.old before × (length before < most_steps))) }
-        ensures stands { (edition : Editions) (before : List StepView) →
-            WatchesStandFor edition self.old before → length before < most_steps →
-            WatchesStandFor edition self.new (before ++ step_view step.now ∷ []) }
-        ensures answer { (edition : Editions) (before : List StepView) →
-            WatchesStandFor edition self.old before → length before < most_steps →
-            (n : ℕ) → has result n ≡ breaks (step_rules edition) n before (step_view step.now) }
+        requires steps { CanSee self.old }
+        ensures { Sees self.old (step_view step.now) self.new result }
     {
         match command {
             Command::Callsubr => self.see_call(step),
@@ -198,19 +187,12 @@ impl Watches {
         }
     }
 
-    /// The same of any command. Lines, curves and closepaths come here where machines don't pass them, as in charstrings without
-    /// encryption.
+    /// The same of any command. Lines, curves and closepaths come here where machines don't pass them, as before the first move.
     #[inline(never)]
     fn see_other(&mut self, command: Command, step: &Step) -> Mask
         requires token { IsCommand (step_view step.now) command }
-        requires steps { (edition : Editions) × ((before : List StepView) ×
-            (WatchesStandFor edition self.old before × (length before < most_steps))) }
-        ensures stands { (edition : Editions) (before : List StepView) →
-            WatchesStandFor edition self.old before → length before < most_steps →
-            WatchesStandFor edition self.new (before ++ step_view step.now ∷ []) }
-        ensures answer { (edition : Editions) (before : List StepView) →
-            WatchesStandFor edition self.old before → length before < most_steps →
-            (n : ℕ) → has result n ≡ breaks (step_rules edition) n before (step_view step.now) }
+        requires steps { CanSee self.old }
+        ensures { Sees self.old (step_view step.now) self.new result }
     {
         match command {
             Command::Rlineto if self.is_usual(Command::Rlineto, step) => self.see_each(
@@ -269,14 +251,8 @@ impl Watches {
     #[inline(never)]
     fn see_call(&mut self, step: &Step) -> Mask
         requires token { IsCommand (step_view step.now) Callsubr }
-        requires steps { (edition : Editions) × ((before : List StepView) ×
-            (WatchesStandFor edition self.old before × (length before < most_steps))) }
-        ensures stands { (edition : Editions) (before : List StepView) →
-            WatchesStandFor edition self.old before → length before < most_steps →
-            WatchesStandFor edition self.new (before ++ step_view step.now ∷ []) }
-        ensures answer { (edition : Editions) (before : List StepView) →
-            WatchesStandFor edition self.old before → length before < most_steps →
-            (n : ℕ) → has result n ≡ breaks (step_rules edition) n before (step_view step.now) }
+        requires steps { CanSee self.old }
+        ensures { Sees self.old (step_view step.now) self.new result }
     {
         self.see_each(CharToken::Command(Command::Callsubr), step)
     }
@@ -285,14 +261,8 @@ impl Watches {
     #[inline(never)]
     fn see_return(&mut self, step: &Step) -> Mask
         requires token { IsCommand (step_view step.now) Return }
-        requires steps { (edition : Editions) × ((before : List StepView) ×
-            (WatchesStandFor edition self.old before × (length before < most_steps))) }
-        ensures stands { (edition : Editions) (before : List StepView) →
-            WatchesStandFor edition self.old before → length before < most_steps →
-            WatchesStandFor edition self.new (before ++ step_view step.now ∷ []) }
-        ensures answer { (edition : Editions) (before : List StepView) →
-            WatchesStandFor edition self.old before → length before < most_steps →
-            (n : ℕ) → has result n ≡ breaks (step_rules edition) n before (step_view step.now) }
+        requires steps { CanSee self.old }
+        ensures { Sees self.old (step_view step.now) self.new result }
     {
         self.see_each(CharToken::Command(Command::Return), step)
     }
@@ -301,14 +271,8 @@ impl Watches {
     #[inline(never)]
     fn see_hstem(&mut self, step: &Step) -> Mask
         requires token { IsCommand (step_view step.now) Hstem }
-        requires steps { (edition : Editions) × ((before : List StepView) ×
-            (WatchesStandFor edition self.old before × (length before < most_steps))) }
-        ensures stands { (edition : Editions) (before : List StepView) →
-            WatchesStandFor edition self.old before → length before < most_steps →
-            WatchesStandFor edition self.new (before ++ step_view step.now ∷ []) }
-        ensures answer { (edition : Editions) (before : List StepView) →
-            WatchesStandFor edition self.old before → length before < most_steps →
-            (n : ℕ) → has result n ≡ breaks (step_rules edition) n before (step_view step.now) }
+        requires steps { CanSee self.old }
+        ensures { Sees self.old (step_view step.now) self.new result }
     {
         if self.is_usual(Command::Hstem, step) {
             return self.see_each(CharToken::Command(Command::Hstem), step);
@@ -320,14 +284,8 @@ impl Watches {
     #[inline(never)]
     fn see_vstem(&mut self, step: &Step) -> Mask
         requires token { IsCommand (step_view step.now) Vstem }
-        requires steps { (edition : Editions) × ((before : List StepView) ×
-            (WatchesStandFor edition self.old before × (length before < most_steps))) }
-        ensures stands { (edition : Editions) (before : List StepView) →
-            WatchesStandFor edition self.old before → length before < most_steps →
-            WatchesStandFor edition self.new (before ++ step_view step.now ∷ []) }
-        ensures answer { (edition : Editions) (before : List StepView) →
-            WatchesStandFor edition self.old before → length before < most_steps →
-            (n : ℕ) → has result n ≡ breaks (step_rules edition) n before (step_view step.now) }
+        requires steps { CanSee self.old }
+        ensures { Sees self.old (step_view step.now) self.new result }
     {
         if self.is_usual(Command::Vstem, step) {
             return self.see_each(CharToken::Command(Command::Vstem), step);
@@ -345,14 +303,8 @@ impl Watches {
     /// What all watchers say of a step of a token that is rare.
     #[inline(never)]
     fn see_rare(&mut self, step: &Step) -> Mask
-        requires { (edition : Editions) × ((before : List StepView) ×
-            (WatchesStandFor edition self.old before × (length before < most_steps))) }
-        ensures stands { (edition : Editions) (before : List StepView) →
-            WatchesStandFor edition self.old before → length before < most_steps →
-            WatchesStandFor edition self.new (before ++ step_view step.now ∷ []) }
-        ensures answer { (edition : Editions) (before : List StepView) →
-            WatchesStandFor edition self.old before → length before < most_steps →
-            (n : ℕ) → has result n ≡ breaks (step_rules edition) n before (step_view step.now) }
+        requires { CanSee self.old }
+        ensures { Sees self.old (step_view step.now) self.new result }
     {
         self.see_each(step.token, step)
     }
@@ -361,14 +313,8 @@ impl Watches {
     #[inline(always)]
     fn see_each(&mut self, token: CharToken, step: &Step) -> Mask
         requires token { step.now.token ≡ token }
-        requires steps { (edition : Editions) × ((before : List StepView) ×
-            (WatchesStandFor edition self.old before × (length before < most_steps))) }
-        ensures stands { (edition : Editions) (before : List StepView) →
-            WatchesStandFor edition self.old before → length before < most_steps →
-            WatchesStandFor edition self.new (before ++ step_view step.now ∷ []) }
-        ensures answer { (edition : Editions) (before : List StepView) →
-            WatchesStandFor edition self.old before → length before < most_steps →
-            (n : ℕ) → has result n ≡ breaks (step_rules edition) n before (step_view step.now) }
+        requires steps { CanSee self.old }
+        ensures { Sees self.old (step_view step.now) self.new result }
     {
         self.see_known(token, call_of(token, step), step)
     }

@@ -1,9 +1,10 @@
 -- What a cursor has left: the bytes that are left of a slice, deciphered from the cipher's state on.
 use Rattle.std.specs.Prelude.{◌≡◌, ℕ, false, ◌/◌, if◌then◌else◌, Option, Some, None, List, [], ◌∷◌, bit_xor}
+use Rattle.std.specs.Borrow.{Bor}
 use Rattle.t1_seal.specs.declared.cipher.Cipher.{Cipher}
 use Rattle.t1_seal.specs.Laws.Cipher.{next_state}
 use Rattle.t1_char.specs.declared.cursor.Cursor.{Cursor}
-use Rattle.t1_char.specs.declared.cursor.Enciphered.{Enciphered}
+use Rattle.t1_char.specs.declared.cursor.Ahead.{Ahead}
 use Rattle.t1_char.specs.declared.token.CharToken.{CharToken}
 use Rattle.t1_char.specs.declared.token.CharToken.TheVariants.{Short}
 use Rattle.t1_char.specs.Tokens.{tokens_of}
@@ -39,9 +40,13 @@ tokens_left cursor =
 abbrev pub behind_token : CharToken → List CharToken → List CharToken
 behind_token token rest = if is_end token then [] else rest
 
--- What is left of an enciphered charstring, as a cursor.
-abbrev pub cursor_of : Enciphered → Cursor
-cursor_of ahead = record { left = ahead.left; cipher = Some ahead.cipher; short = false }
+-- What is left of a charstring that isn't short, as a cursor.
+abbrev pub cursor_of : Ahead → Cursor
+cursor_of ahead = record { left = ahead.left; cipher = ahead.cipher; short = false }
+
+-- The same of bytes that aren't encrypted.
+abbrev pub plain_cursor : Bor (List ℕ) → Cursor
+plain_cursor left = record { left = left; cipher = None; short = false }
 
 -- A cursor before a byte and one after it, neither of them short.
 pub record AtFirst (first : ℕ) (before behind : Cursor) : Type 0 where

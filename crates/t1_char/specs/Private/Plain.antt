@@ -1,17 +1,15 @@
 -- Numbers, and commands that empty the stack and do no more.
-use Rattle.std.specs.Prelude.{◌≡◌, ℕ, ℤ, ◌<◌, ◌≤◌, Bool, true, false, Option, List, ◌∷◌, length}
+use Rattle.std.specs.Prelude.{◌≡◌, ℕ, ℤ, ◌<◌, Bool, true, false, Option, List, ◌∷◌, length}
 use Rattle.t1_font.specs.Fonts.{FontValue}
 use Rattle.t1_char.specs.declared.cursor.Cursor.{Cursor}
 use Rattle.t1_char.specs.declared.frames.Frames.{Frames}
 use Rattle.t1_char.specs.declared.token.CharToken.{CharToken}
 use Rattle.t1_char.specs.declared.token.CharToken.TheVariants.{Number}
 use Rattle.t1_char.specs.Effects.{CalledSubr, Work, clears, goes, effect, effect_of, state_of}
-use Rattle.t1_char.specs.Passing.{ArePassed}
 use Rattle.t1_char.specs.Stacks.{most_numbers}
-use Rattle.t1_char.specs.Steps.{StepView, step_at}
+use Rattle.t1_char.specs.Steps.{step_at}
 use Rattle.t1_char.specs.Private.Cursors.{tokens_left}
 use Rattle.t1_char.specs.Private.Frames.{state_in, steps_behind}
-use Rattle.t1_char.specs.Private.Machines.{IsBehind}
 
 abbrev pub is_clearing : Work → Bool
 is_clearing clears = true
@@ -38,13 +36,3 @@ pub record GoesOverOne (font : FontValue) (f new : Frames) : Type 0 where
       ≡ step_at font f.step.path.items (Number number) (tokens_left new.current) (state_in f) ∷ steps_behind font new
   pub path : new.step.path.items ≡ f.step.path.items
   pub callers : new.callers.items ≡ f.callers.items
-
--- The steps behind the first n, up to m, were such numbers, and were executed.
-pub record HasGoneOver (limit : ℕ) (steps : List StepView) (font : FontValue) (n m : ℕ) (new : Frames) : Type 0 where
-  pub least : n ≤ m
-  pub passed : ArePassed limit steps n m
-  pub behind : IsBehind limit steps font m new
-
--- The same for frames behind n steps, whatever glyph they execute.
-abbrev pub GoesOver : ℕ → FontValue → ℕ → Frames → ℕ → Frames → Type 0
-GoesOver limit font n f m new = (steps : List StepView) → IsBehind limit steps font n f → HasGoneOver limit steps font n m new

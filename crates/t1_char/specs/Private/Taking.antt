@@ -2,7 +2,7 @@
 use Rattle.std.specs.Prelude.{◌≡◌, ◌⊎◌, ℕ, zero, suc, ℤ, ◌+◌, ◌≤◌, Bool, true, false, Option, Some, None, List, ◌∷◌, length, take}
 use Rattle.t1_char.specs.declared.command.Command.{Command as Commands}
 use Rattle.t1_char.specs.declared.cursor.Cursor.{Cursor}
-use Rattle.t1_char.specs.declared.cursor.Enciphered.{Enciphered}
+use Rattle.t1_char.specs.declared.cursor.Ahead.{Ahead}
 use Rattle.t1_char.specs.declared.lines.Drawn.TheVariants.{Open}
 use Rattle.t1_char.specs.declared.lines.Way.{Way}
 use Rattle.t1_char.specs.declared.taking.Lines.{Lines}
@@ -26,15 +26,15 @@ PassesNumbers zero ahead behind old new = (behind ≡ ahead) × (new ≡ old)
 PassesNumbers (suc n) ahead behind old new =
     (between : Cursor) × ((stack : List ℤ) × (PassesNumbers n ahead between old stack × PassesNumber between behind stack new))
 
-abbrev pub left_of : Bor (List ℕ) → Cipher → Enciphered
+abbrev pub left_of : Bor (List ℕ) → Option Cipher → Ahead
 left_of left cipher = record { left = left; cipher = cipher }
 
 -- What is left at a stop, as a cursor.
 abbrev pub stop_cursor : Stop → Cursor
-stop_cursor stop = record { left = stop.left; cipher = Some stop.cipher; short = false }
+stop_cursor stop = record { left = stop.left; cipher = stop.cipher; short = false }
 
 abbrev pub lines_cursor : Lines → Cursor
-lines_cursor stop = record { left = stop.left; cipher = Some stop.cipher; short = false }
+lines_cursor stop = record { left = stop.left; cipher = stop.cipher; short = false }
 
 -- The first byte of the next token was read, or nothing was.
 abbrev pub StopsAt : Option ℕ → Cursor → Cursor → Type 0
@@ -42,7 +42,7 @@ StopsAt None before ahead = before ≡ ahead
 StopsAt (Some first) before ahead = AtFirst first before ahead
 
 -- Numbers were taken up to a token.
-pub record Takes (ahead : Enciphered) (old new : List ℤ) (stop : Stop) : Type 0 where
+pub record Takes (ahead : Ahead) (old new : List ℤ) (stop : Stop) : Type 0 where
   pub count : ℕ
   pub before : Cursor
   pub passes : PassesNumbers count (cursor_of ahead) before old new
@@ -51,7 +51,7 @@ pub record Takes (ahead : Enciphered) (old new : List ℤ) (stop : Stop) : Type 
   pub near : list_any is_far old ≡ false → list_any is_far new ≡ false
 
 -- The same on the way, with the cells that hold the numbers, so many.
-pub record IsTaking (ahead : Enciphered) (old : List ℤ) (cells : List ℤ) (len : ℕ) (left : Enciphered) : Type 0 where
+pub record IsTaking (ahead : Ahead) (old : List ℤ) (cells : List ℤ) (len : ℕ) (left : Ahead) : Type 0 where
   pub count : ℕ
   pub passes : PassesNumbers count (cursor_of ahead) (cursor_of left) old (take len cells)
   pub more : len ≡ length old + count
@@ -100,13 +100,13 @@ IsTokenRead Long before ahead = AtFirst 255 before ahead
 IsTokenRead (Token token) before ahead = tokens_left before ≡ token ∷ behind_token token (tokens_left ahead)
 
 -- Numbers and lines were taken, up to a token.
-pub record TakesLines (lines : Bool) (ahead : Enciphered) (old new : List ℤ) (stop : Lines) : Type 0 where
+pub record TakesLines (lines : Bool) (ahead : Ahead) (old new : List ℤ) (stop : Lines) : Type 0 where
   pub before : Cursor
   pub passes : PassesRow lines stop.passed (cursor_of ahead) before old new stop.way
   pub token : IsTokenRead stop.token before (lines_cursor stop)
 
 -- The same on the way.
-pub record IsTakingLines (room : ℕ) (ahead : Enciphered) (old : List ℤ) (numbers : List ℤ) (passed : ℕ) (before : Cursor) (way : Way) : Type 0 where
+pub record IsTakingLines (room : ℕ) (ahead : Ahead) (old : List ℤ) (numbers : List ℤ) (passed : ℕ) (before : Cursor) (way : Way) : Type 0 where
   pub passes : PassesRow true passed (cursor_of ahead) before old numbers way
   pub near : IsWayNear passed way
   pub room_is : passed ≤ room

@@ -59,11 +59,6 @@ pub told_at : (key own : ℕ) (tests : List (Rule × Bool)) (mask : Mask) (font 
     (n : ℕ) → has mask n ≡ violated font_rules n font key index
 told_at key own tests mask font index same told left n = rw same (told n ∙ sym (left n))
 
--- A set that says what is broken at a key, by another name of that key.
-pub moved_to : (key own : ℕ) (mask : Mask) (font : FontValue) (index : ℕ) → key ≡ own →
-    ((n : ℕ) → has mask n ≡ violated font_rules n font own index) → (n : ℕ) → has mask n ≡ violated font_rules n font key index
-moved_to key own mask font index same told n = rw same (told n)
-
 pub broken_is_in_the_book : (n : ℕ) (font : FontValue) (key index : ℕ) → violated font_rules n font key index ≡ true → (1 ≤ n) × (n ≤ last_number)
 broken_is_in_the_book = number_within font_rules
 

@@ -5,9 +5,8 @@ use Rattle.t1_char.specs.Editions.{limit_of}
 use Rattle.t1_char.specs.Lines.{IsAskedFarBehind, is_lines, no_way}
 use Rattle.t1_char.specs.Steps.{steps_of}
 use Rattle.t1_char.specs.StepValues.{step_value}
-use Rattle.t1_char.specs.Private.Advancing.{Advances, HasGoneFar}
 use Rattle.t1_char.specs.Private.Machines.{IsAt}
-use Rattle.t1_char.proofs.MachineSteps.{Answers, IsRead, asked_far, asked_far_none, behind_gone, gone_behind, still_goes_on, answers_end, answers_step, answers_limit}
+use Rattle.t1_char.proofs.MachineSteps.{Answers, asked_far, asked_far_none, has_read, still_goes_on, answers_end, answers_step, answers_limit}
 use Rattle.t1_char.proofs.machine.Machine.go_far.Goals as goal
 
 -- The glyph is finished.
@@ -35,104 +34,49 @@ returns-then-not-execute-clause-asked c =
 pub invariant_of-self-then-self : goal.invariant_of-self-then-self
 invariant_of-self-then-self c =
     let m = c.self.inside in
-    let before = c.advance-gone.result.before in
-    let way = c.advance-gone.result.way in
-    let new = c.advance-gone.new.self in
-    let read : IsRead m.font.now m.frames c.execute.new.self new (is_lines c.args.passing) (limit_of m.edition) m.counted before way =
-    record {
-      executed_is = c.if-not-execute.ensures.steps;
-      even = c.if-not-execute.ensures.even;
-      over = subst (λ limit. Advances (is_lines c.args.passing) limit m.font.now m.counted c.execute.new.self before way new)
-          c.self.invariant.1 c.advance-gone.ensures.over;
-    } in
-    let gone : HasGoneFar (is_lines c.args.passing) (limit_of m.edition) (steps_of m.font.now m.glyph) m.font.now m.counted read.over.taken way
-    read.over.passed =
-    gone_behind (is_lines c.args.passing) (limit_of m.edition) (steps_of m.font.now m.glyph) m.font.now m.counted before way m.frames c.execute.new.self
-    new (still_goes_on (limit_of m.edition) (steps_of m.font.now m.glyph) m.font.now m.counted m.answer m.frames c.in-Step.is c.self.invariant.0) read in
-    let answers : Answers (limit_of m.edition) (steps_of m.font.now m.glyph) m.font.now before Limit new =
-    answers_limit (limit_of m.edition) (steps_of m.font.now m.glyph) m.font.now before read.over.passed new
-    (behind_gone (is_lines c.args.passing) (limit_of m.edition) (steps_of m.font.now m.glyph) m.font.now m.counted before read.over.taken way
-    read.over.passed read.over.taken_is gone)
-    read.over.next (omega (arith, c.self.invariant.1, c.if-self.true)) in
+    let read = has_read (is_lines c.args.passing) (limit_of m.edition) m.limit (steps_of m.font.now m.glyph) m.font.now m.counted _ _ m.answer m.frames
+    c.execute.new.self c.advance-gone.new.self c.self.invariant.1 c.in-Step.is c.self.invariant.0 c.if-not-execute.ensures.steps
+    c.if-not-execute.ensures.even c.advance-gone.ensures.over in
+    let answers = answers_limit (limit_of m.edition) (steps_of m.font.now m.glyph) m.font.now c.advance-gone.result.before read.passed
+    c.advance-gone.new.self read.behind read.next (omega (arith, c.self.invariant.1, c.if-self.true)) in
     (answers.stands, c.self.invariant.1)
 
 pub returns-then-self-clause-asked : goal.returns-then-self-clause-asked
 returns-then-self-clause-asked c =
     let m = c.self.inside in
-    let before = c.advance-gone.result.before in
-    let way = c.advance-gone.result.way in
-    let new = c.advance-gone.new.self in
-    let read : IsRead m.font.now m.frames c.execute.new.self new (is_lines c.args.passing) (limit_of m.edition) m.counted before way =
-    record {
-      executed_is = c.if-not-execute.ensures.steps;
-      even = c.if-not-execute.ensures.even;
-      over = subst (λ limit. Advances (is_lines c.args.passing) limit m.font.now m.counted c.execute.new.self before way new)
-          c.self.invariant.1 c.advance-gone.ensures.over;
-    } in
-    let gone : HasGoneFar (is_lines c.args.passing) (limit_of m.edition) (steps_of m.font.now m.glyph) m.font.now m.counted read.over.taken way
-    read.over.passed =
-    gone_behind (is_lines c.args.passing) (limit_of m.edition) (steps_of m.font.now m.glyph) m.font.now m.counted before way m.frames c.execute.new.self
-    new (still_goes_on (limit_of m.edition) (steps_of m.font.now m.glyph) m.font.now m.counted m.answer m.frames c.in-Step.is c.self.invariant.0) read in
-    let answers : Answers (limit_of m.edition) (steps_of m.font.now m.glyph) m.font.now before Limit new =
-    answers_limit (limit_of m.edition) (steps_of m.font.now m.glyph) m.font.now before read.over.passed new
-    (behind_gone (is_lines c.args.passing) (limit_of m.edition) (steps_of m.font.now m.glyph) m.font.now m.counted before read.over.taken way
-    read.over.passed read.over.taken_is gone)
-    read.over.next (omega (arith, c.self.invariant.1, c.if-self.true)) in
+    let read = has_read (is_lines c.args.passing) (limit_of m.edition) m.limit (steps_of m.font.now m.glyph) m.font.now m.counted _ _ m.answer m.frames
+    c.execute.new.self c.advance-gone.new.self c.self.invariant.1 c.in-Step.is c.self.invariant.0 c.if-not-execute.ensures.steps
+    c.if-not-execute.ensures.even c.advance-gone.ensures.over in
+    let answers = answers_limit (limit_of m.edition) (steps_of m.font.now m.glyph) m.font.now c.advance-gone.result.before read.passed
+    c.advance-gone.new.self read.behind read.next (omega (arith, c.self.invariant.1, c.if-self.true)) in
     subst (λ view. IsAskedFarBehind c.args.passing (limit_of view.edition) (steps_of view.font view.glyph) view.counted
-    (before + 1) (answer_view Limit (step_value new.step)) way) c.self.view_is
-    (asked_far c.args.passing (limit_of m.edition) (steps_of m.font.now m.glyph) m.font.now m.counted before read.over.taken
-    way read.over.passed Limit new read.over.taken_is gone c.advance-gone.ensures.told answers)
+    (c.advance-gone.result.before + 1) (answer_view Limit (step_value c.advance-gone.new.self.step)) c.advance-gone.result.way) c.self.view_is
+    (asked_far c.args.passing (limit_of m.edition) (steps_of m.font.now m.glyph) m.font.now m.counted c.advance-gone.result.before read.taken
+    c.advance-gone.result.way read.passed Limit c.advance-gone.new.self read.taken_is read.gone c.advance-gone.ensures.told answers)
 
 -- The next step was read.
 pub invariant_of-self-else-self : goal.invariant_of-self-else-self
 invariant_of-self-else-self c =
     let m = c.self.inside in
-    let before = c.advance-gone.result.before in
-    let way = c.advance-gone.result.way in
-    let new = c.advance-gone.new.self in
-    let read : IsRead m.font.now m.frames c.execute.new.self new (is_lines c.args.passing) (limit_of m.edition) m.counted before way =
-    record {
-      executed_is = c.if-not-execute.ensures.steps;
-      even = c.if-not-execute.ensures.even;
-      over = subst (λ limit. Advances (is_lines c.args.passing) limit m.font.now m.counted c.execute.new.self before way new)
-          c.self.invariant.1 c.advance-gone.ensures.over;
-    } in
-    let gone : HasGoneFar (is_lines c.args.passing) (limit_of m.edition) (steps_of m.font.now m.glyph) m.font.now m.counted read.over.taken way
-    read.over.passed =
-    gone_behind (is_lines c.args.passing) (limit_of m.edition) (steps_of m.font.now m.glyph) m.font.now m.counted before way m.frames c.execute.new.self
-    new (still_goes_on (limit_of m.edition) (steps_of m.font.now m.glyph) m.font.now m.counted m.answer m.frames c.in-Step.is c.self.invariant.0) read in
-    let answers : Answers (limit_of m.edition) (steps_of m.font.now m.glyph) m.font.now before Step new =
-    answers_step (limit_of m.edition) (steps_of m.font.now m.glyph) m.font.now before read.over.passed new
-    (behind_gone (is_lines c.args.passing) (limit_of m.edition) (steps_of m.font.now m.glyph) m.font.now m.counted before read.over.taken way
-    read.over.passed read.over.taken_is gone)
-    read.over.next (omega (arith, c.self.invariant.1, c.if-self.false)) in (
-      subst (λ answer. IsAt (limit_of m.edition) (steps_of m.font.now m.glyph) m.font.now (before + 1) answer new) (sym c.in-Step.is) answers.stands,
+    let read = has_read (is_lines c.args.passing) (limit_of m.edition) m.limit (steps_of m.font.now m.glyph) m.font.now m.counted _ _ m.answer m.frames
+    c.execute.new.self c.advance-gone.new.self c.self.invariant.1 c.in-Step.is c.self.invariant.0 c.if-not-execute.ensures.steps
+    c.if-not-execute.ensures.even c.advance-gone.ensures.over in
+    let answers = answers_step (limit_of m.edition) (steps_of m.font.now m.glyph) m.font.now c.advance-gone.result.before read.passed
+    c.advance-gone.new.self read.behind read.next (omega (arith, c.self.invariant.1, c.if-self.false)) in (
+      subst (λ answer. IsAt (limit_of m.edition) (steps_of m.font.now m.glyph) m.font.now (c.advance-gone.result.before + 1) answer
+          c.advance-gone.new.self) (sym c.in-Step.is) answers.stands,
       c.self.invariant.1,
     )
 
 pub returns-else-self-clause-asked : goal.returns-else-self-clause-asked
 returns-else-self-clause-asked c =
     let m = c.self.inside in
-    let before = c.advance-gone.result.before in
-    let way = c.advance-gone.result.way in
-    let new = c.advance-gone.new.self in
-    let read : IsRead m.font.now m.frames c.execute.new.self new (is_lines c.args.passing) (limit_of m.edition) m.counted before way =
-    record {
-      executed_is = c.if-not-execute.ensures.steps;
-      even = c.if-not-execute.ensures.even;
-      over = subst (λ limit. Advances (is_lines c.args.passing) limit m.font.now m.counted c.execute.new.self before way new)
-          c.self.invariant.1 c.advance-gone.ensures.over;
-    } in
-    let gone : HasGoneFar (is_lines c.args.passing) (limit_of m.edition) (steps_of m.font.now m.glyph) m.font.now m.counted read.over.taken way
-    read.over.passed =
-    gone_behind (is_lines c.args.passing) (limit_of m.edition) (steps_of m.font.now m.glyph) m.font.now m.counted before way m.frames c.execute.new.self
-    new (still_goes_on (limit_of m.edition) (steps_of m.font.now m.glyph) m.font.now m.counted m.answer m.frames c.in-Step.is c.self.invariant.0) read in
-    let answers : Answers (limit_of m.edition) (steps_of m.font.now m.glyph) m.font.now before Step new =
-    answers_step (limit_of m.edition) (steps_of m.font.now m.glyph) m.font.now before read.over.passed new
-    (behind_gone (is_lines c.args.passing) (limit_of m.edition) (steps_of m.font.now m.glyph) m.font.now m.counted before read.over.taken way
-    read.over.passed read.over.taken_is gone)
-    read.over.next (omega (arith, c.self.invariant.1, c.if-self.false)) in
+    let read = has_read (is_lines c.args.passing) (limit_of m.edition) m.limit (steps_of m.font.now m.glyph) m.font.now m.counted _ _ m.answer m.frames
+    c.execute.new.self c.advance-gone.new.self c.self.invariant.1 c.in-Step.is c.self.invariant.0 c.if-not-execute.ensures.steps
+    c.if-not-execute.ensures.even c.advance-gone.ensures.over in
+    let answers = answers_step (limit_of m.edition) (steps_of m.font.now m.glyph) m.font.now c.advance-gone.result.before read.passed
+    c.advance-gone.new.self read.behind read.next (omega (arith, c.self.invariant.1, c.if-self.false)) in
     subst (λ view. IsAskedFarBehind c.args.passing (limit_of view.edition) (steps_of view.font view.glyph) view.counted
-    (before + 1) (answer_view Step (step_value new.step)) way) c.self.view_is
-    (asked_far c.args.passing (limit_of m.edition) (steps_of m.font.now m.glyph) m.font.now m.counted before read.over.taken
-    way read.over.passed Step new read.over.taken_is gone c.advance-gone.ensures.told answers)
+    (c.advance-gone.result.before + 1) (answer_view Step (step_value c.advance-gone.new.self.step)) c.advance-gone.result.way) c.self.view_is
+    (asked_far c.args.passing (limit_of m.edition) (steps_of m.font.now m.glyph) m.font.now m.counted c.advance-gone.result.before read.taken
+    c.advance-gone.result.way read.passed Step c.advance-gone.new.self read.taken_is read.gone c.advance-gone.ensures.told answers)

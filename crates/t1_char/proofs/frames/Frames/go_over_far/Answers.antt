@@ -1,6 +1,6 @@
 use Rattle.std.proofs.Common.{refl, ap, arith}
 use Rattle.t1_char.proofs.Advancing.{frames_at, lines_over}
-use Rattle.t1_char.proofs.frames.Frames.go_over_enciphered.Goals as goal
+use Rattle.t1_char.proofs.frames.Frames.go_over_far.Goals as goal
 
 pub returns-clause-over : goal.returns-clause-over
 returns-clause-over c =
