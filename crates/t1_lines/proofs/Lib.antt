@@ -8,4 +8,5 @@ pub mod NamesKept
 pub mod NamesRead
 pub mod Numbers
 pub mod Paths
+pub mod ReasonsOfCodes
 pub mod WaiverNames

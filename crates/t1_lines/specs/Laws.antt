@@ -1,14 +1,20 @@
 -- The statements of laws: how faults are written, that a text is one line, and what names were read.
-use Rattle.std.specs.Prelude.{◌≡◌, ℕ, List, ◌∷◌, ◌++◌, codes, Ok, Some}
+use Rattle.std.specs.Prelude.{◌≡◌, ◌⊎◌, ℕ, List, ◌∷◌, ◌++◌, codes, Ok, None, Some}
 use Rattle.t1_font.specs.ClearText.{clear_of}
 use Rattle.t1_font.specs.Fonts.{FontValue, Marks}
 use Rattle.t1_font.specs.Texts.{font_read}
 use Rattle.t1_font.specs.TextTurns.{TextRead}
+use Rattle.t1_font.specs.declared.unread.Unread.TheVariants as unread
 use Rattle.t1_report.specs.Faults.{FaultValue}
 use Rattle.t1_report.specs.Lines.{IsInFont, line_of}
 use Rattle.t1_report.specs.Waivers.{Waiver, waivers_of}
+use Rattle.t1_report.specs.declared.waivers.WaiverError.TheVariants as waivers
 use Rattle.t1_lines.specs.Lines.{LineValue, IsFaultLine, IsLine, IsSmall, fault_spelled, line_in, spelled}
 use Rattle.t1_lines.specs.Names.{HasNames, HaveNames}
+use Rattle.t1_lines.specs.RefusalCodes.{refusal_code_of}
+use Rattle.t1_lines.specs.declared.refusal.Reason.{Reason}
+use Rattle.t1_lines.specs.declared.refusal.Reason.TheVariants.{Font, Waivers}
+use Rattle.t1_lines.specs.declared.refusal.RefusalCode.{RefusalCode}
 
 -- The line of a fault is one, and is written as it is spelled, ended by byte 10.
 abbrev pub FaultsAreWrittenAsLines : Type 0
@@ -34,3 +40,17 @@ FontsHaveNames = (marks : Marks) (text private_text : List ℕ) (clear : TextRea
 -- So have waivers that were read.
 abbrev pub WaiversHaveNames : Type 0
 WaiversHaveNames = (text : List ℕ) (waivers : List Waiver) → waivers_of text ≡ Some waivers → HaveNames waivers
+
+-- Each number of a refusal is that of a reason.
+abbrev pub EachCodeIsOfAReason : Type 0
+EachCodeIsOfAReason = (code : RefusalCode) → (reason : Reason) × (refusal_code_of reason ≡ Some code)
+
+-- No number is that of two.
+abbrev pub NoCodeIsOfTwo : Type 0
+NoCodeIsOfTwo =
+    (a b : Reason) (code : RefusalCode) → refusal_code_of a ≡ Some code → refusal_code_of b ≡ Some code → a ≡ b
+
+-- A reason without a number is want of memory, in reading a font or waivers.
+abbrev pub MemoryAloneRefusesNone : Type 0
+MemoryAloneRefusesNone =
+    (reason : Reason) → refusal_code_of reason ≡ None → (reason ≡ Font unread.Memory) ⊎ (reason ≡ Waivers waivers.Memory)

@@ -1,7 +1,7 @@
 //! Laws above the definitions: each is the contract of a function without a body.
 
 ghost use Rattle.t1_report.specs.Faults.{fault_value};
-ghost use Rattle.t1_lines.specs.Laws.{ATextIsOneLine, FaultsAreWrittenAsLines, FontsHaveNames, NoLineStandsInAnother, WaiversHaveNames};
+ghost use Rattle.t1_lines.specs.Laws.{ATextIsOneLine, EachCodeIsOfAReason, FaultsAreWrittenAsLines, FontsHaveNames, MemoryAloneRefusesNone, NoCodeIsOfTwo, NoLineStandsInAnother, WaiversHaveNames};
 ghost use Rattle.t1_lines.specs.Lines.{IsSmall};
 
 use t1_report::Fault;
@@ -46,4 +46,12 @@ pub fn fonts_have_names()
 #[tactic(auto, using(crate::proofs::WaiverNames::waivers_have_names))]
 pub fn waivers_have_names()
     ensures { WaiversHaveNames }
+{}
+
+/// Each of the fifteen numbers is that of one reason, and every reason but want of memory has one.
+#[tactic(auto, using(crate::proofs::ReasonsOfCodes::each, crate::proofs::ReasonsOfCodes::no_other, crate::proofs::ReasonsOfCodes::memory_alone))]
+pub fn each_refusal_has_a_code()
+    ensures each { EachCodeIsOfAReason }
+    ensures no_other { NoCodeIsOfTwo }
+    ensures memory { MemoryAloneRefusesNone }
 {}

@@ -27,9 +27,9 @@ mod refusal;
 mod words;
 
 pub use laws::{
-    a_text_is_one_line, faults_are_small, faults_are_written_as_lines, fonts_have_names,
-    no_line_stands_in_another, waivers_have_names,
+    a_text_is_one_line, each_refusal_has_a_code, faults_are_small, faults_are_written_as_lines,
+    fonts_have_names, no_line_stands_in_another, waivers_have_names,
 };
 pub use line::{FaultLine, Line, Place};
 pub use reading::read;
-pub use refusal::{RefusalCode, refusal_text};
+pub use refusal::{Reason, RefusalCode, refusal_text};

@@ -1,8 +1,12 @@
 //! Why a font, or a file of waivers, is refused.
 
 ghost use Rattle.std.specs.Prelude.{◌≡◌};
+ghost use Rattle.t1_lines.specs.RefusalCodes.{refusal_code_of};
 ghost use Rattle.t1_lines.specs.RefusalTexts.{refusal_text_of};
 ghost use Rattle.t1_lines.specs.Private.Reading.{refusal_of, refusals};
+
+use t1_font::Unread;
+use t1_report::WaiverError;
 
 /// Why there is no report, by its number.
 #[derive(Clone, Copy, Debug, PartialEq, Eq)]
@@ -37,6 +41,45 @@ pub enum RefusalCode {
     E14,
     /// The waivers have more than 1,048,576 bytes.
     E15,
+}
+
+/// Why there is no font, or there are no waivers, to go on with.
+#[derive(Clone, Copy, Debug, PartialEq, Eq)]
+pub enum Reason {
+    /// The bytes of a font's file aren't read as a font, as where they are cut short.
+    Font(Unread),
+    /// A font's file has more than 16,777,216 bytes.
+    FontTooLarge,
+    /// A text isn't read as waivers, as where a line is `A P99`.
+    Waivers(WaiverError),
+    /// A text of waivers has more than 1,048,576 bytes.
+    WaiversTooLarge,
+}
+
+impl RefusalCode {
+    /// The number by which bytes are refused for a reason. Want of memory refuses none.
+    pub fn of(reason: Reason) -> Option<RefusalCode>
+        ensures { result ≡ refusal_code_of reason }
+    {
+        match reason {
+            Reason::Font(Unread::NotAFont) => Some(RefusalCode::E01),
+            Reason::Font(Unread::BadHeader) => Some(RefusalCode::E02),
+            Reason::Font(Unread::CutShort) => Some(RefusalCode::E03),
+            Reason::Font(Unread::NoEexec) => Some(RefusalCode::E04),
+            Reason::FontTooLarge => Some(RefusalCode::E05),
+            Reason::Font(Unread::TooShort) => Some(RefusalCode::E06),
+            Reason::Font(Unread::Unclosed) => Some(RefusalCode::E07),
+            Reason::Font(Unread::BadSubrs) => Some(RefusalCode::E08),
+            Reason::Font(Unread::BadCharStrings) => Some(RefusalCode::E09),
+            Reason::Font(Unread::BadLenIv) => Some(RefusalCode::E10),
+            Reason::Font(Unread::PastLimit) => Some(RefusalCode::E11),
+            Reason::Font(Unread::SecondSubrs) => Some(RefusalCode::E12),
+            Reason::Font(Unread::MultipleMaster) => Some(RefusalCode::E13),
+            Reason::Waivers(WaiverError::Malformed) => Some(RefusalCode::E14),
+            Reason::WaiversTooLarge => Some(RefusalCode::E15),
+            Reason::Font(Unread::Memory) | Reason::Waivers(WaiverError::Memory) => None,
+        }
+    }
 }
 
 /// All refusals, in the order of their numbers.
