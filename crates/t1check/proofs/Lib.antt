@@ -1,11 +1,1 @@
-pub mod AnswerLemmas
-pub mod ChosenLines
-pub mod CommandLemmas
-pub mod InputLemmas
-pub mod RefusalLaws
-pub mod RefusalLines
-pub mod RunLaws
-pub mod SingleFault
-pub mod TraceLemmas
-pub mod ValueLemmas
-pub mod WaivedLemmas
+pub mod FilesAnswered

@@ -1,5 +1,45 @@
--- The statements of laws.
-pub mod Answers
-pub mod ReadBack
-pub mod Refusals
-pub mod Runs
+-- The statement of the law: from words and files to the answer.
+use Rattle.std.specs.Prelude.{◌≡◌, ◌≢◌, false, List, Option, None, Some, option_map, string_bytes, String}
+use Rattle.clap.specs.Words.{Text}
+use Rattle.t1_answer.specs.CommandLine.{t1check}
+use Rattle.t1_answer.specs.Laws.Runs.{Answered, IfKnown}
+use Rattle.t1_answer.specs.Words.{AreTaken, checking, waivers_named}
+use Rattle.t1_answer.specs.declared.asked.Options.{Options}
+use Rattle.t1_io.specs.Devices.{Delivered, SourceState}
+use Rattle.t1_run.specs.Answering.{Answers}
+use Rattle.t1_run.specs.Opening.{Files, Opening, Sinks}
+use Rattle.t1_run.specs.Words.{AreRefused}
+use Rattle.t1_run.specs.declared.status.Status.{Status}
+use Rattle.t1_run.specs.declared.status.Status.TheVariants.{Failed}
+use Rattle.t1_run.specs.declared.usage.UsageError.TheVariants.{Help}
+
+-- The source of the font: the file of the name, or standard input where none is named.
+abbrev pub IsFontOf : Opening → SourceState → Option Text → SourceState → Type 0
+IsFontOf fonts input None source = source ≡ input
+IsFontOf fonts input (Some name) source = fonts.Opens name source.left
+
+-- The source of the waivers: the file of the name, where one is to be read.
+abbrev pub AreWaiversOf : Opening → Option Text → SourceState → Type 0
+AreWaiversOf waivers None source = Unit {0}
+AreWaiversOf waivers (Some name) source = waivers.Opens name source.left
+
+-- Help was asked for, and given; or the words give options, and the one answer to them, to the bytes of the font that they
+-- name and to the waivers' was given, where these bytes are known.
+pub data IsAnswered (words : List Text) (fonts waivers : Opening) (input : SourceState) (sinks sinks' : Sinks) (result : Status) : Type 1 where
+  helped :
+      (text : _) → AreRefused t1check words (Help text) → Delivered sinks.out sinks'.out (string_bytes text)
+      → IsAnswered words fonts waivers input sinks sinks' result
+  answered :
+      (options : Options) → AreTaken words options
+      → (source : SourceState) → IsFontOf fonts input (option_map string_bytes options.file) source
+      → (text : SourceState) → AreWaiversOf waivers (waivers_named options) text
+      → IfKnown options source.left text.left (Answered options result sinks.out sinks'.out sinks.errors sinks'.errors)
+      → IsAnswered words fonts waivers input sinks sinks' result
+
+-- So it is of what `answer` ensures, unless the status is 3.
+abbrev pub WordsAndFilesAreAnswered : Type 1
+WordsAndFilesAreAnswered =
+    (words : List Text) (fonts waivers : Opening) (input input' : SourceState) (files : Files) (sinks sinks' : Sinks) (result : Status)
+    → input.failed ≡ false → sinks.out.failed ≡ false → sinks.errors.failed ≡ false
+    → Answers (checking words) fonts waivers input input' files sinks sinks' result → result ≢ Failed
+    → IsAnswered words fonts waivers input sinks sinks' result

@@ -1,13 +1,1 @@
-pub mod Answers
-pub mod CommandLine
-pub mod Ends
-pub mod Exit
-pub mod FontFiles
-pub mod Input
 pub mod Laws
-pub mod Lines
-pub mod Private
-pub mod Refusals
-pub mod Traces
-pub mod Waived
-pub mod Words

@@ -1,0 +1,6 @@
+pub mod AnswerLemmas
+pub mod ChosenLines
+pub mod CommandLemmas
+pub mod RunLaws
+pub mod TraceLemmas
+pub mod WaivedLemmas

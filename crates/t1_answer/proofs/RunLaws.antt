@@ -1,0 +1,423 @@
+-- Each way in which a run ends keeps its promises.
+use Rattle.std.proofs.Common.{option_map, string_bytes, ◌≡◌, ◌≢◌, ◌⊎◌, inl, inr, ℕ, Bool, true, false, true≢false, List, [], ◌∷◌, Option, None, Some, IfSome, Result, Ok, Err, codes, refl, sym, ap, subst, ◌∙◌}
+use Rattle.std.specs.Io.KnownBytes.{Appends, Keeps}
+use Rattle.std.proofs.KnownBytes.{Appends-nil, Keeps-refl}
+use Rattle.t1_font.specs.Fonts.{FontValue}
+use Rattle.t1_io.specs.Devices.{SinkState, SourceState, one_more}
+use Rattle.t1_answer.specs.declared.asked.Options.{Options}
+use Rattle.t1_run.specs.declared.status.Status.{Status}
+use Rattle.t1_run.specs.declared.status.Status.TheVariants.{Clean, Failed, Faults, Refused}
+use Rattle.t1_lines.specs.declared.refusal.Reason.{Reason}
+use Rattle.t1_answer.specs.Answers.{Answer, IsAnswerTo, IsShown, selection, refused, reported, status_of, traced_at}
+use Rattle.t1_answer.specs.Ends.{Ends, Shows}
+use Rattle.t1_answer.specs.Ends.Shows.{no_glyph, reported as was_reported, traced as was_traced, no_room, waivers_refused, waivers_unread}
+use Rattle.t1_answer.specs.Traces.{no_glyph_line, trace_of}
+use Rattle.t1_answer.specs.Ends.Ends.{no_memory as was_no_memory, read_failed as was_read_failed, refused as was_refused, shown as was_shown}
+use Rattle.t1_run.specs.Telling.Gives.{given, ungiven}
+use Rattle.t1_run.specs.Telling.Tells.{told, untold}
+use Rattle.t1_run.specs.FontFiles.{font_of}
+use Rattle.t1_answer.specs.Laws.Runs.{Answered, Promises, RunsKeepPromises, WentOut, IfKnown, IsSpared}
+use Rattle.t1_answer.specs.Told.{program, told_of, unread_status}
+use Rattle.t1_report.specs.Waivers.{Waiver}
+use Rattle.t1_answer.specs.Waived.{asks_waivers}
+use Rattle.t1_run.proofs.FilesRead.{of-any, of-waived, waived-weaker}
+use Rattle.t1_lines.specs.RefusalCodes.{refusal_code_of}
+use Rattle.t1_lines.specs.declared.refusal.RefusalCode.{RefusalCode}
+use Rattle.t1_run.specs.Failures.{failure_line, failure_of, failure_status, out_of_memory_line, read_failed_line, refused_by, write_failed_line}
+use Rattle.t1_run.specs.declared.failure.Failure.{Failure}
+use Rattle.t1_run.specs.declared.failure.Failure.TheVariants as failure
+use Rattle.t1_run.specs.FontFiles.{AreRead}
+use Rattle.t1_run.specs.Telling.{Gives, Tells}
+use Rattle.t1_run.specs.WaiverFiles.{AreWaived, IfWaived}
+
+-- The facts one by one, before they are grouped by the status.
+record Facts (options : Options) (left : Option (List ℕ)) (failed : Bool)
+    (waivers waivers' : SourceState) (out out' errors errors' : SinkState) (result : Status) : Type 0 where
+  answer : result ≢ Failed → IfKnown options left waivers.left
+      (Answered options result out out' errors errors')
+  flushed : (result ≡ Clean) ⊎ (result ≡ Faults) → (out'.flushed ≡ true)
+      × (out'.flushes ≡ one_more out.flushes)
+  untouched : result ≡ Refused → out' ≡ out
+  nothing_waits : result ≢ Failed → out.flushed ≡ true → out'.flushed ≡ true
+  broken :
+      ((failed ≡ true) ⊎ (waivers'.failed ≡ true)) ⊎ ((out'.failed ≡ true) ⊎ (errors'.failed ≡ true))
+      → result ≡ Failed
+  read_failed : (failed ≡ true) ⊎ (waivers'.failed ≡ true) → errors'.failed ≡ false
+      → Appends errors.written errors'.written (read_failed_line program)
+  write_failed : out'.failed ≡ true → errors'.failed ≡ false
+      → Appends errors.written errors'.written (write_failed_line program)
+  no_memory :
+      result ≡ Failed → failed ≡ false → waivers'.failed ≡ false → out'.failed ≡ false
+      → errors'.failed ≡ false
+      → Appends errors.written errors'.written (out_of_memory_line program)
+      ⊎ IfKnown options left waivers.left (Answered options result out out' errors errors')
+  unwritten : result ≡ Failed → out'.failed ≡ false → Keeps out.written out'.written
+  unread : (failed ≡ true) ⊎ (waivers'.failed ≡ true) → out'.failed ≡ false
+  front : out'.failed ≡ true → IfKnown options left waivers.left (WentOut options out out')
+  unflushed : result ≡ Failed → out'.flushes ≡ out.flushes
+  spared : IsSpared options left failed waivers waivers'
+
+-- ---- statuses
+
+clean-failed : Clean ≡ Failed → ⊥
+clean-failed h = cc
+
+faults-failed : Faults ≡ Failed → ⊥
+faults-failed h = cc
+
+refused-failed : Refused ≡ Failed → ⊥
+refused-failed h = cc
+
+-- the status of a report isn't 3
+list-not-failed : {A : Type 0} (xs : List A) → status_of xs ≡ Failed → ⊥
+list-not-failed [] h = clean-failed h
+list-not-failed (x ∷ xs) h = faults-failed h
+
+-- nor is it 2
+list-not-refused : {A : Type 0} (xs : List A) → status_of xs ≡ Refused → ⊥
+list-not-refused [] h = cc
+list-not-refused (x ∷ xs) h = cc
+
+-- a status is not that of a report, where it is 2 or 3
+never-report : (result : Status) → (result ≡ Clean) ⊎ (result ≡ Faults) → (result ≡ Refused) ⊎ (result ≡ Failed) → ⊥
+never-report result (inl a) (inl b) = cc
+never-report result (inl a) (inr b) = cc
+never-report result (inr a) (inl b) = cc
+never-report result (inr a) (inr b) = cc
+
+-- ---- what was told
+
+-- where standard error works the text was told, with its status
+told-text : (text : List ℕ) (status : Status) (e e' : SinkState) (result : Status) → Tells text status e e' result → e'.failed ≡ false
+    → Appends e.written e'.written text
+told-text text status e e' result (told wrote is) whole = wrote.bytes
+told-text text status e e' result (untold broke is) whole = absurd (true≢false (sym broke.failed ∙ whole))
+
+-- where the status isn't 3 the text was told
+told-unfailed : (text : List ℕ) (status : Status) (e e' : SinkState) (result : Status) → Tells text status e e' result → result ≢ Failed
+    → Appends e.written e'.written text × (result ≡ status)
+told-unfailed text status e e' result (told wrote is) ok = (wrote.bytes, is)
+told-unfailed text status e e' result (untold broke is) ok = absurd (ok is)
+
+-- a failed standard error gives 3
+told-broken : (text : List ℕ) (status : Status) (e e' : SinkState) (result : Status) → e.failed ≡ false → Tells text status e e' result → e'.failed ≡ true
+    → result ≡ Failed
+told-broken text status e e' result sound (told wrote is) broken = absurd (true≢false (sym broken ∙ wrote.failed ∙ sound))
+told-broken text status e e' result sound (untold broke is) broken = is
+
+-- the status is the one, or 3
+told-status : (text : List ℕ) (status : Status) (e e' : SinkState) (result : Status) → Tells text status e e' result → (result ≡ status) ⊎ (result ≡ Failed)
+told-status text status e e' result (told wrote is) = inl is
+told-status text status e e' result (untold broke is) = inr is
+
+-- what is told of a failure ends with 3
+told-failed : (text : List ℕ) (e e' : SinkState) (result : Status) → Tells text Failed e e' result → result ≡ Failed
+told-failed text e e' result (told wrote is) = is
+told-failed text e e' result (untold broke is) = is
+
+-- ---- known bytes
+
+keeps-same : (a b : SinkState) → b ≡ a → Keeps a.written b.written
+keeps-same a b same = subst (λ (s : SinkState). Keeps a.written s.written) (sym same) (Keeps-refl a.written)
+
+nothing-same : (a b : SinkState) → b ≡ a → Appends a.written b.written []
+nothing-same a b same = subst (λ (s : SinkState). Appends a.written s.written []) (sym same) (Appends-nil a.written)
+
+-- what is so of a reading is so of the bytes that are read so
+of-read : (P : Result FontValue Reason → Type 0) (left : Option (List ℕ)) (read : Result FontValue Reason) → AreRead left read → P read
+    → IfSome left (λ input. P (font_of input))
+of-read P None read are holds = tt
+of-read P (Some input) read are holds = subst P (sym are) holds
+
+some-weaker : (P Q : List ℕ → Type 0) (left : Option (List ℕ)) → ((input : List ℕ) → P input → Q input) → IfSome left P → IfSome left Q
+some-weaker P Q None on holds = tt
+some-weaker P Q (Some input) on holds = on input holds
+
+some-any : (P : List ℕ → Type 0) (left : Option (List ℕ)) → ((input : List ℕ) → P input) → IfSome left P
+some-any P None all = tt
+some-any P (Some input) all = all input
+
+-- ---- a report or a trace
+
+module _ (options : Options) (left : Option (List ℕ)) (failed : Bool) (waivers waivers' : SourceState) (out out' errors errors' : SinkState) (result : Status)
+    (waivers_sound : waivers.failed ≡ false) (sound : out.failed ≡ false) (errors_sound : errors.failed ≡ false) where
+  abbrev Answering : Answer → Type 0
+  Answering answer = IfKnown options left waivers.left (λ read waived. IsAnswerTo options read waived answer)
+
+  -- both were read so
+  of-both : (answer : Answer) (read : Result FontValue Reason) (waived : Result (List Waiver) Reason) → AreRead left read
+      → AreWaived (asks_waivers options) waivers.left waived → IsAnswerTo options read waived answer → Answering answer
+  of-both answer read waived are is holds =
+      of-read (λ r. IfWaived (asks_waivers options) waivers.left (λ w. IsAnswerTo options r w answer)) left read are
+      (of-waived (λ w. IsAnswerTo options read w answer) (asks_waivers options) waivers.left waived is holds)
+
+  -- whatever the waivers are
+  of-font : (answer : Answer) (read : Result FontValue Reason) → AreRead left read
+      → ((waived : Result (List Waiver) Reason) → IsAnswerTo options read waived answer) → Answering answer
+  of-font answer read are holds =
+      of-read (λ r. IfWaived (asks_waivers options) waivers.left (λ w. IsAnswerTo options r w answer)) left read are
+      (of-any (λ w. IsAnswerTo options read w answer) (asks_waivers options) waivers.left holds)
+
+  known-weaker : (answer : Answer) (Q : Result FontValue Reason → Result (List Waiver) Reason → Type 0)
+      → ((read : Result FontValue Reason) (waived : Result (List Waiver) Reason) → IsAnswerTo options read waived answer → Q read waived)
+      → Answering answer → IfKnown options left waivers.left Q
+  known-weaker answer Q on holds =
+      some-weaker (λ input. IfWaived (asks_waivers options) waivers.left (λ w. IsAnswerTo options (font_of input) w answer))
+      (λ input. IfWaived (asks_waivers options) waivers.left (Q (font_of input))) left
+      (λ input h. waived-weaker (λ w. IsAnswerTo options (font_of input) w answer) (Q (font_of input)) (asks_waivers options) waivers.left
+      (λ w is. on (font_of input) w is) h) holds
+
+  answered : (answer : Answer) → Answering answer → result ≡ answer.status → Appends out.written out'.written answer.output
+      → Appends errors.written errors'.written answer.told
+      → IfKnown options left waivers.left (Answered options result out out' errors errors')
+  answered answer is status output line =
+      known-weaker answer (Answered options result out out' errors errors')
+      (λ read waived so. (answer, (so, record { status = status; output = output; told = line }))) is
+
+  -- ---- the source of waivers
+
+  -- no read failed
+  fine : failed ≡ false → waivers'.failed ≡ waivers.failed → (failed ≡ true) ⊎ (waivers'.failed ≡ true) → ⊥
+  fine unfailed kept (inl source) = true≢false (sym source ∙ unfailed)
+  fine unfailed kept (inr other) = true≢false (sym other ∙ kept ∙ waivers_sound)
+
+  spared_whole : waivers' ≡ waivers → IsSpared options left failed waivers waivers'
+  spared_whole same = record {
+    unasked = λ unasked. same;
+    unread = λ source. same;
+    refused =
+        some-any (λ input. (reason : Reason) → font_of input ≡ Err reason → waivers' ≡ waivers) left (λ input reason is. same);
+  }
+
+  never_refused : (font : FontValue) → AreRead left (Ok font) → IfSome left (λ input. (reason : Reason) → font_of input ≡ Err reason → waivers' ≡ waivers)
+  never_refused font are = of-read (λ r. (reason : Reason) → r ≡ Err reason → waivers' ≡ waivers) left (Ok font) are (λ reason is. cc)
+
+  spared_by : (font : FontValue) → AreRead left (Ok font) → failed ≡ false → (asks_waivers options ≡ false → waivers' ≡ waivers)
+      → IsSpared options left failed waivers waivers'
+  spared_by font are unfailed unasked =
+      record { unasked = unasked; unread = λ source. absurd (true≢false (sym source ∙ unfailed)); refused = never_refused font are }
+
+  same_failed : waivers' ≡ waivers → waivers'.failed ≡ waivers.failed
+  same_failed same = ap (λ (s : SourceState). s.failed) same
+
+  -- an answer that was given whole, with a status other than 2 and 3
+  after_given : (answer : Answer) → Answering answer → failed ≡ false → waivers'.failed ≡ waivers.failed → IsSpared options left failed waivers waivers'
+      → answer.told ≡ []
+      → (answer.status ≡ Refused → ⊥) → (answer.status ≡ Failed → ⊥) → Gives program answer.output answer.status out out' errors errors' result
+      → Facts options left failed waivers waivers' out out' errors errors' result
+  after_given answer is_answer unfailed kept_source spared silent never_two never_three (given wrote kept is) =
+      let out_sound : out'.failed ≡ false = wrote.failed ∙ sound in
+      record {
+        answer = λ went. answered answer is_answer is wrote.bytes
+            (subst (Appends errors.written errors'.written) (sym silent) (nothing-same errors errors' kept));
+        flushed = λ either. (wrote.waits, wrote.flushes);
+        untouched = λ two. absurd (never_two (sym is ∙ two));
+        nothing_waits = λ went was. wrote.waits;
+        broken = λ device. elim device [
+          | inl source ↦ absurd (fine unfailed kept_source source)
+          | inr (inl output) ↦ absurd (true≢false (sym output ∙ out_sound))
+          | inr (inr line) ↦ absurd (true≢false (sym line ∙ ap (λ (s : SinkState). s.failed) kept ∙ errors_sound))
+        ];
+        read_failed = λ source. absurd (fine unfailed kept_source source);
+        write_failed = λ output. absurd (true≢false (sym output ∙ out_sound));
+        no_memory = λ three. absurd (never_three (sym is ∙ three));
+        unwritten = λ three. absurd (never_three (sym is ∙ three));
+        unread = λ source. out_sound;
+        front = λ output. absurd (true≢false (sym output ∙ out_sound));
+        unflushed = λ three. absurd (never_three (sym is ∙ three));
+        spared = spared;
+      }
+  after_given answer is_answer unfailed kept_source spared silent never_two never_three (ungiven broke tells) =
+      let three : result ≡ Failed = told-failed (write_failed_line program) errors errors' result tells in
+      record {
+        answer = λ went. absurd (went three);
+        flushed = λ either. absurd (never-report result either (inr three));
+        untouched = λ two. absurd (refused-failed (sym two ∙ three));
+        nothing_waits = λ went. absurd (went three);
+        broken = λ device. three;
+        read_failed = λ source. absurd (fine unfailed kept_source source);
+        write_failed = λ output whole. told-text (write_failed_line program) Failed errors errors' result tells whole;
+        no_memory = λ failure source other output. absurd (true≢false (sym broke.failed ∙ output));
+        unwritten = λ failure output. absurd (true≢false (sym broke.failed ∙ output));
+        unread = λ source. absurd (fine unfailed kept_source source);
+        front = λ output. known-weaker answer (WentOut options out out') (λ read waived so. (answer, (so, broke.front))) is_answer;
+        unflushed = λ failure. broke.flushes;
+        spared = spared;
+      }
+
+  -- ---- neither
+
+  -- the output as it was
+  out_same : out' ≡ out → out'.failed ≡ false
+  out_same same = ap (λ (s : SinkState). s.failed) same ∙ sound
+
+  -- an answer with nothing on the output, status 2 or 3
+  after_told : (answer : Answer) → Answering answer → failed ≡ false → waivers'.failed ≡ waivers.failed → IsSpared options left failed waivers waivers'
+      → answer.output ≡ []
+      → (answer.status ≡ Refused) ⊎ (answer.status ≡ Failed) → out' ≡ out → Tells answer.told answer.status errors errors' result
+      → Facts options left failed waivers waivers' out out' errors errors' result
+  after_told answer is_answer unfailed kept_source spared silent kind same tells =
+      let two_or_three : (result ≡ Refused) ⊎ (result ≡ Failed) = elim (told-status answer.told answer.status errors errors' result tells) [
+        | inl is ↦ elim kind [ inl two ↦ inl (is ∙ two) | inr three ↦ inr (is ∙ three) ]
+        | inr three ↦ inr three
+      ] in
+      let nothing : Appends out.written out'.written answer.output = subst (Appends out.written out'.written) (sym silent) (nothing-same out out' same) in
+      record {
+        answer = λ went.
+            let (text, status) = told-unfailed answer.told answer.status errors errors' result tells went in
+            answered answer is_answer status nothing text;
+        flushed = λ either. absurd (never-report result either two_or_three);
+        untouched = λ two. same;
+        nothing_waits = λ went was. ap (λ (s : SinkState). s.flushed) same ∙ was;
+        broken = λ device. elim device [
+          | inl source ↦ absurd (fine unfailed kept_source source)
+          | inr (inl output) ↦ absurd (true≢false (sym output ∙ out_same same))
+          | inr (inr line) ↦ told-broken answer.told answer.status errors errors' result errors_sound tells line
+        ];
+        read_failed = λ source. absurd (fine unfailed kept_source source);
+        write_failed = λ output. absurd (true≢false (sym output ∙ out_same same));
+        no_memory = λ three source other output whole. inr
+            (answered answer is_answer (status_where_whole whole tells) nothing (told-text answer.told answer.status errors errors' result tells whole));
+        unwritten = λ three output. keeps-same out out' same;
+        unread = λ source. out_same same;
+        front = λ output. absurd (true≢false (sym output ∙ out_same same));
+        unflushed = λ three. ap (λ (s : SinkState). s.flushes) same;
+        spared = spared;
+      }
+    where
+      status_where_whole : {text : List ℕ} {status : Status} → errors'.failed ≡ false → Tells text status errors errors' result → result ≡ status
+      status_where_whole whole (told wrote is) = is
+      status_where_whole whole (untold broke is) = absurd (true≢false (sym broke.failed ∙ whole))
+
+  -- a read failed, of the font or of the waivers
+  after_failed_read : (failed ≡ true) ⊎ (waivers'.failed ≡ true) → IsSpared options left failed waivers waivers' → out' ≡ out
+      → Tells (read_failed_line program) Failed errors errors' result
+      → Facts options left failed waivers waivers' out out' errors errors' result
+  after_failed_read broken spared same tells =
+      let three : result ≡ Failed = told-failed (read_failed_line program) errors errors' result tells in
+      record {
+        answer = λ went. absurd (went three);
+        flushed = λ either. absurd (never-report result either (inr three));
+        untouched = λ two. same;
+        nothing_waits = λ went. absurd (went three);
+        broken = λ device. three;
+        read_failed = λ source whole. told-text (read_failed_line program) Failed errors errors' result tells whole;
+        write_failed = λ output. absurd (true≢false (sym output ∙ out_same same));
+        no_memory = λ failure source other. absurd (elim broken [ inl is ↦ true≢false (sym is ∙ source) | inr is ↦ true≢false (sym is ∙ other) ]);
+        unwritten = λ failure output. keeps-same out out' same;
+        unread = λ source. out_same same;
+        front = λ output. absurd (true≢false (sym output ∙ out_same same));
+        unflushed = λ failure. ap (λ (s : SinkState). s.flushes) same;
+        spared = spared;
+      }
+
+  after_no_memory : failed ≡ false → waivers'.failed ≡ waivers.failed → IsSpared options left failed waivers waivers' → out' ≡ out
+      → Tells (out_of_memory_line program) Failed errors errors' result
+      → Facts options left failed waivers waivers' out out' errors errors' result
+  after_no_memory unfailed kept_source spared same tells =
+      let three : result ≡ Failed = told-failed (out_of_memory_line program) errors errors' result tells in
+      record {
+        answer = λ went. absurd (went three);
+        flushed = λ either. absurd (never-report result either (inr three));
+        untouched = λ two. same;
+        nothing_waits = λ went. absurd (went three);
+        broken = λ device. three;
+        read_failed = λ source. absurd (fine unfailed kept_source source);
+        write_failed = λ output. absurd (true≢false (sym output ∙ out_same same));
+        no_memory = λ failure source other output whole. inl (told-text (out_of_memory_line program) Failed errors errors' result tells whole);
+        unwritten = λ failure output. keeps-same out out' same;
+        unread = λ source. out_same same;
+        front = λ output. absurd (true≢false (sym output ∙ out_same same));
+        unflushed = λ failure. ap (λ (s : SinkState). s.flushes) same;
+        spared = spared;
+      }
+
+  -- the name that the options have
+  shown_by : (font : FontValue) (waived : Result (List Waiver) Reason) (answer : Answer) (trace name : Option (List ℕ)) → trace ≡ name
+      → IsShown options font waived name answer → IsShown options font waived trace answer
+  shown_by font waived answer trace name same is = subst (λ (n : Option (List ℕ)). IsShown options font waived n answer) (sym same) is
+
+  after_shown : (font : FontValue) → AreRead left (Ok font) → failed ≡ false → Shows options font waivers waivers' out out' errors errors' result
+      → Facts options left failed waivers waivers' out out' errors errors' result
+  after_shown font are unfailed (was_reported none waived is heard faults report gives) =
+      let answer = reported font waived (selection options faults) in
+      after_given answer (of-both answer (Ok font) (Ok waived) are is
+      (shown_by font (Ok waived) answer _ None (ap (option_map string_bytes) none) (faults, (report, refl)))) unfailed heard.failed
+      (spared_by font are unfailed heard.unasked) refl
+      (list-not-refused (selection options faults)) (list-not-failed (selection options faults)) gives
+  after_shown font are unfailed (was_traced name is glyph there untouched gives) =
+      let answer : Answer = record { output = trace_of options.edition font glyph; told = []; status = Clean } in
+      after_given answer (of-font answer (Ok font) are
+      (λ waived. shown_by font waived answer _ (Some name) is (sym (ap (traced_at options.edition font name) there)))) unfailed
+      (same_failed untouched) (spared_whole untouched) refl
+      (λ two. cc) clean-failed gives
+  after_shown font are unfailed (no_glyph name is none untouched same tells) =
+      let answer : Answer = record { output = []; told = no_glyph_line name; status = Failed } in
+      after_told answer (of-font answer (Ok font) are
+      (λ waived. shown_by font waived answer _ (Some name) is (sym (ap (traced_at options.edition font name) none)))) unfailed
+      (same_failed untouched) (spared_whole untouched) refl
+      (inr refl) same tells
+  after_shown font are unfailed (waivers_refused none reason is heard same tells) =
+      let answer = refused (told_of reason) in
+      after_told answer (of-both answer (Ok font) (Err reason) are is (shown_by font (Err reason) answer _ None (ap (option_map string_bytes) none) refl))
+      unfailed heard.failed
+      (spared_by font are unfailed heard.unasked) refl (inl refl) same tells
+  after_shown font are unfailed (waivers_unread asked broken same tells) =
+      after_failed_read (inr broken) (spared_by font are unfailed (λ unasked. absurd (true≢false (sym asked ∙ unasked)))) same tells
+  after_shown font are unfailed (no_room none heard same tells) =
+      after_no_memory unfailed heard.failed (spared_by font are unfailed heard.unasked) same tells
+
+  after_refusal : (reason : Reason) → AreRead left (Err reason) → failed ≡ false → waivers' ≡ waivers → out' ≡ out
+      → Tells (told_of reason) (unread_status reason) errors errors' result
+      → (unread_status reason ≡ Refused) ⊎ (failure_of reason ≡ failure.Memory) → Facts options left failed waivers waivers' out out' errors errors' result
+  after_refusal reason are unfailed untouched same tells (inl two) =
+      after_told (refused (told_of reason)) (of-font (refused (told_of reason)) (Err reason) are (λ waived. refl)) unfailed (same_failed untouched)
+      (spared_whole untouched) refl (inl refl) same
+      (subst (λ (s : Status). Tells (told_of reason) s errors errors' result) two tells)
+  after_refusal reason are unfailed untouched same tells (inr memory) =
+      after_no_memory unfailed (same_failed untouched) (spared_whole untouched) same
+      (subst (λ (f : Failure). Tells (failure_line program f) (failure_status f) errors errors' result) memory tells)
+
+-- a reason is a refusal, or want of memory
+kind_of : (code : Option RefusalCode) → (failure_status (refused_by code) ≡ Refused) ⊎ (refused_by code ≡ failure.Memory)
+kind_of (Some code) = inl refl
+kind_of None = inr refl
+
+facts : (options : Options) (left : Option (List ℕ)) (failed : Bool) (v v' : SourceState) (out out' errors errors' : SinkState) (result : Status)
+    → v.failed ≡ false → out.failed ≡ false → errors.failed ≡ false → Ends options left failed v v' out out' errors errors' result
+    → Facts options left failed v v' out out' errors errors' result
+facts options left failed v v' out out' errors errors' result v_sound sound errors_sound (was_shown font are unfailed shows) =
+    after_shown options left failed v v' out out' errors errors' result v_sound sound errors_sound font are unfailed shows
+facts options left failed v v' out out' errors errors' result v_sound sound errors_sound (was_refused reason are unfailed untouched same tells) =
+    after_refusal options left failed v v' out out' errors errors' result v_sound sound errors_sound reason are unfailed untouched
+    same tells (kind_of (refusal_code_of reason))
+facts options left failed v v' out out' errors errors' result v_sound sound errors_sound (was_read_failed broken untouched same tells) =
+    after_failed_read options left failed v v' out out' errors errors' result v_sound sound errors_sound (inl broken)
+    (spared_whole options left failed v v' out out' errors errors' result v_sound sound errors_sound untouched) same tells
+facts options left failed v v' out out' errors errors' result v_sound sound errors_sound (was_no_memory unfailed untouched same tells) =
+    after_no_memory options left failed v v' out out' errors errors' result v_sound sound errors_sound unfailed (ap (λ (s : SourceState). s.failed) untouched)
+    (spared_whole options left failed v v' out out' errors errors' result v_sound sound errors_sound untouched) same tells
+
+grouped : (options : Options) (left : Option (List ℕ)) (failed : Bool) (v v' : SourceState) (out out' errors errors' : SinkState) (result : Status)
+    → Facts options left failed v v' out out' errors errors' result → Promises options left failed v v' out out' errors errors' result
+grouped options left failed v v' out out' errors errors' result f = record {
+  broken = f.broken;
+  decided = λ went. record { answer = f.answer went; nothing_waits = f.nothing_waits went };
+  reported = λ either. record { flushed = (f.flushed either).0; flushes = (f.flushed either).1 };
+  untouched = f.untouched;
+  failure = λ three. record {
+    read_failed = f.read_failed;
+    write_failed = f.write_failed;
+    no_memory = f.no_memory three;
+    unwritten = f.unwritten three;
+    unread = f.unread;
+    front = f.front;
+    unflushed = f.unflushed three;
+  };
+  spared = f.spared;
+}
+
+pub kept : RunsKeepPromises
+kept options left failed v v' out out' errors errors' result v_sound sound errors_sound ends =
+    grouped options left failed v v' out out' errors errors' result
+    (facts options left failed v v' out out' errors errors' result v_sound sound errors_sound ends)

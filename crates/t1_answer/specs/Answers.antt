@@ -1,0 +1,83 @@
+-- What the program answers: text on standard output, text on standard error, and a status.
+use Rattle.std.specs.Prelude.{◌≡◌, ℕ, List, [], ◌∷◌, take, drop, Option, None, Some, option_map, string_bytes, Result, Ok, Err, if◌then◌else◌}
+use Rattle.t1_font.specs.Fonts.{FontValue}
+use Rattle.t1_char.specs.declared.edition.Edition.{Edition}
+use Rattle.t1_report.specs.Checked.{checked}
+use Rattle.t1_report.specs.Faults.{FaultValue}
+use Rattle.t1_report.specs.Reports.{IsReport}
+use Rattle.t1_answer.specs.declared.asked.Options.{Options}
+use Rattle.t1_run.specs.declared.status.Status.{Status}
+use Rattle.t1_run.specs.declared.status.Status.TheVariants.{Clean, Failed, Faults, Refused}
+use Rattle.t1_lines.specs.declared.refusal.Reason.{Reason}
+use Rattle.t1_run.specs.FontFiles.{font_of}
+use Rattle.t1_answer.specs.Lines.{lines_of}
+use Rattle.t1_answer.specs.Told.{program, told_of, unread_status}
+use Rattle.t1_rules.specs.Components.{glyph_named}
+use Rattle.t1_answer.specs.Traces.{no_glyph_line, trace_of}
+use Rattle.t1_report.specs.Waivers.{Waiver}
+use Rattle.t1_answer.specs.Waived.{asks_waivers}
+use Rattle.t1_run.specs.WaiverFiles.{waivers_in}
+
+pub record Answer : Type 0 where
+  pub output : List ℕ
+  pub told : List ℕ
+  pub status : Status
+
+-- A refusal: one line on standard error.
+abbrev pub refused : List ℕ → Answer
+refused line = record { output = []; told = line; status = Refused }
+
+-- Of a report without so many faults at its front, at most so many.
+abbrev pub at_most : {A : Type 0} → Option ℕ → List A → List A
+at_most None faults = faults
+at_most (Some max) faults = take max faults
+
+-- What the options choose of a report.
+abbrev pub selection : {A : Type 0} → Options → List A → List A
+selection options faults = at_most options.max (drop options.after faults)
+
+-- Whether lines were written.
+abbrev pub status_of : {A : Type 0} → List A → Status
+status_of [] = Clean
+status_of (f ∷ fs) = Faults
+
+-- These faults of a font: their lines on standard output.
+abbrev pub reported : FontValue → List Waiver → List FaultValue → Answer
+reported font waivers faults =
+    record { output = lines_of font waivers faults; told = []; status = status_of faults }
+
+-- What the options choose of a font's report, given waivers; where these aren't read, the reason is told.
+abbrev pub IsReported : Options → FontValue → Result (List Waiver) Reason → Answer → Type 0
+IsReported options font (Ok waivers) answer =
+    (faults : List FaultValue)
+    × (IsReport (checked font options.edition) waivers faults × (answer ≡ reported font waivers (selection options faults)))
+IsReported options font (Err reason) answer = answer ≡ refused (told_of reason)
+
+-- The trace of a glyph, or that there is none of the name.
+abbrev pub traced_at : Edition → FontValue → List ℕ → Option ℕ → Answer
+traced_at edition font name None = record { output = []; told = no_glyph_line name; status = Failed }
+traced_at edition font name (Some glyph) = record { output = trace_of edition font glyph; told = []; status = Clean }
+
+abbrev pub traced : Edition → FontValue → List ℕ → Answer
+traced edition font name = traced_at edition font name (glyph_named font name)
+
+-- Without a name the report is answered, with one the trace of that glyph.
+abbrev pub IsShown : Options → FontValue → Result (List Waiver) Reason → Option (List ℕ) → Answer
+    → Type 0
+IsShown options font waived None answer = IsReported options font waived answer
+IsShown options font waived (Some name) answer = answer ≡ traced options.edition font name
+
+-- The answer of a font that was read is what the options ask for; else the reason is told.
+abbrev pub IsAnswerTo : Options → Result FontValue Reason → Result (List Waiver) Reason → Answer
+    → Type 0
+IsAnswerTo options (Ok font) waived answer =
+    IsShown options font waived (option_map string_bytes options.trace) answer
+IsAnswerTo options (Err reason) waived answer = answer ≡ refused (told_of reason)
+
+-- The waivers of a text, where the options ask for them; else there are none.
+abbrev pub waived_by : Options → List ℕ → Result (List Waiver) Reason
+waived_by options text = if asks_waivers options then waivers_in text else Ok []
+
+-- The program's answer to its options and the bytes of a font's file and of a file of waivers.
+abbrev pub IsAnswer : Options → List ℕ → List ℕ → Answer → Type 0
+IsAnswer options input text answer = IsAnswerTo options (font_of input) (waived_by options text) answer

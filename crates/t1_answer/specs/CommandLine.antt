@@ -1,0 +1,71 @@
+-- The command line: its arguments as clap sees them, and the options that words give by clap's rules.
+use Rattle.std.specs.Prelude.{◌≡◌, ◌<◌, ℕ, length, List, [], ◌∷◌, Option, None, Some, IfSome, IsSome, option_map, codes, string_bytes}
+use Rattle.std.specs.Str.Parse.{IsNumeral, without_leading_plus, digits_value}
+use Rattle.clap.specs.Words.{App, Rule, Text, fault_of, first_of, matches_of, new_app, new_rule, with_rule}
+use Rattle.clap.specs.declared.builder.value_parser.ValueParser.TheVariants as parser
+use Rattle.clap.specs.declared.error.kind.ErrorKind.TheVariants.{DisplayHelp}
+use Rattle.t1_char.specs.declared.edition.Edition.{Edition}
+use Rattle.t1_char.specs.declared.edition.Edition.TheVariants.{One, Two}
+use Rattle.t1_answer.specs.declared.asked.Options.{Options}
+use Rattle.t1_run.specs.declared.usage.UsageError.{UsageError}
+use Rattle.t1_run.specs.declared.usage.UsageError.TheVariants.{Help, Usage, Memory}
+use Rattle.t1_run.specs.Words.{AreNumber, IsEditionOrFirst, IsNumber}
+
+-- --after K, K a number of 64 bits
+abbrev pub after_rule : Rule
+after_rule = record (new_rule (codes "after")) {
+  long = Some (codes "after");
+  value_names = 1;
+  parser = Some (parser.Unsigned 0 18446744073709551615);
+}
+
+-- --max M, M a number of 64 bits
+abbrev pub max_rule : Rule
+max_rule = record (new_rule (codes "max")) {
+  long = Some (codes "max");
+  value_names = 1;
+  parser = Some (parser.Unsigned 0 18446744073709551615);
+}
+
+-- --trace NAME
+abbrev pub trace_rule : Rule
+trace_rule = record (new_rule (codes "trace")) { long = Some (codes "trace"); value_names = 1 }
+
+-- --edition N, N 1 or 2
+abbrev pub edition_rule : Rule
+edition_rule = record (new_rule (codes "edition")) {
+  long = Some (codes "edition");
+  value_names = 1;
+  parser = Some (parser.Unsigned 1 2);
+}
+
+-- --waive FILE
+abbrev pub waive_rule : Rule
+waive_rule = record (new_rule (codes "waive")) { long = Some (codes "waive"); value_names = 1 }
+
+-- FILE
+abbrev pub file_rule : Rule
+file_rule = record (new_rule (codes "file")) { value_names = 1 }
+
+unfoldable pub t1check : App
+t1check =
+    with_rule
+    (with_rule
+    (with_rule
+    (with_rule (with_rule (with_rule (new_app (codes "t1check")) after_rule) max_rule) trace_rule) edition_rule)
+    waive_rule)
+    file_rule
+
+-- A missing number is 0.
+abbrev pub IsNumberOrZero : Option Text → ℕ → Type 0
+IsNumberOrZero None n = n ≡ 0
+IsNumberOrZero (Some text) n = IsNumber text n
+
+-- The options are those that the words give.
+pub record AreGiven (words : List Text) (options : Options) : Type 0 where
+  pub after : IsNumberOrZero (first_of (codes "after") (matches_of t1check words)) options.after
+  pub max : AreNumber (first_of (codes "max") (matches_of t1check words)) options.max
+  pub trace : option_map string_bytes options.trace ≡ first_of (codes "trace") (matches_of t1check words)
+  pub edition : IsEditionOrFirst (first_of (codes "edition") (matches_of t1check words)) options.edition
+  pub waive : option_map string_bytes options.waive ≡ first_of (codes "waive") (matches_of t1check words)
+  pub file : option_map string_bytes options.file ≡ first_of (codes "file") (matches_of t1check words)

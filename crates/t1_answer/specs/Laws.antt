@@ -1,0 +1,3 @@
+-- The statements of laws.
+pub mod Answers
+pub mod Runs

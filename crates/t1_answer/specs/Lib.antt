@@ -1,0 +1,10 @@
+pub mod Answers
+pub mod CommandLine
+pub mod Ends
+pub mod Laws
+pub mod Lines
+pub mod Private
+pub mod Told
+pub mod Traces
+pub mod Waived
+pub mod Words

@@ -1,0 +1,12 @@
+-- Whether the options ask for waivers.
+use Rattle.std.specs.Prelude.{Bool, true, false, Option, None, Some}
+use Rattle.t1_answer.specs.declared.asked.Options.{Options}
+
+-- Waivers are asked for where their file is named and no trace is.
+abbrev pub is_asked : {A B : Type 0} → Option A → Option B → Bool
+is_asked (Some trace) waive = false
+is_asked None None = false
+is_asked None (Some waive) = true
+
+abbrev pub asks_waivers : Options → Bool
+asks_waivers options = is_asked options.trace options.waive

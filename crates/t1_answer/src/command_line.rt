@@ -1,0 +1,101 @@
+//! The command line, by clap.
+
+ghost use Rattle.std.specs.Prelude.{◌≡◌, map, IfOk, IfErr};
+ghost use Rattle.clap.specs.Words.{app_of};
+ghost use Rattle.t1_answer.specs.CommandLine.{t1check};
+ghost use Rattle.t1_answer.specs.Words.{AreTaken};
+ghost use Rattle.t1_run.specs.Words.{AreRefused};
+ghost use Rattle.t1_answer.specs.Answers.{refused};
+
+use crate::asked::Options;
+use clap::{Arg, Command, value_parser};
+use std::alloc::{AllocError, Global};
+use std::convert::AsStr;
+use t1_run::{UsageError, edition, number, owned, parse};
+
+const ABOUT: &str = "\
+Lists every rule of the book that an Adobe Type 1 font (PFA or PFB) breaks. The book
+has 70 rules: on the file, on the font's dictionaries, on charstrings, of which the first
+100,000 steps are checked, in edition 2 the first 1,000,000, and on waivers.";
+
+const AFTER_HELP: &str = "\
+A line of the report:
+  NUMBER: font KEY INDEX RULE text          as in 1: font BlueValues 6 Z04 zone numbers fall
+  NUMBER: glyph NAME PATH STEP RULE text    as in 2: glyph A 5>6 8 P01 drawing without a move
+  NUMBER: waiver NAME RULE U01 text         as in 3: waiver A P01 U01 waiver not used
+  docs/RULES.md explains each RULE and each refusal (Enn), with an example and the cure, and waivers
+
+Exit status:
+  0  no line of a report was written, or a trace was
+  1  at least one line of a report was written
+  2  the font or the waivers were refused; standard error says why, with a number
+  3  usage error, no glyph NAME, a file or device failed, or memory ran out
+
+Examples:
+  t1check font.pfb                        writes the whole report
+  t1check --after 20 --max 10 font.pfb    writes its lines 21 to 30
+  t1check --trace A font.pfb              writes the steps of glyph A
+  t1check --waive font.waivers font.pfb   leaves out what is meant";
+
+/// Reads the words of the command line, the program's name first.
+pub fn options<S: AsStr>(alloc: Global, words: &[S]) -> Result<Options, UsageError>
+    ensures taken { IfOk result (AreTaken (map S.text words.now)) }
+    ensures refused { IfErr result (AreRefused t1check (map S.text words.now)) }
+{
+    let matches = parse(alloc, command(alloc)?, words)?;
+    let after = number(matches.get_str("after")).unwrap_or(0);
+    let max = number(matches.get_str("max"));
+    let trace = owned(alloc, matches.get_str("trace"))?;
+    let edition = edition(matches.get_str("edition"));
+    let waive = owned(alloc, matches.get_str("waive"))?;
+    let file = owned(alloc, matches.get_str("file"))?;
+    Ok(Options {
+        after,
+        max,
+        trace,
+        edition,
+        waive,
+        file,
+    })
+}
+
+/// The command, argument by argument.
+fn command<'a>(alloc: Global) -> Result<Command<'a>, AllocError>
+    ensures { IfOk result (λ c. app_of c ≡ t1check) }
+{
+    let after = Arg::new(alloc, "after")
+        .long("after")
+        .value_name("K")
+        .help("Leaves the first K lines of the report out [default: 0]")
+        .value_parser(value_parser!(u64));
+    let max = Arg::new(alloc, "max")
+        .long("max")
+        .value_name("M")
+        .help("Writes at most M of the other lines")
+        .value_parser(value_parser!(u64));
+    let trace = Arg::new(alloc, "trace")
+        .long("trace")
+        .value_name("NAME")
+        .help("Writes the steps of the glyph NAME in place of the report, STEP PATH TOKEN a line");
+    let edition = Arg::new(alloc, "edition")
+        .long("edition")
+        .value_name("N")
+        .help("Checks by edition 1 or 2 of the rule book [default: 1]")
+        .value_parser(value_parser!(u64).range(1..3));
+    let waive = Arg::new(alloc, "waive")
+        .long("waive")
+        .value_name("FILE")
+        .help("Leaves the faults out that FILE waives by its lines, NAME RULE each");
+    let file = Arg::new(alloc, "file").value_name("FILE").help(
+        "The font's file, one a run; without it standard input is read",
+    );
+    Command::new(alloc, "t1check")
+        .about(ABOUT)
+        .after_help(AFTER_HELP)
+        .arg(after)?
+        .arg(max)?
+        .arg(trace)?
+        .arg(edition)?
+        .arg(waive)?
+        .arg(file)
+}

@@ -1,0 +1,32 @@
+//! Tests of what t1check answers, by public items of t1_answer and t1_run alone.
+//!
+//! What stands here is what proofs don't show: that calls succeed, that the definitions say what the specification of the
+//! program means, and what texts say. Expected values are worked out by hand.
+//!
+//! They stand above the library since a crate with tests is proved twice, with them and without.
+#![tactic(auto)]
+
+#[cfg(test)]
+mod command_line;
+#[cfg(test)]
+mod cut_files;
+#[cfg(test)]
+mod devices;
+#[cfg(test)]
+mod explaining;
+#[cfg(test)]
+mod fonts;
+#[cfg(test)]
+mod passing_failures;
+#[cfg(test)]
+mod refusals;
+#[cfg(test)]
+mod runs;
+#[cfg(test)]
+mod scale;
+#[cfg(test)]
+mod segments;
+#[cfg(test)]
+mod shared;
+#[cfg(test)]
+mod waivers;

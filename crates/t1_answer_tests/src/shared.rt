@@ -1,0 +1,116 @@
+//! What the tests share: files, runs over devices in memory, and their answers.
+
+ghost use Rattle.std.specs.Prelude.{◌≡◌, false};
+
+use std::alloc::{AllocError, Global};
+use std::io;
+use std::process::Abort;
+use t1_answer::{Options, run};
+use t1_char::Edition;
+use t1_io::{In, Out, Sink, Source};
+use t1_run::Status;
+use t1_samples::{Charstrings, FontFile, Sample, TRAILER};
+
+/// What the program answers.
+#[derive(Drop)]
+pub(crate) struct Answer {
+    pub(crate) status: Status,
+    pub(crate) output: Vec<u8>,
+    pub(crate) told: Vec<u8>,
+}
+
+impl Answer {
+    /// Whether this is the answer: the status, and all that was written and told.
+    pub(crate) fn is(&self, status: Status, output: &[u8], told: &[u8]) -> bool {
+        self.status == status && self.output.as_slice() == output && self.told.as_slice() == told
+    }
+}
+
+/// The report of a PFB file without an end segment.
+pub(crate) const NO_END_REPORT: &str = "1: font file 0 F01 no end segment\n";
+
+/// The whole report, of standard input.
+pub(crate) const ALL: Options = Options {
+    after: 0,
+    max: None,
+    trace: None,
+    waive: None,
+    edition: Edition::One,
+    file: None,
+};
+
+/// A sound PFB file but for its end, with encrypted charstrings and the zeros behind its section.
+pub(crate) fn ended_by(alloc: Global, end: &[u8]) -> Result<Vec<u8>, AllocError> {
+    let sample = Sample::with_charstrings(alloc, Charstrings::Encrypted(4))?;
+    let clear = sample.clear()?;
+    let private = sample.private()?;
+    FontFile {
+        trailer: TRAILER,
+        end,
+        ..FontFile::of(clear.as_slice(), private.as_slice())
+    }
+    .pfb(alloc)
+}
+
+/// Runs the program on a font and on waivers, over a standard error that doesn't fail, and gives the status and what
+/// was told.
+pub(crate) fn run_over<R: Source, V: Source, W: Sink>(
+    alloc: Global,
+    font: &mut R,
+    waivers: &mut V,
+    options: &Options,
+    output: &mut W,
+) -> (Status, Vec<u8>)
+    requires { (R.state font.old).failed ≡ false }
+{
+    let mut told = Vec::new(alloc);
+    let status = run(
+        alloc,
+        font,
+        waivers,
+        options,
+        output,
+        &mut Out::new(&mut told),
+    );
+    (status, told)
+}
+
+/// The same, and what was written on an output that doesn't fail.
+pub(crate) fn answer_over<R: Source, V: Source>(
+    alloc: Global,
+    font: &mut R,
+    waivers: &mut V,
+    options: &Options,
+) -> Answer
+    requires { (R.state font.old).failed ≡ false }
+{
+    let mut output = Vec::new(alloc);
+    let (status, told) = run_over(alloc, font, waivers, options, &mut Out::new(&mut output));
+    Answer {
+        status,
+        output,
+        told,
+    }
+}
+
+/// Runs the program on bytes, over devices that don't fail, for the whole report.
+pub(crate) fn answer_to(alloc: Global, bytes: &[u8]) -> Answer {
+    answer_over(alloc, &mut In::new(bytes), &mut In::new(io::empty()), &ALL)
+}
+
+/// Whether the program finds nothing to tell of a file.
+pub(crate) fn is_clean(alloc: Global, file: &[u8]) -> bool {
+    answer_to(alloc, file).is(Status::Clean, b"", b"")
+}
+
+/// Whether the program refuses a file with this line alone.
+pub(crate) fn is_refused(alloc: Global, file: &[u8], line: &str) -> bool {
+    answer_to(alloc, file).is(Status::Refused, b"", line.as_bytes())
+}
+
+/// The program refuses each file with the line beside it alone.
+pub(crate) fn assert_refusals(rt: &impl Abort, alloc: Global, cases: &[(&[u8], &str)]) {
+    for (file, line) in cases {
+        assert!(rt; is_refused(alloc, file, line), "{line} of {file:?}");
+    }
+}

@@ -1,0 +1,15 @@
+use Rattle.std.proofs.Common.{◌≡◌, ◌+◌, ◌≤◌, false, vec_len}
+use Rattle.std.specs.Io.KnownBytes.{Consumes}
+use Rattle.t1_run.proofs.files.read_all.Given as goal
+
+abbrev pub invariant-loop-turn : goal.invariant-loop-turn
+invariant-loop-turn g l = record {
+  consumed : Consumes (g.R.Source.state l.fn.source).left (g.R.Source.state l.source).left l.bytes.items;
+  counted : (g.R.Source.state l.source).takes ≤ (g.R.Source.state l.fn.source).takes + l._turn;
+  kept : (g.R.Source.state l.source).failed ≡ (g.R.Source.state l.fn.source).failed;
+  stops :
+      (g.R.Source.state l.fn.source).failed ≡ false
+      → (g.R.Source.state l.source).late_takes ≡ (g.R.Source.state l.fn.source).late_takes;
+  long : l._turn ≤ vec_len l.bytes;
+  short : vec_len l.bytes ≤ l.most;
+}

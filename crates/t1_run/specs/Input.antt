@@ -1,0 +1,40 @@
+-- What reading a source to its end gives, and where it stops.
+use Rattle.std.specs.Prelude.{◌≡◌, true, ℕ, ◌<◌, ◌≤◌, ◌+◌, List, length, Option, false}
+use Rattle.std.specs.Io.KnownBytes.{Consumes, IsAtEnd}
+use Rattle.t1_io.specs.Devices.{SourceState}
+use Rattle.t1_lines.specs.declared.refusal.Reason.{Reason}
+use Rattle.t1_run.specs.Failures.{failure_of}
+use Rattle.t1_run.specs.declared.failure.Failure.{Failure}
+use Rattle.t1_run.specs.declared.failure.Failure.TheVariants.{Broken, Memory}
+
+-- Known bytes lose at most n at their front.
+abbrev pub TakesAtMost : ℕ → Option (List ℕ) → Option (List ℕ) → Type 0
+TakesAtMost n old new = (bytes : List ℕ) × Consumes old new bytes × (length bytes ≤ n)
+
+-- At most so many reads were made and as many bytes taken, and no read behind one that failed.
+pub record ReadsAtMost (most : ℕ) (old new : SourceState) : Type 0 where
+  pub reads : new.takes ≤ old.takes + most
+  pub taken : TakesAtMost most old.left new.left
+  pub stops : old.failed ≡ false → new.late_takes ≡ old.late_takes
+
+-- Where reading a source stops: at its end, past so many bytes, at a failed read, or where memory ran out, of which this is said.
+pub data StopsAt (most : ℕ) (old new : SourceState) (NoMemory : Type 0) : Type 0 where
+  the_end : IsAtEnd new.left → StopsAt most old new NoMemory
+  past_limit : (bytes : List ℕ) → Consumes old.left new.left bytes → most < length bytes → StopsAt most old new NoMemory
+  failure : new.failed ≡ true → StopsAt most old new NoMemory
+  no_memory : NoMemory → StopsAt most old new NoMemory
+
+-- All the bytes were read, and they are few enough.
+pub record AreAll (most : ℕ) (old new : SourceState) (bytes : List ℕ) : Type 0 where
+  pub consumed : Consumes old.left new.left bytes
+  pub end : IsAtEnd new.left
+  pub few : length bytes ≤ most
+  pub kept : new.failed ≡ old.failed
+
+-- Why they weren't: there are too many, which is this reason, a read failed, or memory ran out.
+pub data AreUnread (most : ℕ) (past : Reason) (old new : SourceState) (failure : Failure) : Type 0 where
+  too_large :
+      (bytes : List ℕ) → Consumes old.left new.left bytes → most < length bytes → new.failed ≡ old.failed
+      → failure ≡ failure_of past → AreUnread most past old new failure
+  read_failed : new.failed ≡ true → failure ≡ Broken → AreUnread most past old new failure
+  no_memory : new.failed ≡ old.failed → failure ≡ Memory → AreUnread most past old new failure

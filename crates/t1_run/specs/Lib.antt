@@ -1,0 +1,10 @@
+pub mod Answering
+pub mod Failures
+pub mod FontFiles
+pub mod Input
+pub mod Laws
+pub mod Opening
+pub mod Statuses
+pub mod Telling
+pub mod WaiverFiles
+pub mod Words

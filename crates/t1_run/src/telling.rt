@@ -1,0 +1,75 @@
+//! What a program says: on standard error under its own name, and on the output.
+
+ghost use Rattle.std.specs.Prelude.{[], ◌∷◌};
+ghost use Rattle.std.specs.List.{concat};
+ghost use Rattle.t1_io.specs.Devices.{whole_of};
+ghost use Rattle.t1_run.specs.Failures.{failure_line, failure_status, write_failed_line};
+ghost use Rattle.t1_run.specs.Telling.{Gives, Tells};
+
+use crate::failure::Failure;
+use crate::status::Status;
+use t1_io::{Sink, deliver, put_all, put_parts};
+use t1_lines::refusal_text;
+
+/// Tells one text on standard error and answers the status, or `Failed` where that can't be told.
+pub fn tell<E: Sink>(errors: &mut E, text: &str, status: Status) -> Status
+    ensures { Tells text.now status (E.state errors.old) (E.state errors.new) result }
+{
+    match put_all(errors, text.as_bytes()) {
+        Ok(()) => status,
+        Err(_) => Status::Failed,
+    }
+}
+
+/// Tells the parts of a text one after another, as [`tell`] tells one.
+pub fn tell_parts<E: Sink>(errors: &mut E, parts: &[&[u8]], status: Status) -> Status
+    ensures { Tells (whole_of parts.now) status (E.state errors.old) (E.state errors.new) result }
+{
+    match put_parts(errors, parts) {
+        Ok(()) => status,
+        Err(_) => Status::Failed,
+    }
+}
+
+/// Tells why the program of this name has nothing to give: a refusal by its number and text, all else behind the name.
+pub fn tell_failure<E: Sink>(program: &str, failure: Failure, errors: &mut E) -> Status
+    ensures { Tells (failure_line program.now failure) (failure_status failure) (E.state errors.old) (E.state errors.new) result }
+{
+    match failure {
+        Failure::Refused(code) => {
+            let parts = [
+                b"refused: ".as_slice(),
+                refusal_text(code).as_bytes(),
+                b"\n",
+            ];
+            tell_parts(errors, &parts, Status::Refused)
+        }
+        Failure::Broken => tell_of(program, b": read failed\n", errors),
+        Failure::Memory => tell_of(program, b": out of memory\n", errors),
+    }
+}
+
+/// Tells that a write or a flush of the program's output failed.
+pub fn tell_write_failed<E: Sink>(program: &str, errors: &mut E) -> Status
+    ensures { Tells (write_failed_line program.now) Status.Failed (E.state errors.old) (E.state errors.new) result }
+{
+    tell_of(program, b": write failed\n", errors)
+}
+
+/// Tells what has failed, behind the program's name.
+fn tell_of<E: Sink>(program: &str, what: &[u8], errors: &mut E) -> Status
+    ensures { Tells (concat (program.now ∷ what.now ∷ [])) Status.Failed (E.state errors.old) (E.state errors.new) result }
+{
+    tell_parts(errors, &[program.as_bytes(), what], Status::Failed)
+}
+
+/// Gives a text on the output, and flushes it; where that fails it is told.
+pub fn give<W: Sink, E: Sink>(program: &str, text: &[u8], out: &mut W, errors: &mut E) -> Status
+    ensures { Gives program.now text.now Status.Clean (W.state out.old) (W.state out.new) (E.state errors.old)
+        (E.state errors.new) result }
+{
+    match deliver(out, text) {
+        Ok(()) => Status::Clean,
+        Err(_) => tell_write_failed(program, errors),
+    }
+}

@@ -1,0 +1,52 @@
+//! Why the words of a command line give no options, and what is answered to them.
+
+ghost use Rattle.std.specs.Prelude.{◌≡◌};
+ghost use Rattle.t1_run.specs.Telling.{Explains};
+ghost use Rattle.t1_run.specs.declared.usage.UsageError.TheVariants.{Memory};
+
+use crate::failure::Failure;
+use crate::status::Status;
+use crate::telling::{give, tell, tell_failure};
+use std::alloc::AllocError;
+use t1_io::Sink;
+use thiserror::Error;
+
+/// Why the words of a command line give no options.
+#[derive(Debug, Drop, Error)]
+pub enum UsageError {
+    /// Help was asked for; this is its text.
+    #[error("{0}")]
+    Help(String),
+    /// The words aren't taken, as in `--edition x`; this is what is told.
+    #[error("{0}")]
+    Usage(String),
+    /// An allocation was refused.
+    #[error("out of memory")]
+    Memory,
+}
+
+impl From<AllocError> for UsageError {
+    ghost from_gives = { λ _ e. e ≡ Memory };
+
+    fn from(_error: AllocError) -> UsageError {
+        UsageError::Memory
+    }
+}
+
+/// Answers words that gave the program of this name no options: the text of help on the output, which is flushed, and everything
+/// else on standard error.
+pub fn explain<W: Sink, E: Sink>(
+    program: &str,
+    error: &UsageError,
+    out: &mut W,
+    errors: &mut E,
+) -> Status
+    ensures { Explains program.now error.now (W.state out.old) (W.state out.new) (E.state errors.old)
+        (E.state errors.new) result }
+{
+    match error {
+        UsageError::Help(text) => give(program, text.as_bytes(), out, errors),
+        UsageError::Usage(text) => tell(errors, text.as_str(), Status::Failed),
+        UsageError::Memory => tell_failure(program, Failure::Memory, errors),
+    }
+}

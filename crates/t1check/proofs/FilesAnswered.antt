@@ -1,0 +1,73 @@
+-- From words and files to the answer.
+use Rattle.std.proofs.Common.{◌≡◌, ◌≢◌, false, ℕ, List, Option, None, Some, option_map, string_bytes, codes, refl, sym, subst, ◌∙◌}
+use Rattle.clap.specs.Words.{Text}
+use Rattle.t1_answer.specs.CommandLine.{t1check}
+use Rattle.t1_answer.specs.Ends.{Ends}
+use Rattle.t1_answer.specs.Laws.Runs.{Answered, IfKnown, RunsKeepPromises}
+use Rattle.t1_answer.specs.Told.{program}
+use Rattle.t1_answer.specs.Words.{AreTaken, checking, waivers_named}
+use Rattle.t1_answer.specs.declared.asked.Options.{Options}
+use Rattle.t1_io.specs.Devices.{SinkState, SourceState}
+use Rattle.t1_run.specs.Answering.{Answers, IsOpened, RunsOn}
+use Rattle.t1_run.specs.Answering.Answers.{explained, not_opened, read_file, read_input}
+use Rattle.t1_run.specs.Answering.IsOpened.{none_named, opened}
+use Rattle.t1_run.specs.Answering.RunsOn.{no_waivers, ran}
+use Rattle.t1_run.specs.Opening.{Files, Opening, Sinks}
+use Rattle.t1_run.specs.Telling.{Explains, Tells}
+use Rattle.t1_run.specs.Telling.Gives.{given, ungiven}
+use Rattle.t1_run.specs.Telling.Tells.{told, untold}
+use Rattle.t1_run.specs.Words.{AreRefused}
+use Rattle.t1_run.specs.declared.status.Status.{Status}
+use Rattle.t1_run.specs.declared.status.Status.TheVariants.{Failed}
+use Rattle.t1_run.specs.declared.usage.UsageError.{UsageError}
+use Rattle.t1_run.specs.declared.usage.UsageError.TheVariants.{Help, Usage, Memory}
+use Rattle.t1check.specs.Laws.{AreWaiversOf, IsAnswered, IsFontOf, WordsAndFilesAreAnswered}
+use Rattle.t1check.specs.Laws.IsAnswered.{answered, helped}
+
+-- What is told of a failure ends with 3.
+three : (text : List ℕ) (errors errors' : SinkState) (result : Status) → Tells text Failed errors errors' result → result ≡ Failed
+three text errors errors' result (told wrote is) = is
+three text errors errors' result (untold broke is) = is
+
+module _ (words : List Text) (fonts waivers : Opening) (input : SourceState) (sinks sinks' : Sinks) (result : Status) (went : result ≢ Failed) where
+  by_explaining : (error : UsageError) → AreRefused t1check words error
+      → Explains program error sinks.out sinks'.out sinks.errors sinks'.errors result → IsAnswered words fonts waivers input sinks sinks' result
+  by_explaining (Help text) refused (given delivered same is) = helped text refused delivered
+  by_explaining (Help text) refused (ungiven broke tells) = absurd (went (three _ _ _ _ tells))
+  by_explaining (Usage text) refused (same, tells) = absurd (went (three _ _ _ _ tells))
+  by_explaining Memory refused (same, tells) = absurd (went (three _ _ _ _ tells))
+
+  -- the source of the waivers, and that no read of it had failed
+  of_waivers : (named : Option Text) (v v' : SourceState) (file : Option SourceState) → IsOpened waivers named v v' file → AreWaiversOf waivers named v
+  of_waivers named v v' file (opened name is opens sound at) = subst (λ (n : Option Text). AreWaiversOf waivers n v) (sym is) opens
+  of_waivers named v v' file (none_named is sound at) = subst (λ (n : Option Text). AreWaiversOf waivers n v) (sym is) tt
+
+  sound_waivers : (named : Option Text) (v v' : SourceState) (file : Option SourceState) → IsOpened waivers named v v' file → v.failed ≡ false
+  sound_waivers named v v' file (opened name is opens sound at) = sound
+  sound_waivers named v v' file (none_named is sound at) = sound
+
+  by_running : RunsKeepPromises → sinks.out.failed ≡ false → sinks.errors.failed ≡ false
+      → (options : Options) → AreTaken words options → (source source' : SourceState) → IsFontOf fonts input (option_map string_bytes options.file) source
+      → (file : Option SourceState) → RunsOn (checking words) options waivers source source' file sinks sinks' result
+      → IsAnswered words fonts waivers input sinks sinks' result
+  by_running keep out_sound errors_sound options taken source source' of file (ran v v' opening ends) =
+      answered options taken source of v (of_waivers _ v v' file opening)
+      ((keep options source.left source'.failed v v' sinks.out sinks'.out sinks.errors sinks'.errors result
+      (sound_waivers _ v v' file opening) out_sound errors_sound ends).decided went).answer
+  by_running keep out_sound errors_sound options taken source source' of file (no_waivers name named cannot same none kept tells) =
+      absurd (went (three _ _ _ _ tells))
+
+pub all_answered : RunsKeepPromises → WordsAndFilesAreAnswered
+all_answered keep words fonts waivers input input' files sinks sinks' result input_sound out_sound errors_sound
+    (explained none same (error, (refused, explains))) went =
+    by_explaining words fonts waivers input sinks sinks' result went error refused explains
+all_answered keep words fonts waivers input input' files sinks sinks' result input_sound out_sound errors_sound
+    (read_input options taken unnamed none runs) went =
+    by_running words fonts waivers input sinks sinks' result went keep out_sound errors_sound options taken input input'
+    (subst (λ (n : Option Text). IsFontOf fonts input n input) (sym unnamed) refl) _ runs
+all_answered keep words fonts waivers input input' files sinks sinks' result input_sound out_sound errors_sound
+    (read_file options name taken named same source source' sound opens at runs) went =
+    by_running words fonts waivers input sinks sinks' result went keep out_sound errors_sound options taken source source'
+    (subst (λ (n : Option Text). IsFontOf fonts input n source) (sym named) opens) _ runs
+all_answered keep words fonts waivers input input' files sinks sinks' result input_sound out_sound errors_sound
+    (not_opened options name taken named none same cannot kept tells) went = absurd (went (three _ _ _ _ tells))

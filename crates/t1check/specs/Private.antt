@@ -1,5 +1,0 @@
--- Words that private contracts alone cite: no clause of a public function rests on them.
-pub mod Numbers
-pub mod Reading
-pub mod Running
-pub mod WaiverTexts
