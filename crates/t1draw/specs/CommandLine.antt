@@ -1,16 +1,13 @@
 -- The command line: its arguments as clap sees them, and the options that words give by clap's rules.
-use Rattle.std.specs.Prelude.{◌≡◌, ◌<◌, ℕ, length, List, [], ◌∷◌, ◌++◌, Option, None, Some, IfSome, IsSome, option_and_then, option_map, codes, string_bytes, true}
-use Rattle.std.specs.Str.Parse.{IsNumeral, without_leading_plus, digits_value}
+use Rattle.std.specs.Prelude.{◌≡◌, ℕ, List, [], Option, None, Some, option_and_then, option_map, codes, string_bytes, true}
 use Rattle.clap.specs.Words.{App, Rule, Text, fault_of, first_of, matches_of, new_app, new_rule, with_rule}
 use Rattle.clap.specs.declared.builder.action.ArgAction.TheVariants.{Set}
 use Rattle.clap.specs.declared.builder.value_parser.ValueParser.TheVariants as parser
-use Rattle.clap.specs.declared.error.kind.ErrorKind.TheVariants.{DisplayHelp}
-use Rattle.t1_char.specs.declared.edition.Edition.{Edition}
-use Rattle.t1_char.specs.declared.edition.Edition.TheVariants.{One, Two}
+use Rattle.t1_run.specs.Words.{AreNumber, AreRefused, IsEditionOrFirst}
 use Rattle.t1draw.specs.GlyphWords.{name_of_word}
+use Rattle.t1draw.specs.declared.command_line.NoOptions.{NoOptions}
+use Rattle.t1draw.specs.declared.command_line.NoOptions.TheVariants.{Usage, BadName}
 use Rattle.t1draw.specs.declared.command_line.Options.{Options}
-use Rattle.t1draw.specs.declared.usage.UsageError.{UsageError}
-use Rattle.t1draw.specs.declared.usage.UsageError.TheVariants.{Help, Usage, BadName, Memory}
 
 -- --edition N, N 1 or 2
 abbrev pub edition_rule : Rule
@@ -48,24 +45,6 @@ t1draw =
     glyph_rule)
     font_rule
 
--- A number as clap reads it: digits, with a plus before them or without.
-abbrev pub IsNumber : Text → ℕ → Type 0
-IsNumber text n = IsNumeral 10 (without_leading_plus text) × (n ≡ digits_value 10 (without_leading_plus text))
-
--- What was given is a number, or there is none.
-abbrev pub AreNumber : Option Text → Option ℕ → Type 0
-AreNumber None number = number ≡ None
-AreNumber (Some text) number = IfSome number (IsNumber text) × IsSome number
-
--- A missing edition is the first.
-abbrev pub number_of_edition : Edition → ℕ
-number_of_edition One = 1
-number_of_edition Two = 2
-
-abbrev pub IsEditionOrFirst : Option Text → Edition → Type 0
-IsEditionOrFirst None edition = edition ≡ One
-IsEditionOrFirst (Some text) edition = IsNumber text (number_of_edition edition)
-
 -- The word that is given for GLYPH.
 abbrev pub glyph_word : List Text → Option Text
 glyph_word words = first_of (codes "glyph") (matches_of t1draw words)
@@ -78,9 +57,10 @@ pub record AreGiven (words : List Text) (options : Options) : Type 0 where
   pub glyph : option_and_then name_of_word (glyph_word words) ≡ Some options.glyph.items
   pub font : option_map string_bytes options.font ≡ first_of (codes "font") (matches_of t1draw words)
 
--- The first fault that clap finds in the words is the request for help.
-abbrev pub AsksHelp : List Text → Type 0
-AsksHelp words = fault_of t1draw words ≡ DisplayHelp ∷ []
+-- They are, and clap's rules find no fault in the words.
+pub record AreTaken (words : List Text) (options : Options) : Type 0 where
+  pub given : AreGiven words options
+  pub sound : fault_of t1draw words ≡ []
 
 -- Clap finds no fault in the words, and the word GLYPH is no name.
 pub record NamesNothing (words : List Text) : Type 0 where
@@ -89,39 +69,7 @@ pub record NamesNothing (words : List Text) : Type 0 where
   pub given : glyph_word words ≡ Some word
   pub no_name : name_of_word word ≡ None
 
-abbrev pub IsHelp : UsageError → Type 0
-IsHelp (Help text) = Unit {0}
-IsHelp (Usage text) = ⊥
-IsHelp (BadName text) = ⊥
-IsHelp Memory = ⊥
-
-abbrev pub IsHelpOrMemory : UsageError → Type 0
-IsHelpOrMemory (Help text) = Unit {0}
-IsHelpOrMemory (Usage text) = ⊥
-IsHelpOrMemory (BadName text) = ⊥
-IsHelpOrMemory Memory = Unit {0}
-
-abbrev pub IsBadName : UsageError → Type 0
-IsBadName (Help text) = ⊥
-IsBadName (Usage text) = ⊥
-IsBadName (BadName text) = Unit {0}
-IsBadName Memory = ⊥
-
-abbrev pub IsBadNameOrMemory : UsageError → Type 0
-IsBadNameOrMemory (Help text) = ⊥
-IsBadNameOrMemory (Usage text) = ⊥
-IsBadNameOrMemory (BadName text) = Unit {0}
-IsBadNameOrMemory Memory = Unit {0}
-
--- What is told of a GLYPH that is no name.
-abbrev pub bad_name : List ℕ
-bad_name =
-    codes "error: in GLYPH a backslash stands in front of another one, or of x and two hexadecimal digits\n"
-    ++ codes "\nFor more information, try '--help'.\n"
-
--- What is told says something: help and usage are never empty, and of a bad name it is one text.
-abbrev pub HasText : UsageError → Type 0
-HasText (Help text) = 0 < length (string_bytes text)
-HasText (Usage text) = 0 < length (string_bytes text)
-HasText (BadName text) = string_bytes text ≡ bad_name
-HasText Memory = Unit {0}
+-- The words give no options: clap's rules refuse them, help was asked for, or memory ran out; or GLYPH is no name.
+abbrev pub AreUntaken : List Text → NoOptions → Type 0
+AreUntaken words (Usage error) = AreRefused t1draw words error
+AreUntaken words BadName = NamesNothing words

@@ -1,60 +1,48 @@
 -- How a run ends, as its devices show it.
-use Rattle.std.specs.Prelude.{◌≡◌, ℕ, List, [], ◌∷◌, Option, None, Some, IfSome, codes}
+use Rattle.std.specs.Prelude.{◌≡◌, ℕ, Bool, true, false, List, [], ◌∷◌, ◌++◌, Option, None, Some, Ok, Err, codes}
 use Rattle.std.specs.List.{concat}
+use Rattle.std.specs.Option.{is_some}
 use Rattle.t1_font.specs.Fonts.{FontValue}
 use Rattle.t1_forms.specs.Shown.{shown}
-use Rattle.t1_io.specs.Devices.{Delivered, DeliveryFailed, PutFailed, SinkState, Wrote}
-use Rattle.t1_lines.specs.RefusalTexts.{refusal_text_of}
-use Rattle.t1_lines.specs.declared.refusal.RefusalCode.{RefusalCode}
+use Rattle.t1_io.specs.Devices.{SinkState, SourceState}
+use Rattle.t1_lines.specs.declared.refusal.Reason.{Reason}
 use Rattle.t1_picture.specs.Pictures.{IsPictureOf}
 use Rattle.t1_report.specs.Waivers.{Waiver}
 use Rattle.t1_rules.specs.Components.{glyph_named}
-use Rattle.t1draw.specs.FontFiles.{IsFont, IsRefusedFont}
-use Rattle.t1draw.specs.WaiverTexts.{AreRefusedWaivers, AreWaivers}
+use Rattle.t1_run.specs.Failures.{failure_line, failure_of, failure_status, out_of_memory_line, read_failed_line}
+use Rattle.t1_run.specs.FontFiles.{AreRead}
+use Rattle.t1_run.specs.Telling.{Explains as ExplainsUsage, Gives, Tells}
+use Rattle.t1_run.specs.WaiverFiles.{AreWaived, IsHeard, IsUnbroken}
+use Rattle.t1_run.specs.declared.status.Status.{Status}
+use Rattle.t1_run.specs.declared.status.Status.TheVariants.{Clean, Failed}
+use Rattle.t1draw.specs.declared.command_line.NoOptions.{NoOptions}
+use Rattle.t1draw.specs.declared.command_line.NoOptions.TheVariants.{Usage, BadName}
 use Rattle.t1draw.specs.declared.command_line.Options.{Options}
-use Rattle.t1draw.specs.declared.status.Status.{Status}
-use Rattle.t1draw.specs.declared.status.Status.TheVariants.{Drawn, Failed, Refused}
 
--- A text was to be told on standard error, and then a status to be answered; where that can't be told, Failed.
-pub data Tells (text : List ℕ) (status : Status) (errors errors' : SinkState) (result : Status) : Type 0 where
-  told : Wrote errors errors' text → result ≡ status → Tells text status errors errors' result
-  untold : PutFailed errors errors' text → result ≡ Failed → Tells text status errors errors' result
+-- The program's name, in front of what it tells.
+abbrev pub program : List ℕ
+program = codes "t1draw"
 
--- A text of help was written whole, and flushed once, and nothing was told: status 0; or a put or the flush failed, a beginning
--- of it went out, and this was told: status 3.
-pub data GivesHelp (text : List ℕ) (out out' errors errors' : SinkState) (status : Status) : Type 0 where
-  given : Delivered out out' text → errors' ≡ errors → status ≡ Drawn → GivesHelp text out out' errors errors' status
-  help_failed :
-      DeliveryFailed out out' text → Tells (codes "t1check: write failed\n") Failed errors errors' status
-      → GivesHelp text out out' errors errors' status
+-- What is told of a GLYPH that is no name.
+abbrev pub bad_name_text : List ℕ
+bad_name_text =
+    codes "error: in GLYPH a backslash stands in front of another one, or of x and two hexadecimal digits\n"
+    ++ codes "\nFor more information, try '--help'.\n"
 
-abbrev pub refusal_line : List ℕ → List ℕ
-refusal_line reason = concat (codes "refused: " ∷ reason ∷ codes "\n" ∷ [])
+-- What is answered to words that give no options.
+abbrev pub Explains : NoOptions → SinkState → SinkState → SinkState → SinkState → Status → Type 0
+Explains (Usage error) out out' errors errors' status = ExplainsUsage program error out out' errors errors' status
+Explains BadName out out' errors errors' status = (out' ≡ out) × Tells bad_name_text Failed errors errors' status
 
 abbrev pub no_glyph_line : List ℕ → List ℕ
-no_glyph_line name = concat (codes "t1check: no glyph " ∷ name ∷ codes "\n" ∷ [])
+no_glyph_line name = concat (codes "t1draw: no glyph " ∷ name ∷ codes "\n" ∷ [])
 
--- The bytes of the font's file, where its reader knows them, are read as this font.
-abbrev pub FontIs : Option (List ℕ) → FontValue → Type 0
-FontIs file font = IfSome file (λ bytes. IsFont bytes font)
-
--- They are refused by this number.
-abbrev pub FontRefused : Option (List ℕ) → RefusalCode → Type 0
-FontRefused file code = IfSome file (λ bytes. IsRefusedFont bytes code)
-
--- The text of the waivers, where its reader knows it, is read as these.
-abbrev pub WaiversAre : Option (List ℕ) → List Waiver → Type 0
-WaiversAre text waivers = IfSome text (λ bytes. AreWaivers bytes waivers)
-
--- It is refused by this number.
-abbrev pub WaiversRefused : Option (List ℕ) → RefusalCode → Type 0
-WaiversRefused text code = IfSome text (λ bytes. AreRefusedWaivers bytes code)
+-- Waivers are asked for where their file is named.
+abbrev pub asks_waivers : Options → Bool
+asks_waivers options = is_some options.waive
 
 -- This is the picture of what the options ask for of a font.
-pub record IsPicture (options : Options) (font : FontValue) (text : Option (List ℕ)) (picture : List ℕ) : Type 0 where
-  -- The waivers are read.
-  pub waivers : List Waiver
-  pub waived : WaiversAre text waivers
+pub record IsPicture (options : Options) (font : FontValue) (waivers : List Waiver) (picture : List ℕ) : Type 0 where
   -- The font has a glyph of the name.
   pub glyph : ℕ
   pub named : glyph_named font options.glyph.items ≡ Some glyph
@@ -62,40 +50,48 @@ pub record IsPicture (options : Options) (font : FontValue) (text : Option (List
   pub is :
       IsPictureOf (record { font = font; edition = options.edition; waivers = waivers; glyph = glyph; step = options.step }) picture
 
--- How a run ends, given the options, the bytes of the font's file and the text of the waivers.
-pub data Draws (options : Options) (file text : Option (List ℕ)) (out out' errors errors' : SinkState) (status : Status) : Type 0 where
-  -- A picture was written whole, and flushed once, and nothing was told: status 0.
+-- How a run ends: these bytes were left in the font's file, and a read of it failed or didn't; and the source of waivers before
+-- it and behind it.
+pub data Draws (options : Options) (left : Option (List ℕ)) (failed : Bool) (waivers waivers' : SourceState)
+    (out out' errors errors' : SinkState) (status : Status) : Type 0 where
+  -- A picture was written whole, and flushed once, and nothing was told: status 0; or a put or the flush failed, a beginning of it
+  -- went out, and that was told: status 3.
   drawn :
-      (font : FontValue) → FontIs file font → (picture : List ℕ) → IsPicture options font text picture
-      → Delivered out out' picture → errors' ≡ errors → status ≡ Drawn
-      → Draws options file text out out' errors errors' status
-  -- A put or the flush failed, a beginning of the picture went out, and this was told: status 3.
-  write_failed :
-      (font : FontValue) → FontIs file font → (picture : List ℕ) → IsPicture options font text picture
-      → DeliveryFailed out out' picture
-      → Tells (codes "t1check: write failed\n") Failed errors errors' status
-      → Draws options file text out out' errors errors' status
+      (font : FontValue) → AreRead left (Ok font) → failed ≡ false
+      → (waived : List Waiver) → AreWaived (asks_waivers options) waivers.left (Ok waived)
+      → IsHeard (asks_waivers options) waivers waivers' → (picture : List ℕ) → IsPicture options font waived picture
+      → Gives program picture Clean out out' errors errors' status
+      → Draws options left failed waivers waivers' out out' errors errors' status
   -- The font is refused, and nothing was put on the output: status 2.
   font_refused :
-      (code : RefusalCode) → FontRefused file code
-      → out' ≡ out → Tells (refusal_line (refusal_text_of code)) Refused errors errors' status
-      → Draws options file text out out' errors errors' status
+      (why : Reason) → AreRead left (Err why) → failed ≡ false → waivers' ≡ waivers → out' ≡ out
+      → Tells (failure_line program (failure_of why)) (failure_status (failure_of why)) errors errors' status
+      → Draws options left failed waivers waivers' out out' errors errors' status
   -- The font is read and the waivers are refused, and nothing was put on the output: status 2.
   waivers_refused :
-      (font : FontValue) → FontIs file font → (code : RefusalCode) → WaiversRefused text code
-      → out' ≡ out → Tells (refusal_line (refusal_text_of code)) Refused errors errors' status
-      → Draws options file text out out' errors errors' status
+      (font : FontValue) → AreRead left (Ok font) → failed ≡ false
+      → (why : Reason) → AreWaived (asks_waivers options) waivers.left (Err why)
+      → IsHeard (asks_waivers options) waivers waivers' → out' ≡ out
+      → Tells (failure_line program (failure_of why)) (failure_status (failure_of why)) errors errors' status
+      → Draws options left failed waivers waivers' out out' errors errors' status
   -- Both are read, the font has no glyph of the name, and nothing was put on the output: status 3.
   no_glyph :
-      (font : FontValue) → FontIs file font → (waivers : List Waiver) → WaiversAre text waivers
-      → glyph_named font options.glyph.items ≡ None
-      → out' ≡ out → Tells (no_glyph_line (shown options.glyph.items)) Failed errors errors' status
-      → Draws options file text out out' errors errors' status
-  -- A read failed, and nothing was put on the output: status 3.
+      (font : FontValue) → AreRead left (Ok font) → failed ≡ false
+      → (waived : List Waiver) → AreWaived (asks_waivers options) waivers.left (Ok waived)
+      → IsHeard (asks_waivers options) waivers waivers' → glyph_named font options.glyph.items ≡ None → out' ≡ out
+      → Tells (no_glyph_line (shown options.glyph.items)) Failed errors errors' status
+      → Draws options left failed waivers waivers' out out' errors errors' status
+  -- A read of the font failed, the waivers weren't read, and nothing was put on the output: status 3.
   read_failed :
-      out' ≡ out → Tells (codes "t1check: read failed\n") Failed errors errors' status
-      → Draws options file text out out' errors errors' status
-  -- Memory ran out, and nothing was put on the output: status 3.
+      failed ≡ true → waivers' ≡ waivers → out' ≡ out → Tells (read_failed_line program) Failed errors errors' status
+      → Draws options left failed waivers waivers' out out' errors errors' status
+  -- A read of the waivers that are asked for failed, and nothing was put on the output: status 3.
+  waivers_unread :
+      (font : FontValue) → AreRead left (Ok font) → failed ≡ false → asks_waivers options ≡ true → waivers'.failed ≡ true
+      → out' ≡ out → Tells (read_failed_line program) Failed errors errors' status
+      → Draws options left failed waivers waivers' out out' errors errors' status
+  -- Memory ran out, no read failed, and nothing was put on the output: status 3.
   no_memory :
-      out' ≡ out → Tells (codes "t1check: out of memory\n") Failed errors errors' status
-      → Draws options file text out out' errors errors' status
+      failed ≡ false → IsUnbroken (asks_waivers options) waivers waivers' → out' ≡ out
+      → Tells (out_of_memory_line program) Failed errors errors' status
+      → Draws options left failed waivers waivers' out out' errors errors' status

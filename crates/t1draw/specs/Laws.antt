@@ -1,38 +1,58 @@
 -- The statements of laws.
-use Rattle.std.specs.Prelude.{◌≡◌, ◌<◌, ℕ, List, None, Some}
+use Rattle.std.specs.Prelude.{◌≡◌, ◌<◌, ℕ, Bool, List, [], Option, None, Some, Result, Ok, Err, if◌then◌else◌}
 use Rattle.std.specs.List.{AllByRecursion}
 use Rattle.clap.specs.Words.{Text}
+use Rattle.t1_char.specs.declared.edition.Edition.{Edition}
 use Rattle.t1_font.specs.Fonts.{FontValue}
 use Rattle.t1_forms.specs.Shown.{shown}
-use Rattle.t1_lines.specs.declared.refusal.RefusalCode.{RefusalCode}
+use Rattle.t1_lines.specs.declared.refusal.Reason.{Reason}
+use Rattle.t1_picture.specs.Pictures.{IsPictureOf}
 use Rattle.t1_report.specs.Waivers.{Waiver}
 use Rattle.t1_rules.specs.Components.{glyph_named}
+use Rattle.t1_run.specs.FontFiles.{font_of}
+use Rattle.t1_run.specs.WaiverFiles.{waivers_in}
 use Rattle.t1draw.specs.CommandLine.{AreGiven}
-use Rattle.t1draw.specs.Ends.{IsPicture}
-use Rattle.t1draw.specs.FontFiles.{IsFont, IsRefusedFont}
+use Rattle.t1draw.specs.Ends.{asks_waivers}
 use Rattle.t1draw.specs.GlyphWords.{name_of_word}
-use Rattle.t1draw.specs.WaiverTexts.{AreRefusedWaivers, AreWaivers}
 use Rattle.t1draw.specs.declared.command_line.Options.{Options}
 
--- What is answered where memory is there, and no read and no device fails.
+-- What is answered where memory is there and no device fails: a picture, why the font or the waivers aren't read, or that the
+-- font has no glyph of the name.
 pub data Answer : Type 0 where
   Picture : List ℕ → Answer
-  Refused : RefusalCode → Answer
+  Unread : Reason → Answer
   NoGlyph : Answer
 
+-- What options ask for beside the files.
+pub record Wish : Type 0 where
+  pub edition : Edition
+  pub name : List ℕ
+  pub step : Option ℕ
+
+abbrev pub wish_of : Options → Wish
+wish_of options = record { edition = options.edition; name = options.glyph.items; step = options.step }
+
+-- Of a glyph of a font, or of none.
+abbrev pub IsAnswerAt : Wish → FontValue → List Waiver → Option ℕ → Answer → Type 0
+IsAnswerAt wish font waivers None answer = answer ≡ NoGlyph
+IsAnswerAt wish font waivers (Some glyph) answer =
+    (picture : List ℕ)
+    × (IsPictureOf (record { font = font; edition = wish.edition; waivers = waivers; glyph = glyph; step = wish.step }) picture
+    × (answer ≡ Picture picture))
+
+-- Of what the font's file and the waivers are read as: why the font isn't read comes first.
+abbrev pub IsAnswerTo : Wish → Result FontValue Reason → Result (List Waiver) Reason → Answer → Type 0
+IsAnswerTo wish (Err why) waived answer = answer ≡ Unread why
+IsAnswerTo wish (Ok font) (Err why) answer = answer ≡ Unread why
+IsAnswerTo wish (Ok font) (Ok waivers) answer = IsAnswerAt wish font waivers (glyph_named font wish.name) answer
+
+-- The waivers of a text, where they are asked for; else there are none.
+abbrev pub waived_by : Bool → List ℕ → Result (List Waiver) Reason
+waived_by asked text = if asked then waivers_in text else Ok []
+
 -- This is answered to options, the bytes of the font's file and the text of the waivers.
-pub data IsAnswer (options : Options) (file text : List ℕ) (answer : Answer) : Type 0 where
-  drawn :
-      (font : FontValue) → IsFont file font → (picture : List ℕ) → IsPicture options font (Some text) picture → answer ≡ Picture picture
-      → IsAnswer options file text answer
-  font_refused : (code : RefusalCode) → IsRefusedFont file code → answer ≡ Refused code → IsAnswer options file text answer
-  waivers_refused :
-      (font : FontValue) → IsFont file font → (code : RefusalCode) → AreRefusedWaivers text code → answer ≡ Refused code
-      → IsAnswer options file text answer
-  no_glyph :
-      (font : FontValue) → IsFont file font → (waivers : List Waiver) → AreWaivers text waivers
-      → glyph_named font options.glyph.items ≡ None → answer ≡ NoGlyph
-      → IsAnswer options file text answer
+abbrev pub IsAnswer : Options → List ℕ → List ℕ → Answer → Type 0
+IsAnswer options file text answer = IsAnswerTo (wish_of options) (font_of file) (waived_by (asks_waivers options) text) answer
 
 -- Options that the same words give have no two answers for the same bytes.
 abbrev pub HasNoOtherAnswer : Type 0

@@ -1,8 +1,6 @@
+pub mod Answers
 pub mod CommandLine
 pub mod Ends
-pub mod FontFiles
 pub mod GlyphWords
 pub mod Laws
 pub mod Private
-pub mod Statuses
-pub mod WaiverTexts

@@ -4,9 +4,9 @@ ghost use Rattle.t1draw.specs.Laws.{HasNoOtherAnswer, ShownNamesAreWords};
 
 use t1_picture::a_subject_has_one_picture;
 
-/// The words of the command line, where they give options, the bytes of a font's file and the text of the waivers decide the
-/// answer: the picture, to its last byte, or why there is none.
-pub fn a_file_has_one_answer()
+/// The words of the command line, where they give options, the bytes of a font's file and the text of the waivers have no two
+/// answers: the picture, to its last byte, or why there is none.
+pub fn a_file_has_no_two_answers()
     ensures { HasNoOtherAnswer }
 {
     a_subject_has_one_picture();

@@ -1,129 +1,111 @@
 //! A run: reads a font, and the waivers, and draws what the options ask for.
 
-ghost use Rattle.std.specs.Prelude.{◌≡◌, ◌≤◌, ◌<◌, IfErr, IfOk, List, MatchResult, Some, length, string_bytes, ℕ};
-ghost use Rattle.t1draw.specs.Ends.{Draws};
-ghost use Rattle.t1draw.specs.FontFiles.{refusal_of};
-ghost use Rattle.t1draw.specs.Private.Failures.{DrawsFile, DrawsGlyph, IsUnreadable, TellsWhy};
-ghost use Rattle.t1draw.specs.Private.Failures.{failure_of_font, failure_of_waivers};
-ghost use Rattle.t1draw.specs.declared.running.Failure.TheVariants.{Memory, Refused};
+ghost use Rattle.std.specs.Prelude.{◌≡◌, ◌≤◌, ◌+◌, false, string_bytes};
+ghost use Rattle.std.specs.Option.{is_some};
+ghost use Rattle.t1_lines.specs.declared.refusal.Reason.TheVariants as reason;
+ghost use Rattle.t1_report.specs.Waivers.{largest_waivers};
+ghost use Rattle.t1_run.specs.Failures.{failure_of, out_of_memory_line};
+ghost use Rattle.t1_run.specs.FontFiles.{largest_file};
+ghost use Rattle.t1_run.specs.Input.{ReadsAtMost, StopsAt, TakesAtMost};
+ghost use Rattle.t1_run.specs.Telling.{Tells};
+ghost use Rattle.t1draw.specs.Ends.{Draws, no_glyph_line, program};
+ghost use Rattle.t1draw.specs.Private.Failures.{DrawsFile, DrawsGlyph, TellsWhy};
+ghost use Rattle.t1_run.specs.declared.failure.Failure.TheVariants.{Memory};
+ghost use Rattle.t1draw.specs.declared.running.Undrawn.TheVariants.{Failed};
 
+use crate::PROGRAM;
 use crate::command_line::Options;
-use crate::reading::{Unreadable, read_all};
-use crate::status::Status;
-use crate::telling::{OUT_OF_MEMORY, READ_FAILED, WRITE_FAILED, refuse, tell, tell_no_glyph};
 use std::alloc::{AllocError, Global};
-use std::io::Read;
 use t1_font::{Font, OpenFont, Unread};
 use t1_forms::shown;
-use t1_io::{Sink, deliver};
-use t1_lines::{RefusalCode, refusal_text};
+use t1_io::{Sink, Source};
 use t1_picture::{View, picture};
-use t1_report::{LARGEST_WAIVERS, WaiverError, Waivers};
+use t1_report::{WaiverError, Waivers};
 use t1_rules::{Sidebearings, glyph_named};
-
-/// The greatest size of a font's file, in bytes.
-const LARGEST_FILE: usize = 16_777_216;
+use t1_run::{Failure, Status, give, read_font_file, read_waivers, tell_failure, tell_parts};
 
 /// Why there is no picture.
 #[derive(Clone, Copy, Debug, PartialEq, Eq)]
-enum Failure {
-    /// The font or the waivers are refused, by their numbers.
-    Refused(RefusalCode),
+enum Undrawn {
+    /// The font or the waivers aren't read, or memory ran out.
+    Failed(Failure),
     /// The font has no glyph of the name.
     NoGlyph,
-    /// A read failed.
-    Broken,
-    /// An allocation was refused.
-    Memory,
 }
 
-impl From<Unread> for Failure {
-    ghost from_gives = { λ unread failure. failure ≡ failure_of_font unread };
+impl From<Failure> for Undrawn {
+    ghost from_gives = { λ failure undrawn. undrawn ≡ Failed failure };
 
-    fn from(unread: Unread) -> Failure {
-        match refusal_of(unread) {
-            Some(code) => Failure::Refused(code),
-            None => Failure::Memory,
-        }
+    fn from(failure: Failure) -> Undrawn {
+        Undrawn::Failed(failure)
     }
 }
 
-impl From<WaiverError> for Failure {
-    ghost from_gives = { λ error failure. failure ≡ failure_of_waivers error };
+impl From<Unread> for Undrawn {
+    ghost from_gives = { λ unread undrawn. undrawn ≡ Failed (failure_of (reason.Font unread)) };
 
-    fn from(error: WaiverError) -> Failure {
-        match error {
-            WaiverError::Malformed => Failure::Refused(RefusalCode::E14),
-            WaiverError::Memory => Failure::Memory,
-        }
+    fn from(unread: Unread) -> Undrawn {
+        Undrawn::Failed(Failure::from(unread))
     }
 }
 
-impl From<AllocError> for Failure {
-    ghost from_gives = { λ _ failure. failure ≡ Memory };
+impl From<WaiverError> for Undrawn {
+    ghost from_gives = { λ error undrawn. undrawn ≡ Failed (failure_of (reason.Waivers error)) };
 
-    fn from(_: AllocError) -> Failure {
-        Failure::Memory
+    fn from(error: WaiverError) -> Undrawn {
+        Undrawn::Failed(Failure::from(error))
     }
 }
 
-/// The refusal of bytes that aren't read as a font; want of memory is none.
-fn refusal_of(unread: Unread) -> Option<RefusalCode>
-    ensures { result ≡ refusal_of unread }
-{
-    match unread {
-        Unread::NotAFont => Some(RefusalCode::E01),
-        Unread::BadHeader => Some(RefusalCode::E02),
-        Unread::CutShort => Some(RefusalCode::E03),
-        Unread::NoEexec => Some(RefusalCode::E04),
-        Unread::TooShort => Some(RefusalCode::E06),
-        Unread::Unclosed => Some(RefusalCode::E07),
-        Unread::BadSubrs => Some(RefusalCode::E08),
-        Unread::BadCharStrings => Some(RefusalCode::E09),
-        Unread::BadLenIv => Some(RefusalCode::E10),
-        Unread::PastLimit => Some(RefusalCode::E11),
-        Unread::SecondSubrs => Some(RefusalCode::E12),
-        Unread::MultipleMaster => Some(RefusalCode::E13),
-        Unread::Memory => None,
+impl From<AllocError> for Undrawn {
+    ghost from_gives = { λ _ undrawn. undrawn ≡ Failed Memory };
+
+    fn from(_error: AllocError) -> Undrawn {
+        Undrawn::Failed(Failure::Memory)
     }
 }
 
-/// Reads a font to its end, then the waivers, which are empty where none are asked for, and writes the picture of the glyph that
-/// the options name. Where there is none, it is told why, and nothing is put on the output.
+/// Reads a font to its end, then the waivers that the options ask for, and writes the picture of the glyph that they name. Where
+/// there is none, it is told why, and nothing is put on the output.
 ///
-/// Where memory is there and no reader and no device fails, the options, the font's bytes and the text of the waivers decide the
-/// picture, to its last byte, or what is told where there is none
-/// ([`a_file_has_one_answer`](crate::laws::a_file_has_one_answer)).
-pub fn draw<R: Read + Drop, V: Read + Drop, W: Sink, E: Sink>(
+/// Where memory is there and no device fails, the options, the font's bytes and the text of the waivers decide the picture, to its
+/// last byte, or what is told where there is none ([`a_file_has_no_two_answers`](crate::laws::a_file_has_no_two_answers)).
+pub fn draw<R: Source, V: Source, W: Sink, E: Sink>(
     alloc: Global,
     options: &Options,
-    font: R,
-    waivers: V,
+    font: &mut R,
+    waivers: &mut V,
     out: &mut W,
     errors: &mut E,
 ) -> Status
-    ensures { Draws options.now (R.remaining font) (V.remaining waivers) (W.state out.old) (W.state out.new)
-        (E.state errors.old) (E.state errors.new) result }
+    requires font { (R.state font.old).failed ≡ false }
+    ensures draws { Draws options.now (R.state font.old).left (R.state font.new).failed (V.state waivers.old)
+        (V.state waivers.new) (W.state out.old) (W.state out.new) (E.state errors.old) (E.state errors.new) result }
+    ensures font { ReadsAtMost (largest_file + 1) (R.state font.old) (R.state font.new) }
+    ensures whole { StopsAt largest_file (R.state font.old) (R.state font.new)
+        (Tells (out_of_memory_line program) Status.Failed (E.state errors.old) (E.state errors.new) result) }
+    ensures waivers { ReadsAtMost (largest_waivers + 1) (V.state waivers.old) (V.state waivers.new) }
 {
     match drawn(alloc, options, font, waivers) {
-        Ok(text) => match deliver(out, text.as_bytes()) {
-            Ok(()) => Status::Drawn,
-            Err(_) => tell(errors, WRITE_FAILED, Status::Failed),
-        },
-        Err(failure) => tell_failure(alloc, options, failure, errors),
+        Ok(text) => give(PROGRAM, text.as_bytes(), out, errors),
+        Err(why) => tell_undrawn(alloc, options, why, errors),
     }
 }
 
 /// The picture of the glyph that the options name, of a font and waivers that are read.
-fn drawn<R: Read + Drop, V: Read + Drop>(
+fn drawn<R: Source, V: Source>(
     alloc: Global,
     options: &Options,
-    font: R,
-    waivers: V,
-) -> Result<String, Failure>
-    ensures { DrawsFile string_bytes options.now (R.remaining font) (V.remaining waivers) result }
+    font: &mut R,
+    waivers: &mut V,
+) -> Result<String, Undrawn>
+    requires font { (R.state font.old).failed ≡ false }
+    ensures draws { DrawsFile string_bytes options.now (R.state font.old) (R.state font.new) (V.state waivers.old)
+        (V.state waivers.new) result }
+    ensures font { ReadsAtMost (largest_file + 1) (R.state font.old) (R.state font.new) }
+    ensures waivers { ReadsAtMost (largest_waivers + 1) (V.state waivers.old) (V.state waivers.new) }
 {
-    let bytes = read(alloc, font, LARGEST_FILE, RefusalCode::E05)?;
+    let bytes = read_font_file(alloc, font)?;
     let mut file = OpenFont::open(alloc, bytes.as_slice())?;
     drop(bytes);
     let font = file.font(alloc)?;
@@ -132,19 +114,20 @@ fn drawn<R: Read + Drop, V: Read + Drop>(
     text
 }
 
-/// The picture of a glyph of a font, with waivers that are read.
-fn drawn_of<V: Read + Drop>(
+/// The picture of a glyph of a font, with waivers that are read where the options ask for them.
+fn drawn_of<V: Source>(
     alloc: Global,
     options: &Options,
     font: &Font<'_>,
-    waivers: V,
-) -> Result<String, Failure>
-    ensures { DrawsGlyph string_bytes options.now font.now (V.remaining waivers) result }
+    waivers: &mut V,
+) -> Result<String, Undrawn>
+    ensures draws { DrawsGlyph string_bytes options.now font.now (V.state waivers.old) (V.state waivers.new) result }
+    ensures waivers { ReadsAtMost (largest_waivers + 1) (V.state waivers.old) (V.state waivers.new) }
 {
-    let text = read(alloc, waivers, LARGEST_WAIVERS, RefusalCode::E15)?;
+    let text = read_waivers(alloc, waivers, options.waive.is_some())?;
     let waivers = Waivers::read(alloc, text.as_slice())?;
     let Some(glyph) = glyph_named(font, options.glyph.as_slice()) else {
-        return Err(Failure::NoGlyph);
+        return Err(Undrawn::NoGlyph);
     };
     let sidebearings = Sidebearings::prepare(alloc, font, options.edition)?;
     let view = View {
@@ -157,42 +140,23 @@ fn drawn_of<V: Read + Drop>(
     Ok(picture(alloc, &view)?)
 }
 
-/// Reads a file to its end, which is refused where it has more bytes than it may have.
-fn read<R: Read + Drop>(
-    alloc: Global,
-    source: R,
-    most: usize,
-    past: RefusalCode,
-) -> Result<Vec<u8>, Failure>
-    ensures most { IfOk result (λ bytes. length bytes.items ≤ most) }
-    ensures bytes { (text : List ℕ) → R.remaining source ≡ Some text → MatchResult result (λ bytes. bytes.items ≡ text)
-        (λ failure. failure ≡ Refused past → most < length text) }
-    ensures failures { IfErr result (IsUnreadable past) }
+/// Tells why there is no picture.
+fn tell_undrawn<E: Sink>(alloc: Global, options: &Options, why: Undrawn, errors: &mut E) -> Status
+    ensures { TellsWhy options.now.glyph.items why (E.state errors.old) (E.state errors.new) result }
 {
-    match read_all(alloc, source, most) {
-        Ok(bytes) => Ok(bytes),
-        Err(Unreadable::TooLarge) => Err(Failure::Refused(past)),
-        Err(Unreadable::Broken) => Err(Failure::Broken),
-        Err(Unreadable::Memory) => Err(Failure::Memory),
+    match why {
+        Undrawn::Failed(failure) => tell_failure(PROGRAM, failure, errors),
+        Undrawn::NoGlyph => match shown(alloc, options.glyph.as_slice()) {
+            Ok(name) => tell_no_glyph(name.as_str(), errors),
+            Err(_) => tell_failure(PROGRAM, Failure::Memory, errors),
+        },
     }
 }
 
-/// Tells why there is no picture.
-fn tell_failure<E: Sink>(
-    alloc: Global,
-    options: &Options,
-    failure: Failure,
-    errors: &mut E,
-) -> Status
-    ensures { TellsWhy options.now.glyph.items failure (E.state errors.old) (E.state errors.new) result }
+/// Tells that a font has no glyph of this name, as it is shown.
+fn tell_no_glyph<E: Sink>(name: &str, errors: &mut E) -> Status
+    ensures { Tells (no_glyph_line name.now) Status.Failed (E.state errors.old) (E.state errors.new) result }
 {
-    match failure {
-        Failure::Refused(code) => refuse(errors, refusal_text(code)),
-        Failure::NoGlyph => match shown(alloc, options.glyph.as_slice()) {
-            Ok(name) => tell_no_glyph(errors, name.as_str()),
-            Err(_) => tell(errors, OUT_OF_MEMORY, Status::Failed),
-        },
-        Failure::Broken => tell(errors, READ_FAILED, Status::Failed),
-        Failure::Memory => tell(errors, OUT_OF_MEMORY, Status::Failed),
-    }
+    let parts = [b"t1draw: no glyph ".as_slice(), name.as_bytes(), b"\n"];
+    tell_parts(errors, &parts, Status::Failed)
 }

@@ -1,39 +1,40 @@
-use Rattle.std.proofs.Common.{◌≡◌, ℕ, List, map, ap, Option, None, Some, option_map, codes, ◌∙◌, subst, sym, refl, lit<, inl, inr}
+use Rattle.std.proofs.Common.{◌≡◌, ℕ, List, map, ap, Option, None, Some, option_map, codes, ◌∙◌, subst, sym, refl, lit<, arith, length}
 use Rattle.std.specs.Borrow.{Bor}
-use Rattle.std.specs.Prelude.{option_and_then}
-use Rattle.clap.specs.Words.{Row, Text, fault_of, first_of, first_value, found_of, matches_of, rows_of}
+use Rattle.std.specs.Prelude.{IsSome, option_and_then}
+use Rattle.clap.specs.Words.{App, Row, Text, app_of, first_of, first_value, found_of, matches_of, rows_of}
 use Rattle.clap.specs.declared.parser.matches.ArgMatches.{ArgMatches}
-use Rattle.t1draw.specs.CommandLine.{t1draw, edition_rule, step_rule, AreNumber, IsEditionOrFirst}
+use Rattle.t1_run.specs.Words.{AreNumber, AreRefused, IsEditionOrFirst, IsNumberArgument, IsParsedBy, IsPlainApp, IsRequiredArgument, IsTextOfNumber}
+use Rattle.t1_run.proofs.Commands.{first_of-found}
+use Rattle.t1draw.specs.CommandLine.{t1draw, edition_rule, glyph_rule, step_rule}
 use Rattle.t1draw.specs.GlyphWords.{name_of_word}
-use Rattle.t1draw.specs.Private.Numbers.{IsNumberArgument, IsTextOfNumber}
-use Rattle.t1draw.proofs.CommandLemmas.{first_of-found}
-use Rattle.t1draw.proofs.SingleFault.{fault_of-single, single-among}
+use Rattle.t1draw.proofs.CommandLemmas.{plain}
 use Rattle.t1draw.proofs.command_line.read_words.Goals as goal
 
 -- the program's rules take 1 or 2 for --edition
-edition_is_number : IsNumberArgument 1 2 (codes "edition")
+edition_is_number : IsNumberArgument t1draw 1 2 (codes "edition")
 unfolding t1draw
 edition_is_number = (0, edition_rule, lit< tt, refl, (refl, refl))
 
-step_is_number : IsNumberArgument 1 18446744073709551615 (codes "step")
+step_is_number : IsNumberArgument t1draw 1 18446744073709551615 (codes "step")
 unfolding t1draw
 step_is_number = (2, step_rule, lit< tt, refl, (refl, refl))
 
+-- the program's rules ask for GLYPH
+glyph_is_required : IsRequiredArgument t1draw (codes "glyph")
+unfolding t1draw
+glyph_is_required = (3, glyph_rule, lit< tt, refl, (refl, refl, refl, refl))
+
+pub parse-requires : goal.parse-requires
+parse-requires g c = record { plain = subst IsPlainApp (sym c.in_ok-command.ensures) plain }
+
+-- what was found by the command is found by the program's rules
+by_rules : (app : App) (words : List Text) (m : ArgMatches) → app ≡ t1draw → IsParsedBy app words m → IsParsedBy t1draw words m
+by_rules app words m same parsed = subst (λ (a : App). IsParsedBy a words m) same parsed
+
 pub edition-edition-requires : goal.edition-edition-requires
-edition-edition-requires g c = subst (IsTextOfNumber 1 2) (sym c.get_str.ensures) (c.in-Ok.ensures.number 1 2 (codes "edition") edition_is_number)
-
-pub number-step-requires : goal.number-step-requires
-number-step-requires g c = subst (IsTextOfNumber 1 18446744073709551615) (sym c.get_str-4.ensures)
-    (c.in-Ok.ensures.number 1 18446744073709551615 (codes "step") step_is_number)
-
-pub returns-in-Err-clause-only_help : goal.returns-in-Err-clause-only_help
-returns-in-Err-clause-only_help g c = λ help.
-    let is_help = c.usage_error.ensures.only_help help in
-    elim c.in-Err.ensures.faults [
-      | inl memory ↦ cc
-      | inr among ↦ single-among (fault_of t1draw (map g.S.AsStr.text c.args.words.now)) _
-          (fault_of-single (map g.S.AsStr.text c.args.words.now)) (rw is_help at among)
-    ]
+edition-edition-requires g c =
+    let parsed = by_rules _ _ _ c.in_ok-command.ensures c.in_ok-matches.ensures.parsed in
+    subst (IsTextOfNumber 1 2) (sym c.get_str.ensures) (parsed.number 1 2 (codes "edition") edition_is_number)
 
 -- the word that was found for GLYPH is the one that the words give
 given_word : (m : ArgMatches) (rows : List Row) (found : Option (Bor Text)) (word : Bor Text) → rows_of (found_of m) ≡ rows
@@ -51,26 +52,54 @@ unnamed : {X : Type 0} (bytes : X → List ℕ) (name : Option X) (word : Text) 
 unnamed bytes None word none same = sym same
 unnamed bytes (Some x) word none same = absurd (none x refl)
 
-pub returns-in_default-clause-only_bad_name : goal.returns-in_default-clause-only_bad_name
-returns-in_default-clause-only_bad_name g c = λ _.
-    let rows = matches_of t1draw (map g.S.AsStr.text c.args.words.now) in
+-- a value that is there was lent
+is_there : (found : Option (Bor Text)) (value : Option Text) → option_map (λ s. s.now) found ≡ value → IsSome value → IsSome found
+is_there None value same some = subst IsSome (sym same) some
+is_there (Some word) value same some = refl
+
+pub unwrap-word-requires : goal.unwrap-word-requires
+unwrap-word-requires g c =
+    let parsed = by_rules _ _ _ c.in_ok-command.ensures c.in_ok-matches.ensures.parsed in
+    is_there c.get_str-2.result _ c.get_str-2.ensures (parsed.required (codes "glyph") glyph_is_required)
+
+-- a number from 1 on is one from 0 on
+from_zero : (text : Option Text) → IsTextOfNumber 1 18446744073709551615 text → IsTextOfNumber 0 18446744073709551615 text
+from_zero None is = tt
+from_zero (Some text) is = (is.0, is.1, omega arith, is.3)
+
+pub number-step-requires : goal.number-step-requires
+number-step-requires g c =
+    let parsed = by_rules _ _ _ c.in_ok-command.ensures c.in_ok-matches.ensures.parsed in
+    from_zero _ (subst (IsTextOfNumber 1 18446744073709551615) (sym c.get_str-4.ensures)
+    (parsed.number 1 18446744073709551615 (codes "step") step_is_number))
+
+pub returns-in_default-clause-untaken : goal.returns-in_default-clause-untaken
+returns-in_default-clause-untaken g c =
+    let words = map g.S.AsStr.text c.args.words.now in
+    let parsed = by_rules _ words _ c.in_ok-command.ensures c.in_ok-matches.ensures.parsed in
     record {
-      faultless = c.in-Ok.ensures.faults;
+      faultless = parsed.sound;
       word = c.unwrap-word.result.now;
-      given = given_word c.in-Ok.matches rows _ _ c.in-Ok.ensures.rows c.get_str-2.ensures c.unwrap-word.ensures;
+      given = given_word c.in_ok-matches.matches (matches_of t1draw words) _ _ parsed.rows c.get_str-2.ensures c.unwrap-word.ensures;
       no_name = unnamed _ _ _ c.in_default.not-Some c.in_ok-glyph.ensures;
     }
 
-pub returns-clause-given : goal.returns-clause-given
-returns-clause-given g c =
-    let rows = matches_of t1draw (map g.S.AsStr.text c.args.words.now) in
+pub returns-clause-taken : goal.returns-clause-taken
+returns-clause-taken g c =
+    let words = map g.S.AsStr.text c.args.words.now in
+    let parsed = by_rules _ words _ c.in_ok-command.ensures c.in_ok-matches.ensures.parsed in
+    let rows = matches_of t1draw words in
+    let first = λ (id : List ℕ) (value : Option (List ℕ)). first_of-found c.in_ok-matches.matches id rows value parsed.rows in
     record {
-      edition = subst (λ (text : Option Text). IsEditionOrFirst text c.edition-edition.result)
-          (first_of-found c.in-Ok.matches (codes "edition") rows _ c.in-Ok.ensures.rows c.get_str.ensures) c.edition-edition.ensures;
-      waive = c.in_ok-waive.ensures ∙ first_of-found c.in-Ok.matches (codes "waive") rows _ c.in-Ok.ensures.rows c.get_str-3.ensures;
-      step = subst (λ (text : Option Text). AreNumber text c.number-step.result)
-          (first_of-found c.in-Ok.matches (codes "step") rows _ c.in-Ok.ensures.rows c.get_str-4.ensures) c.number-step.ensures;
-      glyph = named _ _ c.in-Some.glyph _ _ (given_word c.in-Ok.matches rows _ _ c.in-Ok.ensures.rows c.get_str-2.ensures c.unwrap-word.ensures)
-          c.in_ok-glyph.ensures c.in-Some.is;
-      font = c.in_ok-font.ensures ∙ first_of-found c.in-Ok.matches (codes "font") rows _ c.in-Ok.ensures.rows c.get_str-5.ensures;
+      given = record {
+        edition = subst (λ (text : Option Text). IsEditionOrFirst text c.edition-edition.result) (first (codes "edition") _ c.get_str.ensures)
+            c.edition-edition.ensures;
+        waive = c.in_ok-waive.ensures ∙ first (codes "waive") _ c.get_str-3.ensures;
+        step = subst (λ (text : Option Text). AreNumber text c.number-step.result) (first (codes "step") _ c.get_str-4.ensures) c.number-step.ensures;
+        glyph = named _ _ c.in-Some.glyph _ _
+            (given_word c.in_ok-matches.matches rows _ _ parsed.rows c.get_str-2.ensures c.unwrap-word.ensures)
+            c.in_ok-glyph.ensures c.in-Some.is;
+        font = c.in_ok-font.ensures ∙ first (codes "font") _ c.get_str-5.ensures;
+      };
+      sound = parsed.sound;
     }

@@ -1,13 +1,15 @@
-use Rattle.std.proofs.Common.{refl}
-use Rattle.t1draw.specs.Ends.Draws.{drawn, write_failed}
-use Rattle.t1draw.proofs.Endings.{undrawn}
+use Rattle.t1draw.proofs.Readings.{drawn_ends, drawn_stops, undrawn_ends, undrawn_stops}
 use Rattle.t1draw.proofs.running.draw.Goals as goal
 
-pub returns-in-Ok-deliver : goal.returns-in-Ok-deliver
-returns-in-Ok-deliver g c = drawn c.in-Ok.ensures.0 c.in-Ok.ensures.1 _ c.in-Ok.ensures.2 (rw c.as_bytes.ensures.value at c.in-Ok-deliver.ensures) refl refl
+pub returns-in-Ok-clause-draws : goal.returns-in-Ok-clause-draws
+returns-in-Ok-clause-draws g c = drawn_ends c.args.options.now _ _ _ _ _ _ _ _ _ _ c.in-Ok.ensures.draws (rw c.as_bytes.ensures.value at c.give.ensures)
 
-pub returns-in-Ok : goal.returns-in-Ok
-returns-in-Ok g c = write_failed c.in-Ok.ensures.0 c.in-Ok.ensures.1 _ c.in-Ok.ensures.2 (rw c.as_bytes.ensures.value at c.in-Err-deliver.ensures) c.tell.ensures
+pub returns-in-Ok-clause-whole : goal.returns-in-Ok-clause-whole
+returns-in-Ok-clause-whole g c = drawn_stops _ _ c.in-Ok.ensures.draws.font _ c.in-Ok.ensures.draws.whole
 
-pub returns : goal.returns
-returns g c = undrawn c.args.options.now _ _ _ _ _ _ _ c.in-Err.ensures c.tell_failure.ensures
+pub returns-in-Err-clause-draws : goal.returns-in-Err-clause-draws
+returns-in-Err-clause-draws g c =
+    undrawn_ends c.args.options.now _ _ _ _ _ _ _ c.in-Err.why _ c.requires.font c.in-Err.ensures.draws c.tell_undrawn.ensures
+
+pub returns-in-Err-clause-whole : goal.returns-in-Err-clause-whole
+returns-in-Err-clause-whole g c = undrawn_stops c.args.options.now _ _ _ _ _ _ c.in-Err.why _ c.in-Err.ensures.draws c.tell_undrawn.ensures

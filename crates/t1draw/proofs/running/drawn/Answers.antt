@@ -1,28 +1,30 @@
-use Rattle.std.proofs.Common.{subst, sym, ◌∙◌}
+use Rattle.std.proofs.Common.{refl, subst, sym, ◌∙◌}
 use Rattle.t1_font.specs.FontFiles.{IsUnread}
-use Rattle.t1draw.proofs.Readings.{file_fails, font_read, font_unread, font_unreadable, of_file}
+use Rattle.t1draw.proofs.Readings.{file_fails, font_unread, of_file, whole}
+use Rattle.t1draw.specs.Private.Failures.IsUndrawn.{ungathered}
 use Rattle.t1draw.proofs.running.drawn.Goals as goal
 
-pub returns-in_err-bytes : goal.returns-in_err-bytes
-returns-in_err-bytes g c =
-    file_fails _ _ _ _ c.from_residual.result _ c.from_residual.ensures.1
-    (λ reason is. rw is (font_unreadable _ _ _ _ c.in_err-bytes.ensures.bytes c.in_err-bytes.ensures.failures))
+pub returns-in_err-bytes-clause-draws : goal.returns-in_err-bytes-clause-draws
+returns-in_err-bytes-clause-draws g c =
+    let waivers = g.V.Source.state c.args.waivers.now in
+    file_fails _ _ _ _ waivers waivers c.from_residual.result _ c.from_residual.ensures.1
+    (λ why is. ungathered c.in_err-bytes.field-0.0 c.in_err-bytes.ensures.gathers refl is)
 
-pub returns-in_err-file : goal.returns-in_err-file
-returns-in_err-file g c =
-    file_fails _ _ _ _ c.from_residual-in_err-file.result _ c.from_residual-in_err-file.ensures.1
-    (λ reason is. font_unread _ _ _ c.in_ok-bytes.bytes.items _ reason c.in_ok-bytes.ensures.most c.in_ok-bytes.ensures.bytes
+pub returns-in_err-file-clause-draws : goal.returns-in_err-file-clause-draws
+returns-in_err-file-clause-draws g c =
+    file_fails _ _ _ _ _ _ c.from_residual-in_err-file.result _ c.from_residual-in_err-file.ensures.1
+    (λ why is. font_unread _ _ _ _ c.in_ok-bytes.bytes.items _ why c.requires.font c.in_ok-bytes.ensures.gathers
     (rw c.as_slice.ensures.value at c.in_err-file.ensures) is)
 
-pub returns-in_err-font : goal.returns-in_err-font
-returns-in_err-font g c =
-    file_fails _ _ _ _ c.from_residual-in_err-font.result _ c.from_residual-in_err-font.ensures.1
-    (λ reason is. font_unread _ _ _ c.in_ok-bytes.bytes.items _ reason c.in_ok-bytes.ensures.most c.in_ok-bytes.ensures.bytes
+pub returns-in_err-font-clause-draws : goal.returns-in_err-font-clause-draws
+returns-in_err-font-clause-draws g c =
+    file_fails _ _ _ _ _ _ c.from_residual-in_err-font.result _ c.from_residual-in_err-font.ensures.1
+    (λ why is. font_unread _ _ _ _ c.in_ok-bytes.bytes.items _ why c.requires.font c.in_ok-bytes.ensures.gathers
     (subst (IsUnread c.in_err-font.field-0.0) (rw c.as_slice.ensures.value at c.in_ok-file.ensures) c.in_err-font.ensures.gives) is)
 
-pub returns : goal.returns
-returns g c =
-    of_file _ _ _ _ c.in_ok-font.font c.drawn_of-text.result
-    (font_read _ c.in_ok-bytes.bytes.items _ c.in_ok-bytes.ensures.most c.in_ok-bytes.ensures.bytes
+pub returns-clause-draws : goal.returns-clause-draws
+returns-clause-draws g c =
+    of_file _ _ _ _ _ _ c.in_ok-font.font c.drawn_of-text.result
+    (whole _ _ c.in_ok-bytes.bytes.items _ c.requires.font c.in_ok-bytes.ensures.gathers
     (sym (rw c.as_slice.ensures.value at c.in_ok-file.ensures) ∙ c.in_ok-font.ensures.gives))
-    c.drawn_of-text.ensures
+    c.drawn_of-text.ensures.draws
