@@ -1,9 +1,9 @@
 //! The command line, by clap.
 
-use clap::error::ErrorKind;
 use clap::{Arg, Command};
 use std::alloc::{AllocError, Global};
 use std::convert::AsStr;
+use t1_run::{UsageError, owned, usage_error};
 
 const ABOUT: &str = "\
 Reads lines of t1check or t1check-all, and what couldn't be checked, from standard input,
@@ -46,13 +46,6 @@ pub struct Options {
     pub docs: Option<String>,
 }
 
-/// What the words of the command line ask for.
-#[derive(Drop)]
-pub enum Asked {
-    Format(Options),
-    Help(String),
-}
-
 /// What forms are called: clap takes no other word.
 const FORMS: &[&str] = &["jsonl", "sarif", "github"];
 
@@ -86,46 +79,14 @@ fn command<'a>(alloc: Global) -> Result<Command<'a>, AllocError> {
         .arg(form)
 }
 
-/// A copy of the text that an argument was given.
-fn owned(alloc: Global, text: Option<&str>) -> Result<Option<String>, AllocError> {
-    match text {
-        Some(text) => Ok(Some(String::from_str(alloc, text)?)),
-        None => Ok(None),
-    }
-}
-
-/// What clap tells: help, or what is wrong with the words; none where memory ran out.
-fn told(alloc: Global, error: &clap::Error) -> Result<Asked, Option<String>> {
-    let kind = error.kind();
-    if kind == ErrorKind::OutOfMemory {
-        return Err(None);
-    }
-    let Ok(text) = error.to_string(alloc) else {
-        return Err(None);
-    };
-    if kind == ErrorKind::DisplayHelp {
-        Ok(Asked::Help(text))
-    } else {
-        Err(Some(text))
-    }
-}
-
-/// Reads the words of the command line, the program's name first. What is wrong with them is the error, none where memory ran
-/// out.
-pub fn read_words<S: AsStr>(alloc: Global, words: &[S]) -> Result<Asked, Option<String>> {
-    let Ok(command) = command(alloc) else {
-        return Err(None);
-    };
-    let matches = match command.try_get_matches_from(words) {
+/// Reads the words of the command line, the program's name first.
+pub fn read_words<S: AsStr>(alloc: Global, words: &[S]) -> Result<Options, UsageError> {
+    let matches = match command(alloc)?.try_get_matches_from(words) {
         Ok(matches) => matches,
-        Err(error) => return told(alloc, &error),
+        Err(error) => return Err(usage_error(alloc, &error)),
     };
     let form = form_named(matches.get_str("form").unwrap_or(""));
-    let (Ok(font), Ok(docs)) = (
-        owned(alloc, matches.get_str("font")),
-        owned(alloc, matches.get_str("docs")),
-    ) else {
-        return Err(None);
-    };
-    Ok(Asked::Format(Options { form, font, docs }))
+    let font = owned(alloc, matches.get_str("font"))?;
+    let docs = owned(alloc, matches.get_str("docs"))?;
+    Ok(Options { form, font, docs })
 }

@@ -14,60 +14,42 @@ mod command_line;
 mod running;
 mod writer;
 
-use crate::command_line::{Asked, read_words};
-use crate::running::run;
-use std::env;
+use crate::command_line::read_words;
+use crate::running::{Stop, run};
 use std::io::{BufReader, BufWriter};
-use std::process::ExitCode;
 use t1_io::Out;
+use t1_run::{Failure, Status, explain, tell_failure, tell_write_failed, words_given};
 
-/// What is told where a word of the command line can't be read.
-const NOT_UTF8: &str = "error: a word of the command line is not UTF-8\n";
+/// The program's name, in front of what it tells.
+const PROGRAM: &str = "t1format";
 
-/// All lines were written.
-const DONE: u8 = 0;
+/// What serves instead of a word that isn't UTF-8, behind clap's sentence.
+const NOT_UTF8: &str = "
+The name of a font that isn't UTF-8 can stand in the lines that are read
+";
 
-/// A line was none, or something failed.
-const FAILED: u8 = 3;
-
-/// Tells why nothing more is written.
-fn fail(rt: &impl Eprint, text: &str) -> ExitCode {
-    // Where standard error fails too, the status alone tells of it.
-    let _told = rt.eprint(text);
-    ExitCode::from(FAILED)
-}
-
-fn main(rt: HostRuntime) -> ExitCode {
+fn main(rt: HostRuntime) -> Status {
     let alloc = rt.alloc();
-    let Ok(words) = env::args(&rt) else {
-        return fail(&rt, NOT_UTF8);
-    };
-    let Ok(words) = words.collect::<Vec<String>>(alloc) else {
-        return fail(&rt, "t1format: out of memory\n");
-    };
-    let options = match read_words(alloc, words.as_slice()) {
-        Ok(Asked::Format(options)) => options,
-        Ok(Asked::Help(text)) => {
-            let shown = rt.print(text.as_str());
-            return ExitCode::from(if shown.is_ok() { DONE } else { FAILED });
-        }
-        Err(text) => return fail(
-            &rt,
-            text.as_ref()
-                .map_or("t1format: out of memory\n", String::as_str),
-        ),
-    };
-    let Ok(mut input) = BufReader::new(alloc, rt.stdin()) else {
-        return fail(&rt, "t1format: out of memory\n");
-    };
-    let Ok(writer) = BufWriter::new(alloc, rt.stdout()) else {
-        return fail(&rt, "t1format: out of memory\n");
+    let mut errors = Out::new(rt.stderr());
+    let (Ok(writer), Ok(mut input)) = (
+        BufWriter::new(alloc, rt.stdout()),
+        BufReader::new(alloc, rt.stdin()),
+    ) else {
+        return tell_failure(PROGRAM, Failure::Memory, &mut errors);
     };
     let mut out = Out::new(writer);
-    let mut errors = Out::new(rt.stderr());
+    let options = match words_given(&rt, NOT_UTF8) {
+        Ok(words) => read_words(alloc, words.as_slice()),
+        Err(error) => Err(error),
+    };
+    let options = match options {
+        Ok(options) => options,
+        Err(error) => return explain(PROGRAM, &error, &mut out, &mut errors),
+    };
     match run(alloc, &options, &mut input, &mut out, &mut errors) {
-        Ok(true) => ExitCode::from(DONE),
-        Ok(false) => ExitCode::from(FAILED),
-        Err(failure) => fail(&rt, failure.text()),
+        Ok(true) => Status::Clean,
+        Ok(false) => Status::Failed,
+        Err(Stop::Failed(failure)) => tell_failure(PROGRAM, failure, &mut errors),
+        Err(Stop::Unwritten) => tell_write_failed(PROGRAM, &mut errors),
     }
 }

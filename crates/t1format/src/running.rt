@@ -12,50 +12,41 @@ use crate::writer::Writer;
 use std::alloc::{AllocError, Global};
 use std::io::{BufRead, ErrorKind};
 use t1_forms::{FormatError, Told, read_told};
-use t1_io::{Broken, Sink, put_all, put_parts};
+use t1_io::{Broken, Sink, put_parts};
+use t1_run::Failure;
 
 /// Why the run ended before all lines were written.
 #[derive(Clone, Copy, Debug, PartialEq, Eq)]
-pub enum Failure {
-    Memory,
-    Read,
-    Write,
+pub enum Stop {
+    /// A read failed, or memory ran out.
+    Failed(Failure),
+    /// A write or a flush failed.
+    Unwritten,
 }
 
-impl Failure {
-    /// What is told of it, as a line.
-    pub fn text(self) -> &'static str {
-        match self {
-            Failure::Memory => "t1format: out of memory\n",
-            Failure::Read => "t1format: read failed\n",
-            Failure::Write => "t1format: write failed\n",
-        }
-    }
-}
-
-impl From<FormatError> for Failure {
-    fn from(error: FormatError) -> Failure {
+impl From<FormatError> for Stop {
+    fn from(error: FormatError) -> Stop {
         match error {
-            FormatError::Memory => Failure::Memory,
-            FormatError::Broken => Failure::Write,
+            FormatError::Memory => Stop::Failed(Failure::Memory),
+            FormatError::Broken => Stop::Unwritten,
         }
     }
 }
 
-impl From<AllocError> for Failure {
-    fn from(_: AllocError) -> Failure {
-        Failure::Memory
+impl From<AllocError> for Stop {
+    fn from(_: AllocError) -> Stop {
+        Stop::Failed(Failure::Memory)
     }
 }
 
-impl From<Broken> for Failure {
-    fn from(_: Broken) -> Failure {
-        Failure::Write
+impl From<Broken> for Stop {
+    fn from(_: Broken) -> Stop {
+        Stop::Unwritten
     }
 }
 
 /// Reads the next line, without its end: false where there is none.
-fn read_line<R: BufRead>(input: &mut R, line: &mut Vec<u8>) -> Result<bool, Failure>
+fn read_line<R: BufRead>(input: &mut R, line: &mut Vec<u8>) -> Result<bool, Stop>
     ensures { (text : List ℕ) → R.remaining input.old ≡ Some text →
         IfOk result (λ is. ReadsLine text line.new.items (R.remaining input.new) is) }
 {
@@ -68,13 +59,13 @@ fn read_line<R: BufRead>(input: &mut R, line: &mut Vec<u8>) -> Result<bool, Fail
             }
             Ok(true)
         }
-        Err(error) if error.kind() == ErrorKind::OutOfMemory => Err(Failure::Memory),
-        Err(_) => Err(Failure::Read),
+        Err(error) if error.kind() == ErrorKind::OutOfMemory => Err(Stop::Failed(Failure::Memory)),
+        Err(_) => Err(Stop::Failed(Failure::Broken)),
     }
 }
 
 /// Tells of a line that is none.
-fn tell_of_line<E: Sink>(alloc: Global, errors: &mut E, number: u64) -> Result<(), Failure>
+fn tell_of_line<E: Sink>(alloc: Global, errors: &mut E, number: u64) -> Result<(), Stop>
     ensures { IfOk result (λ _. Wrote (E.state errors.old) (E.state errors.new) (passed_line number)) }
 {
     let number = number.to_string(alloc)?;
@@ -109,7 +100,7 @@ fn write_line<W: Sink, E: Sink>(
     line: &[u8],
     out: &mut W,
     errors: &mut E,
-) -> Result<bool, Failure>
+) -> Result<bool, Stop>
     ensures done { is_json writer.old ≡ true → IfOk result (λ is. IsDone (option_map (λ name. name.now) font.entry) number line.now
         (W.state out.old) (W.state out.new) (E.state errors.old) (E.state errors.new) is) }
     ensures json { is_json writer.old ≡ true → is_json writer.new ≡ true }
@@ -134,7 +125,7 @@ fn write_lines<R: BufRead, W: Sink, E: Sink>(
     input: &mut R,
     out: &mut W,
     errors: &mut E,
-) -> Result<bool, Failure>
+) -> Result<bool, Stop>
     ensures written { is_json writer.old ≡ true → (text : List ℕ) → R.remaining input.old ≡ Some text → length text < 2 ^ 63
         → IfOk result (IsRunOver Wrote (option_map (λ name. name.now) font.entry) text
         (W.state out.old) (W.state out.new) (E.state errors.old) (E.state errors.new)) }
@@ -161,7 +152,7 @@ pub fn run<R: BufRead, W: Sink, E: Sink>(
     input: &mut R,
     out: &mut W,
     errors: &mut E,
-) -> Result<bool, Failure>
+) -> Result<bool, Stop>
     ensures json { options.now.form ≡ JsonLines → (text : List ℕ) → R.remaining input.old ≡ Some text → length text < 2 ^ 63
         → IfOk result (IsRunOver Delivered (font_of options.now) text
         (W.state out.old) (W.state out.new) (E.state errors.old) (E.state errors.new)) }
