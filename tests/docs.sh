@@ -5,8 +5,8 @@
 #   the same lines for a further one. The example's lines are those that the case wants. Where the example is of charstrings, the
 #   tokens that are written out are those that the program traces in the case's font: `A: ..` and `Subr 5: ..`. A line
 #   `X … (seven times) Y` stands for seven X and one Y.
-# - Each rule and each refusal has its text in the table of its kind, and each rule in its heading too; t1_lines reads the same texts of
-#   refusals, and t1_font has those of a font's bytes. The pages that t1_forms keeps are those of docs/RULES.md.
+# - Each rule and each refusal has its text in the table of its kind, and each rule in its heading too; the texts of refusals are those of
+#   t1_lines, in code and definition, and t1_font has those of a font's bytes. The pages that t1_forms keeps are those of docs/RULES.md.
 # - Each rule stands in all places that docs/ARCHITECTURE.md names for it; one that lacks rules is told with their codes. A file that has all
 #   of them is named there. The definitions in a rule's row of docs/RULES.md are in the files that stand behind them, and the first of them
 #   is cited where specs/ says what breaks the rule. Above each row in specs/ stands a source.
@@ -168,14 +168,14 @@ while read -r code text; do
         pass
     fi
 done <"$scratch/book"
-sed -n 's/^.*"refused: \(E[0-9]*\) \(.*\)\\n",$/\1 \2/p' "$top/crates/t1check/src/refusals.rt" >"$scratch/refusals"
+sed -n 's/^.*=> "\(E[0-9]*\) \(.*\)",$/\1 \2/p' "$top/crates/t1_lines/src/refusal.rt" >"$scratch/refusals"
 while read -r code text; do
     # A file's size and the waivers aren't t1_font's.
     case $code in E05 | E14 | E15) of_font='' ;; *) of_font=yes ;; esac
     if ! grep -qF "| $code | $text |" "$rules"; then
         fail "docs/RULES.md: no row of the table says $code $text"
-    elif ! grep -qF "\"$code $text\"" "$top/crates/t1_lines/src/refusal.rt"; then
-        fail "crates/t1_lines/src/refusal.rt: no refusal has the text $code $text"
+    elif ! grep -qF "codes \"$code $text\"" "$top/crates/t1_lines/specs/RefusalTexts.antt"; then
+        fail "crates/t1_lines/specs/RefusalTexts.antt: no refusal has the text $code $text"
     elif [ -n "$of_font" ] && ! grep -qF "\"$code $text\"" "$top/crates/t1_font/src/unread.rt"; then
         fail "crates/t1_font/src/unread.rt: no refusal has the text $code $text"
     else
