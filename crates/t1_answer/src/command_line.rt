@@ -5,7 +5,6 @@ ghost use Rattle.clap.specs.Words.{app_of};
 ghost use Rattle.t1_answer.specs.CommandLine.{t1check};
 ghost use Rattle.t1_answer.specs.Words.{AreTaken};
 ghost use Rattle.t1_run.specs.Words.{AreRefused};
-ghost use Rattle.t1_answer.specs.Answers.{refused};
 
 use crate::asked::Options;
 use clap::{Arg, Command, value_parser};

@@ -1,12 +1,11 @@
 //! A run: reads a font, and the waivers, and draws what the options ask for.
 
 ghost use Rattle.std.specs.Prelude.{◌≡◌, ◌≤◌, ◌+◌, false, string_bytes};
-ghost use Rattle.std.specs.Option.{is_some};
 ghost use Rattle.t1_lines.specs.declared.refusal.Reason.TheVariants as reason;
 ghost use Rattle.t1_report.specs.Waivers.{largest_waivers};
 ghost use Rattle.t1_run.specs.Failures.{failure_of, out_of_memory_line};
 ghost use Rattle.t1_run.specs.FontFiles.{largest_file};
-ghost use Rattle.t1_run.specs.Input.{ReadsAtMost, StopsAt, TakesAtMost};
+ghost use Rattle.t1_run.specs.Input.{ReadsAtMost, StopsAt};
 ghost use Rattle.t1_run.specs.Telling.{Tells};
 ghost use Rattle.t1draw.specs.Ends.{Draws, no_glyph_line, program};
 ghost use Rattle.t1draw.specs.Private.Failures.{DrawsFile, DrawsGlyph, TellsWhy};
