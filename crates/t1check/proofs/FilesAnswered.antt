@@ -12,7 +12,7 @@ use Rattle.t1_run.specs.Answering.{Answers, IsOpened, RunsOn}
 use Rattle.t1_run.specs.Answering.Answers.{explained, not_opened, read_file, read_input}
 use Rattle.t1_run.specs.Answering.IsOpened.{none_named, opened}
 use Rattle.t1_run.specs.Answering.RunsOn.{no_waivers, ran}
-use Rattle.t1_run.specs.Opening.{Files, Opening, Sinks}
+use Rattle.t1_run.specs.Opening.{Files, Sinks}
 use Rattle.t1_run.specs.Telling.{Explains, Tells}
 use Rattle.t1_run.specs.Telling.Gives.{given, ungiven}
 use Rattle.t1_run.specs.Telling.Tells.{told, untold}
@@ -21,7 +21,7 @@ use Rattle.t1_run.specs.declared.status.Status.{Status}
 use Rattle.t1_run.specs.declared.status.Status.TheVariants.{Failed}
 use Rattle.t1_run.specs.declared.usage.UsageError.{UsageError}
 use Rattle.t1_run.specs.declared.usage.UsageError.TheVariants.{Help, Usage, Memory}
-use Rattle.t1check.specs.Laws.{AreWaiversOf, IsAnswered, IsFontOf, WordsAndFilesAreAnswered}
+use Rattle.t1check.specs.Laws.{AreWaiversOf, Folder, IsAnswered, IsFontOf, WordsAndFilesAreAnswered, opening_of}
 use Rattle.t1check.specs.Laws.IsAnswered.{answered, helped}
 
 -- What is told of a failure ends with 3.
@@ -29,7 +29,7 @@ three : (text : List ℕ) (errors errors' : SinkState) (result : Status) → Tel
 three text errors errors' result (told wrote is) = is
 three text errors errors' result (untold broke is) = is
 
-module _ (words : List Text) (fonts waivers : Opening) (input : SourceState) (sinks sinks' : Sinks) (result : Status) (went : result ≢ Failed) where
+module _ (words : List Text) (fonts waivers : Folder) (input : SourceState) (sinks sinks' : Sinks) (result : Status) (went : result ≢ Failed) where
   by_explaining : (error : UsageError) → AreRefused t1check words error
       → Explains program error sinks.out sinks'.out sinks.errors sinks'.errors result → IsAnswered words fonts waivers input sinks sinks' result
   by_explaining (Help text) refused (given delivered same is) = helped text refused delivered
@@ -38,17 +38,17 @@ module _ (words : List Text) (fonts waivers : Opening) (input : SourceState) (si
   by_explaining Memory refused (same, tells) = absurd (went (three _ _ _ _ tells))
 
   -- the source of the waivers, and that no read of it had failed
-  of_waivers : (named : Option Text) (v v' : SourceState) (file : Option SourceState) → IsOpened waivers named v v' file → AreWaiversOf waivers named v
+  of_waivers : (named : Option Text) (v v' : SourceState) (file : Option SourceState) → IsOpened (opening_of waivers) named v v' file → AreWaiversOf waivers named v
   of_waivers named v v' file (opened name is opens sound at) = subst (λ (n : Option Text). AreWaiversOf waivers n v) (sym is) opens
   of_waivers named v v' file (none_named is sound at) = subst (λ (n : Option Text). AreWaiversOf waivers n v) (sym is) tt
 
-  sound_waivers : (named : Option Text) (v v' : SourceState) (file : Option SourceState) → IsOpened waivers named v v' file → v.failed ≡ false
+  sound_waivers : (named : Option Text) (v v' : SourceState) (file : Option SourceState) → IsOpened (opening_of waivers) named v v' file → v.failed ≡ false
   sound_waivers named v v' file (opened name is opens sound at) = sound
   sound_waivers named v v' file (none_named is sound at) = sound
 
   by_running : RunsKeepPromises → sinks.out.failed ≡ false → sinks.errors.failed ≡ false
       → (options : Options) → AreTaken words options → (source source' : SourceState) → IsFontOf fonts input (option_map string_bytes options.file) source
-      → (file : Option SourceState) → RunsOn (checking words) options waivers source source' file sinks sinks' result
+      → (file : Option SourceState) → RunsOn (checking words) options (opening_of waivers) source source' file sinks sinks' result
       → IsAnswered words fonts waivers input sinks sinks' result
   by_running keep out_sound errors_sound options taken source source' of file (ran v v' opening ends) =
       answered options taken source of v (of_waivers _ v v' file opening)

@@ -1,5 +1,5 @@
 -- The statement of the law: from words and files to the answer.
-use Rattle.std.specs.Prelude.{◌≡◌, ◌≢◌, false, List, Option, None, Some, option_map, string_bytes, String}
+use Rattle.std.specs.Prelude.{◌≡◌, ◌≢◌, ℕ, false, List, Option, None, Some, option_map, string_bytes}
 use Rattle.clap.specs.Words.{Text}
 use Rattle.t1_answer.specs.CommandLine.{t1check}
 use Rattle.t1_answer.specs.Laws.Runs.{Answered, IfKnown}
@@ -13,19 +13,27 @@ use Rattle.t1_run.specs.declared.status.Status.{Status}
 use Rattle.t1_run.specs.declared.status.Status.TheVariants.{Failed}
 use Rattle.t1_run.specs.declared.usage.UsageError.TheVariants.{Help}
 
+-- What names stand for: the bytes of a file, where they are known, or nothing that can be opened.
+abbrev pub Folder : Type 0
+Folder = Text → Option (Option (List ℕ))
+
+-- The way in which its files are opened.
+abbrev pub opening_of : Folder → Opening
+opening_of folder = record { Opens = λ name left. folder name ≡ Some left; CannotOpen = λ name. folder name ≡ None }
+
 -- The source of the font: the file of the name, or standard input where none is named.
-abbrev pub IsFontOf : Opening → SourceState → Option Text → SourceState → Type 0
+abbrev pub IsFontOf : Folder → SourceState → Option Text → SourceState → Type 0
 IsFontOf fonts input None source = source ≡ input
-IsFontOf fonts input (Some name) source = fonts.Opens name source.left
+IsFontOf fonts input (Some name) source = fonts name ≡ Some source.left
 
 -- The source of the waivers: the file of the name, where one is to be read.
-abbrev pub AreWaiversOf : Opening → Option Text → SourceState → Type 0
+abbrev pub AreWaiversOf : Folder → Option Text → SourceState → Type 0
 AreWaiversOf waivers None source = Unit {0}
-AreWaiversOf waivers (Some name) source = waivers.Opens name source.left
+AreWaiversOf waivers (Some name) source = waivers name ≡ Some source.left
 
 -- Help was asked for, and given; or the words give options, and the one answer to them, to the bytes of the font that they
 -- name and to the waivers' was given, where these bytes are known.
-pub data IsAnswered (words : List Text) (fonts waivers : Opening) (input : SourceState) (sinks sinks' : Sinks) (result : Status) : Type 1 where
+pub data IsAnswered (words : List Text) (fonts waivers : Folder) (input : SourceState) (sinks sinks' : Sinks) (result : Status) : Type 0 where
   helped :
       (text : _) → AreRefused t1check words (Help text) → Delivered sinks.out sinks'.out (string_bytes text)
       → IsAnswered words fonts waivers input sinks sinks' result
@@ -37,9 +45,9 @@ pub data IsAnswered (words : List Text) (fonts waivers : Opening) (input : Sourc
       → IsAnswered words fonts waivers input sinks sinks' result
 
 -- So it is of what `answer` ensures, unless the status is 3.
-abbrev pub WordsAndFilesAreAnswered : Type 1
+abbrev pub WordsAndFilesAreAnswered : Type 0
 WordsAndFilesAreAnswered =
-    (words : List Text) (fonts waivers : Opening) (input input' : SourceState) (files : Files) (sinks sinks' : Sinks) (result : Status)
+    (words : List Text) (fonts waivers : Folder) (input input' : SourceState) (files : Files) (sinks sinks' : Sinks) (result : Status)
     → input.failed ≡ false → sinks.out.failed ≡ false → sinks.errors.failed ≡ false
-    → Answers (checking words) fonts waivers input input' files sinks sinks' result → result ≢ Failed
+    → Answers (checking words) (opening_of fonts) (opening_of waivers) input input' files sinks sinks' result → result ≢ Failed
     → IsAnswered words fonts waivers input sinks sinks' result
