@@ -262,6 +262,7 @@ END
     try 'lines on a full device' 3 sh -c "'$format' github <lines.in >/dev/full"
     wanted <<'END'
 --
+t1format: write failed
 END
     try 'help on a full device' 3 sh -c "'$format' --help >/dev/full"
 else
