@@ -1,3 +1,4 @@
+pub mod AnAnswer
 pub mod CommandLemmas
 pub mod GlyphWordLemmas
 pub mod OneAnswer

@@ -54,6 +54,10 @@ waived_by asked text = if asked then waivers_in text else Ok []
 abbrev pub IsAnswer : Options → List ℕ → List ℕ → Answer → Type 0
 IsAnswer options file text answer = IsAnswerTo (wish_of options) (font_of file) (waived_by (asks_waivers options) text) answer
 
+-- There is an answer.
+abbrev pub HasAnAnswer : Type 0
+HasAnAnswer = (options : Options) (file text : List ℕ) → (answer : Answer) × IsAnswer options file text answer
+
 -- Options that the same words give have no two answers for the same bytes.
 abbrev pub HasNoOtherAnswer : Type 0
 HasNoOtherAnswer =

@@ -1,15 +1,18 @@
 //! Laws above the definitions: each is the contract of a function that does nothing, but for calling the law on which it rests.
 
-ghost use Rattle.t1draw.specs.Laws.{HasNoOtherAnswer, ShownNamesAreWords};
+ghost use Rattle.t1draw.specs.Laws.{HasAnAnswer, HasNoOtherAnswer, ShownNamesAreWords};
 
+use t1_font::limits_of_fonts;
 use t1_picture::a_subject_has_one_picture;
 
-/// The words of the command line, where they give options, the bytes of a font's file and the text of the waivers have no two
-/// answers: the picture, to its last byte, or why there is none.
-pub fn a_file_has_no_two_answers()
-    ensures { HasNoOtherAnswer }
+/// The words of the command line, where they give options, the bytes of a font's file and the text of the waivers decide the
+/// answer: the picture, to its last byte, or why there is none.
+pub fn a_file_has_one_answer()
+    ensures some { HasAnAnswer }
+    ensures no_other { HasNoOtherAnswer }
 {
     a_subject_has_one_picture();
+    limits_of_fonts();
 }
 
 /// A name, as it is shown, is a word for it, so that what a legend or a line shows can be given as GLYPH: no two names are shown

@@ -68,7 +68,7 @@ impl From<AllocError> for Undrawn {
 /// there is none, it is told why, and nothing is put on the output.
 ///
 /// Where memory is there and no device fails, the options, the font's bytes and the text of the waivers decide the picture, to its
-/// last byte, or what is told where there is none ([`a_file_has_no_two_answers`](crate::laws::a_file_has_no_two_answers)).
+/// last byte, or what is told where there is none ([`a_file_has_one_answer`](crate::laws::a_file_has_one_answer)).
 pub fn draw<R: Source, V: Source, W: Sink, E: Sink>(
     alloc: Global,
     options: &Options,
