@@ -136,7 +136,6 @@ impl<'a> Frames<'a> {
     }
 
     /// Goes into a Subr.
-    #[inline(never)]
     fn enter(&mut self, font: &'a Font<'a>, subr: Subr<'a>)
         requires room { length self.old.step.path.items < most_calls }
         requires even { length self.old.step.path.items ≡ length self.old.callers.items }
@@ -151,7 +150,6 @@ impl<'a> Frames<'a> {
     }
 
     /// Goes back into the charstring that called.
-    #[inline(never)]
     fn leave(&mut self)
         requires called { 0 < length self.old.callers.items }
         ensures path { self.new.step.path.items
