@@ -1,7 +1,5 @@
 -- What the program answers to the bytes that a source gave until its end.
-use Rattle.std.proofs.Common.{option_map, string_bytes, codes, ◌≡◌, ℕ, ◌<◌, ◌≤◌, nat_lt, Bool, false, true, List, ◌++◌, Option, None, Some, Result, Ok, Err, inl, inr, length, subst, sym, ap, ◌∙◌, refl, arith, append-nil, length-append}
-use Rattle.std.proofs.lemmas.Bool.Decides.{nat_tests}
-use Rattle.std.specs.Io.KnownBytes.{Consumes, IsAtEnd}
+use Rattle.std.proofs.Common.{option_map, string_bytes, ◌≡◌, ℕ, Bool, false, List, Option, None, Some, Result, Ok, Err, inl, inr, subst, sym, ap, ◌∙◌, refl}
 use Rattle.t1_font.specs.Fonts.{FontValue}
 use Rattle.t1_io.specs.Devices.{SinkState, SourceState}
 use Rattle.t1_report.specs.Checked.{checked}
@@ -10,7 +8,6 @@ use Rattle.t1_report.specs.Laws.Reports.{HasNoOtherReport, HasReport}
 use Rattle.t1_answer.specs.declared.asked.Options.{Options}
 use Rattle.t1_run.specs.declared.status.Status.{Status}
 use Rattle.t1_run.specs.declared.status.Status.TheVariants.{Failed}
-use Rattle.t1_font.specs.FontFiles.{font_in}
 use Rattle.t1_font.specs.declared.unread.Unread.{Unread}
 use Rattle.t1_lines.specs.declared.refusal.Reason.{Reason}
 use Rattle.t1_lines.specs.declared.refusal.Reason.TheVariants.{FontTooLarge, Font}

@@ -3,8 +3,8 @@ use Rattle.std.proofs.Common.{◌≡◌, false, codes, ap, refl, ◌∙◌}
 use Rattle.clap.specs.Words.{AddsArg, App, app_of, new_app, rule_of, with_rule}
 use Rattle.clap.specs.declared.builder.arg.Arg.{Arg}
 use Rattle.clap.specs.declared.builder.command.Command.{Command}
-use Rattle.t1_run.specs.Words.{IsPlainApp}
-use Rattle.t1_answer.specs.CommandLine.{t1check, after_rule, edition_rule, file_rule, max_rule, trace_rule, waive_rule}
+use Rattle.t1_run.specs.Words.{IsPlainApp, edition_rule, waive_rule}
+use Rattle.t1_answer.specs.CommandLine.{t1check, after_rule, file_rule, max_rule, trace_rule}
 
 -- no argument excludes anything, and each has an id of its own
 pub plain : IsPlainApp t1check

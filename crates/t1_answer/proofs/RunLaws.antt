@@ -1,5 +1,5 @@
 -- Each way in which a run ends keeps its promises.
-use Rattle.std.proofs.Common.{option_map, string_bytes, ◌≡◌, ◌≢◌, ◌⊎◌, inl, inr, ℕ, Bool, true, false, true≢false, List, [], ◌∷◌, Option, None, Some, IfSome, Result, Ok, Err, codes, refl, sym, ap, subst, ◌∙◌}
+use Rattle.std.proofs.Common.{option_map, string_bytes, ◌≡◌, ◌≢◌, ◌⊎◌, inl, inr, ℕ, Bool, true, false, true≢false, List, [], ◌∷◌, Option, None, Some, IfSome, Result, Ok, Err, refl, sym, ap, subst, ◌∙◌}
 use Rattle.std.specs.Io.KnownBytes.{Appends, Keeps}
 use Rattle.std.proofs.KnownBytes.{Appends-nil, Keeps-refl}
 use Rattle.t1_font.specs.Fonts.{FontValue}
@@ -11,7 +11,7 @@ use Rattle.t1_lines.specs.declared.refusal.Reason.{Reason}
 use Rattle.t1_answer.specs.Answers.{Answer, IsAnswerTo, IsShown, selection, refused, reported, status_of, traced_at}
 use Rattle.t1_answer.specs.Ends.{Ends, Shows}
 use Rattle.t1_answer.specs.Ends.Shows.{no_glyph, reported as was_reported, traced as was_traced, no_room, waivers_refused, waivers_unread}
-use Rattle.t1_answer.specs.Traces.{no_glyph_line, trace_of}
+use Rattle.t1_answer.specs.Traces.{trace_of}
 use Rattle.t1_answer.specs.Ends.Ends.{no_memory as was_no_memory, read_failed as was_read_failed, refused as was_refused, shown as was_shown}
 use Rattle.t1_run.specs.Telling.Gives.{given, ungiven}
 use Rattle.t1_run.specs.Telling.Tells.{told, untold}
@@ -352,7 +352,7 @@ module _ (options : Options) (left : Option (List ℕ)) (failed : Bool) (waivers
       (same_failed untouched) (spared_whole untouched) refl
       (λ two. cc) clean-failed gives
   after_shown font are unfailed (no_glyph name is none untouched same tells) =
-      let answer : Answer = record { output = []; told = no_glyph_line name; status = Failed } in
+      let answer : Answer = record { output = []; told = no_glyph_line program name; status = Failed } in
       after_told answer (of-font answer (Ok font) are
       (λ waived. shown_by font waived answer _ (Some name) is (sym (ap (traced_at options.edition font name) none)))) unfailed
       (same_failed untouched) (spared_whole untouched) refl

@@ -1,5 +1,5 @@
 -- Whether waivers are asked for, and the report with them.
-use Rattle.std.proofs.Common.{◌≡◌, ℕ, Bool, true, false, true≢false, List, option_map, if◌then◌else◌, Option, None, Some, Ok, Err, refl, sym, subst, ◌∙◌}
+use Rattle.std.proofs.Common.{◌≡◌, ℕ, Bool, List, option_map, if◌then◌else◌, Option, None, Some, refl, subst}
 use Rattle.std.specs.Option.{is_some}
 use Rattle.t1_font.specs.Fonts.{FontValue}
 use Rattle.t1_io.specs.Devices.{SinkState, SourceState}

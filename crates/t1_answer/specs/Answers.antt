@@ -9,11 +9,12 @@ use Rattle.t1_answer.specs.declared.asked.Options.{Options}
 use Rattle.t1_run.specs.declared.status.Status.{Status}
 use Rattle.t1_run.specs.declared.status.Status.TheVariants.{Clean, Failed, Faults, Refused}
 use Rattle.t1_lines.specs.declared.refusal.Reason.{Reason}
+use Rattle.t1_run.specs.Failures.{no_glyph_line}
 use Rattle.t1_run.specs.FontFiles.{font_of}
 use Rattle.t1_answer.specs.Lines.{lines_of}
-use Rattle.t1_answer.specs.Told.{program, told_of, unread_status}
+use Rattle.t1_answer.specs.Told.{program, told_of}
 use Rattle.t1_rules.specs.Components.{glyph_named}
-use Rattle.t1_answer.specs.Traces.{no_glyph_line, trace_of}
+use Rattle.t1_answer.specs.Traces.{trace_of}
 use Rattle.t1_report.specs.Waivers.{Waiver}
 use Rattle.t1_answer.specs.Waived.{asks_waivers}
 use Rattle.t1_run.specs.WaiverFiles.{waivers_in}
@@ -55,7 +56,7 @@ IsReported options font (Err reason) answer = answer ≡ refused (told_of reason
 
 -- The trace of a glyph, or that there is none of the name.
 abbrev pub traced_at : Edition → FontValue → List ℕ → Option ℕ → Answer
-traced_at edition font name None = record { output = []; told = no_glyph_line name; status = Failed }
+traced_at edition font name None = record { output = []; told = no_glyph_line program name; status = Failed }
 traced_at edition font name (Some glyph) = record { output = trace_of edition font glyph; told = []; status = Clean }
 
 abbrev pub traced : Edition → FontValue → List ℕ → Answer

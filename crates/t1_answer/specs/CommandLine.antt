@@ -1,15 +1,9 @@
 -- The command line: its arguments as clap sees them, and the options that words give by clap's rules.
-use Rattle.std.specs.Prelude.{◌≡◌, ◌<◌, ℕ, length, List, [], ◌∷◌, Option, None, Some, IfSome, IsSome, option_map, codes, string_bytes}
-use Rattle.std.specs.Str.Parse.{IsNumeral, without_leading_plus, digits_value}
-use Rattle.clap.specs.Words.{App, Rule, Text, fault_of, first_of, matches_of, new_app, new_rule, with_rule}
+use Rattle.std.specs.Prelude.{◌≡◌, ℕ, List, [], Option, None, Some, option_map, codes, string_bytes}
+use Rattle.clap.specs.Words.{App, Rule, Text, first_of, matches_of, new_app, new_rule, with_rule}
 use Rattle.clap.specs.declared.builder.value_parser.ValueParser.TheVariants as parser
-use Rattle.clap.specs.declared.error.kind.ErrorKind.TheVariants.{DisplayHelp}
-use Rattle.t1_char.specs.declared.edition.Edition.{Edition}
-use Rattle.t1_char.specs.declared.edition.Edition.TheVariants.{One, Two}
 use Rattle.t1_answer.specs.declared.asked.Options.{Options}
-use Rattle.t1_run.specs.declared.usage.UsageError.{UsageError}
-use Rattle.t1_run.specs.declared.usage.UsageError.TheVariants.{Help, Usage, Memory}
-use Rattle.t1_run.specs.Words.{AreNumber, IsEditionOrFirst, IsNumber}
+use Rattle.t1_run.specs.Words.{AreNumber, IsEditionOrFirst, IsNumber, edition_rule, waive_rule}
 
 -- --after K, K a number of 64 bits
 abbrev pub after_rule : Rule
@@ -30,18 +24,6 @@ max_rule = record (new_rule (codes "max")) {
 -- --trace NAME
 abbrev pub trace_rule : Rule
 trace_rule = record (new_rule (codes "trace")) { long = Some (codes "trace"); value_names = 1 }
-
--- --edition N, N 1 or 2
-abbrev pub edition_rule : Rule
-edition_rule = record (new_rule (codes "edition")) {
-  long = Some (codes "edition");
-  value_names = 1;
-  parser = Some (parser.Unsigned 1 2);
-}
-
--- --waive FILE
-abbrev pub waive_rule : Rule
-waive_rule = record (new_rule (codes "waive")) { long = Some (codes "waive"); value_names = 1 }
 
 -- FILE
 abbrev pub file_rule : Rule

@@ -1,7 +1,7 @@
 -- How a run ends: what was given on the output, what was told on standard error, and the status.
-use Rattle.std.specs.Prelude.{◌≡◌, ℕ, Bool, true, false, List, Option, None, Some, option_map, Result, Ok, Err, IfSome, codes, string_bytes}
+use Rattle.std.specs.Prelude.{◌≡◌, ℕ, Bool, true, false, List, Option, None, Some, option_map, Ok, Err, string_bytes}
 use Rattle.t1_font.specs.Fonts.{FontValue}
-use Rattle.t1_io.specs.Devices.{Delivered, DeliveryFailed, PutFailed, SinkState, Wrote, SourceState}
+use Rattle.t1_io.specs.Devices.{SinkState, SourceState}
 use Rattle.t1_report.specs.Checked.{checked}
 use Rattle.t1_report.specs.Faults.{FaultValue}
 use Rattle.t1_report.specs.Reports.{IsReport}
@@ -10,14 +10,13 @@ use Rattle.t1_run.specs.declared.status.Status.{Status}
 use Rattle.t1_run.specs.declared.status.Status.TheVariants.{Clean, Failed, Refused}
 use Rattle.t1_lines.specs.declared.refusal.Reason.{Reason}
 use Rattle.t1_answer.specs.Answers.{selection, status_of}
-use Rattle.t1_run.specs.FontFiles.{font_of}
 use Rattle.t1_answer.specs.Lines.{lines_of}
 use Rattle.t1_answer.specs.Told.{program, told_of, unread_status}
 use Rattle.t1_rules.specs.Components.{glyph_named}
-use Rattle.t1_answer.specs.Traces.{no_glyph_line, trace_of}
+use Rattle.t1_answer.specs.Traces.{trace_of}
 use Rattle.t1_report.specs.Waivers.{Waiver}
 use Rattle.t1_answer.specs.Waived.{asks_waivers}
-use Rattle.t1_run.specs.Failures.{out_of_memory_line, read_failed_line}
+use Rattle.t1_run.specs.Failures.{no_glyph_line, out_of_memory_line, read_failed_line}
 use Rattle.t1_run.specs.FontFiles.{AreRead}
 use Rattle.t1_run.specs.Telling.{Gives, Tells}
 use Rattle.t1_run.specs.WaiverFiles.{AreWaived, IsHeard, IsUnbroken}
@@ -45,7 +44,7 @@ pub data Shows (options : Options) (font : FontValue) (waivers waivers' : Source
       → Shows options font waivers waivers' out out' errors errors' result
   no_glyph :
       (name : List ℕ) → option_map string_bytes options.trace ≡ Some name → glyph_named font name ≡ None
-      → waivers' ≡ waivers → out' ≡ out → Tells (no_glyph_line name) Failed errors errors' result
+      → waivers' ≡ waivers → out' ≡ out → Tells (no_glyph_line program name) Failed errors errors' result
       → Shows options font waivers waivers' out out' errors errors' result
   -- status 2
   waivers_refused :

@@ -1,6 +1,6 @@
 -- The trace of a glyph: its steps, a line each.
-use Rattle.std.specs.Prelude.{ℕ, nat_lt, if◌then◌else◌, List, [], ◌∷◌, ◌++◌, length, take, codes}
-use Rattle.std.specs.List.{concat, flat_map}
+use Rattle.std.specs.Prelude.{ℕ, nat_lt, if◌then◌else◌, List, [], ◌++◌, length, take, codes}
+use Rattle.std.specs.List.{flat_map}
 use Rattle.t1_font.specs.Fonts.{FontValue}
 use Rattle.t1_char.specs.Steps.{NumberedStep, first_steps}
 use Rattle.t1_char.specs.declared.edition.Edition.{Edition}
@@ -15,7 +15,3 @@ trace_text limit steps =
 -- The trace of a glyph, by its place.
 abbrev pub trace_of : Edition → FontValue → ℕ → List ℕ
 trace_of edition font glyph = trace_text (limit_of edition) (first_steps (limit_of edition) font glyph)
-
--- What is told where a font has no glyph of the name.
-abbrev pub no_glyph_line : List ℕ → List ℕ
-no_glyph_line name = concat (codes "t1check: no glyph " ∷ name ∷ codes "\n" ∷ [])

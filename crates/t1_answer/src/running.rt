@@ -9,12 +9,12 @@ ghost use Rattle.t1_rules.specs.Components.{AreOf};
 ghost use Rattle.t1_answer.specs.Answers.{selection, status_of};
 ghost use Rattle.t1_answer.specs.Ends.{Ends, EndsForMemory, Shows};
 ghost use Rattle.t1_answer.specs.Told.{program};
-ghost use Rattle.t1_run.specs.Telling.{Gives, Tells};
+ghost use Rattle.t1_run.specs.Telling.{Gives};
 ghost use Rattle.t1_run.specs.WaiverFiles.{as_waivers};
 ghost use Rattle.t1_answer.specs.Private.Running.{Checks, Reports};
 ghost use Rattle.t1_run.specs.Input.{TakesAtMost, ReadsAtMost, StopsAt};
 ghost use Rattle.t1_answer.specs.Lines.{lines_of};
-ghost use Rattle.t1_answer.specs.Traces.{no_glyph_line, trace_of};
+ghost use Rattle.t1_answer.specs.Traces.{trace_of};
 ghost use Rattle.t1_report.specs.Waivers.{waivers_of, largest_waivers};
 ghost use Rattle.t1_font.specs.Bounds.{most_glyphs};
 ghost use Rattle.t1_run.specs.FontFiles.{largest_file};
@@ -30,7 +30,7 @@ use t1_io::{Sink, Source};
 use t1_report::{Waivers, each_font_has_a_report};
 use t1_rules::{Sidebearings, glyph_named};
 use t1_run::{
-    Failure, Status, read_font_file, read_waivers, tell_failure, tell_parts, tell_write_failed,
+    Failure, Status, read_font_file, read_waivers, tell_failure, tell_no_glyph, tell_write_failed,
 };
 
 /// Reads a font to its end and writes its report, or the trace of a glyph. The waivers that the options ask for are read once the
@@ -103,7 +103,7 @@ fn show<V: Source, W: Sink, E: Sink>(
         return show_report(alloc, font, waivers, options, out, errors);
     };
     let Some(glyph) = glyph_named(font, name.as_bytes()) else {
-        return tell_no_glyph(name.as_str(), errors);
+        return tell_no_glyph(PROGRAM, name.as_str(), errors);
     };
     give_trace(&*font, glyph, options.edition, out, errors)
 }
@@ -193,12 +193,4 @@ fn give_trace<'a, W: Sink, E: Sink>(
         Ok(()) => Status::Clean,
         Err(_) => tell_write_failed(PROGRAM, errors),
     }
-}
-
-/// Tells that a font has no glyph of this name.
-fn tell_no_glyph<E: Sink>(name: &str, errors: &mut E) -> Status
-    ensures { Tells (no_glyph_line name.now) Status.Failed (E.state errors.old) (E.state errors.new) result }
-{
-    let parts = [b"t1check: no glyph ".as_slice(), name.as_bytes(), b"\n"];
-    tell_parts(errors, &parts, Status::Failed)
 }

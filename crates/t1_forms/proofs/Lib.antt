@@ -1,4 +1,6 @@
 pub mod Floats
 pub mod NotTold
+pub mod OneObject
 pub mod OneTelling
 pub mod ShownNames
+pub mod ShownWords

@@ -1,10 +1,43 @@
 -- The statements of laws.
-use Rattle.std.specs.Prelude.{◌≡◌, ℕ, List, Option}
-use Rattle.t1_lines.specs.Lines.{IsLine, LineValue, spelled}
-use Rattle.t1_forms.specs.Tellings.{behind_name}
+use Rattle.std.specs.Prelude.{◌≡◌, ◌<◌, ℕ, List, Option, Some, IfSome}
+use Rattle.std.specs.List.{AllByRecursion}
+use Rattle.t1_lines.specs.Lines.{IsLine, LineValue, PlaceValue, at_key, at_step, at_waiver, of_fault, of_refusal, spelled}
+use Rattle.t1_forms.specs.NameWords.{name_of_word}
+use Rattle.t1_forms.specs.Objects.{object_of}
+use Rattle.t1_forms.specs.Shown.{shown}
+use Rattle.t1_forms.specs.Tellings.{IsWhat, ToldValue, WhatValue, behind_name, of_line, of_unchecked}
 
 -- A text is that of one line of a report or a refusal at most, with one font's name in front or with none, whatever the name is.
 abbrev pub ATextTellsOneLine : Type 0
 ATextTellsOneLine =
     (name other : Option (List ℕ)) (a b : LineValue) → IsLine a → IsLine b
     → behind_name name (spelled a) ≡ behind_name other (spelled b) → (name ≡ other) × (a ≡ b)
+
+abbrev pub AreBytes : List ℕ → Type 0
+AreBytes name = AllByRecursion (λ byte. byte < 256) name
+
+-- A name of bytes, as it is shown, is a word for it: so no two names are shown alike, and each name has a word.
+abbrev pub ShownNamesAreWords : Type 0
+ShownNamesAreWords = (name : List ℕ) → AreBytes name → name_of_word (shown name) ≡ Some name
+
+-- The names that are told are bytes.
+abbrev pub IsPlaceOfBytes : PlaceValue → Type 0
+IsPlaceOfBytes (at_key key index) = Unit {0}
+IsPlaceOfBytes (at_step name path step) = AreBytes name
+IsPlaceOfBytes (at_waiver name waived) = AreBytes name
+
+abbrev pub IsWhatOfBytes : WhatValue → Type 0
+IsWhatOfBytes (of_line (of_fault l)) = IsPlaceOfBytes l.place
+IsWhatOfBytes (of_line (of_refusal code)) = Unit {0}
+IsWhatOfBytes (of_unchecked reason) = AreBytes reason
+
+-- A line of a font, or why it wasn't checked, whose names are bytes.
+pub record IsOfBytes (t : ToldValue) : Type 0 where
+  pub is : IsWhat t.what
+  pub font : IfSome t.font AreBytes
+  pub what : IsWhatOfBytes t.what
+
+-- What is told differently has different objects.
+abbrev pub DifferentTellingsHaveDifferentObjects : Type 0
+DifferentTellingsHaveDifferentObjects =
+    (a b : ToldValue) → IsOfBytes a → IsOfBytes b → object_of a ≡ object_of b → a ≡ b

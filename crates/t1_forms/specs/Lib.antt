@@ -1,4 +1,5 @@
 pub mod Laws
+pub mod NameWords
 pub mod Objects
 pub mod Private
 pub mod Shown

@@ -1,6 +1,6 @@
 //! Laws above the definitions: each is the contract of a function that does nothing, but for calling the laws on which it rests.
 
-ghost use Rattle.t1_forms.specs.Laws.{ATextTellsOneLine};
+ghost use Rattle.t1_forms.specs.Laws.{ATextTellsOneLine, DifferentTellingsHaveDifferentObjects, ShownNamesAreWords};
 
 use t1_lines::{a_text_is_one_line, no_line_stands_in_another};
 
@@ -11,3 +11,17 @@ pub fn a_text_tells_one_line()
     a_text_is_one_line();
     no_line_stands_in_another();
 }
+
+/// A name, as it is shown, is a word for it, so that what a legend, an object or a line shows can be given to t1draw as GLYPH: no
+/// two names are shown alike, and each name has a word.
+#[tactic(auto, using(crate::proofs::ShownWords::shown_words))]
+pub fn shown_names_are_words()
+    ensures { ShownNamesAreWords }
+{}
+
+/// What is told differently has different objects: an object tells again which font, which place and which rule it is of, or which
+/// refusal, or why the font wasn't checked.
+#[tactic(auto, using(crate::proofs::OneObject::one_object))]
+pub fn different_tellings_have_different_objects()
+    ensures { DifferentTellingsHaveDifferentObjects }
+{}

@@ -8,7 +8,8 @@
 //!
 //! - What is read is spelled as the line is, and a line that is spelled so is read. Whatever the font's name, a text is that of
 //!   one line at most.
-//! - The line of JSON is the compact text of the object that the line read stands for, and nothing else.
+//! - The line of JSON is the compact text of the object that the line read stands for, and nothing else. What is told differently
+//!   has different objects.
 //!
 //! Each is written before the next one is read: memory doesn't grow with the lines, but for fonts that weren't checked, of which
 //! a document keeps at most a thousand. This, the documents of SARIF and GitHub's commands are shown by tests alone.
@@ -32,7 +33,9 @@ mod told;
 
 pub use commands::write_command;
 pub use error::FormatError;
-pub use laws::a_text_tells_one_line;
+pub use laws::{
+    a_text_tells_one_line, different_tellings_have_different_objects, shown_names_are_words,
+};
 pub use names::shown;
 pub use objects::{object, write_object};
 pub use sarif::Sarif;

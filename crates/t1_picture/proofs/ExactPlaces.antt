@@ -1,10 +1,9 @@
 -- Decimal places are the part that they are made of.
-use Rattle.std.proofs.Common.{◌≡◌, ◌<◌, ◌+◌, ◌-◌, ◌*◌, ◌/◌, ◌%◌, ◌^◌, ◌==◌, ℕ, zero, suc, true, false, List, [], ◌∷◌, ◌++◌, length, inl, inr, refl, sym, ap, ◌∙◌, arith}
+use Rattle.std.proofs.Common.{◌≡◌, ◌<◌, ◌+◌, ◌-◌, ◌*◌, ◌/◌, ◌%◌, ◌^◌, ◌==◌, ℕ, zero, suc, [], length, inl, inr, sym, ap, ◌∙◌, arith}
 use Rattle.std.proofs.lemmas.Bool.{cases_Bool, eqb-true}
 use Rattle.std.proofs.lemmas.Fmt.{decimal_digit}
 use Rattle.std.proofs.lemmas.Nat.{div-add-mod', mul-mod_first}
 use Rattle.std.proofs.Math.Nat.{add-mul, div-lt_iff_lt-mul, mod-eq_of_lt, mod-lt, mul_assoc, mul_comm, pow-succ'}
-use Rattle.std.specs.Fmt.{decimal}
 use Rattle.t1_picture.specs.declared.decimals.Unit.TheVariants.{Coordinate, Value}
 use Rattle.t1_picture.specs.Decimals.{places}
 use Rattle.t1_picture.specs.Laws.{PlacesAreExact, digits_value}

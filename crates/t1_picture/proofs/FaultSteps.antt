@@ -14,7 +14,7 @@ use Rattle.t1_picture.specs.declared.marks.Marks.{Marks}
 use Rattle.t1_picture.specs.Drawings.{all_steps}
 use Rattle.t1_picture.specs.Private.FaultViews.{AreThose, IsRunFor, IsStepOf, counted}
 use Rattle.t1_picture.specs.Private.MarkViews.{IsMarked, done_with, last_with}
-use Rattle.t1_picture.specs.Marks.{AreShownOf, fault_lines, glyph_steps, is_X05, is_waived_of, last_of, lines_of, marks_from, miss_lines, named_at, named_by, pen_at, same_point, shown_of, up_to, waived_of}
+use Rattle.t1_picture.specs.Marks.{fault_lines, glyph_steps, is_X05, is_waived_of, last_of, lines_of, marks_from, miss_lines, named_at, named_by, pen_at, same_point, shown_of, up_to, waived_of}
 use Rattle.t1_picture.specs.Private.Runs.{GoesTo, IsInHand, IsOfSameGlyph, seen_steps}
 use Rattle.t1_picture.specs.Subjects.{Subject}
 use Rattle.t1_picture.specs.Texts.{legible_line}
@@ -24,7 +24,7 @@ use Rattle.t1_report.specs.Checked.{CheckedFont, checked, step_limit}
 use Rattle.t1_report.specs.Faults.{FaultValue}
 use Rattle.t1_report.specs.Lines.{line_of}
 use Rattle.t1_report.specs.Reports.{Place, is_broken, is_told, path_at, place_of, rules_of, step_breaks}
-use Rattle.t1_report.specs.UnitFaults.{HasNoneLaterInUnit, IsNextInUnit, IsToldOf, first_mark_of}
+use Rattle.t1_report.specs.UnitFaults.{HasNoneLaterInUnit, IsNextInUnit, IsToldOf}
 use Rattle.t1_report.specs.Waivers.{Waiver, is_waived}
 use Rattle.t1_report.specs.Walks.{AreLaterOf, IsNextOf, mark_of}
 use Rattle.t1_report.proofs.Broken.{past_steps}

@@ -1,5 +1,5 @@
 -- A command of a program without subcommands, argument by argument, as clap's rules see it.
-use Rattle.std.proofs.Common.{◌≡◌, ◌≤◌, ℕ, zero, suc, Bool, ◌&&◌, not, false, true, List, [], ◌∷◌, Option, None, Some, is_some, map, codes, inl, inr, ap, sym, subst, refl, lit<, lit≤, arith, ◌∙◌}
+use Rattle.std.proofs.Common.{◌≡◌, ◌≤◌, ℕ, zero, suc, not, false, true, List, [], ◌∷◌, Option, None, Some, is_some, map, codes, inl, inr, ap, sym, subst, refl, lit≤, arith, ◌∙◌}
 use Rattle.std.specs.List.{All, Any, list_all, slice_index_or}
 use Rattle.std.specs.Str.{bytes_eq}
 use Rattle.std.proofs.lemmas.Slice.Eq.{bytes_eq-Decides}
@@ -8,7 +8,7 @@ use Rattle.clap.proofs.CallerLemmas.{required_has_value}
 use Rattle.clap.proofs.SimpleLemmas.{is_nil, is_false}
 use Rattle.clap.proofs.TakesLemmas.{each_rule}
 use Rattle.clap.proofs.WalkLemmas.{both, first_value-rows}
-use Rattle.clap.specs.Words.{AddsArg, App, IsParsedFrom, IsPlainArg, IsUnsignedIn, Row, Rule, Text, app_of, args_of, first_of, first_value, found_of, groups_of, new_app, rows_of, rule_of, with_rule}
+use Rattle.clap.specs.Words.{App, IsParsedFrom, IsPlainArg, IsUnsignedIn, Row, Rule, Text, app_of, args_of, first_of, first_value, found_of, groups_of, rows_of, rule_of}
 use Rattle.clap.specs.Facts.{unwrap_or_range}
 use Rattle.clap.specs.declared.builder.action.ArgAction.TheVariants.{Set}
 use Rattle.clap.specs.declared.builder.arg.Arg.{Arg}
@@ -17,7 +17,7 @@ use Rattle.clap.specs.declared.builder.command.Command.TheViews.{out-Command}
 use Rattle.clap.specs.declared.builder.range.ValueRange.{ValueRange}
 use Rattle.clap.specs.declared.builder.value_parser.ValueParser.TheVariants as parser
 use Rattle.clap.specs.declared.parser.matches.ArgMatches.{ArgMatches}
-use Rattle.t1_run.specs.Words.{IsNumberArgument, IsPlainApp, IsRequiredArgument, IsTextOfNumber, are_distinct, is_own}
+use Rattle.t1_run.specs.Words.{IsNumberArgument, IsParsedBy, IsPlainApp, IsRequiredArgument, IsTextOfNumber, are_distinct, is_own}
 use Rattle.t1_run.proofs.Values.{first_value-passes}
 
 -- What a program's rules say of its command: the arguments exclude nothing, and each has an id of its own.
@@ -159,6 +159,10 @@ pub has_value : {app : App} {c : Command} → IsOurs app c → (m : ArgMatches) 
 has_value {app} {c} our m p id required =
     required_at app c our m p id
     (any_of_map (IsRequiredRule id) rule_of (args_of c) (subst (Any (IsRequiredRule id)) (sym our.rules) required))
+
+-- What a command of a program finds in words is what the program's rules find.
+pub by_rules : (program : App) {app : App} {words : List Text} {m : ArgMatches} → app ≡ program → IsParsedBy app words m → IsParsedBy program words m
+by_rules program {app} {words} {m} same parsed = subst (λ (a : App). IsParsedBy a words m) same parsed
 
 -- The first value of an id is that of the rows that the words give.
 pub first_of-found : (m : ArgMatches) (id : List ℕ) (rows : List Row) (value : Option (List ℕ)) → rows_of (found_of m) ≡ rows

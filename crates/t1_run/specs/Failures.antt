@@ -32,6 +32,10 @@ read_failed_line program = concat (program ∷ codes ": read failed\n" ∷ [])
 abbrev pub write_failed_line : List ℕ → List ℕ
 write_failed_line program = concat (program ∷ codes ": write failed\n" ∷ [])
 
+-- `PROGRAM: no glyph NAME`, of a font that has none of the name.
+abbrev pub no_glyph_line : List ℕ → List ℕ → List ℕ
+no_glyph_line program name = concat (program ∷ codes ": no glyph " ∷ name ∷ codes "\n" ∷ [])
+
 -- What is told of a failure.
 abbrev pub failure_line : List ℕ → Failure → List ℕ
 failure_line program (Refused code) = refusal_line code

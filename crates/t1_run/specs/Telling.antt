@@ -1,5 +1,5 @@
 -- How what a program has to say ends: on standard error, on the output.
-use Rattle.std.specs.Prelude.{◌≡◌, ◌<◌, ℕ, List, length, string_bytes}
+use Rattle.std.specs.Prelude.{◌≡◌, ℕ, List, string_bytes}
 use Rattle.t1_io.specs.Devices.{Delivered, DeliveryFailed, PutFailed, SinkState, Wrote}
 use Rattle.t1_run.specs.Failures.{out_of_memory_line, write_failed_line}
 use Rattle.t1_run.specs.declared.status.Status.{Status}

@@ -3,7 +3,7 @@ use Rattle.std.specs.Prelude.{◌≡◌, ◌<◌, ℕ, length, Bool, true, false
 use Rattle.std.specs.List.{Any, list_all}
 use Rattle.std.specs.Str.{bytes_eq}
 use Rattle.std.specs.Str.Parse.{IsNumeral, without_leading_plus, digits_value}
-use Rattle.clap.specs.Words.{App, IsUnsignedIn, Rule, Text, built, fault_of, first_value, found_of, is_simple, is_simple_and_free, matches_of, rows_of, takes}
+use Rattle.clap.specs.Words.{App, IsUnsignedIn, Rule, Text, built, fault_of, first_value, found_of, is_simple, is_simple_and_free, matches_of, new_rule, rows_of, takes}
 use Rattle.clap.specs.declared.builder.action.ArgAction.TheVariants.{Set}
 use Rattle.clap.specs.declared.builder.value_parser.ValueParser.TheVariants as parser
 use Rattle.clap.specs.declared.error.kind.ErrorKind.TheVariants.{DisplayHelp}
@@ -35,6 +35,20 @@ pub record IsPlainApp (app : App) : Type 0 where
   pub free : is_simple_and_free app ≡ true
   pub leaf : (built app).top.is_leaf ≡ true
   pub alone : (built app).subs ≡ []
+
+-- ---- arguments that several programs have
+
+-- --edition N, N 1 or 2
+abbrev pub edition_rule : Rule
+edition_rule = record (new_rule (codes "edition")) {
+  long = Some (codes "edition");
+  value_names = 1;
+  parser = Some (parser.Unsigned 1 2);
+}
+
+-- --waive FILE
+abbrev pub waive_rule : Rule
+waive_rule = record (new_rule (codes "waive")) { long = Some (codes "waive"); value_names = 1 }
 
 -- ---- words that are taken
 

@@ -26,6 +26,6 @@ pub use failure::Failure;
 pub use files::{LARGEST_FILE, read_font_file, read_waivers};
 pub use laws::each_part_has_its_refusals;
 pub use status::Status;
-pub use telling::{give, tell, tell_failure, tell_parts, tell_write_failed};
+pub use telling::{give, tell, tell_failure, tell_no_glyph, tell_parts, tell_write_failed};
 pub use usage::{UsageError, explain};
 pub use words::{edition, number, owned, parse, usage_error, words_given};

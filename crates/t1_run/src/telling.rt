@@ -3,7 +3,7 @@
 ghost use Rattle.std.specs.Prelude.{[], ◌∷◌};
 ghost use Rattle.std.specs.List.{concat};
 ghost use Rattle.t1_io.specs.Devices.{whole_of};
-ghost use Rattle.t1_run.specs.Failures.{failure_line, failure_status, write_failed_line};
+ghost use Rattle.t1_run.specs.Failures.{failure_line, failure_status, no_glyph_line, write_failed_line};
 ghost use Rattle.t1_run.specs.Telling.{Gives, Tells};
 
 use crate::failure::Failure;
@@ -54,6 +54,14 @@ pub fn tell_write_failed<E: Sink>(program: &str, errors: &mut E) -> Status
     ensures { Tells (write_failed_line program.now) Status.Failed (E.state errors.old) (E.state errors.new) result }
 {
     tell_of(program, b": write failed\n", errors)
+}
+
+/// Tells that a font has no glyph of this name.
+pub fn tell_no_glyph<E: Sink>(program: &str, name: &str, errors: &mut E) -> Status
+    ensures { Tells (no_glyph_line program.now name.now) Status.Failed (E.state errors.old) (E.state errors.new) result }
+{
+    let parts = [program.as_bytes(), b": no glyph ", name.as_bytes(), b"\n"];
+    tell_parts(errors, &parts, Status::Failed)
 }
 
 /// Tells what has failed, behind the program's name.

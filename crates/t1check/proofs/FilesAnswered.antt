@@ -1,18 +1,17 @@
 -- From words and files to the answer.
-use Rattle.std.proofs.Common.{◌≡◌, ◌≢◌, false, ℕ, List, Option, None, Some, option_map, string_bytes, codes, refl, sym, subst, ◌∙◌}
+use Rattle.std.proofs.Common.{◌≡◌, ◌≢◌, false, ℕ, List, Option, option_map, string_bytes, refl, sym, subst}
 use Rattle.clap.specs.Words.{Text}
 use Rattle.t1_answer.specs.CommandLine.{t1check}
-use Rattle.t1_answer.specs.Ends.{Ends}
-use Rattle.t1_answer.specs.Laws.Runs.{Answered, IfKnown, RunsKeepPromises}
+use Rattle.t1_answer.specs.Laws.Runs.{RunsKeepPromises}
 use Rattle.t1_answer.specs.Told.{program}
-use Rattle.t1_answer.specs.Words.{AreTaken, checking, waivers_named}
+use Rattle.t1_answer.specs.Words.{AreTaken, checking}
 use Rattle.t1_answer.specs.declared.asked.Options.{Options}
 use Rattle.t1_io.specs.Devices.{SinkState, SourceState}
-use Rattle.t1_run.specs.Answering.{Answers, IsOpened, RunsOn}
+use Rattle.t1_run.specs.Answering.{IsOpened, RunsOn}
 use Rattle.t1_run.specs.Answering.Answers.{explained, not_opened, read_file, read_input}
 use Rattle.t1_run.specs.Answering.IsOpened.{none_named, opened}
 use Rattle.t1_run.specs.Answering.RunsOn.{no_waivers, ran}
-use Rattle.t1_run.specs.Opening.{Files, Sinks}
+use Rattle.t1_run.specs.Opening.{Sinks}
 use Rattle.t1_run.specs.Telling.{Explains, Tells}
 use Rattle.t1_run.specs.Telling.Gives.{given, ungiven}
 use Rattle.t1_run.specs.Telling.Tells.{told, untold}

@@ -1,5 +1,5 @@
 -- Options, a font's file and the text of waivers have an answer.
-use Rattle.std.proofs.Common.{◌≡◌, ◌≤◌, ◌==◌, ◌+◌, ℕ, Bool, true, false, cond, nat_lt, List, [], ◌∷◌, ◌++◌, Option, None, Some, option_map, Result, Ok, Err, IfOk, inl, inr, length, refl, subst, sym, arith, length-append}
+use Rattle.std.proofs.Common.{◌≡◌, ◌≤◌, ◌==◌, ◌+◌, ℕ, Bool, true, false, cond, nat_lt, List, [], ◌∷◌, ◌++◌, Option, None, Some, option_map, Result, Ok, Err, IfOk, inl, inr, length, refl, subst, arith, length-append}
 use Rattle.std.proofs.lemmas.Bool.{cases_Bool}
 use Rattle.std.proofs.lemmas.Bool.Decides.{nat_tests}
 use Rattle.std.specs.Prelude.{option_and_then}
@@ -12,7 +12,7 @@ use Rattle.t1_font.specs.Texts.{font_read}
 use Rattle.t1_font.specs.declared.refusal.Refusal.{Refusal}
 use Rattle.t1_font.specs.declared.unread.Unread.{Unread}
 use Rattle.t1_lines.specs.declared.refusal.Reason.{Reason}
-use Rattle.t1_lines.specs.declared.refusal.Reason.TheVariants.{FontTooLarge, WaiversTooLarge}
+use Rattle.t1_lines.specs.declared.refusal.Reason.TheVariants.{FontTooLarge}
 use Rattle.t1_picture.specs.Laws.{HasPicture}
 use Rattle.t1_report.specs.Waivers.{Waiver, is_waived, line_read, lines_from, lines_read, text_read, waiver_of, waivers_of, with_waiver, without_return}
 use Rattle.t1_rules.specs.Book.{number_of}

@@ -3,8 +3,8 @@ use Rattle.std.proofs.Common.{◌≡◌, false, codes, ap, refl, ◌∙◌}
 use Rattle.clap.specs.Words.{AddsArg, App, app_of, new_app, rule_of, with_rule}
 use Rattle.clap.specs.declared.builder.arg.Arg.{Arg}
 use Rattle.clap.specs.declared.builder.command.Command.{Command}
-use Rattle.t1_run.specs.Words.{IsPlainApp}
-use Rattle.t1draw.specs.CommandLine.{t1draw, edition_rule, font_rule, glyph_rule, step_rule, waive_rule}
+use Rattle.t1_run.specs.Words.{IsPlainApp, edition_rule, waive_rule}
+use Rattle.t1draw.specs.CommandLine.{t1draw, font_rule, glyph_rule, step_rule}
 
 -- no argument excludes anything, and each has an id of its own
 pub plain : IsPlainApp t1draw

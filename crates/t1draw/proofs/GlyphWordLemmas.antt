@@ -6,8 +6,8 @@ use Rattle.std.specs.Option.{option_map_or}
 use Rattle.std.specs.Prelude.{◌≢◌, option_and_then}
 use Rattle.std.specs.Result.{result_ok}
 use Rattle.hex.specs.Hex.{decode_pairs, decode_sized, hex_digit_value}
-use Rattle.t1draw.specs.GlyphWords.{name_behind, name_of_word, with_byte}
-use Rattle.t1draw.specs.GlyphWords.Begun.{backslash, backslash_x}
+use Rattle.t1_forms.specs.NameWords.{name_behind, name_of_word, with_byte}
+use Rattle.t1_forms.specs.NameWords.Begun.{backslash, backslash_x}
 
 -- ---- a word
 

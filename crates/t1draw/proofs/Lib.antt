@@ -3,4 +3,3 @@ pub mod CommandLemmas
 pub mod GlyphWordLemmas
 pub mod OneAnswer
 pub mod Readings
-pub mod ShownWords

@@ -14,7 +14,7 @@ use Rattle.t1_run.specs.FontFiles.{font_of}
 use Rattle.t1_run.specs.Words.{AreNumber, IsEditionOrFirst}
 use Rattle.t1draw.specs.CommandLine.{AreGiven, glyph_word}
 use Rattle.t1draw.specs.Ends.{asks_waivers}
-use Rattle.t1draw.specs.GlyphWords.{name_of_word}
+use Rattle.t1_forms.specs.NameWords.{name_of_word}
 use Rattle.t1draw.specs.Laws.{Answer, HasNoOtherAnswer, IsAnswerAt, IsAnswerTo, Wish, waived_by, wish_of}
 use Rattle.t1draw.specs.Laws.Answer.{Picture}
 use Rattle.t1draw.specs.declared.command_line.Options.{Options}

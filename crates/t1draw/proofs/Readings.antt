@@ -1,25 +1,22 @@
 -- What is known of a file's bytes, and so why there is no picture; and how a run ends then.
-use Rattle.std.proofs.Common.{◌≡◌, ℕ, List, Option, None, Some, Result, Ok, Err, Bool, false, IsErrAnd, inl, inr, ap, refl, subst, sym, ◌∙◌}
+use Rattle.std.proofs.Common.{◌≡◌, ℕ, List, Result, Ok, Err, false, IsErrAnd, inl, inr, ap, refl, subst, ◌∙◌}
 use Rattle.t1_font.specs.FontFiles.{IsUnread, font_in}
 use Rattle.t1_font.specs.Fonts.{FontValue}
 use Rattle.t1_font.specs.declared.unread.Unread.{Unread}
 use Rattle.t1_io.specs.Devices.{SinkState, SourceState}
-use Rattle.t1_lines.specs.declared.refusal.Reason.{Reason}
 use Rattle.t1_lines.specs.declared.refusal.Reason.TheVariants.{Font, FontTooLarge, Waivers, WaiversTooLarge}
 use Rattle.t1_report.specs.WaiverViews.{IsReadAs}
 use Rattle.t1_report.specs.Waivers.{Waiver, waivers_of}
 use Rattle.t1_report.specs.declared.waivers.WaiverError.{WaiverError}
 use Rattle.t1_report.specs.declared.waivers.WaiverError.TheVariants.{Malformed, Memory}
-use Rattle.t1_run.specs.Failures.{failure_line, failure_of, failure_status, out_of_memory_line}
-use Rattle.t1_run.specs.FontFiles.{AreRead}
-use Rattle.t1_run.specs.Input.{AreAll, AreUnread, StopsAt}
+use Rattle.t1_run.specs.Failures.{failure_of, out_of_memory_line}
+use Rattle.t1_run.specs.Input.{AreAll, StopsAt}
 use Rattle.t1_run.specs.Input.AreUnread.{too_large, read_failed as broken, no_memory as unroomed}
 use Rattle.t1_run.specs.Input.StopsAt.{failure as fails, no_memory as runs_out, past_limit, the_end}
 use Rattle.t1_run.specs.Telling.{Gives, Tells}
-use Rattle.t1_run.specs.WaiverFiles.{AreWaived, IsHeard, IsNoWaiverText, IsUnbroken, IsWaiverText, as_waivers}
+use Rattle.t1_run.specs.WaiverFiles.{AreWaived, IsNoWaiverText, IsWaiverText, as_waivers}
 use Rattle.t1_run.specs.WaiverFiles.IsNoWaiverText.{no_memory as no_text, read_failed as unread_text, too_large as large_text}
 use Rattle.t1_run.specs.declared.failure.Failure.{Failure}
-use Rattle.t1_run.specs.declared.failure.Failure.TheVariants as failure
 use Rattle.t1_run.specs.declared.status.Status.{Status}
 use Rattle.t1_run.specs.declared.status.Status.TheVariants as status
 use Rattle.t1_run.proofs.FilesRead.{are_read, font_past}
@@ -31,7 +28,7 @@ use Rattle.t1draw.specs.Private.Failures.IsUndrawnOf.{no_glyph as lacks_glyph, n
 use Rattle.t1draw.specs.Private.Failures.TellsWhy.{no_room, told}
 use Rattle.t1draw.specs.declared.command_line.Options.{Options}
 use Rattle.t1draw.specs.declared.running.Undrawn.{Undrawn}
-use Rattle.t1draw.specs.declared.running.Undrawn.TheVariants.{Failed, NoGlyph}
+use Rattle.t1draw.specs.declared.running.Undrawn.TheVariants.{Failed}
 
 -- ---- the font
 

@@ -1,25 +1,13 @@
 -- The command line: its arguments as clap sees them, and the options that words give by clap's rules.
-use Rattle.std.specs.Prelude.{◌≡◌, ℕ, List, [], Option, None, Some, option_and_then, option_map, codes, string_bytes, true}
+use Rattle.std.specs.Prelude.{◌≡◌, List, [], Option, None, Some, option_and_then, option_map, codes, string_bytes, true}
 use Rattle.clap.specs.Words.{App, Rule, Text, fault_of, first_of, matches_of, new_app, new_rule, with_rule}
 use Rattle.clap.specs.declared.builder.action.ArgAction.TheVariants.{Set}
 use Rattle.clap.specs.declared.builder.value_parser.ValueParser.TheVariants as parser
-use Rattle.t1_run.specs.Words.{AreNumber, AreRefused, IsEditionOrFirst}
-use Rattle.t1draw.specs.GlyphWords.{name_of_word}
+use Rattle.t1_run.specs.Words.{AreNumber, AreRefused, IsEditionOrFirst, edition_rule, waive_rule}
+use Rattle.t1_forms.specs.NameWords.{name_of_word}
 use Rattle.t1draw.specs.declared.command_line.NoOptions.{NoOptions}
 use Rattle.t1draw.specs.declared.command_line.NoOptions.TheVariants.{Usage, BadName}
 use Rattle.t1draw.specs.declared.command_line.Options.{Options}
-
--- --edition N, N 1 or 2
-abbrev pub edition_rule : Rule
-edition_rule = record (new_rule (codes "edition")) {
-  long = Some (codes "edition");
-  value_names = 1;
-  parser = Some (parser.Unsigned 1 2);
-}
-
--- --waive FILE
-abbrev pub waive_rule : Rule
-waive_rule = record (new_rule (codes "waive")) { long = Some (codes "waive"); value_names = 1 }
 
 -- --step N, N a number of 64 bits from 1 on
 abbrev pub step_rule : Rule

@@ -1,6 +1,5 @@
 -- How a run ends, as its devices show it.
-use Rattle.std.specs.Prelude.{◌≡◌, ℕ, Bool, true, false, List, [], ◌∷◌, ◌++◌, Option, None, Some, Ok, Err, codes}
-use Rattle.std.specs.List.{concat}
+use Rattle.std.specs.Prelude.{◌≡◌, ℕ, Bool, true, false, List, ◌++◌, Option, None, Some, Ok, Err, codes}
 use Rattle.std.specs.Option.{is_some}
 use Rattle.t1_font.specs.Fonts.{FontValue}
 use Rattle.t1_forms.specs.Shown.{shown}
@@ -9,7 +8,7 @@ use Rattle.t1_lines.specs.declared.refusal.Reason.{Reason}
 use Rattle.t1_picture.specs.Pictures.{IsPictureOf}
 use Rattle.t1_report.specs.Waivers.{Waiver}
 use Rattle.t1_rules.specs.Components.{glyph_named}
-use Rattle.t1_run.specs.Failures.{failure_line, failure_of, failure_status, out_of_memory_line, read_failed_line}
+use Rattle.t1_run.specs.Failures.{failure_line, failure_of, failure_status, no_glyph_line, out_of_memory_line, read_failed_line}
 use Rattle.t1_run.specs.FontFiles.{AreRead}
 use Rattle.t1_run.specs.Telling.{Explains as ExplainsUsage, Gives, Tells}
 use Rattle.t1_run.specs.WaiverFiles.{AreWaived, IsHeard, IsUnbroken}
@@ -33,9 +32,6 @@ bad_name_text =
 abbrev pub Explains : NoOptions → SinkState → SinkState → SinkState → SinkState → Status → Type 0
 Explains (Usage error) out out' errors errors' status = ExplainsUsage program error out out' errors errors' status
 Explains BadName out out' errors errors' status = (out' ≡ out) × Tells bad_name_text Failed errors errors' status
-
-abbrev pub no_glyph_line : List ℕ → List ℕ
-no_glyph_line name = concat (codes "t1draw: no glyph " ∷ name ∷ codes "\n" ∷ [])
 
 -- Waivers are asked for where their file is named.
 abbrev pub asks_waivers : Options → Bool
@@ -79,7 +75,7 @@ pub data Draws (options : Options) (left : Option (List ℕ)) (failed : Bool) (w
       (font : FontValue) → AreRead left (Ok font) → failed ≡ false
       → (waived : List Waiver) → AreWaived (asks_waivers options) waivers.left (Ok waived)
       → IsHeard (asks_waivers options) waivers waivers' → glyph_named font options.glyph.items ≡ None → out' ≡ out
-      → Tells (no_glyph_line (shown options.glyph.items)) Failed errors errors' status
+      → Tells (no_glyph_line program (shown options.glyph.items)) Failed errors errors' status
       → Draws options left failed waivers waivers' out out' errors errors' status
   -- A read of the font failed, the waivers weren't read, and nothing was put on the output: status 3.
   read_failed :

@@ -1,10 +1,8 @@
 -- The statements of laws.
-use Rattle.std.specs.Prelude.{◌≡◌, ◌<◌, ℕ, Bool, List, [], Option, None, Some, Result, Ok, Err, if◌then◌else◌}
-use Rattle.std.specs.List.{AllByRecursion}
+use Rattle.std.specs.Prelude.{◌≡◌, ℕ, Bool, List, [], Option, None, Some, Result, Ok, Err, if◌then◌else◌}
 use Rattle.clap.specs.Words.{Text}
 use Rattle.t1_char.specs.declared.edition.Edition.{Edition}
 use Rattle.t1_font.specs.Fonts.{FontValue}
-use Rattle.t1_forms.specs.Shown.{shown}
 use Rattle.t1_lines.specs.declared.refusal.Reason.{Reason}
 use Rattle.t1_picture.specs.Pictures.{IsPictureOf}
 use Rattle.t1_report.specs.Waivers.{Waiver}
@@ -13,7 +11,6 @@ use Rattle.t1_run.specs.FontFiles.{font_of}
 use Rattle.t1_run.specs.WaiverFiles.{waivers_in}
 use Rattle.t1draw.specs.CommandLine.{AreGiven}
 use Rattle.t1draw.specs.Ends.{asks_waivers}
-use Rattle.t1draw.specs.GlyphWords.{name_of_word}
 use Rattle.t1draw.specs.declared.command_line.Options.{Options}
 
 -- What is answered where memory is there and no device fails: a picture, why the font or the waivers aren't read, or that the
@@ -64,7 +61,3 @@ HasNoOtherAnswer =
     (words : List Text) (options options' : Options) (file text : List ℕ) (a b : Answer)
     → AreGiven words options → AreGiven words options'
     → IsAnswer options file text a → IsAnswer options' file text b → a ≡ b
-
--- A name of bytes, as it is shown, is a word for it: so no two names are shown alike, and each name has a word.
-abbrev pub ShownNamesAreWords : Type 0
-ShownNamesAreWords = (name : List ℕ) → AllByRecursion (λ byte. byte < 256) name → name_of_word (shown name) ≡ Some name

@@ -1,6 +1,5 @@
 pub mod Answers
 pub mod CommandLine
 pub mod Ends
-pub mod GlyphWords
 pub mod Laws
 pub mod Private

@@ -1,8 +1,8 @@
 //! A glyph's name as a word of the command line: `\xNN` is a byte, and `\\` is `\`.
 
 ghost use Rattle.std.specs.Prelude.{◌≡◌, ◌<◌, IfOk, IfSome, length, option_map};
-ghost use Rattle.t1draw.specs.GlyphWords.{name_of_word};
-ghost use Rattle.t1draw.specs.GlyphWords.Begun.{backslash, backslash_x, nothing};
+ghost use Rattle.t1_forms.specs.NameWords.{name_of_word};
+ghost use Rattle.t1_forms.specs.NameWords.Begun.{backslash, backslash_x, nothing};
 ghost use Rattle.t1draw.specs.Private.FirstBytes.{IsFirstByte};
 
 use hex::FromHex;

@@ -1,6 +1,6 @@
 //! Laws above the definitions: each is the contract of a function that does nothing, but for calling the law on which it rests.
 
-ghost use Rattle.t1draw.specs.Laws.{HasAnAnswer, HasNoOtherAnswer, ShownNamesAreWords};
+ghost use Rattle.t1draw.specs.Laws.{HasAnAnswer, HasNoOtherAnswer};
 
 use t1_font::limits_of_fonts;
 use t1_picture::a_subject_has_one_picture;
@@ -14,9 +14,3 @@ pub fn a_file_has_one_answer()
     a_subject_has_one_picture();
     limits_of_fonts();
 }
-
-/// A name, as it is shown, is a word for it, so that what a legend or a line shows can be given as GLYPH: no two names are shown
-/// alike, and each name has a word.
-pub fn shown_names_are_words()
-    ensures { ShownNamesAreWords }
-{}

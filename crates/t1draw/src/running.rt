@@ -7,7 +7,7 @@ ghost use Rattle.t1_run.specs.Failures.{failure_of, out_of_memory_line};
 ghost use Rattle.t1_run.specs.FontFiles.{largest_file};
 ghost use Rattle.t1_run.specs.Input.{ReadsAtMost, StopsAt};
 ghost use Rattle.t1_run.specs.Telling.{Tells};
-ghost use Rattle.t1draw.specs.Ends.{Draws, no_glyph_line, program};
+ghost use Rattle.t1draw.specs.Ends.{Draws, program};
 ghost use Rattle.t1draw.specs.Private.Failures.{DrawsFile, DrawsGlyph, TellsWhy};
 ghost use Rattle.t1_run.specs.declared.failure.Failure.TheVariants.{Memory};
 ghost use Rattle.t1draw.specs.declared.running.Undrawn.TheVariants.{Failed};
@@ -21,7 +21,7 @@ use t1_io::{Sink, Source};
 use t1_picture::{View, picture};
 use t1_report::{WaiverError, Waivers};
 use t1_rules::{Sidebearings, glyph_named};
-use t1_run::{Failure, Status, give, read_font_file, read_waivers, tell_failure, tell_parts};
+use t1_run::{Failure, Status, give, read_font_file, read_waivers, tell_failure, tell_no_glyph};
 
 /// Why there is no picture.
 #[derive(Clone, Copy, Debug, PartialEq, Eq)]
@@ -146,16 +146,8 @@ fn tell_undrawn<E: Sink>(alloc: Global, options: &Options, why: Undrawn, errors:
     match why {
         Undrawn::Failed(failure) => tell_failure(PROGRAM, failure, errors),
         Undrawn::NoGlyph => match shown(alloc, options.glyph.as_slice()) {
-            Ok(name) => tell_no_glyph(name.as_str(), errors),
+            Ok(name) => tell_no_glyph(PROGRAM, name.as_str(), errors),
             Err(_) => tell_failure(PROGRAM, Failure::Memory, errors),
         },
     }
-}
-
-/// Tells that a font has no glyph of this name, as it is shown.
-fn tell_no_glyph<E: Sink>(name: &str, errors: &mut E) -> Status
-    ensures { Tells (no_glyph_line name.now) Status.Failed (E.state errors.old) (E.state errors.new) result }
-{
-    let parts = [b"t1draw: no glyph ".as_slice(), name.as_bytes(), b"\n"];
-    tell_parts(errors, &parts, Status::Failed)
 }

@@ -1,5 +1,5 @@
 -- What the ways in which a run ends say of the status and the devices, one fact at a time.
-use Rattle.std.specs.Prelude.{◌≡◌, ◌≢◌, ◌⊎◌, ℕ, Bool, true, false, List, Option, IfSome, Result, codes, Err}
+use Rattle.std.specs.Prelude.{◌≡◌, ◌≢◌, ◌⊎◌, ℕ, Bool, true, false, List, Option, IfSome, Result, Err}
 use Rattle.std.specs.Io.KnownBytes.{Appends, Keeps}
 use Rattle.t1_answer.specs.Told.{program}
 use Rattle.t1_font.specs.Fonts.{FontValue}

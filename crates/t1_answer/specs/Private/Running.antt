@@ -1,5 +1,5 @@
 -- How the parts of a run end.
-use Rattle.std.specs.Prelude.{◌≡◌, List, Result, Ok, Err, codes}
+use Rattle.std.specs.Prelude.{◌≡◌, List, Result, Ok, Err}
 use Rattle.t1_font.specs.FontFiles.{IsUnread}
 use Rattle.t1_font.specs.Fonts.{FontValue}
 use Rattle.t1_font.specs.declared.unread.Unread.{Unread}
@@ -12,7 +12,7 @@ use Rattle.t1_run.specs.declared.status.Status.{Status}
 use Rattle.t1_run.specs.declared.status.Status.TheVariants.{Failed, Refused}
 use Rattle.t1_answer.specs.Answers.{selection, status_of}
 use Rattle.t1_answer.specs.Lines.{lines_of}
-use Rattle.t1_answer.specs.Told.{program, told_of, unread_status}
+use Rattle.t1_answer.specs.Told.{program, told_of}
 use Rattle.t1_report.specs.Waivers.{Waiver}
 use Rattle.t1_lines.specs.declared.refusal.Reason.{Reason}
 use Rattle.t1_answer.specs.Ends.{Shows}

@@ -1,5 +1,5 @@
 -- Why there is no picture, and what is told of it.
-use Rattle.std.specs.Prelude.{◌≡◌, ℕ, Bool, true, false, List, None, Result, Ok, Err}
+use Rattle.std.specs.Prelude.{◌≡◌, ℕ, true, false, List, None, Result, Ok, Err}
 use Rattle.t1_font.specs.Fonts.{FontValue}
 use Rattle.t1_forms.specs.Shown.{shown}
 use Rattle.t1_io.specs.Devices.{SinkState, SourceState}
@@ -7,7 +7,7 @@ use Rattle.t1_lines.specs.declared.refusal.Reason.{Reason}
 use Rattle.t1_lines.specs.declared.refusal.Reason.TheVariants.{FontTooLarge}
 use Rattle.t1_report.specs.Waivers.{Waiver}
 use Rattle.t1_rules.specs.Components.{glyph_named}
-use Rattle.t1_run.specs.Failures.{failure_line, failure_of, failure_status, out_of_memory_line}
+use Rattle.t1_run.specs.Failures.{failure_line, failure_of, failure_status, no_glyph_line, out_of_memory_line}
 use Rattle.t1_run.specs.FontFiles.{AreRead, largest_file}
 use Rattle.t1_run.specs.Input.{AreUnread}
 use Rattle.t1_run.specs.Telling.{Tells}
@@ -17,7 +17,7 @@ use Rattle.t1_run.specs.declared.failure.Failure.TheVariants as failure
 use Rattle.t1_run.specs.declared.status.Status.{Status}
 use Rattle.t1_run.specs.declared.status.Status.TheVariants as status
 use Rattle.std.specs.Io.KnownBytes.{IsAtEnd}
-use Rattle.t1draw.specs.Ends.{IsPicture, asks_waivers, no_glyph_line, program}
+use Rattle.t1draw.specs.Ends.{IsPicture, asks_waivers, program}
 use Rattle.t1draw.specs.declared.command_line.Options.{Options}
 use Rattle.t1draw.specs.declared.running.Undrawn.{Undrawn}
 use Rattle.t1draw.specs.declared.running.Undrawn.TheVariants.{Failed, NoGlyph}
@@ -87,7 +87,7 @@ DrawsFile bytes options file file' waivers waivers' (Err why) = IsUndrawn option
 -- What is told of it, given the name of the glyph.
 abbrev pub told_of : List ℕ → Undrawn → List ℕ
 told_of name (Failed reason) = failure_line program reason
-told_of name NoGlyph = no_glyph_line (shown name)
+told_of name NoGlyph = no_glyph_line program (shown name)
 
 abbrev pub status_of : Undrawn → Status
 status_of (Failed reason) = failure_status reason

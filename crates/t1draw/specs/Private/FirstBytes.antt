@@ -1,7 +1,7 @@
 -- What a name is made of, byte by byte.
 use Rattle.std.specs.Prelude.{◌≡◌, ℕ, List, Option, None, MatchOption}
 use Rattle.std.specs.Borrow.{Bor}
-use Rattle.t1draw.specs.GlyphWords.{Begun, name_behind, name_of_word, with_byte}
+use Rattle.t1_forms.specs.NameWords.{Begun, name_behind, name_of_word, with_byte}
 
 -- The first byte of the name that bytes are behind what is begun, and the bytes behind it; there is none where they are no name.
 abbrev pub IsFirstByte : Begun → List ℕ → Option (ℕ × Bor (List ℕ)) → Type 0

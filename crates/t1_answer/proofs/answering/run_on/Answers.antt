@@ -1,4 +1,4 @@
-use Rattle.std.proofs.Common.{◌≡◌, ℕ, List, None, Some, Option, ap, option_map, refl, string_bytes, sym}
+use Rattle.std.proofs.Common.{ap, refl, string_bytes, sym}
 use Rattle.t1_io.specs.Devices.{SourceState}
 use Rattle.t1_run.specs.Answering.IsOpened.{none_named, opened}
 use Rattle.t1_run.specs.Answering.RunsOn.{no_waivers, ran}

@@ -5,7 +5,8 @@ use Rattle.clap.specs.Words.{Rule, Text, app_of, new_app, new_rule, rule_of}
 use Rattle.clap.specs.declared.builder.arg.Arg.{Arg}
 use Rattle.clap.specs.declared.builder.value_parser.ValueParser.{ValueParser}
 use Rattle.clap.specs.declared.builder.value_parser.ValueParser.TheVariants as parser
-use Rattle.t1_answer.specs.CommandLine.{after_rule, edition_rule, file_rule, max_rule, trace_rule, waive_rule}
+use Rattle.t1_answer.specs.CommandLine.{after_rule, file_rule, max_rule, trace_rule}
+use Rattle.t1_run.specs.Words.{edition_rule, waive_rule}
 use Rattle.t1_answer.proofs.CommandLemmas.{app_of-t1check}
 use Rattle.t1_answer.proofs.command_line.command.Goals as goal
 

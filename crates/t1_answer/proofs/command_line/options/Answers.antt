@@ -1,10 +1,8 @@
-use Rattle.std.proofs.Common.{◌≡◌, ℕ, List, map, ap, true≢false, Option, None, Some, unwrap_or, codes, ◌∙◌, subst, sym, refl, lit<}
-use Rattle.clap.specs.Words.{App, Text, app_of, matches_of}
-use Rattle.clap.specs.declared.parser.matches.ArgMatches.{ArgMatches}
-use Rattle.t1_run.specs.Words.{AreNumber, AreRefused, IsEditionOrFirst, IsNumberArgument, IsParsedBy, IsPlainApp, IsTextOfNumber}
-use Rattle.t1_run.specs.declared.usage.UsageError.{UsageError}
-use Rattle.t1_run.proofs.Commands.{first_of-found}
-use Rattle.t1_answer.specs.CommandLine.{t1check, after_rule, edition_rule, max_rule, IsNumberOrZero}
+use Rattle.std.proofs.Common.{ℕ, List, ap, true≢false, Option, None, Some, unwrap_or, codes, ◌∙◌, subst, sym, refl, lit<}
+use Rattle.clap.specs.Words.{Text}
+use Rattle.t1_run.specs.Words.{AreNumber, IsEditionOrFirst, IsNumberArgument, IsPlainApp, IsTextOfNumber, edition_rule}
+use Rattle.t1_run.proofs.Commands.{by_rules, first_of-found}
+use Rattle.t1_answer.specs.CommandLine.{t1check, after_rule, max_rule, IsNumberOrZero}
 use Rattle.t1_answer.proofs.CommandLemmas.{plain}
 use Rattle.t1_answer.proofs.command_line.options.Goals as goal
 
@@ -30,30 +28,25 @@ or_zero (Some text) (Some n) is = is.0
 pub parse-requires : goal.parse-requires
 parse-requires g c = record { plain = subst IsPlainApp (sym c.in_ok-command.ensures) plain }
 
--- what was found by the command is found by the program's rules
-by_rules : (app : App) (words : List Text) (m : ArgMatches) → app ≡ t1check → IsParsedBy app words m → IsParsedBy t1check words m
-by_rules app words m same parsed = subst (λ (a : App). IsParsedBy a words m) same parsed
-
 pub number-requires : goal.number-requires
 number-requires g c =
-    let parsed = by_rules _ _ _ c.in_ok-command.ensures c.in_ok-matches.ensures.parsed in
+    let parsed = by_rules t1check c.in_ok-command.ensures c.in_ok-matches.ensures.parsed in
     subst (IsTextOfNumber 0 18446744073709551615) (sym c.get_str.ensures) (parsed.number 0 18446744073709551615 (codes "after") after_is_number)
 
 pub number-max-requires : goal.number-max-requires
 number-max-requires g c =
-    let parsed = by_rules _ _ _ c.in_ok-command.ensures c.in_ok-matches.ensures.parsed in
+    let parsed = by_rules t1check c.in_ok-command.ensures c.in_ok-matches.ensures.parsed in
     subst (IsTextOfNumber 0 18446744073709551615) (sym c.get_str-2.ensures) (parsed.number 0 18446744073709551615 (codes "max") max_is_number)
 
 pub edition-edition-requires : goal.edition-edition-requires
 edition-edition-requires g c =
-    let parsed = by_rules _ _ _ c.in_ok-command.ensures c.in_ok-matches.ensures.parsed in
+    let parsed = by_rules t1check c.in_ok-command.ensures c.in_ok-matches.ensures.parsed in
     subst (IsTextOfNumber 1 2) (sym c.get_str-4.ensures) (parsed.number 1 2 (codes "edition") edition_is_number)
 
 pub returns-clause-taken : goal.returns-clause-taken
 returns-clause-taken g c =
-    let words = map g.S.AsStr.text c.args.words.now in
-    let parsed = by_rules _ words _ c.in_ok-command.ensures c.in_ok-matches.ensures.parsed in
-    let first = λ (id : List ℕ) (value : Option (List ℕ)). first_of-found c.in_ok-matches.matches id (matches_of t1check words) value parsed.rows in
+    let parsed = by_rules t1check c.in_ok-command.ensures c.in_ok-matches.ensures.parsed in
+    let first = λ (id : List ℕ) (value : Option (List ℕ)). first_of-found c.in_ok-matches.matches id _ value parsed.rows in
     record {
       given = record {
         after = rw c.unwrap_or-after.ensures (or_zero _ _ (subst (λ (text : Option Text). AreNumber text c.number.result)

@@ -1,10 +1,10 @@
-use Rattle.std.proofs.Common.{◌≡◌, ℕ, List, Option, None, Some, Result, Err, ap, refl}
+use Rattle.std.proofs.Common.{List, Option, Err, ap, refl}
 use Rattle.t1_io.specs.Devices.{SinkState}
 use Rattle.t1_font.specs.Fonts.{FontValue}
 use Rattle.t1_lines.specs.declared.refusal.Reason.TheVariants.{Waivers as of_waivers}
 use Rattle.t1_report.specs.Checked.{checked}
 use Rattle.t1_report.specs.WaiverViews.{IsReadAs}
-use Rattle.t1_report.specs.Waivers.{Waiver, waivers_of}
+use Rattle.t1_report.specs.Waivers.{Waiver}
 use Rattle.t1_report.specs.declared.waivers.WaiverError.{WaiverError}
 use Rattle.t1_report.specs.declared.waivers.WaiverError.TheVariants.{Malformed, Memory}
 use Rattle.t1_run.specs.Failures.{failure_line, failure_of, failure_status}

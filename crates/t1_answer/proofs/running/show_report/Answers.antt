@@ -1,4 +1,4 @@
-use Rattle.std.proofs.Common.{◌≡◌, refl, subst}
+use Rattle.std.proofs.Common.{◌≡◌, subst}
 use Rattle.t1_answer.specs.Waived.{asks_waivers}
 use Rattle.t1_answer.proofs.WaivedLemmas.{asked_is, shown_unread, shown_waived}
 use Rattle.t1_run.specs.WaiverFiles.{IsNoWaiverText, IsWaiverText}

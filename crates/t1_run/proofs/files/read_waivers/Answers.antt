@@ -1,4 +1,4 @@
-use Rattle.std.proofs.Common.{◌≡◌, Bool, Result, Ok, Err, List, ℕ, MatchResult, sym, subst, true}
+use Rattle.std.proofs.Common.{Bool, Result, Ok, Err, List, ℕ, MatchResult, sym, subst, true}
 use Rattle.t1_io.specs.Devices.{SourceState}
 use Rattle.t1_lines.specs.declared.refusal.Reason.TheVariants.{WaiversTooLarge}
 use Rattle.t1_run.specs.Input.{AreAll, AreUnread}

@@ -1,6 +1,4 @@
-use Rattle.std.proofs.Common.{◌≡◌, ◌∙◌, ℕ, List, Some, ap, map, option_map, refl, string_bytes, subst, sym}
-use Rattle.std.specs.Borrow.{Bor}
-use Rattle.t1_io.specs.Devices.{SourceState}
+use Rattle.std.proofs.Common.{◌∙◌, ℕ, List, Some, ap, map, option_map, refl, string_bytes, sym}
 use Rattle.t1_run.specs.Answering.Answers.{explained, read_input}
 use Rattle.t1draw.proofs.answering.answer.Goals as goal
 

@@ -6,7 +6,8 @@ use Rattle.clap.specs.declared.builder.action.ArgAction.TheVariants.{Set}
 use Rattle.clap.specs.declared.builder.arg.Arg.{Arg}
 use Rattle.clap.specs.declared.builder.value_parser.ValueParser.{ValueParser}
 use Rattle.clap.specs.declared.builder.value_parser.ValueParser.TheVariants as parser
-use Rattle.t1draw.specs.CommandLine.{edition_rule, font_rule, glyph_rule, step_rule, waive_rule}
+use Rattle.t1draw.specs.CommandLine.{font_rule, glyph_rule, step_rule}
+use Rattle.t1_run.specs.Words.{edition_rule, waive_rule}
 use Rattle.t1draw.proofs.CommandLemmas.{app_of-t1draw}
 use Rattle.t1draw.proofs.command_line.command.Goals as goal
 

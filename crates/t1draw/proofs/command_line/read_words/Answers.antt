@@ -1,12 +1,12 @@
-use Rattle.std.proofs.Common.{◌≡◌, ℕ, List, map, ap, Option, None, Some, option_map, codes, ◌∙◌, subst, sym, refl, lit<, arith, length}
+use Rattle.std.proofs.Common.{◌≡◌, ℕ, List, ap, Option, None, Some, option_map, codes, ◌∙◌, subst, sym, refl, lit<, arith}
 use Rattle.std.specs.Borrow.{Bor}
 use Rattle.std.specs.Prelude.{IsSome, option_and_then}
-use Rattle.clap.specs.Words.{App, Row, Text, app_of, first_of, first_value, found_of, matches_of, rows_of}
+use Rattle.clap.specs.Words.{Row, Text, first_of, first_value, found_of, rows_of}
 use Rattle.clap.specs.declared.parser.matches.ArgMatches.{ArgMatches}
-use Rattle.t1_run.specs.Words.{AreNumber, AreRefused, IsEditionOrFirst, IsNumberArgument, IsParsedBy, IsPlainApp, IsRequiredArgument, IsTextOfNumber}
-use Rattle.t1_run.proofs.Commands.{first_of-found}
-use Rattle.t1draw.specs.CommandLine.{t1draw, edition_rule, glyph_rule, step_rule}
-use Rattle.t1draw.specs.GlyphWords.{name_of_word}
+use Rattle.t1_run.specs.Words.{AreNumber, IsEditionOrFirst, IsNumberArgument, IsPlainApp, IsRequiredArgument, IsTextOfNumber, edition_rule}
+use Rattle.t1_run.proofs.Commands.{by_rules, first_of-found}
+use Rattle.t1draw.specs.CommandLine.{t1draw, glyph_rule, step_rule}
+use Rattle.t1_forms.specs.NameWords.{name_of_word}
 use Rattle.t1draw.proofs.CommandLemmas.{plain}
 use Rattle.t1draw.proofs.command_line.read_words.Goals as goal
 
@@ -27,13 +27,9 @@ glyph_is_required = (3, glyph_rule, lit< tt, refl, (refl, refl, refl, refl))
 pub parse-requires : goal.parse-requires
 parse-requires g c = record { plain = subst IsPlainApp (sym c.in_ok-command.ensures) plain }
 
--- what was found by the command is found by the program's rules
-by_rules : (app : App) (words : List Text) (m : ArgMatches) → app ≡ t1draw → IsParsedBy app words m → IsParsedBy t1draw words m
-by_rules app words m same parsed = subst (λ (a : App). IsParsedBy a words m) same parsed
-
 pub edition-edition-requires : goal.edition-edition-requires
 edition-edition-requires g c =
-    let parsed = by_rules _ _ _ c.in_ok-command.ensures c.in_ok-matches.ensures.parsed in
+    let parsed = by_rules t1draw c.in_ok-command.ensures c.in_ok-matches.ensures.parsed in
     subst (IsTextOfNumber 1 2) (sym c.get_str.ensures) (parsed.number 1 2 (codes "edition") edition_is_number)
 
 -- the word that was found for GLYPH is the one that the words give
@@ -59,7 +55,7 @@ is_there (Some word) value same some = refl
 
 pub unwrap-word-requires : goal.unwrap-word-requires
 unwrap-word-requires g c =
-    let parsed = by_rules _ _ _ c.in_ok-command.ensures c.in_ok-matches.ensures.parsed in
+    let parsed = by_rules t1draw c.in_ok-command.ensures c.in_ok-matches.ensures.parsed in
     is_there c.get_str-2.result _ c.get_str-2.ensures (parsed.required (codes "glyph") glyph_is_required)
 
 -- a number from 1 on is one from 0 on
@@ -69,26 +65,23 @@ from_zero (Some text) is = (is.0, is.1, omega arith, is.3)
 
 pub number-step-requires : goal.number-step-requires
 number-step-requires g c =
-    let parsed = by_rules _ _ _ c.in_ok-command.ensures c.in_ok-matches.ensures.parsed in
+    let parsed = by_rules t1draw c.in_ok-command.ensures c.in_ok-matches.ensures.parsed in
     from_zero _ (subst (IsTextOfNumber 1 18446744073709551615) (sym c.get_str-4.ensures)
     (parsed.number 1 18446744073709551615 (codes "step") step_is_number))
 
 pub returns-in_default-clause-untaken : goal.returns-in_default-clause-untaken
 returns-in_default-clause-untaken g c =
-    let words = map g.S.AsStr.text c.args.words.now in
-    let parsed = by_rules _ words _ c.in_ok-command.ensures c.in_ok-matches.ensures.parsed in
+    let parsed = by_rules t1draw c.in_ok-command.ensures c.in_ok-matches.ensures.parsed in
     record {
       faultless = parsed.sound;
       word = c.unwrap-word.result.now;
-      given = given_word c.in_ok-matches.matches (matches_of t1draw words) _ _ parsed.rows c.get_str-2.ensures c.unwrap-word.ensures;
+      given = given_word c.in_ok-matches.matches _ _ _ parsed.rows c.get_str-2.ensures c.unwrap-word.ensures;
       no_name = unnamed _ _ _ c.in_default.not-Some c.in_ok-glyph.ensures;
     }
 
 pub returns-clause-taken : goal.returns-clause-taken
 returns-clause-taken g c =
-    let words = map g.S.AsStr.text c.args.words.now in
-    let parsed = by_rules _ words _ c.in_ok-command.ensures c.in_ok-matches.ensures.parsed in
-    let rows = matches_of t1draw words in
+    let parsed = by_rules t1draw c.in_ok-command.ensures c.in_ok-matches.ensures.parsed in
     let first = λ (id : List ℕ) (value : Option (List ℕ)). first_of-found c.in_ok-matches.matches id rows value parsed.rows in
     record {
       given = record {
@@ -97,7 +90,7 @@ returns-clause-taken g c =
         waive = c.in_ok-waive.ensures ∙ first (codes "waive") _ c.get_str-3.ensures;
         step = subst (λ (text : Option Text). AreNumber text c.number-step.result) (first (codes "step") _ c.get_str-4.ensures) c.number-step.ensures;
         glyph = named _ _ c.in-Some.glyph _ _
-            (given_word c.in_ok-matches.matches rows _ _ parsed.rows c.get_str-2.ensures c.unwrap-word.ensures)
+            (given_word c.in_ok-matches.matches _ _ _ parsed.rows c.get_str-2.ensures c.unwrap-word.ensures)
             c.in_ok-glyph.ensures c.in-Some.is;
         font = c.in_ok-font.ensures ∙ first (codes "font") _ c.get_str-5.ensures;
       };

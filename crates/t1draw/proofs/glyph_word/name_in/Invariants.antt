@@ -1,5 +1,5 @@
 use Rattle.std.proofs.Common.{◌≡◌, ◌++◌, length, option_map}
-use Rattle.t1draw.specs.GlyphWords.{name_of_word}
+use Rattle.t1_forms.specs.NameWords.{name_of_word}
 use Rattle.t1draw.proofs.glyph_word.name_in.Given as goal
 
 -- what was read, and then the name that the rest is

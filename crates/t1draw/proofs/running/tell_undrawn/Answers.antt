@@ -1,4 +1,4 @@
-use Rattle.t1draw.specs.Private.Failures.TellsWhy.{no_room, told}
+use Rattle.t1draw.specs.Private.Failures.TellsWhy.{told}
 use Rattle.t1draw.proofs.running.tell_undrawn.Goals as goal
 
 pub returns-in-Ok : goal.returns-in-Ok

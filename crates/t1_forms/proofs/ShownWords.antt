@@ -1,5 +1,5 @@
 -- A name, as it is shown, is a word for it.
-use Rattle.std.proofs.Common.{◌≡◌, ℕ, zero, suc, ◌+◌, ◌*◌, ◌/◌, ◌%◌, ◌<◌, ◌≤◌, Bool, true, false, ◌&&◌, ◌||◌, nat_lt, ◌==◌, List, [], ◌∷◌, ◌++◌, length, get_or, Option, None, Some, IsUtf8, inl, inr, refl, sym, ap, ◌∙◌, subst, arith, append_assoc, append-nil, ltb-true}
+use Rattle.std.proofs.Common.{◌≡◌, ℕ, zero, suc, ◌+◌, ◌*◌, ◌/◌, ◌%◌, ◌<◌, Bool, true, false, ◌&&◌, ◌||◌, nat_lt, ◌==◌, List, [], ◌∷◌, ◌++◌, length, get_or, Option, None, Some, inl, inr, refl, sym, ap, ◌∙◌, subst, arith, append-nil}
 use Rattle.std.proofs.lemmas.Bool.{and_parts, cases_Bool, cases_lt, cases_eq}
 use Rattle.std.proofs.lemmas.Bool.Decides.{nat_tests}
 use Rattle.std.proofs.lemmas.Str.{IsUtf8-from_is_utf8, encodes-chars, scalars-chars, encode_ascii, inside_one}
@@ -8,9 +8,9 @@ use Rattle.std.specs.Prelude.{◌≢◌}
 use Rattle.std.specs.List.{flat_map, AllByRecursion}
 use Rattle.std.specs.Str.{chars, is_utf8}
 use Rattle.hex.specs.Hex.{hex_digit_value}
-use Rattle.t1draw.specs.GlyphWords.{name_behind, name_of_word, nothing}
+use Rattle.t1_forms.specs.NameWords.{name_behind, name_of_word, nothing}
 use Rattle.t1_forms.specs.Shown.{hexadecimal_digit, escaped, shown_char, shown_byte, shown}
-use Rattle.t1draw.specs.Laws.{ShownNamesAreWords}
+use Rattle.t1_forms.specs.Laws.{ShownNamesAreWords}
 
 -- ---- digits
 

@@ -1,4 +1,0 @@
-use Rattle.t1_answer.proofs.running.tell_no_glyph.Goals as goal
-
-pub returns : goal.returns
-returns g c = rw (c.as_slice.ensures, c.as_bytes.ensures.value) at c.tell_parts.ensures

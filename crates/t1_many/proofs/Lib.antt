@@ -1,0 +1,7 @@
+pub mod Codes
+pub mod Kinds
+pub mod Parts
+pub mod Quiet
+pub mod Rows
+pub mod WaiversRead
+pub mod Worst

@@ -1,0 +1,76 @@
+-- The statements of laws.
+use Rattle.std.specs.Prelude.{◌≡◌, ◌<◌, ◌≤◌, ◌^◌, ℕ, true, List, [], ◌++◌, Some, length, map}
+use Rattle.std.specs.List.{AllByRecursion, flat_map}
+use Rattle.t1_lines.specs.Lines.{FaultLineValue, IsFaultLine, PlaceValue, at_key, at_step, at_waiver}
+use Rattle.t1_report.specs.Waivers.{is_waivable, waivers_of}
+use Rattle.t1_rules.specs.Book.{code_of}
+use Rattle.t1_rules.specs.declared.rule.Rule.{Rule}
+use Rattle.t1_run.specs.Statuses.{exit_code_of}
+use Rattle.t1_run.specs.declared.status.Status.{Status}
+use Rattle.t1_many.specs.Choice.{Choice, is_told, letters_of, picks}
+use Rattle.t1_many.specs.KnownFaults.{IsKind, IsRow, Reading, Row, beyond, kind_of, kinds_in, row_text, rule_of, shortfall, updated}
+use Rattle.t1_many.specs.Shards.{first_parts}
+use Rattle.t1_many.specs.Statuses.{worse, worst_of}
+use Rattle.t1_many.specs.WrittenWaivers.{waivers_of_lines, waivers_text}
+
+-- A code picks its rule alone.
+abbrev pub CodesPickTheirRule : Type 0
+CodesPickTheirRule = (rule other : Rule) → picks (code_of other) (code_of rule) ≡ true → rule ≡ other
+
+-- The letters of a rule's code pick the rules of the same letters alone.
+abbrev pub LettersPickTheirRules : Type 0
+LettersPickTheirRules =
+    (rule other : Rule) → picks (code_of other) (letters_of (code_of rule)) ≡ true → letters_of (code_of rule) ≡ letters_of (code_of other)
+
+-- The kind of a line's fault is one.
+abbrev pub LinesHaveKinds : Type 0
+LinesHaveKinds = (l : FaultLineValue) → IsFaultLine l → IsKind (kind_of l)
+
+-- No text is that of two rows.
+abbrev pub ATextIsOneRow : Type 0
+ATextIsOneRow = (a b : Row) → IsRow a → IsRow b → row_text a ≡ row_text b → a ≡ b
+
+-- The parts of a list, one behind the other, are the list.
+abbrev pub PartsAreTheWhole : Type 0
+PartsAreTheWhole = (parts : ℕ) → 0 < parts → (list : List (List ℕ)) → first_parts parts list parts ≡ list
+
+-- The kinds that were found are of rules that are told, and they are fewer than a number of 64 bits counts.
+pub record IsReading (choice : Choice) (kinds : List (List ℕ)) : Type 0 where
+  pub told : AllByRecursion (λ kind. is_told choice (rule_of kind) ≡ true) kinds
+  pub few : length kinds < 2 ^ 64
+
+abbrev pub AreReadings : Choice → List Reading → Type 0
+AreReadings choice readings = (font : List ℕ) (kinds : List (List ℕ)) → kinds_in readings font ≡ Some kinds → IsReading choice kinds
+
+-- Behind an update no line of a font that was read goes beyond what is known.
+abbrev pub NoLineIsBeyond : Type 0
+NoLineIsBeyond =
+    (choice : Choice) (readings : List Reading) (rows : List Row) (font : List ℕ) (lines : List FaultLineValue)
+    → AreReadings choice readings → kinds_in readings font ≡ Some (map kind_of lines)
+    → beyond (updated choice readings rows) font lines ≡ []
+
+-- And no row falls short of what was found.
+abbrev pub NoRowFallsShort : Type 0
+NoRowFallsShort =
+    (choice : Choice) (readings : List Reading) (rows : List Row)
+    → AreReadings choice readings → flat_map (shortfall choice readings) (updated choice readings rows) ≡ []
+
+-- A line of a glyph that can be waived: its rule is one on charstrings or their steps.
+abbrev pub CanBeWaived : PlaceValue → Rule → Type 0
+CanBeWaived (at_key key index) rule = Unit {0}
+CanBeWaived (at_step name path step) rule = is_waivable rule ≡ true
+CanBeWaived (at_waiver name waived) rule = Unit {0}
+
+-- What is written of lines is read as exactly their waivers.
+abbrev pub WrittenWaiversAreRead : Type 0
+WrittenWaiversAreRead =
+    (lines : List FaultLineValue) → AllByRecursion (λ l. IsFaultLine l × CanBeWaived l.place l.rule) lines
+    → waivers_of (waivers_text (waivers_of_lines lines)) ≡ Some (waivers_of_lines lines)
+
+-- No status of a list is greater than the greatest.
+abbrev pub NoneIsWorse : Type 0
+NoneIsWorse = (statuses : List Status) → AllByRecursion (λ status. exit_code_of status ≤ exit_code_of (worst_of statuses)) statuses
+
+-- The greatest of two lists together is the greater of theirs.
+abbrev pub JoinedAreWorse : Type 0
+JoinedAreWorse = (statuses more : List Status) → worst_of (statuses ++ more) ≡ worse (worst_of statuses) (worst_of more)

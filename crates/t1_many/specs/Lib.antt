@@ -1,0 +1,6 @@
+pub mod Choice
+pub mod KnownFaults
+pub mod Laws
+pub mod Shards
+pub mod Statuses
+pub mod WrittenWaivers

@@ -1,0 +1,43 @@
+//! Laws above the definitions: each is the contract of a function that does nothing.
+
+ghost use Rattle.t1_many.specs.Laws.{ATextIsOneRow, CodesPickTheirRule, JoinedAreWorse, LettersPickTheirRules, LinesHaveKinds, NoLineIsBeyond, NoRowFallsShort, NoneIsWorse, PartsAreTheWhole, WrittenWaiversAreRead};
+
+/// A code picks its rule alone, and the letters of a code pick the rules whose codes have these letters.
+#[tactic(auto, using(crate::proofs::Codes::codes_pick, crate::proofs::Codes::letters_pick))]
+pub fn codes_pick_their_rules()
+    ensures code { CodesPickTheirRule }
+    ensures letters { LettersPickTheirRules }
+{}
+
+/// A row of known faults has one reading: its text is that of no other row, and the kind of a line's fault is one that a row can have.
+#[tactic(auto, using(crate::proofs::Kinds::have_kinds, crate::proofs::Rows::one_row))]
+pub fn a_text_is_one_row()
+    ensures kinds { LinesHaveKinds }
+    ensures rows { ATextIsOneRow }
+{}
+
+/// The parts of a list, one behind the other, are the list.
+#[tactic(auto, using(crate::proofs::Parts::whole))]
+pub fn parts_are_the_whole()
+    ensures { PartsAreTheWhole }
+{}
+
+/// No status is greater than the greatest, and that of two lists together is the greater of theirs.
+#[tactic(auto, using(crate::proofs::Worst::none_is_worse, crate::proofs::Worst::joined_are_worse))]
+pub fn statuses_join()
+    ensures none { NoneIsWorse }
+    ensures joined { JoinedAreWorse }
+{}
+
+/// Once what was found was made the known faults, the same fonts have no line beyond them, and no row falls short.
+#[tactic(auto, using(crate::proofs::Quiet::no_line, crate::proofs::Quiet::no_row))]
+pub fn an_update_is_quiet()
+    ensures lines { NoLineIsBeyond }
+    ensures rows { NoRowFallsShort }
+{}
+
+/// The text of waivers that is written of lines is read as exactly these: each pair of a glyph's name and a rule, once.
+#[tactic(auto, using(crate::proofs::WaiversRead::written_are_read))]
+pub fn written_waivers_are_read()
+    ensures { WrittenWaiversAreRead }
+{}
