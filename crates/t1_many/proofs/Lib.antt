@@ -1,5 +1,5 @@
 pub mod Codes
-pub mod Kinds
+pub mod LineKinds
 pub mod Parts
 pub mod Quiet
 pub mod Rows

@@ -1,5 +1,5 @@
 -- The parts of a list are the list.
-use Rattle.std.proofs.Common.{◌≡◌, ◌<◌, ◌≤◌, ◌*◌, ◌/◌, ℕ, zero, suc, List, [], ◌++◌, length, take, drop, sym, ap, ◌∙◌, arith, le_refl, le-div_iff_mul-le, div-mul-le_self, mul-div_cancel, mul_comm, suc-mul, take_all, take-take, take-append-drop}
+use Rattle.std.proofs.Common.{◌≡◌, ◌<◌, ◌≤◌, ◌*◌, ◌/◌, ℕ, zero, suc, List, ◌++◌, length, take, drop, sym, ap, ◌∙◌, arith, le_refl, le-div_iff_mul-le, div-mul-le_self, mul-div_cancel, mul_comm, suc-mul, take_all, take-take, take-append-drop}
 use Rattle.t1_many.specs.Laws.{PartsAreTheWhole}
 use Rattle.t1_many.specs.Shards.{first_parts, start_of}
 

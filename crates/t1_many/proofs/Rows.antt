@@ -1,5 +1,5 @@
 -- A text is that of one row at most.
-use Rattle.std.proofs.Common.{◌≡◌, ◌==◌, ℕ, true, false, true≢false, not, List, [], ◌∷◌, ◌++◌, codes, refl, sym, ap, subst, ◌∙◌, arith, append_assoc, append-nil}
+use Rattle.std.proofs.Common.{◌≡◌, ◌==◌, ℕ, true, true≢false, not, List, [], ◌∷◌, ◌++◌, codes, refl, sym, ap, ap₂, subst, ◌∙◌, arith, append_assoc, append-nil}
 use Rattle.std.proofs.lemmas.Bool.{and_parts}
 use Rattle.std.proofs.lemmas.Bool.Decides.{nat_tests}
 use Rattle.std.proofs.lemmas.List.{append_cancel_right}
@@ -22,9 +22,8 @@ unjoin (a ∷ x) [] xs ys word_x word_y e = let blank : a ≡ 32 = cc in absurd 
 unjoin (a ∷ x) (b ∷ y) xs ys word_x word_y e =
     let tails : x ++ (32 ∷ xs) ≡ y ++ (32 ∷ ys) = cc in
     let heads : a ≡ b = cc in
-    let rest = unjoin x y xs ys (and_parts _ _ word_x).1 (and_parts _ _ word_y).1 tails in
-    let same : x ≡ y = rest.0 in
-    (cc, rest.1)
+    let rest : (x ≡ y) × (xs ≡ ys) = unjoin x y xs ys (and_parts _ _ word_x).1 (and_parts _ _ word_y).1 tails in
+    (ap₂ (λ c (cs : List ℕ). c ∷ cs) heads rest.0, rest.1)
 
 -- ---- kinds
 
@@ -56,7 +55,7 @@ long rule unit word waived rest =
     ∙ ap (λ t. unit ++ (32 ∷ t))
     (append_assoc word (32 ∷ (waived ++ [])) (32 ∷ rest) ∙ ap (λ w. word ++ (32 ∷ (w ++ (32 ∷ rest)))) (append-nil waived)))
 
-font_split : (kind rule key rest : List ℕ) → is_word rule ≡ true → kind ≡ concat (rule ∷ codes " font " ∷ key ∷ []) → IsSplit kind rest
+abbrev font_split : (kind rule key rest : List ℕ) → is_word rule ≡ true → kind ≡ concat (rule ∷ codes " font " ∷ key ∷ []) → IsSplit kind rest
 font_split kind rule key rest rule_is is = record {
   rule = rule;
   unit = codes "font";
@@ -66,7 +65,7 @@ font_split kind rule key rest rule_is is = record {
   is = ap (λ k. k ++ (32 ∷ rest)) is ∙ short rule (codes "font") key rest;
 }
 
-glyph_split : (kind rule name rest : List ℕ) → is_word rule ≡ true → kind ≡ concat (rule ∷ codes " glyph " ∷ name ∷ []) → IsSplit kind rest
+abbrev glyph_split : (kind rule name rest : List ℕ) → is_word rule ≡ true → kind ≡ concat (rule ∷ codes " glyph " ∷ name ∷ []) → IsSplit kind rest
 glyph_split kind rule name rest rule_is is = record {
   rule = rule;
   unit = codes "glyph";
@@ -76,7 +75,7 @@ glyph_split kind rule name rest rule_is is = record {
   is = ap (λ k. k ++ (32 ∷ rest)) is ∙ short rule (codes "glyph") name rest;
 }
 
-waiver_split : (kind rule name waived rest : List ℕ) → is_word rule ≡ true
+abbrev waiver_split : (kind rule name waived rest : List ℕ) → is_word rule ≡ true
     → kind ≡ concat (rule ∷ codes " waiver " ∷ name ∷ codes " " ∷ waived ∷ []) → IsSplit kind rest
 waiver_split kind rule name waived rest rule_is is = record {
   rule = rule;

@@ -44,7 +44,7 @@ cut_off : (front line rest : List ℕ) → list_all is_inner line ≡ true → l
 unfolding lines_from
 cut_off front [] rest inner = ap (λ l. l ∷ lines_from [] rest) (sym (append-nil front))
 cut_off front (b ∷ line) rest inner =
-    let parts = and_parts _ _ inner in
+    let parts = and_parts (is_inner b) (list_all is_inner line) inner in
     let other : (b == 10) ≡ false = grind (arith, nat_tests, parts.0) in
     rw other (cut_off (front ++ b ∷ []) line rest parts.1 ∙ ap (λ l. l ∷ lines_from [] rest) (append_assoc front (b ∷ []) line))
 

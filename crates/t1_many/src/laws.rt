@@ -10,7 +10,6 @@ pub fn codes_pick_their_rules()
 {}
 
 /// A row of known faults has one reading: its text is that of no other row, and the kind of a line's fault is one that a row can have.
-#[tactic(auto, using(crate::proofs::Kinds::have_kinds, crate::proofs::Rows::one_row))]
 pub fn a_text_is_one_row()
     ensures kinds { LinesHaveKinds }
     ensures rows { ATextIsOneRow }
