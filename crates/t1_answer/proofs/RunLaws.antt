@@ -23,7 +23,7 @@ use Rattle.t1_answer.specs.Waived.{asks_waivers}
 use Rattle.t1_run.proofs.FilesRead.{of-any, of-waived, waived-weaker}
 use Rattle.t1_lines.specs.RefusalCodes.{refusal_code_of}
 use Rattle.t1_lines.specs.declared.refusal.RefusalCode.{RefusalCode}
-use Rattle.t1_run.specs.Failures.{failure_line, failure_of, failure_status, out_of_memory_line, read_failed_line, refused_by, write_failed_line}
+use Rattle.t1_run.specs.Failures.{failure_line, failure_of, failure_status, out_of_memory_line, read_failed_line, refused_by, write_failed_line, no_glyph_line}
 use Rattle.t1_run.specs.declared.failure.Failure.{Failure}
 use Rattle.t1_run.specs.declared.failure.Failure.TheVariants as failure
 use Rattle.t1_run.specs.FontFiles.{AreRead}
