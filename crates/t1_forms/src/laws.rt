@@ -21,7 +21,6 @@ pub fn shown_names_are_words()
 
 /// What is told differently has different objects: an object tells again which font, which place and which rule it is of, or which
 /// refusal, or why the font wasn't checked.
-#[tactic(auto, using(crate::proofs::OneObject::one_object))]
 pub fn different_tellings_have_different_objects()
     ensures { DifferentTellingsHaveDifferentObjects }
 {}
