@@ -82,7 +82,7 @@ returns-in_default-clause-untaken g c =
 pub returns-clause-taken : goal.returns-clause-taken
 returns-clause-taken g c =
     let parsed = by_rules t1draw c.in_ok-command.ensures c.in_ok-matches.ensures.parsed in
-    let first = λ (id : List ℕ) (value : Option (List ℕ)). first_of-found c.in_ok-matches.matches id rows value parsed.rows in
+    let first = λ (id : List ℕ) (value : Option (List ℕ)). first_of-found c.in_ok-matches.matches id _ value parsed.rows in
     record {
       given = record {
         edition = subst (λ (text : Option Text). IsEditionOrFirst text c.edition-edition.result) (first (codes "edition") _ c.get_str.ensures)
