@@ -3,5 +3,6 @@ pub mod LineKinds
 pub mod Parts
 pub mod Quiet
 pub mod Rows
+pub mod Sums
 pub mod WaiversRead
 pub mod Worst

@@ -1,9 +1,9 @@
 -- The statements of laws.
-use Rattle.std.specs.Prelude.{◌≡◌, ◌<◌, ◌≤◌, ◌^◌, ℕ, true, List, [], ◌++◌, Some, length, map}
+use Rattle.std.specs.Prelude.{◌≡◌, ◌+◌, ◌<◌, ◌≤◌, ◌^◌, ℕ, true, List, [], ◌++◌, Some, length, map}
 use Rattle.std.specs.List.{AllByRecursion, flat_map}
 use Rattle.t1_lines.specs.Lines.{FaultLineValue, IsFaultLine, PlaceValue, at_key, at_step, at_waiver}
 use Rattle.t1_report.specs.Waivers.{is_waivable, waivers_of}
-use Rattle.t1_rules.specs.Book.{code_of}
+use Rattle.t1_rules.specs.Book.{code_of, rules}
 use Rattle.t1_rules.specs.declared.rule.Rule.{Rule}
 use Rattle.t1_run.specs.Statuses.{exit_code_of}
 use Rattle.t1_run.specs.declared.status.Status.{Status}
@@ -11,6 +11,7 @@ use Rattle.t1_many.specs.Choice.{Choice, is_told, letters_of, picks}
 use Rattle.t1_many.specs.KnownFaults.{IsKind, IsRow, Reading, Row, beyond, kind_of, kinds_in, row_text, rule_of, shortfall, updated}
 use Rattle.t1_many.specs.Shards.{first_parts}
 use Rattle.t1_many.specs.Statuses.{worse, worst_of}
+use Rattle.t1_many.specs.Summaries.{Found, clean, count_of, count_of_rules, faulty, known, refused, unchecked}
 use Rattle.t1_many.specs.WrittenWaivers.{waivers_of_lines, waivers_text}
 
 -- A code picks its rule alone.
@@ -25,6 +26,10 @@ LettersPickTheirRules =
 -- The kind of a line's fault is one.
 abbrev pub LinesHaveKinds : Type 0
 LinesHaveKinds = (l : FaultLineValue) → IsFaultLine l → IsKind (kind_of l)
+
+-- It begins with the code of the line's rule.
+abbrev pub KindsNameTheirRules : Type 0
+KindsNameTheirRules = (l : FaultLineValue) → rule_of (kind_of l) ≡ code_of l.rule
 
 -- No text is that of two rows.
 abbrev pub ATextIsOneRow : Type 0
@@ -74,3 +79,14 @@ NoneIsWorse = (statuses : List Status) → AllByRecursion (λ status. exit_code_
 -- The greatest of two lists together is the greater of theirs.
 abbrev pub JoinedAreWorse : Type 0
 JoinedAreWorse = (statuses more : List Status) → worst_of (statuses ++ more) ≡ worse (worst_of statuses) (worst_of more)
+
+-- The five classes of fonts add up to the fonts.
+abbrev pub ClassesAddUp : Type 0
+ClassesAddUp =
+    (founds : List Found)
+    → count_of clean founds + count_of known founds + count_of faulty founds + count_of refused founds + count_of unchecked founds
+    ≡ length founds
+
+-- The lines of all rules add up to the lines.
+abbrev pub RulesAddUp : Type 0
+RulesAddUp = (lines : List FaultLineValue) → count_of_rules lines rules ≡ length lines

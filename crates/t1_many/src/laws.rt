@@ -1,6 +1,6 @@
 //! Laws above the definitions: each is the contract of a function that does nothing.
 
-ghost use Rattle.t1_many.specs.Laws.{ATextIsOneRow, CodesPickTheirRule, JoinedAreWorse, LettersPickTheirRules, LinesHaveKinds, NoLineIsBeyond, NoRowFallsShort, NoneIsWorse, PartsAreTheWhole, WrittenWaiversAreRead};
+ghost use Rattle.t1_many.specs.Laws.{ATextIsOneRow, ClassesAddUp, CodesPickTheirRule, JoinedAreWorse, KindsNameTheirRules, LettersPickTheirRules, LinesHaveKinds, NoLineIsBeyond, NoRowFallsShort, NoneIsWorse, PartsAreTheWhole, RulesAddUp, WrittenWaiversAreRead};
 
 /// A code picks its rule alone, and the letters of a code pick the rules whose codes have these letters.
 #[tactic(auto, using(crate::proofs::Codes::codes_pick, crate::proofs::Codes::letters_pick))]
@@ -9,9 +9,11 @@ pub fn codes_pick_their_rules()
     ensures letters { LettersPickTheirRules }
 {}
 
-/// A row of known faults has one reading: its text is that of no other row, and the kind of a line's fault is one that a row can have.
+/// A row of known faults has one reading: its text is that of no other row. The kind of a line's fault is one that a row can have, and
+/// begins with the code of the rule.
 pub fn a_text_is_one_row()
     ensures kinds { LinesHaveKinds }
+    ensures codes { KindsNameTheirRules }
     ensures rows { ATextIsOneRow }
 {}
 
@@ -39,4 +41,10 @@ pub fn an_update_is_quiet()
 #[tactic(auto, using(crate::proofs::WaiversRead::written_are_read))]
 pub fn written_waivers_are_read()
     ensures { WrittenWaiversAreRead }
+{}
+
+/// The five classes of fonts in a summary add up to the fonts, and the lines of its rules to the lines.
+pub fn summaries_add_up()
+    ensures classes { ClassesAddUp }
+    ensures rules { RulesAddUp }
 {}

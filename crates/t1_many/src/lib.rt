@@ -6,5 +6,5 @@ mod laws;
 
 pub use laws::{
     a_text_is_one_row, an_update_is_quiet, codes_pick_their_rules, parts_are_the_whole,
-    statuses_join, written_waivers_are_read,
+    statuses_join, summaries_add_up, written_waivers_are_read,
 };
