@@ -12,7 +12,6 @@ use Rattle.t1_answer.specs.CommandLine.{AreGiven, t1check}
 use Rattle.t1_answer.specs.Ends.{Ends}
 use Rattle.t1_answer.specs.Told.{program}
 use Rattle.t1_answer.specs.Waived.{asks_waivers}
-use Rattle.t1_run.specs.Telling.{Gives}
 
 -- The options are those that the words give by clap's rules, which find no fault in the words.
 pub record AreTaken (words : List Text) (options : Options) : Type 0 where

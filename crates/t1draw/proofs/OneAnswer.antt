@@ -1,5 +1,5 @@
 -- Options, a font's file and the text of waivers have one answer.
-use Rattle.std.proofs.Common.{◌≡◌, ℕ, Bool, true, false, List, Option, None, Some, Result, Ok, Err, option_and_then, option_map, string_bytes, ap, arith, refl, subst, sym, ◌∙◌}
+use Rattle.std.proofs.Common.{◌≡◌, ℕ, Bool, List, Option, None, Some, Result, Ok, Err, option_and_then, option_map, string_bytes, ap, arith, refl, subst, sym, ◌∙◌}
 use Rattle.std.proofs.lemmas.Bool.{false≢true}
 use Rattle.std.specs.Option.{is_some}
 use Rattle.clap.specs.Words.{Text}

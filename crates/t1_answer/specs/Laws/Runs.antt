@@ -13,7 +13,6 @@ use Rattle.t1_answer.specs.Ends.{Ends}
 use Rattle.t1_run.specs.FontFiles.{font_of}
 use Rattle.t1_report.specs.Waivers.{Waiver}
 use Rattle.t1_answer.specs.Waived.{asks_waivers}
-use Rattle.t1_answer.specs.Answers.{refused, reported}
 use Rattle.t1_run.specs.Failures.{out_of_memory_line, read_failed_line, write_failed_line}
 use Rattle.t1_run.specs.WaiverFiles.{IfWaived}
 
