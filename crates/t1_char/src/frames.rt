@@ -200,48 +200,30 @@ impl<'a> Frames<'a> {
             if let Some(ahead) = self.current.enciphered() {
                 return self.go_over_far(ahead, font, counted, limit, is_lines(passing));
             }
-        }
-        let before = self.go_over_other(passing, font, counted, limit);
-        Gone {
-            before,
-            way: Way {
-                x: self.way.x,
-                y: self.way.y,
-                drawn: self.way.drawn,
-            },
-        }
-    }
-
-    /// The same where the charstring isn't enciphered, and where each step is told. It keeps the way, and returns how many steps
-    /// are before the one that it reads: the walk's state stays in registers.
-    #[inline(never)]
-    fn go_over_other(
-        &mut self,
-        passing: Passing,
-        font: &'a Font<'a>,
-        counted: u32,
-        limit: u32,
-    ) -> u32
-        requires counted { counted ≤ limit }
-        requires few { limit ≤ limit_of Two }
-        ensures over { ReadsToken (is_lines passing) limit font.now counted self.old result self.new.way self.new }
-        ensures path { self.new.step.path.items ≡ self.old.step.path.items }
-        ensures callers { self.new.callers.items ≡ self.old.callers.items }
-        ensures told { passing ≡ Told → result ≡ counted }
-        ensures near { result ≤ limit }
-    {
-        if has_room(counted, limit) && is_any(passing) {
-            if let Some(ahead) = self.current.unenciphered() {
-                return self.go_over_plain(ahead.left, font, counted, limit, is_lines(passing));
+            if !self.step.stack.is_full() {
+                if let Some(ahead) = self.current.unenciphered() {
+                    let before =
+                        self.go_over_plain(ahead.left, font, counted, limit, is_lines(passing));
+                    return Gone {
+                        before,
+                        way: Way {
+                            x: self.way.x,
+                            y: self.way.y,
+                            drawn: self.way.drawn,
+                        },
+                    };
+                }
             }
         }
-        self.step.token = self.current.next_token();
-        self.way = Way::NONE;
-        counted
+        self.read_token();
+        Gone {
+            before: counted,
+            way: Way::NONE,
+        }
     }
 
-    /// The same of a charstring without encryption far from the limit, where numbers are passed. It has a function of its own, so
-    /// that steps that are told don't save its registers.
+    /// The same of a charstring without encryption far from the limit, where numbers are passed. It keeps the way, and returns how
+    /// many steps are before the one that it reads: the walk's state stays in registers.
     #[inline(never)]
     fn go_over_plain(
         &mut self,

@@ -1,15 +1,14 @@
 -- Codes, and the letters that they begin with.
 use Rattle.std.proofs.Common.{◌≡◌, ℕ, ◌&&◌, ◌||◌, Bool, true, false, true≢false, List, [], ◌∷◌, inl, inr, refl, sym, ap, ◌∙◌}
 use Rattle.std.proofs.lemmas.Bool.{cases_Bool}
-use Rattle.std.proofs.lemmas.Slice.Eq.{bytes_eq-Decides}
 use Rattle.std.specs.List.{list_all}
-use Rattle.std.specs.Str.{bytes_eq}
 use Rattle.t1_scan.specs.Bytes.{is_decimal_digit}
 use Rattle.t1_rules.proofs.Lemmas.RuleCodes.{rule_is_found}
 use Rattle.t1_rules.specs.Book.{code_of, rule_coded}
 use Rattle.t1_rules.specs.declared.rule.Rule.{Rule}
 use Rattle.t1_rules.specs.declared.rule.Rule.TheVariants.{F01}
 use Rattle.t1_lines.proofs.Cuts.{some_same}
+use Rattle.t1_many.proofs.Texts.{equal}
 use Rattle.t1_many.specs.Choice.{letters_of}
 use Rattle.t1_many.specs.Laws.{CodesPickTheirRule, LettersPickTheirRules}
 
@@ -22,9 +21,6 @@ ends_with_digit (byte ∷ next ∷ bytes) = ends_with_digit (next ∷ bytes)
 code_ends : (rule : Rule) → ends_with_digit (code_of rule) ≡ true
 code_ends F01 = refl
 code_ends _ = refl
-
-equal : (a b : List ℕ) → bytes_eq a b ≡ true → a ≡ b
-equal a b same = (bytes_eq-Decides a b).0 same
 
 either : (a b : Bool) → (a || b) ≡ true → {P : Type 0} → (a ≡ true → P) → (b ≡ true → P) → P
 either true b e first second = first refl

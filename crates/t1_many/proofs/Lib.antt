@@ -1,8 +1,17 @@
 pub mod Codes
+pub mod Entries
+pub mod Found
+pub mod GivenFaults
+pub mod Letters
 pub mod LineKinds
+pub mod Nothing
+pub mod Opened
 pub mod Parts
 pub mod Quiet
+pub mod ReportLines
 pub mod Rows
 pub mod Sums
+pub mod Texts
+pub mod Told
 pub mod WaiversRead
 pub mod Worst

@@ -9,6 +9,7 @@ use Rattle.t1_rules.specs.Keys.{key_count, key_text_of, key_texts}
 use Rattle.t1_rules.specs.declared.rule.Rule.{Rule}
 use Rattle.t1_rules.specs.declared.rule.Rule.TheVariants.{F01}
 use Rattle.t1_lines.specs.Lines.{IsPlace, PlaceValue, at_key, at_step, at_waiver}
+use Rattle.t1_many.proofs.Texts.{all_by}
 use Rattle.t1_many.specs.KnownFaults.{IsKind, is_word, kind_at, rule_of}
 use Rattle.t1_many.specs.KnownFaults.IsKind.{of_font, of_glyph, of_waiver}
 use Rattle.t1_many.specs.Laws.{KindsNameTheirRules, LinesHaveKinds}
@@ -21,10 +22,7 @@ regular_is_no_blank : (byte : ℕ) → is_regular byte ≡ true → not (byte ==
 regular_is_no_blank byte regular = grind (arith, nat_tests, regular)
 
 name_is_a_word : (name : List ℕ) → list_all is_regular name ≡ true → is_word name ≡ true
-name_is_a_word [] all = refl
-name_is_a_word (b ∷ bytes) all =
-    let parts = and_parts _ _ all in
-    rw (regular_is_no_blank b parts.0) (name_is_a_word bytes parts.1)
+name_is_a_word name all = all_by is_regular (λ byte. not (byte == 32)) regular_is_no_blank name all
 
 each_text : (p : List ℕ → Bool) (texts : List (List ℕ)) (i : ℕ) (d : List ℕ) → list_all p texts ≡ true → i < length texts
     → p (slice_index_or texts i d) ≡ true

@@ -5,29 +5,17 @@ use Rattle.std.proofs.lemmas.Bool.Decides.{nat_tests}
 use Rattle.std.proofs.lemmas.Fmt.{decimal_is_IsNumeral}
 use Rattle.std.proofs.lemmas.Grind.{flat_map-append}
 use Rattle.std.proofs.lemmas.List.Sums.{count_by-le-length}
-use Rattle.std.proofs.lemmas.Slice.Eq.{bytes_eq-Decides}
 use Rattle.std.specs.Fmt.{decimal}
 use Rattle.std.specs.List.{AllByRecursion, filter, flat_map, list_any}
 use Rattle.std.specs.Option.{is_some}
 use Rattle.std.specs.Str.{bytes_eq}
 use Rattle.std.specs.Str.Parse.{digits_value}
+use Rattle.t1_many.proofs.Texts.{apart, equal, itself}
 use Rattle.t1_many.specs.Choice.{Choice, is_told}
-use Rattle.t1_many.specs.KnownFaults.{Reading, Row, distinct, found_count, is_among, is_judged, kind_of, kinds_in, known_count, rows_behind, rows_in, rule_of, shortfall, shortfall_at, shortfall_in, shortfall_text, updated, updated_behind}
+use Rattle.t1_many.specs.KnownFaults.{Reading, RowValue, distinct, found_count, is_among, is_judged, kind_of, kinds_in, known_count, rows_behind, rows_in, rule_of, shortfall, shortfall_at, shortfall_in, shortfall_text, updated, updated_behind}
 use Rattle.t1_many.specs.Laws.{AreReadings, IsReading, NoLineIsBeyond, NoRowFallsShort}
 
--- ---- texts that are compared
-
-equal : (a b : List ℕ) → bytes_eq a b ≡ true → a ≡ b
-equal a b same = (bytes_eq-Decides a b).0 same
-
-itself : (a : List ℕ) → bytes_eq a a ≡ true
-itself a = (bytes_eq-Decides a a).1 refl
-
-apart : (a b : List ℕ) → bytes_eq a b ≡ false → bytes_eq b a ≡ false
-apart a b other = elim (cases_Bool (bytes_eq b a)) [
-  | inl same ↦ (let is : b ≡ a = equal b a same in absurd (true≢false (sym (itself a) ∙ subst (λ t. bytes_eq a t ≡ false) is other)))
-  | inr not_same ↦ not_same
-]
+-- ---- tests
 
 not_below : (n : ℕ) → nat_lt n n ≡ false
 not_below n = grind (arith, nat_tests)
@@ -47,15 +35,15 @@ In x [] = ⊥
 In x (y ∷ ys) = (x ≡ y) ⊎ In x ys
 
 -- So many of a kind as f says, in a row each.
-abbrev counted : List ℕ → (List ℕ → ℕ) → List (List ℕ) → List Row
+abbrev counted : List ℕ → (List ℕ → ℕ) → List (List ℕ) → List RowValue
 counted font f kinds = map (λ kind. record { count = decimal (f kind); kind = kind; font = font }) kinds
 
-module _ (font : List ℕ) (f : List ℕ → ℕ) (few : (kind : List ℕ) → f kind < 2 ^ 64) (more : List Row) where
+module _ (font : List ℕ) (f : List ℕ → ℕ) (few : (kind : List ℕ) → f kind < 2 ^ 64) (more : List RowValue) where
   value : (kind : List ℕ) → digits_value 10 (decimal (f kind)) ≡ f kind
   value kind = (decimal_is_IsNumeral (f kind) (few kind)).1
 
   -- a row of another kind in front
-  skipped : (row : Row) (rows : List Row) (kind : List ℕ) → bytes_eq row.kind kind ≡ false → known_count (row ∷ rows) font kind ≡ known_count rows font kind
+  skipped : (row : RowValue) (rows : List RowValue) (kind : List ℕ) → bytes_eq row.kind kind ≡ false → known_count (row ∷ rows) font kind ≡ known_count rows font kind
   skipped row rows kind other = go (bytes_eq row.font font)
     where
       go : (b : Bool) → cond (b && bytes_eq row.kind kind) (digits_value 10 row.count) (known_count rows font kind) ≡ known_count rows font kind
@@ -95,12 +83,12 @@ module _ (font : List ℕ) (f : List ℕ → ℕ) (few : (kind : List ℕ) → f
 
 -- ---- rows of other fonts
 
-others : (other font : List ℕ) (f : List ℕ → ℕ) (kinds : List (List ℕ)) (more : List Row) (kind : List ℕ) → bytes_eq other font ≡ false
+others : (other font : List ℕ) (f : List ℕ → ℕ) (kinds : List (List ℕ)) (more : List RowValue) (kind : List ℕ) → bytes_eq other font ≡ false
     → known_count (counted other f kinds ++ more) font kind ≡ known_count more font kind
 others other font f [] more kind unlike = refl
 others other font f (y ∷ ys) more kind unlike = rw unlike (others other font f ys more kind unlike)
 
-in_others : (other font : List ℕ) (found_there : Option (List (List ℕ))) (more : List Row) (kind : List ℕ) → bytes_eq other font ≡ false
+in_others : (other font : List ℕ) (found_there : Option (List (List ℕ))) (more : List RowValue) (kind : List ℕ) → bytes_eq other font ≡ false
     → known_count (rows_in other found_there ++ more) font kind ≡ known_count more font kind
 in_others other font None more kind unlike = refl
 in_others other font (Some kinds) more kind unlike = others other font (found_count kinds) (distinct kinds) more kind unlike
@@ -128,7 +116,7 @@ module _ (choice : Choice) (readings : List Reading) (font : List ℕ) (kinds : 
   few : (other : List ℕ) → found_count kinds other < 2 ^ 64
   few other = let most = count_by-le-length (bytes_eq other) kinds in let bound = is.few in omega (arith, most, bound)
 
-  block : (other : List ℕ) (more : List Row) → bytes_eq other font ≡ true
+  block : (other : List ℕ) (more : List RowValue) → bytes_eq other font ≡ true
       → known_count (rows_in other (kinds_in readings other) ++ more) font kind ≡ found_count kinds kind
   block other more same =
       subst (λ o. known_count (rows_in o (kinds_in readings o) ++ more) font kind ≡ found_count kinds kind) (sym (equal other font same))
@@ -155,7 +143,7 @@ module _ (choice : Choice) (readings : List Reading) (font : List ℕ) (kinds : 
       ]
 
   -- a row that isn't judged is none of these
-  standing : (row : Row) (more : List Row) → is_judged choice readings row ≡ false → known_count (row ∷ more) font kind ≡ known_count more font kind
+  standing : (row : RowValue) (more : List RowValue) → is_judged choice readings row ≡ false → known_count (row ∷ more) font kind ≡ known_count more font kind
   standing row more stands = elim (cases_Bool (bytes_eq row.font font && bytes_eq row.kind kind)) [
     | inl both ↦
         let parts = and_parts _ _ both in
@@ -167,7 +155,7 @@ module _ (choice : Choice) (readings : List Reading) (font : List ℕ) (kinds : 
     | inr other ↦ rw other refl
   ]
 
-  behind : (done : List (List ℕ)) (rows : List Row) → is_among done font ≡ false
+  behind : (done : List (List ℕ)) (rows : List RowValue) → is_among done font ≡ false
       → known_count (updated_behind choice readings done rows) font kind ≡ found_count kinds kind
   behind done [] out = behind_rows done readings out (in_readings font kinds readings at)
   behind done (row ∷ rows) out = elim (cases_Bool (is_judged choice readings row)) [
@@ -206,7 +194,7 @@ no_line choice readings rows font lines are at =
 -- ---- no row falls short
 
 module _ (choice : Choice) (readings : List Reading) (are : AreReadings choice readings) where
-  stands_still : (row : Row) → is_judged choice readings row ≡ false → shortfall choice readings row ≡ []
+  stands_still : (row : RowValue) → is_judged choice readings row ≡ false → shortfall choice readings row ≡ []
   stands_still row stands = go (kinds_in readings row.font) stands
     where
       go : (kinds : Option (List (List ℕ))) → (is_some kinds && is_told choice (rule_of row.kind)) ≡ false → shortfall_in choice row kinds ≡ []
@@ -221,7 +209,7 @@ module _ (choice : Choice) (readings : List Reading) (are : AreReadings choice r
       let bound = (are font kinds at).few in
       let value : digits_value 10 (decimal (found_count kinds kind)) ≡ found_count kinds kind =
       (decimal_is_IsNumeral (found_count kinds kind) (omega (arith, most, bound))).1 in
-      let row : Row = record { count = decimal (found_count kinds kind); kind = kind; font = font } in
+      let row : RowValue = record { count = decimal (found_count kinds kind); kind = kind; font = font } in
       let here : shortfall_at row (found_count kinds kind) ≡ [] =
       rw value (ap (λ b. cond b (shortfall_text row (found_count kinds kind)) []) (not_below (found_count kinds kind))) in
       let quiet : shortfall choice readings row ≡ [] = rw at (go (is_told choice (rule_of kind)) (shortfall_at row (found_count kinds kind)) here) in
@@ -238,7 +226,7 @@ module _ (choice : Choice) (readings : List Reading) (are : AreReadings choice r
       go None at = refl
       go (Some kinds) at = reached font kinds at (distinct kinds)
 
-  joined : (font : List ℕ) (more : List Row) → flat_map (shortfall choice readings) more ≡ []
+  joined : (font : List ℕ) (more : List RowValue) → flat_map (shortfall choice readings) more ≡ []
       → flat_map (shortfall choice readings) (rows_in font (kinds_in readings font) ++ more) ≡ []
   joined font more quiet =
       flat_map-append (shortfall choice readings) (rows_in font (kinds_in readings font)) more
@@ -251,7 +239,7 @@ module _ (choice : Choice) (readings : List Reading) (are : AreReadings choice r
     | inr new ↦ rw new (joined reading.font (rows_behind readings (reading.font ∷ done) suffix) (quiet_rows (reading.font ∷ done) suffix))
   ]
 
-  quiet : (done : List (List ℕ)) (rows : List Row) → flat_map (shortfall choice readings) (updated_behind choice readings done rows) ≡ []
+  quiet : (done : List (List ℕ)) (rows : List RowValue) → flat_map (shortfall choice readings) (updated_behind choice readings done rows) ≡ []
   quiet done [] = quiet_rows done readings
   quiet done (row ∷ rows) = elim (cases_Bool (is_judged choice readings row)) [
     | inl judged ↦ rw judged (elim (cases_Bool (is_among done row.font)) [

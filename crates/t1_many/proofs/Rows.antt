@@ -5,7 +5,8 @@ use Rattle.std.proofs.lemmas.Bool.Decides.{nat_tests}
 use Rattle.std.proofs.lemmas.List.{append_cancel_right}
 use Rattle.std.specs.List.{concat, list_all}
 use Rattle.t1_scan.specs.Bytes.{is_decimal_digit}
-use Rattle.t1_many.specs.KnownFaults.{IsKind, Row, is_word}
+use Rattle.t1_many.proofs.Texts.{all_by}
+use Rattle.t1_many.specs.KnownFaults.{IsKind, RowValue, is_word}
 use Rattle.t1_many.specs.KnownFaults.IsKind.{of_font, of_glyph, of_waiver}
 use Rattle.t1_many.specs.Laws.{ATextIsOneRow}
 
@@ -146,12 +147,9 @@ digit_is_no_blank : (byte : ℕ) → is_decimal_digit byte ≡ true → not (byt
 digit_is_no_blank byte digit = grind (arith, nat_tests, digit)
 
 digits_are_a_word : (digits : List ℕ) → list_all is_decimal_digit digits ≡ true → is_word digits ≡ true
-digits_are_a_word [] all = refl
-digits_are_a_word (d ∷ ds) all =
-    let parts = and_parts _ _ all in
-    rw (digit_is_no_blank d parts.0) (digits_are_a_word ds parts.1)
+digits_are_a_word digits all = all_by is_decimal_digit (λ byte. not (byte == 32)) digit_is_no_blank digits all
 
-abbrev made : List ℕ → List ℕ → List ℕ → Row
+abbrev made : List ℕ → List ℕ → List ℕ → RowValue
 made count kind font = record { count = count; kind = kind; font = font }
 
 pub one_row : ATextIsOneRow

@@ -1,5 +1,5 @@
 -- The greatest of statuses, and of two lists of them.
-use Rattle.std.proofs.Common.{◌≡◌, ◌≤◌, ◌<◌, ℕ, true, false, nat_lt, List, [], ◌∷◌, inl, inr, refl, sym, ap, ◌∙◌, arith}
+use Rattle.std.proofs.Common.{◌≡◌, ◌≤◌, ◌<◌, ℕ, true, false, nat_lt, List, [], ◌∷◌, ◌++◌, inl, inr, refl, sym, ap, ◌∙◌, arith}
 use Rattle.std.proofs.lemmas.Bool.{cases_lt}
 use Rattle.std.proofs.lemmas.Bool.Decides.{nat_tests}
 use Rattle.std.specs.List.{AllByRecursion}
@@ -56,3 +56,8 @@ pub joined_are_worse : JoinedAreWorse
 joined_are_worse [] more = sym (clean_first (worst_of more))
 joined_are_worse (status ∷ statuses) more =
     ap (worse status) (joined_are_worse statuses more) ∙ sym (joins status (worst_of statuses) (worst_of more))
+
+-- one more
+pub worst_push : (statuses : List Status) (status : Status) → worst_of (statuses ++ status ∷ []) ≡ worse (worst_of statuses) status
+worst_push statuses status =
+    joined_are_worse statuses (status ∷ []) ∙ ap (worse (worst_of statuses)) (first status Clean (omega arith))

@@ -1,5 +1,5 @@
 -- Known faults: how often each kind of fault is known of a font, by rows of a file.
-use Rattle.std.specs.Prelude.{◌≡◌, ℕ, ◌==◌, ◌&&◌, nat_lt, Bool, true, not, List, [], ◌∷◌, ◌++◌, codes, filter, map, Option, None, Some, if◌then◌else◌}
+use Rattle.std.specs.Prelude.{◌≡◌, ℕ, ◌<◌, length, ◌==◌, ◌&&◌, nat_lt, Bool, true, not, List, [], ◌∷◌, ◌++◌, codes, filter, map, Option, None, Some, if◌then◌else◌}
 use Rattle.std.specs.Fmt.{decimal}
 use Rattle.std.specs.List.{concat, count_by, flat_map, list_all, list_any}
 use Rattle.std.specs.Option.{is_some}
@@ -43,30 +43,32 @@ pub data IsKind (kind : List ℕ) : Type 0 where
 
 -- ---- rows
 
-pub record Row : Type 0 where
+pub record RowValue : Type 0 where
   -- How often, by decimal digits as they stand.
   pub count : List ℕ
   pub kind : List ℕ
   -- The font's name.
   pub font : List ℕ
 
--- A row that is one: of decimal digits and a kind.
-pub record IsRow (row : Row) : Type 0 where
+-- A row that is one: of decimal digits, a kind and a font's name.
+pub record IsRow (row : RowValue) : Type 0 where
+  pub counts : 0 < length row.count
   pub count : list_all is_decimal_digit row.count ≡ true
   pub kind : IsKind row.kind
+  pub font : 0 < length row.font
 
 -- `COUNT KIND FONT`, ended by byte 10.
-abbrev pub row_text : Row → List ℕ
+abbrev pub row_text : RowValue → List ℕ
 row_text row = concat (row.count ∷ codes " " ∷ row.kind ∷ codes " " ∷ row.font ∷ codes "\n" ∷ [])
 
 -- The whole file.
-abbrev pub file_text : List Row → List ℕ
+abbrev pub file_text : List RowValue → List ℕ
 file_text rows = codes "# Known faults: count, rule, unit, font.\n" ++ flat_map row_text rows
 
 -- ---- what goes beyond
 
 -- How often a kind is known of a font; 0 where no row says it.
-abbrev pub known_count : List Row → List ℕ → List ℕ → ℕ
+abbrev pub known_count : List RowValue → List ℕ → List ℕ → ℕ
 known_count [] font kind = 0
 known_count (row ∷ rows) font kind =
     if bytes_eq row.font font && bytes_eq row.kind kind then digits_value 10 row.count else known_count rows font kind
@@ -75,7 +77,7 @@ abbrev pub found_count : List (List ℕ) → List ℕ → ℕ
 found_count kinds kind = count_by (bytes_eq kind) kinds
 
 -- Of a font's lines those whose kind is found more often than it is known: all of a kind, or none.
-abbrev pub beyond : List Row → List ℕ → List FaultLineValue → List FaultLineValue
+abbrev pub beyond : List RowValue → List ℕ → List FaultLineValue → List FaultLineValue
 beyond rows font lines =
     filter (λ l. nat_lt (known_count rows font (kind_of l)) (found_count (map kind_of lines) (kind_of l))) lines
 
@@ -92,24 +94,24 @@ kinds_in [] font = None
 kinds_in (reading ∷ readings) font = if bytes_eq reading.font font then Some reading.kinds else kinds_in readings font
 
 -- A row is judged where the report of its font was made, and its rule is told.
-abbrev pub is_judged : Choice → List Reading → Row → Bool
+abbrev pub is_judged : Choice → List Reading → RowValue → Bool
 is_judged choice readings row = is_some (kinds_in readings row.font) && is_told choice (rule_of row.kind)
 
 -- `FONT: known faults: KIND: COUNT known, FOUND found`.
-abbrev pub shortfall_text : Row → ℕ → List ℕ
+abbrev pub shortfall_text : RowValue → ℕ → List ℕ
 shortfall_text row found = concat
     (row.font ∷ codes ": known faults: " ∷ row.kind ∷ codes ": " ∷ row.count ∷ codes " known, " ∷ decimal found ∷ codes " found\n" ∷ [])
 
 -- What is told of a row of whose kind so many were found: nothing where it is reached.
-abbrev pub shortfall_at : Row → ℕ → List ℕ
+abbrev pub shortfall_at : RowValue → ℕ → List ℕ
 shortfall_at row found = if nat_lt found (digits_value 10 row.count) then shortfall_text row found else []
 
 -- What is told of a row.
-abbrev pub shortfall_in : Choice → Row → Option (List (List ℕ)) → List ℕ
+abbrev pub shortfall_in : Choice → RowValue → Option (List (List ℕ)) → List ℕ
 shortfall_in choice row None = []
 shortfall_in choice row (Some kinds) = if is_told choice (rule_of row.kind) then shortfall_at row (found_count kinds row.kind) else []
 
-abbrev pub shortfall : Choice → List Reading → Row → List ℕ
+abbrev pub shortfall : Choice → List Reading → RowValue → List ℕ
 shortfall choice readings row = shortfall_in choice row (kinds_in readings row.font)
 
 -- ---- the rows from now on
@@ -120,10 +122,10 @@ distinct [] = []
 distinct (kind ∷ kinds) = kind ∷ filter (λ other. not (bytes_eq kind other)) (distinct kinds)
 
 -- The rows of a font: what was found.
-abbrev pub rows_of : List ℕ → List (List ℕ) → List Row
+abbrev pub rows_of : List ℕ → List (List ℕ) → List RowValue
 rows_of font kinds = map (λ kind. record { count = decimal (found_count kinds kind); kind = kind; font = font }) (distinct kinds)
 
-abbrev pub rows_in : List ℕ → Option (List (List ℕ)) → List Row
+abbrev pub rows_in : List ℕ → Option (List (List ℕ)) → List RowValue
 rows_in font None = []
 rows_in font (Some kinds) = rows_of font kinds
 
@@ -131,7 +133,7 @@ abbrev pub is_among : List (List ℕ) → List ℕ → Bool
 is_among fonts font = list_any (bytes_eq font) fonts
 
 -- The rows of the fonts that were read and aren't done.
-abbrev pub rows_behind : List Reading → List (List ℕ) → List Reading → List Row
+abbrev pub rows_behind : List Reading → List (List ℕ) → List Reading → List RowValue
 rows_behind all done [] = []
 rows_behind all done (reading ∷ readings) =
     if is_among done reading.font then rows_behind all done readings
@@ -139,7 +141,7 @@ rows_behind all done (reading ∷ readings) =
 
 -- The rows that are written in the place of these. One that isn't judged stands as it was. In the place of the first one of a font
 -- that is judged stand all that were found in it; and of fonts without such a row behind all others.
-abbrev pub updated_behind : Choice → List Reading → List (List ℕ) → List Row → List Row
+abbrev pub updated_behind : Choice → List Reading → List (List ℕ) → List RowValue → List RowValue
 updated_behind choice readings done [] = rows_behind readings done readings
 updated_behind choice readings done (row ∷ rows) =
     if is_judged choice readings row
@@ -147,5 +149,5 @@ updated_behind choice readings done (row ∷ rows) =
     else rows_in row.font (kinds_in readings row.font) ++ updated_behind choice readings (row.font ∷ done) rows)
     else row ∷ updated_behind choice readings done rows
 
-abbrev pub updated : Choice → List Reading → List Row → List Row
+abbrev pub updated : Choice → List Reading → List RowValue → List RowValue
 updated choice readings rows = updated_behind choice readings [] rows

@@ -8,7 +8,7 @@ use Rattle.t1_rules.specs.declared.rule.Rule.{Rule}
 use Rattle.t1_run.specs.Statuses.{exit_code_of}
 use Rattle.t1_run.specs.declared.status.Status.{Status}
 use Rattle.t1_many.specs.Choice.{Choice, is_told, letters_of, picks}
-use Rattle.t1_many.specs.KnownFaults.{IsKind, IsRow, Reading, Row, beyond, kind_of, kinds_in, row_text, rule_of, shortfall, updated}
+use Rattle.t1_many.specs.KnownFaults.{IsKind, IsRow, Reading, RowValue, beyond, kind_of, kinds_in, row_text, rule_of, shortfall, updated}
 use Rattle.t1_many.specs.Shards.{first_parts}
 use Rattle.t1_many.specs.Statuses.{worse, worst_of}
 use Rattle.t1_many.specs.Summaries.{Found, clean, count_of, count_of_rules, faulty, known, refused, unchecked}
@@ -33,7 +33,7 @@ KindsNameTheirRules = (l : FaultLineValue) → rule_of (kind_of l) ≡ code_of l
 
 -- No text is that of two rows.
 abbrev pub ATextIsOneRow : Type 0
-ATextIsOneRow = (a b : Row) → IsRow a → IsRow b → row_text a ≡ row_text b → a ≡ b
+ATextIsOneRow = (a b : RowValue) → IsRow a → IsRow b → row_text a ≡ row_text b → a ≡ b
 
 -- The parts of a list, one behind the other, are the list.
 abbrev pub PartsAreTheWhole : Type 0
@@ -50,14 +50,14 @@ AreReadings choice readings = (font : List ℕ) (kinds : List (List ℕ)) → ki
 -- Behind an update no line of a font that was read goes beyond what is known.
 abbrev pub NoLineIsBeyond : Type 0
 NoLineIsBeyond =
-    (choice : Choice) (readings : List Reading) (rows : List Row) (font : List ℕ) (lines : List FaultLineValue)
+    (choice : Choice) (readings : List Reading) (rows : List RowValue) (font : List ℕ) (lines : List FaultLineValue)
     → AreReadings choice readings → kinds_in readings font ≡ Some (map kind_of lines)
     → beyond (updated choice readings rows) font lines ≡ []
 
 -- And no row falls short of what was found.
 abbrev pub NoRowFallsShort : Type 0
 NoRowFallsShort =
-    (choice : Choice) (readings : List Reading) (rows : List Row)
+    (choice : Choice) (readings : List Reading) (rows : List RowValue)
     → AreReadings choice readings → flat_map (shortfall choice readings) (updated choice readings rows) ≡ []
 
 -- A line of a glyph that can be waived: its rule is one on charstrings or their steps.

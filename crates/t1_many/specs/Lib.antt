@@ -1,6 +1,10 @@
 pub mod Choice
+pub mod Ends
+pub mod Files
 pub mod KnownFaults
 pub mod Laws
+pub mod Outcomes
+pub mod Private
 pub mod Shards
 pub mod Statuses
 pub mod Summaries

@@ -1,9 +1,20 @@
-//! What is told of many fonts together: which rules, which lines beyond known faults, which part of a list, and the waivers that are
-//! written of lines.
+//! Many fonts together: each is checked in turn, and its lines are written with its name in front; which rules are told, which lines go
+//! beyond known faults, which part of a list is checked, and the waivers that are written of lines.
+//!
+//! [`check_all`] checks fonts one after another.
 #![tactic(auto)]
 
+mod asked;
+mod checking;
+mod choice;
 mod laws;
+mod lines;
+mod one_font;
+mod status;
 
+pub use asked::Asked;
+pub use checking::check_all;
+pub use choice::told_rules;
 pub use laws::{
     a_text_is_one_row, an_update_is_quiet, codes_pick_their_rules, parts_are_the_whole,
     statuses_join, summaries_add_up, written_waivers_are_read,

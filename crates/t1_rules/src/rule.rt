@@ -1,13 +1,13 @@
 //! The rules and their numbers.
 
-ghost use Rattle.std.specs.Prelude.{◌≡◌, ◌≤◌, nat_eq};
+ghost use Rattle.std.specs.Prelude.{◌≡◌, ◌⊎◌, ◌<◌, ◌≤◌, nat_eq, IfNone, IfSome};
 ghost use Rattle.std.proofs.Common.{rules};
 ghost use Rattle.std.specs.Cmp.Rules.{comparing, hashing};
 ghost use Rattle.std.specs.Hash as fed;
 ghost use Rattle.std.specs.Ordering.{on};
 ghost use Rattle.t1_rules.specs.Book.{last_number, number_of, rule_coded};
 
-use crate::book::{rows, rule_in};
+use crate::book::{rows, rule_in, rule_of};
 use std::hash::{Hash, Hasher};
 
 /// A rule of the rule book. Its number is its place there, from 1 on.
@@ -165,6 +165,15 @@ impl Rule {
     {
         self as u8
     }
+
+    /// The rule of a number, if there is one: from 1 to 70.
+    pub fn from_number(number: u8) -> Option<Rule>
+        ensures some { IfSome result (λ rule. number_of rule ≡ number) }
+        ensures none { IfNone result ((number ≡ 0) ⊎ (last_number < number)) }
+    {
+        rule_of(number)
+    }
+
     /// The rule of a code, if there is one: `GE01`.
     pub fn from_code(code: &[u8]) -> Option<Rule>
         ensures { result ≡ rule_coded code.now }

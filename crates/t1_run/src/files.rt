@@ -17,7 +17,7 @@ use t1_report::LARGEST_WAIVERS;
 pub const LARGEST_FILE: usize = 16_777_216;
 
 /// How many bytes are asked for at once.
-const ROOM: usize = 65_536;
+const ROOM: usize = 16_384;
 
 /// Reads the bytes of a font's file: all that a source gives until its end. More than 16,777,216 are refused, by E05.
 pub fn read_font_file<R: Source>(alloc: Global, source: &mut R) -> Result<Vec<u8>, Failure>

@@ -1,0 +1,133 @@
+-- How the check of a font ends, by what is known of its files.
+use Rattle.std.proofs.Common.{◌≡◌, ℕ, Bool, false, List, Result, Ok, Err, Some, inl, inr, refl, sym, ap, subst, ◌∙◌}
+use Rattle.t1_char.specs.declared.edition.Edition.{Edition}
+use Rattle.t1_font.specs.FontFiles.{IsUnread, font_in}
+use Rattle.t1_font.specs.Fonts.{FontValue}
+use Rattle.t1_font.specs.declared.unread.Unread.{Unread}
+use Rattle.t1_io.specs.Devices.{SinkState, SourceState}
+use Rattle.t1_lines.specs.declared.refusal.Reason.{Reason}
+use Rattle.t1_lines.specs.declared.refusal.Reason.TheVariants.{Font, FontTooLarge, Waivers, WaiversTooLarge}
+use Rattle.t1_many.specs.Files.{Given, IsFound}
+use Rattle.t1_many.specs.Files.IsFound.{breaks, breaks_waivers, no_memory, refused, reports, waivers_refused}
+use Rattle.t1_many.specs.Outcomes.{Outcome, Report, failed, reported}
+use Rattle.t1_many.specs.Private.Checking.{Checks, WritesReport, of_bytes, of_files, of_font, of_text}
+use Rattle.t1_many.specs.declared.asked.Asked.{Asked}
+use Rattle.t1_report.specs.Checked.{checked}
+use Rattle.t1_report.specs.WaiverViews.{IsReadAs}
+use Rattle.t1_report.specs.Waivers.{Waiver, waivers_of}
+use Rattle.t1_report.specs.declared.waivers.WaiverError.{WaiverError}
+use Rattle.t1_report.specs.declared.waivers.WaiverError.TheVariants.{Malformed, Memory}
+use Rattle.t1_run.proofs.FilesRead.{are_read, font_past}
+use Rattle.t1_run.specs.Failures.{failure_of}
+use Rattle.t1_run.specs.FontFiles.{AreRead, with_reason}
+use Rattle.t1_run.specs.Input.{AreAll, AreUnread}
+use Rattle.t1_run.specs.Input.AreUnread.{too_large as past, read_failed as broken, no_memory as unroomed}
+use Rattle.t1_run.specs.WaiverFiles.{AreWaived, IsNoWaiverText, IsWaiverText, as_waivers}
+use Rattle.t1_run.specs.WaiverFiles.IsNoWaiverText.{too_large, read_failed, no_memory as no_room}
+use Rattle.t1_run.specs.declared.failure.Failure.{Failure}
+use Rattle.t1_run.specs.declared.status.Status.{Status}
+use Rattle.std.specs.Result.{IsErrAnd}
+
+-- ---- what is known more widely
+
+-- All that one of them knows, the other does.
+pub record Widens (given wider : Given) : Type 0 where
+  pub reads : (read : Result FontValue Reason) → given.Reads read → wider.Reads read
+  pub breaks : given.Breaks → wider.Breaks
+  pub waives : (waived : Result (List Waiver) Reason) → given.Waives waived → wider.Waives waived
+  pub breaks_waivers : given.BreaksWaivers → wider.BreaksWaivers
+
+found_by : (edition : Edition) (given wider : Given) (outcome : Outcome) → Widens given wider → IsFound edition given outcome
+    → IsFound edition wider outcome
+found_by edition given wider outcome on (reports report read waived is same) =
+    reports report (on.reads _ read) (on.waives _ waived) is same
+found_by edition given wider outcome on (refused reason read same) = refused reason (on.reads _ read) same
+found_by edition given wider outcome on (waivers_refused font read reason waived same) =
+    waivers_refused font (on.reads _ read) reason (on.waives _ waived) same
+found_by edition given wider outcome on (breaks broke same) = breaks (on.breaks broke) same
+found_by edition given wider outcome on (breaks_waivers font read broke same) =
+    breaks_waivers font (on.reads _ read) (on.breaks_waivers broke) same
+found_by edition given wider outcome on (no_memory same) = no_memory same
+
+pub checks_by : {E : Type 0} (asked : Asked) (name : List ℕ) (given wider : Given) (a b : SinkState) (result : Result (Result Status E) Failure)
+    → Widens given wider → Checks asked name given a b result → Checks asked name wider a b result
+checks_by asked name given wider a b (Ok written) on (report, found, writes, is) =
+    (report, found_by asked.edition given wider (reported report) on found, writes, is)
+checks_by asked name given wider a b (Err failure) on (found, same) = (found_by asked.edition given wider (failed failure) on found, same)
+
+-- the exit of a `?` at which nothing was written
+pub not_found : {E : Type 0} (asked : Asked) (name : List ℕ) (given : Given) (a : SinkState) (result : Result (Result Status E) Failure)
+    (failure : Failure) → IsErrAnd result (λ f. f ≡ failure) → IsFound asked.edition given (failed failure) → Checks asked name given a a result
+not_found asked name given a (Ok written) failure is found = absurd is
+not_found asked name given a (Err f) failure is found =
+    (subst (λ (f : Failure). IsFound asked.edition given (failed f)) (sym is) found, refl)
+
+-- ---- the text of waivers
+
+pub text_unread : {W : Type 0} (value : W → List Waiver) (edition : Edition) (font : FontValue) (text : List ℕ) (error : WaiverError)
+    → IsReadAs value (waivers_of text) (Err error) → IsFound edition (of_text font text) (failed (failure_of (Waivers error)))
+text_unread value edition font text Malformed none = waivers_refused font refl (Waivers Malformed) (ap as_waivers none) refl
+text_unread value edition font text Memory any = no_memory refl
+
+pub text_written : {E : Type 0} (asked : Asked) (name : List ℕ) (font : FontValue) (text : List ℕ) (waivers : List Waiver) (edition : Edition)
+    (a b : SinkState) (written : Result Status E) → edition ≡ asked.edition → waivers_of text ≡ Some waivers
+    → WritesReport asked.rules name (checked font edition) waivers a b written → Checks asked name (of_text font text) a b (Ok written)
+text_written asked name font text waivers edition a b written same read writes =
+    let (faults, is, wrote, status) =
+    subst (λ (e : Edition). WritesReport asked.rules name (checked font e) waivers a b written) same writes in
+    let report : Report = record { font = font; waivers = waivers; faults = faults } in
+    (report, reports report refl (ap as_waivers read) is refl, wrote, status)
+
+-- ---- its file
+
+pub file_unread : (edition : Edition) (font : FontValue) (asked : Bool) (old new : SourceState) (failure : Failure)
+    → IsNoWaiverText asked old new failure → IsFound edition (of_font font asked old new) (failed failure)
+file_unread edition font asked old new failure (too_large waived heard is) =
+    waivers_refused font refl WaiversTooLarge (waived, heard) (ap failed is)
+file_unread edition font asked old new failure (read_failed is_asked broke is) = breaks_waivers font refl (is_asked, broke) (ap failed is)
+file_unread edition font asked old new failure (no_room kept is) = no_memory (ap failed is)
+
+pub text_of_file : (font : FontValue) (asked : Bool) (old new : SourceState) (text : List ℕ) → IsWaiverText asked old new text
+    → Widens (of_text font text) (of_font font asked old new)
+text_of_file font asked old new text is = record {
+  reads = λ read same. same;
+  breaks = λ never. never;
+  waives = λ waived same. (subst (λ (w : Result (List Waiver) Reason). AreWaived asked old.left w) same is.read, is.heard);
+  breaks_waivers = λ never. absurd never;
+}
+
+-- ---- the bytes of a font
+
+pub bytes_unread : (edition : Edition) (bytes : List ℕ) (asked : Bool) (old new : SourceState) (unread : Unread)
+    → IsUnread unread (font_in bytes) → IsFound edition (of_bytes bytes asked old new) (failed (failure_of (Font unread)))
+bytes_unread edition bytes asked old new unread (inl memory) = no_memory (ap (λ (u : Unread). failed (failure_of (Font u))) memory)
+bytes_unread edition bytes asked old new unread (inr is) = refused (Font unread) (ap with_reason is) refl
+
+pub font_of_bytes : (font : FontValue) (bytes : List ℕ) (asked : Bool) (old new : SourceState) → font_in bytes ≡ Ok font
+    → Widens (of_font font asked old new) (of_bytes bytes asked old new)
+font_of_bytes font bytes asked old new is = record {
+  reads = λ read same. ap with_reason is ∙ sym same;
+  breaks = λ never. never;
+  waives = λ waived heard. heard;
+  breaks_waivers = λ broke. broke;
+}
+
+-- ---- its file
+
+pub font_unread : (edition : Edition) (source source' : SourceState) (asked : Bool) (old new : SourceState) (failure : Failure)
+    → source.failed ≡ false → AreUnread 16777216 FontTooLarge source source' failure
+    → IsFound edition (of_files source source' asked old new) (failed failure)
+font_unread edition source source' asked old new failure sound (past bytes consumed large kept is) =
+    refused FontTooLarge (font_past source.left source'.left bytes consumed large, kept ∙ sound) (ap failed is)
+font_unread edition source source' asked old new failure sound (broken broke is) = breaks broke (ap failed is)
+font_unread edition source source' asked old new failure sound (unroomed kept is) = no_memory (ap failed is)
+
+pub bytes_of_file : (source source' : SourceState) (bytes : List ℕ) (asked : Bool) (old new : SourceState) → source.failed ≡ false
+    → AreAll 16777216 source source' bytes → Widens (of_bytes bytes asked old new) (of_files source source' asked old new)
+bytes_of_file source source' bytes asked old new sound all = record {
+  reads = λ read same.
+      (subst (AreRead source.left) same (are_read source.left source'.left bytes (font_in bytes) all.consumed all.end all.few refl), all.kept ∙ sound);
+  breaks = λ never. absurd never;
+  waives = λ waived heard. heard;
+  breaks_waivers = λ broke. broke;
+}

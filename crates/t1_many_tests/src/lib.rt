@@ -1,0 +1,7 @@
+//! Tests of what is told of many fonts, by public items of t1_many alone. Expected values are worked out by hand.
+#![tactic(auto)]
+
+#[cfg(test)]
+mod checks;
+#[cfg(test)]
+mod choices;
