@@ -2,7 +2,8 @@
 use Rattle.std.proofs.Common.{◌≡◌, ◌+◌, ℕ, suc, Bool, true, false, ◌==◌, List, [], ◌∷◌, ◌++◌, drop, take, length, refl, sym, ◌∙◌, inl, inr, arith, Option, Some, None, option_map}
 use Rattle.std.proofs.lemmas.Bool.{cases_Bool, eqb-true}
 use Rattle.std.specs.List.{list_all, prefix_len}
-use Rattle.t1_lines.specs.Private.Reading.{cut, differs}
+use Rattle.t1_lines.specs.Cutting.{cut}
+use Rattle.t1_lines.specs.Private.Reading.{differs}
 
 -- No such byte stands in the text.
 abbrev pub lacks : ℕ → List ℕ → Bool

@@ -14,7 +14,8 @@ use Rattle.t1_report.specs.Lines.{inner_text, path_text}
 use Rattle.t1_lines.specs.declared.refusal.RefusalCode.{RefusalCode}
 use Rattle.t1_lines.specs.RefusalTexts.{refusal_text_of}
 use Rattle.t1_lines.specs.Lines.{FaultLineValue, LineValue, PlaceValue, at_key, at_step, at_waiver, of_fault, of_refusal, place_words, spaced, spelled, IsPlace, IsFaultLine, IsLine}
-use Rattle.t1_lines.specs.Private.Reading.{cut, number_of, rule_read, numbers_cut, numbers_read, path_read, font_line, glyph_line, waiver_line, place_line, told_line, line_read}
+use Rattle.t1_lines.specs.Cutting.{cut}
+use Rattle.t1_lines.specs.Private.Reading.{number_of, rule_read, numbers_cut, numbers_read, path_read, font_line, glyph_line, waiver_line, place_line, told_line, line_read}
 use Rattle.t1_font.specs.Keys.{same_name}
 use Rattle.t1_lines.proofs.Cuts.{cut-append, cut-lacks, lacks}
 use Rattle.t1_lines.proofs.Numbers.{number-decimal, same-refl, same-true}

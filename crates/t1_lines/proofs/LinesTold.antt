@@ -13,7 +13,8 @@ use Rattle.t1_rules.proofs.Lemmas.Book.{one_rule as one_rule_by_number}
 use Rattle.t1_rules.specs.Keys.{key_text_of}
 use Rattle.t1_report.specs.Lines.{inner_text, path_text}
 use Rattle.t1_lines.specs.Lines.{FaultLineValue, LineValue, at_waiver, of_fault, of_refusal, place_words, spaced, spelled, IsPlace, IsLine}
-use Rattle.t1_lines.specs.Private.Reading.{cut, number_of, key_of, rule_with, rule_read, numbers_cut, numbers_read, path_read, font_line, name_read, glyph_line, waiver_line, place_line, refusal_of, blank_read, told_line, line_read}
+use Rattle.t1_lines.specs.Cutting.{cut}
+use Rattle.t1_lines.specs.Private.Reading.{number_of, key_of, rule_with, rule_read, numbers_cut, numbers_read, path_read, font_line, name_read, glyph_line, waiver_line, place_line, refusal_of, blank_read, told_line, line_read}
 use Rattle.t1_font.specs.Keys.{same_name}
 use Rattle.t1_lines.proofs.Cuts.{cut-joined, some_same}
 use Rattle.t1_lines.proofs.Numbers.{number-read, same-true}

@@ -1,6 +1,7 @@
 -- The numbers of Subrs, read back.
 use Rattle.std.proofs.Common.{◌≡◌, ◌+◌, ◌-◌, ◌<◌, ℕ, suc, List, [], ◌∷◌, ◌++◌, refl, sym, ap, ◌∙◌, arith, Option, Some, None, option_map}
-use Rattle.t1_lines.specs.Private.Reading.{cut, number_of, numbers_read}
+use Rattle.t1_lines.specs.Cutting.{cut}
+use Rattle.t1_lines.specs.Private.Reading.{number_of, numbers_read}
 
 -- What stands already, and these numbers.
 abbrev pub behind : List ℕ → Option (List ℕ) → Option (List ℕ)

@@ -1,5 +1,5 @@
 -- Each number of a refusal has its one reason.
-use Rattle.std.proofs.Common.{◌≡◌, ◌⊎◌, inl, inr, Option, None, Some, refl, sym, ◌∙◌}
+use Rattle.std.proofs.Common.{◌≡◌, inl, inr, Some, refl, sym, ◌∙◌}
 use Rattle.t1_font.specs.declared.unread.Unread.TheVariants.{NotAFont, BadHeader, CutShort, NoEexec, TooShort, Unclosed, BadSubrs, BadCharStrings, BadLenIv, PastLimit, SecondSubrs, MultipleMaster, Memory}
 use Rattle.t1_report.specs.declared.waivers.WaiverError.TheVariants as waivers
 use Rattle.t1_lines.specs.Laws.{EachCodeIsOfAReason, MemoryAloneRefusesNone, NoCodeIsOfTwo}

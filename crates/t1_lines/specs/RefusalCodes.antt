@@ -1,5 +1,5 @@
 -- The number by which bytes are refused, of each reason.
-use Rattle.std.specs.Prelude.{ℕ, List, ◌++◌, codes, Option, None, Some}
+use Rattle.std.specs.Prelude.{Option, None, Some}
 use Rattle.t1_font.specs.declared.unread.Unread.TheVariants.{NotAFont, BadHeader, CutShort, NoEexec, TooShort, Unclosed, BadSubrs, BadCharStrings, BadLenIv, PastLimit, SecondSubrs, MultipleMaster, Memory}
 use Rattle.t1_report.specs.declared.waivers.WaiverError.TheVariants as waivers
 use Rattle.t1_lines.specs.declared.refusal.Reason.{Reason}

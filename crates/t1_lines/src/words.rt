@@ -2,7 +2,8 @@
 
 ghost use Rattle.std.specs.Prelude.{◌≡◌, ◌≤◌, length, option_map};
 ghost use Rattle.std.specs.List.{prefix_len};
-ghost use Rattle.t1_lines.specs.Private.Reading.{begins_plainly, cut, differs, number_of};
+ghost use Rattle.t1_lines.specs.Cutting.{cut};
+ghost use Rattle.t1_lines.specs.Private.Reading.{begins_plainly, differs, number_of};
 
 /// How many bytes stand before the first such byte, all where there is none.
 fn front_len(byte: u8, text: &[u8]) -> usize

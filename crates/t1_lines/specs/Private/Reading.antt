@@ -15,15 +15,11 @@ use Rattle.t1_lines.specs.declared.refusal.RefusalCode.TheVariants.{E01, E02, E0
 use Rattle.t1_lines.specs.RefusalTexts.{refusal_text_of}
 use Rattle.t1_lines.specs.Lines.{FaultLineValue, LineValue, at_key, at_step, at_waiver, of_fault, of_refusal}
 use Rattle.t1_char.specs.Effects.{most_calls}
+use Rattle.t1_lines.specs.Cutting.{cut}
 
 -- A byte that isn't this one.
 abbrev pub differs : ℕ → ℕ → Bool
 differs byte c = not (c == byte)
-
--- What stands before the first such byte, and behind it.
-abbrev pub cut : ℕ → List ℕ → Option (List ℕ × List ℕ)
-cut byte [] = None
-cut byte (c ∷ text) = if c == byte then Some ([], text) else option_map (λ p. (c ∷ p.0, p.1)) (cut byte text)
 
 -- Neither a plus nor a needless zero stands in front.
 abbrev pub begins_plainly : List ℕ → Bool
