@@ -202,8 +202,13 @@ impl<'a> Frames<'a> {
             }
             if !self.step.stack.is_full() {
                 if let Some(ahead) = self.current.unenciphered() {
-                    let before =
-                        self.go_over_plain(ahead.left, font, counted, limit, is_lines(passing));
+                    let before = self.go_over_plain(
+                        ahead.left,
+                        font,
+                        counted,
+                        limit,
+                        is_lines(passing),
+                    );
                     return Gone {
                         before,
                         way: Way {
