@@ -17,6 +17,8 @@ use Rattle.t1_report.specs.WaiverViews.{IsReadAs}
 use Rattle.t1_report.specs.Waivers.{Waiver, waivers_of}
 use Rattle.t1_report.specs.declared.waivers.WaiverError.{WaiverError}
 use Rattle.t1_report.specs.declared.waivers.WaiverError.TheVariants.{Malformed, Memory}
+use Rattle.t1_rules.specs.Book.{number_of}
+use Rattle.t1_rules.specs.Mask.{has}
 use Rattle.t1_run.proofs.FilesRead.{are_read, font_past}
 use Rattle.t1_run.specs.Failures.{failure_of}
 use Rattle.t1_run.specs.FontFiles.{AreRead, with_reason}
@@ -71,10 +73,10 @@ text_unread value edition font text Memory any = no_memory refl
 
 pub text_written : {E : Type 0} (asked : Asked) (name : List ℕ) (font : FontValue) (text : List ℕ) (waivers : List Waiver) (edition : Edition)
     (a b : SinkState) (written : Result Status E) → edition ≡ asked.edition → waivers_of text ≡ Some waivers
-    → WritesReport asked.rules name (checked font edition) waivers a b written → Checks asked name (of_text font text) a b (Ok written)
+    → WritesReport (λ fault. has asked.rules (number_of fault.rule)) name (checked font edition) waivers a b written → Checks asked name (of_text font text) a b (Ok written)
 text_written asked name font text waivers edition a b written same read writes =
     let (faults, is, wrote, status) =
-    subst (λ (e : Edition). WritesReport asked.rules name (checked font e) waivers a b written) same writes in
+    subst (λ (e : Edition). WritesReport (λ fault. has asked.rules (number_of fault.rule)) name (checked font e) waivers a b written) same writes in
     let report : Report = record { font = font; waivers = waivers; faults = faults } in
     (report, reports report refl (ap as_waivers read) is refl, wrote, status)
 

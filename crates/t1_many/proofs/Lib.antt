@@ -1,7 +1,9 @@
+pub mod BeyondLines
 pub mod Codes
 pub mod Entries
 pub mod Found
 pub mod GivenFaults
+pub mod GroupCounts
 pub mod Letters
 pub mod LineKinds
 pub mod Nothing
@@ -10,6 +12,7 @@ pub mod Parts
 pub mod Quiet
 pub mod ReportLines
 pub mod Rows
+pub mod RowsRead
 pub mod Sums
 pub mod Texts
 pub mod Told

@@ -38,7 +38,7 @@ record IsSplit (kind rest : List ℕ) : Type 0 where
   pub is : kind ++ (32 ∷ rest) ≡ rule ++ (32 ∷ (unit ++ (32 ∷ tail)))
 
 -- one word behind the unit's first
-short : (rule unit word rest : List ℕ)
+pub short : (rule unit word rest : List ℕ)
     → (rule ++ (32 ∷ (unit ++ (32 ∷ (word ++ []))))) ++ (32 ∷ rest) ≡ rule ++ (32 ∷ (unit ++ (32 ∷ (word ++ (32 ∷ rest)))))
 short rule unit word rest =
     append_assoc rule (32 ∷ (unit ++ (32 ∷ (word ++ [])))) (32 ∷ rest)
@@ -46,7 +46,7 @@ short rule unit word rest =
     (append_assoc unit (32 ∷ (word ++ [])) (32 ∷ rest) ∙ ap (λ w. unit ++ (32 ∷ (w ++ (32 ∷ rest)))) (append-nil word))
 
 -- two words
-long : (rule unit word waived rest : List ℕ)
+pub long : (rule unit word waived rest : List ℕ)
     → (rule ++ (32 ∷ (unit ++ (32 ∷ (word ++ (32 ∷ (waived ++ []))))))) ++ (32 ∷ rest)
     ≡ rule ++ (32 ∷ (unit ++ (32 ∷ (word ++ (32 ∷ (waived ++ (32 ∷ rest)))))))
 long rule unit word waived rest =
@@ -146,7 +146,7 @@ kinds a b rest rest' (of_waiver rule name waived ra na wa is) (of_glyph rule' na
 digit_is_no_blank : (byte : ℕ) → is_decimal_digit byte ≡ true → not (byte == 32) ≡ true
 digit_is_no_blank byte digit = grind (arith, nat_tests, digit)
 
-digits_are_a_word : (digits : List ℕ) → list_all is_decimal_digit digits ≡ true → is_word digits ≡ true
+pub digits_are_a_word : (digits : List ℕ) → list_all is_decimal_digit digits ≡ true → is_word digits ≡ true
 digits_are_a_word digits all = all_by is_decimal_digit (λ byte. not (byte == 32)) digit_is_no_blank digits all
 
 abbrev made : List ℕ → List ℕ → List ℕ → RowValue

@@ -1,10 +1,13 @@
+pub mod Beyond
 pub mod Choice
 pub mod Ends
 pub mod Files
+pub mod Groups
 pub mod KnownFaults
 pub mod Laws
 pub mod Outcomes
 pub mod Private
+pub mod RowValues
 pub mod Shards
 pub mod Statuses
 pub mod Summaries

@@ -34,10 +34,13 @@ told_faults rules faults = filter (λ fault. has rules (number_of fault.rule)) f
 abbrev pub named : List ℕ → List ℕ → List ℕ
 named name line = concat (name ∷ codes ": " ∷ []) ++ line
 
--- Each line of a report that is told, with the font's name in front.
+-- The lines of faults, each with the font's name in front.
+abbrev pub lines_text : List ℕ → FontValue → List Waiver → List FaultValue → List ℕ
+lines_text name font waivers faults = flat_map (λ fault. named name (line_of font waivers fault)) faults
+
+-- Those of a report that are told.
 abbrev pub report_text : Mask → List ℕ → Report → List ℕ
-report_text rules name report =
-    flat_map (λ fault. named name (line_of report.font report.waivers fault)) (told_faults rules report.faults)
+report_text rules name report = lines_text name report.font report.waivers (told_faults rules report.faults)
 
 -- Whether there is one.
 abbrev pub status_of_lines : List FaultValue → Status

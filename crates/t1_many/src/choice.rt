@@ -72,7 +72,7 @@ fn letters_of(code: &[u8]) -> &[u8]
 }
 
 /// Whether all bytes are digits.
-fn are_digits(bytes: &[u8]) -> bool
+pub(crate) fn are_digits(bytes: &[u8]) -> bool
     ensures { result ≡ list_all is_decimal_digit bytes.now }
 {
     bytes.iter().all(|byte| byte.is_ascii_digit())

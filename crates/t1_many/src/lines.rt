@@ -1,15 +1,19 @@
 //! The lines of one font of many, each with the font's name in front.
 
-ghost use Rattle.std.specs.Prelude.{◌≤◌, length};
+ghost use Rattle.std.specs.Prelude.{◌≡◌, ◌≤◌, Bool, length};
 ghost use Rattle.t1_font.specs.Bounds.{most_glyphs};
 ghost use Rattle.t1_io.specs.Devices.{Writes};
+ghost use Rattle.t1_font.specs.Fonts.{FontValue};
+ghost use Rattle.t1_many.specs.Groups.{IsAt};
 ghost use Rattle.t1_many.specs.Outcomes.{named};
 ghost use Rattle.t1_many.specs.Private.Checking.{WritesReport};
 ghost use Rattle.t1_report.specs.Checked.{checked};
-ghost use Rattle.t1_report.specs.Faults.{fault_value};
+ghost use Rattle.t1_report.specs.Faults.{FaultValue, fault_value};
 ghost use Rattle.t1_report.specs.Lines.{IsInFont, line_of};
 ghost use Rattle.t1_report.specs.Waivers.{largest_waivers};
+ghost use Rattle.t1_rules.specs.Book.{number_of};
 ghost use Rattle.t1_rules.specs.Components.{AreOf};
+ghost use Rattle.t1_rules.specs.Mask.{has};
 ghost use Rattle.t1_run.specs.Failures.{refusal_line};
 
 use t1_font::Font;
@@ -22,20 +26,40 @@ use t1_report::{
 use t1_rules::{Mask, Sidebearings};
 use t1_run::Status;
 
-/// Writes the lines of a font's report whose rules are told, and answers whether there was one. After a failure a front of them
+/// Which faults of a font are told.
+pub(crate) trait Telling {
+    // A fault of a font is told.
+    ghost tells: { Self → FontValue → FaultValue → Bool };
+
+    fn tells(&self, font: &Font<'_>, fault: &Fault) -> bool
+        requires few { length font.now.glyphs ≤ most_glyphs }
+        requires fault { IsAt font.now (fault_value fault.now) }
+        ensures { result ≡ tells self.now font.now (fault_value fault.now) };
+}
+
+/// Those whose rules are in a set.
+impl Telling for Mask {
+    ghost tells = { λ rules _ fault. has rules (number_of fault.rule) };
+
+    fn tells(&self, _font: &Font<'_>, fault: &Fault) -> bool {
+        self.has(fault.rule)
+    }
+}
+
+/// Writes the lines of the faults of a font's report that are told, and answers whether there was one. After a failure a front of them
 /// went out.
-pub(crate) fn write_report<'a, W: Sink>(
+pub(crate) fn write_report<'a, W: Sink, T: Telling>(
     sink: &mut W,
     name: &str,
     font: &'a Font<'a>,
     sidebearings: &'a Sidebearings,
     waivers: &'a Waivers<'a>,
-    rules: Mask,
+    told: &T,
 ) -> Result<Status, Broken>
     requires few { length font.now.glyphs ≤ most_glyphs }
     requires few_waivers { length waivers.now ≤ largest_waivers }
     requires sidebearings { AreOf font.now sidebearings.now }
-    ensures { WritesReport rules name.now (checked font.now sidebearings.now.edition) waivers.now
+    ensures { WritesReport (T.tells told.now font.now) name.now (checked font.now sidebearings.now.edition) waivers.now
         (W.state sink.old) (W.state sink.new) result }
 {
     // The calls of laws do nothing: the proof cites what they ensure.
@@ -48,7 +72,7 @@ pub(crate) fn write_report<'a, W: Sink>(
         let Some(fault) = walk.next() else {
             break;
         };
-        if rules.has(fault.rule) {
+        if told.tells(font, &fault) {
             write_line(sink, name, font, waivers, &fault)?;
             status = Status::Faults;
         }

@@ -97,5 +97,5 @@ fn check_waived<W: Sink>(
 {
     let waivers = Waivers::read(alloc, text)?;
     let sidebearings = Sidebearings::prepare(alloc, font, asked.edition)?;
-    Ok(write_report(out, name, font, &sidebearings, &waivers, asked.rules))
+    Ok(write_report(out, name, font, &sidebearings, &waivers, &asked.rules))
 }

@@ -5,3 +5,7 @@
 mod checks;
 #[cfg(test)]
 mod choices;
+#[cfg(test)]
+mod groups;
+#[cfg(test)]
+mod rows;

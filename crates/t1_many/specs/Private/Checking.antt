@@ -1,5 +1,5 @@
 -- How the steps of a check end.
-use Rattle.std.specs.Prelude.{◌≡◌, ℕ, Bool, true, false, List, Result, Ok, Err, IfOk}
+use Rattle.std.specs.Prelude.{◌≡◌, ℕ, Bool, true, false, List, filter, Result, Ok, Err, IfOk}
 use Rattle.t1_font.specs.FontFiles.{font_in}
 use Rattle.t1_font.specs.Fonts.{FontValue}
 use Rattle.t1_io.specs.Devices.{PutFailed, SinkState, SourceState, Writes, Wrote}
@@ -7,7 +7,6 @@ use Rattle.t1_report.specs.Checked.{CheckedFont}
 use Rattle.t1_report.specs.Faults.{FaultValue}
 use Rattle.t1_report.specs.Reports.{IsReport}
 use Rattle.t1_report.specs.Waivers.{Waiver, waivers_of}
-use Rattle.t1_rules.specs.declared.mask.Mask.{Mask}
 use Rattle.t1_run.specs.FontFiles.{AreRead, with_reason}
 use Rattle.t1_run.specs.WaiverFiles.{AreWaived, IsHeard, as_waivers}
 use Rattle.t1_run.specs.declared.failure.Failure.{Failure}
@@ -17,7 +16,7 @@ use Rattle.t1_run.specs.Failures.{failure_status, write_failed_line}
 use Rattle.t1_run.specs.Telling.{Tells}
 use Rattle.t1_many.specs.Ends.{HandedOn, Stopped}
 use Rattle.t1_many.specs.Files.{Given, IsFound}
-use Rattle.t1_many.specs.Outcomes.{Outcome, Report, failed, failure_output, failure_told, output_of, program, report_status, report_text, reported, status_of, told_of}
+use Rattle.t1_many.specs.Outcomes.{Outcome, Report, failed, failure_output, failure_told, lines_text, output_of, program, report_status, report_text, reported, status_of, status_of_lines, told_of}
 use Rattle.t1_many.specs.declared.asked.Asked.{Asked}
 use Rattle.t1_many.specs.declared.checking.Lost.{Lost}
 use Rattle.t1_many.specs.declared.checking.Lost.TheVariants.{Errors, Output}
@@ -55,12 +54,13 @@ of_files source source' asked old new = record {
   BreaksWaivers = (asked ≡ true) × (new.failed ≡ true);
 }
 
--- The lines that are told of the report of a font with these waivers were written, or a put failed there.
-abbrev pub WritesReport : {E : Type 0} → Mask → List ℕ → CheckedFont → List Waiver → SinkState → SinkState → Result Status E → Type 0
-WritesReport rules name font waivers out out' written =
+-- The lines of the faults that are told, of the report of a font with these waivers, were written, or a put failed there.
+abbrev pub WritesReport : {E : Type 0} → (FaultValue → Bool) → List ℕ → CheckedFont → List Waiver → SinkState → SinkState
+    → Result Status E → Type 0
+WritesReport told name font waivers out out' written =
     (faults : List FaultValue) × IsReport font waivers faults
-    × Writes out out' (report_text rules name (record { font = font.value; waivers = waivers; faults = faults })) written
-    × IfOk written (λ status. status ≡ report_status rules (record { font = font.value; waivers = waivers; faults = faults }))
+    × Writes out out' (lines_text name font.value waivers (filter told faults)) written
+    × IfOk written (λ status. status ≡ status_of_lines (filter told faults))
 
 -- A font was checked, and its lines written or not; or there is no report of it, and nothing is written.
 abbrev pub Checks : {E : Type 0} → Asked → List ℕ → Given → SinkState → SinkState → Result (Result Status E) Failure → Type 0

@@ -1,0 +1,72 @@
+use Rattle.std.proofs.Common.{◌+◌, ◌∙◌, ℕ, BTreeMap, List, ap, arith, cond, nat_eq, subst, sym}
+use Rattle.std.specs.BTreeMap as tree
+use Rattle.std.specs.Map.{count_at}
+use Rattle.std.specs.Ordering.{nat_cmp}
+use Rattle.t1_many.proofs.GivenFaults.{all_given, most_given}
+use Rattle.t1_many.proofs.GroupCounts.{HaveCounted, one_counted, one_left}
+use Rattle.t1_many.proofs.groups.count_groups.Goals as goal
+use Rattle.t1_many.proofs.groups.count_groups.Goals.{then-has+in_ok-bump, else-has, else-loop-fault-test, then-loop-fault-test+in_default}
+use Rattle.t1_many.specs.Groups.{found_in}
+use Rattle.t1_many.specs.Outcomes.{told_faults}
+use Rattle.t1_report.specs.Checked.{CheckedFont, checked}
+use Rattle.t1_report.specs.Faults.{FaultValue, fault_value}
+use Rattle.t1_report.specs.WalkViews.{WalkView}
+use Rattle.t1_report.specs.Waivers.{Waiver}
+use Rattle.t1_report.specs.Walks.{HasNoneLater, IsNext, mark_of}
+use Rattle.t1_report.specs.declared.marks.Mark.{Mark}
+
+pub loop-fault-preserved : goal.loop-fault-preserved
+loop-fault-preserved c =
+    let font = checked c.args.font.now c.args.sidebearings.now.edition in
+    let next : IsNext font c.args.waivers.now c.loop-fault.walk.mark (fault_value c.in-Some.fault) =
+    subst (λ (waivers : List Waiver). IsNext font waivers c.loop-fault.walk.mark (fault_value c.in-Some.fault)) c.loop-fault.invariant.waivers
+    (subst (λ (f : CheckedFont). IsNext f c.loop-fault.walk.waivers c.loop-fault.walk.mark (fault_value c.in-Some.fault))
+    c.loop-fault.invariant.font c.in-Some.ensures.next) in
+    record {
+      font = ap (λ (w : WalkView). w.font) c.in-Some.ensures.state ∙ c.loop-fault.invariant.font;
+      waivers = ap (λ (w : WalkView). w.waivers) c.in-Some.ensures.state ∙ c.loop-fault.invariant.waivers;
+      have = subst (λ (mark : Mark). HaveCounted c.args.rules font c.args.waivers.now (c.loop-fault._fault + 1) mark
+          (count_at (tree.get nat_cmp c.if-has.counts)))
+          (sym (ap (λ (w : WalkView). w.mark) c.in-Some.ensures.state))
+          (elim c.if-has.branch [
+            | then-has+in_ok-bump w ↦
+                subst (λ (m : BTreeMap ℕ ℕ). HaveCounted c.args.rules font c.args.waivers.now (c.loop-fault._fault + 1)
+                (mark_of (fault_value c.in-Some.fault)) (count_at (tree.get nat_cmp m))) (sym w.counts-is)
+                (one_counted c.args.rules font c.args.waivers.now c.loop-fault._fault c.loop-fault.walk.mark _ c.loop-fault.invariant.have
+                (fault_value c.in-Some.fault) next _ (sym c.has.ensures ∙ w.if-has.true)
+                (λ group. w.in_ok-bump.ensures group
+                ∙ ap (λ (k : ℕ). count_at (tree.get nat_cmp c.loop-fault.counts) group + cond (nat_eq k group) 1 0) w.group_of.ensures))
+            | else-has w ↦
+                subst (λ (m : BTreeMap ℕ ℕ). HaveCounted c.args.rules font c.args.waivers.now (c.loop-fault._fault + 1)
+                (mark_of (fault_value c.in-Some.fault)) (count_at (tree.get nat_cmp m))) (sym w.counts-is)
+                (one_left c.args.rules font c.args.waivers.now c.loop-fault._fault c.loop-fault.walk.mark _ c.loop-fault.invariant.have
+                (fault_value c.in-Some.fault) next (sym c.has.ensures ∙ w.if-has.false))
+          ]);
+    }
+
+pub returns : goal.returns
+returns c =
+    let font = checked c.args.font.now c.args.sidebearings.now.edition in
+    let have = c.loop-fault.invariant.have in
+    elim c.loop-fault-test.branch [
+      | else-loop-fault-test w ↦
+          let some = c.each_font_has_a_report.ensures font c.args.waivers.now in
+          let same = most_given font c.args.waivers.now c.requires.few c.requires.few_waivers c.marks_count_the_faults_given.ensures.start
+          c.marks_count_the_faults_given.ensures.given some.0 some.1 have.given c.loop-fault._fault c.loop-fault.walk.mark have.is
+          (omega (arith, w.loop-fault-test.false)) in (
+            some.0,
+            some.1,
+            λ group. have.found group
+                ∙ ap (λ (fs : List FaultValue). found_in c.args.font.now (told_faults c.args.rules fs) group) same,
+          )
+      | then-loop-fault-test+in_default w ↦
+          let none : HasNoneLater font c.args.waivers.now c.loop-fault.walk.mark =
+          subst (λ (waivers : List Waiver). HasNoneLater font waivers c.loop-fault.walk.mark) c.loop-fault.invariant.waivers
+          (subst (λ (f : CheckedFont). HasNoneLater f c.loop-fault.walk.waivers c.loop-fault.walk.mark) c.loop-fault.invariant.font
+          w.in_default.ensures.next) in (
+            have.given,
+            all_given font c.args.waivers.now c.requires.few c.requires.few_waivers c.faults_after_the_first_mark_are_the_report.ensures
+                have.given c.loop-fault._fault c.loop-fault.walk.mark have.is none,
+            have.found,
+          )
+    ]

@@ -1,0 +1,34 @@
+-- Groups of a font's faults: those of one rule in one unit, in the font itself at one key, of the waivers at one waiver. A group has a number.
+use Rattle.std.specs.Prelude.{◌≡◌, ℕ, ◌+◌, ◌*◌, ◌/◌, ◌==◌, ◌≤◌, nat_eq, List, length, if◌then◌else◌}
+use Rattle.std.specs.List.{count_by}
+use Rattle.t1_font.specs.Fonts.{FontValue}
+use Rattle.t1_report.specs.Checked.{CheckedFont}
+use Rattle.t1_report.specs.Faults.{FaultValue}
+use Rattle.t1_report.specs.Reports.{IsReport}
+use Rattle.t1_report.specs.Waivers.{Waiver}
+use Rattle.t1_rules.specs.Book.{number_of}
+use Rattle.t1_rules.specs.Keys.{index_count}
+use Rattle.t1_rules.specs.declared.mask.Mask.{Mask}
+use Rattle.t1_many.specs.Outcomes.{told_faults}
+
+-- Of the font the key, of the waivers the waiver's place from 1.
+abbrev pub part_of : FontValue → FaultValue → ℕ
+part_of font fault =
+    if fault.unit == 0 then fault.step / index_count
+    else (if fault.unit == length font.glyphs + 1 then fault.step else 0)
+
+abbrev pub group_of : FontValue → FaultValue → ℕ
+group_of font fault = (fault.unit * 4294967296 + part_of font fault) * 128 + number_of fault.rule
+
+-- A fault stands in a unit of the font: in the font itself, in one of its glyphs, or at a waiver.
+abbrev pub IsAt : FontValue → FaultValue → Type 0
+IsAt font fault = fault.unit ≤ length font.glyphs + 1
+
+-- How often faults are of a group.
+abbrev pub found_in : FontValue → List FaultValue → ℕ → ℕ
+found_in font faults group = count_by (λ fault. nat_eq (group_of font fault) group) faults
+
+-- The faults that are told of the report of a font with these waivers were counted by their groups.
+abbrev pub CountsReport : Mask → CheckedFont → List Waiver → (ℕ → ℕ) → Type 0
+CountsReport rules font waivers count =
+    (faults : List FaultValue) × IsReport font waivers faults × ((group : ℕ) → count group ≡ found_in font.value (told_faults rules faults) group)

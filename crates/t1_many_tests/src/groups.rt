@@ -1,0 +1,83 @@
+//! Groups of faults: how often each is found, and the lines that go beyond what is known.
+
+ghost use Rattle.std.specs.Prelude.{◌≤◌, length};
+ghost use Rattle.t1_font.specs.Bounds.{most_glyphs};
+
+use std::alloc::Global;
+use std::collections::BTreeMap;
+use std::test::Fail;
+use t1_char::Edition;
+use t1_font::Font;
+use t1_io::Out;
+use t1_many::{Counts, count_groups, count_of, told_rules, write_beyond};
+use t1_report::Waivers;
+use t1_rules::{Rule, Sidebearings};
+use t1_run::Status;
+use t1_samples::{Sample, opened};
+
+/// The glyph of the number 32001, 0, hmoveto, and closepath twice, endchar.
+const FIVE_FAULTS: &[u8] = b"\xff\x00\x00\x7d\x01\x8b\x16\x09\x09\x0e";
+
+/// The group of a rule in the second glyph, behind `.notdef`.
+fn group(rule: Rule) -> u64 {
+    2 * 4_294_967_296 * 128 + u64::from(rule.number())
+}
+
+/// What is found in a font, of which all rules but C07 are told, and what is written of it.
+#[derive(Drop)]
+struct Written {
+    found: Counts,
+    status: Status,
+    text: Vec<u8>,
+}
+
+/// Writes the lines of a font beyond one P03 and one C05 in its second glyph.
+fn write(alloc: Global, font: &Font<'_>) -> Result<Written, Fail>
+    requires { length font.now.glyphs ≤ most_glyphs }
+{
+    let sidebearings = Sidebearings::prepare(alloc, font, Edition::One)?;
+    let waivers = Waivers::none();
+    let rules = told_rules(&[], &[b"C07"]);
+    let found = count_groups(alloc, &*font, &sidebearings, &waivers, rules)?;
+    let mut known = BTreeMap::new(alloc);
+    known.insert(group(Rule::P03), 1)?;
+    known.insert(group(Rule::C05), 1)?;
+    let mut text = Vec::new(alloc);
+    let status = write_beyond(
+        &mut Out::new(&mut text),
+        "a.pfb",
+        &*font,
+        &sidebearings,
+        &waivers,
+        rules,
+        &known,
+        &found,
+    )?;
+    Ok(Written {
+        found,
+        status,
+        text,
+    })
+}
+
+/// P03 is found twice, and known once: so both of its lines are written. C05 is known, and C07 isn't told.
+#[test]
+fn writes_what_goes_beyond(rt: HostRuntime) -> Result<(), Fail> {
+    let sample = Sample::new(rt.alloc())?.glyph(b"A", FIVE_FAULTS)?;
+    let mut file = opened(rt.alloc(), &sample)?;
+    let font = file.font(rt.alloc())?;
+    let written = write(rt.alloc(), &font);
+    font.let_go();
+    let written = written?;
+    assert_eq!(rt; count_of(&written.found, group(Rule::P03)), 2);
+    assert_eq!(rt; count_of(&written.found, group(Rule::C05)), 1);
+    assert_eq!(rt; count_of(&written.found, group(Rule::C07)), 0);
+    assert_eq!(rt; written.status, Status::Faults);
+    let lines = b"\
+a.pfb: 3: glyph A - 3 W01 hsbw or sbw not first
+a.pfb: 4: glyph A - 4 P03 closepath without a path
+a.pfb: 5: glyph A - 5 P03 closepath without a path
+";
+    assert!(rt; written.text.as_slice() == lines.as_slice());
+    Ok(())
+}
