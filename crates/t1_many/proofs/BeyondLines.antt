@@ -1,12 +1,15 @@
 -- Lines that go beyond what is known, by counts of what is found.
-use Rattle.std.proofs.Common.{◌≡◌, ◌&&◌, ℕ, nat_lt, Bool, List, [], ◌∷◌, Result, cond, refl, ap, subst, ◌∙◌}
+use Rattle.std.proofs.Common.{◌≡◌, ℕ, nat_lt, Bool, List, [], ◌∷◌, ◌++◌, Option, Result, cond, map, refl, sym, ap, subst, ◌∙◌}
 use Rattle.std.specs.List.{filter}
 use Rattle.std.specs.Result.{IfOk}
-use Rattle.t1_io.specs.Devices.{SinkState, Writes}
-use Rattle.t1_many.specs.Beyond.{WritesBeyond, is_beyond}
-use Rattle.t1_many.specs.Groups.{CountsReport, found_in, group_of}
-use Rattle.t1_many.specs.Outcomes.{lines_text, status_of_lines, told_faults}
-use Rattle.t1_many.specs.Private.Checking.{WritesReport}
+use Rattle.t1_font.specs.Fonts.{FontValue}
+use Rattle.t1_many.specs.Beyond.{HandsBeyond, verdict_beyond, verdict_of}
+use Rattle.t1_many.specs.Groups.{CountsReport, found_in, group_of, told_faults}
+use Rattle.t1_many.specs.Handing.{Handed, HandsOn, done, found_by, found_with, is_told, line, lines_by, lost_of}
+use Rattle.t1_many.specs.Private.Handing.{HandsReport}
+use Rattle.t1_many.specs.declared.found.Found.{Found}
+use Rattle.t1_many.specs.declared.recipient.Lost.{Lost}
+use Rattle.t1_many.specs.declared.verdict.Verdict.{Verdict}
 use Rattle.t1_report.specs.Checked.{CheckedFont}
 use Rattle.t1_report.specs.Faults.{FaultValue}
 use Rattle.t1_report.specs.Laws.Reports.{HasNoOtherReport}
@@ -14,27 +17,40 @@ use Rattle.t1_report.specs.Waivers.{Waiver}
 use Rattle.t1_rules.specs.Book.{number_of}
 use Rattle.t1_rules.specs.Mask.{has}
 use Rattle.t1_rules.specs.declared.mask.Mask.{Mask}
-use Rattle.t1_run.specs.declared.status.Status.{Status}
 
-same_filter : {X : Type 0} (p q : X → Bool) → ((x : X) → p x ≡ q x) → (xs : List X) → filter p xs ≡ filter q xs
-same_filter p q same [] = refl
-same_filter p q same (x ∷ xs) =
-    ap (λ b. cond b (x ∷ filter p xs) (filter p xs)) (same x) ∙ ap (λ l. cond (q x) (x ∷ l) l) (same_filter p q same xs)
+-- ---- faults that are judged alike
 
-pub beyond : {E : Type 0} → HasNoOtherReport → (known found : ℕ → ℕ) (rules : Mask) (name : List ℕ) (font : CheckedFont) (waivers : List Waiver)
-    (a b : SinkState) (written : Result Status E) → CountsReport rules font waivers found
-    → WritesReport (λ fault. has rules (number_of fault.rule) && nat_lt (known (group_of font.value fault)) (found (group_of font.value fault)))
-    name font waivers a b written → WritesBeyond known rules name font waivers a b written
-beyond no_other known found rules name font waivers a b written (counted, counted_is, count) (faults, is, wrote, status) =
+module _ (p q : FaultValue → Verdict) (same : (fault : FaultValue) → p fault ≡ q fault) where
+  same_told : (faults : List FaultValue) → filter (λ fault. is_told (p fault)) faults ≡ filter (λ fault. is_told (q fault)) faults
+  same_told [] = refl
+  same_told (fault ∷ faults) =
+      ap (λ v. cond (is_told v) (fault ∷ filter (λ (f : FaultValue). is_told (p f)) faults) (filter (λ (f : FaultValue). is_told (p f)) faults)) (same fault)
+      ∙ ap (λ (l : List FaultValue). cond (is_told (q fault)) (fault ∷ l) l) (same_told faults)
+
+  same_found : (faults : List FaultValue) → found_by p faults ≡ found_by q faults
+  same_found [] = refl
+  same_found (fault ∷ faults) = ap (λ v. found_with v (found_by p faults)) (same fault) ∙ ap (found_with (q fault)) (same_found faults)
+
+  same_handed : (name : List ℕ) (font : FontValue) (waivers : List Waiver) (faults : List FaultValue)
+      → lines_by p name font waivers faults ++ done name (found_by p faults) ∷ []
+      ≡ lines_by q name font waivers faults ++ done name (found_by q faults) ∷ []
+  same_handed name font waivers faults =
+      ap (λ (l : List FaultValue). map (line name font waivers) l ++ done name (found_by p faults) ∷ []) (same_told faults)
+      ∙ ap (λ f. lines_by q name font waivers faults ++ done name f ∷ []) (same_found faults)
+
+pub beyond : {F : Type 0} (takes : F → F → Handed → Option Lost → Type 0) → HasNoOtherReport → (known found : ℕ → ℕ) (rules : Mask) (name : List ℕ)
+    (font : CheckedFont) (waivers : List Waiver) (a b : F) (taken : Result Found Lost) → CountsReport rules font waivers found
+    → HandsReport takes (λ fault. verdict_of (has rules (number_of fault.rule)) (nat_lt (known (group_of font.value fault)) (found (group_of font.value fault))))
+    name font waivers a b taken → HandsBeyond takes known rules name font waivers a b taken
+beyond takes no_other known found rules name font waivers a b taken (counted, counted_is, count) (faults, is, handed, found_is) =
     let one : counted ≡ faults = no_other font waivers counted faults counted_is is in
-    let same = same_filter
-    (λ (fault : FaultValue). has rules (number_of fault.rule) && nat_lt (known (group_of font.value fault)) (found (group_of font.value fault)))
-    (is_beyond known rules font.value faults)
-    (λ fault. ap (λ n. has rules (number_of fault.rule) && nat_lt (known (group_of font.value fault)) n)
-    (count (group_of font.value fault) ∙ ap (λ (fs : List FaultValue). found_in font.value (told_faults rules fs) (group_of font.value fault)) one))
-    faults in (
+    let by_found : FaultValue → Verdict = λ fault. verdict_of (has rules (number_of fault.rule))
+    (nat_lt (known (group_of font.value fault)) (found (group_of font.value fault))) in
+    let same : (fault : FaultValue) → by_found fault ≡ verdict_beyond known rules font.value faults fault =
+    λ fault. ap (λ n. verdict_of (has rules (number_of fault.rule)) (nat_lt (known (group_of font.value fault)) n))
+    (count (group_of font.value fault) ∙ ap (λ (fs : List FaultValue). found_in font.value (told_faults rules fs) (group_of font.value fault)) one) in (
       faults,
       is,
-      subst (λ (fs : List FaultValue). Writes a b (lines_text name font.value waivers fs) written) same wrote,
-      subst (λ (fs : List FaultValue). IfOk written (λ s. s ≡ status_of_lines fs)) same status,
+      subst (λ hs. HandsOn takes a b hs (lost_of taken)) (same_handed by_found (verdict_beyond known rules font.value faults) same name font.value waivers faults) handed,
+      subst (λ f. IfOk taken (λ t. t ≡ f)) (same_found by_found (verdict_beyond known rules font.value faults) same faults) found_is,
     )

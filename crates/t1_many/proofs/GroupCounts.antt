@@ -4,7 +4,7 @@ use Rattle.std.proofs.lemmas.List.Elements.{filter-append}
 use Rattle.std.proofs.lemmas.List.Sums.{sum_by_push}
 use Rattle.t1_many.proofs.GivenFaults.{IsGiven, none_given, one_given}
 use Rattle.t1_many.specs.Groups.{found_in, group_of}
-use Rattle.t1_many.specs.Outcomes.{told_faults}
+use Rattle.t1_many.specs.Groups.{told_faults}
 use Rattle.t1_report.specs.Checked.{CheckedFont}
 use Rattle.t1_report.specs.Faults.{FaultValue}
 use Rattle.t1_report.specs.Waivers.{Waiver}

@@ -14,14 +14,14 @@ use Rattle.t1_many.specs.KnownFaults.{IsKind, is_word, kind_at, rule_of}
 use Rattle.t1_many.specs.KnownFaults.IsKind.{of_font, of_glyph, of_waiver}
 use Rattle.t1_many.specs.Laws.{KindsNameTheirRules, LinesHaveKinds}
 
-code_is_a_word : (rule : Rule) → is_word (code_of rule) ≡ true
+pub code_is_a_word : (rule : Rule) → is_word (code_of rule) ≡ true
 code_is_a_word F01 = refl
 code_is_a_word _ = refl
 
 regular_is_no_blank : (byte : ℕ) → is_regular byte ≡ true → not (byte == 32) ≡ true
 regular_is_no_blank byte regular = grind (arith, nat_tests, regular)
 
-name_is_a_word : (name : List ℕ) → list_all is_regular name ≡ true → is_word name ≡ true
+pub name_is_a_word : (name : List ℕ) → list_all is_regular name ≡ true → is_word name ≡ true
 name_is_a_word name all = all_by is_regular (λ byte. not (byte == 32)) regular_is_no_blank name all
 
 each_text : (p : List ℕ → Bool) (texts : List (List ℕ)) (i : ℕ) (d : List ℕ) → list_all p texts ≡ true → i < length texts
@@ -30,7 +30,7 @@ each_text p [] i d all less = absurd (omega arith)
 each_text p (text ∷ texts) zero d all less = (and_parts _ _ all).0
 each_text p (text ∷ texts) (suc i) d all less = each_text p texts i d (and_parts _ _ all).1 (omega arith)
 
-key_is_a_word : (key : ℕ) → key < key_count → is_word (key_text_of key) ≡ true
+pub key_is_a_word : (key : ℕ) → key < key_count → is_word (key_text_of key) ≡ true
 key_is_a_word key less = each_text is_word key_texts key [] refl less
 
 pub kinds_at : (rule : Rule) (place : PlaceValue) → IsPlace place rule → IsKind (kind_at rule place)

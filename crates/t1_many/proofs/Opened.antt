@@ -1,7 +1,7 @@
 -- Files that were opened, and what is known of them then.
 use Rattle.std.proofs.Common.{◌+◌, true, false, true≢false, List, ℕ, inl, inr, sym}
 use Rattle.t1_io.specs.Devices.{SourceState}
-use Rattle.t1_many.proofs.Found.{Widens}
+use Rattle.t1_many.proofs.Endings.{Widens}
 use Rattle.t1_many.specs.Files.{Files, given_of}
 use Rattle.t1_many.specs.Private.Checking.{of_files}
 use Rattle.t1_run.specs.Input.{ReadsAtMost}

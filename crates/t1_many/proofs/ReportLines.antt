@@ -1,13 +1,17 @@
 -- The lines of a report, one fault after another.
-use Rattle.std.proofs.Common.{◌≡◌, ◌≤◌, ◌^◌, ◌-◌, ℕ, ◌+◌, Bool, true, false, List, [], ◌∷◌, ◌++◌, Result, Ok, Err, length, drop, cond, refl, sym, ap, subst, ◌∙◌, append-nil}
-use Rattle.std.proofs.lemmas.Grind.{flat_map-append}
+use Rattle.std.proofs.Common.{◌≡◌, ◌≤◌, ◌^◌, ◌-◌, ℕ, ◌+◌, Bool, true, false, List, [], ◌∷◌, ◌++◌, Option, None, Some, Result, Ok, Err, length, drop, map, cond, refl, sym, ap, subst, ◌∙◌, append-nil}
+use Rattle.std.proofs.lemmas.List.{map-append}
 use Rattle.std.proofs.lemmas.List.Elements.{filter-append}
-use Rattle.std.specs.List.{filter, flat_map}
+use Rattle.std.specs.List.{filter}
 use Rattle.std.specs.Result.{IfOk, IsErrAnd}
-use Rattle.t1_io.proofs.SinkLemmas.{PutFailed-first, PutFailed-second, Wrote-trans}
-use Rattle.t1_io.specs.Devices.{PutFailed, SinkState, Wrote}
 use Rattle.t1_many.proofs.GivenFaults.{IsGiven, begin_with, most_given, none_given, one_given}
-use Rattle.t1_many.specs.Outcomes.{status_of_lines}
+use Rattle.t1_many.proofs.Handed.{handed-append, handed-one, handed-stopped}
+use Rattle.t1_many.specs.Handing.{Handed, HandsOn, found_by, found_with, is_told, line, lines_by, lost_of}
+use Rattle.t1_many.specs.declared.found.Found.{Found}
+use Rattle.t1_many.specs.declared.found.Found.TheVariants as founds
+use Rattle.t1_many.specs.declared.recipient.Lost.{Lost}
+use Rattle.t1_many.specs.declared.verdict.Verdict.{Verdict}
+use Rattle.t1_many.specs.declared.verdict.Verdict.TheVariants.{Known, Left, Told}
 use Rattle.t1_report.specs.Checked.{CheckedFont}
 use Rattle.t1_report.specs.Faults.{FaultValue}
 use Rattle.t1_report.specs.Laws.Walks.{GivenAreTheFront, NoneIsGivenAtFirst}
@@ -15,88 +19,115 @@ use Rattle.t1_report.specs.Reports.{IsReport}
 use Rattle.t1_report.specs.Waivers.{Waiver}
 use Rattle.t1_report.specs.Walks.{IsNext, first_mark, mark_of}
 use Rattle.t1_report.specs.declared.marks.Mark.{Mark}
-use Rattle.t1_run.specs.declared.status.Status.{Status}
-use Rattle.t1_run.specs.declared.status.Status.TheVariants.{Clean, Faults}
 
--- what is written of the elements that pass a test
-kept-append : {X : Type 0} (p : X → Bool) (f : X → List ℕ) (xs ys : List X)
-    → flat_map f (filter p (xs ++ ys)) ≡ flat_map f (filter p xs) ++ flat_map f (filter p ys)
-kept-append p f xs ys = ap (flat_map f) (filter-append p xs ys) ∙ flat_map-append f (filter p xs) (filter p ys)
-
-kept-push : {X : Type 0} (p : X → Bool) (f : X → List ℕ) (xs : List X) (x : X) → p x ≡ true
-    → flat_map f (filter p (xs ++ x ∷ [])) ≡ flat_map f (filter p xs) ++ f x
-kept-push p f xs x is =
-    kept-append p f xs (x ∷ [])
-    ∙ ap (λ l. flat_map f (filter p xs) ++ l) (ap (λ b. flat_map f (cond b (x ∷ []) [])) is ∙ append-nil (f x))
-
-passed-push : {X : Type 0} (p : X → Bool) (xs : List X) (x : X) → p x ≡ false → filter p (xs ++ x ∷ []) ≡ filter p xs
-passed-push p xs x is =
-    filter-append p xs (x ∷ []) ∙ ap (λ b. filter p xs ++ cond b (x ∷ []) []) is ∙ append-nil (filter p xs)
-
-any_append : (fs : List FaultValue) (f : FaultValue) (gs : List FaultValue) → status_of_lines (fs ++ f ∷ gs) ≡ Faults
-any_append [] f gs = refl
-any_append (g ∷ fs) f gs = refl
+-- which of two faults is seen first doesn't matter
+either_first : (a b : Verdict) (found : Found) → found_with a (found_with b found) ≡ found_with b (found_with a found)
+either_first Told Told found = refl
+either_first Told Known found = refl
+either_first Told Left found = refl
+either_first Known Told found = refl
+either_first Known Known found = refl
+either_first Known Left found = refl
+either_first Left Told found = refl
+either_first Left Known found = refl
+either_first Left Left found = refl
 
 -- a result that is an error says nothing of what is fine
 pub no_ok : {T E : Type 0} (r : Result T E) (P : E → Type 0) (Q : T → Type 0) → IsErrAnd r P → IfOk r Q
 no_ok (Ok x) P Q is = absurd is
 no_ok (Err e) P Q is = tt
 
--- So many faults were given, and of those that are told the lines were written.
-pub record HaveGone (told : FaultValue → Bool) (line : FaultValue → List ℕ) (font : CheckedFont) (waivers : List Waiver) (count : ℕ) (mark : Mark)
-    (old new : SinkState) (status : Status) : Type 0 where
-  pub given : List FaultValue
-  pub is : IsGiven font waivers given count mark
-  pub wrote : Wrote old new (flat_map line (filter told given))
-  pub status_is : status ≡ status_of_lines (filter told given)
+-- nor what it stopped for
+pub lost_same : {T : Type 0} (r : Result T Lost) (lost : Lost) → IsErrAnd r (λ l. l ≡ lost) → lost_of r ≡ Some lost
+lost_same (Ok x) lost is = absurd is
+lost_same (Err l) lost is = ap Some is
 
-pub none_gone : (told : FaultValue → Bool) (line : FaultValue → List ℕ) (font : CheckedFont) (waivers : List Waiver) (mark : Mark) (sink : SinkState)
-    → mark ≡ first_mark → Wrote sink sink [] → HaveGone told line font waivers 0 mark sink sink Clean
-none_gone told line font waivers mark sink first nothing =
-    record { given = []; is = none_given font waivers mark first; wrote = nothing; status_is = refl }
+module _ (judges : FaultValue → Verdict) where
+  pub found-push : (faults : List FaultValue) (fault : FaultValue)
+      → found_by judges (faults ++ fault ∷ []) ≡ found_with (judges fault) (found_by judges faults)
+  found-push [] fault = refl
+  found-push (first ∷ faults) fault =
+      ap (found_with (judges first)) (found-push faults fault) ∙ either_first (judges first) (judges fault) (found_by judges faults)
 
-module _ (told : FaultValue → Bool) (line : FaultValue → List ℕ) (font : CheckedFont) (waivers : List Waiver) (count : ℕ) (mark : Mark)
-    (a b : SinkState) (status : Status) (gone : HaveGone told line font waivers count mark a b status) where
-  -- a fault that is told
-  pub one_gone : (fault : FaultValue) (c : SinkState) → told fault ≡ true → IsNext font waivers mark fault → Wrote b c (line fault)
-      → HaveGone told line font waivers (count + 1) (mark_of fault) a c Faults
-  one_gone fault c is next more = record {
-    given = gone.given ++ fault ∷ [];
-    is = one_given font waivers gone.given count mark fault gone.is next;
-    wrote = subst (Wrote a c) (sym (kept-push told line gone.given fault is)) (Wrote-trans a b c _ _ gone.wrote more);
-    status_is = sym (ap status_of_lines (filter-append told gone.given (fault ∷ []))
-        ∙ ap (λ t. status_of_lines (filter told gone.given ++ cond t (fault ∷ []) [])) is ∙ any_append (filter told gone.given) fault []);
-  }
+  module _ (name : List ℕ) (font : CheckedFont) (waivers : List Waiver) where
+    abbrev lines : List FaultValue → List Handed
+    lines faults = lines_by judges name font.value waivers faults
 
-  -- one that isn't
-  pub one_passed : (fault : FaultValue) → told fault ≡ false → IsNext font waivers mark fault
-      → HaveGone told line font waivers (count + 1) (mark_of fault) a b status
-  one_passed fault is next =
-      let same : filter told (gone.given ++ fault ∷ []) ≡ filter told gone.given = passed-push told gone.given fault is in
-      record {
-        given = gone.given ++ fault ∷ [];
-        is = one_given font waivers gone.given count mark fault gone.is next;
-        wrote = subst (λ fs. Wrote a b (flat_map line fs)) (sym same) gone.wrote;
-        status_is = gone.status_is ∙ sym (ap status_of_lines same);
-      }
+    lines-append : (xs ys : List FaultValue) → lines (xs ++ ys) ≡ lines xs ++ lines ys
+    lines-append xs ys =
+        ap (map (line name font.value waivers)) (filter-append (λ (fault : FaultValue). is_told (judges fault)) xs ys)
+        ∙ map-append (line name font.value waivers) (filter (λ (fault : FaultValue). is_told (judges fault)) xs)
+        (filter (λ (fault : FaultValue). is_told (judges fault)) ys)
 
-  module _ (starts : NoneIsGivenAtFirst) (fronts : GivenAreTheFront) (few : length font.value.glyphs ≤ 65535) (few_waivers : length waivers ≤ 1048576)
-      (faults : List FaultValue) (report : IsReport font waivers faults) where
-    -- a put failed in the line of a fault
-    pub one_failed : (fault : FaultValue) (c : SinkState) → told fault ≡ true → IsNext font waivers mark fault → PutFailed b c (line fault)
-        → PutFailed a c (flat_map line (filter told faults))
-    one_failed fault c is next broke =
-        let given = gone.given ++ fault ∷ [] in
-        let whole = begin_with font waivers few few_waivers starts fronts faults report given (count + 1) (mark_of fault)
-        (one_given font waivers gone.given count mark fault gone.is next) in
-        subst (PutFailed a c) (sym (ap (λ fs. flat_map line (filter told fs)) whole ∙ kept-append told line given (drop (length given) faults)))
-        (PutFailed-first a c _ _ (subst (PutFailed a c) (sym (kept-push told line gone.given fault is))
-        (PutFailed-second a b c _ _ gone.wrote broke)))
+    -- one more that is told, and one that isn't
+    lines-push : (xs : List FaultValue) (fault : FaultValue) (told : Bool) → is_told (judges fault) ≡ told
+        → lines (xs ++ fault ∷ []) ≡ lines xs ++ cond told (line name font.value waivers fault ∷ []) []
+    lines-push xs fault true is =
+        lines-append xs (fault ∷ [])
+        ∙ ap (λ t. lines xs ++ map (line name font.value waivers) (cond t (fault ∷ []) [])) is
+    lines-push xs fault false is =
+        lines-append xs (fault ∷ [])
+        ∙ ap (λ t. lines xs ++ map (line name font.value waivers) (cond t (fault ∷ []) [])) is
 
-    -- more turns than numbers of 64 bits can't be short of all
-    pub most_gone : 2 ^ 64 - 1 ≤ count → Wrote a b (flat_map line (filter told faults)) × (status ≡ status_of_lines (filter told faults))
-    most_gone most =
-        let same = most_given font waivers few few_waivers starts fronts faults report gone.given count mark gone.is most in (
-          subst (λ fs. Wrote a b (flat_map line (filter told fs))) same gone.wrote,
-          gone.status_is ∙ ap (λ fs. status_of_lines (filter told fs)) same,
-        )
+    -- So many faults were given, and of those that are told the lines were handed on.
+    pub record HaveGone {F : Type 0} (takes : F → F → Handed → Option Lost → Type 0) (count : ℕ) (mark : Mark) (old new : F) (found : Found)
+        : Type 0 where
+      pub given : List FaultValue
+      pub is : IsGiven font waivers given count mark
+      pub handed : HandsOn takes old new (lines given) None
+      pub found_is : found ≡ found_by judges given
+
+    module _ {F : Type 0} (takes : F → F → Handed → Option Lost → Type 0) where
+      pub none_gone : (mark : Mark) (form : F) → mark ≡ first_mark → HaveGone takes 0 mark form form founds.Clean
+      none_gone mark form first =
+          record { given = []; is = none_given font waivers mark first; handed = (refl, refl); found_is = refl }
+
+      module _ (count : ℕ) (mark : Mark) (a b : F) (found : Found) (gone : HaveGone takes count mark a b found) (fault : FaultValue)
+          (next : IsNext font waivers mark fault) where
+        found_more : found_with (judges fault) found ≡ found_by judges (gone.given ++ fault ∷ [])
+        found_more = ap (found_with (judges fault)) gone.found_is ∙ sym (found-push gone.given fault)
+
+        -- a fault that is told
+        pub one_gone : (c : F) → is_told (judges fault) ≡ true → takes b c (line name font.value waivers fault) None
+            → HaveGone takes (count + 1) (mark_of fault) a c (found_with (judges fault) found)
+        one_gone c is took = record {
+          given = gone.given ++ fault ∷ [];
+          is = one_given font waivers gone.given count mark fault gone.is next;
+          handed = subst (λ hs. HandsOn takes a c hs None) (sym (lines-push gone.given fault true is))
+              (handed-append takes a b c (lines gone.given) _ None gone.handed (handed-one takes b c _ None took));
+          found_is = found_more;
+        }
+
+        -- one that isn't
+        pub one_passed : is_told (judges fault) ≡ false → HaveGone takes (count + 1) (mark_of fault) a b (found_with (judges fault) found)
+        one_passed is = record {
+          given = gone.given ++ fault ∷ [];
+          is = one_given font waivers gone.given count mark fault gone.is next;
+          handed = subst (λ hs. HandsOn takes a b hs None) (sym (lines-push gone.given fault false is ∙ append-nil (lines gone.given)))
+              gone.handed;
+          found_is = found_more;
+        }
+
+      module _ (count : ℕ) (mark : Mark) (a b : F) (found : Found) (gone : HaveGone takes count mark a b found)
+          (starts : NoneIsGivenAtFirst) (fronts : GivenAreTheFront) (few : length font.value.glyphs ≤ 65535)
+          (few_waivers : length waivers ≤ 1048576) (faults : List FaultValue) (report : IsReport font waivers faults) where
+        -- it stopped in the line of a fault
+        pub one_failed : (fault : FaultValue) (c : F) (reason : Lost) → is_told (judges fault) ≡ true → IsNext font waivers mark fault
+            → takes b c (line name font.value waivers fault) (Some reason) → HandsOn takes a c (lines faults) (Some reason)
+        one_failed fault c reason is next broke =
+            let given = gone.given ++ fault ∷ [] in
+            let whole = begin_with font waivers few few_waivers starts fronts faults report given (count + 1) (mark_of fault)
+            (one_given font waivers gone.given count mark fault gone.is next) in
+            subst (λ hs. HandsOn takes a c hs (Some reason))
+            (sym (ap lines whole ∙ lines-append given (drop (length given) faults)))
+            (handed-stopped takes a c (lines given) _ reason
+            (subst (λ hs. HandsOn takes a c hs (Some reason)) (sym (lines-push gone.given fault true is))
+            (handed-append takes a b c (lines gone.given) _ (Some reason) gone.handed (handed-one takes b c _ (Some reason) broke))))
+
+        -- more turns than numbers of 64 bits can't be short of all
+        pub most_gone : 2 ^ 64 - 1 ≤ count → HandsOn takes a b (lines faults) None × (found ≡ found_by judges faults)
+        most_gone most =
+            let same = most_given font waivers few few_waivers starts fronts faults report gone.given count mark gone.is most in (
+              subst (λ (fs : List FaultValue). HandsOn takes a b (lines fs) None) same gone.handed,
+              gone.found_is ∙ ap (found_by judges) same,
+            )

@@ -16,7 +16,7 @@ no_word : (byte : ℕ) (word : List ℕ) → byte ≡ 32 → is_word (byte ∷ w
 no_word byte word is word_is = true≢false (sym (subst (λ b. is_word (b ∷ word) ≡ true) is word_is))
 
 -- what stands in front of the first blank, and what behind it
-unjoin : (x y xs ys : List ℕ) → is_word x ≡ true → is_word y ≡ true → x ++ (32 ∷ xs) ≡ y ++ (32 ∷ ys) → (x ≡ y) × (xs ≡ ys)
+pub unjoin : (x y xs ys : List ℕ) → is_word x ≡ true → is_word y ≡ true → x ++ (32 ∷ xs) ≡ y ++ (32 ∷ ys) → (x ≡ y) × (xs ≡ ys)
 unjoin [] [] xs ys word_x word_y e = let rest : xs ≡ ys = cc in (refl, rest)
 unjoin [] (b ∷ y) xs ys word_x word_y e = let blank : b ≡ 32 = cc in absurd (no_word b y blank word_y)
 unjoin (a ∷ x) [] xs ys word_x word_y e = let blank : a ≡ 32 = cc in absurd (no_word a x blank word_x)
@@ -29,7 +29,7 @@ unjoin (a ∷ x) (b ∷ y) xs ys word_x word_y e =
 -- ---- kinds
 
 -- A kind with a blank and a rest behind it, by its first two words.
-record IsSplit (kind rest : List ℕ) : Type 0 where
+pub record IsSplit (kind rest : List ℕ) : Type 0 where
   pub rule : List ℕ
   pub unit : List ℕ
   pub tail : List ℕ
@@ -56,7 +56,7 @@ long rule unit word waived rest =
     ∙ ap (λ t. unit ++ (32 ∷ t))
     (append_assoc word (32 ∷ (waived ++ [])) (32 ∷ rest) ∙ ap (λ w. word ++ (32 ∷ (w ++ (32 ∷ rest)))) (append-nil waived)))
 
-abbrev font_split : (kind rule key rest : List ℕ) → is_word rule ≡ true → kind ≡ concat (rule ∷ codes " font " ∷ key ∷ []) → IsSplit kind rest
+abbrev pub font_split : (kind rule key rest : List ℕ) → is_word rule ≡ true → kind ≡ concat (rule ∷ codes " font " ∷ key ∷ []) → IsSplit kind rest
 font_split kind rule key rest rule_is is = record {
   rule = rule;
   unit = codes "font";
@@ -66,7 +66,7 @@ font_split kind rule key rest rule_is is = record {
   is = ap (λ k. k ++ (32 ∷ rest)) is ∙ short rule (codes "font") key rest;
 }
 
-abbrev glyph_split : (kind rule name rest : List ℕ) → is_word rule ≡ true → kind ≡ concat (rule ∷ codes " glyph " ∷ name ∷ []) → IsSplit kind rest
+abbrev pub glyph_split : (kind rule name rest : List ℕ) → is_word rule ≡ true → kind ≡ concat (rule ∷ codes " glyph " ∷ name ∷ []) → IsSplit kind rest
 glyph_split kind rule name rest rule_is is = record {
   rule = rule;
   unit = codes "glyph";
@@ -76,7 +76,7 @@ glyph_split kind rule name rest rule_is is = record {
   is = ap (λ k. k ++ (32 ∷ rest)) is ∙ short rule (codes "glyph") name rest;
 }
 
-abbrev waiver_split : (kind rule name waived rest : List ℕ) → is_word rule ≡ true
+abbrev pub waiver_split : (kind rule name waived rest : List ℕ) → is_word rule ≡ true
     → kind ≡ concat (rule ∷ codes " waiver " ∷ name ∷ codes " " ∷ waived ∷ []) → IsSplit kind rest
 waiver_split kind rule name waived rest rule_is is = record {
   rule = rule;
@@ -88,25 +88,25 @@ waiver_split kind rule name waived rest rule_is is = record {
 }
 
 -- the words of two splits of one text
-record AreSame {kind kind' rest rest' : List ℕ} (a : IsSplit kind rest) (b : IsSplit kind' rest') : Type 0 where
+pub record AreSame {kind kind' rest rest' : List ℕ} (a : IsSplit kind rest) (b : IsSplit kind' rest') : Type 0 where
   pub rule : a.rule ≡ b.rule
   pub unit : a.unit ≡ b.unit
   pub tail : a.tail ≡ b.tail
 
-same_splits : {kind kind' rest rest' : List ℕ} (a : IsSplit kind rest) (b : IsSplit kind' rest') → kind ++ (32 ∷ rest) ≡ kind' ++ (32 ∷ rest')
+pub same_splits : {kind kind' rest rest' : List ℕ} (a : IsSplit kind rest) (b : IsSplit kind' rest') → kind ++ (32 ∷ rest) ≡ kind' ++ (32 ∷ rest')
     → AreSame a b
 same_splits a b e =
     let rules = unjoin a.rule b.rule (a.unit ++ (32 ∷ a.tail)) (b.unit ++ (32 ∷ b.tail)) a.rule_is b.rule_is (sym a.is ∙ e ∙ b.is) in
     let units = unjoin a.unit b.unit a.tail b.tail a.unit_is b.unit_is rules.1 in
     record { rule = rules.0; unit = units.0; tail = units.1 }
 
-font_glyph : codes "font" ≡ codes "glyph" → ⊥
+pub font_glyph : codes "font" ≡ codes "glyph" → ⊥
 font_glyph e = let no : ◌≡◌ {A = ℕ} 102 103 = cc in absurd (omega (arith, no))
 
-font_waiver : codes "font" ≡ codes "waiver" → ⊥
+pub font_waiver : codes "font" ≡ codes "waiver" → ⊥
 font_waiver e = let no : ◌≡◌ {A = ℕ} 102 119 = cc in absurd (omega (arith, no))
 
-glyph_waiver : codes "glyph" ≡ codes "waiver" → ⊥
+pub glyph_waiver : codes "glyph" ≡ codes "waiver" → ⊥
 glyph_waiver e = let no : ◌≡◌ {A = ℕ} 103 119 = cc in absurd (omega (arith, no))
 
 -- a kind and what stands behind it

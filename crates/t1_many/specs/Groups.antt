@@ -1,5 +1,5 @@
 -- Groups of a font's faults: those of one rule in one unit, in the font itself at one key, of the waivers at one waiver. A group has a number.
-use Rattle.std.specs.Prelude.{◌≡◌, ℕ, ◌+◌, ◌*◌, ◌/◌, ◌==◌, ◌≤◌, nat_eq, List, length, if◌then◌else◌}
+use Rattle.std.specs.Prelude.{◌≡◌, ℕ, ◌+◌, ◌*◌, ◌/◌, ◌==◌, ◌≤◌, nat_eq, List, filter, length, if◌then◌else◌}
 use Rattle.std.specs.List.{count_by}
 use Rattle.t1_font.specs.Fonts.{FontValue}
 use Rattle.t1_report.specs.Checked.{CheckedFont}
@@ -8,8 +8,12 @@ use Rattle.t1_report.specs.Reports.{IsReport}
 use Rattle.t1_report.specs.Waivers.{Waiver}
 use Rattle.t1_rules.specs.Book.{number_of}
 use Rattle.t1_rules.specs.Keys.{index_count}
+use Rattle.t1_rules.specs.Mask.{has}
 use Rattle.t1_rules.specs.declared.mask.Mask.{Mask}
-use Rattle.t1_many.specs.Outcomes.{told_faults}
+
+-- The faults whose rules are told.
+abbrev pub told_faults : Mask → List FaultValue → List FaultValue
+told_faults rules faults = filter (λ fault. has rules (number_of fault.rule)) faults
 
 -- Of the font the key, of the waivers the waiver's place from 1.
 abbrev pub part_of : FontValue → FaultValue → ℕ

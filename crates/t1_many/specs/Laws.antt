@@ -1,12 +1,21 @@
 -- The statements of laws.
-use Rattle.std.specs.Prelude.{◌≡◌, ◌+◌, ◌<◌, ◌≤◌, ◌^◌, ℕ, true, List, [], ◌++◌, Some, length, map}
+use Rattle.std.specs.Prelude.{◌≡◌, ◌+◌, ◌<◌, ◌≤◌, ◌^◌, ℕ, true, List, [], ◌∷◌, ◌++◌, Option, None, Some, length, map}
 use Rattle.std.specs.List.{AllByRecursion, flat_map}
-use Rattle.t1_lines.specs.Lines.{FaultLineValue, IsFaultLine, PlaceValue, at_key, at_step, at_waiver}
-use Rattle.t1_report.specs.Waivers.{is_waivable, waivers_of}
+use Rattle.t1_font.specs.Fonts.{FontValue}
+use Rattle.t1_lines.specs.Lines.{FaultLineValue, IsFaultLine, PlaceValue, at_key, at_step, at_waiver, line_in}
+use Rattle.t1_report.specs.Faults.{FaultValue}
+use Rattle.t1_report.specs.Lines.{IsInFont}
+use Rattle.t1_report.specs.Waivers.{Waiver, is_waivable, waivers_of}
 use Rattle.t1_rules.specs.Book.{code_of, rules}
 use Rattle.t1_rules.specs.declared.rule.Rule.{Rule}
 use Rattle.t1_run.specs.Statuses.{exit_code_of}
 use Rattle.t1_run.specs.declared.status.Status.{Status}
+use Rattle.t1_many.specs.Groups.{group_of}
+use Rattle.t1_many.specs.Handing.{Handed, HandsOn, done}
+use Rattle.t1_many.specs.Plain.{Devices, IsWritten, PlainTakes}
+use Rattle.t1_many.specs.declared.found.Found.{Found as FontFound}
+use Rattle.t1_many.specs.declared.recipient.Lost.{Lost}
+use Rattle.t1_many.specs.Outcomes.{IsRead}
 use Rattle.t1_many.specs.Choice.{Choice, is_told, letters_of, picks}
 use Rattle.t1_many.specs.KnownFaults.{IsKind, IsRow, Reading, RowValue, beyond, kind_of, kinds_in, row_text, rule_of, shortfall, updated}
 use Rattle.t1_many.specs.Shards.{first_parts}
@@ -30,6 +39,24 @@ LinesHaveKinds = (l : FaultLineValue) → IsFaultLine l → IsKind (kind_of l)
 -- It begins with the code of the line's rule.
 abbrev pub KindsNameTheirRules : Type 0
 KindsNameTheirRules = (l : FaultLineValue) → rule_of (kind_of l) ≡ code_of l.rule
+
+-- What the plain form is handed is written and told, one thing behind the other; where a device fails, a front of it.
+abbrev pub PlainIsWritten : Type 0
+PlainIsWritten =
+    (old new : Devices) (handed : List Handed) (lost : Option Lost) → HandsOn PlainTakes old new handed lost → IsWritten old new handed lost
+
+-- Behind the last font nothing waits to be flushed.
+abbrev pub PlainIsFlushed : Type 0
+PlainIsFlushed =
+    (old new : Devices) (handed : List Handed) (name : List ℕ) (found : FontFound)
+    → HandsOn PlainTakes old new (handed ++ done name found ∷ []) None → new.out.flushed ≡ true
+
+-- Two faults of a font's report are of one group exactly where they are of one kind.
+abbrev pub GroupsAreKinds : Type 0
+GroupsAreKinds =
+    (font : FontValue) (waivers : List Waiver) (a b : FaultValue) → IsRead font waivers → IsInFont font waivers a → IsInFont font waivers b
+    → (group_of font a ≡ group_of font b → kind_of (line_in font waivers a) ≡ kind_of (line_in font waivers b))
+    × (kind_of (line_in font waivers a) ≡ kind_of (line_in font waivers b) → group_of font a ≡ group_of font b)
 
 -- No text is that of two rows.
 abbrev pub ATextIsOneRow : Type 0

@@ -3,12 +3,16 @@ pub mod Choice
 pub mod Ends
 pub mod Files
 pub mod Groups
+pub mod Handing
 pub mod KnownFaults
 pub mod Laws
 pub mod Outcomes
+pub mod Plain
 pub mod Private
 pub mod RowValues
 pub mod Shards
 pub mod Statuses
 pub mod Summaries
+pub mod Told
+pub mod Verdicts
 pub mod WrittenWaivers

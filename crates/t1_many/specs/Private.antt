@@ -1,3 +1,4 @@
 -- Words that private contracts alone cite.
 pub mod Checking
+pub mod Handing
 pub mod Rows

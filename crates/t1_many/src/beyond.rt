@@ -1,11 +1,11 @@
 //! The lines of a font that go beyond known faults.
 
-ghost use Rattle.std.specs.Prelude.{◌≤◌, ◌&&◌, nat_lt, length};
+ghost use Rattle.std.specs.Prelude.{◌≤◌, nat_lt, length};
 ghost use Rattle.std.specs.Map.{count_at};
 ghost use Rattle.std.specs.BTreeMap as tree;
 ghost use Rattle.std.specs.Ordering.{nat_cmp};
 ghost use Rattle.t1_font.specs.Bounds.{most_glyphs};
-ghost use Rattle.t1_many.specs.Beyond.{WritesBeyond};
+ghost use Rattle.t1_many.specs.Beyond.{HandsBeyond, verdict_of};
 ghost use Rattle.t1_many.specs.Groups.{CountsReport, group_of};
 ghost use Rattle.t1_report.specs.Checked.{checked};
 ghost use Rattle.t1_report.specs.Waivers.{largest_waivers};
@@ -13,15 +13,16 @@ ghost use Rattle.t1_rules.specs.Book.{number_of};
 ghost use Rattle.t1_rules.specs.Components.{AreOf};
 ghost use Rattle.t1_rules.specs.Mask.{has};
 
+use crate::form::Form;
 use crate::groups::{Counts, count_of, group_of};
-use crate::lines::{Telling, write_report};
+use crate::handing::hand_report;
+use crate::recipient::Taken;
+use crate::verdict::{Judge, Verdict};
 use t1_font::Font;
-use t1_io::{Broken, Sink};
 use t1_report::{Fault, Waivers, a_font_has_one_report};
 use t1_rules::{Mask, Sidebearings};
-use t1_run::Status;
 
-/// The faults whose rules are in a set, and whose groups are found more often than they are known.
+/// The faults whose rules are in a set are told where their groups are found more often than they are known.
 #[derive(Clone, Copy)]
 struct Beyond<'a> {
     rules: Mask,
@@ -29,21 +30,27 @@ struct Beyond<'a> {
     found: &'a Counts,
 }
 
-impl<'a> Telling for Beyond<'a> {
-    ghost tells = { λ b font fault. has b.rules (number_of fault.rule)
-        && nat_lt (count_at (tree.get nat_cmp b.known.now) (group_of font fault))
-        (count_at (tree.get nat_cmp b.found.now) (group_of font fault)) };
+impl<'a> Judge for Beyond<'a> {
+    ghost judges = { λ b font fault. verdict_of (has b.rules (number_of fault.rule))
+        (nat_lt (count_at (tree.get nat_cmp b.known.now) (group_of font fault))
+        (count_at (tree.get nat_cmp b.found.now) (group_of font fault))) };
 
-    fn tells(&self, font: &Font<'_>, fault: &Fault) -> bool {
+    fn judge(&self, font: &Font<'_>, fault: &Fault) -> Verdict {
         let group = group_of(font, fault);
-        self.rules.has(fault.rule) && count_of(self.known, group) < count_of(self.found, group)
+        if !self.rules.has(fault.rule) {
+            Verdict::Left
+        } else if count_of(self.known, group) < count_of(self.found, group) {
+            Verdict::Told
+        } else {
+            Verdict::Known
+        }
     }
 }
 
-/// Writes the lines of a font's report that go beyond known faults, each with the font's name in front: of the rules that are told, all lines
-/// of a group that is found more often than it is known. Answers whether there was one; after a failure a front of them went out.
-pub fn write_beyond<'a, W: Sink>(
-    sink: &mut W,
+/// Hands the lines of a font's report on that go beyond known faults: of the rules that are told, all lines of a group that is found more
+/// often than it is known. The others of these rules are known faults.
+pub fn hand_beyond<'a, F: Form>(
+    form: &mut F,
     name: &str,
     font: &'a Font<'a>,
     sidebearings: &'a Sidebearings,
@@ -51,13 +58,13 @@ pub fn write_beyond<'a, W: Sink>(
     rules: Mask,
     known: &Counts,
     found: &Counts,
-) -> Result<Status, Broken>
+) -> Taken
     requires few { length font.now.glyphs ≤ most_glyphs }
     requires few_waivers { length waivers.now ≤ largest_waivers }
     requires sidebearings { AreOf font.now sidebearings.now }
     requires found { CountsReport rules (checked font.now sidebearings.now.edition) waivers.now (count_at (tree.get nat_cmp found.now)) }
-    ensures { WritesBeyond (count_at (tree.get nat_cmp known.now)) rules name.now (checked font.now sidebearings.now.edition) waivers.now
-        (W.state sink.old) (W.state sink.new) result }
+    ensures { HandsBeyond F.takes (count_at (tree.get nat_cmp known.now)) rules name.now (checked font.now sidebearings.now.edition) waivers.now
+        form.old form.new result }
 {
     // The call of a law does nothing: the proof cites what it ensures.
     a_font_has_one_report();
@@ -66,5 +73,5 @@ pub fn write_beyond<'a, W: Sink>(
         known,
         found,
     };
-    write_report(sink, name, font, sidebearings, waivers, &beyond)
+    hand_report(form, name, font, sidebearings, waivers, &beyond)
 }

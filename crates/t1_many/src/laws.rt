@@ -1,6 +1,6 @@
 //! Laws above the definitions: each is the contract of a function that does nothing.
 
-ghost use Rattle.t1_many.specs.Laws.{ATextIsOneRow, ClassesAddUp, CodesPickTheirRule, JoinedAreWorse, KindsNameTheirRules, LettersPickTheirRules, LinesHaveKinds, NoLineIsBeyond, NoRowFallsShort, NoneIsWorse, PartsAreTheWhole, RulesAddUp, WrittenWaiversAreRead};
+ghost use Rattle.t1_many.specs.Laws.{ATextIsOneRow, ClassesAddUp, CodesPickTheirRule, GroupsAreKinds, JoinedAreWorse, KindsNameTheirRules, LettersPickTheirRules, LinesHaveKinds, NoLineIsBeyond, NoRowFallsShort, NoneIsWorse, PartsAreTheWhole, PlainIsFlushed, PlainIsWritten, RulesAddUp, WrittenWaiversAreRead};
 
 /// A code picks its rule alone, and the letters of a code pick the rules whose codes have these letters.
 #[tactic(auto, using(crate::proofs::Codes::codes_pick, crate::proofs::Codes::letters_pick))]
@@ -15,6 +15,20 @@ pub fn a_text_is_one_row()
     ensures kinds { LinesHaveKinds }
     ensures codes { KindsNameTheirRules }
     ensures rows { ATextIsOneRow }
+{}
+
+/// What is handed to the plain form is written and told, all of it, one thing behind the other, and behind the last font it is flushed. Where a
+/// device fails a front of it was.
+#[tactic(auto, using(crate::proofs::PlainLines::written, crate::proofs::PlainLines::flushed))]
+pub fn plain_lines_are_written()
+    ensures written { PlainIsWritten }
+    ensures flushed { PlainIsFlushed }
+{}
+
+/// Two faults of a font's report are of one group exactly where rows of known faults name one kind.
+#[tactic(auto, using(crate::proofs::GroupKinds::groups_are_kinds))]
+pub fn groups_are_kinds()
+    ensures { GroupsAreKinds }
 {}
 
 /// The parts of a list, one behind the other, are the list.

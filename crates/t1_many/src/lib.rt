@@ -5,24 +5,35 @@
 //! faults, and [`count_groups`] counts a font's faults as such rows do.
 #![tactic(auto)]
 
-mod asked;
 mod beyond;
 mod checking;
 mod choice;
+mod form;
+mod found;
 mod groups;
+mod handing;
 mod laws;
-mod lines;
 mod one_font;
+mod plain;
+mod recipient;
 mod row;
 mod status;
+mod telling;
+mod verdict;
 
-pub use asked::Asked;
-pub use beyond::write_beyond;
+pub use beyond::hand_beyond;
 pub use checking::check_all;
 pub use choice::told_rules;
+pub use form::Form;
+pub use found::Found;
 pub use groups::{Counts, count_groups, count_of, group_of};
 pub use laws::{
-    a_text_is_one_row, an_update_is_quiet, codes_pick_their_rules, parts_are_the_whole,
+    a_text_is_one_row, an_update_is_quiet, codes_pick_their_rules, groups_are_kinds,
+    parts_are_the_whole, plain_lines_are_written,
     statuses_join, summaries_add_up, written_waivers_are_read,
 };
+pub use plain::Plain;
+pub use recipient::{Lost, Recipient, Taken};
 pub use row::{Row, read_row};
+pub use telling::{Telling, tell_all};
+pub use verdict::{Judge, Verdict};

@@ -8,7 +8,7 @@ use std::io::ErrorKind;
 use std::test::Fail;
 use t1_char::Edition;
 use t1_io::{In, Out, Source};
-use t1_many::{Asked, check_all, told_rules};
+use t1_many::{Lost, Plain, Telling, tell_all, told_rules};
 use t1_run::Status;
 use t1_samples::Sample;
 
@@ -38,7 +38,7 @@ fn open_waivers<'a>(files: &'a [File<'a>], name: &str) -> Option<io::Result<In<&
 /// What is answered.
 #[derive(Drop)]
 struct Answer {
-    status: Status,
+    status: Result<Status, Lost>,
     text: Vec<u8>,
     told: Vec<u8>,
 }
@@ -52,18 +52,22 @@ fn check<'a>(
 ) -> Answer {
     let mut text = Vec::new(alloc);
     let mut told = Vec::new(alloc);
-    let status = check_all(
+    let mut telling = Telling {
+        rules: told_rules(&[], &[b"C07"]),
+        form: Plain {
+            out: Out::new(&mut text),
+            errors: Out::new(&mut told),
+        },
+    };
+    let status = tell_all(
         alloc,
         names,
         |name| open(files, name),
         |name| open_waivers(waivers, name),
-        Asked {
-            edition: Edition::One,
-            rules: told_rules(&[], &[b"C07"]),
-        },
-        &mut Out::new(&mut text),
-        &mut Out::new(&mut told),
+        Edition::One,
+        &mut telling,
     );
+    drop(telling);
     Answer { status, text, told }
 }
 
@@ -110,7 +114,7 @@ fn checks_fonts_one_after_another(rt: HostRuntime) -> Result<(), Fail> {
         ],
     )?;
     let answer = check(rt.alloc(), names.as_slice(), &files, &waivers);
-    assert_eq!(rt; answer.status, Status::Failed);
+    assert_eq!(rt; answer.status, Ok(Status::Failed));
     let lines = b"\
 faulty.pfb: 1: glyph A - 3 C05 too many arguments
 faulty.pfb: 3: glyph A - 3 W01 hsbw or sbw not first

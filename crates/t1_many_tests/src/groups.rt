@@ -9,10 +9,9 @@ use std::test::Fail;
 use t1_char::Edition;
 use t1_font::Font;
 use t1_io::Out;
-use t1_many::{Counts, count_groups, count_of, told_rules, write_beyond};
+use t1_many::{Counts, Found, Lost, Plain, count_groups, count_of, hand_beyond, told_rules};
 use t1_report::Waivers;
 use t1_rules::{Rule, Sidebearings};
-use t1_run::Status;
 use t1_samples::{Sample, opened};
 
 /// The glyph of the number 32001, 0, hmoveto, and closepath twice, endchar.
@@ -27,7 +26,7 @@ fn group(rule: Rule) -> u64 {
 #[derive(Drop)]
 struct Written {
     found: Counts,
-    status: Status,
+    taken: Result<Found, Lost>,
     text: Vec<u8>,
 }
 
@@ -43,8 +42,13 @@ fn write(alloc: Global, font: &Font<'_>) -> Result<Written, Fail>
     known.insert(group(Rule::P03), 1)?;
     known.insert(group(Rule::C05), 1)?;
     let mut text = Vec::new(alloc);
-    let status = write_beyond(
-        &mut Out::new(&mut text),
+    let mut told = Vec::new(alloc);
+    let mut form = Plain {
+        out: Out::new(&mut text),
+        errors: Out::new(&mut told),
+    };
+    let taken = hand_beyond(
+        &mut form,
         "a.pfb",
         &*font,
         &sidebearings,
@@ -52,10 +56,11 @@ fn write(alloc: Global, font: &Font<'_>) -> Result<Written, Fail>
         rules,
         &known,
         &found,
-    )?;
+    );
+    drop(form);
     Ok(Written {
         found,
-        status,
+        taken,
         text,
     })
 }
@@ -72,7 +77,7 @@ fn writes_what_goes_beyond(rt: HostRuntime) -> Result<(), Fail> {
     assert_eq!(rt; count_of(&written.found, group(Rule::P03)), 2);
     assert_eq!(rt; count_of(&written.found, group(Rule::C05)), 1);
     assert_eq!(rt; count_of(&written.found, group(Rule::C07)), 0);
-    assert_eq!(rt; written.status, Status::Faults);
+    assert_eq!(rt; written.taken, Ok(Found::Faulty));
     let lines = b"\
 a.pfb: 3: glyph A - 3 W01 hsbw or sbw not first
 a.pfb: 4: glyph A - 4 P03 closepath without a path

@@ -7,7 +7,7 @@ use Rattle.t1_many.proofs.GroupCounts.{HaveCounted, one_counted, one_left}
 use Rattle.t1_many.proofs.groups.count_groups.Goals as goal
 use Rattle.t1_many.proofs.groups.count_groups.Goals.{then-has+in_ok-bump, else-has, else-loop-fault-test, then-loop-fault-test+in_default}
 use Rattle.t1_many.specs.Groups.{found_in}
-use Rattle.t1_many.specs.Outcomes.{told_faults}
+use Rattle.t1_many.specs.Groups.{told_faults}
 use Rattle.t1_report.specs.Checked.{CheckedFont, checked}
 use Rattle.t1_report.specs.Faults.{FaultValue, fault_value}
 use Rattle.t1_report.specs.WalkViews.{WalkView}

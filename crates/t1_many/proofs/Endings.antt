@@ -4,21 +4,21 @@ use Rattle.t1_char.specs.declared.edition.Edition.{Edition}
 use Rattle.t1_font.specs.FontFiles.{IsUnread, font_in}
 use Rattle.t1_font.specs.Fonts.{FontValue}
 use Rattle.t1_font.specs.declared.unread.Unread.{Unread}
-use Rattle.t1_io.specs.Devices.{SinkState, SourceState}
+use Rattle.t1_io.specs.Devices.{SourceState}
 use Rattle.t1_lines.specs.declared.refusal.Reason.{Reason}
 use Rattle.t1_lines.specs.declared.refusal.Reason.TheVariants.{Font, FontTooLarge, Waivers, WaiversTooLarge}
 use Rattle.t1_many.specs.Files.{Given, IsFound}
 use Rattle.t1_many.specs.Files.IsFound.{breaks, breaks_waivers, no_memory, refused, reports, waivers_refused}
-use Rattle.t1_many.specs.Outcomes.{Outcome, Report, failed, reported}
-use Rattle.t1_many.specs.Private.Checking.{Checks, WritesReport, of_bytes, of_files, of_font, of_text}
-use Rattle.t1_many.specs.declared.asked.Asked.{Asked}
+use Rattle.t1_many.specs.Outcomes.{Entry, Outcome, Report, failed, reported}
+use Rattle.t1_many.specs.Private.Checking.{Checks, of_bytes, of_files, of_font, of_text}
+use Rattle.t1_many.specs.declared.found.Found.{Found}
+use Rattle.t1_many.specs.declared.recipient.Lost.{Lost}
 use Rattle.t1_report.specs.Checked.{checked}
+use Rattle.t1_report.specs.Faults.{FaultValue}
 use Rattle.t1_report.specs.WaiverViews.{IsReadAs}
 use Rattle.t1_report.specs.Waivers.{Waiver, waivers_of}
 use Rattle.t1_report.specs.declared.waivers.WaiverError.{WaiverError}
 use Rattle.t1_report.specs.declared.waivers.WaiverError.TheVariants.{Malformed, Memory}
-use Rattle.t1_rules.specs.Book.{number_of}
-use Rattle.t1_rules.specs.Mask.{has}
 use Rattle.t1_run.proofs.FilesRead.{are_read, font_past}
 use Rattle.t1_run.specs.Failures.{failure_of}
 use Rattle.t1_run.specs.FontFiles.{AreRead, with_reason}
@@ -27,7 +27,7 @@ use Rattle.t1_run.specs.Input.AreUnread.{too_large as past, read_failed as broke
 use Rattle.t1_run.specs.WaiverFiles.{AreWaived, IsNoWaiverText, IsWaiverText, as_waivers}
 use Rattle.t1_run.specs.WaiverFiles.IsNoWaiverText.{too_large, read_failed, no_memory as no_room}
 use Rattle.t1_run.specs.declared.failure.Failure.{Failure}
-use Rattle.t1_run.specs.declared.status.Status.{Status}
+use Rattle.t1_report.specs.Reports.{IsReport}
 use Rattle.std.specs.Result.{IsErrAnd}
 
 -- ---- what is known more widely
@@ -51,18 +51,30 @@ found_by edition given wider outcome on (breaks_waivers font read broke same) =
     breaks_waivers font (on.reads _ read) (on.breaks_waivers broke) same
 found_by edition given wider outcome on (no_memory same) = no_memory same
 
-pub checks_by : {E : Type 0} (asked : Asked) (name : List ℕ) (given wider : Given) (a b : SinkState) (result : Result (Result Status E) Failure)
-    → Widens given wider → Checks asked name given a b result → Checks asked name wider a b result
-checks_by asked name given wider a b (Ok written) on (report, found, writes, is) =
-    (report, found_by asked.edition given wider (reported report) on found, writes, is)
-checks_by asked name given wider a b (Err failure) on (found, same) = (found_by asked.edition given wider (failed failure) on found, same)
+module _ {R : Type 0} (takes : R → R → Entry → Result Found Lost → Type 0) (edition : Edition) (name : List ℕ) where
+  pub checks_by : (given wider : Given) (a b : R) (result : Result (Result Found Lost) Failure) → Widens given wider
+      → Checks takes edition name given a b result → Checks takes edition name wider a b result
+  checks_by given wider a b (Ok taken) on (report, found, took) = (report, found_by edition given wider (reported report) on found, took)
+  checks_by given wider a b (Err failure) on (found, same) = (found_by edition given wider (failed failure) on found, same)
 
--- the exit of a `?` at which nothing was written
-pub not_found : {E : Type 0} (asked : Asked) (name : List ℕ) (given : Given) (a : SinkState) (result : Result (Result Status E) Failure)
-    (failure : Failure) → IsErrAnd result (λ f. f ≡ failure) → IsFound asked.edition given (failed failure) → Checks asked name given a a result
-not_found asked name given a (Ok written) failure is found = absurd is
-not_found asked name given a (Err f) failure is found =
-    (subst (λ (f : Failure). IsFound asked.edition given (failed f)) (sym is) found, refl)
+  -- the exit of a `?` at which nothing was done
+  pub not_found : (given : Given) (a b : R) (result : Result (Result Found Lost) Failure) (failure : Failure)
+      → IsErrAnd result (λ f. f ≡ failure) → b ≡ a → IsFound edition given (failed failure) → Checks takes edition name given a b result
+  not_found given a b (Ok taken) failure is same found = absurd is
+  not_found given a b (Err f) failure is same found =
+      (subst (λ (f : Failure). IsFound edition given (failed f)) (sym is) found, same)
+
+  -- a report that was taken
+  pub text_taken : (font : FontValue) (text : List ℕ) (waivers : List Waiver) (of : Edition) (a b : R) (taken : Result Found Lost)
+      → of ≡ edition → waivers_of text ≡ Some waivers → (faults : List FaultValue) × IsReport (checked font of) waivers faults
+      × takes a b (record { name = name; outcome = reported (record { font = font; waivers = waivers; faults = faults }) }) taken
+      → Checks takes edition name (of_text font text) a b (Ok taken)
+  text_taken font text waivers of a b taken same read (faults, is, took) = (
+    record { font = font; waivers = waivers; faults = faults },
+    reports (record { font = font; waivers = waivers; faults = faults }) refl (ap as_waivers read)
+        (subst (λ (e : Edition). IsReport (checked font e) waivers faults) same is) refl,
+    took,
+  )
 
 -- ---- the text of waivers
 
@@ -70,15 +82,6 @@ pub text_unread : {W : Type 0} (value : W → List Waiver) (edition : Edition) (
     → IsReadAs value (waivers_of text) (Err error) → IsFound edition (of_text font text) (failed (failure_of (Waivers error)))
 text_unread value edition font text Malformed none = waivers_refused font refl (Waivers Malformed) (ap as_waivers none) refl
 text_unread value edition font text Memory any = no_memory refl
-
-pub text_written : {E : Type 0} (asked : Asked) (name : List ℕ) (font : FontValue) (text : List ℕ) (waivers : List Waiver) (edition : Edition)
-    (a b : SinkState) (written : Result Status E) → edition ≡ asked.edition → waivers_of text ≡ Some waivers
-    → WritesReport (λ fault. has asked.rules (number_of fault.rule)) name (checked font edition) waivers a b written → Checks asked name (of_text font text) a b (Ok written)
-text_written asked name font text waivers edition a b written same read writes =
-    let (faults, is, wrote, status) =
-    subst (λ (e : Edition). WritesReport (λ fault. has asked.rules (number_of fault.rule)) name (checked font e) waivers a b written) same writes in
-    let report : Report = record { font = font; waivers = waivers; faults = faults } in
-    (report, reports report refl (ap as_waivers read) is refl, wrote, status)
 
 -- ---- its file
 

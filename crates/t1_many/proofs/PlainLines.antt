@@ -1,0 +1,128 @@
+-- What the plain form writes and tells of things that are handed on.
+use Rattle.std.proofs.Common.{◌≡◌, ◌⊎◌, ℕ, true, List, [], ◌∷◌, ◌++◌, Option, None, Some, inl, inr, refl, sym, ap, subst, ◌∙◌, append_assoc, append-nil}
+use Rattle.std.proofs.KnownBytes.{Appends-kept, Appends-nil, Appends-trans}
+use Rattle.std.proofs.lemmas.Option.{none-some}
+use Rattle.std.specs.Io.KnownBytes.{Appends, Keeps}
+use Rattle.t1_io.specs.Devices.{AppendsFront, CallFailed, PutFailed, SinkState}
+use Rattle.t1_many.specs.Handing.{Handed, HandsOn, done, failure, line}
+use Rattle.t1_many.specs.Laws.{PlainIsFlushed, PlainIsWritten}
+use Rattle.t1_many.specs.Plain.{Devices, IsPut, IsWritten, PlainTakes, PutsFailure, failure_text, failure_told, tellings, text_of, texts, told_of}
+use Rattle.t1_many.specs.declared.recipient.Lost.{Lost}
+use Rattle.t1_many.specs.declared.recipient.Lost.TheVariants.{Device, Memory}
+use Rattle.t1_run.specs.declared.failure.Failure.{Failure}
+use Rattle.t1_run.specs.declared.failure.Failure.TheVariants as failures
+
+-- ---- fronts
+
+front-all : (a b : Option (List ℕ)) (x : List ℕ) → Appends a b x → AppendsFront a b x
+front-all a b x all = (x, ([], (sym (append-nil x), all)))
+
+front-first : (a b : Option (List ℕ)) (x y : List ℕ) → AppendsFront a b x → AppendsFront a b (x ++ y)
+front-first a b x y (front, (rest, (split, out))) = (front, (rest ++ y, (ap (λ l. l ++ y) split ∙ append_assoc front rest y, out)))
+
+front-second : (a b c : Option (List ℕ)) (x y : List ℕ) → Appends a b x → AppendsFront b c y → AppendsFront a c (x ++ y)
+front-second a b c x y before (front, (rest, (split, out))) =
+    (x ++ front, (rest, (ap (λ l. x ++ l) split ∙ sym (append_assoc x front rest), Appends-trans a b c x front before out)))
+
+kept : (a b : Option (List ℕ)) → Keeps a b → Appends a b []
+kept a b keeps = Appends-kept a a b [] (Appends-nil a) keeps
+
+none-same : (a b : SinkState) → b ≡ a → Appends a.written b.written []
+none-same a b same = subst (λ (s : SinkState). Appends a.written s.written []) (sym same) (Appends-nil a.written)
+
+-- ---- one thing
+
+-- It was written and told.
+record IsOut (old new : Devices) (handed : Handed) : Type 0 where
+  pub out : Appends old.out.written new.out.written (text_of handed)
+  pub errors : Appends old.errors.written new.errors.written (told_of handed)
+
+failure_out : (old new : Devices) (name : List ℕ) (reason : Failure) → PutsFailure old new name reason None → IsOut old new (failure name reason)
+failure_out old new name (failures.Refused code) (put, same) = record { out = put.bytes; errors = none-same old.errors new.errors same }
+failure_out old new name failures.Broken (same, put) = record { out = none-same old.out new.out same; errors = put.bytes }
+failure_out old new name failures.Memory (same, put) = record { out = none-same old.out new.out same; errors = put.bytes }
+
+one_out : (old new : Devices) (handed : Handed) → PlainTakes old new handed None → IsOut old new handed
+one_out old new (line name font waivers fault) (put, same) = record { out = put.bytes; errors = none-same old.errors new.errors same }
+one_out old new (failure name reason) put = failure_out old new name reason put
+one_out old new (done name found) (flushed, same) =
+    record { out = kept old.out.written new.out.written flushed.bytes; errors = none-same old.errors new.errors same }
+
+-- Or a device failed there.
+record IsHalf (old new : Devices) (handed : Handed) : Type 0 where
+  pub out : AppendsFront old.out.written new.out.written (text_of handed)
+  pub errors : AppendsFront old.errors.written new.errors.written (told_of handed)
+  pub failed : (new.out.failed ≡ true) ⊎ (new.errors.failed ≡ true)
+
+out_half : (old new : Devices) (handed : Handed) (text : List ℕ) (reason : Lost) → IsPut old.out new.out text (Some reason)
+    → new.errors ≡ old.errors → text_of handed ≡ text → told_of handed ≡ [] → IsHalf old new handed
+out_half old new handed text Device broke same is none = record {
+  out = subst (AppendsFront old.out.written new.out.written) (sym is) broke.front;
+  errors = subst (AppendsFront old.errors.written new.errors.written) (sym none)
+      (front-all old.errors.written new.errors.written [] (none-same old.errors new.errors same));
+  failed = inl broke.failed;
+}
+out_half old new handed text Memory never same is none = absurd never
+
+errors_half : (old new : Devices) (handed : Handed) (text : List ℕ) (reason : Lost) → IsPut old.errors new.errors text (Some reason)
+    → new.out ≡ old.out → told_of handed ≡ text → text_of handed ≡ [] → IsHalf old new handed
+errors_half old new handed text Device broke same is none = record {
+  out = subst (AppendsFront old.out.written new.out.written) (sym none)
+      (front-all old.out.written new.out.written [] (none-same old.out new.out same));
+  errors = subst (AppendsFront old.errors.written new.errors.written) (sym is) broke.front;
+  failed = inr broke.failed;
+}
+errors_half old new handed text Memory never same is none = absurd never
+
+failure_half : (old new : Devices) (name : List ℕ) (reason : Failure) (lost : Lost) → PutsFailure old new name reason (Some lost)
+    → IsHalf old new (failure name reason)
+failure_half old new name (failures.Refused code) lost (put, same) =
+    out_half old new (failure name (failures.Refused code)) _ lost put same refl refl
+failure_half old new name failures.Broken lost (same, put) = errors_half old new (failure name failures.Broken) _ lost put same refl refl
+failure_half old new name failures.Memory lost (same, put) = errors_half old new (failure name failures.Memory) _ lost put same refl refl
+
+one_half : (old new : Devices) (handed : Handed) (lost : Lost) → PlainTakes old new handed (Some lost) → IsHalf old new handed
+one_half old new (line name font waivers fault) lost (put, same) =
+    out_half old new (line name font waivers fault) _ lost put same refl refl
+one_half old new (failure name reason) lost put = failure_half old new name reason lost put
+one_half old new (done name found) Device (broke, same) = record {
+  out = front-all old.out.written new.out.written [] (kept old.out.written new.out.written broke.bytes);
+  errors = front-all old.errors.written new.errors.written [] (none-same old.errors new.errors same);
+  failed = inl broke.failed;
+}
+one_half old new (done name found) Memory (never, same) = absurd never
+
+-- ---- all of them
+
+more_written : (a b c : Devices) (handed : Handed) (more : List Handed) (lost : Option Lost) → IsOut a b handed → IsWritten b c more lost
+    → IsWritten a c (handed ∷ more) lost
+more_written a b c handed more None one (out, errors) = (
+  Appends-trans a.out.written b.out.written c.out.written (text_of handed) (texts more) one.out out,
+  Appends-trans a.errors.written b.errors.written c.errors.written (told_of handed) (tellings more) one.errors errors,
+)
+more_written a b c handed more (Some reason) one (out, errors, failed) = (
+  front-second a.out.written b.out.written c.out.written (text_of handed) (texts more) one.out out,
+  front-second a.errors.written b.errors.written c.errors.written (told_of handed) (tellings more) one.errors errors,
+  failed,
+)
+
+pub written : PlainIsWritten
+written old new [] lost (same, none) =
+    subst (IsWritten old new []) (sym none)
+    (subst (λ (d : Devices). IsWritten old d [] None) (sym same) (Appends-nil old.out.written, Appends-nil old.errors.written))
+written old new (handed ∷ more) lost (inl (next, took, rest)) =
+    more_written old next new handed more lost (one_out old next handed took) (written next new more lost rest)
+written old new (handed ∷ more) lost (inr (reason, took, is)) =
+    let half = one_half old new handed reason took in
+    subst (IsWritten old new (handed ∷ more)) (sym is) (
+      front-first old.out.written new.out.written (text_of handed) (texts more) half.out,
+      front-first old.errors.written new.errors.written (told_of handed) (tellings more) half.errors,
+      half.failed,
+    )
+
+pub flushed : PlainIsFlushed
+flushed old new [] name found (inl (next, took, (same, none))) =
+    subst (λ (d : Devices). d.out.flushed ≡ true) (sym same) took.0.waits
+flushed old new [] name found (inr (reason, took, is)) = absurd (none-some reason is)
+flushed old new (handed ∷ more) name found (inl (next, took, rest)) = flushed next new more name found rest
+flushed old new (handed ∷ more) name found (inr (reason, took, is)) = absurd (none-some reason is)

@@ -1,9 +1,0 @@
-use Rattle.t1_io.proofs.SinkLemmas.{PutFailed-first, Writes-failed, Writes-then}
-use Rattle.t1_many.proofs.lines.write_line.Goals as goal
-
-pub returns-in_err-put_parts : goal.returns-in_err-put_parts
-returns-in_err-put_parts g c =
-    Writes-failed _ _ _ _ _ c.from_residual.ensures.1 (PutFailed-first _ _ _ _ (rw c.as_bytes.ensures.value at c.in_err-put_parts.ensures))
-
-pub returns : goal.returns
-returns g c = Writes-then _ _ _ _ _ _ (rw c.as_bytes.ensures.value at c.in_ok-put_parts.ensures) c.write_fault.ensures

@@ -1,0 +1,76 @@
+-- What is handed on of many fonts, and in which order.
+use Rattle.std.specs.Prelude.{◌≡◌, ◌⊎◌, ℕ, List, [], ◌∷◌, ◌++◌, filter, map, Bool, true, false, Option, None, Some, Result, Ok, Err, IfOk}
+use Rattle.t1_font.specs.Fonts.{FontValue}
+use Rattle.t1_many.specs.Outcomes.{Entry, Outcome, Report, failed, found_of_failure, reported}
+use Rattle.t1_many.specs.declared.found.Found.{Found}
+use Rattle.t1_many.specs.declared.found.Found.TheVariants.{Clean, Faulty, Known, Refused, Unchecked}
+use Rattle.t1_many.specs.declared.recipient.Lost.{Lost}
+use Rattle.t1_many.specs.declared.verdict.Verdict.{Verdict}
+use Rattle.t1_many.specs.declared.verdict.Verdict.TheVariants as verdicts
+use Rattle.t1_report.specs.Checked.{CheckedFont}
+use Rattle.t1_report.specs.Faults.{FaultValue}
+use Rattle.t1_report.specs.Reports.{IsReport}
+use Rattle.t1_report.specs.Waivers.{Waiver}
+use Rattle.t1_run.specs.declared.failure.Failure.{Failure}
+
+-- One thing that is handed on of a font: a line of its report, or why there is none; and, behind all else of it, how it was found.
+pub data Handed : Type 0 where
+  line : (name : List ℕ) → FontValue → List Waiver → FaultValue → Handed
+  failure : (name : List ℕ) → Failure → Handed
+  done : (name : List ℕ) → Found → Handed
+
+-- Why it stopped, if it did.
+abbrev pub lost_of : {T : Type 0} → Result T Lost → Option Lost
+lost_of (Ok value) = None
+lost_of (Err lost) = Some lost
+
+-- These were handed on one after another; or it stopped at one of them, and no later one was.
+abbrev pub HandsOn : {F : Type 0} → (F → F → Handed → Option Lost → Type 0) → F → F → List Handed → Option Lost → Type 0
+HandsOn takes old new [] lost = (new ≡ old) × (lost ≡ None)
+HandsOn {F} takes old new (handed ∷ more) lost =
+    ((next : F) × takes old next handed None × HandsOn takes next new more lost)
+    ⊎ ((reason : Lost) × takes old new handed (Some reason) × (lost ≡ Some reason))
+
+-- ---- one font
+
+-- The line of a fault is handed on.
+abbrev pub is_told : Verdict → Bool
+is_told verdicts.Told = true
+is_told verdicts.Known = false
+is_told verdicts.Left = false
+
+-- How a font is found that has one fault more.
+abbrev pub found_with : Verdict → Found → Found
+found_with verdicts.Told found = Faulty
+found_with verdicts.Known Clean = Known
+found_with verdicts.Known Known = Known
+found_with verdicts.Known Faulty = Faulty
+found_with verdicts.Known Refused = Refused
+found_with verdicts.Known Unchecked = Unchecked
+found_with verdicts.Left found = found
+
+-- How a font with these faults is found: faulty where a line is handed on, else known where there is a known fault.
+abbrev pub found_by : (FaultValue → Verdict) → List FaultValue → Found
+found_by judges [] = Clean
+found_by judges (fault ∷ faults) = found_with (judges fault) (found_by judges faults)
+
+-- The lines of a font that are handed on.
+abbrev pub lines_by : (FaultValue → Verdict) → List ℕ → FontValue → List Waiver → List FaultValue → List Handed
+lines_by judges name font waivers faults = map (line name font waivers) (filter (λ fault. is_told (judges fault)) faults)
+
+-- All that is handed on of a font, by how its faults are judged.
+abbrev pub handed_of : (Report → FaultValue → Verdict) → List ℕ → Outcome → List Handed
+handed_of judges name (reported report) =
+    lines_by (judges report) name report.font report.waivers report.faults ++ done name (found_by (judges report) report.faults) ∷ []
+handed_of judges name (failed reason) = failure name reason ∷ done name (found_of_failure reason) ∷ []
+
+abbrev pub found_of : (Report → FaultValue → Verdict) → Outcome → Found
+found_of judges (reported report) = found_by (judges report) report.faults
+found_of judges (failed reason) = found_of_failure reason
+
+-- All of a font was handed on, and it was found so; or it stopped there.
+abbrev pub HandsFont : {F : Type 0} → (F → F → Handed → Option Lost → Type 0) → (Report → FaultValue → Verdict) → F → F → Entry
+    → Result Found Lost → Type 0
+HandsFont takes judges old new entry taken =
+    HandsOn takes old new (handed_of judges entry.name entry.outcome) (lost_of taken)
+    × IfOk taken (λ found. found ≡ found_of judges entry.outcome)

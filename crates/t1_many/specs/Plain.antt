@@ -1,0 +1,92 @@
+-- The plain form: lines and refusals on the output, all else on standard error, each with the font's name in front.
+use Rattle.std.specs.Prelude.{◌≡◌, ◌⊎◌, ℕ, true, List, [], ◌∷◌, ◌++◌, codes, Option, None, Some}
+use Rattle.std.specs.Io.KnownBytes.{Appends}
+use Rattle.std.specs.List.{concat, flat_map}
+use Rattle.t1_font.specs.Fonts.{FontValue}
+use Rattle.t1_io.specs.Devices.{AppendsFront, CallFailed, Flushed, PutFailed, SinkState, Wrote}
+use Rattle.t1_many.specs.Handing.{Handed, done, failure, line}
+use Rattle.t1_many.specs.declared.recipient.Lost.{Lost}
+use Rattle.t1_many.specs.declared.recipient.Lost.TheVariants.{Device, Memory}
+use Rattle.t1_report.specs.Lines.{line_of}
+use Rattle.t1_run.specs.Failures.{out_of_memory_line, read_failed_line, refusal_line}
+use Rattle.t1_run.specs.declared.failure.Failure.{Failure}
+use Rattle.t1_run.specs.declared.failure.Failure.TheVariants as failures
+
+-- The program that checks one font, in whose words it is told that one isn't checked.
+abbrev pub checker : List ℕ
+checker = codes "t1check"
+
+-- `NAME: LINE`.
+abbrev pub named : List ℕ → List ℕ → List ℕ
+named name text = concat (name ∷ codes ": " ∷ []) ++ text
+
+-- A refusal is written as a line of a report is, and each other failure is told on standard error.
+abbrev pub failure_text : List ℕ → Failure → List ℕ
+failure_text name (failures.Refused code) = named name (refusal_line code)
+failure_text name failures.Broken = []
+failure_text name failures.Memory = []
+
+abbrev pub failure_told : List ℕ → Failure → List ℕ
+failure_told name (failures.Refused code) = []
+failure_told name failures.Broken = named name (read_failed_line checker)
+failure_told name failures.Memory = named name (out_of_memory_line checker)
+
+-- What is written of a thing that is handed on, and what is told.
+abbrev pub text_of : Handed → List ℕ
+text_of (line name font waivers fault) = named name (line_of font waivers fault)
+text_of (failure name reason) = failure_text name reason
+text_of (done name found) = []
+
+abbrev pub told_of : Handed → List ℕ
+told_of (line name font waivers fault) = []
+told_of (failure name reason) = failure_told name reason
+told_of (done name found) = []
+
+abbrev pub texts : List Handed → List ℕ
+texts handed = flat_map text_of handed
+
+abbrev pub tellings : List Handed → List ℕ
+tellings handed = flat_map told_of handed
+
+-- ---- devices
+
+-- Two devices.
+pub record Devices : Type 0 where
+  pub out : SinkState
+  pub errors : SinkState
+
+-- A text was put, or that failed.
+abbrev pub IsPut : SinkState → SinkState → List ℕ → Option Lost → Type 0
+IsPut old new text None = Wrote old new text
+IsPut old new text (Some Device) = PutFailed old new text
+IsPut old new text (Some Memory) = ⊥
+
+-- What was put was flushed, or that failed.
+abbrev pub IsFlushed : SinkState → SinkState → Option Lost → Type 0
+IsFlushed old new None = Flushed old new
+IsFlushed old new (Some Device) = CallFailed old new
+IsFlushed old new (Some Memory) = ⊥
+
+-- A failure is put on one of them.
+abbrev pub PutsFailure : Devices → Devices → List ℕ → Failure → Option Lost → Type 0
+PutsFailure old new name (failures.Refused code) lost =
+    IsPut old.out new.out (named name (refusal_line code)) lost × (new.errors ≡ old.errors)
+PutsFailure old new name failures.Broken lost =
+    (new.out ≡ old.out) × IsPut old.errors new.errors (named name (read_failed_line checker)) lost
+PutsFailure old new name failures.Memory lost =
+    (new.out ≡ old.out) × IsPut old.errors new.errors (named name (out_of_memory_line checker)) lost
+
+-- One thing that is handed on. The output is flushed behind each font.
+abbrev pub PlainTakes : Devices → Devices → Handed → Option Lost → Type 0
+PlainTakes old new (line name font waivers fault) lost =
+    IsPut old.out new.out (named name (line_of font waivers fault)) lost × (new.errors ≡ old.errors)
+PlainTakes old new (failure name reason) lost = PutsFailure old new name reason lost
+PlainTakes old new (done name found) lost = IsFlushed old.out new.out lost × (new.errors ≡ old.errors)
+
+-- All of these was written and told; or a device failed, and a front of it was.
+abbrev pub IsWritten : Devices → Devices → List Handed → Option Lost → Type 0
+IsWritten old new handed None =
+    Appends old.out.written new.out.written (texts handed) × Appends old.errors.written new.errors.written (tellings handed)
+IsWritten old new handed (Some lost) =
+    AppendsFront old.out.written new.out.written (texts handed) × AppendsFront old.errors.written new.errors.written (tellings handed)
+    × ((new.out.failed ≡ true) ⊎ (new.errors.failed ≡ true))

@@ -1,0 +1,31 @@
+-- What is handed on of all fonts.
+use Rattle.std.specs.Prelude.{◌≡◌, ℕ, List, map, take, Option, None, Some, Result, Ok, Err}
+use Rattle.std.specs.List.{flat_map}
+use Rattle.t1_char.specs.declared.edition.Edition.{Edition}
+use Rattle.t1_many.specs.Ends.{AreEntries, status_of_all}
+use Rattle.t1_many.specs.Files.{Files}
+use Rattle.t1_many.specs.Handing.{Handed, HandsOn, found_of, handed_of}
+use Rattle.t1_many.specs.Outcomes.{Entry, Report}
+use Rattle.t1_many.specs.declared.found.Found.{Found}
+use Rattle.t1_many.specs.declared.recipient.Lost.{Lost}
+use Rattle.t1_many.specs.declared.verdict.Verdict.{Verdict}
+use Rattle.t1_report.specs.Faults.{FaultValue}
+use Rattle.t1_run.specs.declared.status.Status.{Status}
+
+-- What is handed on of fonts, one behind the other, and how they were found.
+abbrev pub all_handed : (Report → FaultValue → Verdict) → List Entry → List Handed
+all_handed judges entries = flat_map (λ entry. handed_of judges entry.name entry.outcome) entries
+
+abbrev pub founds_of : (Report → FaultValue → Verdict) → List Entry → List Found
+founds_of judges entries = map (λ entry. found_of judges entry.outcome) entries
+
+-- All of all fonts was handed on, and the status is the greatest of theirs; or it stopped at one of them.
+pub data TellsAll {F : Type 0} (takes : F → F → Handed → Option Lost → Type 0) (judges : Report → FaultValue → Verdict) (files : Files)
+    (edition : Edition) (names : List (List ℕ)) (old new : F) (result : Result Status Lost) : Type 0 where
+  whole :
+      (entries : List Entry) → AreEntries files edition names entries → HandsOn takes old new (all_handed judges entries) None
+      → result ≡ Ok (status_of_all (founds_of judges entries)) → TellsAll takes judges files edition names old new result
+  cut_short :
+      (count : ℕ) → (entries : List Entry) → AreEntries files edition (take count names) entries → (lost : Lost)
+      → HandsOn takes old new (all_handed judges entries) (Some lost) → result ≡ Err lost
+      → TellsAll takes judges files edition names old new result

@@ -1,0 +1,39 @@
+//! A form in which lines are handed on.
+
+ghost use Rattle.std.specs.Prelude.{◌≡◌, Option};
+ghost use Rattle.t1_many.specs.Handing.{Handed, done, failure, line, lost_of};
+ghost use Rattle.t1_report.specs.Faults.{fault_value};
+ghost use Rattle.t1_report.specs.Lines.{IsInFont};
+
+use crate::found::Found;
+use crate::recipient::Lost;
+use t1_font::Font;
+use t1_report::{Fault, Waivers};
+use t1_run::Failure;
+
+/// A form in which lines are handed on, one after another.
+pub trait Form {
+    ghost use Rattle.t1_many.specs.declared.recipient.Lost.{Lost};
+
+    // It took one thing that was handed on, or stopped there for a reason.
+    ghost takes: { Self → Self → Handed → Option Lost → Type 0 };
+
+    /// Takes the line of a fault of a font's report.
+    fn line(
+        &mut self,
+        name: &str,
+        font: &Font<'_>,
+        waivers: &Waivers<'_>,
+        fault: &Fault,
+    ) -> Result<(), Lost>
+        requires { IsInFont font.now waivers.now (fault_value fault.now) }
+        ensures { takes self.old self.new (line name.now font.now waivers.now (fault_value fault.now)) (lost_of result) };
+
+    /// Takes why there is no report of a font.
+    fn failure(&mut self, name: &str, reason: Failure) -> Result<(), Lost>
+        ensures { takes self.old self.new (failure name.now reason) (lost_of result) };
+
+    /// Takes how a font was found, once all else of it was handed on.
+    fn done(&mut self, name: &str, found: Found) -> Result<(), Lost>
+        ensures { takes self.old self.new (done name.now found) (lost_of result) };
+}

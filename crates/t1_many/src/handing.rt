@@ -1,0 +1,84 @@
+//! Hands the lines of a font's report on.
+
+ghost use Rattle.std.specs.Prelude.{◌≡◌, ◌≤◌, length};
+ghost use Rattle.t1_font.specs.Bounds.{most_glyphs};
+ghost use Rattle.t1_many.specs.Private.Handing.{HandsFailure, HandsLines, HandsReport};
+ghost use Rattle.t1_report.specs.Checked.{checked};
+ghost use Rattle.t1_report.specs.Waivers.{largest_waivers};
+ghost use Rattle.t1_rules.specs.Components.{AreOf};
+
+use crate::form::Form;
+use crate::found::Found;
+use crate::recipient::Taken;
+use crate::verdict::Judge;
+use t1_font::Font;
+use t1_report::{
+    Waivers, Walk, each_font_has_a_report, faults_after_the_first_mark_are_the_report,
+    marks_count_the_faults_given,
+};
+use t1_rules::Sidebearings;
+use t1_run::Failure;
+
+/// Hands the lines of a font's report on that are told, and then how the font was found.
+pub(crate) fn hand_report<'a, F: Form, J: Judge>(
+    form: &mut F,
+    name: &str,
+    font: &'a Font<'a>,
+    sidebearings: &'a Sidebearings,
+    waivers: &'a Waivers<'a>,
+    judge: &J,
+) -> Taken
+    requires few { length font.now.glyphs ≤ most_glyphs }
+    requires few_waivers { length waivers.now ≤ largest_waivers }
+    requires sidebearings { AreOf font.now sidebearings.now }
+    ensures { HandsReport F.takes (J.judges judge.now font.now) name.now (checked font.now sidebearings.now.edition) waivers.now
+        form.old form.new result }
+{
+    let found = hand_lines(form, name, font, sidebearings, waivers, judge)?;
+    form.done(name, found)?;
+    Ok(found)
+}
+
+/// Hands the lines of a font's report on that are told.
+fn hand_lines<'a, F: Form, J: Judge>(
+    form: &mut F,
+    name: &str,
+    font: &'a Font<'a>,
+    sidebearings: &'a Sidebearings,
+    waivers: &'a Waivers<'a>,
+    judge: &J,
+) -> Taken
+    requires few { length font.now.glyphs ≤ most_glyphs }
+    requires few_waivers { length waivers.now ≤ largest_waivers }
+    requires sidebearings { AreOf font.now sidebearings.now }
+    ensures { HandsLines F.takes (J.judges judge.now font.now) name.now (checked font.now sidebearings.now.edition) waivers.now
+        form.old form.new result }
+{
+    // The calls of laws do nothing: the proof cites what they ensure.
+    each_font_has_a_report();
+    faults_after_the_first_mark_are_the_report();
+    marks_count_the_faults_given();
+    let mut walk = Walk::begin(font, sidebearings, waivers);
+    let mut found = Found::Clean;
+    for _fault in 0..u64::MAX {
+        let Some(fault) = walk.next() else {
+            break;
+        };
+        let verdict = judge.judge(font, &fault);
+        if verdict.is_told() {
+            form.line(name, font, waivers, &fault)?;
+        }
+        found = verdict.found_with(found);
+    }
+    Ok(found)
+}
+
+/// Hands on why there is no report of a font.
+pub(crate) fn hand_failure<F: Form>(form: &mut F, name: &str, reason: Failure) -> Taken
+    ensures { HandsFailure F.takes name.now reason form.old form.new result }
+{
+    form.failure(name, reason)?;
+    let found = Found::of_failure(reason);
+    form.done(name, found)?;
+    Ok(found)
+}

@@ -1,0 +1,91 @@
+//! The plain form: `NAME: LINE`.
+
+ghost use Rattle.std.specs.Prelude.{◌≡◌};
+ghost use Rattle.t1_many.specs.Plain.{IsPut, PlainTakes, PutsFailure, named};
+ghost use Rattle.t1_report.specs.Faults.{fault_value};
+ghost use Rattle.t1_report.specs.Lines.{IsInFont, line_of};
+ghost use Rattle.t1_run.specs.Failures.{refusal_line};
+ghost use Rattle.t1_many.specs.Handing.{lost_of};
+
+use crate::form::Form;
+use crate::found::Found;
+use crate::recipient::Lost;
+use t1_font::Font;
+use t1_io::{Sink, put_all, put_parts};
+use t1_lines::{RefusalCode, refusal_text};
+use t1_report::{Fault, Waivers, write_fault};
+use t1_run::Failure;
+
+/// Lines and refusals on the output, all else on standard error, each with the font's name in front. Behind each font the output is
+/// flushed.
+#[derive(Drop)]
+pub struct Plain<W: Sink, E: Sink> {
+    /// Standard output.
+    pub out: W,
+    /// Standard error.
+    pub errors: E,
+}
+
+impl<W: Sink, E: Sink> Form for Plain<W, E> {
+    ghost takes = { λ old new handed lost. PlainTakes
+        (record { out = W.state old.out; errors = E.state old.errors })
+        (record { out = W.state new.out; errors = E.state new.errors }) handed lost };
+
+    fn line(
+        &mut self,
+        name: &str,
+        font: &Font<'_>,
+        waivers: &Waivers<'_>,
+        fault: &Fault,
+    ) -> Result<(), Lost> {
+        put_line(&mut self.out, name, font, waivers, fault)
+    }
+
+    fn failure(&mut self, name: &str, reason: Failure) -> Result<(), Lost> {
+        match reason {
+            Failure::Refused(code) => put_refusal(&mut self.out, name, code),
+            Failure::Broken => put_named(&mut self.errors, name, b"t1check: read failed\n"),
+            Failure::Memory => put_named(&mut self.errors, name, b"t1check: out of memory\n"),
+        }
+    }
+
+    fn done(&mut self, _name: &str, _found: Found) -> Result<(), Lost> {
+        self.out.flush()?;
+        Ok(())
+    }
+}
+
+/// Puts the line of a fault, with the font's name in front.
+fn put_line<W: Sink>(
+    sink: &mut W,
+    name: &str,
+    font: &Font<'_>,
+    waivers: &Waivers<'_>,
+    fault: &Fault,
+) -> Result<(), Lost>
+    requires { IsInFont font.now waivers.now (fault_value fault.now) }
+    ensures { IsPut (W.state sink.old) (W.state sink.new)
+        (named name.now (line_of font.now waivers.now (fault_value fault.now))) (lost_of result) }
+{
+    put_parts(sink, &[name.as_bytes(), b": "])?;
+    write_fault(sink, font, waivers, fault)?;
+    Ok(())
+}
+
+/// Puts a line with the font's name in front.
+fn put_named<W: Sink>(sink: &mut W, name: &str, line: &[u8]) -> Result<(), Lost>
+    ensures { IsPut (W.state sink.old) (W.state sink.new) (named name.now line.now) (lost_of result) }
+{
+    put_parts(sink, &[name.as_bytes(), b": "])?;
+    put_all(sink, line)?;
+    Ok(())
+}
+
+/// Puts that a font is refused.
+fn put_refusal<W: Sink>(sink: &mut W, name: &str, code: RefusalCode) -> Result<(), Lost>
+    ensures { IsPut (W.state sink.old) (W.state sink.new) (named name.now (refusal_line code)) (lost_of result) }
+{
+    put_parts(sink, &[name.as_bytes(), b": "])?;
+    put_parts(sink, &[b"refused: ", refusal_text(code).as_bytes(), b"\n"])?;
+    Ok(())
+}
