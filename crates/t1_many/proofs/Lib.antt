@@ -5,6 +5,7 @@ pub mod Entries
 pub mod GivenFaults
 pub mod GroupCounts
 pub mod GroupKinds
+pub mod GroupOrder
 pub mod Handed
 pub mod HandedReports
 pub mod Letters

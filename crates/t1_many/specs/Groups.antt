@@ -1,5 +1,5 @@
 -- Groups of a font's faults: those of one rule in one unit, in the font itself at one key, of the waivers at one waiver. A group has a number.
-use Rattle.std.specs.Prelude.{◌≡◌, ℕ, ◌+◌, ◌*◌, ◌/◌, ◌==◌, ◌≤◌, nat_eq, List, filter, length, if◌then◌else◌}
+use Rattle.std.specs.Prelude.{◌≡◌, ℕ, ◌+◌, ◌*◌, ◌/◌, ◌==◌, ◌≤◌, nat_eq, not, List, [], ◌∷◌, filter, length, map, if◌then◌else◌}
 use Rattle.std.specs.List.{count_by}
 use Rattle.t1_font.specs.Fonts.{FontValue}
 use Rattle.t1_report.specs.Checked.{CheckedFont}
@@ -32,7 +32,18 @@ IsAt font fault = fault.unit ≤ length font.glyphs + 1
 abbrev pub found_in : FontValue → List FaultValue → ℕ → ℕ
 found_in font faults group = count_by (λ fault. nat_eq (group_of font fault) group) faults
 
--- The faults that are told of the report of a font with these waivers were counted by their groups.
-abbrev pub CountsReport : Mask → CheckedFont → List Waiver → (ℕ → ℕ) → Type 0
-CountsReport rules font waivers count =
-    (faults : List FaultValue) × IsReport font waivers faults × ((group : ℕ) → count group ≡ found_in font.value (told_faults rules faults) group)
+-- The first fault of each group, in order.
+abbrev pub firsts : FontValue → List FaultValue → List FaultValue
+firsts font [] = []
+firsts font (fault ∷ faults) = fault ∷ filter (λ other. not (nat_eq (group_of font fault) (group_of font other))) (firsts font faults)
+
+-- Each group once, in the order of its first fault, with how often it is found.
+abbrev pub groups_of : FontValue → List FaultValue → List (ℕ × ℕ)
+groups_of font faults = map (λ fault. (group_of font fault, found_in font faults (group_of font fault))) (firsts font faults)
+
+-- The faults that are told of the report of a font with these waivers were counted by their groups: so often each, and in this order.
+abbrev pub CountsReport : Mask → CheckedFont → List Waiver → (ℕ → ℕ) → List (ℕ × ℕ) → Type 0
+CountsReport rules font waivers count groups =
+    (faults : List FaultValue) × IsReport font waivers faults
+    × ((group : ℕ) → count group ≡ found_in font.value (told_faults rules faults) group)
+    × (groups ≡ groups_of font.value (told_faults rules faults))

@@ -1,9 +1,8 @@
 //! The lines of a font that go beyond known faults.
 
-ghost use Rattle.std.specs.Prelude.{◌≤◌, nat_lt, length};
+ghost use Rattle.std.specs.Prelude.{◌≤◌, nat_eq, nat_lt, length};
 ghost use Rattle.std.specs.Map.{count_at};
-ghost use Rattle.std.specs.BTreeMap as tree;
-ghost use Rattle.std.specs.Ordering.{nat_cmp};
+ghost use Rattle.indexmap.specs.IndexMap.{get};
 ghost use Rattle.t1_font.specs.Bounds.{most_glyphs};
 ghost use Rattle.t1_many.specs.Beyond.{HandsBeyond, verdict_of};
 ghost use Rattle.t1_many.specs.Groups.{CountsReport, group_of};
@@ -32,8 +31,8 @@ struct Beyond<'a> {
 
 impl<'a> Judge for Beyond<'a> {
     ghost judges = { λ b font fault. verdict_of (has b.rules (number_of fault.rule))
-        (nat_lt (count_at (tree.get nat_cmp b.known.now) (group_of font fault))
-        (count_at (tree.get nat_cmp b.found.now) (group_of font fault))) };
+        (nat_lt (count_at (get nat_eq b.known.now) (group_of font fault))
+        (count_at (get nat_eq b.found.now) (group_of font fault))) };
 
     fn judge(&self, font: &Font<'_>, fault: &Fault) -> Verdict {
         let group = group_of(font, fault);
@@ -62,8 +61,9 @@ pub fn hand_beyond<'a, F: Form>(
     requires few { length font.now.glyphs ≤ most_glyphs }
     requires few_waivers { length waivers.now ≤ largest_waivers }
     requires sidebearings { AreOf font.now sidebearings.now }
-    requires found { CountsReport rules (checked font.now sidebearings.now.edition) waivers.now (count_at (tree.get nat_cmp found.now)) }
-    ensures { HandsBeyond F.takes (count_at (tree.get nat_cmp known.now)) rules name.now (checked font.now sidebearings.now.edition) waivers.now
+    requires found { CountsReport rules (checked font.now sidebearings.now.edition) waivers.now (count_at (get nat_eq found.now))
+        found.now.entries }
+    ensures { HandsBeyond F.takes (count_at (get nat_eq known.now)) rules name.now (checked font.now sidebearings.now.edition) waivers.now
         form.old form.new result }
 {
     // The call of a law does nothing: the proof cites what it ensures.

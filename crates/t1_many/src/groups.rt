@@ -2,8 +2,7 @@
 
 ghost use Rattle.std.specs.Prelude.{◌≡◌, ◌≤◌, ◌<◌, ◌+◌, ◌^◌, nat_eq, ℕ, IfOk, OnOk, length, if◌then◌else◌};
 ghost use Rattle.std.specs.Map.{count_at};
-ghost use Rattle.std.specs.BTreeMap as tree;
-ghost use Rattle.std.specs.Ordering.{nat_cmp};
+ghost use Rattle.indexmap.specs.IndexMap.{get, insert_entry};
 ghost use Rattle.t1_font.specs.Bounds.{most_glyphs};
 ghost use Rattle.t1_many.specs.Groups.{CountsReport, group_of, part_of};
 ghost use Rattle.t1_report.specs.Checked.{checked};
@@ -11,8 +10,8 @@ ghost use Rattle.t1_report.specs.Faults.{fault_value};
 ghost use Rattle.t1_report.specs.Waivers.{largest_waivers};
 ghost use Rattle.t1_rules.specs.Components.{AreOf};
 
+use indexmap::IndexMap;
 use std::alloc::{AllocError, Global};
-use std::collections::BTreeMap;
 use t1_font::Font;
 use t1_report::{
     Fault, Waivers, Walk, each_font_has_a_report, faults_after_the_first_mark_are_the_report,
@@ -20,9 +19,9 @@ use t1_report::{
 };
 use t1_rules::{INDEXES, Mask, Sidebearings};
 
-/// How often faults of a group were found, by the group's number: faults of one rule in one glyph, at one key of the font or at one waiver are
-/// a group.
-pub type Counts = BTreeMap<u64, u64>;
+/// How often faults of a group were found, by the group's number, in the order of their first faults: faults of one rule in one glyph, at one
+/// key of the font or at one waiver are a group.
+pub type Counts = IndexMap<u64, u64>;
 
 /// The number of a fault's group.
 pub fn group_of(font: &Font<'_>, fault: &Fault) -> u64
@@ -51,16 +50,18 @@ fn part_of(font: &Font<'_>, fault: &Fault) -> u32
 
 /// How often a group was counted.
 pub fn count_of(counts: &Counts, group: u64) -> u64
-    ensures { result ≡ count_at (tree.get nat_cmp counts.now) group }
+    ensures { result ≡ count_at (get nat_eq counts.now) group }
 {
     counts.get(&group).copied().unwrap_or(0)
 }
 
 /// Counts a group once more.
 fn bump(counts: &mut Counts, group: u64) -> Result<(), AllocError>
-    requires { count_at (tree.get nat_cmp counts.old) group + 1 < 2 ^ 64 }
-    ensures { OnOk result ((g : ℕ) → count_at (tree.get nat_cmp counts.new) g
-        ≡ count_at (tree.get nat_cmp counts.old) g + (if nat_eq group g then 1 else 0)) }
+    requires { count_at (get nat_eq counts.old) group + 1 < 2 ^ 64 }
+    ensures counts { OnOk result ((g : ℕ) → count_at (get nat_eq counts.new) g
+        ≡ count_at (get nat_eq counts.old) g + (if nat_eq group g then 1 else 0)) }
+    ensures entries { OnOk result (counts.new.entries
+        ≡ insert_entry nat_eq counts.old.entries group (count_at (get nat_eq counts.old) group + 1)) }
 {
     let next = count_of(counts, group) + 1;
     counts.insert(group, next)?;
@@ -79,14 +80,14 @@ pub fn count_groups<'a>(
     requires few_waivers { length waivers.now ≤ largest_waivers }
     requires sidebearings { AreOf font.now sidebearings.now }
     ensures { IfOk result (λ counts. CountsReport rules (checked font.now sidebearings.now.edition) waivers.now
-        (count_at (tree.get nat_cmp counts))) }
+        (count_at (get nat_eq counts)) counts.entries) }
 {
     // The calls of laws do nothing: the proof cites what they ensure.
     each_font_has_a_report();
     faults_after_the_first_mark_are_the_report();
     marks_count_the_faults_given();
     let mut walk = Walk::begin(font, sidebearings, waivers);
-    let mut counts = BTreeMap::new(alloc);
+    let mut counts = IndexMap::new(alloc);
     for _fault in 0..u64::MAX {
         let Some(fault) = walk.next() else {
             break;

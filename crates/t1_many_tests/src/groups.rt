@@ -3,8 +3,8 @@
 ghost use Rattle.std.specs.Prelude.{◌≤◌, length};
 ghost use Rattle.t1_font.specs.Bounds.{most_glyphs};
 
+use indexmap::IndexMap;
 use std::alloc::Global;
-use std::collections::BTreeMap;
 use std::test::Fail;
 use t1_char::Edition;
 use t1_font::Font;
@@ -38,7 +38,7 @@ fn write(alloc: Global, font: &Font<'_>) -> Result<Written, Fail>
     let waivers = Waivers::none();
     let rules = told_rules(&[], &[b"C07"]);
     let found = count_groups(alloc, &*font, &sidebearings, &waivers, rules)?;
-    let mut known = BTreeMap::new(alloc);
+    let mut known = IndexMap::new(alloc);
     known.insert(group(Rule::P03), 1)?;
     known.insert(group(Rule::C05), 1)?;
     let mut text = Vec::new(alloc);

@@ -1,13 +1,11 @@
-use Rattle.std.proofs.Common.{◌+◌, ◌∙◌, ℕ, BTreeMap, List, ap, arith, cond, nat_eq, subst, sym}
-use Rattle.std.specs.BTreeMap as tree
+use Rattle.std.proofs.Common.{◌+◌, ◌∙◌, ℕ, List, ap, arith, cond, nat_eq, subst, sym}
+use Rattle.indexmap.specs.IndexMap.{get, insert_entry}
 use Rattle.std.specs.Map.{count_at}
-use Rattle.std.specs.Ordering.{nat_cmp}
 use Rattle.t1_many.proofs.GivenFaults.{all_given, most_given}
-use Rattle.t1_many.proofs.GroupCounts.{HaveCounted, one_counted, one_left}
+use Rattle.t1_many.proofs.GroupCounts.{AreCountedIn, HaveCounted, one_counted, one_left}
 use Rattle.t1_many.proofs.groups.count_groups.Goals as goal
 use Rattle.t1_many.proofs.groups.count_groups.Goals.{then-has+in_ok-bump, else-has, else-loop-fault-test, then-loop-fault-test+in_default}
-use Rattle.t1_many.specs.Groups.{found_in}
-use Rattle.t1_many.specs.Groups.{told_faults}
+use Rattle.t1_many.specs.Groups.{found_in, groups_of, told_faults}
 use Rattle.t1_report.specs.Checked.{CheckedFont, checked}
 use Rattle.t1_report.specs.Faults.{FaultValue, fault_value}
 use Rattle.t1_report.specs.WalkViews.{WalkView}
@@ -26,20 +24,22 @@ loop-fault-preserved c =
       font = ap (λ (w : WalkView). w.font) c.in-Some.ensures.state ∙ c.loop-fault.invariant.font;
       waivers = ap (λ (w : WalkView). w.waivers) c.in-Some.ensures.state ∙ c.loop-fault.invariant.waivers;
       have = subst (λ (mark : Mark). HaveCounted c.args.rules font c.args.waivers.now (c.loop-fault._fault + 1) mark
-          (count_at (tree.get nat_cmp c.if-has.counts)))
+          (count_at (get nat_eq c.if-has.counts)) c.if-has.counts.entries)
           (sym (ap (λ (w : WalkView). w.mark) c.in-Some.ensures.state))
           (elim c.if-has.branch [
             | then-has+in_ok-bump w ↦
-                subst (λ (m : BTreeMap ℕ ℕ). HaveCounted c.args.rules font c.args.waivers.now (c.loop-fault._fault + 1)
-                (mark_of (fault_value c.in-Some.fault)) (count_at (tree.get nat_cmp m))) (sym w.counts-is)
-                (one_counted c.args.rules font c.args.waivers.now c.loop-fault._fault c.loop-fault.walk.mark _ c.loop-fault.invariant.have
+                subst (AreCountedIn c.args.rules font c.args.waivers.now (c.loop-fault._fault + 1)
+                (mark_of (fault_value c.in-Some.fault))) (sym w.counts-is)
+                (one_counted c.args.rules font c.args.waivers.now c.loop-fault._fault c.loop-fault.walk.mark _ _ c.loop-fault.invariant.have
                 (fault_value c.in-Some.fault) next _ (sym c.has.ensures ∙ w.if-has.true)
-                (λ group. w.in_ok-bump.ensures group
-                ∙ ap (λ (k : ℕ). count_at (tree.get nat_cmp c.loop-fault.counts) group + cond (nat_eq k group) 1 0) w.group_of.ensures))
+                (λ group. w.in_ok-bump.ensures.counts group
+                ∙ ap (λ (k : ℕ). count_at (get nat_eq c.loop-fault.counts) group + cond (nat_eq k group) 1 0) w.group_of.ensures) _
+                (w.in_ok-bump.ensures.entries
+                ∙ ap (λ (k : ℕ). insert_entry nat_eq c.loop-fault.counts.entries k (count_at (get nat_eq c.loop-fault.counts) k + 1)) w.group_of.ensures))
             | else-has w ↦
-                subst (λ (m : BTreeMap ℕ ℕ). HaveCounted c.args.rules font c.args.waivers.now (c.loop-fault._fault + 1)
-                (mark_of (fault_value c.in-Some.fault)) (count_at (tree.get nat_cmp m))) (sym w.counts-is)
-                (one_left c.args.rules font c.args.waivers.now c.loop-fault._fault c.loop-fault.walk.mark _ c.loop-fault.invariant.have
+                subst (AreCountedIn c.args.rules font c.args.waivers.now (c.loop-fault._fault + 1)
+                (mark_of (fault_value c.in-Some.fault))) (sym w.counts-is)
+                (one_left c.args.rules font c.args.waivers.now c.loop-fault._fault c.loop-fault.walk.mark _ _ c.loop-fault.invariant.have
                 (fault_value c.in-Some.fault) next (sym c.has.ensures ∙ w.if-has.false))
           ]);
     }
@@ -58,6 +58,7 @@ returns c =
             some.1,
             λ group. have.found group
                 ∙ ap (λ (fs : List FaultValue). found_in c.args.font.now (told_faults c.args.rules fs) group) same,
+            have.groups_are ∙ ap (λ (fs : List FaultValue). groups_of c.args.font.now (told_faults c.args.rules fs)) same,
           )
       | then-loop-fault-test+in_default w ↦
           let none : HasNoneLater font c.args.waivers.now c.loop-fault.walk.mark =
@@ -68,5 +69,6 @@ returns c =
             all_given font c.args.waivers.now c.requires.few c.requires.few_waivers c.faults_after_the_first_mark_are_the_report.ensures
                 have.given c.loop-fault._fault c.loop-fault.walk.mark have.is none,
             have.found,
+            have.groups_are,
           )
     ]
