@@ -42,7 +42,7 @@ use Rattle.t1_rules.specs.Keys.{index_count, key_count, key_text_of}
 use Rattle.t1_rules.specs.declared.rule.Rule.{Rule}
 use Rattle.t1_rules.specs.declared.rule.Rule.TheVariants.{F01}
 
-small_number : (rule : Rule) → number_of rule < 128
+pub small_number : (rule : Rule) → number_of rule < 128
 small_number F01 = omega arith
 small_number _ = omega arith
 
@@ -62,7 +62,7 @@ waiver_named (v ∷ waivers) (suc i) w names at =
 
 module _ (font : FontValue) (waivers : List Waiver) where
   -- Where a fault stands.
-  data IsPlaced (fault : FaultValue) : Type 0 where
+  pub data IsPlaced (fault : FaultValue) : Type 0 where
     in_font :
         fault.unit ≡ 0 → part_of font fault ≡ fault.step / index_count → fault.step / index_count < key_count
         → place_in font waivers fault ≡ at_key (fault.step / index_count) (fault.step % index_count) → IsPlaced fault
@@ -73,7 +73,7 @@ module _ (font : FontValue) (waivers : List Waiver) where
         1 ≤ fault.unit → fault.unit ≤ length font.glyphs → part_of font fault ≡ 0
         → place_in font waivers fault ≡ at_step (glyph_name font (fault.unit - 1)) fault.path fault.step → IsPlaced fault
 
-  placed : (fault : FaultValue) → IsInFont font waivers fault → IsPlaced fault
+  pub placed : (fault : FaultValue) → IsInFont font waivers fault → IsPlaced fault
   placed fault there = elim (cases_Bool (fault.unit == 0)) [
     | inl first ↦ (let is : fault.unit ≡ 0 = grind (arith, nat_tests, first) in
         in_font is (rw first refl) (there.key is) (rw first refl))
@@ -93,11 +93,11 @@ module _ (font : FontValue) (waivers : List Waiver) where
     ]
   ]
 
-  abbrev kind_in : FaultValue → List ℕ
+  abbrev pub kind_in : FaultValue → List ℕ
   kind_in fault = kind_of (line_in font waivers fault)
 
   module _ (few_waivers : length waivers ≤ 1048576) where
-    small_part : (fault : FaultValue) → IsPlaced fault → part_of font fault < 4294967296
+    pub small_part : (fault : FaultValue) → IsPlaced fault → part_of font fault < 4294967296
     small_part fault (in_font unit part key place) = omega (arith, part, key)
     small_part fault (in_waivers w unit part low high at place) = omega (arith, part, high, few_waivers)
     small_part fault (in_glyph low high part place) = omega (arith, part)

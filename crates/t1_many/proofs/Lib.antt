@@ -6,8 +6,10 @@ pub mod GivenFaults
 pub mod GroupCounts
 pub mod GroupKinds
 pub mod GroupOrder
+pub mod GroupTexts
 pub mod Handed
 pub mod HandedReports
+pub mod KindTexts
 pub mod Letters
 pub mod LineKinds
 pub mod Opened

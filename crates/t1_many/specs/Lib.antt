@@ -2,6 +2,7 @@ pub mod Beyond
 pub mod Choice
 pub mod Ends
 pub mod Files
+pub mod GroupRows
 pub mod Groups
 pub mod Handing
 pub mod KnownFaults

@@ -12,6 +12,7 @@ mod form;
 mod found;
 mod groups;
 mod handing;
+mod kinds;
 mod laws;
 mod one_font;
 mod plain;
@@ -27,6 +28,7 @@ pub use choice::told_rules;
 pub use form::Form;
 pub use found::Found;
 pub use groups::{Counts, count_groups, count_of, group_of};
+pub use kinds::push_rows;
 pub use laws::{
     a_text_is_one_row, an_update_is_quiet, codes_pick_their_rules, groups_are_kinds,
     parts_are_the_whole, plain_lines_are_written,

@@ -1,0 +1,108 @@
+//! The rows of known faults that are written of a font's groups.
+
+ghost use Rattle.std.specs.Prelude.{◌≡◌, ◌≤◌, ◌-◌, [], ◌∷◌, ◌++◌, codes, OnOk, List, Some, length, slice_get};
+ghost use Rattle.std.specs.List.{AllByRecursion, concat, flat_map};
+ghost use Rattle.t1_lines.specs.Lines.{line_in};
+ghost use Rattle.t1_many.specs.GroupRows.{group_rows, row_at};
+ghost use Rattle.t1_many.specs.Groups.{group_of, groups_of};
+ghost use Rattle.t1_many.specs.KnownFaults.{kind_of, row_text};
+ghost use Rattle.t1_report.specs.Faults.{FaultValue};
+ghost use Rattle.t1_report.specs.Lines.{IsInFont};
+ghost use Rattle.t1_report.specs.Waivers.{Waiver, largest_waivers};
+ghost use Rattle.t1_rules.specs.Book.{code_of};
+
+use crate::groups::Counts;
+use std::alloc::{AllocError, Global};
+use t1_font::Font;
+use t1_report::Waivers;
+use t1_rules::{Rule, key_text, rule_code};
+
+/// Appends the rows of known faults of a font's groups, `COUNT KIND FONT` each, in the order of their first faults.
+pub fn push_rows(
+    alloc: Global,
+    text: &mut Vec<u8>,
+    name: &str,
+    font: &Font<'_>,
+    waivers: &Waivers<'_>,
+    counts: &Counts,
+) -> Result<(), AllocError>
+    requires few_waivers { length waivers.now ≤ largest_waivers }
+    ensures { (faults : List FaultValue) → AllByRecursion (IsInFont font.now waivers.now) faults
+        → counts.now.entries ≡ groups_of font.now faults
+        → OnOk result (text.new.items ≡ text.old.items ++ flat_map row_text (group_rows name.now font.now waivers.now faults)) }
+{
+    for place in 0..counts.len() {
+        let Some((group, count)) = counts.get_index(place) else {
+            break;
+        };
+        push_row(alloc, text, name, font, waivers, *group, *count)?;
+    }
+    Ok(())
+}
+
+/// Appends the row of a group that is found so often.
+fn push_row(
+    alloc: Global,
+    text: &mut Vec<u8>,
+    name: &str,
+    font: &Font<'_>,
+    waivers: &Waivers<'_>,
+    group: u64,
+    count: u64,
+) -> Result<(), AllocError>
+    requires few_waivers { length waivers.now ≤ largest_waivers }
+    ensures { (fault : FaultValue) → IsInFont font.now waivers.now fault → group_of font.now fault ≡ group
+        → OnOk result (text.new.items ≡ text.old.items ++ row_text (row_at name.now font.now waivers.now count fault)) }
+{
+    let digits = count.to_string(alloc)?;
+    push_two(text, digits.as_bytes(), b" ")?;
+    push_kind(text, font, waivers, group)?;
+    push_two(text, b" ", name.as_bytes())?;
+    text.extend_from_slice(b"\n")
+}
+
+/// Appends the kind of a group of a font's faults: `H02 glyph A`, `Z04 font BlueValues`, `U01 waiver A P01`.
+fn push_kind(
+    text: &mut Vec<u8>,
+    font: &Font<'_>,
+    waivers: &Waivers<'_>,
+    group: u64,
+) -> Result<(), AllocError>
+    requires few_waivers { length waivers.now ≤ largest_waivers }
+    ensures { (fault : FaultValue) → IsInFont font.now waivers.now fault → group_of font.now fault ≡ group
+        → OnOk result (text.new.items ≡ text.old.items ++ kind_of (line_in font.now waivers.now fault)) }
+{
+    let Some(rule) = Rule::from_number((group % 128) as u8) else {
+        return Ok(());
+    };
+    text.extend_from_slice(rule_code(rule).as_bytes())?;
+    let unit = group / 128 / 4_294_967_296;
+    let part = group / 128 % 4_294_967_296;
+    if unit == 0 {
+        push_two(text, b" font ", key_text(part.min(255) as u8).as_bytes())
+    } else if unit as usize == font.glyphs().len() + 1 {
+        push_waiver(text, waivers, part as usize)
+    } else {
+        push_two(text, b" glyph ", font.glyph_name(unit as usize - 1))
+    }
+}
+
+/// Appends the waiver of a place, from 1, as the unit of a kind.
+fn push_waiver(text: &mut Vec<u8>, waivers: &Waivers<'_>, place: usize) -> Result<(), AllocError>
+    ensures { (w : Waiver) → slice_get waivers.now (place - 1) ≡ Some w
+        → OnOk result (text.new.items ≡ text.old.items ++ concat (codes " waiver " ∷ w.0 ∷ codes " " ∷ code_of w.1 ∷ [])) }
+{
+    let Some((name, rule)) = waivers.pair(place.saturating_sub(1)) else {
+        return Ok(());
+    };
+    push_two(text, b" waiver ", name)?;
+    push_two(text, b" ", rule_code(rule).as_bytes())
+}
+
+/// Appends a text, and another one behind it.
+fn push_two(text: &mut Vec<u8>, front: &[u8], end: &[u8]) -> Result<(), AllocError>
+    ensures { OnOk result (text.new.items ≡ text.old.items ++ concat (front.now ∷ end.now ∷ [])) }
+{
+    text.extend_from_slice(front)?;
+    text.extend_from_slice(end)
+}

@@ -1,0 +1,7 @@
+pub mod Counts
+pub mod EachAdded
+pub mod EachTally
+pub mod NumberLines
+pub mod Orders
+pub mod RuleLines
+pub mod TallyCounts

@@ -1,0 +1,7 @@
+pub mod Classes
+pub mod Laws
+pub mod Numbers
+pub mod Private
+pub mod Rankings
+pub mod Summaries
+pub mod Tallies

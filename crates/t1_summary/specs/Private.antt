@@ -1,0 +1,4 @@
+-- What private functions do.
+pub mod Lines
+pub mod Numbers
+pub mod Sums

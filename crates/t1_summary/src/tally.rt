@@ -1,0 +1,108 @@
+//! The numbers of fonts and of lines.
+
+ghost use Rattle.std.specs.Prelude.{◌≡◌, ◌≤◌, [], ◌∷◌, ◌++◌, List, length};
+ghost use Rattle.t1_rules.specs.declared.rule.Rule.{Rule};
+ghost use Rattle.t1_summary.specs.Private.Sums.{each_added};
+ghost use Rattle.t1_summary.specs.Tallies.{all_fonts, fonts_in, lines_in, tally_of};
+ghost use Rattle.t1_summary.specs.declared.found.Found.{Found};
+
+use crate::found::Found;
+use t1_rules::Rule;
+
+/// The number of classes of fonts.
+pub(crate) const CLASSES: usize = 5;
+
+/// The number of rules.
+pub(crate) const RULES: usize = 70;
+
+/// Numbers of fonts by how they were found, and of lines by their rules. A number stays at 2^64 - 1 once it is there.
+#[derive(Clone, Copy, Debug, PartialEq, Eq)]
+pub struct Tally {
+    /// By [`Found::place`].
+    pub(crate) fonts: [u64; CLASSES],
+    /// By the rule's number, less 1.
+    pub(crate) lines: [u64; RULES],
+}
+
+impl Tally {
+    /// The tally of no font and no line.
+    pub fn new() -> Tally
+        ensures { result ≡ tally_of [] [] }
+    {
+        Tally {
+            fonts: [0; CLASSES],
+            lines: [0; RULES],
+        }
+    }
+
+    /// Counts one font more.
+    pub fn add(&mut self, found: Found)
+        ensures { (founds : List Found) (lines : List Rule)
+            → self.old ≡ tally_of founds lines → self.new ≡ tally_of (founds ++ found ∷ []) lines }
+    {
+        let place = found.place();
+        self.fonts[place] = self.fonts[place].saturating_add(1);
+    }
+
+    /// Counts one line of a rule more.
+    pub fn add_line(&mut self, rule: Rule)
+        ensures { (founds : List Found) (lines : List Rule)
+            → self.old ≡ tally_of founds lines → self.new ≡ tally_of founds (lines ++ rule ∷ []) }
+    {
+        let place = usize::from(rule.number()) - 1;
+        self.lines[place] = self.lines[place].saturating_add(1);
+    }
+
+    /// Adds the fonts and lines of another tally.
+    pub fn join(&mut self, other: &Tally)
+        ensures { (founds more_founds : List Found) (lines more_lines : List Rule)
+            → self.old ≡ tally_of founds lines → other.now ≡ tally_of more_founds more_lines
+            → self.new ≡ tally_of (founds ++ more_founds) (lines ++ more_lines) }
+    {
+        add_each(&mut self.fonts, &other.fonts);
+        add_each(&mut self.lines, &other.lines);
+    }
+
+    /// The number of fonts.
+    pub fn fonts(&self) -> u64
+        ensures { result ≡ all_fonts self.now }
+    {
+        let mut fonts: u64 = 0;
+        for count in &self.fonts {
+            fonts = fonts.saturating_add(*count);
+        }
+        fonts
+    }
+
+    /// The number of fonts that were found so.
+    pub fn fonts_found(&self, found: Found) -> u64
+        ensures { result ≡ fonts_in self.now found }
+    {
+        self.fonts[found.place()]
+    }
+
+    /// The number of lines of a rule.
+    pub fn lines_of(&self, rule: Rule) -> u64
+        ensures { result ≡ lines_in self.now rule }
+    {
+        self.lines[usize::from(rule.number()) - 1]
+    }
+}
+
+impl Default for Tally {
+    ghost is_default = { λ tally. tally ≡ tally_of [] [] };
+
+    fn default() -> Tally {
+        Tally::new()
+    }
+}
+
+/// Adds to each number the one at its index.
+fn add_each(numbers: &mut [u64], others: &[u64])
+    requires { length numbers.old ≤ length others.now }
+    ensures { numbers.new ≡ each_added numbers.old others.now }
+{
+    for (place, number) in numbers.iter_mut().enumerate() {
+        *number = number.saturating_add(others[place]);
+    }
+}

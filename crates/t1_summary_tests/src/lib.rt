@@ -1,0 +1,7 @@
+//! Tests of summaries, by public items of t1_summary alone. Expected values are worked out by hand.
+#![tactic(auto)]
+
+#[cfg(test)]
+mod numbers;
+#[cfg(test)]
+mod summaries;
