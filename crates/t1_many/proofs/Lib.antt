@@ -9,6 +9,7 @@ pub mod GroupOrder
 pub mod GroupTexts
 pub mod Handed
 pub mod HandedReports
+pub mod KindRows
 pub mod KindTexts
 pub mod Letters
 pub mod LineKinds

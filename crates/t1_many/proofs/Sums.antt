@@ -19,7 +19,7 @@ kept x xs true = omega arith
 kept x xs false = omega arith
 
 -- one element more
-count_cons : {X : Type 0} (p : X → Bool) (x : X) (xs : List X) → count_by p (x ∷ xs) ≡ one (p x) + count_by p xs
+pub count_cons : {X : Type 0} (p : X → Bool) (x : X) (xs : List X) → count_by p (x ∷ xs) ≡ one (p x) + count_by p xs
 count_cons p x xs =
     sym (length-filter p (x ∷ xs)) ∙ kept x (filter p xs) (p x) ∙ ap (λ (n : ℕ). one (p x) + n) (length-filter p xs)
 

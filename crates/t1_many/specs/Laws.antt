@@ -10,14 +10,15 @@ use Rattle.t1_rules.specs.Book.{code_of, rules}
 use Rattle.t1_rules.specs.declared.rule.Rule.{Rule}
 use Rattle.t1_run.specs.Statuses.{exit_code_of}
 use Rattle.t1_run.specs.declared.status.Status.{Status}
-use Rattle.t1_many.specs.Groups.{group_of}
+use Rattle.t1_many.specs.Groups.{found_in, group_of}
+use Rattle.t1_many.specs.GroupRows.{group_rows}
 use Rattle.t1_many.specs.Handing.{Handed, HandsOn, done}
 use Rattle.t1_many.specs.Plain.{Devices, IsWritten, PlainTakes}
 use Rattle.t1_many.specs.declared.found.Found.{Found as FontFound}
 use Rattle.t1_many.specs.declared.recipient.Lost.{Lost}
 use Rattle.t1_many.specs.Outcomes.{IsRead}
 use Rattle.t1_many.specs.Choice.{Choice, is_told, letters_of, picks}
-use Rattle.t1_many.specs.KnownFaults.{IsKind, IsRow, Reading, RowValue, beyond, kind_of, kinds_in, row_text, rule_of, shortfall, updated}
+use Rattle.t1_many.specs.KnownFaults.{IsKind, IsRow, Reading, RowValue, beyond, found_count, kind_of, kinds_in, row_text, rows_of, rule_of, shortfall, updated}
 use Rattle.t1_many.specs.Shards.{first_parts}
 use Rattle.t1_many.specs.Statuses.{worse, worst_of}
 use Rattle.t1_many.specs.Summaries.{Found, clean, count_of, count_of_rules, faulty, known, refused, unchecked}
@@ -57,6 +58,21 @@ GroupsAreKinds =
     (font : FontValue) (waivers : List Waiver) (a b : FaultValue) → IsRead font waivers → IsInFont font waivers a → IsInFont font waivers b
     → (group_of font a ≡ group_of font b → kind_of (line_in font waivers a) ≡ kind_of (line_in font waivers b))
     × (kind_of (line_in font waivers a) ≡ kind_of (line_in font waivers b) → group_of font a ≡ group_of font b)
+
+-- So often a fault's group is found among faults as its kind is.
+abbrev pub GroupsCountKinds : Type 0
+GroupsCountKinds =
+    (font : FontValue) (waivers : List Waiver) (faults : List FaultValue) (fault : FaultValue) → IsRead font waivers
+    → AllByRecursion (IsInFont font waivers) faults → IsInFont font waivers fault
+    → found_in font faults (group_of font fault)
+    ≡ found_count (map (λ f. kind_of (line_in font waivers f)) faults) (kind_of (line_in font waivers fault))
+
+-- The rows of groups are those of kinds.
+abbrev pub GroupRowsAreKindRows : Type 0
+GroupRowsAreKindRows =
+    (name : List ℕ) (font : FontValue) (waivers : List Waiver) (faults : List FaultValue) → IsRead font waivers
+    → AllByRecursion (IsInFont font waivers) faults
+    → group_rows name font waivers faults ≡ rows_of name (map (λ fault. kind_of (line_in font waivers fault)) faults)
 
 -- No text is that of two rows.
 abbrev pub ATextIsOneRow : Type 0

@@ -1,6 +1,6 @@
 //! Laws above the definitions: each is the contract of a function that does nothing.
 
-ghost use Rattle.t1_many.specs.Laws.{ATextIsOneRow, ClassesAddUp, CodesPickTheirRule, GroupsAreKinds, JoinedAreWorse, KindsNameTheirRules, LettersPickTheirRules, LinesHaveKinds, NoLineIsBeyond, NoRowFallsShort, NoneIsWorse, PartsAreTheWhole, PlainIsFlushed, PlainIsWritten, RulesAddUp, WrittenWaiversAreRead};
+ghost use Rattle.t1_many.specs.Laws.{ATextIsOneRow, ClassesAddUp, CodesPickTheirRule, GroupRowsAreKindRows, GroupsAreKinds, GroupsCountKinds, JoinedAreWorse, KindsNameTheirRules, LettersPickTheirRules, LinesHaveKinds, NoLineIsBeyond, NoRowFallsShort, NoneIsWorse, PartsAreTheWhole, PlainIsFlushed, PlainIsWritten, RulesAddUp, WrittenWaiversAreRead};
 
 /// A code picks its rule alone, and the letters of a code pick the rules whose codes have these letters.
 #[tactic(auto, using(crate::proofs::Codes::codes_pick, crate::proofs::Codes::letters_pick))]
@@ -25,10 +25,13 @@ pub fn plain_lines_are_written()
     ensures flushed { PlainIsFlushed }
 {}
 
-/// Two faults of a font's report are of one group exactly where rows of known faults name one kind.
-#[tactic(auto, using(crate::proofs::GroupKinds::groups_are_kinds))]
+/// Two faults of a font's report are of one group exactly where rows of known faults name one kind. So groups are found as often as their
+/// kinds, and their rows are those of the kinds.
+#[tactic(auto, using(crate::proofs::GroupKinds::groups_are_kinds, crate::proofs::KindRows::groups_count_kinds, crate::proofs::KindRows::rows_are_kind_rows))]
 pub fn groups_are_kinds()
-    ensures { GroupsAreKinds }
+    ensures groups { GroupsAreKinds }
+    ensures counts { GroupsCountKinds }
+    ensures rows { GroupRowsAreKindRows }
 {}
 
 /// The parts of a list, one behind the other, are the list.
