@@ -11,7 +11,7 @@ use Rattle.t1_many.specs.Files.{Given, IsFound}
 use Rattle.t1_many.specs.Files.IsFound.{breaks, breaks_waivers, no_memory, refused, reports, waivers_refused}
 use Rattle.t1_many.specs.Outcomes.{Entry, Outcome, Report, failed, reported}
 use Rattle.t1_many.specs.Private.Checking.{Checks, of_bytes, of_files, of_font, of_text}
-use Rattle.t1_many.specs.declared.found.Found.{Found}
+use Rattle.t1_summary.specs.declared.found.Found.{Found}
 use Rattle.t1_many.specs.declared.recipient.Lost.{Lost}
 use Rattle.t1_report.specs.Checked.{checked}
 use Rattle.t1_report.specs.Faults.{FaultValue}

@@ -12,7 +12,7 @@ use Rattle.t1_many.specs.Files.{Files, IsFound, given_of}
 use Rattle.t1_many.specs.Outcomes.{Entry, Outcome, status_of_found}
 use Rattle.t1_many.specs.Private.Checking.{TakesOne}
 use Rattle.t1_many.specs.Statuses.{worse, worst_of}
-use Rattle.t1_many.specs.declared.found.Found.{Found}
+use Rattle.t1_summary.specs.declared.found.Found.{Found}
 use Rattle.t1_many.specs.declared.recipient.Lost.{Lost}
 use Rattle.t1_run.specs.declared.status.Status.{Status}
 use Rattle.t1_run.specs.declared.status.Status.TheVariants.{Clean}

@@ -8,7 +8,7 @@ use Rattle.std.specs.Str.{bytes_eq}
 use Rattle.t1_font.specs.Fonts.{FontValue}
 use Rattle.t1_lines.specs.Lines.{line_in}
 use Rattle.t1_many.proofs.GroupKinds.{groups_are_kinds}
-use Rattle.t1_many.proofs.Sums.{count_cons}
+use Rattle.t1_many.proofs.CountsOf.{count_cons}
 use Rattle.t1_many.proofs.Texts.{equal, itself}
 use Rattle.t1_many.specs.GroupRows.{group_rows, row_at}
 use Rattle.t1_many.specs.Groups.{firsts, found_in, group_of}

@@ -1,5 +1,6 @@
 pub mod BeyondLines
 pub mod Codes
+pub mod CountsOf
 pub mod Endings
 pub mod Entries
 pub mod GivenFaults
@@ -21,7 +22,6 @@ pub mod Quiet
 pub mod ReportLines
 pub mod Rows
 pub mod RowsRead
-pub mod Sums
 pub mod TellsAll
 pub mod Texts
 pub mod WaiversOnce

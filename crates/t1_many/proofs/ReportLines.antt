@@ -7,8 +7,8 @@ use Rattle.std.specs.Result.{IfOk, IsErrAnd}
 use Rattle.t1_many.proofs.GivenFaults.{IsGiven, begin_with, most_given, none_given, one_given}
 use Rattle.t1_many.proofs.Handed.{handed-append, handed-one, handed-stopped}
 use Rattle.t1_many.specs.Handing.{Handed, HandsOn, found_by, found_with, is_told, line, lines_by, lost_of}
-use Rattle.t1_many.specs.declared.found.Found.{Found}
-use Rattle.t1_many.specs.declared.found.Found.TheVariants as founds
+use Rattle.t1_summary.specs.declared.found.Found.{Found}
+use Rattle.t1_summary.specs.declared.found.Found.TheVariants as founds
 use Rattle.t1_many.specs.declared.recipient.Lost.{Lost}
 use Rattle.t1_many.specs.declared.verdict.Verdict.{Verdict}
 use Rattle.t1_many.specs.declared.verdict.Verdict.TheVariants.{Known, Left, Told}

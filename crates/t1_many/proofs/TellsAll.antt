@@ -11,7 +11,7 @@ use Rattle.t1_many.specs.Outcomes.{Entry, Report}
 use Rattle.t1_many.specs.Told.{TellsAll, all_handed, founds_of}
 use Rattle.t1_many.specs.Told.TellsAll.{cut_short, whole}
 use Rattle.t1_many.specs.Verdicts.{of_rules}
-use Rattle.t1_many.specs.declared.found.Found.{Found}
+use Rattle.t1_summary.specs.declared.found.Found.{Found}
 use Rattle.t1_many.specs.declared.recipient.Lost.{Lost}
 use Rattle.t1_many.specs.declared.verdict.Verdict.{Verdict}
 use Rattle.t1_report.specs.Faults.{FaultValue}

@@ -3,7 +3,7 @@ use Rattle.std.specs.Prelude.{◌≡◌, ℕ, nat_lt, Bool, List, [], ◌∷◌,
 use Rattle.t1_font.specs.Fonts.{FontValue}
 use Rattle.t1_many.specs.Groups.{found_in, group_of, told_faults}
 use Rattle.t1_many.specs.Handing.{Handed, HandsOn, done, found_by, lines_by, lost_of}
-use Rattle.t1_many.specs.declared.found.Found.{Found}
+use Rattle.t1_summary.specs.declared.found.Found.{Found}
 use Rattle.t1_many.specs.declared.recipient.Lost.{Lost}
 use Rattle.t1_many.specs.declared.verdict.Verdict.{Verdict}
 use Rattle.t1_many.specs.declared.verdict.Verdict.TheVariants.{Known, Left, Told}

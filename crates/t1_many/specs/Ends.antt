@@ -5,7 +5,7 @@ use Rattle.t1_char.specs.declared.edition.Edition.{Edition}
 use Rattle.t1_many.specs.Files.{Files, IsFound, given_of}
 use Rattle.t1_many.specs.Outcomes.{Entry, status_of_found}
 use Rattle.t1_many.specs.Statuses.{worst_of}
-use Rattle.t1_many.specs.declared.found.Found.{Found}
+use Rattle.t1_summary.specs.declared.found.Found.{Found}
 use Rattle.t1_many.specs.declared.recipient.Lost.{Lost}
 use Rattle.t1_run.specs.declared.status.Status.{Status}
 

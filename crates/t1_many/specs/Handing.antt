@@ -2,8 +2,8 @@
 use Rattle.std.specs.Prelude.{◌≡◌, ◌⊎◌, ℕ, List, [], ◌∷◌, ◌++◌, filter, map, Bool, true, false, Option, None, Some, Result, Ok, Err, IfOk}
 use Rattle.t1_font.specs.Fonts.{FontValue}
 use Rattle.t1_many.specs.Outcomes.{Entry, Outcome, Report, failed, found_of_failure, reported}
-use Rattle.t1_many.specs.declared.found.Found.{Found}
-use Rattle.t1_many.specs.declared.found.Found.TheVariants.{Clean, Faulty, Known, Refused, Unchecked}
+use Rattle.t1_summary.specs.declared.found.Found.{Found}
+use Rattle.t1_summary.specs.declared.found.Found.TheVariants.{Clean, Faulty, Known, Refused, Unchecked}
 use Rattle.t1_many.specs.declared.recipient.Lost.{Lost}
 use Rattle.t1_many.specs.declared.verdict.Verdict.{Verdict}
 use Rattle.t1_many.specs.declared.verdict.Verdict.TheVariants as verdicts

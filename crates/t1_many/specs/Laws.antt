@@ -6,7 +6,7 @@ use Rattle.t1_lines.specs.Lines.{FaultLineValue, IsFaultLine, PlaceValue, at_key
 use Rattle.t1_report.specs.Faults.{FaultValue}
 use Rattle.t1_report.specs.Lines.{IsInFont}
 use Rattle.t1_report.specs.Waivers.{Waiver, is_waivable, waivers_of}
-use Rattle.t1_rules.specs.Book.{code_of, rules}
+use Rattle.t1_rules.specs.Book.{code_of}
 use Rattle.t1_rules.specs.declared.rule.Rule.{Rule}
 use Rattle.t1_run.specs.Statuses.{exit_code_of}
 use Rattle.t1_run.specs.declared.status.Status.{Status}
@@ -14,14 +14,13 @@ use Rattle.t1_many.specs.Groups.{found_in, group_of}
 use Rattle.t1_many.specs.GroupRows.{group_rows}
 use Rattle.t1_many.specs.Handing.{Handed, HandsOn, done}
 use Rattle.t1_many.specs.Plain.{Devices, IsWritten, PlainTakes}
-use Rattle.t1_many.specs.declared.found.Found.{Found as FontFound}
+use Rattle.t1_summary.specs.declared.found.Found.{Found}
 use Rattle.t1_many.specs.declared.recipient.Lost.{Lost}
 use Rattle.t1_many.specs.Outcomes.{IsRead}
 use Rattle.t1_many.specs.Choice.{Choice, is_told, letters_of, picks}
 use Rattle.t1_many.specs.KnownFaults.{IsKind, IsRow, Reading, RowValue, beyond, found_count, kind_of, kinds_in, row_text, rows_of, rule_of, shortfall, updated}
 use Rattle.t1_many.specs.Shards.{first_parts}
 use Rattle.t1_many.specs.Statuses.{worse, worst_of}
-use Rattle.t1_many.specs.Summaries.{Found, clean, count_of, count_of_rules, faulty, known, refused, unchecked}
 use Rattle.t1_many.specs.WrittenWaivers.{waivers_of_lines, waivers_text}
 
 -- A code picks its rule alone.
@@ -49,7 +48,7 @@ PlainIsWritten =
 -- Behind the last font nothing waits to be flushed.
 abbrev pub PlainIsFlushed : Type 0
 PlainIsFlushed =
-    (old new : Devices) (handed : List Handed) (name : List ℕ) (found : FontFound)
+    (old new : Devices) (handed : List Handed) (name : List ℕ) (found : Found)
     → HandsOn PlainTakes old new (handed ++ done name found ∷ []) None → new.out.flushed ≡ true
 
 -- Two faults of a font's report are of one group exactly where they are of one kind.
@@ -122,14 +121,3 @@ NoneIsWorse = (statuses : List Status) → AllByRecursion (λ status. exit_code_
 -- The greatest of two lists together is the greater of theirs.
 abbrev pub JoinedAreWorse : Type 0
 JoinedAreWorse = (statuses more : List Status) → worst_of (statuses ++ more) ≡ worse (worst_of statuses) (worst_of more)
-
--- The five classes of fonts add up to the fonts.
-abbrev pub ClassesAddUp : Type 0
-ClassesAddUp =
-    (founds : List Found)
-    → count_of clean founds + count_of known founds + count_of faulty founds + count_of refused founds + count_of unchecked founds
-    ≡ length founds
-
--- The lines of all rules add up to the lines.
-abbrev pub RulesAddUp : Type 0
-RulesAddUp = (lines : List FaultLineValue) → count_of_rules lines rules ≡ length lines

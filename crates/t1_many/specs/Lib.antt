@@ -1,5 +1,6 @@
 pub mod Beyond
 pub mod Choice
+pub mod Counting
 pub mod Ends
 pub mod Files
 pub mod GroupRows
@@ -13,7 +14,6 @@ pub mod Private
 pub mod RowValues
 pub mod Shards
 pub mod Statuses
-pub mod Summaries
 pub mod Told
 pub mod Verdicts
 pub mod WrittenWaivers

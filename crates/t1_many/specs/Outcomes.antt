@@ -3,8 +3,8 @@ use Rattle.std.specs.Prelude.{◌≡◌, ◌≤◌, ℕ, List, length, Option, S
 use Rattle.t1_font.specs.Bounds.{most_glyphs}
 use Rattle.t1_font.specs.FontFiles.{font_in}
 use Rattle.t1_font.specs.Fonts.{FontValue}
-use Rattle.t1_many.specs.declared.found.Found.{Found}
-use Rattle.t1_many.specs.declared.found.Found.TheVariants as founds
+use Rattle.t1_summary.specs.declared.found.Found.{Found}
+use Rattle.t1_summary.specs.declared.found.Found.TheVariants as founds
 use Rattle.t1_many.specs.declared.recipient.Lost.{Lost}
 use Rattle.t1_report.specs.Checked.{CheckedFont}
 use Rattle.t1_report.specs.Faults.{FaultValue}

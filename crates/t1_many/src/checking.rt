@@ -6,6 +6,7 @@ ghost use Rattle.t1_many.specs.Ends.{Ends};
 ghost use Rattle.t1_many.specs.Files.{files_by, given_of};
 ghost use Rattle.t1_many.specs.Private.Checking.{Checks, TakesOne};
 
+use crate::found::status_of;
 use crate::one_font::check_opened;
 use crate::recipient::{Lost, Recipient, Taken};
 use crate::status::worse;
@@ -48,7 +49,7 @@ where
             edition,
             recipient,
         )?;
-        worst = worse(worst, found.status());
+        worst = worse(worst, status_of(found));
     }
     Ok(worst)
 }

@@ -5,7 +5,7 @@ ghost use Rattle.t1_many.specs.Handing.{Handed, done, failure, line, lost_of};
 ghost use Rattle.t1_report.specs.Faults.{fault_value};
 ghost use Rattle.t1_report.specs.Lines.{IsInFont};
 
-use crate::found::Found;
+use t1_summary::Found;
 use crate::recipient::Lost;
 use t1_font::Font;
 use t1_report::{Fault, Waivers};

@@ -1,45 +1,29 @@
-//! How fonts were found.
+//! How fonts were found, by how their checks ended.
 
 ghost use Rattle.std.specs.Prelude.{◌≡◌};
 ghost use Rattle.t1_many.specs.Outcomes.{found_of_failure, status_of_found};
 
 use t1_run::{Failure, Status};
+use t1_summary::Found;
 
-/// How a font was found.
-#[derive(Clone, Copy, Debug, PartialEq, Eq)]
-pub enum Found {
-    /// No line of it is told.
-    Clean,
-    /// All its lines that are told are known faults.
-    Known,
-    /// Lines of it were handed on.
-    Faulty,
-    /// It was refused.
-    Refused,
-    /// It wasn't checked.
-    Unchecked,
+/// The status of a run over one font that was found so.
+pub(crate) fn status_of(found: Found) -> Status
+    ensures { result ≡ status_of_found found }
+{
+    match found {
+        Found::Clean | Found::Known => Status::Clean,
+        Found::Faulty => Status::Faults,
+        Found::Refused => Status::Refused,
+        Found::Unchecked => Status::Failed,
+    }
 }
 
-impl Found {
-    /// The status of a run over this font alone.
-    pub fn status(self) -> Status
-        ensures { result ≡ status_of_found self }
-    {
-        match self {
-            Found::Clean | Found::Known => Status::Clean,
-            Found::Faulty => Status::Faults,
-            Found::Refused => Status::Refused,
-            Found::Unchecked => Status::Failed,
-        }
-    }
-
-    /// How a font was found of which there is no report.
-    pub fn of_failure(failure: Failure) -> Found
-        ensures { result ≡ found_of_failure failure }
-    {
-        match failure {
-            Failure::Refused(_) => Found::Refused,
-            Failure::Broken | Failure::Memory => Found::Unchecked,
-        }
+/// How a font was found of which there is no report.
+pub(crate) fn found_of(failure: Failure) -> Found
+    ensures { result ≡ found_of_failure failure }
+{
+    match failure {
+        Failure::Refused(_) => Found::Refused,
+        Failure::Broken | Failure::Memory => Found::Unchecked,
     }
 }

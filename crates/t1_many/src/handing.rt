@@ -8,7 +8,8 @@ ghost use Rattle.t1_report.specs.Waivers.{largest_waivers};
 ghost use Rattle.t1_rules.specs.Components.{AreOf};
 
 use crate::form::Form;
-use crate::found::Found;
+use crate::found::found_of;
+use t1_summary::Found;
 use crate::recipient::Taken;
 use crate::verdict::Judge;
 use t1_font::Font;
@@ -78,7 +79,7 @@ pub(crate) fn hand_failure<F: Form>(form: &mut F, name: &str, reason: Failure) -
     ensures { HandsFailure F.takes name.now reason form.old form.new result }
 {
     form.failure(name, reason)?;
-    let found = Found::of_failure(reason);
+    let found = found_of(reason);
     form.done(name, found)?;
     Ok(found)
 }

@@ -1,6 +1,6 @@
 //! Laws above the definitions: each is the contract of a function that does nothing.
 
-ghost use Rattle.t1_many.specs.Laws.{ATextIsOneRow, ClassesAddUp, CodesPickTheirRule, GroupRowsAreKindRows, GroupsAreKinds, GroupsCountKinds, JoinedAreWorse, KindsNameTheirRules, LettersPickTheirRules, LinesHaveKinds, NoLineIsBeyond, NoRowFallsShort, NoneIsWorse, PartsAreTheWhole, PlainIsFlushed, PlainIsWritten, RulesAddUp, WrittenWaiversAreRead};
+ghost use Rattle.t1_many.specs.Laws.{ATextIsOneRow, CodesPickTheirRule, GroupRowsAreKindRows, GroupsAreKinds, GroupsCountKinds, JoinedAreWorse, KindsNameTheirRules, LettersPickTheirRules, LinesHaveKinds, NoLineIsBeyond, NoRowFallsShort, NoneIsWorse, PartsAreTheWhole, PlainIsFlushed, PlainIsWritten, WrittenWaiversAreRead};
 
 /// A code picks its rule alone, and the letters of a code pick the rules whose codes have these letters.
 #[tactic(auto, using(crate::proofs::Codes::codes_pick, crate::proofs::Codes::letters_pick))]
@@ -58,10 +58,4 @@ pub fn an_update_is_quiet()
 #[tactic(auto, using(crate::proofs::WaiversRead::written_are_read))]
 pub fn written_waivers_are_read()
     ensures { WrittenWaiversAreRead }
-{}
-
-/// The five classes of fonts in a summary add up to the fonts, and the lines of its rules to the lines.
-pub fn summaries_add_up()
-    ensures classes { ClassesAddUp }
-    ensures rules { RulesAddUp }
 {}

@@ -8,6 +8,7 @@
 mod beyond;
 mod checking;
 mod choice;
+mod counted;
 mod form;
 mod found;
 mod groups;
@@ -25,14 +26,14 @@ mod verdict;
 pub use beyond::hand_beyond;
 pub use checking::check_all;
 pub use choice::told_rules;
+pub use counted::Counted;
 pub use form::Form;
-pub use found::Found;
 pub use groups::{Counts, count_groups, count_of, group_of};
 pub use kinds::push_rows;
 pub use laws::{
     a_text_is_one_row, an_update_is_quiet, codes_pick_their_rules, groups_are_kinds,
     parts_are_the_whole, plain_lines_are_written,
-    statuses_join, summaries_add_up, written_waivers_are_read,
+    statuses_join, written_waivers_are_read,
 };
 pub use plain::Plain;
 pub use recipient::{Lost, Recipient, Taken};

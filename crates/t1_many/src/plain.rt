@@ -8,7 +8,7 @@ ghost use Rattle.t1_run.specs.Failures.{refusal_line};
 ghost use Rattle.t1_many.specs.Handing.{lost_of};
 
 use crate::form::Form;
-use crate::found::Found;
+use t1_summary::Found;
 use crate::recipient::Lost;
 use t1_font::Font;
 use t1_io::{Sink, put_all, put_parts};

@@ -6,7 +6,7 @@ ghost use Rattle.t1_many.specs.declared.recipient.Lost.TheVariants.{Device};
 ghost use Rattle.t1_report.specs.Checked.{checked};
 ghost use Rattle.t1_rules.specs.Components.{AreOf};
 
-use crate::found::Found;
+use t1_summary::Found;
 use std::alloc::{AllocError, Global};
 use t1_font::Font;
 use t1_io::Broken;
@@ -36,7 +36,7 @@ pub type Taken = Result<Found, Lost>;
 
 /// What takes how the checks of fonts ended, one after another.
 pub trait Recipient {
-    ghost use Rattle.t1_many.specs.declared.found.Found.{Found};
+    ghost use Rattle.t1_summary.specs.declared.found.Found.{Found};
     ghost use Rattle.t1_many.specs.declared.recipient.Lost.{Lost};
 
     // It took how the check of a font ended, and found the font so; or it stopped there.

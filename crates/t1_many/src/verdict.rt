@@ -5,12 +5,12 @@ ghost use Rattle.t1_font.specs.Bounds.{most_glyphs};
 ghost use Rattle.t1_font.specs.Fonts.{FontValue};
 ghost use Rattle.t1_many.specs.Groups.{IsAt};
 ghost use Rattle.t1_many.specs.Handing.{found_with, is_told};
-ghost use Rattle.t1_many.specs.declared.found.Found.{Found as FoundValue};
+ghost use Rattle.t1_summary.specs.declared.found.Found.{Found as FoundValue};
 ghost use Rattle.t1_report.specs.Faults.{FaultValue, fault_value};
 ghost use Rattle.t1_rules.specs.Book.{number_of};
 ghost use Rattle.t1_rules.specs.Mask.{has};
 
-use crate::found::Found;
+use t1_summary::Found;
 use t1_font::Font;
 use t1_report::Fault;
 use t1_rules::Mask;

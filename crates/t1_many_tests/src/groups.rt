@@ -9,10 +9,11 @@ use std::test::Fail;
 use t1_char::Edition;
 use t1_font::Font;
 use t1_io::Out;
-use t1_many::{Counts, Found, Lost, Plain, count_groups, count_of, hand_beyond, told_rules};
+use t1_many::{Counts, Lost, Plain, count_groups, count_of, hand_beyond, told_rules};
 use t1_report::Waivers;
 use t1_rules::{Rule, Sidebearings};
 use t1_samples::{Sample, opened};
+use t1_summary::Found;
 
 /// The glyph of the number 32001, 0, hmoveto, and closepath twice, endchar.
 const FIVE_FAULTS: &[u8] = b"\xff\x00\x00\x7d\x01\x8b\x16\x09\x09\x0e";

@@ -10,7 +10,7 @@ use Rattle.t1_run.specs.WaiverFiles.{AreWaived, IsHeard, as_waivers}
 use Rattle.t1_run.specs.declared.failure.Failure.{Failure}
 use Rattle.t1_many.specs.Files.{Given, IsFound}
 use Rattle.t1_many.specs.Outcomes.{Entry, Outcome, Report, failed, reported}
-use Rattle.t1_many.specs.declared.found.Found.{Found}
+use Rattle.t1_summary.specs.declared.found.Found.{Found}
 use Rattle.t1_many.specs.declared.recipient.Lost.{Lost}
 
 -- A font that was read of a file's bytes.

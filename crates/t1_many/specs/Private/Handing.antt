@@ -2,7 +2,7 @@
 use Rattle.std.specs.Prelude.{◌≡◌, ℕ, List, [], ◌∷◌, ◌++◌, Option, Result, IfOk}
 use Rattle.t1_many.specs.Handing.{Handed, HandsOn, done, failure, found_by, lines_by, lost_of}
 use Rattle.t1_many.specs.Outcomes.{found_of_failure}
-use Rattle.t1_many.specs.declared.found.Found.{Found}
+use Rattle.t1_summary.specs.declared.found.Found.{Found}
 use Rattle.t1_many.specs.declared.recipient.Lost.{Lost}
 use Rattle.t1_many.specs.declared.verdict.Verdict.{Verdict}
 use Rattle.t1_report.specs.Checked.{CheckedFont}

@@ -25,7 +25,7 @@ pub loop-name-preserved : goal.loop-name-preserved
 loop-name-preserved g c =
     let files = files_by g.R.Source.state g.V.Source.state (FnReturnsAt g.O.Fn c.args.open_font) (FnReturnsAt g.P.Fn c.args.open_waivers) in
     subst (λ (w : Status). HaveGone g.T.Recipient.takes files c.args.edition (map string_bytes (take (c.loop-name.name-index + 1) c.args.names.now))
-    c.args.recipient.now c.check_one.new.recipient w) (sym (c.worse-worst.ensures ∙ ap (worse c.loop-name.worst) c.status.ensures))
+    c.args.recipient.now c.check_one.new.recipient w) (sym (c.worse-worst.ensures ∙ ap (worse c.loop-name.worst) c.status_of.ensures))
     (subst (λ (ns : List (List ℕ)). HaveGone g.T.Recipient.takes files c.args.edition ns c.args.recipient.now c.check_one.new.recipient
     (worse c.loop-name.worst (status_of_found c.in_ok-found.found)))
     (sym (names_next string_bytes c.args.names.now c.loop-name.name-index c.name-item.result c.loop-name-test.true c.name-item.is))

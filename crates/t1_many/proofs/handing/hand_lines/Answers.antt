@@ -4,7 +4,7 @@ use Rattle.t1_many.proofs.ReportLines.{HaveGone, lost_same, most_gone, no_ok, no
 use Rattle.t1_many.proofs.handing.hand_lines.Goals as goal
 use Rattle.t1_many.proofs.handing.hand_lines.Goals.{then-is_told+in_ok-line, else-is_told}
 use Rattle.t1_many.specs.Handing.{HandsOn, found_with, is_told, lines_by}
-use Rattle.t1_many.specs.declared.found.Found.{Found}
+use Rattle.t1_summary.specs.declared.found.Found.{Found}
 use Rattle.t1_many.specs.declared.recipient.Lost.{Lost}
 use Rattle.t1_many.specs.declared.verdict.Verdict.{Verdict}
 use Rattle.t1_report.specs.Checked.{CheckedFont, checked}

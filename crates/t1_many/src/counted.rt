@@ -1,0 +1,49 @@
+//! A form that counts what it hands on.
+
+ghost use Rattle.std.specs.Prelude.{◌≡◌, List, Option};
+ghost use Rattle.t1_many.specs.Counting.{Counts};
+ghost use Rattle.t1_many.specs.Handing.{Handed};
+
+use crate::form::Form;
+use crate::recipient::Lost;
+use t1_font::Font;
+use t1_report::{Fault, Waivers};
+use t1_run::Failure;
+use t1_summary::{Found, Tally};
+
+/// Hands on to a form, and counts the lines that it took, by their rules, and the fonts, by how they were found.
+#[derive(Drop)]
+pub struct Counted<F: Form> {
+    /// What was counted.
+    pub tally: Tally,
+    /// The form that takes what is handed on.
+    pub form: F,
+}
+
+impl<F: Form> Form for Counted<F> {
+    ghost use Rattle.t1_many.specs.declared.recipient.Lost.{Lost};
+
+    ghost takes = { λ old new handed lost. F.takes old.form new.form handed lost × Counts old.tally new.tally handed lost };
+
+    fn line(
+        &mut self,
+        name: &str,
+        font: &Font<'_>,
+        waivers: &Waivers<'_>,
+        fault: &Fault,
+    ) -> Result<(), Lost> {
+        self.form.line(name, font, waivers, fault)?;
+        self.tally.add_line(fault.rule);
+        Ok(())
+    }
+
+    fn failure(&mut self, name: &str, reason: Failure) -> Result<(), Lost> {
+        self.form.failure(name, reason)
+    }
+
+    fn done(&mut self, name: &str, found: Found) -> Result<(), Lost> {
+        self.form.done(name, found)?;
+        self.tally.add(found);
+        Ok(())
+    }
+}
