@@ -42,7 +42,7 @@ pub beyond : {F : Type 0} (takes : F → F → Handed → Option Lost → Type 0
     (font : CheckedFont) (waivers : List Waiver) (a b : F) (taken : Result Found Lost) → CountsReport rules font waivers found groups
     → HandsReport takes (λ fault. verdict_of (has rules (number_of fault.rule)) (nat_lt (known (group_of font.value fault)) (found (group_of font.value fault))))
     name font waivers a b taken → HandsBeyond takes known rules name font waivers a b taken
-beyond takes no_other known found groups rules name font waivers a b taken (counted, counted_is, count, in_order) (faults, is, handed, found_is) =
+beyond takes no_other known found groups rules name font waivers a b taken (counted, counted_is, there, count, in_order) (faults, is, handed, found_is) =
     let one : counted ≡ faults = no_other font waivers counted faults counted_is is in
     let by_found : FaultValue → Verdict = λ fault. verdict_of (has rules (number_of fault.rule))
     (nat_lt (known (group_of font.value fault)) (found (group_of font.value fault))) in

@@ -17,7 +17,7 @@ use Rattle.t1_many.specs.declared.recipient.Lost.{Lost}
 use Rattle.t1_run.specs.declared.status.Status.{Status}
 use Rattle.t1_run.specs.declared.status.Status.TheVariants.{Clean}
 
-all_push : {X : Type 0} (P : X → Type 0) (xs : List X) (x : X) → AllByRecursion P xs → P x → AllByRecursion P (xs ++ x ∷ [])
+pub all_push : {X : Type 0} (P : X → Type 0) (xs : List X) (x : X) → AllByRecursion P xs → P x → AllByRecursion P (xs ++ x ∷ [])
 all_push P [] x each is = (is, tt)
 all_push P (y ∷ ys) x (first, rest) is = (first, all_push P ys x rest is)
 

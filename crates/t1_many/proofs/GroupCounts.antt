@@ -2,6 +2,8 @@
 use Rattle.std.proofs.Common.{◌≡◌, ◌≤◌, ℕ, ◌+◌, Bool, true, false, nat_eq, List, [], ◌∷◌, ◌++◌, cond, sym, ap, ap₂, ◌∙◌, arith, append-nil}
 use Rattle.std.proofs.lemmas.List.Elements.{filter-append}
 use Rattle.std.proofs.lemmas.List.Sums.{sum_by_push}
+use Rattle.std.specs.List.{AllByRecursion}
+use Rattle.t1_many.proofs.Entries.{all_push}
 use Rattle.t1_many.proofs.GivenFaults.{IsGiven, none_given, one_given}
 use Rattle.indexmap.specs.IndexMap.{IndexMap, get, insert_entry}
 use Rattle.std.specs.Map.{count_at}
@@ -9,6 +11,7 @@ use Rattle.t1_many.proofs.GroupOrder.{groups-push}
 use Rattle.t1_many.specs.Groups.{found_in, group_of, groups_of, told_faults}
 use Rattle.t1_report.specs.Checked.{CheckedFont}
 use Rattle.t1_report.specs.Faults.{FaultValue}
+use Rattle.t1_report.specs.Lines.{IsInFont}
 use Rattle.t1_report.specs.Waivers.{Waiver}
 use Rattle.t1_report.specs.Walks.{IsNext, first_mark, mark_of}
 use Rattle.t1_report.specs.declared.marks.Mark.{Mark}
@@ -30,6 +33,7 @@ pub record HaveCounted (rules : Mask) (font : CheckedFont) (waivers : List Waive
     (groups : List (ℕ × ℕ)) : Type 0 where
   pub given : List FaultValue
   pub is : IsGiven font waivers given count mark
+  pub there : AllByRecursion (IsInFont font.value waivers) given
   pub few : (group : ℕ) → counted group ≤ count
   pub found : (group : ℕ) → counted group ≡ found_in font.value (told_faults rules given) group
   pub groups_are : groups ≡ groups_of font.value (told_faults rules given)
@@ -43,13 +47,15 @@ pub none_counted : (rules : Mask) (font : CheckedFont) (waivers : List Waiver) (
 none_counted rules font waivers mark counted groups first none empty = record {
   given = [];
   is = none_given font waivers mark first;
+  there = tt;
   few = λ group. (let zero_is = none group in omega (arith, zero_is));
   found = none;
   groups_are = empty;
 }
 
 module _ (rules : Mask) (font : CheckedFont) (waivers : List Waiver) (count : ℕ) (mark : Mark) (counted : ℕ → ℕ)
-    (groups : List (ℕ × ℕ)) (have : HaveCounted rules font waivers count mark counted groups) (fault : FaultValue) (next : IsNext font waivers mark fault) where
+    (groups : List (ℕ × ℕ)) (have : HaveCounted rules font waivers count mark counted groups) (fault : FaultValue) (next : IsNext font waivers mark fault)
+    (in_font : IsInFont font.value waivers fault) where
   -- a fault that is told
   pub one_counted : (now : ℕ → ℕ) → has rules (number_of fault.rule) ≡ true
       → ((group : ℕ) → now group ≡ counted group + cond (nat_eq (group_of font.value fault) group) 1 0) → (groups_now : List (ℕ × ℕ))
@@ -58,6 +64,7 @@ module _ (rules : Mask) (font : CheckedFont) (waivers : List Waiver) (count : �
   one_counted now is more groups_now inserted = record {
     given = have.given ++ fault ∷ [];
     is = one_given font waivers have.given count mark fault have.is next;
+    there = all_push (IsInFont font.value waivers) have.given fault have.there in_font;
     few = λ group. (let step = more group in let before = have.few group in
         let one = small_cond (nat_eq (group_of font.value fault) group) in omega (arith, step, before, one));
     found = λ group. more group ∙ ap (λ n. n + cond (nat_eq (group_of font.value fault) group) 1 0) (have.found group)
@@ -75,6 +82,7 @@ module _ (rules : Mask) (font : CheckedFont) (waivers : List Waiver) (count : �
   one_left is = record {
     given = have.given ++ fault ∷ [];
     is = one_given font waivers have.given count mark fault have.is next;
+    there = all_push (IsInFont font.value waivers) have.given fault have.there in_font;
     few = λ group. (let before = have.few group in omega (arith, before));
     found = λ group. have.found group
         ∙ sym (ap (λ fs. found_in font.value fs group) (told-push rules have.given fault false is ∙ append-nil (told_faults rules have.given)));

@@ -96,7 +96,7 @@ module _ (font : FontValue) where
     | inr differ ↦ rw differ (ap (λ b. alike f y || b) (among_others f x xs other))
   ]
 
-  among_firsts : (f : FaultValue) (faults : List FaultValue) → is_among f (firsts font faults) ≡ is_among f faults
+  pub among_firsts : (f : FaultValue) (faults : List FaultValue) → is_among f (firsts font faults) ≡ is_among f faults
   among_firsts f [] = refl
   among_firsts f (x ∷ faults) = elim (cases_Bool (alike f x)) [
     | inl same ↦ rw same refl

@@ -12,6 +12,7 @@ use Rattle.t1_many.specs.GroupRows.{group_rows, row_at}
 use Rattle.t1_many.specs.Groups.{firsts, found_in, group_of, groups_of}
 use Rattle.t1_many.specs.KnownFaults.{RowValue, row_text}
 use Rattle.t1_report.specs.Faults.{FaultValue}
+use Rattle.t1_report.specs.Lines.{IsInFont}
 use Rattle.t1_report.specs.Waivers.{Waiver}
 
 all_of_some : {X : Type 0} (P : X → Type 0) (p : X → Bool) (xs : List X) → AllByRecursion P xs → AllByRecursion P (filter p xs)
@@ -37,7 +38,7 @@ mapped f [] i y is = absurd (none-some y is)
 mapped f (x ∷ xs) zero y is = (x, refl, some_same (f x) y is)
 mapped f (x ∷ xs) (suc i) y is = mapped f xs i y is
 
-up_to : {X : Type 0} (xs : List X) (i : ℕ) (x : X) → slice_get xs i ≡ Some x → take (i + 1) xs ≡ take i xs ++ x ∷ []
+pub up_to : {X : Type 0} (xs : List X) (i : ℕ) (x : X) → slice_get xs i ≡ Some x → take (i + 1) xs ≡ take i xs ++ x ∷ []
 up_to xs i x is =
     ap (λ n. take n xs) (add-one i) ∙ take-suc xs i x (slice_get_within xs i x is)
     ∙ ap (λ y. take i xs ++ y ∷ []) (get_or_from_slice_get xs i x x is)
@@ -46,6 +47,25 @@ at_map : {X Y : Type 0} (f : X → Y) (xs : List X) (i : ℕ) (x : X) → slice_
 at_map f [] i x is = absurd (none-some x is)
 at_map f (y ∷ xs) zero x is = ap (λ z. Some (f z)) (some_same y x is)
 at_map f (y ∷ xs) (suc i) x is = at_map f xs i x is
+
+-- The first fault of the group at a place.
+pub record IsFirst (font : FontValue) (P : FaultValue → Type 0) (faults : List FaultValue) (place group : ℕ) : Type 0 where
+  pub fault : FaultValue
+  pub holds : P fault
+  pub group_is : group_of font fault ≡ group
+  pub firsts_are : take (place + 1) (firsts font faults) ≡ take place (firsts font faults) ++ fault ∷ []
+
+pub group_in : (font : FontValue) (waivers : List Waiver) (faults : List FaultValue) → AllByRecursion (IsInFont font waivers) faults
+    → (place group count : ℕ) → slice_get (groups_of font faults) place ≡ Some (group, count)
+    → IsFirst font (IsInFont font waivers) faults place group
+group_in font waivers faults all place group count is =
+    let at = mapped (λ (f : FaultValue). (group_of font f, found_in font faults (group_of font f))) (firsts font faults) place (group, count) is in
+    record {
+      fault = at.0;
+      holds = all_at (IsInFont font waivers) (firsts font faults) place at.0 (all_firsts (IsInFont font waivers) font faults all) at.1;
+      group_is = ap (λ p. p.0) at.2;
+      firsts_are = up_to (firsts font faults) place at.0 at.1;
+    }
 
 module _ (name : List ℕ) (font : FontValue) (waivers : List Waiver) (faults : List FaultValue) where
   abbrev rows : List RowValue

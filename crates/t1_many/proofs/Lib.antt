@@ -12,6 +12,8 @@ pub mod Handed
 pub mod HandedReports
 pub mod KindRows
 pub mod KindTexts
+pub mod KnownCounts
+pub mod KnownReports
 pub mod Letters
 pub mod LineKinds
 pub mod Opened

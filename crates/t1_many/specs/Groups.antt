@@ -1,9 +1,10 @@
 -- Groups of a font's faults: those of one rule in one unit, in the font itself at one key, of the waivers at one waiver. A group has a number.
-use Rattle.std.specs.Prelude.{◌≡◌, ℕ, ◌+◌, ◌*◌, ◌/◌, ◌==◌, ◌≤◌, nat_eq, not, List, [], ◌∷◌, filter, length, map, if◌then◌else◌}
-use Rattle.std.specs.List.{count_by}
+use Rattle.std.specs.Prelude.{◌≡◌, ℕ, ◌+◌, ◌*◌, ◌/◌, ◌==◌, ◌≤◌, nat_eq, Bool, not, List, [], ◌∷◌, filter, length, map, if◌then◌else◌}
+use Rattle.std.specs.List.{AllByRecursion, count_by, list_any}
 use Rattle.t1_font.specs.Fonts.{FontValue}
 use Rattle.t1_report.specs.Checked.{CheckedFont}
 use Rattle.t1_report.specs.Faults.{FaultValue}
+use Rattle.t1_report.specs.Lines.{IsInFont}
 use Rattle.t1_report.specs.Reports.{IsReport}
 use Rattle.t1_report.specs.Waivers.{Waiver}
 use Rattle.t1_rules.specs.Book.{number_of}
@@ -32,6 +33,10 @@ IsAt font fault = fault.unit ≤ length font.glyphs + 1
 abbrev pub found_in : FontValue → List FaultValue → ℕ → ℕ
 found_in font faults group = count_by (λ fault. nat_eq (group_of font fault) group) faults
 
+-- A fault of the group of this one is among them.
+abbrev pub is_among : FontValue → FaultValue → List FaultValue → Bool
+is_among font fault faults = list_any (λ other. nat_eq (group_of font fault) (group_of font other)) faults
+
 -- The first fault of each group, in order.
 abbrev pub firsts : FontValue → List FaultValue → List FaultValue
 firsts font [] = []
@@ -41,9 +46,10 @@ firsts font (fault ∷ faults) = fault ∷ filter (λ other. not (nat_eq (group_
 abbrev pub groups_of : FontValue → List FaultValue → List (ℕ × ℕ)
 groups_of font faults = map (λ fault. (group_of font fault, found_in font faults (group_of font fault))) (firsts font faults)
 
--- The faults that are told of the report of a font with these waivers were counted by their groups: so often each, and in this order.
+-- The faults that are told of the report of a font with these waivers, all of which stand in it, were counted by their groups: so often each,
+-- and in this order.
 abbrev pub CountsReport : Mask → CheckedFont → List Waiver → (ℕ → ℕ) → List (ℕ × ℕ) → Type 0
 CountsReport rules font waivers count groups =
-    (faults : List FaultValue) × IsReport font waivers faults
+    (faults : List FaultValue) × IsReport font waivers faults × AllByRecursion (IsInFont font.value waivers) faults
     × ((group : ℕ) → count group ≡ found_in font.value (told_faults rules faults) group)
     × (groups ≡ groups_of font.value (told_faults rules faults))

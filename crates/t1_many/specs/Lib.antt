@@ -6,11 +6,13 @@ pub mod Files
 pub mod GroupRows
 pub mod Groups
 pub mod Handing
+pub mod Known
 pub mod KnownFaults
 pub mod Laws
 pub mod Outcomes
 pub mod Plain
 pub mod Private
+pub mod Readings
 pub mod RowValues
 pub mod Shards
 pub mod Statuses

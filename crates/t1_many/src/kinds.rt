@@ -62,7 +62,7 @@ fn push_row(
 }
 
 /// Appends the kind of a group of a font's faults: `H02 glyph A`, `Z04 font BlueValues`, `U01 waiver A P01`.
-fn push_kind(
+pub(crate) fn push_kind(
     text: &mut Vec<u8>,
     font: &Font<'_>,
     waivers: &Waivers<'_>,
@@ -100,7 +100,7 @@ fn push_waiver(text: &mut Vec<u8>, waivers: &Waivers<'_>, place: usize) -> Resul
 }
 
 /// Appends a text, and another one behind it.
-fn push_two(text: &mut Vec<u8>, front: &[u8], end: &[u8]) -> Result<(), AllocError>
+pub(crate) fn push_two(text: &mut Vec<u8>, front: &[u8], end: &[u8]) -> Result<(), AllocError>
     ensures { OnOk result (text.new.items ≡ text.old.items ++ concat (front.now ∷ end.now ∷ [])) }
 {
     text.extend_from_slice(front)?;

@@ -14,9 +14,11 @@ mod found;
 mod groups;
 mod handing;
 mod kinds;
+mod known;
 mod laws;
 mod one_font;
 mod plain;
+mod readings;
 mod recipient;
 mod row;
 mod status;
@@ -30,12 +32,14 @@ pub use counted::Counted;
 pub use form::Form;
 pub use groups::{Counts, count_groups, count_of, group_of};
 pub use kinds::push_rows;
+pub use known::Known;
 pub use laws::{
     a_text_is_one_row, an_update_is_quiet, codes_pick_their_rules, groups_are_kinds,
     parts_are_the_whole, plain_lines_are_written,
     statuses_join, written_waivers_are_read,
 };
 pub use plain::Plain;
+pub use readings::{Anew, Beyond, Reading};
 pub use recipient::{Lost, Recipient, Taken};
 pub use row::{Row, read_row};
 pub use telling::{Telling, tell_all};

@@ -8,6 +8,8 @@ use Rattle.t1_many.proofs.groups.count_groups.Goals.{then-has+in_ok-bump, else-h
 use Rattle.t1_many.specs.Groups.{found_in, groups_of, told_faults}
 use Rattle.t1_report.specs.Checked.{CheckedFont, checked}
 use Rattle.t1_report.specs.Faults.{FaultValue, fault_value}
+use Rattle.std.specs.List.{AllByRecursion}
+use Rattle.t1_report.specs.Lines.{IsInFont}
 use Rattle.t1_report.specs.WalkViews.{WalkView}
 use Rattle.t1_report.specs.Waivers.{Waiver}
 use Rattle.t1_report.specs.Walks.{HasNoneLater, IsNext, mark_of}
@@ -20,6 +22,10 @@ loop-fault-preserved c =
     subst (λ (waivers : List Waiver). IsNext font waivers c.loop-fault.walk.mark (fault_value c.in-Some.fault)) c.loop-fault.invariant.waivers
     (subst (λ (f : CheckedFont). IsNext f c.loop-fault.walk.waivers c.loop-fault.walk.mark (fault_value c.in-Some.fault))
     c.loop-fault.invariant.font c.in-Some.ensures.next) in
+    let in_font : IsInFont c.args.font.now c.args.waivers.now (fault_value c.in-Some.fault) =
+    subst (λ (waivers : List Waiver). IsInFont c.args.font.now waivers (fault_value c.in-Some.fault)) c.loop-fault.invariant.waivers
+    (subst (λ (f : CheckedFont). IsInFont f.value c.loop-fault.walk.waivers (fault_value c.in-Some.fault)) c.loop-fault.invariant.font
+    c.in-Some.ensures.in_font) in
     record {
       font = ap (λ (w : WalkView). w.font) c.in-Some.ensures.state ∙ c.loop-fault.invariant.font;
       waivers = ap (λ (w : WalkView). w.waivers) c.in-Some.ensures.state ∙ c.loop-fault.invariant.waivers;
@@ -31,7 +37,7 @@ loop-fault-preserved c =
                 subst (AreCountedIn c.args.rules font c.args.waivers.now (c.loop-fault._fault + 1)
                 (mark_of (fault_value c.in-Some.fault))) (sym w.counts-is)
                 (one_counted c.args.rules font c.args.waivers.now c.loop-fault._fault c.loop-fault.walk.mark _ _ c.loop-fault.invariant.have
-                (fault_value c.in-Some.fault) next _ (sym c.has.ensures ∙ w.if-has.true)
+                (fault_value c.in-Some.fault) next in_font _ (sym c.has.ensures ∙ w.if-has.true)
                 (λ group. w.in_ok-bump.ensures.counts group
                 ∙ ap (λ (k : ℕ). count_at (get nat_eq c.loop-fault.counts) group + cond (nat_eq k group) 1 0) w.group_of.ensures) _
                 (w.in_ok-bump.ensures.entries
@@ -40,7 +46,7 @@ loop-fault-preserved c =
                 subst (AreCountedIn c.args.rules font c.args.waivers.now (c.loop-fault._fault + 1)
                 (mark_of (fault_value c.in-Some.fault))) (sym w.counts-is)
                 (one_left c.args.rules font c.args.waivers.now c.loop-fault._fault c.loop-fault.walk.mark _ _ c.loop-fault.invariant.have
-                (fault_value c.in-Some.fault) next (sym c.has.ensures ∙ w.if-has.false))
+                (fault_value c.in-Some.fault) next in_font (sym c.has.ensures ∙ w.if-has.false))
           ]);
     }
 
@@ -56,6 +62,7 @@ returns c =
           (omega (arith, w.loop-fault-test.false)) in (
             some.0,
             some.1,
+            subst (AllByRecursion (IsInFont c.args.font.now c.args.waivers.now)) same have.there,
             λ group. have.found group
                 ∙ ap (λ (fs : List FaultValue). found_in c.args.font.now (told_faults c.args.rules fs) group) same,
             have.groups_are ∙ ap (λ (fs : List FaultValue). groups_of c.args.font.now (told_faults c.args.rules fs)) same,
@@ -68,6 +75,7 @@ returns c =
             have.given,
             all_given font c.args.waivers.now c.requires.few c.requires.few_waivers c.faults_after_the_first_mark_are_the_report.ensures
                 have.given c.loop-fault._fault c.loop-fault.walk.mark have.is none,
+            have.there,
             have.found,
             have.groups_are,
           )

@@ -1,0 +1,203 @@
+-- Reports of which the lines beyond known faults are handed on.
+use Rattle.std.proofs.Common.{◌≡◌, ◌≤◌, ◌==◌, ◌||◌, ℕ, Bool, true, false, true≢false, nat_eq, nat_lt, List, [], ◌∷◌, ◌++◌, Option, None, Some, Result, Ok, Err, cond, filter, map, inl, inr, refl, sym, ap, ap₂, subst, ◌∙◌, arith}
+use Rattle.std.proofs.lemmas.Bool.{cases_Bool}
+use Rattle.std.proofs.lemmas.Bool.Decides.{nat_tests}
+use Rattle.std.specs.List.{AllByRecursion}
+use Rattle.std.specs.Result.{IfOk}
+use Rattle.t1_font.specs.Fonts.{FontValue}
+use Rattle.t1_many.proofs.KindRows.{groups_count_kinds}
+use Rattle.t1_many.specs.Beyond.{HandsBeyond, verdict_beyond, verdict_of}
+use Rattle.t1_many.specs.Groups.{CountsReport, found_in, group_of, groups_of, is_among, told_faults}
+use Rattle.t1_many.specs.Handing.{Handed, HandsFont, HandsOn, done, found_by, found_with, handed_of, is_told, line, lines_by, lost_of}
+use Rattle.t1_many.specs.Known.{key_in, kind_in, verdict_known}
+use Rattle.t1_many.specs.KnownFaults.{found_count}
+use Rattle.t1_many.specs.Outcomes.{Entry, IsRead, Report, reported}
+use Rattle.t1_many.specs.Private.Handing.{HandsReport}
+use Rattle.t1_many.specs.Readings.{IsReading, Keeps, TakesOutcome, as_known, by_known}
+use Rattle.t1_many.specs.declared.readings.Reading.{Reading}
+use Rattle.t1_many.specs.declared.recipient.Lost.{Lost}
+use Rattle.t1_many.specs.declared.verdict.Verdict.{Verdict}
+use Rattle.t1_report.specs.Checked.{CheckedFont}
+use Rattle.t1_report.specs.Faults.{FaultValue}
+use Rattle.t1_report.specs.Laws.Reports.{HasNoOtherReport}
+use Rattle.t1_report.specs.Lines.{IsInFont}
+use Rattle.t1_report.specs.Reports.{IsReport}
+use Rattle.t1_report.specs.Waivers.{Waiver}
+use Rattle.t1_rules.specs.Book.{number_of}
+use Rattle.t1_rules.specs.Mask.{has}
+use Rattle.t1_rules.specs.declared.mask.Mask.{Mask}
+use Rattle.t1_summary.specs.declared.found.Found.{Found}
+
+-- ---- faults that are judged alike
+
+module _ (p q : FaultValue → Verdict) where
+  told_alike : (faults : List FaultValue) → AllByRecursion (λ fault. p fault ≡ q fault) faults
+      → filter (λ fault. is_told (p fault)) faults ≡ filter (λ fault. is_told (q fault)) faults
+  told_alike [] same = refl
+  told_alike (fault ∷ faults) same =
+      ap (λ v. cond (is_told v) (fault ∷ filter (λ (f : FaultValue). is_told (p f)) faults) (filter (λ (f : FaultValue). is_told (p f)) faults)) same.0
+      ∙ ap (λ (l : List FaultValue). cond (is_told (q fault)) (fault ∷ l) l) (told_alike faults same.1)
+
+  pub found_alike : (faults : List FaultValue) → AllByRecursion (λ fault. p fault ≡ q fault) faults → found_by p faults ≡ found_by q faults
+  found_alike [] same = refl
+  found_alike (fault ∷ faults) same = ap (λ v. found_with v (found_by p faults)) same.0 ∙ ap (found_with (q fault)) (found_alike faults same.1)
+
+  pub handed_alike : (name : List ℕ) (font : FontValue) (waivers : List Waiver) (faults : List FaultValue)
+      → AllByRecursion (λ fault. p fault ≡ q fault) faults
+      → lines_by p name font waivers faults ++ done name (found_by p faults) ∷ []
+      ≡ lines_by q name font waivers faults ++ done name (found_by q faults) ∷ []
+  handed_alike name font waivers faults same =
+      ap (λ (l : List FaultValue). map (line name font waivers) l ++ done name (found_by p faults) ∷ []) (told_alike faults same)
+      ∙ ap (λ f. lines_by q name font waivers faults ++ done name f ∷ []) (found_alike faults same)
+
+all_by : {X : Type 0} (P Q : X → Type 0) → ((x : X) → P x → Q x) → (xs : List X) → AllByRecursion P xs → AllByRecursion Q xs
+all_by P Q step [] all = tt
+all_by P Q step (x ∷ xs) all = (step x all.0, all_by P Q step xs all.1)
+
+all_some : {X : Type 0} (P : X → Type 0) (p : X → Bool) (xs : List X) → AllByRecursion P xs → AllByRecursion P (filter p xs)
+all_some P p [] all = tt
+all_some P p (x ∷ xs) all = elim (cases_Bool (p x)) [
+  | inl is ↦ rw is (all.0, all_some P p xs all.1)
+  | inr not_is ↦ rw not_is (all_some P p xs all.1)
+]
+
+or_true : (b : Bool) → (b || true) ≡ true
+or_true true = refl
+or_true false = refl
+
+module _ (font : FontValue) (rules : Mask) where
+  abbrev tells : FaultValue → Bool
+  tells fault = has rules (number_of fault.rule)
+
+  -- a fault that is told is among those that are
+  more_among : (fault x : FaultValue) (faults : List FaultValue) → is_among font fault (told_faults rules faults) ≡ true
+      → is_among font fault (told_faults rules (x ∷ faults)) ≡ true
+  more_among fault x faults among = elim (cases_Bool (tells x)) [
+    | inl is ↦ rw (is, among) (or_true (nat_eq (group_of font fault) (group_of font x)))
+    | inr not_is ↦ rw not_is among
+  ]
+
+  itself_among : (x : FaultValue) (faults : List FaultValue) → tells x ≡ true → is_among font x (told_faults rules (x ∷ faults)) ≡ true
+  itself_among x faults is = let self : nat_eq (group_of font x) (group_of font x) ≡ true = grind (arith, nat_tests) in rw (is, self) refl
+
+  members : (faults : List FaultValue)
+      → AllByRecursion (λ fault. tells fault ≡ true → is_among font fault (told_faults rules faults) ≡ true) faults
+  members [] = tt
+  members (x ∷ faults) = (
+    itself_among x faults,
+    all_by (λ fault. tells fault ≡ true → is_among font fault (told_faults rules faults) ≡ true)
+        (λ fault. tells fault ≡ true → is_among font fault (told_faults rules (x ∷ faults)) ≡ true)
+        (λ fault so is. more_among fault x faults (so is)) faults (members faults),
+  )
+
+  module _ (waivers : List Waiver) (read : IsRead font waivers) (name : List ℕ) (counts : List ℕ → ℕ) (known : ℕ → ℕ) (faults : List FaultValue)
+      (there : AllByRecursion (IsInFont font waivers) faults)
+      (are_known : (fault : FaultValue) → IsInFont font waivers fault → is_among font fault (told_faults rules faults) ≡ true
+      → known (group_of font fault) ≡ counts (key_in name font waivers fault)) where
+    abbrev p : FaultValue → Verdict
+    p = verdict_beyond known rules font faults
+
+    abbrev q : FaultValue → Verdict
+    q = verdict_known counts rules name font waivers faults
+
+    one_verdict : (fault : FaultValue) → IsInFont font waivers fault
+        → (tells fault ≡ true → is_among font fault (told_faults rules faults) ≡ true) → p fault ≡ q fault
+    one_verdict fault in_font so = elim (cases_Bool (tells fault)) [
+      | inl is ↦ ap₂ (λ k n. verdict_of (tells fault) (nat_lt k n)) (are_known fault in_font (so is))
+          (groups_count_kinds font waivers (told_faults rules faults) fault read (all_some (IsInFont font waivers) tells faults there) in_font)
+      | inr not_is ↦ rw not_is refl
+    ]
+
+    each : (xs : List FaultValue) → AllByRecursion (IsInFont font waivers) xs
+        → AllByRecursion (λ fault. tells fault ≡ true → is_among font fault (told_faults rules faults) ≡ true) xs
+        → AllByRecursion (λ fault. p fault ≡ q fault) xs
+    each [] all so = tt
+    each (x ∷ xs) all so = (one_verdict x all.0 so.0, each xs all.1 so.1)
+
+    pub same_verdicts : AllByRecursion (λ fault. p fault ≡ q fault) faults
+    same_verdicts = each faults there (members faults)
+
+pub all_told : (font : FontValue) (rules : Mask) (waivers : List Waiver) (faults : List FaultValue) → AllByRecursion (IsInFont font waivers) faults
+    → AllByRecursion (IsInFont font waivers) (told_faults rules faults)
+all_told font rules waivers faults there = all_some (IsInFont font waivers) (λ (fault : FaultValue). has rules (number_of fault.rule)) faults there
+
+-- ---- reports
+
+module _ {F : Type 0} (takes : F → F → Handed → Option Lost → Type 0) (rules : Mask) (name : List ℕ) where
+  abbrev entry : FontValue → List Waiver → List FaultValue → Entry
+  entry font waivers faults =
+      record { name = name; outcome = reported (record { font = font; waivers = waivers; faults = faults }) }
+
+  kept : (judges : Report → FaultValue → Verdict) (a b : F) (old new : List Reading) (reading : Reading) (font : FontValue)
+      (waivers : List Waiver) (faults : List FaultValue) (taken result : Result Found Lost)
+      → HandsFont takes judges a b (entry font waivers faults) taken → IsReading name font waivers (told_faults rules faults) reading
+      → Keeps old new reading taken result
+      → TakesOutcome takes judges rules a b old new name (reported (record { font = font; waivers = waivers; faults = faults })) result
+  kept judges a b old new reading font waivers faults (Ok found) (Ok other) hands is (same, keeps) = (
+    subst (λ (f : Found). HandsFont takes judges a b (entry font waivers faults) (Ok f)) (sym same) hands,
+    reading,
+    is,
+    keeps,
+  )
+  kept judges a b old new reading font waivers faults (Ok found) (Err lost) hands is (memory, keeps) = (inr (memory, hands.0), keeps)
+  kept judges a b old new reading font waivers faults (Err before) (Ok other) hands is never = absurd never
+  kept judges a b old new reading font waivers faults (Err before) (Err lost) hands is (same, keeps) = (
+    inl (subst (λ (l : Lost). HandsFont takes judges a b (entry font waivers faults) (Err l)) (sym same) hands),
+    keeps,
+  )
+
+  -- what is found becomes known
+  pub report_anew : HasNoOtherReport → (font : CheckedFont) (waivers : List Waiver) → IsRead font.value waivers → (found : ℕ → ℕ)
+      (groups : List (ℕ × ℕ)) → CountsReport rules font waivers found groups → (reading : Reading)
+      → ((faults : List FaultValue) → AllByRecursion (IsInFont font.value waivers) faults → groups ≡ groups_of font.value faults
+      → IsReading name font.value waivers faults reading)
+      → (a b : F) (taken : Result Found Lost)
+      → HandsReport takes (as_known rules (record { font = font.value; waivers = waivers; faults = [] })) name font waivers a b taken
+      → (old new : List Reading) (result : Result Found Lost) → Keeps old new reading taken result
+      → (faults : List FaultValue) × IsReport font waivers faults
+      × TakesOutcome takes (as_known rules) rules a b old new name
+      (reported (record { font = font.value; waivers = waivers; faults = faults })) result
+  report_anew no_other font waivers read found groups (counted, is, there, count, order) reading is_reading a b taken
+      (faults, report, handed, found_is) old new result keeps =
+      let one : counted ≡ faults = no_other font waivers counted faults is report in
+      let told = all_told font.value rules waivers counted there in (
+        faults,
+        report,
+        kept (as_known rules) a b old new reading font.value waivers faults taken result (handed, found_is)
+            (subst (λ (fs : List FaultValue). IsReading name font.value waivers (told_faults rules fs) reading) one
+            (is_reading (told_faults rules counted) told order)) keeps,
+      )
+
+module _ {F : Type 0} (takes : F → F → Handed → Option Lost → Type 0) (rules : Mask) (name : List ℕ) (counts : List ℕ → ℕ) where
+  pub report_kept : HasNoOtherReport → (font : CheckedFont) (waivers : List Waiver) → IsRead font.value waivers → (found known : ℕ → ℕ)
+      (groups : List (ℕ × ℕ)) → CountsReport rules font waivers found groups
+      → ((faults : List FaultValue) → AllByRecursion (IsInFont font.value waivers) faults → groups ≡ groups_of font.value faults
+      → (fault : FaultValue) → IsInFont font.value waivers fault → is_among font.value fault faults ≡ true
+      → known (group_of font.value fault) ≡ counts (key_in name font.value waivers fault))
+      → (reading : Reading)
+      → ((faults : List FaultValue) → AllByRecursion (IsInFont font.value waivers) faults → groups ≡ groups_of font.value faults
+      → IsReading name font.value waivers faults reading)
+      → (a b : F) (taken : Result Found Lost) → HandsBeyond takes known rules name font waivers a b taken
+      → (old new : List Reading) (result : Result Found Lost) → Keeps old new reading taken result
+      → (faults : List FaultValue) × IsReport font waivers faults
+      × TakesOutcome takes (by_known counts rules name) rules a b old new name
+      (reported (record { font = font.value; waivers = waivers; faults = faults })) result
+  report_kept no_other font waivers read found known groups (counted, is, there, count, order) are_known reading is_reading a b taken
+      (faults, report, handed, found_is) old new result keeps =
+      let one : faults ≡ counted = no_other font waivers faults counted report is in
+      let told = all_told font.value rules waivers counted there in
+      let same = same_verdicts font.value rules waivers read name counts known counted there (are_known (told_faults rules counted) told order) in
+      let p = verdict_beyond known rules font.value counted in
+      let q = verdict_known counts rules name font.value waivers counted in
+      let hands : HandsOn takes a b (lines_by q name font.value waivers counted ++ done name (found_by q counted) ∷ []) (lost_of taken) =
+      subst (λ hs. HandsOn takes a b hs (lost_of taken)) (handed_alike p q name font.value waivers counted same)
+      (subst (λ (fs : List FaultValue). HandsOn takes a b
+      (lines_by (verdict_beyond known rules font.value fs) name font.value waivers fs
+      ++ done name (found_by (verdict_beyond known rules font.value fs) fs) ∷ []) (lost_of taken)) one handed) in
+      let finds : IfOk taken (λ f. f ≡ found_by q counted) =
+      subst (λ f. IfOk taken (λ t. t ≡ f)) (found_alike p q counted same)
+      (subst (λ (fs : List FaultValue). IfOk taken (λ t. t ≡ found_by (verdict_beyond known rules font.value fs) fs)) one found_is) in (
+        counted,
+        is,
+        kept takes rules name (by_known counts rules name) a b old new reading font.value waivers counted taken result (hands, finds) (is_reading (told_faults rules counted) told order) keeps,
+      )

@@ -1,0 +1,12 @@
+pub mod FolderLaws
+pub mod FolderLemmas
+pub mod GlobLemmas
+pub mod GlobLaws
+pub mod ListLemmas
+pub mod NamedLaws
+pub mod NamedLemmas
+pub mod OnceLaws
+pub mod OnceLemmas
+pub mod SortedLaws
+pub mod WordLaws
+pub mod WordLemmas

@@ -1,0 +1,74 @@
+-- Words one after another.
+use Rattle.std.proofs.Common.{◌≡◌, ℕ, ◌+◌, ◌<◌, Bool, true, false, not, List, [], ◌∷◌, ◌++◌, if◌then◌else◌, Result, Ok, Err, arith, get_or, filter, length, map, take, string_bytes, refl, sym, ap, ◌∙◌, add-one, append-nil, String, Global}
+use Rattle.std.proofs.Math.Seq.{take-suc}
+use Rattle.std.proofs.lemmas.Grind.{flat_map-append}
+use Rattle.std.proofs.lemmas.List.{map-append}
+use Rattle.std.proofs.lemmas.List.Filters.{length-filter_both}
+use Rattle.std.proofs.lemmas.List.Sums.{length-filter}
+use Rattle.std.specs.List.{AllZip, flat_map}
+use Rattle.std.specs.Result.{IfOk}
+use Rattle.t1_names.specs.Folders.{IsBelow}
+use Rattle.t1_names.specs.Named.{Found, StandsFor, all_fonts, all_unsearched, one_line_names, line_end_count}
+use Rattle.t1_names.specs.Named.StandsFor.{a_folder, a_font}
+use Rattle.t1_names.specs.Words.{Trims, has_line_end}
+use Rattle.t1_names.specs.declared.folders.Below.{Below}
+use Rattle.t1_names.specs.declared.folders.Listing.{Listing}
+
+-- what one more word stands for comes after what the words before it stand for
+more_of : (part : Found → List (List ℕ)) (founds : List Found) (one : Found) (before more after : List (String Global)) → after ≡ before ++ more
+    → map string_bytes more ≡ part one → map string_bytes before ≡ flat_map part founds → map string_bytes after ≡ flat_map part (founds ++ one ∷ [])
+more_of part founds one before more after is more_are before_are =
+    let joined : map string_bytes after ≡ map string_bytes before ++ map string_bytes more = ap (map string_bytes) is ∙ map-append string_bytes before more in
+    let all : flat_map part (founds ++ one ∷ []) ≡ flat_map part founds ++ part one =
+    flat_map-append part founds (one ∷ []) ∙ ap (λ l. flat_map part founds ++ l) (append-nil (part one)) in cc
+
+pub more_fonts : (founds : List Found) (one : Found) (before more after : List (String Global)) → after ≡ before ++ more
+    → map string_bytes more ≡ one.fonts → map string_bytes before ≡ all_fonts founds → map string_bytes after ≡ all_fonts (founds ++ one ∷ [])
+more_fonts = more_of (λ found. found.fonts)
+
+pub more_unsearched : (founds : List Found) (one : Found) (before more after : List (String Global)) → after ≡ before ++ more
+    → map string_bytes more ≡ one.unsearched → map string_bytes before ≡ all_unsearched founds → map string_bytes after ≡ all_unsearched (founds ++ one ∷ [])
+more_unsearched = more_of (λ found. found.unsearched)
+
+pub zip-push : {A B : Type 0} (R : A → B → Type 0) (xs : List A) (ys : List B) (x : A) (y : B) → AllZip R xs ys → R x y
+    → AllZip R (xs ++ x ∷ []) (ys ++ y ∷ [])
+zip-push R [] [] x y all is = (is, tt)
+zip-push R [] (b ∷ ys) x y all is = absurd all
+zip-push R (a ∷ xs) [] x y all is = absurd all
+zip-push R (a ∷ xs) (b ∷ ys) x y (first, rest) is = (first, zip-push R xs ys x y rest is)
+
+-- the names up to one, and that one
+pub names_next : {A : Type 0} (f : A → List ℕ) (xs : List A) (i : ℕ) (x : A) → i < length xs → x ≡ get_or xs i x
+    → map f (take (i + 1) xs) ≡ map f (take i xs) ++ f x ∷ []
+names_next f xs i x less is =
+    ap (map f) (ap (λ n. take n xs) (add-one i) ∙ take-suc xs i x less ∙ ap (λ y. take i xs ++ y ∷ []) (sym is))
+    ∙ map-append f (take i xs) (x ∷ [])
+
+pub map-filter : {A B : Type 0} (f : A → B) (p : B → Bool) (xs : List A) → map f (filter (λ x. p (f x)) xs) ≡ filter p (map f xs)
+map-filter f p [] = refl
+map-filter f p (x ∷ xs) =
+    elim (p (f x)) as (λ b. map f (if b then x ∷ filter (λ y. p (f y)) xs else filter (λ y. p (f y)) xs) ≡ (if b then f x ∷ filter p (map f xs) else filter p (map f xs))) [
+      | true ↦ ap (λ l. f x ∷ l) (map-filter f p xs)
+      | false ↦ map-filter f p xs
+    ]
+
+pub lines_and_others : (names : List (List ℕ)) → length (one_line_names names) + line_end_count names ≡ length names
+lines_and_others names =
+    omega (arith, length-filter_both has_line_end (λ name. not (has_line_end name)) (λ name. refl) names, length-filter has_line_end names)
+
+module _ {E : Type 0} (IsFolder : List ℕ → Bool → Type 0) (Lists : List ℕ → Result Listing E → Type 0) (word trimmed : List ℕ)
+    (plain : has_line_end word ≡ false) (trims : Trims IsFolder word trimmed) where
+  abbrev found_of : Below → Found
+  found_of below = record { fonts = map string_bytes below.fonts.items; unsearched = map string_bytes below.unsearched.items }
+
+  pub stands_for_below : {F : Type 0} (r : Result Below F) → IsFolder trimmed true
+      → IfOk r (λ below. IsBelow Lists trimmed (map string_bytes below.fonts.items) (map string_bytes below.unsearched.items))
+      → IfOk r (λ below. StandsFor IsFolder Lists word (found_of below))
+  stands_for_below (Ok below) leads are = a_folder trimmed plain trims leads are
+  stands_for_below (Err e) leads are = tt
+
+  pub stands_for_itself : {F : Type 0} (r : Result Below F) → IsFolder trimmed false
+      → IfOk r (λ below. (map string_bytes below.fonts.items ≡ trimmed ∷ []) × (map string_bytes below.unsearched.items ≡ []))
+      → IfOk r (λ below. StandsFor IsFolder Lists word (found_of below))
+  stands_for_itself (Ok below) leads (fonts, missed) = a_font trimmed plain trims leads cc
+  stands_for_itself (Err e) leads are = tt

@@ -1,0 +1,84 @@
+-- What holds of each list, word and glob.
+use Rattle.std.specs.Prelude.{◌≡◌, ◌≢◌, ◌↔◌, ◌==◌, ◌||◌, ℕ, Bool, false, true, not, Contains, List, codes, ◌∷◌, Result, Ok}
+use Rattle.std.specs.List.{IsDistinct, list_any}
+use Rattle.std.specs.Str.{bytes_eq}
+use Rattle.std.specs.declared.alloc.AllocError.{AllocError}
+use Rattle.t1_names.specs.Folders.{AreBelow, path_of}
+use Rattle.t1_names.specs.Globs.{Glob, IsRead, does_match, is_excluded, is_slash, matches}
+use Rattle.t1_names.specs.Named.{AreNamed, included, one_line_names}
+use Rattle.t1_names.specs.Once.{each_once}
+use Rattle.t1_names.specs.declared.folders.Listing.{Listing}
+use Rattle.t1_names.specs.Words.{Trims, has_line_end}
+
+-- A folder's listing, where memory doesn't run out.
+abbrev pub as_listed : Listing → Result Listing AllocError
+as_listed listing = Ok listing
+
+-- Keeping each name once loses no name and adds none.
+abbrev pub EachIsKept : Type 0
+EachIsKept = (names : List (List ℕ)) → (name : List ℕ) → Contains names name ↔ Contains (each_once names) name
+
+-- It leaves none twice.
+abbrev pub NoneIsTwice : Type 0
+NoneIsTwice = (names : List (List ℕ)) → IsDistinct bytes_eq (each_once names)
+
+-- A name in a list of fonts has no line end, and no glob matches it.
+abbrev pub EachFits : Type 0
+EachFits =
+    (globs : List Glob) → (names : List (List ℕ)) → (name : List ℕ) → Contains (one_line_names (each_once (included globs names))) name
+    → (has_line_end name ≡ false) × (is_excluded globs name ≡ false)
+
+-- A word is trimmed in one way, where each word leads to a folder or doesn't.
+abbrev pub OneTrim : Type 0
+OneTrim =
+    (is_folder : List ℕ → Bool) → (word one other : List ℕ) → Trims (λ name leads. is_folder name ≡ leads) word one
+    → Trims (λ name leads. is_folder name ≡ leads) word other → one ≡ other
+
+-- What is below folders is one thing, where each folder lists one thing.
+abbrev pub OneSearch : Type 0
+OneSearch =
+    (listing_of : List ℕ → Listing) → (n : ℕ) → (folders fonts unsearched fonts' unsearched' : List (List ℕ))
+    → AreBelow (λ folder r. r ≡ as_listed (listing_of folder)) n folders fonts unsearched
+    → AreBelow (λ folder r. r ≡ as_listed (listing_of folder)) n folders fonts' unsearched' → (fonts ≡ fonts') × (unsearched ≡ unsearched')
+
+-- Words make one list, where each word leads to a folder or doesn't, and each folder lists one thing.
+abbrev pub OneList : Type 0
+OneList =
+    (is_folder : List ℕ → Bool) → (listing_of : List ℕ → Listing) → (words : List (List ℕ)) → (globs : List Glob)
+    → (names unsearched names' unsearched' : List (List ℕ)) → (passed_over passed_over' : ℕ)
+    → AreNamed (λ word leads. is_folder word ≡ leads) (λ folder r. r ≡ as_listed (listing_of folder)) words globs names unsearched passed_over
+    → AreNamed (λ word leads. is_folder word ≡ leads) (λ folder r. r ≡ as_listed (listing_of folder)) words globs names' unsearched' passed_over'
+    → (names ≡ names') × (unsearched ≡ unsearched') × (passed_over ≡ passed_over')
+
+-- A word that leads to a folder keeps no `./` at its front.
+abbrev pub NoDotInFolders : Type 0
+NoDotInFolders =
+    (is_folder : List ℕ → Bool) → (word trimmed rest : List ℕ) → Trims (λ name leads. is_folder name ≡ leads) word trimmed → is_folder trimmed ≡ true
+    → trimmed ≢ 46 ∷ 47 ∷ rest
+
+-- Neither has the whole name of anything in a folder, where the folder has none and the name there neither.
+abbrev pub NoDotInPaths : Type 0
+NoDotInPaths =
+    (folder name rest : List ℕ) → ((rest : List ℕ) → folder ≢ 46 ∷ 47 ∷ rest) → ((rest : List ℕ) → name ≢ 46 ∷ 47 ∷ rest)
+    → path_of folder name ≢ 46 ∷ 47 ∷ rest
+
+-- A text is one glob.
+abbrev pub OneReading : Type 0
+OneReading = (text : List ℕ) → (one other : Glob) → IsRead text one → IsRead text other → one ≡ other
+
+-- `**` matches each name.
+abbrev pub DoubleStarMatchesAll : Type 0
+DoubleStarMatchesAll = (glob : Glob) → (name : List ℕ) → IsRead (codes "**") glob → does_match glob name ≡ true
+
+-- `*` matches what has no slash, and nothing else.
+abbrev pub StarStopsAtSlashes : Type 0
+StarStopsAtSlashes = (glob : Glob) → (name : List ℕ) → IsRead (codes "*") glob → matches glob.pieces name ≡ not (list_any is_slash name)
+
+-- The characters of a glob that aren't just themselves.
+abbrev pub is_sign : ℕ → Bool
+is_sign c = c == 42 || (c == 63 || c == 91)
+
+-- A glob without them matches just itself.
+abbrev pub PlainIsItself : Type 0
+PlainIsItself =
+    (text : List ℕ) → (glob : Glob) → (name : List ℕ) → list_any is_sign text ≡ false → IsRead text glob → matches glob.pieces name ≡ bytes_eq name text

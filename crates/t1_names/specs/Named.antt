@@ -1,0 +1,56 @@
+-- The fonts that words name.
+use Rattle.std.specs.Prelude.{◌≡◌, ℕ, ◌+◌, Bool, true, false, not, List, [], ◌∷◌, Result, count_by, filter}
+use Rattle.std.specs.List.{AllZip, flat_map}
+use Rattle.t1_names.specs.Folders.{IsBelow}
+use Rattle.t1_names.specs.Globs.{Glob, is_excluded}
+use Rattle.t1_names.specs.Once.{each_once}
+use Rattle.t1_names.specs.Words.{Trims, has_line_end}
+use Rattle.t1_names.specs.declared.folders.Listing.{Listing}
+
+-- What a word stands for: fonts, and the folders that weren't searched whole.
+pub record Found : Type 0 where
+  pub fonts : List (List ℕ)
+  pub unsearched : List (List ℕ)
+
+-- A name alone.
+abbrev pub alone : List ℕ → Found
+alone name = record { fonts = name ∷ []; unsearched = [] }
+
+-- A word that leads to a folder stands for the fonts below it, another one for itself. One with a line end isn't looked at.
+pub data StandsFor {E : Type 0} (IsFolder : List ℕ → Bool → Type 0) (Lists : List ℕ → Result Listing E → Type 0) (word : List ℕ)
+    (found : Found) : Type 0 where
+  no_line : has_line_end word ≡ true → found ≡ alone word → StandsFor IsFolder Lists word found
+  a_font :
+      (trimmed : List ℕ) → has_line_end word ≡ false → Trims IsFolder word trimmed → IsFolder trimmed false → found ≡ alone trimmed
+      → StandsFor IsFolder Lists word found
+  a_folder :
+      (trimmed : List ℕ) → has_line_end word ≡ false → Trims IsFolder word trimmed → IsFolder trimmed true
+      → IsBelow Lists trimmed found.fonts found.unsearched → StandsFor IsFolder Lists word found
+
+-- What all words stand for, one after another.
+abbrev pub all_fonts : List Found → List (List ℕ)
+all_fonts founds = flat_map (λ found. found.fonts) founds
+
+abbrev pub all_unsearched : List Found → List (List ℕ)
+all_unsearched founds = flat_map (λ found. found.unsearched) founds
+
+-- The names that can stand in a line, and how many can't.
+abbrev pub one_line_names : List (List ℕ) → List (List ℕ)
+one_line_names names = filter (λ name. not (has_line_end name)) names
+
+abbrev pub line_end_count : List (List ℕ) → ℕ
+line_end_count names = count_by has_line_end names
+
+-- The names that no glob excludes.
+abbrev pub included : List Glob → List (List ℕ) → List (List ℕ)
+included globs names = filter (λ name. not (is_excluded globs name)) names
+
+-- The list that words make: each font once, without those that a glob excludes, and each folder once that wasn't searched whole. Names with a
+-- line end are counted in place of being listed.
+pub record AreNamed {E : Type 0} (IsFolder : List ℕ → Bool → Type 0) (Lists : List ℕ → Result Listing E → Type 0) (words : List (List ℕ))
+    (globs : List Glob) (names unsearched : List (List ℕ)) (passed_over : ℕ) : Type 0 where
+  pub founds : List Found
+  pub stand : AllZip (StandsFor IsFolder Lists) words founds
+  pub names_are : names ≡ one_line_names (each_once (included globs (all_fonts founds)))
+  pub unsearched_are : unsearched ≡ one_line_names (each_once (all_unsearched founds))
+  pub passed_over_is : passed_over ≡ line_end_count (each_once (included globs (all_fonts founds))) + line_end_count (each_once (all_unsearched founds))

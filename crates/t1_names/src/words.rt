@@ -1,0 +1,66 @@
+//! Words that stand for a font or a folder.
+
+ghost use Rattle.std.specs.Prelude.{◌≡◌, ◌≢◌, ◌<◌, [], ◌∷◌, length, MatchOption};
+ghost use Rattle.std.specs.Fn.{FnReturnsAt};
+ghost use Rattle.t1_names.specs.Words.{IsShort, Shortens, Trims, after_slashes, has_line_end};
+
+/// The name that a word stands for: `./`, and slashes after it, go from its front where something else is after them; then `/` goes from its
+/// end where something is before it and `is_folder` says that the word, with the `/`, leads to a folder.
+pub fn trim_word<'a, D>(word: &'a str, is_folder: &D) -> &'a str
+where
+    D: Fn(&str) -> bool,
+    requires { D.IsAlwaysCallable is_folder.now }
+    ensures { Trims (FnReturnsAt D.Fn is_folder.now) word.now result.now }
+{
+    let mut trimmed = word;
+    while let Some(next) = shortened(trimmed, is_folder) {
+        trimmed = next;
+    }
+    trimmed
+}
+
+/// A word without what goes from its front or its end.
+fn shortened<'a, D>(word: &'a str, is_folder: &D) -> Option<&'a str>
+where
+    D: Fn(&str) -> bool,
+    requires { D.IsAlwaysCallable is_folder.now }
+    ensures { MatchOption result (IsShort (FnReturnsAt D.Fn is_folder.now) word.now)
+        (λ next. Shortens (FnReturnsAt D.Fn is_folder.now) word.now next.now × (length next.now < length word.now)) }
+{
+    if let Some(rest) = without_front(word) {
+        return Some(rest);
+    }
+    let front = word.strip_suffix('/')?;
+    if front.is_empty() {
+        return None;
+    }
+    if is_folder(word) { Some(front) } else { None }
+}
+
+/// A word without `./` at its front and the slashes after it, where something else is after them.
+fn without_front(word: &str) -> Option<&str>
+    ensures { MatchOption result ((rest : _) → word.now ≡ 46 ∷ 47 ∷ rest → after_slashes rest ≡ [])
+        (λ next. (rest : _) × (word.now ≡ 46 ∷ 47 ∷ rest) × (next.now ≡ after_slashes rest) × (next.now ≢ [])) }
+{
+    let rest = word.strip_prefix('.')?;
+    let rest = after_slashes(rest.strip_prefix('/')?);
+    if rest.is_empty() { None } else { Some(rest) }
+}
+
+/// What is after the slashes at the front of a text.
+fn after_slashes(text: &str) -> &str
+    ensures { result.now ≡ after_slashes text.now }
+{
+    let mut rest = text;
+    while let Some(next) = rest.strip_prefix('/') {
+        rest = next;
+    }
+    rest
+}
+
+/// Whether a name has a line end, and so can't stand in a line.
+pub(crate) fn has_line_end(name: &str) -> bool
+    ensures { result ≡ has_line_end name.now }
+{
+    name.as_bytes().contains(&b'\n')
+}

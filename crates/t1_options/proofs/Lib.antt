@@ -1,0 +1,7 @@
+pub mod CommandLemmas
+pub mod Known
+pub mod Numbers
+pub mod Shards
+pub mod Together
+pub mod Uses
+pub mod WrongValues

@@ -1,0 +1,6 @@
+use Rattle.std.proofs.Common.{sym}
+use Rattle.t1_options.specs.Words.IsWrong.{reported}
+use Rattle.t1_options.proofs.judging.options_meant.Goals as goal
+
+pub returns-in-Some-clause-wrong : goal.returns-in-Some-clause-wrong
+returns-in-Some-clause-wrong c = reported c.in-Some.complaint (sym c.in-Some.ensures) c.in_ok-usage_text.ensures

@@ -1,0 +1,36 @@
+-- Which rules the words of `--only` and `--except` choose.
+use Rattle.std.specs.Prelude.{◌&&◌, ◌==◌, ℕ, Bool, not, List, ◌∷◌, map}
+use Rattle.std.specs.Char.{to_ascii_uppercase}
+use Rattle.std.specs.List.{filter, flat_map, list_all, list_any, slice_split}
+use Rattle.clap.specs.Walk.{is_empty}
+use Rattle.clap.specs.Words.{Text}
+use Rattle.t1_many.specs.Choice.{Choice, picks}
+use Rattle.t1_rules.specs.Book.{code_of, rules}
+use Rattle.t1_options.specs.Given.{GivenValue}
+
+abbrev pub is_comma : ℕ → Bool
+is_comma byte = byte == 44
+
+-- The values of an option in capitals, each after a comma.
+abbrev pub in_capitals : List Text → Text
+in_capitals values = map to_ascii_uppercase (flat_map (λ value. 44 ∷ value) values)
+
+-- The codes between the commas of a text.
+abbrev pub codes_in : Text → List Text
+codes_in text = filter (λ code. not (is_empty code)) (slice_split is_comma text)
+
+-- The codes that the uses of an option name.
+abbrev pub codes_of : List Text → List Text
+codes_of values = codes_in (in_capitals values)
+
+-- Some rule has this code, or these letters.
+unfoldable pub is_known : Text → Bool
+is_known code = list_any (λ rule. picks (code_of rule) code) rules
+
+-- There is a code, and each is known.
+abbrev pub are_known : List Text → Bool
+are_known codes = not (is_empty codes) && list_all is_known codes
+
+-- The choice that is made.
+abbrev pub choice_of : GivenValue → Choice
+choice_of given = record { only = codes_of given.only; except = codes_of given.except }

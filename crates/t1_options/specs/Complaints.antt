@@ -1,0 +1,64 @@
+-- What can be wrong with options, and the text of each case.
+use Rattle.std.specs.Prelude.{◌&&◌, ◌||◌, Bool, not, List, [], ◌∷◌, ◌++◌, Option, find, is_some, option_and_then, option_map, codes}
+use Rattle.clap.specs.Walk.{is_empty}
+use Rattle.clap.specs.Words.{Text}
+use Rattle.t1_options.specs.Choices.{are_known, codes_of}
+use Rattle.t1_options.specs.Given.{GivenValue}
+use Rattle.t1_options.specs.Values.{edition_in, file_in, form_in, number_in, shard_in, url_in}
+use Rattle.t1_options.specs.declared.complaint.Complaint.{Complaint}
+use Rattle.t1_options.specs.declared.complaint.Complaint.TheVariants as complaint
+
+abbrev pub text_of : Complaint → Text
+text_of complaint.Jobs = codes "-j wants a number from 1 on"
+text_of complaint.Edition = codes "--edition wants 1 or 2"
+text_of complaint.Baseline = codes "--baseline wants a file"
+text_of complaint.Format = codes "--format wants jsonl, sarif or github"
+text_of complaint.Docs = codes "--docs wants a URL"
+text_of complaint.UpdateOfNone = codes "--update-baseline wants --baseline"
+text_of complaint.UpdateOfShard = codes "--update-baseline and --shard exclude one another"
+text_of complaint.WaiversOfPart = codes "--write-waivers excludes --baseline and --shard"
+text_of complaint.ForceOfNone = codes "--force wants --write-waivers"
+text_of complaint.DocsOfLines = codes "--docs wants --format"
+text_of complaint.NoFont = codes "no font is named"
+text_of complaint.Shard = codes "--shard wants I/N, I from 1 to N"
+text_of complaint.Only = codes "--only wants codes of rules or their letters, as H02,Z"
+text_of complaint.Except = codes "--except wants codes of rules or their letters, as H02,Z"
+
+-- The two lines to print.
+abbrev pub usage_text : Complaint → Text
+usage_text c = codes "t1check-all: " ++ text_of c ++ codes "\nt1check-all: 't1check-all --help' says how it is used\n"
+
+-- There is a value, and it means nothing.
+abbrev pub is_wrong : {X : Type 0} → (Text → Option X) → Option Text → Bool
+is_wrong meaning value = is_some value && not (is_some (option_and_then meaning value))
+
+-- There are values, and they name no code or an unknown one.
+abbrev pub are_wrong : List Text → Bool
+are_wrong values = not (is_empty values) && not (are_known (codes_of values))
+
+-- What can be wrong, in the order of the search: five values, combinations, a missing font, and then the shard and the codes.
+abbrev pub checks_of : GivenValue → List (Bool × Complaint)
+checks_of given =
+    (is_wrong number_in given.jobs, complaint.Jobs)
+    ∷ (is_wrong edition_in given.edition, complaint.Edition)
+    ∷ (is_wrong file_in given.baseline, complaint.Baseline)
+    ∷ (is_wrong form_in given.format, complaint.Format)
+    ∷ (is_wrong url_in given.docs, complaint.Docs)
+    ∷ (given.update_baseline && not (is_some given.baseline), complaint.UpdateOfNone)
+    ∷ (given.update_baseline && is_some given.shard, complaint.UpdateOfShard)
+    ∷ (given.write_waivers && (is_some given.baseline || is_some given.shard), complaint.WaiversOfPart)
+    ∷ (given.force && not given.write_waivers, complaint.ForceOfNone)
+    ∷ (is_some given.docs && not (is_some given.format), complaint.DocsOfLines)
+    ∷ (is_empty given.paths && is_empty given.files_from, complaint.NoFont)
+    ∷ (is_wrong shard_in given.shard, complaint.Shard)
+    ∷ (are_wrong given.only, complaint.Only)
+    ∷ (are_wrong given.except, complaint.Except)
+    ∷ []
+
+-- The first that holds.
+abbrev pub first_so : List (Bool × Complaint) → Option Complaint
+first_so checks = option_map (λ check. check.1) (find (λ check. check.0) checks)
+
+-- The first thing that is wrong with the given values, if any.
+abbrev pub complaint_of : GivenValue → Option Complaint
+complaint_of given = first_so (checks_of given)

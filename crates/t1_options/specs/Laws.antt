@@ -1,0 +1,66 @@
+-- The statements of laws.
+use Rattle.std.specs.Prelude.{◌≡◌, ◌+◌, ◌<◌, ◌≤◌, ◌++◌, [], codes, Bool, true, false, ◌∷◌, None, Some, is_some, length}
+use Rattle.clap.specs.Words.{Text}
+use Rattle.t1_many.specs.Choice.{letters_of}
+use Rattle.t1_rules.specs.Book.{code_of}
+use Rattle.t1_rules.specs.declared.rule.Rule.{Rule}
+use Rattle.t1_options.specs.Choices.{is_known}
+use Rattle.t1_options.specs.Given.{GivenValue, given_by}
+use Rattle.t1_options.specs.Options.{AreMeant, is_anew}
+use Rattle.t1_options.specs.Values.{shard_in}
+use Rattle.t1_options.specs.declared.asked.KnownFaults.TheVariants.{Unnamed}
+use Rattle.t1_options.specs.declared.asked.Options.{Options}
+use Rattle.t1_options.specs.declared.asked.Shard.{Shard}
+use Rattle.t1_options.specs.declared.asked.Waivers.{Waivers}
+use Rattle.t1_options.specs.declared.asked.Waivers.TheVariants.{LeftAside, Overwritten, Read, Written}
+
+-- The code of each rule can be chosen, and the letters of each.
+pub record RulesAreKnown : Type 0 where
+  pub codes : (rule : Rule) → is_known (code_of rule) ≡ true
+  pub letters : (rule : Rule) → is_known (letters_of (code_of rule)) ≡ true
+
+-- No word that begins with E can: refusals are always printed.
+abbrev pub NoRefusalIsKnown : Type 0
+NoRefusalIsKnown = (rest : Text) → is_known (69 ∷ rest) ≡ false
+
+-- A part is one of those from 1 to their number, of which there are at most 99,999.
+pub record IsPart (shard : Shard) : Type 0 where
+  pub first : 1 ≤ shard.part
+  pub last : shard.part ≤ shard.parts
+  pub few : shard.parts ≤ 99999
+
+abbrev pub ShardsAreParts : Type 0
+ShardsAreParts = (text : Text) (shard : Shard) → shard_in text ≡ Some shard → IsPart shard
+
+abbrev pub are_written : Waivers → Bool
+are_written Read = false
+are_written LeftAside = false
+are_written Written = true
+are_written Overwritten = true
+
+-- Options that go together: known faults are updated of a whole list, waivers are written of a whole list without known faults, the page
+-- of the rules is named in a form, and there is a path or a list of them.
+pub record GoTogether (options : Options) : Type 0 where
+  pub updated : is_anew options.known_faults ≡ true → options.shard ≡ None
+  pub written : are_written options.waivers ≡ true → (options.known_faults ≡ Unnamed) × (options.shard ≡ None)
+  pub docs : is_some options.docs ≡ true → is_some options.form ≡ true
+  pub fonts : 0 < length options.paths.items + length options.files_from.items
+
+abbrev pub MeantGoTogether : Type 0
+MeantGoTogether = (given : GivenValue) (options : Options) → AreMeant given options → GoTogether options
+
+-- What two uses of an option give.
+abbrev pub given_twice : Text → Text → Text → GivenValue
+given_twice option first last = given_by (codes "t1check-all" ∷ (option ++ first) ∷ (option ++ last) ∷ [])
+
+-- Of two values of an option the last one counts, or both do in their order.
+pub record UsesCount : Type 0 where
+  pub edition : (first last : Text) → (given_twice (codes "--edition=") first last).edition ≡ Some last
+  pub baseline : (first last : Text) → (given_twice (codes "--baseline=") first last).baseline ≡ Some last
+  pub shard : (first last : Text) → (given_twice (codes "--shard=") first last).shard ≡ Some last
+  pub format : (first last : Text) → (given_twice (codes "--format=") first last).format ≡ Some last
+  pub docs : (first last : Text) → (given_twice (codes "--docs=") first last).docs ≡ Some last
+  pub only : (first last : Text) → (given_twice (codes "--only=") first last).only ≡ first ∷ last ∷ []
+  pub except : (first last : Text) → (given_twice (codes "--except=") first last).except ≡ first ∷ last ∷ []
+  pub files_from : (first last : Text) → (given_twice (codes "--files-from=") first last).files_from ≡ first ∷ last ∷ []
+  pub exclude : (first last : Text) → (given_twice (codes "--exclude=") first last).exclude ≡ first ∷ last ∷ []

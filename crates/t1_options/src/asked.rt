@@ -1,0 +1,86 @@
+//! What a command line requests.
+
+use t1_char::Edition;
+use t1_rules::Mask;
+
+/// What a command line requests.
+#[derive(Debug, Drop)]
+pub enum Request {
+    /// A check of fonts with these options.
+    Check(Options),
+    /// The version, which the program prints.
+    Version,
+}
+
+/// Which fonts are checked, and how.
+#[derive(Debug, Drop)]
+pub struct Options {
+    /// Whether summary and progress are omitted.
+    pub quiet: bool,
+    /// How many fonts are checked at once, from 1 to 99,999. Without it: one per processor.
+    pub jobs: Option<u32>,
+    /// The edition of the rule book.
+    pub edition: Edition,
+    /// The rules whose lines are printed.
+    pub rules: Mask,
+    /// What happens to files of waivers.
+    pub waivers: Waivers,
+    /// The file of known faults.
+    pub known_faults: KnownFaults,
+    /// Files that list fonts and folders, one a line. `-` is standard input.
+    pub files_from: Vec<String>,
+    /// Patterns of the names of fonts to omit.
+    pub exclude: Vec<String>,
+    /// The part of the list of fonts to check. Without it: the whole list.
+    pub shard: Option<Shard>,
+    /// The form of the output, if it is for another program.
+    pub form: Option<Form>,
+    /// The URL of the page of all rules.
+    pub docs: Option<String>,
+    /// Fonts and folders.
+    pub paths: Vec<String>,
+}
+
+/// What happens to the file of waivers beside a font.
+#[derive(Clone, Copy, Debug, PartialEq, Eq)]
+pub enum Waivers {
+    /// It is read.
+    Read,
+    /// It is ignored.
+    LeftAside,
+    /// It is written unless there is one. None is read.
+    Written,
+    /// It is written, also over one that is there. None is read.
+    Overwritten,
+}
+
+/// The file of known faults, by its name.
+#[derive(Debug, Drop)]
+pub enum KnownFaults {
+    /// No file is named.
+    Unnamed,
+    /// Only lines beyond the known faults in this file are printed.
+    Beyond(String),
+    /// What is found becomes the known faults in this file.
+    Anew(String),
+}
+
+/// A part of the list of fonts.
+#[derive(Clone, Copy, Debug, PartialEq, Eq)]
+pub struct Shard {
+    /// Which part, from 1 to `parts`.
+    pub part: u32,
+    /// How many parts there are, up to 99,999.
+    pub parts: u32,
+}
+
+/// A form of output for another program.
+#[derive(Clone, Copy, Debug, PartialEq, Eq)]
+pub enum Form {
+    /// One object of JSON a line.
+    JsonLines,
+    /// A document of SARIF 2.1.0.
+    Sarif,
+    /// Commands of a workflow of GitHub.
+    GitHub,
+}

@@ -1,0 +1,71 @@
+//! What can be wrong with options, and the text of each case.
+
+ghost use Rattle.std.specs.Prelude.{◌≡◌, IfOk, string_bytes};
+ghost use Rattle.t1_options.specs.Complaints.{text_of, usage_text};
+
+use std::alloc::{AllocError, Global};
+
+/// What can be wrong with options.
+#[derive(Clone, Copy, Debug, PartialEq, Eq)]
+pub(crate) enum Complaint {
+    /// `-j` has no number from 1 to 99,999.
+    Jobs,
+    /// `--edition` has another value than 1 or 2.
+    Edition,
+    /// `--baseline` has an empty value.
+    Baseline,
+    /// `--format` has a value that is no form.
+    Format,
+    /// `--docs` has an empty value, or one that begins with a minus.
+    Docs,
+    /// `--update-baseline` without `--baseline`.
+    UpdateOfNone,
+    /// `--update-baseline` with `--shard`.
+    UpdateOfShard,
+    /// `--write-waivers` with `--baseline` or `--shard`.
+    WaiversOfPart,
+    /// `--force` without `--write-waivers`.
+    ForceOfNone,
+    /// `--docs` without `--format`.
+    DocsOfLines,
+    /// There is neither a path nor `--files-from`.
+    NoFont,
+    /// `--shard` has another value than I/N, I from 1 to N.
+    Shard,
+    /// `--only` names no code, or an unknown one.
+    Only,
+    /// `--except` names no code, or an unknown one.
+    Except,
+}
+
+/// The sentence that says so.
+fn text_of(complaint: Complaint) -> &'static str
+    ensures { result.now ≡ text_of complaint }
+{
+    match complaint {
+        Complaint::Jobs => "-j wants a number from 1 on",
+        Complaint::Edition => "--edition wants 1 or 2",
+        Complaint::Baseline => "--baseline wants a file",
+        Complaint::Format => "--format wants jsonl, sarif or github",
+        Complaint::Docs => "--docs wants a URL",
+        Complaint::UpdateOfNone => "--update-baseline wants --baseline",
+        Complaint::UpdateOfShard => "--update-baseline and --shard exclude one another",
+        Complaint::WaiversOfPart => "--write-waivers excludes --baseline and --shard",
+        Complaint::ForceOfNone => "--force wants --write-waivers",
+        Complaint::DocsOfLines => "--docs wants --format",
+        Complaint::NoFont => "no font is named",
+        Complaint::Shard => "--shard wants I/N, I from 1 to N",
+        Complaint::Only => "--only wants codes of rules or their letters, as H02,Z",
+        Complaint::Except => "--except wants codes of rules or their letters, as H02,Z",
+    }
+}
+
+/// The two lines to print.
+pub(crate) fn usage_text(alloc: Global, complaint: Complaint) -> Result<String, AllocError>
+    ensures { IfOk result (λ text. string_bytes text ≡ usage_text complaint) }
+{
+    let mut text = String::from_str(alloc, "t1check-all: ")?;
+    text.push_str(text_of(complaint))?;
+    text.push_str("\nt1check-all: 't1check-all --help' says how it is used\n")?;
+    Ok(text)
+}

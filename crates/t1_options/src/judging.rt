@@ -1,0 +1,104 @@
+//! The options that the given values mean.
+
+ghost use Rattle.std.specs.Prelude.{◌≡◌, ◌&&◌, IfErr, IfOk, is_some, map, option_map, string_bytes};
+ghost use Rattle.t1_options.specs.Given.{given_value};
+ghost use Rattle.t1_options.specs.Options.{AreMeant, HasValues, file_of, is_anew, waivers_of};
+ghost use Rattle.t1_options.specs.Words.{IsWrong};
+
+use crate::asked::{KnownFaults, Options, Waivers};
+use crate::checks::complaint_of;
+use crate::choices::{codes_in, in_capitals};
+use crate::complaint::usage_text;
+use crate::given::Given;
+use crate::values::{docs, edition, form, jobs, shard};
+use std::alloc::{AllocError, Global};
+use t1_char::Edition;
+use t1_many::told_rules;
+use t1_rules::Mask;
+use t1_run::{UsageError, owned};
+
+/// The options that the given values mean, or what is wrong with them.
+pub(crate) fn options_meant(alloc: Global, given: &Given<'_>) -> Result<Options, UsageError>
+    ensures meant { IfOk result (AreMeant (given_value given.now)) }
+    ensures wrong { IfErr result (IsWrong (given_value given.now)) }
+{
+    let only_text = in_capitals(alloc, given.only)?;
+    let only = codes_in(alloc, only_text.as_slice())?;
+    let except_text = in_capitals(alloc, given.except)?;
+    let except = codes_in(alloc, except_text.as_slice())?;
+    if let Some(complaint) = complaint_of(given, only.as_slice(), except.as_slice()) {
+        return Err(UsageError::Usage(usage_text(alloc, complaint)?));
+    }
+    let rules = told_rules(only.as_slice(), except.as_slice());
+    Ok(options_of(alloc, given, rules)?)
+}
+
+/// The options, with these rules.
+fn options_of(alloc: Global, given: &Given<'_>, rules: Mask) -> Result<Options, AllocError>
+    ensures values { IfOk result (HasValues (given_value given.now)) }
+    ensures rules { IfOk result (λ options. options.rules ≡ rules) }
+{
+    let known_faults = known_faults(alloc, given)?;
+    let files_from = copies(alloc, given.files_from)?;
+    let exclude = copies(alloc, given.exclude)?;
+    let docs = owned(alloc, docs(given.docs))?;
+    let paths = copies(alloc, given.paths)?;
+    Ok(Options {
+        quiet: given.quiet,
+        jobs: jobs(given.jobs),
+        edition: edition(given.edition).unwrap_or(Edition::One),
+        rules,
+        waivers: waivers_of(given),
+        known_faults,
+        files_from,
+        exclude,
+        shard: shard(given.shard),
+        form: form(given.format),
+        docs,
+        paths,
+    })
+}
+
+/// What happens to files of waivers.
+fn waivers_of(given: &Given<'_>) -> Waivers
+    ensures { result ≡ waivers_of (given_value given.now) }
+{
+    if given.write_waivers {
+        if given.force {
+            Waivers::Overwritten
+        } else {
+            Waivers::Written
+        }
+    } else if given.no_waivers {
+        Waivers::LeftAside
+    } else {
+        Waivers::Read
+    }
+}
+
+/// The file of known faults.
+fn known_faults(alloc: Global, given: &Given<'_>) -> Result<KnownFaults, AllocError>
+    ensures file { IfOk result (λ faults. file_of faults ≡ option_map (λ s. s.now) given.now.baseline) }
+    ensures anew { IfOk result (λ faults. is_anew faults ≡ (given.now.update_baseline && is_some given.now.baseline)) }
+{
+    let Some(file) = given.baseline else {
+        return Ok(KnownFaults::Unnamed);
+    };
+    let file = String::from_str(alloc, file)?;
+    if given.update_baseline {
+        Ok(KnownFaults::Anew(file))
+    } else {
+        Ok(KnownFaults::Beyond(file))
+    }
+}
+
+/// Copies of texts.
+fn copies(alloc: Global, texts: &[&str]) -> Result<Vec<String>, AllocError>
+    ensures { IfOk result (λ copies. map string_bytes copies.items ≡ map (λ s. s.now) texts.now) }
+{
+    let mut copies = Vec::new(alloc);
+    for text in texts {
+        copies.push(String::from_str(alloc, *text)?)?;
+    }
+    Ok(copies)
+}

@@ -1,0 +1,27 @@
+//! Laws above the definitions: each is the contract of a function that does nothing.
+
+ghost use Rattle.t1_options.specs.Laws.{MeantGoTogether, NoRefusalIsKnown, RulesAreKnown, ShardsAreParts, UsesCount};
+
+/// `--only` and `--except` accept the code of each rule and its letters, and nothing that begins with E: refusals are always printed.
+#[tactic(auto, using(crate::proofs::Known::rules_are_known, crate::proofs::Known::no_refusal_is_known))]
+pub fn rules_are_known()
+    ensures rules { RulesAreKnown }
+    ensures refusals { NoRefusalIsKnown }
+{}
+
+/// `--shard` names a part from 1 to the number of parts, which is at most 99,999.
+pub fn shards_are_parts()
+    ensures { ShardsAreParts }
+{}
+
+/// Options that are taken go together: of the conditions on two options each holds.
+pub fn options_go_together()
+    ensures { MeantGoTogether }
+{}
+
+/// If an option is given twice, as `--NAME=VALUE`, its last value counts; of `--only`, `--except`, `--files-from` and `--exclude` both do, in
+/// their order.
+#[tactic(auto, using(crate::proofs::Uses::uses_count))]
+pub fn uses_count()
+    ensures { UsesCount }
+{}

@@ -1,0 +1,32 @@
+//! The options of t1check-all, from the words of its command line.
+//!
+//! [`options`] reads the words. clap splits them into options and values; this crate judges the values and which options go together. The
+//! result is a [`Request`], or a `UsageError` with the text to print.
+//!
+//! Promised:
+//!
+//! - words are taken exactly where clap finds no fault and nothing is wrong with what they give;
+//! - the options are those that the words mean: of an option that is given again the last value counts, and `--only`, `--except`,
+//!   `--files-from` and `--exclude` add values ([`uses_count`]);
+//! - where several things are wrong, the first in one order is reported (`checks_of`);
+//! - options go together ([`options_go_together`]), a shard is one of its parts ([`shards_are_parts`]), and `--only` and `--except` name any
+//!   rule and no refusal ([`rules_are_known`]).
+//!
+//! ```text
+//! let request = options(alloc, words)?;
+//! ```
+#![tactic(auto)]
+
+mod asked;
+mod checks;
+mod choices;
+mod command_line;
+mod complaint;
+mod given;
+mod judging;
+mod laws;
+mod values;
+
+pub use asked::{Form, KnownFaults, Options, Request, Shard, Waivers};
+pub use command_line::options;
+pub use laws::{options_go_together, rules_are_known, shards_are_parts, uses_count};

@@ -1,0 +1,86 @@
+//! What words are expected to give, and whether they do.
+
+use std::alloc::Global;
+use t1_char::Edition;
+use t1_options::{Form, KnownFaults, Options, Request, Shard, Waivers, options};
+
+/// What options are expected, but for their rules.
+#[derive(Clone, Copy)]
+pub(crate) struct Expected<'a> {
+    pub(crate) quiet: bool,
+    pub(crate) jobs: Option<u32>,
+    pub(crate) edition: Edition,
+    pub(crate) waivers: Waivers,
+    /// The file of known faults, and whether it is made anew.
+    pub(crate) known_faults: Option<(&'a str, bool)>,
+    pub(crate) files_from: &'a [&'a str],
+    pub(crate) exclude: &'a [&'a str],
+    pub(crate) shard: Option<Shard>,
+    pub(crate) form: Option<Form>,
+    pub(crate) docs: Option<&'a str>,
+    pub(crate) paths: &'a [&'a str],
+}
+
+/// One font, and no option.
+pub(crate) const PLAIN: Expected<'static> = Expected {
+    quiet: false,
+    jobs: None,
+    edition: Edition::One,
+    waivers: Waivers::Read,
+    known_faults: None,
+    files_from: &[],
+    exclude: &[],
+    shard: None,
+    form: None,
+    docs: None,
+    paths: &["a.pfb"],
+};
+
+/// Whether these are the texts.
+fn are(texts: &[String], expected: &[&str]) -> bool {
+    texts.len() == expected.len()
+        && texts
+            .iter()
+            .zip(expected.iter())
+            .all(|(text, other)| text.as_str() == *other)
+}
+
+/// The text, if there is one.
+fn text(text: &Option<String>) -> Option<&str> {
+    match text {
+        Some(text) => Some(text.as_str()),
+        None => None,
+    }
+}
+
+/// The file of known faults, and whether it is made anew.
+fn known_faults(faults: &KnownFaults) -> Option<(&str, bool)> {
+    match faults {
+        KnownFaults::Unnamed => None,
+        KnownFaults::Beyond(file) => Some((file.as_str(), false)),
+        KnownFaults::Anew(file) => Some((file.as_str(), true)),
+    }
+}
+
+/// Whether these options are the expected ones.
+fn are_expected(options: &Options, expected: Expected<'_>) -> bool {
+    options.quiet == expected.quiet
+        && options.jobs == expected.jobs
+        && options.edition == expected.edition
+        && options.waivers == expected.waivers
+        && known_faults(&options.known_faults) == expected.known_faults
+        && are(options.files_from.as_slice(), expected.files_from)
+        && are(options.exclude.as_slice(), expected.exclude)
+        && options.shard == expected.shard
+        && options.form == expected.form
+        && text(&options.docs) == expected.docs
+        && are(options.paths.as_slice(), expected.paths)
+}
+
+/// Whether words give the expected options.
+pub(crate) fn gives(alloc: Global, words: &[&str], expected: Expected<'_>) -> bool {
+    match options(alloc, words) {
+        Ok(Request::Check(options)) => are_expected(&options, expected),
+        _ => false,
+    }
+}

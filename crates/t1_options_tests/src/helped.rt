@@ -1,0 +1,57 @@
+//! The text of help.
+
+use std::alloc::Global;
+use std::process::Abort;
+use t1_options::options;
+use t1_run::UsageError;
+
+const HELP: &str = "\
+Checks many fonts: t1check-all [OPTION...] [--] FONT|FOLDER...
+
+A folder stands for the .pfa, .pfb and .t1 files below it, in the order of their paths. Each line of a report, and each
+refusal, is written as `NAME: LINE`; what could not be checked is told on standard error. A file NAME.waivers beside a
+font NAME has its waivers, lines as `A H02`.
+
+  -j N               so many fonts at once; without it as many as there are processors
+  -q                 no summary and no progress
+  --edition N        check by this edition of the rule book, 1 or 2
+  --only CODES       tell these rules alone: codes or their letters, as H02,Z
+  --except CODES     tell all rules but these
+  --no-waivers       leave waivers aside
+  --write-waivers    write NAME.waivers, which waives each line of a glyph; lines of the font are told
+  --force            overwrite waivers
+  --baseline FILE    tell only what goes beyond the known faults in FILE
+  --update-baseline  make what is found the known faults in FILE
+  --files-from FILE  check what FILE names too, a line each; - is standard input
+  --exclude GLOB     leave fonts out whose names match: * and ? within a folder, ** over folders
+  --shard I/N        check part I of N of the list
+  --format FORM      write lines, and what was not checked, in a form for other programs: jsonl, sarif or github
+  --docs URL         let a sarif document name the page of each rule, as URL#ANCHOR
+  --help, --version
+
+Status: 0 nothing was told, 1 a line was, 2 a font was refused, 3 one was not checked or the usage is wrong; the greatest
+of these. Refusals are always told.
+";
+
+/// Whether words are answered by the text of help.
+fn helps(alloc: Global, words: &[&str]) -> bool {
+    match options(alloc, words) {
+        Err(UsageError::Help(text)) => text.as_str() == HELP,
+        _ => false,
+    }
+}
+
+const CASES: &[&[&str]] = &[
+    &["t1check-all", "--help"],
+    &["t1check-all", "-h", "--color"],
+    &["t1check-all", "-qh"],
+    &["t1check-all", "--edition", "3", "--help"],
+    &["t1check-all", "--help", "--version"],
+];
+
+#[test]
+fn answers_help(rt: HostRuntime) {
+    for words in CASES {
+        assert!(rt; helps(rt.alloc(), words), "of {words:?}");
+    }
+}

@@ -1,0 +1,58 @@
+//! Words that choose rules.
+
+use std::alloc::Global;
+use std::process::Abort;
+use t1_options::{Request, options};
+use t1_rules::{Mask, Rule};
+
+/// Words, and rules that they choose and that they don't.
+type Case = (&'static [&'static str], &'static [Rule], &'static [Rule]);
+
+const CHOICES: &[Case] = &[
+    (
+        &["t1check-all", "a.pfb"],
+        &[Rule::F01, Rule::GE02, Rule::L01, Rule::U01],
+        &[],
+    ),
+    (
+        &["t1check-all", "--only", "H02,Z", "--except=z07", "a.pfb"],
+        &[Rule::H02, Rule::Z01, Rule::Z11],
+        &[Rule::Z07, Rule::H01, Rule::F01, Rule::U01],
+    ),
+    (
+        &["t1check-all", "--only", ",h02,", "a.pfb", "--only=ge"],
+        &[Rule::H02, Rule::GE01, Rule::GE02],
+        &[Rule::H01, Rule::F01],
+    ),
+    (
+        &[
+            "t1check-all",
+            "--except",
+            "GE",
+            "--except",
+            "c,p01",
+            "a.pfb",
+        ],
+        &[Rule::F01, Rule::P02],
+        &[Rule::GE01, Rule::GE02, Rule::C01, Rule::C09, Rule::P01],
+    ),
+];
+
+/// The rules that words choose.
+fn rules_of(alloc: Global, words: &[&str]) -> Option<Mask> {
+    match options(alloc, words) {
+        Ok(Request::Check(options)) => Some(options.rules),
+        _ => None,
+    }
+}
+
+#[test]
+fn words_choose_rules(rt: HostRuntime) {
+    for (words, told, others) in CHOICES {
+        let Some(rules) = rules_of(rt.alloc(), words) else {
+            panic!(rt; "of {words:?}");
+        };
+        assert!(rt; told.iter().all(|rule| rules.has(*rule)), "of {words:?}");
+        assert!(rt; !others.iter().any(|rule| rules.has(*rule)), "of {words:?}");
+    }
+}
