@@ -8,4 +8,6 @@ mod choices;
 #[cfg(test)]
 mod groups;
 #[cfg(test)]
+mod readings;
+#[cfg(test)]
 mod rows;

@@ -1,0 +1,154 @@
+//! Fonts that are told by known faults, and fonts whose faults become known.
+
+ghost use Rattle.std.specs.Prelude.{◌≡◌, false, IfOk};
+
+use std::alloc::Global;
+use std::io;
+use std::io::ErrorKind;
+use std::test::Fail;
+use t1_char::Edition;
+use t1_io::{In, Out, Source};
+use t1_many::{Anew, Beyond, Counted, Known, Lost, Plain, Reading, check_all, told_rules};
+use t1_rules::Rule;
+use t1_run::Status;
+use t1_samples::Sample;
+use t1_summary::{Found, Tally};
+
+/// Each kind is known so often of each font.
+#[derive(Clone, Copy, Drop)]
+struct KnownEverywhere {
+    count: u64,
+}
+
+impl Known for KnownEverywhere {
+    ghost counts = { λ known _. known.count };
+
+    fn count_of(&self, _key: &[u8]) -> u64 {
+        self.count
+    }
+}
+
+/// The glyph of the number 32001, 0, hmoveto, and closepath twice, endchar.
+const FIVE_FAULTS: &[u8] = b"\xff\x00\x00\x7d\x01\x8b\x16\x09\x09\x0e";
+
+/// The same with one closepath.
+const FOUR_FAULTS: &[u8] = b"\xff\x00\x00\x7d\x01\x8b\x16\x09\x0e";
+
+/// Opens the font of a name: one with five faults, one with four, or none.
+fn open<'a>(five: &'a [u8], four: &'a [u8], name: &str) -> io::Result<In<&'a [u8]>>
+    ensures { IfOk result (λ file. (⟦<In<&'a [u8]> as Source>⟧.state file).failed ≡ false) }
+{
+    match name {
+        "five.pfb" => Ok(In::new(five)),
+        "four.pfb" => Ok(In::new(four)),
+        _ => Err(io::Error::from(ErrorKind::NotFound)),
+    }
+}
+
+/// No font has waivers.
+fn no_waivers<'a>(_name: &str) -> Option<io::Result<In<&'a [u8]>>> {
+    None
+}
+
+/// The names of three fonts.
+fn names(alloc: Global) -> Result<Vec<String>, Fail> {
+    let mut names = Vec::new(alloc);
+    for name in ["five.pfb", "four.pfb", "absent.pfb"] {
+        names.push(String::from_str(alloc, name)?)?;
+    }
+    Ok(names)
+}
+
+/// Whether what was found in these fonts is as it should be.
+fn are_read(readings: &[Reading]) -> bool {
+    match readings {
+        [five, four] => {
+            five.font.as_str() == "five.pfb"
+                && five.rows.as_slice()
+                    == b"1 C05 glyph A five.pfb\n1 W01 glyph A five.pfb\n2 P03 glyph A five.pfb\n".as_slice()
+                && four.font.as_str() == "four.pfb"
+                && four.rows.as_slice()
+                    == b"1 C05 glyph A four.pfb\n1 W01 glyph A four.pfb\n1 P03 glyph A four.pfb\n".as_slice()
+        }
+        _ => false,
+    }
+}
+
+/// P03 goes beyond what is known in the first font; all else is known.
+#[test]
+fn tells_what_goes_beyond(rt: HostRuntime) -> Result<(), Fail> {
+    let alloc = rt.alloc();
+    let five = Sample::new(alloc)?.glyph(b"A", FIVE_FAULTS)?.pfb()?;
+    let four = Sample::new(alloc)?.glyph(b"A", FOUR_FAULTS)?.pfb()?;
+    let mut text = Vec::new(alloc);
+    let mut told = Vec::new(alloc);
+    let mut beyond = Beyond {
+        rules: told_rules(&[], &[b"C07"]),
+        known: KnownEverywhere { count: 1 },
+        form: Counted {
+            tally: Tally::new(),
+            form: Plain {
+                out: Out::new(&mut text),
+                errors: Out::new(&mut told),
+            },
+        },
+        readings: Vec::new(alloc),
+    };
+    let status = check_all(
+        alloc,
+        names(alloc)?.as_slice(),
+        |name| open(five.as_slice(), four.as_slice(), name),
+        |name| no_waivers(name),
+        Edition::One,
+        &mut beyond,
+    );
+    assert_eq!(rt; status, Ok(Status::Failed));
+    assert!(rt; are_read(beyond.readings.as_slice()));
+    let tally = beyond.form.tally;
+    assert_eq!(rt; tally.fonts_found(Found::Faulty), 1);
+    assert_eq!(rt; tally.fonts_found(Found::Known), 1);
+    assert_eq!(rt; tally.fonts_found(Found::Unchecked), 1);
+    assert_eq!(rt; tally.fonts(), 3);
+    assert_eq!(rt; tally.lines_of(Rule::P03), 2);
+    assert_eq!(rt; tally.lines_of(Rule::C05), 0);
+    drop(beyond);
+    let lines = b"\
+five.pfb: 4: glyph A - 4 P03 closepath without a path
+five.pfb: 5: glyph A - 5 P03 closepath without a path
+";
+    assert!(rt; text.as_slice() == lines.as_slice());
+    assert!(rt; told.as_slice() == b"absent.pfb: t1check: read failed\n".as_slice());
+    Ok(())
+}
+
+/// What is found becomes known, and no line is told.
+#[test]
+fn tells_no_line_of_what_becomes_known(rt: HostRuntime) -> Result<(), Fail> {
+    let alloc = rt.alloc();
+    let five = Sample::new(alloc)?.glyph(b"A", FIVE_FAULTS)?.pfb()?;
+    let four = Sample::new(alloc)?.glyph(b"A", FOUR_FAULTS)?.pfb()?;
+    let mut text = Vec::new(alloc);
+    let mut told = Vec::new(alloc);
+    let mut anew = Anew {
+        rules: told_rules(&[], &[b"C07"]),
+        form: Plain {
+            out: Out::new(&mut text),
+            errors: Out::new(&mut told),
+        },
+        readings: Vec::new(alloc),
+    };
+    let status: Result<Status, Lost> = check_all(
+        alloc,
+        names(alloc)?.as_slice(),
+        |name| open(five.as_slice(), four.as_slice(), name),
+        |name| no_waivers(name),
+        Edition::One,
+        &mut anew,
+    );
+    assert_eq!(rt; status, Ok(Status::Failed));
+    assert!(rt; are_read(anew.readings.as_slice()));
+    drop(anew);
+    assert!(rt; text.is_empty());
+    assert!(rt; told.as_slice() == b"absent.pfb: t1check: read failed\n".as_slice());
+    Ok(())
+}
