@@ -10,6 +10,7 @@ pub mod GroupOrder
 pub mod GroupTexts
 pub mod Handed
 pub mod HandedReports
+pub mod JoinedParts
 pub mod KindRows
 pub mod KindTexts
 pub mod KnownCounts

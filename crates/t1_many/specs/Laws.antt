@@ -13,13 +13,16 @@ use Rattle.t1_run.specs.declared.status.Status.{Status}
 use Rattle.t1_many.specs.Groups.{found_in, group_of}
 use Rattle.t1_many.specs.GroupRows.{group_rows}
 use Rattle.t1_many.specs.Handing.{Handed, HandsOn, done}
-use Rattle.t1_many.specs.Plain.{Devices, IsWritten, PlainTakes}
+use Rattle.t1_many.specs.Plain.{Devices, IsWritten, PlainTakes, tellings, texts}
+use Rattle.t1_many.specs.Ends.{status_of_all}
+use Rattle.t1_many.specs.Told.{all_handed}
+use Rattle.t1_many.specs.declared.verdict.Verdict.{Verdict}
 use Rattle.t1_summary.specs.declared.found.Found.{Found}
 use Rattle.t1_many.specs.declared.recipient.Lost.{Lost}
-use Rattle.t1_many.specs.Outcomes.{IsRead}
+use Rattle.t1_many.specs.Outcomes.{Entry, IsRead, Report}
 use Rattle.t1_many.specs.Choice.{Choice, is_told, letters_of, picks}
 use Rattle.t1_many.specs.KnownFaults.{IsKind, IsRow, Reading, RowValue, beyond, found_count, kind_of, kinds_in, row_text, rows_of, rule_of, shortfall, updated}
-use Rattle.t1_many.specs.Shards.{first_parts}
+use Rattle.t1_many.specs.Shards.{first_parts, joined, of_parts}
 use Rattle.t1_many.specs.Statuses.{worse, worst_of}
 use Rattle.t1_many.specs.WrittenWaivers.{waivers_of_lines, waivers_text}
 
@@ -80,6 +83,25 @@ ATextIsOneRow = (a b : RowValue) → IsRow a → IsRow b → row_text a ≡ row_
 -- The parts of a list, one behind the other, are the list.
 abbrev pub PartsAreTheWhole : Type 0
 PartsAreTheWhole = (parts : ℕ) → 0 < parts → (list : List (List ℕ)) → first_parts parts list parts ≡ list
+
+-- What is handed on of the fonts of parts, joined, is what is handed on of all of them.
+abbrev pub PartsAreHandedOn : Type 0
+PartsAreHandedOn =
+    (judges : Report → FaultValue → Verdict) (entries_of : ℕ → List Entry) (parts : ℕ)
+    → all_handed judges (joined entries_of parts) ≡ joined (λ part. all_handed judges (entries_of part)) parts
+
+-- So are its bytes in the plain form, and what is printed on standard error.
+abbrev pub PartsAreWritten : Type 0
+PartsAreWritten =
+    (handed_of : ℕ → List Handed) (parts : ℕ)
+    → (texts (joined handed_of parts) ≡ joined (λ part. texts (handed_of part)) parts)
+    × (tellings (joined handed_of parts) ≡ joined (λ part. tellings (handed_of part)) parts)
+
+-- The status of all fonts is the greatest of the parts'.
+abbrev pub PartsHaveTheStatus : Type 0
+PartsHaveTheStatus =
+    (founds_of : ℕ → List Found) (parts : ℕ)
+    → status_of_all (joined founds_of parts) ≡ worst_of (of_parts (λ part. status_of_all (founds_of part)) parts)
 
 -- The kinds that were found are of rules that are told, and they are fewer than a number of 64 bits counts.
 pub record IsReading (choice : Choice) (kinds : List (List ℕ)) : Type 0 where

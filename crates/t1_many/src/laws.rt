@@ -1,6 +1,6 @@
 //! Laws above the definitions: each is the contract of a function that does nothing.
 
-ghost use Rattle.t1_many.specs.Laws.{ATextIsOneRow, CodesPickTheirRule, GroupRowsAreKindRows, GroupsAreKinds, GroupsCountKinds, JoinedAreWorse, KindsNameTheirRules, LettersPickTheirRules, LinesHaveKinds, NoLineIsBeyond, NoRowFallsShort, NoneIsWorse, PartsAreTheWhole, PlainIsFlushed, PlainIsWritten, WrittenWaiversAreRead};
+ghost use Rattle.t1_many.specs.Laws.{ATextIsOneRow, CodesPickTheirRule, GroupRowsAreKindRows, GroupsAreKinds, GroupsCountKinds, JoinedAreWorse, KindsNameTheirRules, LettersPickTheirRules, LinesHaveKinds, NoLineIsBeyond, NoRowFallsShort, NoneIsWorse, PartsAreHandedOn, PartsAreTheWhole, PartsAreWritten, PartsHaveTheStatus, PlainIsFlushed, PlainIsWritten, WrittenWaiversAreRead};
 
 /// A code picks its rule alone, and the letters of a code pick the rules whose codes have these letters.
 #[tactic(auto, using(crate::proofs::Codes::codes_pick, crate::proofs::Codes::letters_pick))]
@@ -38,6 +38,15 @@ pub fn groups_are_kinds()
 #[tactic(auto, using(crate::proofs::Parts::whole))]
 pub fn parts_are_the_whole()
     ensures { PartsAreTheWhole }
+{}
+
+/// What is handed on of parts, joined, is what is handed on of the whole, and so are its bytes; the greatest status of the parts is the
+/// whole's.
+#[tactic(auto, using(crate::proofs::JoinedParts::handed, crate::proofs::JoinedParts::status))]
+pub fn parts_are_told_as_the_whole()
+    ensures handed { PartsAreHandedOn }
+    ensures written { PartsAreWritten }
+    ensures status { PartsHaveTheStatus }
 {}
 
 /// No status is greater than the greatest, and that of two lists together is the greater of theirs.
