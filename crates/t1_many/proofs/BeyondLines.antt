@@ -1,5 +1,5 @@
 -- Lines that go beyond what is known, by counts of what is found.
-use Rattle.std.proofs.Common.{◌≡◌, ℕ, nat_lt, Bool, List, [], ◌∷◌, ◌++◌, Option, Result, cond, map, refl, sym, ap, subst, ◌∙◌}
+use Rattle.std.proofs.Common.{◌≡◌, ℕ, nat_lt, List, [], ◌∷◌, ◌++◌, Option, Result, cond, map, refl, ap, subst, ◌∙◌}
 use Rattle.std.specs.List.{filter}
 use Rattle.std.specs.Result.{IfOk}
 use Rattle.t1_font.specs.Fonts.{FontValue}

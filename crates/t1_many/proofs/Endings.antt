@@ -9,7 +9,7 @@ use Rattle.t1_lines.specs.declared.refusal.Reason.{Reason}
 use Rattle.t1_lines.specs.declared.refusal.Reason.TheVariants.{Font, FontTooLarge, Waivers, WaiversTooLarge}
 use Rattle.t1_many.specs.Files.{Given, IsFound}
 use Rattle.t1_many.specs.Files.IsFound.{breaks, breaks_waivers, no_memory, refused, reports, waivers_refused}
-use Rattle.t1_many.specs.Outcomes.{Entry, Outcome, Report, failed, reported}
+use Rattle.t1_many.specs.Outcomes.{Entry, Outcome, failed, reported}
 use Rattle.t1_many.specs.Private.Checking.{Checks, of_bytes, of_files, of_font, of_text}
 use Rattle.t1_summary.specs.declared.found.Found.{Found}
 use Rattle.t1_many.specs.declared.recipient.Lost.{Lost}

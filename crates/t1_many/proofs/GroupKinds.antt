@@ -1,11 +1,11 @@
 -- Faults of one group are of one kind, and faults of one kind of one group.
-use Rattle.std.proofs.Common.{◌≡◌, ◌≤◌, ◌<◌, ◌+◌, ◌*◌, ◌-◌, ◌/◌, ◌%◌, ◌==◌, ℕ, zero, suc, Bool, true, false, Option, Some, None, List, [], ◌∷◌, ◌++◌, Result, Ok, Err, IsTrue, codes, length, slice_get, get_or, inl, inr, refl, sym, ap, ap₂, subst, ◌∙◌, arith, append-nil}
+use Rattle.std.proofs.Common.{◌≡◌, ◌≤◌, ◌<◌, ◌+◌, ◌*◌, ◌-◌, ◌/◌, ◌%◌, ◌==◌, ℕ, zero, suc, true, Some, List, [], ◌∷◌, ◌++◌, Result, Ok, Err, IsTrue, length, slice_get, get_or, inl, inr, refl, sym, ap, ap₂, subst, ◌∙◌, arith}
 use Rattle.std.proofs.lemmas.Bool.{cases_Bool}
 use Rattle.std.proofs.lemmas.Bool.Decides.{nat_tests}
 use Rattle.std.proofs.lemmas.List.{append_cancel_right}
 use Rattle.std.proofs.lemmas.List.Elements.{All-head, All-tail}
 use Rattle.std.proofs.lemmas.Option.{none-some, slice_get-get_or}
-use Rattle.std.specs.List.{concat, list_all}
+use Rattle.std.specs.List.{list_all}
 use Rattle.t1_font.specs.ClearText.{clear_of}
 use Rattle.t1_font.specs.FontFiles.{as_unread, clear_next, font_in, marks_in, private_next, section_next}
 use Rattle.t1_font.specs.Fonts.{FontValue, Marks, glyph_name}
@@ -16,16 +16,15 @@ use Rattle.t1_lines.proofs.Cuts.{some_same}
 use Rattle.t1_lines.proofs.NamesKept.{fonts_have_names, glyph_named}
 use Rattle.t1_lines.proofs.NamesRead.{key-found}
 use Rattle.t1_lines.proofs.WaiverNames.{waivers_have_names}
-use Rattle.t1_lines.specs.Lines.{PlaceValue, at_key, at_step, at_waiver, line_in, place_in}
+use Rattle.t1_lines.specs.Lines.{at_key, at_step, at_waiver, line_in, place_in}
 use Rattle.t1_lines.specs.Names.{HasNames, HaveNames}
 use Rattle.t1_lines.specs.Private.Reading.{key_of}
-use Rattle.t1_many.proofs.LineKinds.{code_is_a_word, key_is_a_word, name_is_a_word}
+use Rattle.t1_many.proofs.LineKinds.{code_is_a_word, name_is_a_word}
 use Rattle.t1_many.proofs.Rows.{IsSplit, font_glyph, font_split, font_waiver, glyph_split, glyph_waiver, same_splits, unjoin, waiver_split}
 use Rattle.t1_many.proofs.WaiversOnce.{AreOnce, waivers_once}
 use Rattle.t1_many.specs.Groups.{group_of, part_of}
 use Rattle.t1_many.specs.KnownFaults.{is_word, kind_at, kind_of}
 use Rattle.t1_many.specs.Laws.{GroupsAreKinds}
-use Rattle.t1_many.specs.Outcomes.{IsRead}
 use Rattle.t1_report.proofs.NamesOnce.{fonts_have_no_name_twice}
 use Rattle.t1_report.specs.Faults.{FaultValue}
 use Rattle.t1_report.specs.Laws.WaivedFaults.{HasNoNameTwice}

@@ -1,10 +1,10 @@
 -- The rows of groups, group by group.
-use Rattle.std.proofs.Common.{◌≡◌, ◌≤◌, ◌<◌, ◌+◌, ◌++◌, ◌∷◌, [], ℕ, zero, suc, Bool, List, Option, Some, None, length, map, not, nat_eq, filter, slice_get, take, refl, sym, ap, ap₂, subst, ◌∙◌, arith, add-one, append_assoc, append-nil, inl, inr, get_or}
+use Rattle.std.proofs.Common.{◌≡◌, ◌≤◌, ◌+◌, ◌++◌, ◌∷◌, [], ℕ, zero, suc, Bool, List, Some, length, map, not, nat_eq, filter, slice_get, take, refl, sym, ap, subst, ◌∙◌, arith, add-one, append_assoc, append-nil, inl, inr}
 use Rattle.std.proofs.Math.Seq.{take-suc}
 use Rattle.std.proofs.lemmas.Bool.{cases_Bool}
 use Rattle.std.proofs.lemmas.Grind.{flat_map-append}
 use Rattle.std.proofs.lemmas.List.{length-map, take_all}
-use Rattle.std.proofs.lemmas.Option.{get_or_from_slice_get, none-some, slice_get-map, slice_get_within}
+use Rattle.std.proofs.lemmas.Option.{get_or_from_slice_get, none-some, slice_get_within}
 use Rattle.std.specs.List.{AllByRecursion, flat_map}
 use Rattle.t1_font.specs.Fonts.{FontValue}
 use Rattle.t1_lines.proofs.Cuts.{some_same}

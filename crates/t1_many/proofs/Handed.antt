@@ -1,5 +1,5 @@
 -- Things that are handed on one after another.
-use Rattle.std.proofs.Common.{◌≡◌, List, [], ◌∷◌, ◌++◌, Option, None, Some, inl, inr, refl, sym, subst}
+use Rattle.std.proofs.Common.{List, [], ◌∷◌, ◌++◌, Option, None, Some, inl, inr, refl, sym, subst}
 use Rattle.std.proofs.lemmas.Option.{none-some}
 use Rattle.t1_many.specs.Handing.{Handed, HandsOn}
 use Rattle.t1_many.specs.declared.recipient.Lost.{Lost}

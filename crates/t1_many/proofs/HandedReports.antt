@@ -1,18 +1,16 @@
 -- A report that is handed on, with how its font was found behind it.
-use Rattle.std.proofs.Common.{◌≡◌, ℕ, List, [], ◌∷◌, ◌++◌, Option, None, Some, Result, Ok, Err, sym, ap, subst, refl}
+use Rattle.std.proofs.Common.{◌≡◌, ℕ, List, [], ◌∷◌, ◌++◌, Option, None, Some, Result, Ok, Err, sym, subst}
 use Rattle.std.specs.Result.{IsErrAnd}
 use Rattle.t1_many.proofs.Handed.{handed-append, handed-one, handed-stopped}
 use Rattle.t1_many.proofs.ReportLines.{lost_same, no_ok}
-use Rattle.t1_many.specs.Handing.{Handed, HandsOn, done, failure, found_by, lines_by, lost_of}
-use Rattle.t1_many.specs.Outcomes.{found_of_failure}
-use Rattle.t1_many.specs.Private.Handing.{HandsFailure, HandsLines, HandsReport}
+use Rattle.t1_many.specs.Handing.{Handed, HandsOn, done, found_by, lines_by}
+use Rattle.t1_many.specs.Private.Handing.{HandsLines, HandsReport}
 use Rattle.t1_summary.specs.declared.found.Found.{Found}
 use Rattle.t1_many.specs.declared.recipient.Lost.{Lost}
 use Rattle.t1_many.specs.declared.verdict.Verdict.{Verdict}
 use Rattle.t1_report.specs.Checked.{CheckedFont}
 use Rattle.t1_report.specs.Faults.{FaultValue}
 use Rattle.t1_report.specs.Waivers.{Waiver}
-use Rattle.t1_run.specs.declared.failure.Failure.{Failure}
 
 module _ {F : Type 0} (takes : F → F → Handed → Option Lost → Type 0) (name : List ℕ) where
   module _ (judges : FaultValue → Verdict) (font : CheckedFont) (waivers : List Waiver) (a b : F) where

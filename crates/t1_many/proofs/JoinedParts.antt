@@ -1,17 +1,16 @@
 -- Parts that are joined.
-use Rattle.std.proofs.Common.{◌≡◌, ℕ, zero, suc, List, [], ◌∷◌, ◌++◌, map, refl, sym, ap, ap₂, ◌∙◌}
+use Rattle.std.proofs.Common.{◌≡◌, ℕ, zero, suc, List, ◌++◌, map, refl, sym, ap, ◌∙◌}
 use Rattle.std.proofs.lemmas.Grind.{flat_map-append}
 use Rattle.std.proofs.lemmas.List.{map-append}
 use Rattle.std.specs.List.{flat_map}
 use Rattle.t1_many.proofs.Worst.{joined_are_worse, worst_push}
 use Rattle.t1_many.specs.Ends.{status_of_all}
-use Rattle.t1_many.specs.Handing.{Handed, handed_of}
+use Rattle.t1_many.specs.Handing.{handed_of}
 use Rattle.t1_many.specs.Laws.{PartsAreHandedOn, PartsAreWritten, PartsHaveTheStatus}
 use Rattle.t1_many.specs.Outcomes.{Entry, status_of_found}
 use Rattle.t1_many.specs.Plain.{text_of, told_of}
 use Rattle.t1_many.specs.Shards.{joined, of_parts}
 use Rattle.t1_many.specs.Statuses.{worse, worst_of}
-use Rattle.t1_summary.specs.declared.found.Found.{Found}
 
 -- what is made of each element of a list, part by part
 each_joined : {A B : Type 0} (f : A → List B) (list_of : ℕ → List A) (parts : ℕ)

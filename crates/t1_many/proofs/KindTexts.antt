@@ -1,9 +1,9 @@
 -- The kind of a group, by the group's number.
-use Rattle.std.proofs.Common.{◌≡◌, ◌⊎◌, ◌≤◌, ◌<◌, ◌+◌, ◌*◌, ◌-◌, ◌/◌, ◌%◌, ℕ, Option, Some, None, Result, Ok, Err, List, [], ◌∷◌, ◌++◌, codes, length, slice_get, inl, inr, refl, sym, ap, ap₂, subst, ◌∙◌, arith, append_assoc}
+use Rattle.std.proofs.Common.{◌≡◌, ◌⊎◌, ◌≤◌, ◌<◌, ◌+◌, ◌-◌, ◌/◌, ◌%◌, ℕ, Some, Result, Ok, Err, List, [], ◌∷◌, ◌++◌, codes, length, slice_get, inl, inr, sym, ap, ap₂, subst, ◌∙◌, arith, append_assoc}
 use Rattle.std.specs.List.{concat}
 use Rattle.std.specs.Result.{OnOk}
 use Rattle.t1_font.specs.Fonts.{FontValue, glyph_name}
-use Rattle.t1_lines.specs.Lines.{at_key, at_step, at_waiver, place_in}
+use Rattle.t1_lines.specs.Lines.{at_key, at_step, at_waiver}
 use Rattle.t1_many.proofs.GroupKinds.{IsPlaced, kind_in, placed, small_number, small_part}
 use Rattle.t1_many.proofs.GroupKinds.IsPlaced.{in_font, in_glyph, in_waivers}
 use Rattle.t1_many.specs.Groups.{group_of, part_of}

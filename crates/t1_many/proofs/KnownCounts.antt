@@ -1,15 +1,14 @@
 -- How often groups are known, group by group.
-use Rattle.std.proofs.Common.{◌≡◌, ◌≤◌, ◌<◌, ◌+◌, ◌||◌, ℕ, Bool, true, false, true≢false, nat_eq, Option, Some, None, List, [], ◌∷◌, ◌++◌, cond, length, slice_get, take, inl, inr, refl, sym, ap, ◌∙◌, arith}
+use Rattle.std.proofs.Common.{◌≡◌, ◌+◌, ◌||◌, ℕ, Bool, true, false, true≢false, nat_eq, Option, Some, List, [], ◌∷◌, cond, slice_get, take, inl, inr, refl, sym, ap, ◌∙◌, arith}
 use Rattle.std.proofs.lemmas.Bool.{cases_Bool}
 use Rattle.std.proofs.lemmas.Bool.Decides.{nat_tests}
 use Rattle.std.proofs.lemmas.List.Folds.{list_any-append}
 use Rattle.std.specs.List.{AllByRecursion}
 use Rattle.std.specs.Map.{count_at}
 use Rattle.t1_font.specs.Fonts.{FontValue}
-use Rattle.t1_many.proofs.GroupKinds.{groups_are_kinds}
-use Rattle.t1_many.proofs.GroupTexts.{group_in, up_to}
-use Rattle.t1_many.specs.Groups.{firsts, found_in, group_of, groups_of, is_among}
-use Rattle.t1_many.specs.Known.{key_in, key_of}
+use Rattle.t1_many.proofs.GroupTexts.{group_in}
+use Rattle.t1_many.specs.Groups.{firsts, group_of, groups_of, is_among}
+use Rattle.t1_many.specs.Known.{key_in}
 use Rattle.t1_many.specs.Outcomes.{IsRead}
 use Rattle.t1_report.specs.Faults.{FaultValue}
 use Rattle.t1_report.specs.Lines.{IsInFont}

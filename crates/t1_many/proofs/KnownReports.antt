@@ -1,5 +1,5 @@
 -- Reports of which the lines beyond known faults are handed on.
-use Rattle.std.proofs.Common.{◌≡◌, ◌≤◌, ◌==◌, ◌||◌, ℕ, Bool, true, false, true≢false, nat_eq, nat_lt, List, [], ◌∷◌, ◌++◌, Option, None, Some, Result, Ok, Err, cond, filter, map, inl, inr, refl, sym, ap, ap₂, subst, ◌∙◌, arith}
+use Rattle.std.proofs.Common.{◌≡◌, ◌||◌, ℕ, Bool, true, false, nat_eq, nat_lt, List, [], ◌∷◌, ◌++◌, Option, Result, Ok, Err, cond, filter, map, inl, inr, refl, sym, ap, ap₂, subst, ◌∙◌, arith}
 use Rattle.std.proofs.lemmas.Bool.{cases_Bool}
 use Rattle.std.proofs.lemmas.Bool.Decides.{nat_tests}
 use Rattle.std.specs.List.{AllByRecursion}
@@ -7,10 +7,9 @@ use Rattle.std.specs.Result.{IfOk}
 use Rattle.t1_font.specs.Fonts.{FontValue}
 use Rattle.t1_many.proofs.KindRows.{groups_count_kinds}
 use Rattle.t1_many.specs.Beyond.{HandsBeyond, verdict_beyond, verdict_of}
-use Rattle.t1_many.specs.Groups.{CountsReport, found_in, group_of, groups_of, is_among, told_faults}
-use Rattle.t1_many.specs.Handing.{Handed, HandsFont, HandsOn, done, found_by, found_with, handed_of, is_told, line, lines_by, lost_of}
-use Rattle.t1_many.specs.Known.{key_in, kind_in, verdict_known}
-use Rattle.t1_many.specs.KnownFaults.{found_count}
+use Rattle.t1_many.specs.Groups.{CountsReport, group_of, groups_of, is_among, told_faults}
+use Rattle.t1_many.specs.Handing.{Handed, HandsFont, HandsOn, done, found_by, found_with, is_told, line, lines_by, lost_of}
+use Rattle.t1_many.specs.Known.{key_in, verdict_known}
 use Rattle.t1_many.specs.Outcomes.{Entry, IsRead, Report, reported}
 use Rattle.t1_many.specs.Private.Handing.{HandsReport}
 use Rattle.t1_many.specs.Readings.{IsReading, Keeps, TakesOutcome, as_known, by_known}

@@ -3,10 +3,10 @@ use Rattle.std.proofs.Common.{◌≡◌, ◌⊎◌, ℕ, true, List, [], ◌∷�
 use Rattle.std.proofs.KnownBytes.{Appends-kept, Appends-nil, Appends-trans}
 use Rattle.std.proofs.lemmas.Option.{none-some}
 use Rattle.std.specs.Io.KnownBytes.{Appends, Keeps}
-use Rattle.t1_io.specs.Devices.{AppendsFront, CallFailed, PutFailed, SinkState}
-use Rattle.t1_many.specs.Handing.{Handed, HandsOn, done, failure, line}
+use Rattle.t1_io.specs.Devices.{AppendsFront, SinkState}
+use Rattle.t1_many.specs.Handing.{Handed, done, failure, line}
 use Rattle.t1_many.specs.Laws.{PlainIsFlushed, PlainIsWritten}
-use Rattle.t1_many.specs.Plain.{Devices, IsPut, IsWritten, PlainTakes, PutsFailure, failure_text, failure_told, tellings, text_of, texts, told_of}
+use Rattle.t1_many.specs.Plain.{Devices, IsPut, IsWritten, PlainTakes, PutsFailure, tellings, text_of, texts, told_of}
 use Rattle.t1_many.specs.declared.recipient.Lost.{Lost}
 use Rattle.t1_many.specs.declared.recipient.Lost.TheVariants.{Device, Memory}
 use Rattle.t1_run.specs.declared.failure.Failure.{Failure}

@@ -1,9 +1,9 @@
 -- What is handed on of fonts, font by font.
-use Rattle.std.proofs.Common.{◌≡◌, List, [], ◌∷◌, ◌++◌, ℕ, Option, None, Some, Result, Ok, Err, map, take, refl, sym, ap, ap₂, subst, ◌∙◌, append-nil}
+use Rattle.std.proofs.Common.{◌≡◌, List, [], ◌∷◌, ◌++◌, ℕ, Option, None, Some, Result, Ok, refl, sym, ap, ap₂, subst, ◌∙◌, append-nil}
 use Rattle.std.proofs.lemmas.Grind.{flat_map-append}
 use Rattle.t1_char.specs.declared.edition.Edition.{Edition}
 use Rattle.t1_many.proofs.Handed.{handed-append}
-use Rattle.t1_many.specs.Ends.{AreEntries, AreTaken, Ends, status_of_all}
+use Rattle.t1_many.specs.Ends.{AreTaken, Ends, status_of_all}
 use Rattle.t1_many.specs.Ends.Ends.{all, stopped}
 use Rattle.t1_many.specs.Files.{Files}
 use Rattle.t1_many.specs.Handing.{Handed, HandsFont, HandsOn, handed_of}

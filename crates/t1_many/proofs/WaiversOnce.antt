@@ -1,8 +1,8 @@
 -- No two places of waivers that were read have the same one.
-use Rattle.std.proofs.Common.{◌≡◌, ◌⊎◌, ◌==◌, ◌&&◌, ◌||◌, ◌<◌, ℕ, zero, suc, Bool, true, false, true≢false, cond, Option, Some, None, List, [], ◌∷◌, ◌++◌, length, slice_get, inl, inr, refl, sym, ap, subst, ◌∙◌, arith}
+use Rattle.std.proofs.Common.{◌≡◌, ◌⊎◌, ◌==◌, ◌&&◌, ◌||◌, ℕ, zero, suc, Bool, true, false, true≢false, Some, List, [], ◌∷◌, ◌++◌, length, slice_get, inl, inr, refl, sym, ap, subst, ◌∙◌, arith}
 use Rattle.std.proofs.lemmas.Bool.{cases_Bool}
 use Rattle.std.proofs.lemmas.Bool.Decides.{nat_tests}
-use Rattle.std.proofs.lemmas.Option.{none-some, option_and_then_some, slice_get_within}
+use Rattle.std.proofs.lemmas.Option.{none-some, option_and_then_some}
 use Rattle.t1_font.proofs.Tables.{name_exact}
 use Rattle.t1_font.specs.Keys.{same_name}
 use Rattle.t1_lines.proofs.Cuts.{some_same}

@@ -1,5 +1,5 @@
 -- The lines of a font that go beyond known faults, by kinds.
-use Rattle.std.specs.Prelude.{◌≡◌, ℕ, nat_lt, List, [], ◌∷◌, ◌++◌, codes, map, Option, Result, IfOk}
+use Rattle.std.specs.Prelude.{ℕ, nat_lt, List, [], ◌∷◌, codes, map}
 use Rattle.std.specs.List.{concat}
 use Rattle.t1_font.specs.Fonts.{FontValue}
 use Rattle.t1_lines.specs.Lines.{line_in}

@@ -2,7 +2,6 @@
 use Rattle.std.specs.Prelude.{◌≡◌, ◌⊎◌, ℕ, true, List, [], ◌∷◌, ◌++◌, codes, Option, None, Some}
 use Rattle.std.specs.Io.KnownBytes.{Appends}
 use Rattle.std.specs.List.{concat, flat_map}
-use Rattle.t1_font.specs.Fonts.{FontValue}
 use Rattle.t1_io.specs.Devices.{AppendsFront, CallFailed, Flushed, PutFailed, SinkState, Wrote}
 use Rattle.t1_many.specs.Handing.{Handed, done, failure, line}
 use Rattle.t1_many.specs.declared.recipient.Lost.{Lost}

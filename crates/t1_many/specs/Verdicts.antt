@@ -1,5 +1,5 @@
 -- How the faults of a report are judged.
-use Rattle.std.specs.Prelude.{ℕ, if◌then◌else◌}
+use Rattle.std.specs.Prelude.{if◌then◌else◌}
 use Rattle.t1_many.specs.Outcomes.{Report}
 use Rattle.t1_many.specs.declared.verdict.Verdict.{Verdict}
 use Rattle.t1_many.specs.declared.verdict.Verdict.TheVariants.{Left, Told}

@@ -113,7 +113,15 @@ where
             check_opened(alloc, name, &mut font, &mut none, false, edition, recipient)
         }
         Some(Ok(mut waivers)) => {
-            check_opened(alloc, name, &mut font, &mut waivers, true, edition, recipient)
+            check_opened(
+                alloc,
+                name,
+                &mut font,
+                &mut waivers,
+                true,
+                edition,
+                recipient,
+            )
         }
         Some(Err(_)) => Err(Failure::Broken),
     }

@@ -5,11 +5,11 @@ ghost use Rattle.t1_many.specs.Handing.{Handed, done, failure, line, lost_of};
 ghost use Rattle.t1_report.specs.Faults.{fault_value};
 ghost use Rattle.t1_report.specs.Lines.{IsInFont};
 
-use t1_summary::Found;
 use crate::recipient::Lost;
 use t1_font::Font;
 use t1_report::{Fault, Waivers};
 use t1_run::Failure;
+use t1_summary::Found;
 
 /// A form in which lines are handed on, one after another.
 pub trait Form {

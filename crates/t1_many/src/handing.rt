@@ -9,7 +9,6 @@ ghost use Rattle.t1_rules.specs.Components.{AreOf};
 
 use crate::form::Form;
 use crate::found::found_of;
-use t1_summary::Found;
 use crate::recipient::Taken;
 use crate::verdict::Judge;
 use t1_font::Font;
@@ -19,6 +18,7 @@ use t1_report::{
 };
 use t1_rules::Sidebearings;
 use t1_run::Failure;
+use t1_summary::Found;
 
 /// Hands the lines of a font's report on that are told, and then how the font was found.
 pub(crate) fn hand_report<'a, F: Form, J: Judge>(

@@ -35,8 +35,8 @@ pub use kinds::push_rows;
 pub use known::Known;
 pub use laws::{
     a_text_is_one_row, an_update_is_quiet, codes_pick_their_rules, groups_are_kinds,
-    parts_are_the_whole, parts_are_told_as_the_whole, plain_lines_are_written,
-    statuses_join, written_waivers_are_read,
+    parts_are_the_whole, parts_are_told_as_the_whole, plain_lines_are_written, statuses_join,
+    written_waivers_are_read,
 };
 pub use plain::Plain;
 pub use readings::{Anew, Beyond, Reading};

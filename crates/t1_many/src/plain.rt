@@ -8,13 +8,13 @@ ghost use Rattle.t1_run.specs.Failures.{refusal_line};
 ghost use Rattle.t1_many.specs.Handing.{lost_of};
 
 use crate::form::Form;
-use t1_summary::Found;
 use crate::recipient::Lost;
 use t1_font::Font;
 use t1_io::{Sink, put_all, put_parts};
 use t1_lines::{RefusalCode, refusal_text};
 use t1_report::{Fault, Waivers, write_fault};
 use t1_run::Failure;
+use t1_summary::Found;
 
 /// Lines and refusals on the output, all else on standard error, each with the font's name in front. Behind each font the output is
 /// flushed.

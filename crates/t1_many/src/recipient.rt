@@ -6,13 +6,13 @@ ghost use Rattle.t1_many.specs.declared.recipient.Lost.TheVariants.{Device};
 ghost use Rattle.t1_report.specs.Checked.{checked};
 ghost use Rattle.t1_rules.specs.Components.{AreOf};
 
-use t1_summary::Found;
 use std::alloc::{AllocError, Global};
 use t1_font::Font;
 use t1_io::Broken;
 use t1_report::Waivers;
 use t1_rules::Sidebearings;
 use t1_run::Failure;
+use t1_summary::Found;
 
 /// Why a run over many fonts stops.
 #[derive(Clone, Copy, Debug, PartialEq, Eq)]

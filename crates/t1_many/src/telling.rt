@@ -40,7 +40,14 @@ impl<F: Form> Recipient for Telling<F> {
         sidebearings: &'a Sidebearings,
         waivers: &'a Waivers<'a>,
     ) -> Result<Taken, AllocError> {
-        Ok(hand_report(&mut self.form, name, font, sidebearings, waivers, &self.rules))
+        Ok(hand_report(
+            &mut self.form,
+            name,
+            font,
+            sidebearings,
+            waivers,
+            &self.rules,
+        ))
     }
 
     fn failure(&mut self, name: &str, failure: Failure) -> Taken {

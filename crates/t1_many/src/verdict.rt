@@ -10,10 +10,10 @@ ghost use Rattle.t1_report.specs.Faults.{FaultValue, fault_value};
 ghost use Rattle.t1_rules.specs.Book.{number_of};
 ghost use Rattle.t1_rules.specs.Mask.{has};
 
-use t1_summary::Found;
 use t1_font::Font;
 use t1_report::Fault;
 use t1_rules::Mask;
+use t1_summary::Found;
 
 /// What is done with a line of a report.
 #[derive(Clone, Copy, Debug, PartialEq, Eq)]

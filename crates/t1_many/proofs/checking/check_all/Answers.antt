@@ -1,4 +1,4 @@
-use Rattle.std.proofs.Common.{◌≡◌, ◌+◌, Err, List, ℕ, map, string_bytes, subst, sym, take, ◌∙◌, ap, String, Global}
+use Rattle.std.proofs.Common.{◌≡◌, ◌+◌, List, ℕ, map, string_bytes, subst, sym, take, ◌∙◌, ap, String, Global}
 use Rattle.std.proofs.lemmas.List.{take-map, take_all}
 use Rattle.std.specs.Fn.{FnReturnsAt}
 use Rattle.t1_many.proofs.Entries.{HaveGone, all_gone, err_is, names_next, none_gone, one_gone, one_lost}

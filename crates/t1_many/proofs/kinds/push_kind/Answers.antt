@@ -1,4 +1,4 @@
-use Rattle.std.proofs.Common.{◌≡◌, ◌+◌, ◌≤◌, ◌/◌, ◌%◌, ◌∷◌, ◌++◌, [], List, ℕ, ap, ap₂, codes, sym, subst, ◌∙◌, length, arith}
+use Rattle.std.proofs.Common.{◌≡◌, ◌+◌, ◌/◌, ◌%◌, ◌∷◌, [], List, ℕ, ap, ap₂, codes, sym, ◌∙◌, length, arith}
 use Rattle.std.proofs.lemmas.List.{length-map}
 use Rattle.std.specs.List.{concat}
 use Rattle.t1_many.proofs.KindTexts.{appended, font_kind, font_part, glyph_kind, waiver_kind}

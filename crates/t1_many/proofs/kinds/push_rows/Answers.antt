@@ -2,7 +2,6 @@ use Rattle.std.proofs.Common.{◌≡◌, ◌++◌, List, ℕ, Some, slice_get, a
 use Rattle.std.specs.List.{flat_map}
 use Rattle.t1_many.proofs.GroupTexts.{all_rows, group_at, row_more}
 use Rattle.t1_many.proofs.kinds.push_rows.Goals as goal
-use Rattle.t1_many.specs.GroupRows.{group_rows}
 use Rattle.t1_many.specs.KnownFaults.{RowValue, row_text}
 use Rattle.t1_report.specs.Lines.{IsInFont}
 

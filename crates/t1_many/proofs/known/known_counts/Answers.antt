@@ -1,7 +1,6 @@
 use Rattle.indexmap.specs.IndexMap.{get}
-use Rattle.std.proofs.Common.{◌≡◌, ◌≤◌, ◌+◌, ◌∷◌, ◌++◌, [], List, ℕ, Some, nat_eq, slice_get, take, true, true≢false, ap, sym, subst, ◌∙◌, length, arith}
+use Rattle.std.proofs.Common.{◌≡◌, ◌≤◌, ◌∷◌, ◌++◌, [], List, ℕ, Some, nat_eq, slice_get, true≢false, ap, sym, subst, ◌∙◌, length, arith}
 use Rattle.std.proofs.lemmas.List.{length-map, take_all}
-use Rattle.std.specs.List.{concat}
 use Rattle.std.specs.Map.{count_at}
 use Rattle.t1_many.proofs.GroupOrder.{among_firsts}
 use Rattle.t1_many.proofs.KnownCounts.{counted, one_known}

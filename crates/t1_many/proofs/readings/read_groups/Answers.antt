@@ -3,7 +3,7 @@ use Rattle.std.specs.List.{flat_map}
 use Rattle.t1_many.proofs.KindRows.{rows_are_kind_rows}
 use Rattle.t1_many.proofs.readings.read_groups.Goals as goal
 use Rattle.t1_many.specs.GroupRows.{group_rows}
-use Rattle.t1_many.specs.KnownFaults.{RowValue, row_text}
+use Rattle.t1_many.specs.KnownFaults.{row_text}
 
 pub returns : goal.returns
 returns c faults all is = record {
