@@ -5,8 +5,7 @@ use Rattle.std.specs.Result.{IfOk}
 use Rattle.t1_font.specs.Fonts.{FontValue}
 use Rattle.t1_many.specs.Beyond.{HandsBeyond, verdict_beyond, verdict_of}
 use Rattle.t1_many.specs.Groups.{CountsReport, found_in, group_of, told_faults}
-use Rattle.t1_many.specs.Handing.{Handed, HandsOn, done, found_by, found_with, is_told, line, lines_by, lost_of}
-use Rattle.t1_many.specs.Private.Handing.{HandsReport}
+use Rattle.t1_many.specs.Handing.{Handed, HandsOn, HandsReport, done, found_by, found_with, is_told, line, lines_by, lost_of}
 use Rattle.t1_summary.specs.declared.found.Found.{Found}
 use Rattle.t1_many.specs.declared.recipient.Lost.{Lost}
 use Rattle.t1_many.specs.declared.verdict.Verdict.{Verdict}

@@ -3,8 +3,8 @@ use Rattle.std.proofs.Common.{◌≡◌, ℕ, List, [], ◌∷◌, ◌++◌, Opt
 use Rattle.std.specs.Result.{IsErrAnd}
 use Rattle.t1_many.proofs.Handed.{handed-append, handed-one, handed-stopped}
 use Rattle.t1_many.proofs.ReportLines.{lost_same, no_ok}
-use Rattle.t1_many.specs.Handing.{Handed, HandsOn, done, found_by, lines_by}
-use Rattle.t1_many.specs.Private.Handing.{HandsLines, HandsReport}
+use Rattle.t1_many.specs.Handing.{Handed, HandsOn, HandsReport, done, found_by, lines_by}
+use Rattle.t1_many.specs.Private.Handing.{HandsLines}
 use Rattle.t1_summary.specs.declared.found.Found.{Found}
 use Rattle.t1_many.specs.declared.recipient.Lost.{Lost}
 use Rattle.t1_many.specs.declared.verdict.Verdict.{Verdict}

@@ -8,10 +8,9 @@ use Rattle.t1_font.specs.Fonts.{FontValue}
 use Rattle.t1_many.proofs.KindRows.{groups_count_kinds}
 use Rattle.t1_many.specs.Beyond.{HandsBeyond, verdict_beyond, verdict_of}
 use Rattle.t1_many.specs.Groups.{CountsReport, group_of, groups_of, is_among, told_faults}
-use Rattle.t1_many.specs.Handing.{Handed, HandsFont, HandsOn, done, found_by, found_with, is_told, line, lines_by, lost_of}
+use Rattle.t1_many.specs.Handing.{Handed, HandsFont, HandsOn, HandsReport, done, found_by, found_with, is_told, line, lines_by, lost_of}
 use Rattle.t1_many.specs.Known.{key_in, verdict_known}
 use Rattle.t1_many.specs.Outcomes.{Entry, IsRead, Report, reported}
-use Rattle.t1_many.specs.Private.Handing.{HandsReport}
 use Rattle.t1_many.specs.Readings.{IsReading, Keeps, TakesOutcome, as_known, by_known}
 use Rattle.t1_many.specs.declared.readings.Reading.{Reading}
 use Rattle.t1_many.specs.declared.recipient.Lost.{Lost}

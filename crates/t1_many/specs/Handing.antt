@@ -7,7 +7,9 @@ use Rattle.t1_summary.specs.declared.found.Found.TheVariants.{Clean, Faulty, Kno
 use Rattle.t1_many.specs.declared.recipient.Lost.{Lost}
 use Rattle.t1_many.specs.declared.verdict.Verdict.{Verdict}
 use Rattle.t1_many.specs.declared.verdict.Verdict.TheVariants as verdicts
+use Rattle.t1_report.specs.Checked.{CheckedFont}
 use Rattle.t1_report.specs.Faults.{FaultValue}
+use Rattle.t1_report.specs.Reports.{IsReport}
 use Rattle.t1_report.specs.Waivers.{Waiver}
 use Rattle.t1_run.specs.declared.failure.Failure.{Failure}
 
@@ -72,3 +74,17 @@ abbrev pub HandsFont : {F : Type 0} → (F → F → Handed → Option Lost → 
 HandsFont takes judges old new entry taken =
     HandsOn takes old new (handed_of judges entry.name entry.outcome) (lost_of taken)
     × IfOk taken (λ found. found ≡ found_of judges entry.outcome)
+
+-- The lines of a report that are told were handed on, and then how the font was found; or it stopped there.
+abbrev pub HandsReport : {F : Type 0} → (F → F → Handed → Option Lost → Type 0) → (FaultValue → Verdict) → List ℕ → CheckedFont → List Waiver
+    → F → F → Result Found Lost → Type 0
+HandsReport takes judges name font waivers old new taken =
+    (faults : List FaultValue) × IsReport font waivers faults
+    × HandsOn takes old new (lines_by judges name font.value waivers faults ++ done name (found_by judges faults) ∷ []) (lost_of taken)
+    × IfOk taken (λ found. found ≡ found_by judges faults)
+
+-- Why there is no report was handed on, and then how the font was found; or it stopped there.
+abbrev pub HandsFailure : {F : Type 0} → (F → F → Handed → Option Lost → Type 0) → List ℕ → Failure → F → F → Result Found Lost → Type 0
+HandsFailure takes name reason old new taken =
+    HandsOn takes old new (failure name reason ∷ done name (found_of_failure reason) ∷ []) (lost_of taken)
+    × IfOk taken (λ found. found ≡ found_of_failure reason)

@@ -26,8 +26,8 @@ pub fn told_rules(only: &[&[u8]], except: &[&[u8]]) -> Mask
     rules
 }
 
-/// Whether the rule of a code is told.
-fn is_told(only: &[&[u8]], except: &[&[u8]], code: &[u8]) -> bool
+/// Whether the rule of a code is told: a word of `only` picks it, or there is none, and no word of `except` does.
+pub fn is_told(only: &[&[u8]], except: &[&[u8]], code: &[u8]) -> bool
     ensures { result
         ≡ is_told (record { only = map (λ word. word.now) only.now; except = map (λ word. word.now) except.now }) code.now }
 {

@@ -2,7 +2,8 @@
 
 ghost use Rattle.std.specs.Prelude.{◌≡◌, ◌≤◌, length};
 ghost use Rattle.t1_font.specs.Bounds.{most_glyphs};
-ghost use Rattle.t1_many.specs.Private.Handing.{HandsFailure, HandsLines, HandsReport};
+ghost use Rattle.t1_many.specs.Handing.{HandsFailure, HandsReport};
+ghost use Rattle.t1_many.specs.Private.Handing.{HandsLines};
 ghost use Rattle.t1_report.specs.Checked.{checked};
 ghost use Rattle.t1_report.specs.Waivers.{largest_waivers};
 ghost use Rattle.t1_rules.specs.Components.{AreOf};
@@ -21,7 +22,7 @@ use t1_run::Failure;
 use t1_summary::Found;
 
 /// Hands the lines of a font's report on that are told, and then how the font was found.
-pub(crate) fn hand_report<'a, F: Form, J: Judge>(
+pub fn hand_report<'a, F: Form, J: Judge>(
     form: &mut F,
     name: &str,
     font: &'a Font<'a>,
@@ -75,7 +76,7 @@ fn hand_lines<'a, F: Form, J: Judge>(
 }
 
 /// Hands on why there is no report of a font.
-pub(crate) fn hand_failure<F: Form>(form: &mut F, name: &str, reason: Failure) -> Taken
+pub fn hand_failure<F: Form>(form: &mut F, name: &str, reason: Failure) -> Taken
     ensures { HandsFailure F.takes name.now reason form.old form.new result }
 {
     form.failure(name, reason)?;

@@ -27,10 +27,11 @@ mod verdict;
 
 pub use beyond::hand_beyond;
 pub use checking::check_all;
-pub use choice::told_rules;
+pub use choice::{is_told, told_rules};
 pub use counted::Counted;
 pub use form::Form;
 pub use groups::{Counts, count_groups, count_of, group_of};
+pub use handing::{hand_failure, hand_report};
 pub use kinds::push_rows;
 pub use known::Known;
 pub use laws::{
