@@ -59,11 +59,7 @@ fn write(alloc: Global, font: &Font<'_>) -> Result<Written, Fail>
         &found,
     );
     drop(form);
-    Ok(Written {
-        found,
-        taken,
-        text,
-    })
+    Ok(Written { found, taken, text })
 }
 
 /// P03 is found twice, and known once: so both of its lines are written. C05 is known, and C07 isn't told.

@@ -1,0 +1,14 @@
+pub mod DigitSteps
+pub mod FontIndex
+pub mod FoundRows
+pub mod KeptRows
+pub mod LeftRows
+pub mod LineCuts
+pub mod OneReading
+pub mod PlainKinds
+pub mod PutRows
+pub mod ReadBack
+pub mod RuleWords
+pub mod ShortRows
+pub mod SoFar
+pub mod Told

@@ -1,0 +1,49 @@
+-- The statements of laws.
+use Rattle.std.specs.Prelude.{◌≡◌, ◌⊎◌, ◌<◌, ◌^◌, ℕ, true, List, length, map, Result, Ok, Err}
+use Rattle.std.specs.List.{AllByRecursion, IsDistinct}
+use Rattle.std.specs.Str.{bytes_eq}
+use Rattle.t1_known.specs.Keys.{key_of}
+use Rattle.t1_known.specs.Lines.{has_no_line_end}
+use Rattle.t1_known.specs.Readings.{IsReadable}
+use Rattle.t1_known.specs.Reads.{IsReadAs}
+use Rattle.t1_known.specs.declared.known.NotKnown.{NotKnown}
+use Rattle.t1_known.specs.declared.known.NotKnown.TheVariants.{Memory, NoRow, Twice}
+use Rattle.t1_lines.specs.Lines.{FaultLineValue, IsFaultLine}
+use Rattle.t1_many.specs.KnownFaults.{IsRow, RowValue, file_text, kind_of}
+
+-- The text of a row is one line.
+pub record IsInOneLine (row : RowValue) : Type 0 where
+  pub is : IsRow row
+  pub kind : has_no_line_end row.kind ≡ true
+  pub font : has_no_line_end row.font ≡ true
+
+-- The file that is written of rows is read as exactly these.
+abbrev pub RowsAreReadBack : Type 0
+RowsAreReadBack =
+    (rows : List RowValue) → AllByRecursion IsInOneLine rows → IsDistinct bytes_eq (map key_of rows)
+    → (result : Result (List RowValue) NotKnown) → IsReadAs (file_text rows) result → (result ≡ Ok rows) ⊎ (result ≡ Err Memory)
+
+-- Two readings of a text are the same, unless memory runs out.
+abbrev pub IsSameReading : Result (List RowValue) NotKnown → Result (List RowValue) NotKnown → Type 0
+IsSameReading (Ok a) (Ok b) = a ≡ b
+IsSameReading (Ok a) (Err (NoRow line)) = ⊥
+IsSameReading (Ok a) (Err (Twice line)) = ⊥
+IsSameReading (Ok a) (Err Memory) = Unit {0}
+IsSameReading (Err (NoRow line)) (Ok b) = ⊥
+IsSameReading (Err (NoRow line)) (Err (NoRow other)) = line.now ≡ other.now
+IsSameReading (Err (NoRow line)) (Err (Twice other)) = ⊥
+IsSameReading (Err (NoRow line)) (Err Memory) = Unit {0}
+IsSameReading (Err (Twice line)) (Ok b) = ⊥
+IsSameReading (Err (Twice line)) (Err (NoRow other)) = ⊥
+IsSameReading (Err (Twice line)) (Err (Twice other)) = line.now ≡ other.now
+IsSameReading (Err (Twice line)) (Err Memory) = Unit {0}
+IsSameReading (Err Memory) b = Unit {0}
+
+abbrev pub ATextIsReadOneWay : Type 0
+ATextIsReadOneWay = (text : List ℕ) (a b : Result (List RowValue) NotKnown) → IsReadAs text a → IsReadAs text b → IsSameReading a b
+
+-- What is found in a font can be read of its rows: of the lines of its report, where its name can stand in a row.
+abbrev pub LinesAreReadable : Type 0
+LinesAreReadable =
+    (font : List ℕ) (lines : List FaultLineValue) → AllByRecursion IsFaultLine lines → length lines < 2 ^ 64 → 0 < length font
+    → has_no_line_end font ≡ true → IsReadable (record { font = font; kinds = map kind_of lines })

@@ -1,0 +1,18 @@
+//! Laws above the definitions: each is the contract of a function that does nothing.
+
+ghost use Rattle.t1_known.specs.Laws.{ATextIsReadOneWay, LinesAreReadable, RowsAreReadBack};
+
+/// Rows that were written are read back, unless memory runs out: where no kind and no font has a line end, and no key stands twice.
+pub fn rows_are_read_back()
+    ensures { RowsAreReadBack }
+{}
+
+/// What is found in a font can be read of its rows, where the font's name can stand in a row.
+pub fn lines_are_readable()
+    ensures { LinesAreReadable }
+{}
+
+/// A text has one reading: its rows, or its first fault.
+pub fn a_text_is_read_one_way()
+    ensures { ATextIsReadOneWay }
+{}

@@ -1,0 +1,27 @@
+//! A file of known faults: how often faults of a kind are known of a font.
+//!
+//! [`KnownFaults::read`] reads its rows, as `3 H02 glyph A fonts/a.pfb`, and [`KnownFaults::count_of`] says how often faults of a kind are
+//! known of a font. Of the fonts whose reports were made, each a [`Reading`], [`write_shortfalls`] writes which rows are no longer reached,
+//! and [`write_updated`] writes the file anew.
+//!
+//! Promised:
+//!
+//! - what is read is each row of the text in its order, or the first line at fault, and nothing else ([`a_text_is_read_one_way`]);
+//! - rows that were written are read back ([`rows_are_read_back`]);
+//! - what is written is decided by the rows, the readings and the rules that are told, and memory runs out before the first byte or not at all.
+#![tactic(auto)]
+
+mod digits;
+mod known;
+mod laws;
+mod lines;
+mod lookups;
+mod readings;
+mod shortfalls;
+mod updating;
+
+pub use known::{KnownFaults, NotKnown};
+pub use laws::{a_text_is_read_one_way, lines_are_readable, rows_are_read_back};
+pub use readings::Reading;
+pub use shortfalls::write_shortfalls;
+pub use updating::write_updated;

@@ -1,0 +1,30 @@
+//! The lines of a text.
+
+ghost use Rattle.std.specs.Prelude.{◌≡◌};
+ghost use Rattle.t1_known.specs.Lines.{is_comment};
+ghost use Rattle.t1_known.specs.Private.Kept.{IsNextLine};
+
+use t1_lines::cut;
+
+/// The first line of a text, and what stands behind it: None where nothing is left.
+pub(crate) fn next_line(text: &[u8]) -> Option<(&[u8], &[u8])>
+    ensures { IsNextLine text.now result }
+{
+    if text.is_empty() {
+        return None;
+    }
+    let Some((line, rest)) = cut(b'\n', text) else {
+        return Some((text, &[]));
+    };
+    Some((line, rest))
+}
+
+/// Whether a line begins with `#`.
+pub(crate) fn is_comment(line: &[u8]) -> bool
+    ensures { result ≡ is_comment line.now }
+{
+    match line {
+        [] => false,
+        [first, ..] => *first == b'#',
+    }
+}

@@ -1,0 +1,101 @@
+//! Files that are read.
+
+use std::process::Abort;
+use t1_known::{KnownFaults, NotKnown};
+
+/// Lines that begin with `#` are skipped, names can have blanks, and the last line has no end.
+const FILE: &[u8] = b"\
+# Known faults: count, rule, unit, font.
+3 H02 glyph A fonts/a.pfb
+012 Z04 font BlueValues my fonts/b c.pfa
+#1 P01 glyph B fonts/a.pfb
+18446744073709551615 C07 glyph A fonts/a.pfb
+18446744073709551616 C05 glyph A fonts/a.pfb
+99999999999999999999999 P03 glyph A fonts/a.pfb
+0 W01 glyph A fonts/a.pfb
+1 U01 waiver A P01 fonts/a.pfb";
+
+/// Keys, and how often they are known.
+const COUNTS: &[(&[u8], u64)] = &[
+    (b"H02 glyph A fonts/a.pfb", 3),
+    (b"Z04 font BlueValues my fonts/b c.pfa", 12),
+    (b"C07 glyph A fonts/a.pfb", 18_446_744_073_709_551_615),
+    (b"C05 glyph A fonts/a.pfb", 18_446_744_073_709_551_615),
+    (b"P03 glyph A fonts/a.pfb", 18_446_744_073_709_551_615),
+    (b"W01 glyph A fonts/a.pfb", 0),
+    (b"U01 waiver A P01 fonts/a.pfb", 1),
+    (b"P01 glyph B fonts/a.pfb", 0),
+    (b"H02 glyph A fonts/a.pf", 0),
+    (b"H02 glyph A", 0),
+    (b"", 0),
+];
+
+#[test]
+fn counts_are_those_of_rows(rt: HostRuntime) {
+    let Ok(known) = KnownFaults::read(rt.alloc(), FILE) else {
+        panic!(rt; "the file isn't read");
+    };
+    assert!(rt; known.row_count() == 7);
+    for (key, count) in COUNTS {
+        assert!(rt; known.count_of(key) == *count, "{key:?}");
+    }
+}
+
+#[test]
+fn files_without_rows_are_read(rt: HostRuntime) {
+    for text in [b"".as_slice(), b"#", b"#\n", b"# a\n# b\n"] {
+        let Ok(known) = KnownFaults::read(rt.alloc(), text) else {
+            panic!(rt; "{text:?}");
+        };
+        assert!(rt; known.count_of(b"H02 glyph A a.pfb") == 0);
+    }
+}
+
+/// Texts, and the first line of each that is no row.
+const NO_ROWS: &[(&[u8], &[u8])] = &[
+    (b"\n", b""),
+    (b"1 H02 glyph A a.pfb\n\n", b""),
+    (
+        b"1 H02 glyph A a.pfb\n H02 glyph A a.pfb\nx\n",
+        b" H02 glyph A a.pfb",
+    ),
+    (b"1 H02 glyph A", b"1 H02 glyph A"),
+    (
+        b"1 H02 glyph A a.pfb\n1 H02 glyph\n1 H02 glyph A a.pfb",
+        b"1 H02 glyph",
+    ),
+    (b" # a\n", b" # a"),
+    (b"+1 H02 glyph A a.pfb", b"+1 H02 glyph A a.pfb"),
+];
+
+#[test]
+fn the_first_line_that_is_no_row_is_named(rt: HostRuntime) {
+    for (text, line) in NO_ROWS {
+        match KnownFaults::read(rt.alloc(), text) {
+            Err(NotKnown::NoRow(found)) => assert!(rt; found == *line, "{text:?}"),
+            _ => panic!(rt; "{text:?}"),
+        }
+    }
+}
+
+/// Texts, and the first line of each whose key stands in an earlier one.
+const TWICE: &[(&[u8], &[u8])] = &[
+    (
+        b"1 H02 glyph A a.pfb\n1 H02 glyph B a.pfb\n2 H02 glyph A a.pfb\nx",
+        b"2 H02 glyph A a.pfb",
+    ),
+    (
+        b"1 H02 glyph A a b\n1 H02 glyph A a.b\n01 H02 glyph A a b",
+        b"01 H02 glyph A a b",
+    ),
+];
+
+#[test]
+fn the_first_key_that_stands_twice_is_named(rt: HostRuntime) {
+    for (text, line) in TWICE {
+        match KnownFaults::read(rt.alloc(), text) {
+            Err(NotKnown::Twice(found)) => assert!(rt; found == *line, "{text:?}"),
+            _ => panic!(rt; "{text:?}"),
+        }
+    }
+}

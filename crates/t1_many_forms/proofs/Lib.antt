@@ -1,0 +1,3 @@
+pub mod JsonTexts
+pub mod LineTexts
+pub mod Written

@@ -1,0 +1,83 @@
+-- What is given to a formatter of things that are handed on, and what is told on standard error.
+use Rattle.std.specs.Prelude.{◌≡◌, ℕ, List, [], ◌∷◌, codes, Option, Some}
+use Rattle.std.specs.List.{concat}
+use Rattle.t1_font.specs.Fonts.{FontValue}
+use Rattle.t1_forms.specs.Tellings.{ToldValue, of_line, of_unchecked, what_spelled, what_value}
+use Rattle.t1_forms.specs.declared.told.Told.{Told}
+use Rattle.t1_io.specs.Devices.{PutFailed, SinkState, Wrote}
+use Rattle.t1_lines.specs.Lines.{line_in, of_fault, of_refusal}
+use Rattle.t1_lines.specs.declared.refusal.RefusalCode.{RefusalCode}
+use Rattle.t1_many.specs.Handing.{Handed, done, failure, line}
+use Rattle.t1_many.specs.Plain.{IsFlushed, named}
+use Rattle.t1_many.specs.declared.recipient.Lost.{Lost}
+use Rattle.t1_many.specs.declared.recipient.Lost.TheVariants.{Device, Memory}
+use Rattle.t1_report.specs.Faults.{FaultValue}
+use Rattle.t1_report.specs.Waivers.{Waiver}
+use Rattle.t1_run.specs.declared.failure.Failure.{Failure}
+use Rattle.t1_run.specs.declared.failure.Failure.TheVariants as failures
+
+-- Beside what is told stands its line, as it is spelled.
+abbrev pub HasItsLine : Told → Type 0
+HasItsLine told = told.line.now ≡ what_spelled (what_value told.what)
+
+-- What is told of the font of a name: the line of a fault, a refusal, or why it wasn't checked.
+abbrev pub told_fault : List ℕ → FontValue → List Waiver → FaultValue → ToldValue
+told_fault name font waivers fault = record { font = Some name; what = of_line (of_fault (line_in font waivers fault)) }
+
+abbrev pub told_refusal : List ℕ → RefusalCode → ToldValue
+told_refusal name code = record { font = Some name; what = of_line (of_refusal code) }
+
+abbrev pub told_unchecked : List ℕ → List ℕ → ToldValue
+told_unchecked name reason = record { font = Some name; what = of_unchecked reason }
+
+-- Why a font wasn't checked.
+abbrev pub read_failed : List ℕ
+read_failed = codes "read failed"
+
+abbrev pub out_of_memory : List ℕ
+out_of_memory = codes "out of memory"
+
+-- `NAME: t1check: REASON`, on standard error.
+abbrev pub unchecked_line : List ℕ → List ℕ → List ℕ
+unchecked_line name reason = named name (concat (codes "t1check: " ∷ reason ∷ codes "\n" ∷ []))
+
+-- ---- what is given
+
+-- A formatter, and the devices that it has.
+pub record Formatting (T : Type 0) : Type 0 where
+  pub formatter : T
+  pub out : SinkState
+  pub errors : SinkState
+
+-- This was given to the formatter, which took it or stopped; or memory ran out before.
+pub data Gives {T : Type 0} (writes : T → T → SinkState → SinkState → ToldValue → Option Lost → Type 0) (old new : Formatting T)
+    (told : ToldValue) (lost : Option Lost) : Type 0 where
+  given : writes old.formatter new.formatter old.out new.out told lost → Gives writes old new told lost
+  no_memory : lost ≡ Some Memory → new.formatter ≡ old.formatter → new.out ≡ old.out → Gives writes old new told lost
+
+-- That a font wasn't checked was told on standard error, and then given; or standard error failed.
+pub data GivesUnchecked {T : Type 0} (writes : T → T → SinkState → SinkState → ToldValue → Option Lost → Type 0) (old new : Formatting T)
+    (name reason : List ℕ) (lost : Option Lost) : Type 0 where
+  told :
+      Wrote old.errors new.errors (unchecked_line name reason) → Gives writes old new (told_unchecked name reason) lost
+      → GivesUnchecked writes old new name reason lost
+  untold :
+      PutFailed old.errors new.errors (unchecked_line name reason) → new.formatter ≡ old.formatter → new.out ≡ old.out
+      → lost ≡ Some Device → GivesUnchecked writes old new name reason lost
+
+-- Why there is no report was given.
+abbrev pub GivesFailure : {T : Type 0} → (T → T → SinkState → SinkState → ToldValue → Option Lost → Type 0) → Formatting T → Formatting T
+    → List ℕ → Failure → Option Lost → Type 0
+GivesFailure writes old new name (failures.Refused code) lost =
+    Gives writes old new (told_refusal name code) lost × (new.errors ≡ old.errors)
+GivesFailure writes old new name failures.Broken lost = GivesUnchecked writes old new name read_failed lost
+GivesFailure writes old new name failures.Memory lost = GivesUnchecked writes old new name out_of_memory lost
+
+-- One thing that is handed on. The output is flushed after each font.
+abbrev pub FormattedTakes : {T : Type 0} → (T → T → SinkState → SinkState → ToldValue → Option Lost → Type 0) → Formatting T → Formatting T
+    → Handed → Option Lost → Type 0
+FormattedTakes writes old new (line name font waivers fault) lost =
+    Gives writes old new (told_fault name font waivers fault) lost × (new.errors ≡ old.errors)
+FormattedTakes writes old new (failure name reason) lost = GivesFailure writes old new name reason lost
+FormattedTakes writes old new (done name found) lost =
+    (new.formatter ≡ old.formatter) × IsFlushed old.out new.out lost × (new.errors ≡ old.errors)

@@ -1,0 +1,4 @@
+pub mod Formatting
+pub mod JsonLines
+pub mod Laws
+pub mod Private

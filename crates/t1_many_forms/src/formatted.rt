@@ -1,0 +1,146 @@
+//! The forms that other programs read.
+
+ghost use Rattle.std.specs.Prelude.{◌≡◌, Option};
+ghost use Rattle.t1_io.specs.Devices.{Writes};
+ghost use Rattle.t1_many.specs.Handing.{Handed, failure, lost_of};
+ghost use Rattle.t1_run.specs.declared.failure.Failure.TheVariants.{Refused};
+ghost use Rattle.t1_many_forms.specs.Formatting.{FormattedTakes, GivesUnchecked, unchecked_line};
+
+use crate::fault_line::fault_line;
+use crate::formatter::Formatter;
+use crate::line_text::LineText;
+use std::alloc::Global;
+use t1_font::Font;
+use t1_forms::{Told, What};
+use t1_io::{Broken, Sink, put_parts};
+use t1_lines::{Line, RefusalCode};
+use t1_many::{Form, Lost};
+use t1_report::{Fault, Waivers};
+use t1_run::Failure;
+use t1_summary::Found;
+
+/// Lines, refusals and fonts that weren't checked are given to a formatter, which writes them on the output. A font that wasn't checked is told
+/// on standard error too, first. After each font the output is flushed.
+#[derive(Drop)]
+pub struct Formatted<T: Formatter, W: Sink, E: Sink> {
+    /// What writes them.
+    pub formatter: T,
+    /// Standard output.
+    pub out: W,
+    /// Standard error.
+    pub errors: E,
+    alloc: Global,
+    text: LineText,
+}
+
+impl<T: Formatter, W: Sink, E: Sink> Formatted<T, W, E> {
+    /// A form that was given nothing yet. The formatter has written what stands before all else.
+    pub fn new(alloc: Global, formatter: T, out: W, errors: E) -> Formatted<T, W, E>
+        ensures formatter { result.formatter ≡ formatter }
+        ensures out { result.out ≡ out }
+        ensures errors { result.errors ≡ errors }
+    {
+        Formatted {
+            formatter,
+            out,
+            errors,
+            alloc,
+            text: LineText::new(alloc),
+        }
+    }
+
+    /// The formatter, the output and standard error, once all was handed on: the formatter can then write what stands after all else.
+    pub fn into_parts(self) -> (T, W, E)
+        ensures formatter { result.0 ≡ self.formatter }
+        ensures out { result.1 ≡ self.out }
+        ensures errors { result.2 ≡ self.errors }
+    {
+        (self.formatter, self.out, self.errors)
+    }
+
+    /// Tells on standard error that what has this name wasn't checked, as `NAME: t1check: REASON`, and then gives it to the formatter.
+    pub fn unchecked(&mut self, name: &str, reason: &str) -> Result<(), Lost>
+        ensures { GivesUnchecked T.writes
+            (record { formatter = self.old.formatter; out = W.state self.old.out; errors = E.state self.old.errors })
+            (record { formatter = self.new.formatter; out = W.state self.new.out; errors = E.state self.new.errors })
+            name.now reason.now (lost_of result) }
+    {
+        tell_unchecked(&mut self.errors, name, reason)?;
+        self.text.set_unchecked(reason)?;
+        let told = Told {
+            font: Some(name.as_bytes()),
+            what: What::Unchecked(reason.as_bytes()),
+            line: self.text.as_bytes(),
+        };
+        self.formatter.write(self.alloc, &mut self.out, &told)
+    }
+
+    /// Gives a refusal to the formatter.
+    fn refused(&mut self, name: &str, code: RefusalCode) -> Result<(), Lost>
+        ensures { FormattedTakes T.writes
+            (record { formatter = self.old.formatter; out = W.state self.old.out; errors = E.state self.old.errors })
+            (record { formatter = self.new.formatter; out = W.state self.new.out; errors = E.state self.new.errors })
+            (failure name.now (Refused code)) (lost_of result) }
+    {
+        self.text.set_refusal(code)?;
+        let told = Told {
+            font: Some(name.as_bytes()),
+            what: What::Line(Line::Refusal(code)),
+            line: self.text.as_bytes(),
+        };
+        self.formatter.write(self.alloc, &mut self.out, &told)
+    }
+}
+
+impl<T: Formatter, W: Sink, E: Sink> Form for Formatted<T, W, E> {
+    ghost use Rattle.t1_many.specs.declared.recipient.Lost.{Lost};
+
+    ghost takes = { λ old new handed lost. FormattedTakes T.writes
+        (record { formatter = old.formatter; out = W.state old.out; errors = E.state old.errors })
+        (record { formatter = new.formatter; out = W.state new.out; errors = E.state new.errors }) handed lost };
+
+    fn line(
+        &mut self,
+        name: &str,
+        font: &Font<'_>,
+        waivers: &Waivers<'_>,
+        fault: &Fault,
+    ) -> Result<(), Lost> {
+        self.text.set_fault(font, waivers, fault)?;
+        let told = Told {
+            font: Some(name.as_bytes()),
+            what: What::Line(Line::Fault(fault_line(font, waivers, fault))),
+            line: self.text.as_bytes(),
+        };
+        self.formatter.write(self.alloc, &mut self.out, &told)
+    }
+
+    fn failure(&mut self, name: &str, reason: Failure) -> Result<(), Lost> {
+        match reason {
+            Failure::Refused(code) => self.refused(name, code),
+            Failure::Broken => self.unchecked(name, "read failed"),
+            Failure::Memory => self.unchecked(name, "out of memory"),
+        }
+    }
+
+    fn done(&mut self, _name: &str, _found: Found) -> Result<(), Lost> {
+        self.out.flush()?;
+        Ok(())
+    }
+}
+
+/// Tells that what has this name wasn't checked.
+fn tell_unchecked<E: Sink>(errors: &mut E, name: &str, reason: &str) -> Result<(), Broken>
+    ensures { Writes (E.state errors.old) (E.state errors.new) (unchecked_line name.now reason.now) result }
+{
+    put_parts(
+        errors,
+        &[
+            name.as_bytes(),
+            b": ",
+            b"t1check: ",
+            reason.as_bytes(),
+            b"\n",
+        ],
+    )
+}

@@ -1,0 +1,29 @@
+//! Lines of many fonts in the forms that other programs read: lines of JSON, SARIF 2.1.0, and commands of a workflow of GitHub.
+//!
+//! [`Formatted`] is a [`Form`](t1_many::Form) over a [`Formatter`]: each line, each refusal, and each font that wasn't checked is given to the
+//! formatter once, in order. A font that wasn't checked is also told on standard error. Nothing is read back from text.
+//!
+//! | formatter | writes |
+//! |---|---|
+//! | [`JsonLines`] | an object in a line of its own |
+//! | [`Sarif`](t1_forms::Sarif) | a result in a document, whose frame `Sarif::begin` and `finish` write |
+//! | [`GitHubCommands`] | a command |
+//!
+//! What is promised: of lines of JSON each byte. Of the other two, what is given to them, and what is told on standard error; their texts are
+//! shown by tests alone.
+#![tactic(auto)]
+
+mod fault_line;
+mod formatted;
+mod formatter;
+mod github;
+mod json_lines;
+mod laws;
+mod line_text;
+mod sarif;
+
+pub use formatted::Formatted;
+pub use formatter::Formatter;
+pub use github::GitHubCommands;
+pub use json_lines::JsonLines;
+pub use laws::{json_lines_are_written, lines_are_those_of_reports};

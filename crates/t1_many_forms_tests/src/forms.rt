@@ -1,0 +1,207 @@
+//! A font with a line, one that is refused and one that isn't there, in each form.
+
+ghost use Rattle.std.specs.Prelude.{◌≡◌, false, IfOk};
+
+use std::alloc::{AllocError, Global};
+use std::io;
+use std::io::ErrorKind;
+use std::test::Fail;
+use t1_char::Edition;
+use t1_forms::Sarif;
+use t1_io::{Fuse, In, Limit, Out, Sink, Source};
+use t1_many::{Lost, Telling, tell_all, told_rules};
+use t1_many_forms::{Formatted, Formatter, GitHubCommands, JsonLines};
+use t1_run::Status;
+use t1_samples::Sample;
+
+/// A file, by the name of its font.
+type File<'a> = (&'a str, &'a [u8]);
+
+/// Opens the file of a name, if there is one.
+fn open<'a>(files: &'a [File<'a>], name: &str) -> io::Result<In<&'a [u8]>>
+    ensures { IfOk result (λ file. (⟦<In<&'a [u8]> as Source>⟧.state file).failed ≡ false) }
+{
+    for (known, bytes) in files {
+        if *known == name {
+            return Ok(In::new(*bytes));
+        }
+    }
+    Err(io::Error::from(ErrorKind::NotFound))
+}
+
+/// No font has waivers.
+fn open_waivers<'a>(_name: &str) -> Option<io::Result<In<&'a [u8]>>> {
+    None
+}
+
+/// Tells the P03 of fonts in the form of a formatter, which wrote what stands before all else.
+fn tell<F: Formatter + Drop, W: Sink + Drop, E: Sink + Drop>(
+    alloc: Global,
+    files: &[File<'_>],
+    formatter: F,
+    out: W,
+    errors: E,
+) -> Result<Result<Status, Lost>, AllocError> {
+    let mut names = Vec::new(alloc);
+    for name in ["faulty.pfb", "cut.pfa", "absent.pfb"] {
+        names.push(String::from_str(alloc, name)?)?;
+    }
+    let mut telling = Telling {
+        rules: told_rules(&[b"P03"], &[]),
+        form: Formatted::new(alloc, formatter, out, errors),
+    };
+    let status = tell_all(
+        alloc,
+        names.as_slice(),
+        |name| open(files, name),
+        |name| open_waivers(name),
+        Edition::One,
+        &mut telling,
+    );
+    let form = telling.form;
+    let (formatter, mut out, _errors) = form.into_parts();
+    Ok(match formatter.finish(alloc, &mut out) {
+        Ok(()) => status,
+        Err(lost) => Err(lost),
+    })
+}
+
+/// The glyph of the number 32001, 0, hmoveto, closepath, endchar: step 4 is a closepath without a path, the fourth line of the report.
+const FOUR_FAULTS: &[u8] = b"\xff\x00\x00\x7d\x01\x8b\x16\x09\x0e";
+
+/// What is told on standard error, whatever the form is.
+const TOLD: &[u8] = b"absent.pfb: t1check: read failed\n";
+
+#[test]
+fn writes_lines_of_json(rt: HostRuntime) -> Result<(), Fail> {
+    let faulty = Sample::new(rt.alloc())?.glyph(b"A", FOUR_FAULTS)?.pfb()?;
+    let files = [
+        ("faulty.pfb", faulty.as_slice()),
+        ("cut.pfa", b"%!\n/FontType 1 def\n".as_slice()),
+    ];
+    let mut text = Vec::new(rt.alloc());
+    let mut told = Vec::new(rt.alloc());
+    let status = tell(
+        rt.alloc(),
+        &files,
+        JsonLines,
+        Out::new(&mut text),
+        Out::new(&mut told),
+    )?;
+    assert_eq!(rt; status, Ok(Status::Failed));
+    let lines = b"\
+{\"code\":\"P03\",\"file\":\"faulty.pfb\",\"name\":\"A\",\"number\":4,\"path\":[],\"step\":4,\"text\":\"closepath without a path\",\"unit\":\"glyph\"}
+{\"code\":\"E04\",\"file\":\"cut.pfa\",\"text\":\"no eexec\",\"unit\":\"refused\"}
+{\"file\":\"absent.pfb\",\"text\":\"read failed\",\"unit\":\"unchecked\"}
+";
+    assert!(rt; text.as_slice() == lines.as_slice());
+    assert!(rt; told.as_slice() == TOLD);
+    Ok(())
+}
+
+#[test]
+fn writes_commands(rt: HostRuntime) -> Result<(), Fail> {
+    let faulty = Sample::new(rt.alloc())?.glyph(b"A", FOUR_FAULTS)?.pfb()?;
+    let files = [
+        ("faulty.pfb", faulty.as_slice()),
+        ("cut.pfa", b"%!\n/FontType 1 def\n".as_slice()),
+    ];
+    let mut text = Vec::new(rt.alloc());
+    let mut told = Vec::new(rt.alloc());
+    let status = tell(
+        rt.alloc(),
+        &files,
+        GitHubCommands,
+        Out::new(&mut text),
+        Out::new(&mut told),
+    )?;
+    assert_eq!(rt; status, Ok(Status::Failed));
+    let lines = b"\
+::warning file=faulty.pfb,line=1,title=P03 closepath without a path::4: glyph A - 4 P03 closepath without a path
+::error file=cut.pfa,line=1,title=E04 no eexec::refused: E04 no eexec
+::error file=absent.pfb,line=1,title=not checked::t1check: read failed
+";
+    assert!(rt; text.as_slice() == lines.as_slice());
+    assert!(rt; told.as_slice() == TOLD);
+    Ok(())
+}
+
+/// A document without its rules, of which docs/RULES.md has P03 and E04 as the 45th and the 74th.
+#[test]
+fn writes_a_document(rt: HostRuntime) -> Result<(), Fail> {
+    let faulty = Sample::new(rt.alloc())?.glyph(b"A", FOUR_FAULTS)?.pfb()?;
+    let files = [
+        ("faulty.pfb", faulty.as_slice()),
+        ("cut.pfa", b"%!\n/FontType 1 def\n".as_slice()),
+    ];
+    let mut text = Vec::new(rt.alloc());
+    let mut told = Vec::new(rt.alloc());
+    let document = Sarif::begin(rt.alloc(), &mut Out::new(&mut text), None)?;
+    let status = tell(
+        rt.alloc(),
+        &files,
+        document,
+        Out::new(&mut text),
+        Out::new(&mut told),
+    )?;
+    assert_eq!(rt; status, Ok(Status::Failed));
+    let front =
+        b"{\"$schema\":\"https://json.schemastore.org/sarif-2.1.0.json\",\"version\":\"2.1.0\",\"runs\":[{\"tool\":";
+    assert!(rt; text.as_slice().starts_with(front.as_slice()));
+    let end = b"]}},\"results\":[\
+{\"level\":\"warning\",\
+\"locations\":[{\"logicalLocations\":[{\"kind\":\"glyph\",\"name\":\"A\"},{\"kind\":\"step\",\"name\":\"4\"}],\
+\"physicalLocation\":{\"artifactLocation\":{\"uri\":\"faulty.pfb\"},\"region\":{\"startLine\":1}}}],\
+\"message\":{\"text\":\"4: glyph A - 4 P03 closepath without a path\"},\
+\"partialFingerprints\":{\"t1check/v1\":\"faulty.pfb glyph A P03 1\"},\"ruleId\":\"P03\",\"ruleIndex\":44},\
+{\"level\":\"error\",\
+\"locations\":[{\"physicalLocation\":{\"artifactLocation\":{\"uri\":\"cut.pfa\"},\"region\":{\"startLine\":1}}}],\
+\"message\":{\"text\":\"refused: E04 no eexec\"},\
+\"partialFingerprints\":{\"t1check/v1\":\"cut.pfa refused E04 1\"},\"ruleId\":\"E04\",\"ruleIndex\":73}\
+],\"invocations\":[{\"executionSuccessful\":false,\"toolExecutionNotifications\":[{\"level\":\"error\",\
+\"locations\":[{\"physicalLocation\":{\"artifactLocation\":{\"uri\":\"absent.pfb\"},\"region\":{\"startLine\":1}}}],\
+\"message\":{\"text\":\"t1check: read failed\"}}]}]}]}\n";
+    assert!(rt; text.as_slice().ends_with(end.as_slice()));
+    assert!(rt; told.as_slice() == TOLD);
+    Ok(())
+}
+
+/// The output fails in its first line: the run stops there, and a front of the line went out.
+#[test]
+fn stops_where_the_output_fails(rt: HostRuntime) -> Result<(), Fail> {
+    let faulty = Sample::new(rt.alloc())?.glyph(b"A", FOUR_FAULTS)?.pfb()?;
+    let files = [("faulty.pfb", faulty.as_slice())];
+    let mut text = Vec::new(rt.alloc());
+    let mut told = Vec::new(rt.alloc());
+    let status = tell(
+        rt.alloc(),
+        &files,
+        JsonLines,
+        Fuse::sink(Out::new(&mut text), Limit::Bytes(15)),
+        Out::new(&mut told),
+    )?;
+    assert_eq!(rt; status, Err(Lost::Device));
+    assert!(rt; text.as_slice() == b"{\"code\":\"P03\",\"".as_slice());
+    assert!(rt; told.is_empty());
+    Ok(())
+}
+
+/// What isn't a font that was checked is told of too, as a folder that can't be searched.
+#[test]
+fn tells_what_was_not_checked(rt: HostRuntime) -> Result<(), Fail> {
+    let mut text = Vec::new(rt.alloc());
+    let mut told = Vec::new(rt.alloc());
+    let mut form = Formatted::new(
+        rt.alloc(),
+        JsonLines,
+        Out::new(&mut text),
+        Out::new(&mut told),
+    );
+    let result = form.unchecked("fonts", "search failed");
+    drop(form);
+    assert_eq!(rt; result, Ok(()));
+    assert!(rt; told.as_slice() == b"fonts: t1check: search failed\n".as_slice());
+    let line = b"{\"file\":\"fonts\",\"text\":\"search failed\",\"unit\":\"unchecked\"}\n";
+    assert!(rt; text.as_slice() == line.as_slice());
+    Ok(())
+}

@@ -1,0 +1,5 @@
+pub mod NoneLeft
+pub mod TextsRead
+pub mod TooManyTold
+pub mod WaivesAll
+pub mod WrittenOnce

@@ -1,0 +1,168 @@
+-- The text of waivers that is written of a report is read as these.
+use Rattle.std.proofs.Common.{◌≡◌, ◌≤◌, ◌<◌, ℕ, zero, suc, ◌+◌, ◌-◌, ◌==◌, ◌&&◌, Bool, true, false, true≢false, nat_le, nat_lt, Option, Some, None, List, [], ◌∷◌, filter, length, map, get_or, slice_get, inl, inr, refl, sym, ap, subst, ◌∙◌, arith}
+use Rattle.std.proofs.lemmas.Bool.{and_parts, cases_Bool, eqb-true}
+use Rattle.std.proofs.lemmas.List.Folds.{list_all-append}
+use Rattle.std.specs.List.{All, AllByRecursion, list_all}
+use Rattle.t1_char.specs.Steps.{StepView, steps_of}
+use Rattle.t1_char.specs.declared.edition.Edition.{Edition}
+use Rattle.t1_char.specs.declared.edition.Edition.TheVariants.{One, Two}
+use Rattle.t1_font.specs.Fonts.{FontValue, glyph_name, name_in}
+use Rattle.t1_lines.specs.Lines.{FaultLineValue, IsFaultLine, at_step, line_in, place_in}
+use Rattle.t1_lines.specs.Names.{HasNames}
+use Rattle.t1_many.proofs.WaiversRead.{written_are_read}
+use Rattle.t1_many.specs.Groups.{told_faults}
+use Rattle.t1_many.specs.Laws.{CanBeWaived}
+use Rattle.t1_many.specs.WrittenWaivers.{waivers_behind, waivers_text, with_place}
+use Rattle.t1_report.proofs.Told.{told_in_glyph, told_within}
+use Rattle.t1_report.specs.Checked.{CheckedFont, step_limit}
+use Rattle.t1_report.specs.Faults.{FaultValue}
+use Rattle.t1_report.specs.Reports.{IsReport, is_broken, is_told, rules_of, step_breaks}
+use Rattle.t1_report.specs.Waivers.{Waiver, is_waivable, waivers_of, with_waiver}
+use Rattle.t1_rules.specs.Book.{number_of}
+use Rattle.t1_rules.specs.Components.{components_of}
+use Rattle.t1_rules.specs.Mask.{has}
+use Rattle.t1_rules.specs.StepRules.{StepRule, argument_rules, breaks, breaks_next, call_rules, charstring_rules, component_rules, flex_rules, othersubr_rules, path_rules, seac_rules, stem_rules, step_rules}
+use Rattle.t1_rules.specs.declared.sidebearings.Component.{Component}
+use Rattle.t1_rules.specs.declared.mask.Mask.{Mask}
+use Rattle.t1_rules.specs.declared.rule.Rule.{Rule}
+use Rattle.t1_rules.specs.declared.rule.Rule.TheVariants.{C01, L01}
+use Rattle.t1_scan.specs.Bytes.{is_regular}
+use Rattle.t1_waiving.proofs.WrittenOnce.{glyph_bounds, place_in_glyph, place_outside}
+use Rattle.t1_waiving.specs.GlyphLines.{is_in_glyph}
+use Rattle.t1_waiving.specs.Laws.{WrittenTextsAreRead}
+use Rattle.t1_waiving.specs.Private.Written.{waiver_at}
+use Rattle.t1_waiving.specs.Reports.{report_waivers}
+
+-- ---- what a step of a glyph breaks can be waived
+
+abbrev all_waivable : List StepRule → Bool
+all_waivable rules = list_all (λ (r : StepRule). is_waivable r.rule) rules
+
+step_waivable : (edition : Edition) → all_waivable (step_rules edition) ≡ true
+unfolding step_rules argument_rules call_rules path_rules stem_rules flex_rules othersubr_rules seac_rules
+step_waivable One = refl
+step_waivable Two = refl
+
+component_waivable : (components : List Component) → all_waivable (component_rules components) ≡ true
+unfolding component_rules
+component_waivable components = refl
+
+charstring_waivable : (edition : Edition) (components : List Component) → all_waivable (charstring_rules edition components) ≡ true
+unfolding charstring_rules
+charstring_waivable edition components =
+    list_all-append (λ (r : StepRule). is_waivable r.rule) (step_rules edition) (component_rules components)
+    ∙ rw (step_waivable edition, component_waivable components) refl
+
+-- Whether a rule can be waived is said by its number.
+by_number : (a b : Rule) → number_of a ≡ number_of b → is_waivable a ≡ true → is_waivable b ≡ true
+by_number a b same is = subst (λ n. (nat_le (number_of C01) n && nat_le n (number_of L01)) ≡ true) same is
+
+breaks_waivable : (rules : List StepRule) → all_waivable rules ≡ true → (before : List StepView) (step : StepView) (rule : Rule)
+    → breaks rules (number_of rule) before step ≡ true → is_waivable rule ≡ true
+breaks_waivable [] all before step rule is = absurd (true≢false (sym is))
+breaks_waivable (r ∷ rules) all before step rule is =
+    let parts = and_parts (is_waivable r.rule) (all_waivable rules) all in
+    elim (cases_Bool (r.is_broken before step && number_of r.rule == number_of rule)) [
+      | inl here ↦
+          let both = and_parts (r.is_broken before step) (number_of r.rule == number_of rule) here in
+          by_number r.rule rule (eqb-true (number_of r.rule) (number_of rule) both.1) parts.0
+      | inr other ↦ breaks_waivable rules parts.1 before step rule (rw other at is)
+    ]
+
+next_waivable : (rules : List StepRule) → all_waivable rules ≡ true → (before : List StepView) (step : Option StepView) (rule : Rule)
+    → breaks_next rules (number_of rule) before step ≡ true → is_waivable rule ≡ true
+next_waivable rules all before None rule is = absurd (true≢false (sym is))
+next_waivable rules all before (Some step) rule is = breaks_waivable rules all before step rule is
+
+step_broken : (limit : ℕ) (rules : List StepRule) → all_waivable rules ≡ true → (steps : List StepView) (i : ℕ) (rule : Rule)
+    → step_breaks limit rules (number_of rule) steps i ≡ true → is_waivable rule ≡ true
+step_broken limit rules all steps i rule is = elim (cases_Bool (nat_lt i limit)) [
+  | inl before ↦ next_waivable rules all _ (slice_get steps i) rule (rw before at is)
+  | inr past ↦
+      let last : ((i == limit && nat_lt i (length steps)) && number_of L01 == number_of rule) ≡ true = rw past at is in
+      by_number L01 rule (eqb-true (number_of L01) (number_of rule) (and_parts _ _ last).1) refl
+]
+
+broken_waivable : (font : CheckedFont) (glyph step : ℕ) (rule : Rule) → is_broken font (suc glyph) step (number_of rule) ≡ true → is_waivable rule ≡ true
+unfolding is_broken rules_of
+broken_waivable font glyph zero rule is = absurd (true≢false (sym is))
+broken_waivable font glyph (suc i) rule is =
+    step_broken (step_limit font) (charstring_rules font.edition (components_of (step_limit font) font.value))
+    (charstring_waivable font.edition (components_of (step_limit font) font.value)) (steps_of font.value glyph) i rule (and_parts _ _ is).1
+
+-- ---- the lines of glyphs, each with its glyph and its rule alone
+
+abbrev stand_in : FontValue → FaultValue → FaultLineValue
+stand_in font fault = record { number = 0; place = at_step (glyph_name font (fault.unit - 1)) [] 0; rule = fault.rule }
+
+abbrev glyph_faults : Mask → FontValue → List FaultValue → List FaultValue
+glyph_faults rules font faults = filter (λ fault. has rules (number_of fault.rule) && is_in_glyph font fault) faults
+
+module _ (rules : Mask) (font : FontValue) where
+  same_waivers : (faults : List FaultValue) (so_far : List Waiver) → waivers_behind so_far (map (line_in font []) (told_faults rules faults))
+      ≡ waivers_behind so_far (map (stand_in font) (glyph_faults rules font faults))
+  same_waivers [] so_far = refl
+  same_waivers (f ∷ faults) so_far = elim (cases_Bool (has rules (number_of f.rule))) [
+    | inr left ↦ rw left (same_waivers faults so_far)
+    | inl told ↦ elim (cases_Bool (is_in_glyph font f)) [
+      | inl in_glyph ↦
+          rw (told, in_glyph) (ap (λ (ws : List Waiver). waivers_behind ws (map (line_in font []) (told_faults rules faults)))
+          (place_in_glyph font [] so_far f in_glyph) ∙ same_waivers faults (with_waiver so_far (waiver_at font f)))
+      | inr out ↦
+          rw (told, out) (ap (λ (ws : List Waiver). waivers_behind ws (map (line_in font []) (told_faults rules faults)))
+          (place_outside font [] so_far f out) ∙ same_waivers faults so_far)
+    ]
+  ]
+
+  -- A glyph's name is regular, and the rule can be waived.
+  record Fits (fault : FaultValue) : Type 0 where
+    pub name : list_all is_regular (glyph_name font (fault.unit - 1)) ≡ true
+    pub rule : is_waivable fault.rule ≡ true
+
+  can_be_waived : (faults : List FaultValue)
+      → ((fault : FaultValue) (k : ℕ) → k < length faults → get_or faults k fault ≡ fault → is_in_glyph font fault ≡ true → Fits fault)
+      → AllByRecursion (λ (l : FaultLineValue). IsFaultLine l × CanBeWaived l.place l.rule) (map (stand_in font) (glyph_faults rules font faults))
+  can_be_waived [] each = tt
+  can_be_waived (f ∷ faults) each = elim (cases_Bool (has rules (number_of f.rule) && is_in_glyph font f)) [
+    | inr out ↦ rw out (can_be_waived faults (λ fault k less at. each fault (suc k) (omega (arith, less)) at))
+    | inl both ↦
+        let fits = each f 0 (omega arith) refl (and_parts (has rules (number_of f.rule)) (is_in_glyph font f) both).1 in
+        rw both (
+          (record { number = omega arith; place = (fits.name, omega arith, tt, omega arith) }, fits.rule),
+          can_be_waived faults (λ fault k less at. each fault (suc k) (omega (arith, less)) at),
+        )
+  ]
+
+name_regular : (glyphs : List (List ℕ × List ℕ)) → All (λ (glyph : List ℕ × List ℕ). list_all is_regular glyph.0 ≡ true) glyphs → (k : ℕ) → k < length glyphs
+    → list_all is_regular (name_in (slice_get glyphs k)) ≡ true
+name_regular [] all k less = absurd (omega (arith, less))
+name_regular (g ∷ glyphs) all zero less = all 0 g (omega arith)
+name_regular (g ∷ glyphs) all (suc k) less = name_regular glyphs (λ i d lt. all (suc i) d (omega (arith, lt))) k (omega (arith, less))
+
+and_true : (b : Bool) → (b && true) ≡ b
+and_true true = refl
+and_true false = refl
+
+fits : (rules : Mask) (font : CheckedFont) → HasNames font.value → (fault : FaultValue)
+    → is_told font [] fault.unit fault.step (number_of fault.rule) ≡ true → is_in_glyph font.value fault ≡ true → Fits rules font.value fault
+fits rules font names fault told in_glyph =
+    let n = number_of fault.rule in
+    let bounds = glyph_bounds font.value fault in_glyph (told_within font [] fault.unit fault.step n told) in
+    let unit : fault.unit ≡ fault.unit - 1 + 1 = omega (arith, bounds.0) in
+    let next : fault.unit ≡ suc (fault.unit - 1) = omega (arith, unit) in
+    let there : fault.unit - 1 < length font.value.glyphs = omega (arith, bounds.0, bounds.1) in
+    record {
+      name = name_regular font.value.glyphs names (fault.unit - 1) there;
+      rule = broken_waivable font (fault.unit - 1) fault.step fault.rule (subst (λ (u : ℕ). is_broken font u fault.step n ≡ true) next
+          (sym (and_true (is_broken font fault.unit fault.step n)) ∙ sym (told_in_glyph font [] fault.unit (fault.unit - 1) fault.step n unit there) ∙ told));
+    }
+
+pub texts_are_read : WrittenTextsAreRead
+texts_are_read rules font faults names report =
+    let same : report_waivers rules font.value [] faults ≡ waivers_behind [] (map (stand_in font.value) (glyph_faults rules font.value faults)) =
+    same_waivers rules font.value faults [] in
+    ap (λ (ws : List Waiver). waivers_of (waivers_text ws)) same
+    ∙ written_are_read (map (stand_in font.value) (glyph_faults rules font.value faults))
+    (can_be_waived rules font.value faults (λ fault k less at in_glyph. fits rules font names fault
+    (subst (λ (x : FaultValue). is_told font [] x.unit x.step (number_of x.rule) ≡ true) at (report.violations k fault less).violated) in_glyph))
+    ∙ ap (λ (ws : List Waiver). Some ws) (sym same)

@@ -1,0 +1,70 @@
+//! The waivers of fonts, until they are written.
+
+ghost use Rattle.std.specs.Prelude.{◌≡◌, [], ◌++◌, List, if◌then◌else◌, map};
+ghost use Rattle.std.specs.Result.{is_ok};
+ghost use Rattle.t1_waiving.specs.FontTexts.{FontText, font_text, texts_of};
+
+use std::alloc::{AllocError, Global};
+use std::marker::Model;
+use t1_report::LARGEST_WAIVERS;
+
+/// The waivers that are written beside a font.
+#[derive(Drop)]
+pub struct FontWaivers {
+    /// The font's name.
+    pub name: String,
+    /// A line each: none of them where they are more than [`LARGEST_WAIVERS`] bytes, which t1check doesn't read.
+    pub text: Option<Vec<u8>>,
+}
+
+/// The waivers of fonts, in the order of the fonts: those without a waiver aren't among them.
+#[derive(Drop)]
+pub struct Kept {
+    fonts: Vec<FontWaivers>,
+}
+
+impl Model for Kept {
+    ghost Value = { List FontText };
+
+    ghost view = { λ kept. map font_text kept.fonts.items };
+}
+
+impl Kept {
+    /// The waivers of no font.
+    pub fn new(alloc: Global) -> Kept
+        ensures { result ≡ [] }
+    {
+        Kept {
+            fonts: Vec::new(alloc),
+        }
+    }
+
+    /// The fonts with their waivers.
+    pub fn fonts(&self) -> &[FontWaivers]
+        ensures { map font_text result.now ≡ self.now }
+    {
+        self.fonts.as_slice()
+    }
+
+    /// Keeps the waivers of a font, if it has some. Where memory runs out nothing is kept.
+    pub(crate) fn push(
+        &mut self,
+        alloc: Global,
+        name: &str,
+        text: Vec<u8>,
+    ) -> Result<(), AllocError>
+        ensures { self.new ≡ (if is_ok result then self.old ++ texts_of name.now text.items else self.old) }
+    {
+        if text.is_empty() {
+            return Ok(());
+        }
+        let name = String::from_str(alloc, name)?;
+        let text = if text.len() > LARGEST_WAIVERS {
+            None
+        } else {
+            Some(text)
+        };
+        self.fonts.push(FontWaivers { name, text })?;
+        Ok(())
+    }
+}

@@ -1,0 +1,82 @@
+//! Fonts of which the lines of glyphs are waived, and the others told.
+
+ghost use Rattle.std.specs.Prelude.{◌≡◌, false, map, string_bytes, Ok};
+ghost use Rattle.std.specs.Fn.{FnReturnsAt};
+ghost use Rattle.t1_many.specs.Files.{files_by};
+ghost use Rattle.t1_waiving.specs.Waived.{WaivesAll, WaivesFont};
+
+use crate::glyph_lines::OutsideGlyphs;
+use crate::kept::Kept;
+use crate::writing::waivers_text;
+use std::alloc::{AllocError, Global};
+use std::io;
+use t1_char::Edition;
+use t1_font::Font;
+use t1_io::Source;
+use t1_many::{Form, Lost, Recipient, Taken, check_all, hand_failure, hand_report};
+use t1_report::{Waivers, a_font_has_one_report, waivers_leave_out_what_they_say};
+use t1_rules::{Mask, Sidebearings};
+use t1_run::{Failure, Status};
+
+/// Tells the lines of these rules, in a form, but those of glyphs: of these it keeps the waivers.
+#[derive(Drop)]
+pub struct Waiving<F: Form> {
+    /// Of which rules lines are told or waived.
+    pub rules: Mask,
+    /// The form that takes those that are told.
+    pub form: F,
+    /// The waivers of the others.
+    pub kept: Kept,
+}
+
+impl<F: Form> Recipient for Waiving<F> {
+    ghost takes = { λ old new entry taken.
+        (new.rules ≡ old.rules) × WaivesFont F.takes old.rules old.form new.form old.kept new.kept entry taken };
+
+    fn report<'a>(
+        &mut self,
+        alloc: Global,
+        name: &str,
+        font: &'a Font<'a>,
+        sidebearings: &'a Sidebearings,
+        waivers: &'a Waivers<'a>,
+    ) -> Result<Taken, AllocError> {
+        // The calls of laws do nothing: the proof cites what they ensure.
+        a_font_has_one_report();
+        waivers_leave_out_what_they_say();
+        let text = waivers_text(alloc, font, sidebearings, waivers, self.rules)?;
+        self.kept.push(alloc, name, text)?;
+        let outside = OutsideGlyphs { rules: self.rules };
+        Ok(hand_report(&mut self.form, name, font, sidebearings, waivers, &outside))
+    }
+
+    fn failure(&mut self, name: &str, failure: Failure) -> Taken {
+        hand_failure(&mut self.form, name, failure)
+    }
+}
+
+/// Checks the fonts of these names in order, as [`check_all`] does, tells the lines of some rules but those of glyphs, why there is no report
+/// of a font, and how each font was found, and keeps the waivers of the lines of glyphs.
+pub fn waive_all<R, V, O, P, F>(
+    alloc: Global,
+    names: &[String],
+    open_font: O,
+    open_waivers: P,
+    edition: Edition,
+    waiving: &mut Waiving<F>,
+) -> Result<Status, Lost>
+where
+    R: Source + Drop,
+    V: Source + Drop,
+    O: Fn(&str) -> io::Result<R>,
+    P: Fn(&str) -> Option<io::Result<V>>,
+    F: Form,
+    requires open_font { O.IsAlwaysCallable open_font }
+    requires open_waivers { P.IsAlwaysCallable open_waivers }
+    requires unbroken { (name : _) (file : R) → FnReturnsAt O.Fn open_font name (Ok file) → (R.state file).failed ≡ false }
+    ensures { WaivesAll F.takes waiving.old.rules
+        (files_by R.state V.state (FnReturnsAt O.Fn open_font) (FnReturnsAt P.Fn open_waivers)) edition (map string_bytes names.now)
+        waiving.old.form waiving.new.form waiving.old.kept waiving.new.kept result }
+{
+    check_all(alloc, names, open_font, open_waivers, edition, waiving)
+}
