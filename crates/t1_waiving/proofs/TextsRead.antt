@@ -1,5 +1,5 @@
 -- The text of waivers that is written of a report is read as these.
-use Rattle.std.proofs.Common.{◌≡◌, ◌≤◌, ◌<◌, ℕ, zero, suc, ◌+◌, ◌-◌, ◌==◌, ◌&&◌, Bool, true, false, true≢false, nat_le, nat_lt, Option, Some, None, List, [], ◌∷◌, filter, length, map, get_or, slice_get, inl, inr, refl, sym, ap, subst, ◌∙◌, arith}
+use Rattle.std.proofs.Common.{◌≡◌, ◌<◌, ℕ, zero, suc, ◌+◌, ◌-◌, ◌==◌, ◌&&◌, Bool, true, false, true≢false, nat_le, nat_lt, Option, Some, None, List, [], ◌∷◌, filter, length, map, get_or, slice_get, inl, inr, refl, sym, ap, subst, ◌∙◌, arith}
 use Rattle.std.proofs.lemmas.Bool.{and_parts, cases_Bool, eqb-true}
 use Rattle.std.proofs.lemmas.List.Folds.{list_all-append}
 use Rattle.std.specs.List.{All, AllByRecursion, list_all}
@@ -7,16 +7,16 @@ use Rattle.t1_char.specs.Steps.{StepView, steps_of}
 use Rattle.t1_char.specs.declared.edition.Edition.{Edition}
 use Rattle.t1_char.specs.declared.edition.Edition.TheVariants.{One, Two}
 use Rattle.t1_font.specs.Fonts.{FontValue, glyph_name, name_in}
-use Rattle.t1_lines.specs.Lines.{FaultLineValue, IsFaultLine, at_step, line_in, place_in}
+use Rattle.t1_lines.specs.Lines.{FaultLineValue, IsFaultLine, at_step, line_in}
 use Rattle.t1_lines.specs.Names.{HasNames}
 use Rattle.t1_many.proofs.WaiversRead.{written_are_read}
 use Rattle.t1_many.specs.Groups.{told_faults}
 use Rattle.t1_many.specs.Laws.{CanBeWaived}
-use Rattle.t1_many.specs.WrittenWaivers.{waivers_behind, waivers_text, with_place}
+use Rattle.t1_many.specs.WrittenWaivers.{waivers_behind, waivers_text}
 use Rattle.t1_report.proofs.Told.{told_in_glyph, told_within}
 use Rattle.t1_report.specs.Checked.{CheckedFont, step_limit}
 use Rattle.t1_report.specs.Faults.{FaultValue}
-use Rattle.t1_report.specs.Reports.{IsReport, is_broken, is_told, rules_of, step_breaks}
+use Rattle.t1_report.specs.Reports.{is_broken, is_told, rules_of, step_breaks}
 use Rattle.t1_report.specs.Waivers.{Waiver, is_waivable, waivers_of, with_waiver}
 use Rattle.t1_rules.specs.Book.{number_of}
 use Rattle.t1_rules.specs.Components.{components_of}

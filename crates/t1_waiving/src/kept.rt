@@ -13,11 +13,11 @@ use t1_report::LARGEST_WAIVERS;
 pub struct FontWaivers {
     /// The font's name.
     pub name: String,
-    /// A line each: none of them where they are more than [`LARGEST_WAIVERS`] bytes, which t1check doesn't read.
+    /// Their text, a line each; none where it has more than [`LARGEST_WAIVERS`] bytes, since t1check doesn't read such a text.
     pub text: Option<Vec<u8>>,
 }
 
-/// The waivers of fonts, in the order of the fonts: those without a waiver aren't among them.
+/// The waivers of fonts, in the order of the fonts, without those that have no waiver.
 #[derive(Drop)]
 pub struct Kept {
     fonts: Vec<FontWaivers>,

@@ -1,6 +1,20 @@
 //! Waivers that are written beside fonts: each line of a glyph is waived, and the lines of the font itself are told.
 //!
-//! [`waivers_text`] writes the waivers of one font's report, and [`waive_all`] checks fonts one after another and keeps the waivers of each.
+//! [`waivers_text`] writes the waivers of one font's report. [`waive_all`] checks fonts one after another by a [`Waiving`], which tells the
+//! other lines in a form and keeps the waivers of each font; [`tell_too_many`] names the fonts that have more than are read.
+//!
+//! What is promised:
+//!
+//! - A font's text has a line `NAME RULE` for each glyph and each rule of those that are told, once, in the order of their first lines.
+//! - [`written_texts_are_read`]: t1check reads the text as exactly these waivers.
+//! - [`written_waivers_leave_no_glyph_line`]: with them, by the same edition, no line of these rules is left in a glyph, and no waiver is
+//!   unused.
+//!
+//! ```
+//! let status = waive_all(alloc, names, open_font, |_| None, Edition::One, &mut waiving)?;
+//! let too_many = tell_too_many(&mut errors, &waiving.kept)?;
+//! for font in waiving.kept.fonts() { .. }
+//! ```
 #![tactic(auto)]
 
 mod glyph_lines;
