@@ -1,5 +1,5 @@
 -- Fonts that are indexed by their names.
-use Rattle.std.proofs.Common.{◌≡◌, ◌<◌, ◌+◌, ℕ, zero, suc, length, take, get_or, arith, Bool, true, false, true≢false, List, [], ◌∷◌, ◌++◌, Option, None, Some, cond, is_some, inl, inr, refl, sym, ap, subst, ◌∙◌}
+use Rattle.std.proofs.Common.{◌≡◌, ◌<◌, ◌+◌, ℕ, length, take, get_or, Bool, true, false, true≢false, List, [], ◌∷◌, ◌++◌, Option, None, Some, cond, is_some, inl, inr, refl, sym, ap, subst, ◌∙◌}
 use Rattle.std.proofs.lemmas.Bool.{cases_Bool}
 use Rattle.std.proofs.lemmas.List.{take_more}
 use Rattle.std.specs.Borrow.{Bor}
@@ -10,7 +10,6 @@ use Rattle.t1_many.proofs.Texts.{apart, equal, itself}
 use Rattle.t1_many.specs.KnownFaults.{RowValue}
 use Rattle.t1_known.specs.Lines.{row_lines}
 use Rattle.t1_known.specs.Private.Shortfalls.{AreIndexed, AreRowsOf, FontRows, IsIndexed, first_rows, rows_at}
-use Rattle.t1_known.specs.Readings.{AreReadable, IsReadableText}
 use Rattle.t1_known.specs.Reads.{AreLinesOf}
 use Rattle.t1_known.specs.declared.readings.Reading.{Reading as Text}
 
@@ -88,11 +87,6 @@ pub none_indexed : (fonts : FontRows) → fonts ≡ [] → AreIndexed [] fonts
 none_indexed fonts none = λ font. subst (λ (es : FontRows). AreRowsOf None (rows_at es font)) (sym none) tt
 
 -- ---- one text behind the other
-
-pub readable_at : (texts : List Text) (i : ℕ) (d : Text) → AreReadable texts → i < length texts → IsReadableText (get_or texts i d)
-readable_at [] i d all within = absurd (omega (arith, within))
-readable_at (text ∷ texts) zero d all within = all.0
-readable_at (text ∷ texts) (suc i) d all within = readable_at texts i d all.1 (omega (arith, within))
 
 pub indexed_next : (texts : List Text) (i : ℕ) (d : Text) (old new : FontRows) → i < length texts → AreIndexed (take i texts) old
     → IsIndexed (get_or texts i d) old new → AreIndexed (take (i + 1) texts) new

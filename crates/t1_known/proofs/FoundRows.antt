@@ -62,14 +62,14 @@ kinds_once [] = tt
 kinds_once (kind ∷ kinds) =
     (filtered_out kind (distinct kinds), distinct-filter (λ other. not (bytes_eq kind other)) (distinct kinds) (kinds_once kinds))
 
-all-filter : (P : List ℕ → Type 0) (p : List ℕ → Bool) (kinds : List (List ℕ)) → AllByRecursion P kinds → AllByRecursion P (filter p kinds)
+pub all-filter : (P : List ℕ → Type 0) (p : List ℕ → Bool) (kinds : List (List ℕ)) → AllByRecursion P kinds → AllByRecursion P (filter p kinds)
 all-filter P p [] all = tt
 all-filter P p (kind ∷ kinds) all = elim (cases_Bool (p kind)) [
   | inl kept ↦ rw kept (all.0, all-filter P p kinds all.1)
   | inr out ↦ rw out (all-filter P p kinds all.1)
 ]
 
-all-distinct : (P : List ℕ → Type 0) (kinds : List (List ℕ)) → AllByRecursion P kinds → AllByRecursion P (distinct kinds)
+pub all-distinct : (P : List ℕ → Type 0) (kinds : List (List ℕ)) → AllByRecursion P kinds → AllByRecursion P (distinct kinds)
 all-distinct P [] all = tt
 all-distinct P (kind ∷ kinds) all =
     (all.0, all-filter P (λ other. not (bytes_eq kind other)) (distinct kinds) (all-distinct P kinds all.1))
@@ -94,7 +94,7 @@ among-distinct kind (k ∷ kinds) = elim (cases_Bool (bytes_eq kind k)) [
 
 -- ---- rows
 
-abbrev counted : List ℕ → (List ℕ → ℕ) → List (List ℕ) → List RowValue
+abbrev pub counted : List ℕ → (List ℕ → ℕ) → List (List ℕ) → List RowValue
 counted font f kinds = map (λ kind. record { count = decimal (f kind); kind = kind; font = font }) kinds
 
 in_one_line : (font : List ℕ) (f : List ℕ → ℕ) (kinds : List (List ℕ)) → ((kind : List ℕ) → f kind < 2 ^ 64) → 0 < length font

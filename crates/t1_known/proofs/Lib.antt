@@ -8,7 +8,9 @@ pub mod OneReading
 pub mod PlainKinds
 pub mod PutRows
 pub mod ReadBack
+pub mod ReadRows
 pub mod RuleWords
 pub mod ShortRows
 pub mod SoFar
 pub mod Told
+pub mod UpdatedRows

@@ -1,6 +1,6 @@
 -- The statements of laws.
-use Rattle.std.specs.Prelude.{◌≡◌, ◌⊎◌, ◌<◌, ◌^◌, ℕ, true, List, length, map, Result, Ok, Err}
-use Rattle.std.specs.List.{AllByRecursion, IsDistinct}
+use Rattle.std.specs.Prelude.{◌≡◌, ◌⊎◌, ◌<◌, ◌^◌, ℕ, true, List, [], length, map, Some, Result, Ok, Err}
+use Rattle.std.specs.List.{AllByRecursion, IsDistinct, flat_map}
 use Rattle.std.specs.Str.{bytes_eq}
 use Rattle.t1_known.specs.Keys.{key_of}
 use Rattle.t1_known.specs.Lines.{has_no_line_end}
@@ -9,7 +9,9 @@ use Rattle.t1_known.specs.Reads.{IsReadAs}
 use Rattle.t1_known.specs.declared.known.NotKnown.{NotKnown}
 use Rattle.t1_known.specs.declared.known.NotKnown.TheVariants.{Memory, NoRow, Twice}
 use Rattle.t1_lines.specs.Lines.{FaultLineValue, IsFaultLine}
-use Rattle.t1_many.specs.KnownFaults.{IsRow, RowValue, file_text, kind_of}
+use Rattle.t1_many.specs.Choice.{Choice}
+use Rattle.t1_many.specs.KnownFaults.{IsRow, Reading, RowValue, beyond, file_text, kind_of, kinds_in, shortfall, updated}
+use Rattle.t1_many.specs.Laws.{AreReadings}
 
 -- The text of a row is one line.
 pub record IsInOneLine (row : RowValue) : Type 0 where
@@ -22,6 +24,28 @@ abbrev pub RowsAreReadBack : Type 0
 RowsAreReadBack =
     (rows : List RowValue) → AllByRecursion IsInOneLine rows → IsDistinct bytes_eq (map key_of rows)
     → (result : Result (List RowValue) NotKnown) → IsReadAs (file_text rows) result → (result ≡ Ok rows) ⊎ (result ≡ Err Memory)
+
+-- The file that an update writes is read as exactly the rows of the update: where the known faults were read of a text, and where what was
+-- found in fonts can be read of its rows and is of rules that are told.
+abbrev pub UpdatesAreReadBack : Type 0
+UpdatesAreReadBack =
+    (choice : Choice) (readings : List Reading) (text : List ℕ) (rows : List RowValue) → IsReadAs text (Ok rows)
+    → AllByRecursion IsReadable readings → AreReadings choice readings
+    → (result : Result (List RowValue) NotKnown) → IsReadAs (file_text (updated choice readings rows)) result
+    → (result ≡ Ok (updated choice readings rows)) ⊎ (result ≡ Err Memory)
+
+-- Of the fonts that were read no line goes beyond what is known, and no row falls short of what was found.
+pub record IsReached (choice : Choice) (readings : List Reading) (known : List RowValue) : Type 0 where
+  pub lines :
+      (font : List ℕ) (lines : List FaultLineValue) → kinds_in readings font ≡ Some (map kind_of lines) → beyond known font lines ≡ []
+  pub rows : flat_map (shortfall choice readings) known ≡ []
+
+-- So what is read of the file that an update writes is reached.
+abbrev pub UpdatesAreReached : Type 0
+UpdatesAreReached =
+    (choice : Choice) (readings : List Reading) (text : List ℕ) (rows : List RowValue) → IsReadAs text (Ok rows)
+    → AllByRecursion IsReadable readings → AreReadings choice readings
+    → (known : List RowValue) → IsReadAs (file_text (updated choice readings rows)) (Ok known) → IsReached choice readings known
 
 -- Two readings of a text are the same, unless memory runs out.
 abbrev pub IsSameReading : Result (List RowValue) NotKnown → Result (List RowValue) NotKnown → Type 0

@@ -29,15 +29,6 @@ pub record IsReadable (reading : Reading) : Type 0 where
 abbrev pub AreReadingsOf : List Text → List Reading → Type 0
 AreReadingsOf texts readings = AllZip (λ text reading. IsTextOf text reading × IsReadable reading) texts readings
 
--- A text is that of rows that can be read.
-pub record IsReadableText (text : Text) : Type 0 where
-  pub reading : Reading
-  pub is : IsTextOf text reading
-  pub readable : IsReadable reading
-
-abbrev pub AreReadable : List Text → Type 0
-AreReadable texts = AllByRecursion IsReadableText texts
-
 -- The words of `--only` and of `--except`.
 abbrev pub choice_of : List (Bor (List ℕ)) → List (Bor (List ℕ)) → Choice
 choice_of only except = record { only = map (λ word. word.now) only; except = map (λ word. word.now) except }

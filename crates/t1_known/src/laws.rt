@@ -1,10 +1,19 @@
 //! Laws above the definitions: each is the contract of a function that does nothing.
 
-ghost use Rattle.t1_known.specs.Laws.{ATextIsReadOneWay, LinesAreReadable, RowsAreReadBack};
+ghost use Rattle.t1_known.specs.Laws.{ATextIsReadOneWay, LinesAreReadable, RowsAreReadBack, UpdatesAreReached, UpdatesAreReadBack};
 
 /// Rows that were written are read back, unless memory runs out: where no kind and no font has a line end, and no key stands twice.
 pub fn rows_are_read_back()
     ensures { RowsAreReadBack }
+{}
+
+/// What `write_updated` writes is read as the updated rows, unless memory runs out. No line of a font with a reading goes beyond them, and no
+/// row falls short of what was found.
+///
+/// The old rows are those of a text that was read. Each kind of a reading is of a rule that is told, and no kind and no font has a line end.
+pub fn updates_are_read_back()
+    ensures read { UpdatesAreReadBack }
+    ensures reached { UpdatesAreReached }
 {}
 
 /// What is found in a font can be read of its rows, where the font's name can stand in a row.

@@ -8,6 +8,7 @@
 //!
 //! - what is read is each row of the text in its order, or the first line at fault, and nothing else ([`a_text_is_read_one_way`]);
 //! - rows that were written are read back ([`rows_are_read_back`]);
+//! - so are those of an update: no line of a font that was read goes beyond them, and no row falls short ([`updates_are_read_back`]);
 //! - what is written is decided by the rows, the readings and the rules that are told, and memory runs out before the first byte or not at all.
 #![tactic(auto)]
 
@@ -21,7 +22,9 @@ mod shortfalls;
 mod updating;
 
 pub use known::{KnownFaults, NotKnown};
-pub use laws::{a_text_is_read_one_way, lines_are_readable, rows_are_read_back};
+pub use laws::{
+    a_text_is_read_one_way, lines_are_readable, rows_are_read_back, updates_are_read_back,
+};
 pub use readings::Reading;
 pub use shortfalls::write_shortfalls;
 pub use updating::write_updated;

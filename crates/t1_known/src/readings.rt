@@ -3,10 +3,9 @@
 ghost use Rattle.std.specs.Prelude.{IfOk, OnOk};
 ghost use Rattle.t1_known.specs.Lines.{row_lines};
 ghost use Rattle.t1_known.specs.Private.Shortfalls.{AreIndexed, IsIndexed};
-ghost use Rattle.t1_known.specs.Readings.{AreReadable, IsReadableText};
 ghost use Rattle.t1_known.specs.Reads.{AreLinesOf};
 
-use crate::known::{KnownFaults, NotKnown};
+use crate::known::KnownFaults;
 use indexmap::IndexMap;
 use std::alloc::{AllocError, Global};
 
@@ -22,9 +21,8 @@ pub struct Reading<'a> {
 /// What was found in fonts, by their names.
 pub(crate) type Found<'a> = IndexMap<&'a [u8], KnownFaults<'a>>;
 
-/// Indexes what was found in fonts; of fonts of one name the first is taken.
+/// Indexes what was found in fonts; of fonts of one name the first is taken. An error may also say that rows of a font can't be read.
 pub(crate) fn found<'a>(alloc: Global, readings: &[Reading<'a>]) -> Result<Found<'a>, AllocError>
-    requires { AreReadable readings.now }
     ensures { IfOk result (λ fonts. AreIndexed readings.now fonts.entries) }
 {
     let mut fonts = IndexMap::new(alloc);
@@ -36,7 +34,6 @@ pub(crate) fn found<'a>(alloc: Global, readings: &[Reading<'a>]) -> Result<Found
 
 /// Indexes what was found in a font, unless one of this name is there.
 fn index<'a>(alloc: Global, fonts: &mut Found<'a>, reading: &Reading<'a>) -> Result<(), AllocError>
-    requires { IsReadableText reading.now }
     ensures { OnOk result (IsIndexed reading.now fonts.old.entries fonts.new.entries) }
 {
     let font = reading.font.as_bytes();
@@ -48,15 +45,12 @@ fn index<'a>(alloc: Global, fonts: &mut Found<'a>, reading: &Reading<'a>) -> Res
     Ok(())
 }
 
-/// The rows of a font, which can be read.
+/// The rows of a font. Text that isn't of rows is an error as well.
 fn rows_in<'a>(alloc: Global, reading: &Reading<'a>) -> Result<KnownFaults<'a>, AllocError>
-    requires { IsReadableText reading.now }
     ensures { IfOk result (λ rows. AreLinesOf (row_lines reading.now.rows.now) rows) }
 {
     match KnownFaults::read(alloc, reading.rows) {
         Ok(rows) => Ok(rows),
-        Err(NotKnown::Memory) => Err(AllocError),
-        Err(NotKnown::NoRow(_)) => unreachable!(),
-        Err(NotKnown::Twice(_)) => unreachable!(),
+        Err(_) => Err(AllocError),
     }
 }

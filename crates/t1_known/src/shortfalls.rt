@@ -6,7 +6,7 @@ ghost use Rattle.t1_io.specs.Devices.{Writes};
 ghost use Rattle.t1_known.specs.Keys.{key_of};
 ghost use Rattle.t1_known.specs.Private.Shortfalls.{rows_at, short_in, short_of, short_text};
 ghost use Rattle.t1_known.specs.Private.Kept.{AreKept};
-ghost use Rattle.t1_known.specs.Readings.{AreReadable, AreReadingsOf, choice_of};
+ghost use Rattle.t1_known.specs.Readings.{AreReadingsOf, choice_of};
 ghost use Rattle.t1_known.specs.Writes.{WritesAll};
 ghost use Rattle.t1_many.specs.KnownFaults.{Reading as ReadingValue, rule_of, shortfall};
 ghost use Rattle.t1_many.specs.RowValues.{row_value};
@@ -24,7 +24,7 @@ use t1_many::{Lost, Row, is_told};
 /// `a.pfb: known faults: H02 glyph A: 3 known, 1 found`.
 ///
 /// Rows of fonts without a reading, and of rules that aren't told, are skipped. Of readings of one font the first is taken. Nothing is written
-/// if memory runs out.
+/// if memory runs out, or if the text of a reading isn't of rows, which is the same error.
 pub fn write_shortfalls<W: Sink>(
     alloc: Global,
     sink: &mut W,
@@ -33,7 +33,6 @@ pub fn write_shortfalls<W: Sink>(
     only: &[&[u8]],
     except: &[&[u8]],
 ) -> Result<(), Lost>
-    requires { AreReadable readings.now }
     ensures { (all : List ReadingValue) → AreReadingsOf readings.now all → WritesAll (W.state sink.old) (W.state sink.new)
         (flat_map (shortfall (choice_of only.now except.now) all) known.now) result }
 {

@@ -1,12 +1,9 @@
 use Rattle.std.proofs.Common.{List, subst}
 use Rattle.std.proofs.lemmas.List.{take_all}
-use Rattle.t1_known.proofs.FontIndex.{indexed_next, readable_at}
+use Rattle.t1_known.proofs.FontIndex.{indexed_next}
 use Rattle.t1_known.specs.Private.Shortfalls.{AreIndexed}
 use Rattle.t1_known.specs.declared.readings.Reading.{Reading}
 use Rattle.t1_known.proofs.readings.found.Goals as goal
-
-pub index-requires : goal.index-requires
-index-requires c = readable_at c.args.readings.now c.loop-reading.reading-index _ c.requires c.loop-reading-test.true
 
 pub loop-reading-preserved : goal.loop-reading-preserved
 loop-reading-preserved c =
