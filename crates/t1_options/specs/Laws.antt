@@ -1,8 +1,9 @@
 -- The statements of laws.
-use Rattle.std.specs.Prelude.{◌≡◌, ◌+◌, ◌<◌, ◌≤◌, ◌++◌, [], codes, Bool, true, false, ◌∷◌, None, Some, is_some, length}
+use Rattle.std.specs.Prelude.{◌≡◌, ◌+◌, ◌<◌, ◌≤◌, ◌++◌, [], codes, Bool, true, false, ◌∷◌, None, Some, is_some, length, map, string_bytes}
 use Rattle.clap.specs.Words.{Text}
-use Rattle.t1_many.specs.Choice.{letters_of}
-use Rattle.t1_rules.specs.Book.{code_of}
+use Rattle.t1_many.specs.Choice.{is_told, letters_of}
+use Rattle.t1_rules.specs.Book.{code_of, number_of}
+use Rattle.t1_rules.specs.Mask.{has}
 use Rattle.t1_rules.specs.declared.rule.Rule.{Rule}
 use Rattle.t1_options.specs.Choices.{is_known}
 use Rattle.t1_options.specs.Given.{GivenValue, given_by}
@@ -22,6 +23,12 @@ pub record RulesAreKnown : Type 0 where
 -- No word that begins with E can: refusals are always printed.
 abbrev pub NoRefusalIsKnown : Type 0
 NoRefusalIsKnown = (rest : Text) → is_known (69 ∷ rest) ≡ false
+
+-- The rules are those that the codes of the options choose.
+abbrev pub CodesChooseRules : Type 0
+CodesChooseRules =
+    (given : GivenValue) (options : Options) → AreMeant given options → (rule : Rule) → has options.rules (number_of rule)
+    ≡ is_told (record { only = map string_bytes options.only.items; except = map string_bytes options.except.items }) (code_of rule)
 
 -- A part is one of those from 1 to their number, of which there are at most 99,999.
 pub record IsPart (shard : Shard) : Type 0 where

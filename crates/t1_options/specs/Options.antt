@@ -7,7 +7,7 @@ use Rattle.t1_rules.specs.Book.{code_of, number_of}
 use Rattle.t1_rules.specs.Mask.{has}
 use Rattle.t1_rules.specs.declared.mask.Mask.{Mask}
 use Rattle.t1_rules.specs.declared.rule.Rule.{Rule}
-use Rattle.t1_options.specs.Choices.{choice_of}
+use Rattle.t1_options.specs.Choices.{choice_of, codes_of}
 use Rattle.t1_options.specs.Complaints.{complaint_of}
 use Rattle.t1_options.specs.Given.{GivenValue}
 use Rattle.t1_options.specs.Values.{edition_in, form_in, number_in, shard_in, url_in}
@@ -39,6 +39,8 @@ pub record HasValues (given : GivenValue) (options : Options) : Type 0 where
   pub quiet : options.quiet ≡ given.quiet
   pub jobs : options.jobs ≡ option_and_then number_in given.jobs
   pub edition : options.edition ≡ unwrap_or (option_and_then edition_in given.edition) One
+  pub only : map string_bytes options.only.items ≡ codes_of given.only
+  pub except : map string_bytes options.except.items ≡ codes_of given.except
   pub waivers : options.waivers ≡ waivers_of given
   pub known_faults : file_of options.known_faults ≡ given.baseline
   pub anew : is_anew options.known_faults ≡ (given.update_baseline && is_some given.baseline)

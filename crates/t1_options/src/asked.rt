@@ -23,6 +23,10 @@ pub struct Options {
     pub edition: Edition,
     /// The rules whose lines are printed.
     pub rules: Mask,
+    /// The codes that `--only` names, in capitals: of rules or their letters.
+    pub only: Vec<String>,
+    /// The codes that `--except` names, in capitals.
+    pub except: Vec<String>,
     /// What happens to files of waivers.
     pub waivers: Waivers,
     /// The file of known faults.

@@ -1,6 +1,6 @@
 //! What is wrong with the given values.
 
-ghost use Rattle.std.specs.Prelude.{◌≡◌, is_some, map, option_map};
+ghost use Rattle.std.specs.Prelude.{◌≡◌, is_some, map, option_map, string_bytes};
 ghost use Rattle.clap.specs.Walk.{is_empty};
 ghost use Rattle.t1_options.specs.Choices.{codes_of};
 ghost use Rattle.t1_options.specs.Complaints.{complaint_of, first_so};
@@ -12,9 +12,13 @@ use crate::given::Given;
 use crate::values::{baseline, docs, edition, form, jobs, shard};
 
 /// The first thing that is wrong with the given values, if any. `only` and `except` are the codes that these options name.
-pub(crate) fn complaint_of(given: &Given<'_>, only: &[&[u8]], except: &[&[u8]]) -> Option<Complaint>
-    requires only { map (λ s. s.now) only.now ≡ codes_of (given_value given.now).only }
-    requires except { map (λ s. s.now) except.now ≡ codes_of (given_value given.now).except }
+pub(crate) fn complaint_of(
+    given: &Given<'_>,
+    only: &[String],
+    except: &[String],
+) -> Option<Complaint>
+    requires only { map string_bytes only.now ≡ codes_of (given_value given.now).only }
+    requires except { map string_bytes except.now ≡ codes_of (given_value given.now).except }
     ensures { result ≡ complaint_of (given_value given.now) }
 {
     let has_baseline = is_given(given.baseline);

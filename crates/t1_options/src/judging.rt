@@ -1,19 +1,20 @@
 //! The options that the given values mean.
 
 ghost use Rattle.std.specs.Prelude.{◌≡◌, ◌&&◌, IfErr, IfOk, is_some, map, option_map, string_bytes};
+ghost use Rattle.t1_options.specs.Choices.{codes_of};
 ghost use Rattle.t1_options.specs.Given.{given_value};
 ghost use Rattle.t1_options.specs.Options.{AreMeant, HasValues, file_of, is_anew, waivers_of};
 ghost use Rattle.t1_options.specs.Words.{IsWrong};
 
 use crate::asked::{KnownFaults, Options, Waivers};
 use crate::checks::complaint_of;
-use crate::choices::{codes_in, in_capitals};
+use crate::choices::{codes_of, rules_of};
 use crate::complaint::usage_text;
 use crate::given::Given;
+use crate::texts::copies;
 use crate::values::{docs, edition, form, jobs, shard};
 use std::alloc::{AllocError, Global};
 use t1_char::Edition;
-use t1_many::told_rules;
 use t1_rules::Mask;
 use t1_run::{UsageError, owned};
 
@@ -22,19 +23,25 @@ pub(crate) fn options_meant(alloc: Global, given: &Given<'_>) -> Result<Options,
     ensures meant { IfOk result (AreMeant (given_value given.now)) }
     ensures wrong { IfErr result (IsWrong (given_value given.now)) }
 {
-    let only_text = in_capitals(alloc, given.only)?;
-    let only = codes_in(alloc, only_text.as_slice())?;
-    let except_text = in_capitals(alloc, given.except)?;
-    let except = codes_in(alloc, except_text.as_slice())?;
+    let only = codes_of(alloc, given.only)?;
+    let except = codes_of(alloc, given.except)?;
     if let Some(complaint) = complaint_of(given, only.as_slice(), except.as_slice()) {
         return Err(UsageError::Usage(usage_text(alloc, complaint)?));
     }
-    let rules = told_rules(only.as_slice(), except.as_slice());
-    Ok(options_of(alloc, given, rules)?)
+    let rules = rules_of(alloc, only.as_slice(), except.as_slice())?;
+    Ok(options_of(alloc, given, rules, only, except)?)
 }
 
-/// The options, with these rules.
-fn options_of(alloc: Global, given: &Given<'_>, rules: Mask) -> Result<Options, AllocError>
+/// The options, with these rules and the codes that choose them.
+fn options_of(
+    alloc: Global,
+    given: &Given<'_>,
+    rules: Mask,
+    only: Vec<String>,
+    except: Vec<String>,
+) -> Result<Options, AllocError>
+    requires only { map string_bytes only.items ≡ codes_of (given_value given.now).only }
+    requires except { map string_bytes except.items ≡ codes_of (given_value given.now).except }
     ensures values { IfOk result (HasValues (given_value given.now)) }
     ensures rules { IfOk result (λ options. options.rules ≡ rules) }
 {
@@ -48,6 +55,8 @@ fn options_of(alloc: Global, given: &Given<'_>, rules: Mask) -> Result<Options, 
         jobs: jobs(given.jobs),
         edition: edition(given.edition).unwrap_or(Edition::One),
         rules,
+        only,
+        except,
         waivers: waivers_of(given),
         known_faults,
         files_from,
@@ -90,15 +99,4 @@ fn known_faults(alloc: Global, given: &Given<'_>) -> Result<KnownFaults, AllocEr
     } else {
         Ok(KnownFaults::Beyond(file))
     }
-}
-
-/// Copies of texts.
-fn copies(alloc: Global, texts: &[&str]) -> Result<Vec<String>, AllocError>
-    ensures { IfOk result (λ copies. map string_bytes copies.items ≡ map (λ s. s.now) texts.now) }
-{
-    let mut copies = Vec::new(alloc);
-    for text in texts {
-        copies.push(String::from_str(alloc, *text)?)?;
-    }
-    Ok(copies)
 }

@@ -1,12 +1,17 @@
 //! Laws above the definitions: each is the contract of a function that does nothing.
 
-ghost use Rattle.t1_options.specs.Laws.{MeantGoTogether, NoRefusalIsKnown, RulesAreKnown, ShardsAreParts, UsesCount};
+ghost use Rattle.t1_options.specs.Laws.{CodesChooseRules, MeantGoTogether, NoRefusalIsKnown, RulesAreKnown, ShardsAreParts, UsesCount};
 
 /// `--only` and `--except` accept the code of each rule and its letters, and nothing that begins with E: refusals are always printed.
 #[tactic(auto, using(crate::proofs::Known::rules_are_known, crate::proofs::Known::no_refusal_is_known))]
 pub fn rules_are_known()
     ensures rules { RulesAreKnown }
     ensures refusals { NoRefusalIsKnown }
+{}
+
+/// The rules of options are those that their codes choose: all, or those of `only`, but for those of `except`.
+pub fn codes_choose_rules()
+    ensures { CodesChooseRules }
 {}
 
 /// `--shard` names a part from 1 to the number of parts, which is at most 99,999.

@@ -8,6 +8,7 @@
 //! - words are taken exactly where clap finds no fault and nothing is wrong with what they give;
 //! - the options are those that the words mean: of an option that is given again the last value counts, and `--only`, `--except`,
 //!   `--files-from` and `--exclude` add values ([`uses_count`]);
+//! - the options keep the codes of `--only` and `--except`, and these choose the rules that are printed ([`codes_choose_rules`]);
 //! - where several things are wrong, the first in one order is reported (`checks_of`);
 //! - options go together ([`options_go_together`]), a shard is one of its parts ([`shards_are_parts`]), and `--only` and `--except` name any
 //!   rule and no refusal ([`rules_are_known`]).
@@ -25,8 +26,11 @@ mod complaint;
 mod given;
 mod judging;
 mod laws;
+mod texts;
 mod values;
 
 pub use asked::{Form, KnownFaults, Options, Request, Shard, Waivers};
 pub use command_line::options;
-pub use laws::{options_go_together, rules_are_known, shards_are_parts, uses_count};
+pub use laws::{
+    codes_choose_rules, options_go_together, rules_are_known, shards_are_parts, uses_count,
+};

@@ -10,6 +10,8 @@ pub(crate) struct Expected<'a> {
     pub(crate) quiet: bool,
     pub(crate) jobs: Option<u32>,
     pub(crate) edition: Edition,
+    pub(crate) only: &'a [&'a str],
+    pub(crate) except: &'a [&'a str],
     pub(crate) waivers: Waivers,
     /// The file of known faults, and whether it is made anew.
     pub(crate) known_faults: Option<(&'a str, bool)>,
@@ -26,6 +28,8 @@ pub(crate) const PLAIN: Expected<'static> = Expected {
     quiet: false,
     jobs: None,
     edition: Edition::One,
+    only: &[],
+    except: &[],
     waivers: Waivers::Read,
     known_faults: None,
     files_from: &[],
@@ -67,6 +71,8 @@ fn are_expected(options: &Options, expected: Expected<'_>) -> bool {
     options.quiet == expected.quiet
         && options.jobs == expected.jobs
         && options.edition == expected.edition
+        && are(options.only.as_slice(), expected.only)
+        && are(options.except.as_slice(), expected.except)
         && options.waivers == expected.waivers
         && known_faults(&options.known_faults) == expected.known_faults
         && are(options.files_from.as_slice(), expected.files_from)

@@ -135,6 +135,22 @@ const WAIVERS: &[Case] = &[
 
 const LISTS: &[Case] = &[
     (
+        &[
+            "t1check-all",
+            "--only",
+            "h02,,Z",
+            "--except=z07",
+            "a.pfb",
+            "--only",
+            ",ge,",
+        ],
+        Expected {
+            only: &["H02", "Z", "GE"],
+            except: &["Z07"],
+            ..PLAIN
+        },
+    ),
+    (
         &["t1check-all", "--files-from", "list"],
         Expected {
             files_from: &["list"],
