@@ -1,6 +1,6 @@
 //! The waivers of fonts, until they are written.
 
-ghost use Rattle.std.specs.Prelude.{◌≡◌, [], ◌++◌, List, if◌then◌else◌, map};
+ghost use Rattle.std.specs.Prelude.{◌≡◌, [], ◌∷◌, ◌++◌, List, if◌then◌else◌, map};
 ghost use Rattle.std.specs.Result.{is_ok};
 ghost use Rattle.t1_waiving.specs.FontTexts.{FontText, font_text, texts_of};
 
@@ -44,6 +44,22 @@ impl Kept {
         ensures { map font_text result.now ≡ self.now }
     {
         self.fonts.as_slice()
+    }
+
+    /// Keeps the waivers of a font. If memory runs out, nothing is kept.
+    pub fn keep(&mut self, font: FontWaivers) -> Result<(), AllocError>
+        ensures { self.new ≡ (if is_ok result then self.old ++ font_text font ∷ [] else self.old) }
+    {
+        self.fonts.push(font)?;
+        Ok(())
+    }
+
+    /// Keeps the waivers of these fonts too. If memory runs out, none of them is kept.
+    pub fn append(&mut self, more: Kept) -> Result<(), AllocError>
+        ensures { self.new ≡ (if is_ok result then self.old ++ more else self.old) }
+    {
+        let mut more = more;
+        self.fonts.append(&mut more.fonts)
     }
 
     /// Keeps the waivers of a font, if it has some. Where memory runs out nothing is kept.
