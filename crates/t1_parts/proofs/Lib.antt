@@ -1,0 +1,5 @@
+pub mod RecordLists
+pub mod Stops
+pub mod Strings
+pub mod WholeTexts
+pub mod WrittenTexts
