@@ -1,0 +1,10 @@
+pub mod CountedFonts
+pub mod EndingTexts
+pub mod FontsTaken
+pub mod FormMaps
+pub mod FormattedRuns
+pub mod GivenEach
+pub mod ModeFonts
+pub mod PartNames
+pub mod RunEnds
+pub mod WrittenTexts

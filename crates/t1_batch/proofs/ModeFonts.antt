@@ -1,0 +1,103 @@
+-- Fonts that were checked in each mode.
+use Rattle.std.proofs.Common.{◌≡◌, ℕ, List, [], ◌∷◌, ◌++◌, Option, Some, Result, inl, refl, sym, ap, ap₂, subst, ◌∙◌}
+use Rattle.std.specs.List.{AllZip}
+use Rattle.t1_batch.proofs.FontsTaken.{TakesFont, checks_fonts}
+use Rattle.t1_batch.specs.Checks.{ChecksFonts, IsKept, IsTextOf}
+use Rattle.t1_batch.specs.Checks.ChecksFonts.{cut_short as cut_short', whole as whole'}
+use Rattle.t1_batch.specs.Modes.{anew, beyond, counts_in, judges_of, told, waived}
+use Rattle.t1_char.specs.declared.edition.Edition.{Edition}
+use Rattle.t1_many.specs.Ends.{AreTaken, Ends}
+use Rattle.t1_many.specs.Ends.Ends.{all, stopped}
+use Rattle.t1_many.specs.Files.{Files}
+use Rattle.t1_many.specs.Handing.{Handed}
+use Rattle.t1_many.specs.KnownFaults.{RowValue}
+use Rattle.t1_many.specs.Outcomes.{Entry, Report}
+use Rattle.t1_many.specs.Readings.{TakesKnown, as_known, by_known}
+use Rattle.t1_many.specs.Told.{TellsAll}
+use Rattle.t1_many.specs.Told.TellsAll.{cut_short, whole}
+use Rattle.t1_many.specs.Verdicts.{of_rules}
+use Rattle.t1_many.specs.declared.readings.Reading.{Reading as Kept}
+use Rattle.t1_many.specs.declared.recipient.Lost.{Lost}
+use Rattle.t1_many.specs.declared.verdict.Verdict.{Verdict}
+use Rattle.t1_report.specs.Faults.{FaultValue}
+use Rattle.t1_rules.specs.declared.mask.Mask.{Mask}
+use Rattle.t1_run.specs.declared.status.Status.{Status}
+use Rattle.t1_summary.specs.declared.found.Found.{Found}
+use Rattle.t1_waiving.specs.FontTexts.{FontText, all_texts}
+use Rattle.t1_waiving.specs.Waived.{WaivesAll}
+use Rattle.t1_waiving.specs.Waived.WaivesAll.{cut_short as waived_short, whole as waived_whole}
+
+none_kept : (readings : List Kept) → readings ≡ [] → AllZip IsTextOf readings []
+none_kept readings none = subst (λ (rs : List Kept). AllZip IsTextOf rs []) (sym none) tt
+
+module _ {F : Type 0} (takes : F → F → Handed → Option Lost → Type 0) (mask : Mask) (files : Files) (edition : Edition) (names : List (List ℕ))
+    (old new : F) (result : Result Status Lost) (readings : List Kept) (waivers : List FontText) where
+  pub told_fonts : readings ≡ [] → waivers ≡ [] → TellsAll takes (of_rules mask) files edition names old new result
+      → ChecksFonts takes (judges_of told mask) files edition names old new (IsKept told mask readings waivers) result
+  told_fonts none none_waived (whole entries are handed is) =
+      whole' entries are handed (record { readings_are = none_kept readings none; waivers_are = none_waived }) is
+  told_fonts none none_waived (cut_short count entries are lost handed is) = cut_short' count entries are lost (Some lost) handed (inl refl) is
+
+  pub waived_fonts : (before : List FontText) → readings ≡ [] → before ≡ []
+      → WaivesAll takes mask files edition names old new before waivers result
+      → ChecksFonts takes (judges_of waived mask) files edition names old new (IsKept waived mask readings waivers) result
+  waived_fonts before none begun (waived_whole entries are handed kept is) =
+      whole' entries are handed (record { readings_are = none_kept readings none; waivers_are = kept ∙ ap (λ (ts : List FontText). ts ++ all_texts mask entries) begun }) is
+  waived_fonts before none begun (waived_short count entries are lost handed kept is) =
+      cut_short' count entries are lost (Some lost) handed (inl refl) is
+
+-- ---- by known faults
+
+module _ {T : Type 0} (A B : T → T → Entry → Result Found Lost → Type 0)
+    (each : (old new : T) (entry : Entry) (taken : Result Found Lost) → A old new entry taken → B old new entry taken) where
+  taken-map : (old new : T) (entries : List Entry) (founds : List Found) → AreTaken A old new entries founds → AreTaken B old new entries founds
+  taken-map old new [] founds are = are
+  taken-map old new (entry ∷ entries) founds (next, found, others, took, rest, is) =
+      (next, found, others, each old next entry _ took, taken-map next new entries others rest, is)
+
+  ends-map : (files : Files) (edition : Edition) (names : List (List ℕ)) (old new : T) (result : Result Status Lost)
+      → Ends A files edition names old new result → Ends B files edition names old new result
+  ends-map files edition names old new result (all entries founds are taken is) = all entries founds are (taken-map old new entries founds taken) is
+  ends-map files edition names old new result (stopped count entries last founds are next taken lost took is) =
+      stopped count entries last founds are next (taken-map old next entries founds taken) lost (each next new last _ took) is
+
+module _ {T F K : Type 0} (takes : F → F → Handed → Option Lost → Type 0) (form : T → F) (kept : T → List Kept) (rules : T → Mask)
+    (known : T → K) (counts : K → List ℕ → ℕ) (files : Files) (edition : Edition) (names : List (List ℕ)) (old new : T)
+    (result : Result Status Lost) (mask : Mask) (waivers : List FontText) where
+  pub beyond_fonts : (rows : List RowValue) → counts (known old) ≡ counts_in rows → rules old ≡ mask → kept old ≡ [] → waivers ≡ []
+      → Ends (λ a b entry taken. (rules b ≡ rules a) × (known b ≡ known a)
+      × TakesKnown takes (by_known (counts (known a)) (rules a) entry.name) (rules a) (form a) (form b) (kept a) (kept b) entry taken)
+      files edition names old new result
+      → ChecksFonts takes (judges_of (beyond rows) mask) files edition names (form old) (form new)
+      (IsKept (beyond rows) mask (kept new) waivers) result
+  beyond_fonts rows counts_are mask_is none none_waived ends =
+      let judges : T → List ℕ → Report → FaultValue → Verdict = λ t name. by_known (counts (known t)) (rules t) name in
+      checks_fonts takes form kept rules judges (judges_of (beyond rows) mask) mask files edition names old new result
+      (IsKept (beyond rows) mask (kept new) waivers)
+      (ap₂ (λ (c : List ℕ → ℕ) (m : Mask). λ (name : List ℕ). by_known c m name) counts_are mask_is) mask_is none
+      (λ entries texts. record { readings_are = texts; waivers_are = none_waived })
+      (ends-map _ (TakesFont takes form kept rules judges) (λ a b entry taken took. record {
+        rules_stay = took.0;
+        judges_stay = ap₂ (λ (k : K) (m : Mask). λ (name : List ℕ). by_known (counts k) m name) took.1 took.0;
+        outcome = took.2;
+      }) files edition names old new result ends)
+
+module _ {T F : Type 0} (takes : F → F → Handed → Option Lost → Type 0) (form : T → F) (kept : T → List Kept) (rules : T → Mask)
+    (files : Files) (edition : Edition) (names : List (List ℕ)) (old new : T) (result : Result Status Lost) (mask : Mask)
+    (waivers : List FontText) where
+  pub anew_fonts : (rows : List RowValue) → rules old ≡ mask → kept old ≡ [] → waivers ≡ []
+      → Ends (λ a b entry taken. (rules b ≡ rules a)
+      × TakesKnown takes (as_known (rules a)) (rules a) (form a) (form b) (kept a) (kept b) entry taken) files edition names old new result
+      → ChecksFonts takes (judges_of (anew rows) mask) files edition names (form old) (form new)
+      (IsKept (anew rows) mask (kept new) waivers) result
+  anew_fonts rows mask_is none none_waived ends =
+      let judges : T → List ℕ → Report → FaultValue → Verdict = λ t name. as_known (rules t) in
+      checks_fonts takes form kept rules judges (judges_of (anew rows) mask) mask files edition names old new result
+      (IsKept (anew rows) mask (kept new) waivers)
+      (ap (λ (m : Mask). λ (name : List ℕ). as_known m) mask_is) mask_is none
+      (λ entries texts. record { readings_are = texts; waivers_are = none_waived })
+      (ends-map _ (TakesFont takes form kept rules judges) (λ a b entry taken took. record {
+        rules_stay = took.0;
+        judges_stay = ap (λ (m : Mask). λ (name : List ℕ). as_known m) took.0;
+        outcome = took.1;
+      }) files edition names old new result ends)

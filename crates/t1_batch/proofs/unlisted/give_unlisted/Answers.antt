@@ -1,0 +1,15 @@
+use Rattle.std.proofs.Common.{Global, String, string_bytes}
+use Rattle.t1_batch.proofs.GivenEach.{given-append, given-stopped, map-both}
+use Rattle.t1_batch.proofs.unlisted.give_unlisted.Goals as goal
+use Rattle.t1_batch.specs.Unlisted.{unsearched}
+use Rattle.t1_many.proofs.ReportLines.{lost_same}
+
+pub returns-in_err-give_passed_over : goal.returns-in_err-give_passed_over
+returns-in_err-give_passed_over g c =
+    rw (lost_same {T = Unit {0}} c.from_residual.result c.in_err-give_passed_over.field-0.0 c.from_residual.ensures.1)
+    (given-stopped g.T.Formatter.writes _ _ _ _ _ _ _ c.in_err-give_passed_over.ensures)
+
+pub returns : goal.returns
+returns g c =
+    rw (map-both unsearched (λ (folder : String Global). string_bytes folder) c.args.unlisted.unsearched.now)
+    (given-append g.T.Formatter.writes _ _ _ _ _ _ _ _ _ c.in_ok-give_passed_over.ensures c.give_unsearched.ensures)

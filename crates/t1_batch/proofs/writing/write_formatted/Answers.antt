@@ -1,0 +1,31 @@
+use Rattle.std.proofs.Common.{ap, sym}
+use Rattle.t1_batch.proofs.FormMaps.{fonts-map}
+use Rattle.t1_batch.proofs.FormattedRuns.{formatted_ends}
+use Rattle.t1_batch.proofs.writing.write_formatted.Goals as goal
+use Rattle.t1_batch.specs.Writing.WritesFormatted.{unlistable}
+use Rattle.t1_many_forms.specs.Formatting.{FormattedTakes}
+
+pub returns-in-Err : goal.returns-in-Err
+returns-in-Err g c =
+    unlistable c.give_unlisted.new.formatter c.in-Err.lost (rw c.unwritten.ensures.out c.in-Err.ensures) (ap g.E.Sink.state c.unwritten.ensures.errors)
+    c.unwritten.ensures.status
+
+pub returns : goal.returns
+returns g c =
+    formatted_ends g.T.Formatter.writes g.T.Formatter.finishes _ _ _ _ _ _ _ _ _
+    (record {
+      formatter = c.new-form.result.formatter;
+      out = g.W.Sink.state c.new-form.result.out;
+      errors = g.E.Sink.state c.new-form.result.errors;
+    })
+    (record {
+      formatter = c.check_fonts-checked.result.form.formatter;
+      out = g.W.Sink.state c.check_fonts-checked.result.form.out;
+      errors = g.E.Sink.state c.check_fonts-checked.result.form.errors;
+    })
+    (rw (c.new-form.ensures.formatter, c.new-form.ensures.out) c.in_default.ensures)
+    (ap g.E.Sink.state c.new-form.ensures.errors) (ap g.E.Sink.state c.into_parts-formatter.ensures.errors) _ _
+    (fonts-map (FormattedTakes g.T.Formatter.writes)
+    (λ form. record { formatter = form.formatter; out = g.W.Sink.state form.out; errors = g.E.Sink.state form.errors }) _ _ _ _ _ _ _ _
+    c.check_fonts-checked.ensures)
+    (rw (sym c.into_parts-formatter.ensures.formatter, sym c.into_parts-formatter.ensures.out) c.finish_checked-status.ensures)

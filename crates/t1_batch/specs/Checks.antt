@@ -1,0 +1,62 @@
+-- How a check of fonts ends, and what is kept of them.
+use Rattle.std.specs.Prelude.{◌≡◌, ◌⊎◌, ℕ, List, map, string_bytes, take, Option, None, Some, Result, Ok, Err}
+use Rattle.std.specs.List.{AllZip, flat_map}
+use Rattle.t1_char.specs.declared.edition.Edition.{Edition}
+use Rattle.t1_many.specs.Counting.{all_lines}
+use Rattle.t1_many.specs.Ends.{AreEntries, status_of_all}
+use Rattle.t1_many.specs.Files.{Files}
+use Rattle.t1_many.specs.Handing.{Handed, HandsOn, found_of, handed_of}
+use Rattle.t1_many.specs.KnownFaults.{Reading, row_text, rows_of}
+use Rattle.t1_many.specs.Outcomes.{Entry, Report}
+use Rattle.t1_many.specs.declared.readings.Reading.{Reading as Kept}
+use Rattle.t1_many.specs.declared.recipient.Lost.{Lost}
+use Rattle.t1_many.specs.declared.recipient.Lost.TheVariants.{Memory}
+use Rattle.t1_many.specs.declared.verdict.Verdict.{Verdict}
+use Rattle.t1_report.specs.Faults.{FaultValue}
+use Rattle.t1_rules.specs.declared.mask.Mask.{Mask}
+use Rattle.t1_run.specs.declared.status.Status.{Status}
+use Rattle.t1_summary.specs.Tallies.{tally_of}
+use Rattle.t1_summary.specs.declared.found.Found.{Found}
+use Rattle.t1_waiving.specs.FontTexts.{FontText}
+use Rattle.t1_batch.specs.Modes.{ModeValue, judges_of, readings_of, waivers_of}
+use Rattle.t1_parts.specs.declared.part.Part.{Part}
+
+-- ---- what is handed on
+
+-- What is handed on of fonts, one after another, each judged by its name too.
+abbrev pub all_handed : (List ℕ → Report → FaultValue → Verdict) → List Entry → List Handed
+all_handed judges entries = flat_map (λ entry. handed_of (judges entry.name) entry.name entry.outcome) entries
+
+-- How they were found.
+abbrev pub founds_of : (List ℕ → Report → FaultValue → Verdict) → List Entry → List Found
+founds_of judges entries = map (λ entry. found_of (judges entry.name) entry.outcome) entries
+
+-- All fonts were checked: what is chosen of them was handed on in order, what is to be kept of them was kept, and the status is the greatest
+-- of theirs. Or it stopped at one of them, since a device failed or memory ran out, and nothing of a later one was handed on.
+pub data ChecksFonts {F : Type 0} (takes : F → F → Handed → Option Lost → Type 0) (judges : List ℕ → Report → FaultValue → Verdict)
+    (files : Files) (edition : Edition) (names : List (List ℕ)) (old new : F) (Keeps : List Entry → Type 0) (result : Result Status Lost) : Type 0 where
+  whole :
+      (entries : List Entry) → AreEntries files edition names entries → HandsOn takes old new (all_handed judges entries) None → Keeps entries
+      → result ≡ Ok (status_of_all (founds_of judges entries))
+      → ChecksFonts takes judges files edition names old new Keeps result
+  cut_short :
+      (count : ℕ) → (entries : List Entry) → AreEntries files edition (take count names) entries → (lost : Lost) → (stop : Option Lost)
+      → HandsOn takes old new (all_handed judges entries) stop → (stop ≡ Some lost) ⊎ (lost ≡ Memory) → result ≡ Err lost
+      → ChecksFonts takes judges files edition names old new Keeps result
+
+-- ---- what is kept
+
+-- The text of a font's rows is kept.
+pub record IsTextOf (kept : Kept) (reading : Reading) : Type 0 where
+  pub font : string_bytes kept.font ≡ reading.font
+  pub rows : kept.rows.items ≡ flat_map row_text (rows_of reading.font reading.kinds)
+
+-- The rows and the waivers of fonts are kept, as the mode wants it.
+pub record IsKept (mode : ModeValue) (rules : Mask) (readings : List Kept) (waivers : List FontText) (entries : List Entry) : Type 0 where
+  pub readings_are : AllZip IsTextOf readings (readings_of mode rules entries)
+  pub waivers_are : waivers ≡ waivers_of mode rules entries
+
+-- What was found in fonts: so many fonts were found so, and so many lines of each rule were handed on; what is kept of them is kept.
+pub record IsFound (mode : ModeValue) (rules : Mask) (found : Part) (entries : List Entry) : Type 0 where
+  pub counted : found.tally ≡ tally_of (founds_of (judges_of mode rules) entries) (all_lines (all_handed (judges_of mode rules) entries))
+  pub kept : IsKept mode rules found.readings.items found.kept entries

@@ -1,0 +1,105 @@
+-- What is told once all fonts were checked, and what is left to do.
+use Rattle.std.specs.Prelude.{◌≡◌, ◌++◌, ℕ, nat_lt, Bool, true, false, List, [], codes, length, Option, None, Some, option_map, Result, Ok, Err, if◌then◌else◌}
+use Rattle.std.specs.List.{flat_map, list_any}
+use Rattle.t1_io.specs.Devices.{PutFailed, SinkState, Wrote}
+use Rattle.t1_known.specs.Readings.{IsReadable, choice_of as choice_by}
+use Rattle.t1_known.specs.Reads.{IsReadAs}
+use Rattle.t1_many.specs.Choice.{Choice}
+use Rattle.t1_many.specs.KnownFaults.{Reading, RowValue, file_text, shortfall, updated}
+use Rattle.t1_many.specs.declared.readings.Reading.{Reading as Kept}
+use Rattle.t1_many.specs.declared.recipient.Lost.{Lost}
+use Rattle.t1_many.specs.declared.recipient.Lost.TheVariants.{Device, Memory}
+use Rattle.t1_run.specs.declared.status.Status.{Status}
+use Rattle.t1_run.specs.declared.status.Status.TheVariants.{Clean, Failed, Faults, Refused}
+use Rattle.t1_summary.specs.Summaries.{summary_text as text_of_summary}
+use Rattle.t1_summary.specs.Tallies.{fonts_in}
+use Rattle.t1_summary.specs.declared.found.Found.TheVariants as founds
+use Rattle.t1_summary.specs.declared.tally.Tally.{Tally}
+use Rattle.t1_waiving.specs.FontTexts.{FontText}
+use Rattle.t1_waiving.specs.TooMany.{has_too_many, too_many_line}
+use Rattle.t1_batch.specs.Checks.{IsTextOf}
+use Rattle.t1_batch.specs.Modes.{ModeValue, anew, beyond, told, waived}
+use Rattle.t1_batch.specs.declared.ending.Codes.{Codes}
+use Rattle.t1_batch.specs.declared.ending.Ended.{Ended}
+
+-- The rules that the codes choose.
+abbrev pub choice_of : Codes → Choice
+choice_of codes = choice_by codes.only.now codes.except.now
+
+-- What was found in a font, where its rows can be read.
+abbrev pub IsFoundIn : Kept → Reading → Type 0
+IsFoundIn kept reading = IsTextOf kept reading × IsReadable reading
+
+-- ---- what is told
+
+-- The rows of known faults that are no longer reached.
+abbrev pub shortfalls_text : ModeValue → Choice → List Reading → List ℕ
+shortfalls_text told choice readings = []
+shortfalls_text (beyond rows) choice readings = flat_map (shortfall choice readings) rows
+shortfalls_text (anew rows) choice readings = []
+shortfalls_text waived choice readings = []
+
+abbrev pub has_known : ModeValue → Bool
+has_known told = false
+has_known (beyond rows) = true
+has_known (anew rows) = true
+has_known waived = false
+
+-- How many rows are read of the file of known faults from now on, where it is made anew.
+abbrev pub CountsRows : ModeValue → Choice → List Reading → Option ℕ → Type 0
+CountsRows told choice readings count = count ≡ None
+CountsRows (beyond rows) choice readings count = count ≡ None
+CountsRows (anew rows) choice readings count =
+    (read : List RowValue) × IsReadAs (file_text (updated choice readings rows)) (Ok read) × (count ≡ Some (length read))
+CountsRows waived choice readings count = count ≡ None
+
+abbrev pub summary_text : ModeValue → Bool → Tally → Option ℕ → List ℕ
+summary_text mode quiet tally rows = if quiet then [] else text_of_summary tally rows (has_known mode)
+
+-- Where waivers are to be written, a line that is told is none of a glyph.
+abbrev pub unwaived_text : ModeValue → Tally → List ℕ
+unwaived_text told tally = []
+unwaived_text (beyond rows) tally = []
+unwaived_text (anew rows) tally = []
+unwaived_text waived tally =
+    if nat_lt 0 (fonts_in tally founds.Faulty) then codes "t1check-all: lines of a font itself can not be waived\n" else []
+
+-- What is told after the shortfalls.
+abbrev pub rest_text : ModeValue → Bool → Tally → Option ℕ → List FontText → List ℕ
+rest_text mode quiet tally rows waivers =
+    summary_text mode quiet tally rows ++ (unwaived_text mode tally ++ flat_map too_many_line waivers)
+
+abbrev pub ending_text : ModeValue → Choice → Bool → Tally → List Reading → Option ℕ → List FontText → List ℕ
+ending_text mode choice quiet tally readings rows waivers = shortfalls_text mode choice readings ++ rest_text mode quiet tally rows waivers
+
+-- ---- what is left
+
+-- The greatest status of the fonts that a tally has.
+abbrev pub status_of : Tally → Status
+status_of tally =
+    if nat_lt 0 (fonts_in tally founds.Unchecked) then Failed
+    else (if nat_lt 0 (fonts_in tally founds.Refused) then Refused
+    else (if nat_lt 0 (fonts_in tally founds.Faulty) then Faults else Clean))
+
+-- A font with too many waivers is a failure.
+abbrev pub status_in : Tally → List FontText → Status
+status_in tally waivers = if list_any has_too_many waivers then Failed else status_of tally
+
+-- The text of the file of known faults from now on.
+abbrev pub known_faults_in : ModeValue → Choice → List Reading → Option (List ℕ)
+known_faults_in told choice readings = None
+known_faults_in (beyond rows) choice readings = None
+known_faults_in (anew rows) choice readings = Some (file_text (updated choice readings rows))
+known_faults_in waived choice readings = None
+
+abbrev pub text_of : Ended → Option (List ℕ)
+text_of ended = option_map (λ text. text.items) ended.known_faults
+
+-- All was told; or the device failed behind a front of it; or memory ran out, and nothing was told.
+abbrev pub Ends : ModeValue → Choice → Bool → Tally → List Reading → List FontText → SinkState → SinkState → Result Ended Lost → Type 0
+Ends mode choice quiet tally readings waivers old new (Ok ended) =
+    (rows : Option ℕ) × CountsRows mode choice readings rows × Wrote old new (ending_text mode choice quiet tally readings rows waivers)
+    × (ended.status ≡ status_in tally waivers) × (text_of ended ≡ known_faults_in mode choice readings)
+Ends mode choice quiet tally readings waivers old new (Err Device) =
+    (rows : Option ℕ) × CountsRows mode choice readings rows × PutFailed old new (ending_text mode choice quiet tally readings rows waivers)
+Ends mode choice quiet tally readings waivers old new (Err Memory) = new ≡ old

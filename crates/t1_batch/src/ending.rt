@@ -1,0 +1,249 @@
+//! What is told once all fonts were checked, and what is left to do.
+
+ghost use Rattle.std.specs.Prelude.{◌≡◌, IfOk, IfSome, List, option_map};
+ghost use Rattle.std.specs.List.{AllZip};
+ghost use Rattle.t1_batch.specs.Endings.{Ends, IsFoundIn, choice_of, has_known, rest_text, shortfalls_text, status_in, status_of, summary_text, unwaived_text};
+ghost use Rattle.t1_batch.specs.Modes.{mode_value};
+ghost use Rattle.t1_batch.specs.Private.Updates.{IsBorrowed, IsUpdated};
+ghost use Rattle.t1_io.specs.Devices.{Writes};
+ghost use Rattle.t1_known.specs.Readings.{AreReadingsOf, AreTextsOf};
+ghost use Rattle.t1_known.specs.Writes.{WritesAll};
+ghost use Rattle.t1_many.specs.KnownFaults.{Reading as ReadingValue, file_text, updated};
+
+use crate::mode::Mode;
+use std::alloc::{AllocError, Global};
+use t1_io::{Broken, Sink, put_all};
+use t1_known::{KnownFaults, Reading, write_shortfalls, write_updated};
+use t1_many::{Lost, Reading as Kept};
+use t1_parts::Part;
+use t1_run::Status;
+use t1_summary::{Found, Tally, summary};
+use t1_text::Text;
+use t1_waiving::{Kept as KeptWaivers, tell_too_many};
+
+/// The codes of rules that `--only` and `--except` name.
+#[derive(Clone, Copy, Debug)]
+pub struct Codes<'a> {
+    /// Those of `--only`. Without any, all rules are told.
+    pub only: &'a [&'a [u8]],
+    /// Those of `--except`.
+    pub except: &'a [&'a [u8]],
+}
+
+/// What is left to do once all was told.
+#[derive(Debug, Drop)]
+pub struct Ended {
+    /// The status so far.
+    pub status: Status,
+    /// The text with which the file of known faults is to be replaced, if it is.
+    pub known_faults: Option<Vec<u8>>,
+}
+
+/// The text of a file of known faults, and how many rows it has.
+#[derive(Drop)]
+struct Remade {
+    text: Vec<u8>,
+    rows: u64,
+}
+
+/// Tells what is told once all fonts were checked, in this order:
+///
+/// - the rows of known faults that are no longer reached;
+/// - unless `quiet`, the summary;
+/// - where waivers are to be written, that lines of a font itself can't be waived, if there are some;
+/// - which fonts have too many waivers.
+///
+/// Where memory runs out nothing is told.
+pub fn end<E: Sink>(
+    alloc: Global,
+    mode: Mode<'_>,
+    codes: Codes<'_>,
+    quiet: bool,
+    found: &Part,
+    errors: &mut E,
+) -> Result<Ended, Lost>
+    ensures { (all : List ReadingValue) → AllZip IsFoundIn found.now.readings.items all
+        → Ends (mode_value mode.entry) (choice_of codes.entry) quiet found.now.tally all found.now.kept (E.state errors.old) (E.state errors.new) result }
+{
+    let Ok(readings) = borrowed(alloc, found.readings.as_slice()) else {
+        return Err(Lost::Memory);
+    };
+    let texts = readings.as_slice();
+    let remade = known_faults_anew(alloc, mode, texts, codes)?;
+    tell_shortfalls(alloc, mode, texts, codes, errors)?;
+    let rows = rows_in(&remade);
+    let status = tell_rest(mode, quiet, &found.tally, rows, &found.kept, errors)?;
+    Ok(Ended {
+        status,
+        known_faults: text_in(remade),
+    })
+}
+
+/// How many rows were made.
+fn rows_in(remade: &Option<Remade>) -> Option<u64>
+    ensures { result ≡ option_map (λ r. r.rows) remade.now }
+{
+    match remade {
+        Some(remade) => Some(remade.rows),
+        None => None,
+    }
+}
+
+/// The text that was made.
+fn text_in(remade: Option<Remade>) -> Option<Vec<u8>>
+    ensures { option_map (λ text. text.items) result ≡ option_map (λ r. r.text.items) remade }
+{
+    match remade {
+        Some(remade) => Some(remade.text),
+        None => None,
+    }
+}
+
+/// The texts of what was found, borrowed.
+fn borrowed(alloc: Global, kept: &[Kept]) -> Result<Vec<Reading<'_>>, AllocError>
+    ensures { IfOk result (λ texts. AllZip IsBorrowed kept.now texts.items) }
+{
+    let mut texts = Vec::new(alloc);
+    for reading in kept {
+        let text = Reading {
+            font: reading.font.as_str(),
+            rows: reading.rows.as_slice(),
+        };
+        texts.push(text)?;
+    }
+    Ok(texts)
+}
+
+/// The file of known faults from now on, where it is made anew. It is read back, which tells how many rows it has.
+fn known_faults_anew(
+    alloc: Global,
+    mode: Mode<'_>,
+    readings: &[Reading<'_>],
+    codes: Codes<'_>,
+) -> Result<Option<Remade>, Lost>
+    ensures { IsUpdated (mode_value mode.entry) (choice_of codes.entry) readings.now result }
+{
+    let Mode::Anew(known) = mode else {
+        return Ok(None);
+    };
+    let Some(text) = text_anew(alloc, known, readings, codes) else {
+        return Err(Lost::Memory);
+    };
+    let rows = match KnownFaults::read(alloc, text.as_slice()) {
+        Ok(known) => known.row_count() as u64,
+        Err(_) => return Err(Lost::Memory),
+    };
+    Ok(Some(Remade { text, rows }))
+}
+
+/// The text of known faults that are made anew: None where memory runs out.
+fn text_anew(
+    alloc: Global,
+    known: &KnownFaults<'_>,
+    readings: &[Reading<'_>],
+    codes: Codes<'_>,
+) -> Option<Vec<u8>>
+    ensures { IfSome result (λ text. (all : List ReadingValue) → AreTextsOf readings.now all
+        → text.items ≡ file_text (updated (choice_of codes.entry) all known.now)) }
+{
+    let mut text = Text::new(alloc);
+    let written = write_updated(alloc, &mut text, known, readings, codes.only, codes.except);
+    if written.is_ok() {
+        Some(text.into_bytes())
+    } else {
+        None
+    }
+}
+
+/// Tells the rows of known faults that are no longer reached, where lines beyond them are told.
+fn tell_shortfalls<E: Sink>(
+    alloc: Global,
+    mode: Mode<'_>,
+    readings: &[Reading<'_>],
+    codes: Codes<'_>,
+    errors: &mut E,
+) -> Result<(), Lost>
+    ensures { (all : List ReadingValue) → AreReadingsOf readings.now all → WritesAll (E.state errors.old) (E.state errors.new)
+        (shortfalls_text (mode_value mode.entry) (choice_of codes.entry) all) result }
+{
+    match mode {
+        Mode::Beyond(known) => {
+            write_shortfalls(alloc, errors, known, readings, codes.only, codes.except)
+        }
+        Mode::Told | Mode::Anew(_) | Mode::Waived => Ok(()),
+    }
+}
+
+/// Tells what comes after that, and returns the status.
+fn tell_rest<E: Sink>(
+    mode: Mode<'_>,
+    quiet: bool,
+    tally: &Tally,
+    rows: Option<u64>,
+    waivers: &KeptWaivers,
+    errors: &mut E,
+) -> Result<Status, Broken>
+    ensures told { Writes (E.state errors.old) (E.state errors.new) (rest_text (mode_value mode.entry) quiet tally.now rows waivers.now) result }
+    ensures status { IfOk result (λ status. status ≡ status_in tally.now waivers.now) }
+{
+    tell_summary(mode, quiet, tally, rows, errors)?;
+    tell_unwaived(mode, tally, errors)?;
+    match tell_too_many(errors, waivers)? {
+        Status::Failed => Ok(Status::Failed),
+        _ => Ok(status_of(tally)),
+    }
+}
+
+/// Tells the summary, unless none is asked for.
+fn tell_summary<E: Sink>(
+    mode: Mode<'_>,
+    quiet: bool,
+    tally: &Tally,
+    rows: Option<u64>,
+    errors: &mut E,
+) -> Result<(), Broken>
+    ensures { Writes (E.state errors.old) (E.state errors.new) (summary_text (mode_value mode.entry) quiet tally.now rows) result }
+{
+    if quiet {
+        return Ok(());
+    }
+    summary(tally, rows, has_known(mode), errors)
+}
+
+/// Whether lines are compared with known faults.
+fn has_known(mode: Mode<'_>) -> bool
+    ensures { result ≡ has_known (mode_value mode.entry) }
+{
+    match mode {
+        Mode::Beyond(_) | Mode::Anew(_) => true,
+        Mode::Told | Mode::Waived => false,
+    }
+}
+
+/// Tells that lines of a font itself can't be waived, where waivers are to be written and a line was told.
+fn tell_unwaived<E: Sink>(mode: Mode<'_>, tally: &Tally, errors: &mut E) -> Result<(), Broken>
+    ensures { Writes (E.state errors.old) (E.state errors.new) (unwaived_text (mode_value mode.entry) tally.now) result }
+{
+    match mode {
+        Mode::Waived if 0 < tally.fonts_found(Found::Faulty) => put_all(
+            errors,
+            b"t1check-all: lines of a font itself can not be waived\n",
+        ),
+        _ => Ok(()),
+    }
+}
+
+/// The greatest status of fonts that were found so.
+pub fn status_of(tally: &Tally) -> Status
+    ensures { result ≡ status_of tally.now }
+{
+    if 0 < tally.fonts_found(Found::Unchecked) {
+        Status::Failed
+    } else if 0 < tally.fonts_found(Found::Refused) {
+        Status::Refused
+    } else if 0 < tally.fonts_found(Found::Faulty) {
+        Status::Faults
+    } else {
+        Status::Clean
+    }
+}

@@ -1,0 +1,23 @@
+//! Many fonts, by the options of a command line: which of their lines are chosen, and how they are written.
+//!
+//! [`run`] is a whole run: [`write_fonts`] checks fonts and writes what is selected of them, and [`conclude`] tells what is told once all were
+//! checked. What is left to do then is replacing files.
+#![tactic(auto)]
+
+mod checking;
+mod choosing;
+mod ending;
+mod mode;
+mod running;
+mod shards;
+mod unlisted;
+mod writing;
+
+pub use checking::{Checked, Fonts, check_fonts};
+pub use choosing::{as_codes, selection};
+pub use ending::{Codes, Ended, end, status_of};
+pub use mode::{Mode, Selection};
+pub use running::{Left, PROGRAM, Ran, conclude, run, tell_lost};
+pub use shards::names_of_part;
+pub use unlisted::Unlisted;
+pub use writing::{Output, Written, write_fonts};

@@ -1,0 +1,47 @@
+//! Which lines of fonts are chosen.
+
+ghost use Rattle.std.specs.Prelude.{◌≡◌, ◌-◌, ◌^◌, min};
+ghost use Rattle.t1_known.specs.Keys.{count_at};
+
+use t1_char::Edition;
+use t1_known::KnownFaults;
+use t1_many::Known;
+use t1_rules::Mask;
+
+/// Which lines of fonts are chosen.
+#[derive(Clone, Copy)]
+pub struct Selection<'a> {
+    /// The edition of the rule book by which fonts are checked.
+    pub edition: Edition,
+    /// The rules whose lines are told.
+    pub rules: Mask,
+    /// Which of these lines are chosen.
+    pub mode: Mode<'a>,
+}
+
+/// Which of the lines of fonts whose rules are told are chosen.
+#[derive(Clone, Copy)]
+pub enum Mode<'a> {
+    /// All of them.
+    Told,
+    /// Those that go beyond known faults.
+    Beyond(&'a KnownFaults<'a>),
+    /// None: what is found becomes known, in the place of these known faults.
+    Anew(&'a KnownFaults<'a>),
+    /// Those outside glyphs: of the others waivers are kept.
+    Waived,
+}
+
+/// Known faults that belong to somebody else.
+#[derive(Clone, Copy)]
+pub(crate) struct Borrowed<'a> {
+    pub(crate) known: &'a KnownFaults<'a>,
+}
+
+impl<'a> Known for Borrowed<'a> {
+    ghost counts = { λ b key. min (count_at b.known.now key) (2 ^ 64 - 1) };
+
+    fn count_of(&self, key: &[u8]) -> u64 {
+        KnownFaults::count_of(self.known, key)
+    }
+}

@@ -1,0 +1,166 @@
+//! A run over many fonts, from the first font to the last line that is told.
+
+ghost use Rattle.std.specs.Prelude.{◌≡◌, false, if◌then◌else◌, map, string_bytes, Ok};
+ghost use Rattle.std.specs.Fn.{FnReturnsAt};
+ghost use Rattle.t1_batch.specs.Endings.{choice_of};
+ghost use Rattle.t1_batch.specs.Modes.{judges_of, mode_value};
+ghost use Rattle.t1_batch.specs.Runs.{Concludes, ConcludesWritten, Runs, left_value, lost_line, nothing_left};
+ghost use Rattle.t1_batch.specs.Unlisted.{unlisted_told};
+ghost use Rattle.t1_many.specs.Files.{files_by};
+ghost use Rattle.t1_run.specs.Telling.{Tells};
+
+use crate::checking::Fonts;
+use crate::ending::{Codes, end};
+use crate::mode::{Mode, Selection};
+use crate::writing::{Output, Written, write_fonts};
+use std::alloc::Global;
+use std::io;
+use t1_io::{Sink, Source};
+use t1_many::Lost;
+use t1_parts::Part;
+use t1_run::{Failure, Status, tell_failure, tell_write_failed};
+use t1_waiving::Kept;
+
+/// The program's name, in front of what it tells of itself.
+pub const PROGRAM: &str = "t1check-all";
+
+/// What is left to do after a run.
+#[derive(Drop)]
+pub struct Left {
+    /// The status so far.
+    pub status: Status,
+    /// The text with which the file of known faults is to be replaced, if it is.
+    pub known_faults: Option<Vec<u8>>,
+    /// The waivers that are to be written, if all fonts were checked.
+    pub waivers: Option<Kept>,
+}
+
+/// A run that ended.
+#[derive(Drop)]
+pub struct Ran<W: Sink + Drop, E: Sink + Drop> {
+    /// What is left to do.
+    pub left: Left,
+    /// The output.
+    pub out: W,
+    /// Standard error.
+    pub errors: E,
+}
+
+/// Checks fonts in order, writes what is selected of them, and tells what is told once all were checked. Where the output fails, or memory runs
+/// out, that is told, and nothing is left to do.
+pub fn run<R, V, O, P, W, E>(
+    alloc: Global,
+    fonts: Fonts<'_, O, P>,
+    selection: Selection<'_>,
+    output: Output<'_>,
+    codes: Codes<'_>,
+    quiet: bool,
+    out: W,
+    errors: E,
+) -> Ran<W, E>
+where
+    R: Source + Drop,
+    V: Source + Drop,
+    O: Fn(&str) -> io::Result<R>,
+    P: Fn(&str) -> Option<io::Result<V>>,
+    W: Sink + Drop,
+    E: Sink + Drop,
+    requires open_font { O.IsAlwaysCallable fonts.open_font }
+    requires open_waivers { P.IsAlwaysCallable fonts.open_waivers }
+    requires unbroken { (name : _) (file : R) → FnReturnsAt O.Fn fonts.open_font name (Ok file) → (R.state file).failed ≡ false }
+    ensures { Runs output.entry.form (unlisted_told output.entry.unlisted.passed_over (map string_bytes output.entry.unlisted.unsearched.now))
+        (mode_value selection.entry.mode) selection.entry.rules (choice_of codes.entry) quiet
+        (files_by R.state V.state (FnReturnsAt O.Fn fonts.entry.open_font) (FnReturnsAt P.Fn fonts.entry.open_waivers)) selection.entry.edition
+        (map string_bytes fonts.entry.names.now)
+        (record { out = W.state out; errors = E.state errors }) (record { out = W.state result.out; errors = E.state result.errors })
+        (left_value result.left) }
+{
+    let Written {
+        status,
+        found,
+        out,
+        mut errors,
+    } = write_fonts(alloc, fonts, selection, output, out, errors);
+    let whole = output.unlisted.is_empty();
+    let left = conclude_written(
+        alloc,
+        selection.mode,
+        codes,
+        quiet,
+        status,
+        found,
+        whole,
+        &mut errors,
+    );
+    Ran { left, out, errors }
+}
+
+/// Tells what is told once what is selected of the fonts was written, or why it wasn't.
+fn conclude_written<E: Sink>(
+    alloc: Global,
+    mode: Mode<'_>,
+    codes: Codes<'_>,
+    quiet: bool,
+    status: Result<Status, Lost>,
+    found: Part,
+    whole: bool,
+    errors: &mut E,
+) -> Left
+    ensures { ConcludesWritten (mode_value mode.entry) (choice_of codes.entry) quiet found whole status
+        (E.state errors.old) (E.state errors.new) (left_value result) }
+{
+    match status {
+        Ok(_) => conclude(alloc, mode, codes, quiet, found, whole, errors),
+        Err(lost) => nothing_left(tell_lost(lost, errors)),
+    }
+}
+
+/// Tells what is told once all fonts were checked.
+pub fn conclude<E: Sink>(
+    alloc: Global,
+    mode: Mode<'_>,
+    codes: Codes<'_>,
+    quiet: bool,
+    found: Part,
+    whole: bool,
+    errors: &mut E,
+) -> Left
+    ensures { Concludes (mode_value mode.entry) (choice_of codes.entry) quiet found whole (E.state errors.old) (E.state errors.new) (left_value result) }
+{
+    match end(alloc, mode, codes, quiet, &found, errors) {
+        Ok(ended) => Left {
+            status: status_of_list(whole, ended.status),
+            known_faults: ended.known_faults,
+            waivers: Some(found.kept),
+        },
+        Err(lost) => nothing_left(tell_lost(lost, errors)),
+    }
+}
+
+/// The status of the fonts, unless not all could be listed.
+fn status_of_list(whole: bool, status: Status) -> Status
+    ensures { result ≡ (if whole then status else Status.Failed) }
+{
+    if whole { status } else { Status::Failed }
+}
+
+/// Nothing is left to do.
+fn nothing_left(status: Status) -> Left
+    ensures { left_value result ≡ nothing_left status }
+{
+    Left {
+        status,
+        known_faults: None,
+        waivers: None,
+    }
+}
+
+/// Tells why a run stopped.
+pub fn tell_lost<E: Sink>(lost: Lost, errors: &mut E) -> Status
+    ensures { Tells (lost_line lost) Status.Failed (E.state errors.old) (E.state errors.new) result }
+{
+    match lost {
+        Lost::Device => tell_write_failed(PROGRAM, errors),
+        Lost::Memory => tell_failure(PROGRAM, Failure::Memory, errors),
+    }
+}

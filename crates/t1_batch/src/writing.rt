@@ -1,0 +1,239 @@
+//! Writes what is selected of fonts, in the form that is asked for.
+
+ghost use Rattle.std.specs.Prelude.{◌≡◌, false, map, string_bytes, Ok};
+ghost use Rattle.std.specs.Fn.{FnReturnsAt};
+ghost use Rattle.t1_batch.specs.Checks.{ChecksFonts, IsFound};
+ghost use Rattle.t1_batch.specs.Modes.{judges_of, mode_value};
+ghost use Rattle.t1_batch.specs.Unlisted.{unlisted_told};
+ghost use Rattle.t1_batch.specs.Writing.{FinishesChecked, FinishesForm, WritesFormatted, WritesInForm, WritesPlain};
+ghost use Rattle.t1_many.specs.Files.{files_by};
+ghost use Rattle.t1_many.specs.Handing.{lost_of};
+
+use crate::checking::{Fonts, check_fonts};
+use crate::mode::Selection;
+use crate::unlisted::{Unlisted, give_unlisted};
+use std::alloc::Global;
+use std::io;
+use t1_forms::{FormatError, Sarif};
+use t1_io::{Sink, Source};
+use t1_many::{Lost, Plain};
+use t1_many_forms::{Formatted, Formatter, GitHubCommands, JsonLines};
+use t1_options::Form;
+use t1_parts::Part;
+use t1_run::Status;
+
+/// The form in which lines are written.
+#[derive(Clone, Copy, Debug)]
+pub struct Output<'a> {
+    /// The form for another program. Without it, lines are written as `NAME: LINE`.
+    pub form: Option<Form>,
+    /// The URL of the page of all rules, for a document of SARIF.
+    pub docs: Option<&'a str>,
+    /// What couldn't be listed, which a form for another program has before all else.
+    pub unlisted: Unlisted<'a>,
+}
+
+/// Fonts of which was written what is selected.
+#[derive(Drop)]
+pub struct Written<W: Sink + Drop, E: Sink + Drop> {
+    /// The greatest status of the fonts, or why it stopped.
+    pub status: Result<Status, Lost>,
+    /// What was found in them.
+    pub found: Part,
+    /// The output.
+    pub out: W,
+    /// Standard error.
+    pub errors: E,
+}
+
+/// Checks fonts in order, and writes what is selected of them, why there is no report of a font, and in a form for another program what couldn't
+/// be listed.
+pub fn write_fonts<R, V, O, P, W, E>(
+    alloc: Global,
+    fonts: Fonts<'_, O, P>,
+    selection: Selection<'_>,
+    output: Output<'_>,
+    out: W,
+    errors: E,
+) -> Written<W, E>
+where
+    R: Source + Drop,
+    V: Source + Drop,
+    O: Fn(&str) -> io::Result<R>,
+    P: Fn(&str) -> Option<io::Result<V>>,
+    W: Sink + Drop,
+    E: Sink + Drop,
+    requires open_font { O.IsAlwaysCallable fonts.open_font }
+    requires open_waivers { P.IsAlwaysCallable fonts.open_waivers }
+    requires unbroken { (name : _) (file : R) → FnReturnsAt O.Fn fonts.open_font name (Ok file) → (R.state file).failed ≡ false }
+    ensures { WritesInForm output.entry.form (unlisted_told output.entry.unlisted.passed_over (map string_bytes output.entry.unlisted.unsearched.now))
+        (judges_of (mode_value selection.entry.mode) selection.entry.rules)
+        (files_by R.state V.state (FnReturnsAt O.Fn fonts.entry.open_font) (FnReturnsAt P.Fn fonts.entry.open_waivers)) selection.entry.edition
+        (map string_bytes fonts.entry.names.now)
+        (record { out = W.state out; errors = E.state errors }) (record { out = W.state result.out; errors = E.state result.errors })
+        (IsFound (mode_value selection.entry.mode) selection.entry.rules result.found) result.status }
+{
+    let Some(form) = output.form else {
+        return write_plain(alloc, fonts, selection, out, errors);
+    };
+    let mut out = out;
+    match form {
+        Form::JsonLines => {
+            write_formatted(
+                alloc,
+                fonts,
+                selection,
+                output.unlisted,
+                JsonLines,
+                out,
+                errors,
+            )
+        }
+        Form::GitHub => {
+            write_formatted(
+                alloc,
+                fonts,
+                selection,
+                output.unlisted,
+                GitHubCommands,
+                out,
+                errors,
+            )
+        }
+        Form::Sarif => match Sarif::begin(alloc, &mut out, output.docs) {
+            Ok(document) => {
+                write_formatted(
+                    alloc,
+                    fonts,
+                    selection,
+                    output.unlisted,
+                    document,
+                    out,
+                    errors,
+                )
+            }
+            Err(FormatError::Memory) => unwritten(alloc, Lost::Memory, out, errors),
+            Err(FormatError::Broken) => unwritten(alloc, Lost::Device, out, errors),
+        },
+    }
+}
+
+/// The same as `NAME: LINE`.
+fn write_plain<R, V, O, P, W, E>(
+    alloc: Global,
+    fonts: Fonts<'_, O, P>,
+    selection: Selection<'_>,
+    out: W,
+    errors: E,
+) -> Written<W, E>
+where
+    R: Source + Drop,
+    V: Source + Drop,
+    O: Fn(&str) -> io::Result<R>,
+    P: Fn(&str) -> Option<io::Result<V>>,
+    W: Sink + Drop,
+    E: Sink + Drop,
+    requires open_font { O.IsAlwaysCallable fonts.open_font }
+    requires open_waivers { P.IsAlwaysCallable fonts.open_waivers }
+    requires unbroken { (name : _) (file : R) → FnReturnsAt O.Fn fonts.open_font name (Ok file) → (R.state file).failed ≡ false }
+    ensures { WritesPlain (judges_of (mode_value selection.entry.mode) selection.entry.rules)
+        (files_by R.state V.state (FnReturnsAt O.Fn fonts.entry.open_font) (FnReturnsAt P.Fn fonts.entry.open_waivers)) selection.entry.edition
+        (map string_bytes fonts.entry.names.now)
+        (record { out = W.state out; errors = E.state errors }) (record { out = W.state result.out; errors = E.state result.errors })
+        (IsFound (mode_value selection.entry.mode) selection.entry.rules result.found) result.status }
+{
+    let checked = check_fonts(alloc, fonts, selection, Plain { out, errors });
+    Written {
+        status: checked.status,
+        found: checked.found,
+        out: checked.form.out,
+        errors: checked.form.errors,
+    }
+}
+
+/// The same in the form of a formatter, which has written what stands before all else.
+fn write_formatted<R, V, O, P, T, W, E>(
+    alloc: Global,
+    fonts: Fonts<'_, O, P>,
+    selection: Selection<'_>,
+    unlisted: Unlisted<'_>,
+    formatter: T,
+    out: W,
+    errors: E,
+) -> Written<W, E>
+where
+    R: Source + Drop,
+    V: Source + Drop,
+    O: Fn(&str) -> io::Result<R>,
+    P: Fn(&str) -> Option<io::Result<V>>,
+    T: Formatter + Drop,
+    W: Sink + Drop,
+    E: Sink + Drop,
+    requires open_font { O.IsAlwaysCallable fonts.open_font }
+    requires open_waivers { P.IsAlwaysCallable fonts.open_waivers }
+    requires unbroken { (name : _) (file : R) → FnReturnsAt O.Fn fonts.open_font name (Ok file) → (R.state file).failed ≡ false }
+    ensures { WritesFormatted T.writes T.finishes (unlisted_told unlisted.entry.passed_over (map string_bytes unlisted.entry.unsearched.now))
+        (judges_of (mode_value selection.entry.mode) selection.entry.rules)
+        (files_by R.state V.state (FnReturnsAt O.Fn fonts.entry.open_font) (FnReturnsAt P.Fn fonts.entry.open_waivers)) selection.entry.edition
+        (map string_bytes fonts.entry.names.now) formatter
+        (record { out = W.state out; errors = E.state errors }) (record { out = W.state result.out; errors = E.state result.errors })
+        (IsFound (mode_value selection.entry.mode) selection.entry.rules result.found) result.status }
+{
+    let mut formatter = formatter;
+    let mut out = out;
+    if let Err(lost) = give_unlisted(alloc, unlisted, &mut formatter, &mut out) {
+        return unwritten(alloc, lost, out, errors);
+    }
+    let form = Formatted::new(alloc, formatter, out, errors);
+    let checked = check_fonts(alloc, fonts, selection, form);
+    let (formatter, mut out, errors) = checked.form.into_parts();
+    let status = finish_checked(alloc, formatter, &mut out, checked.status);
+    Written {
+        status,
+        found: checked.found,
+        out,
+        errors,
+    }
+}
+
+/// Finishes a form, unless the check of its fonts stopped.
+fn finish_checked<T: Formatter + Drop, W: Sink>(
+    alloc: Global,
+    formatter: T,
+    out: &mut W,
+    status: Result<Status, Lost>,
+) -> Result<Status, Lost>
+    ensures { FinishesChecked (T.finishes formatter) (W.state out.old) (W.state out.new) status result }
+{
+    let status = status?;
+    finish_form(alloc, formatter, out)?;
+    Ok(status)
+}
+
+/// Writes what stands after all else, and flushes it.
+fn finish_form<T: Formatter, W: Sink>(alloc: Global, formatter: T, out: &mut W) -> Result<(), Lost>
+    ensures { FinishesForm (T.finishes formatter) (W.state out.old) (W.state out.new) (lost_of result) }
+{
+    formatter.finish(alloc, out)?;
+    out.flush()?;
+    Ok(())
+}
+
+/// Nothing was found, since it stopped before the first font.
+fn unwritten<W: Sink + Drop, E: Sink + Drop>(
+    alloc: Global,
+    lost: Lost,
+    out: W,
+    errors: E,
+) -> Written<W, E>
+    ensures status { result.status ≡ Err lost }
+    ensures out { result.out ≡ out }
+    ensures errors { result.errors ≡ errors }
+{
+    Written {
+        status: Err(lost),
+        found: Part::new(alloc),
+        out,
+        errors,
+    }
+}
