@@ -43,7 +43,7 @@ _t1check() {
         t1check) options='--after --max --trace --edition --waive --help' ;;
         t1check-all)
             options='-j -q --edition --only --except --no-waivers --write-waivers --force --baseline --update-baseline
-                --shard --format --docs --help --version'
+                --files-from --exclude --shard --format --docs --help --version'
             ;;
         t1draw) options='--edition --waive --step --help' ;;
         t1format) options='--font --docs --help' ;;
@@ -51,7 +51,8 @@ _t1check() {
     esac
     case $tool$before in
         t1check--after | t1check--max | t1check--trace | t1check--waive | t1draw--waive | t1draw--step) ;;
-        t1check-all-j | t1check-all--baseline | t1check-all--shard | t1check-all--docs | t1format--docs) ;;
+        t1check-all-j | t1check-all--baseline | t1check-all--files-from | t1check-all--exclude) ;;
+        t1check-all--shard | t1check-all--docs | t1format--docs) ;;
         t1check--edition | t1check-all--edition | t1draw--edition) _t1check_take < <(compgen -W '1 2' -- "$word") ;;
         t1check-all--only | t1check-all--except) _t1check_rules "$1" "$word" ;;
         t1check-all--format) _t1check_take < <(compgen -W 'jsonl sarif github' -- "$word") ;;

@@ -36,6 +36,8 @@ complete -c t1check-all -l write-waivers -d 'Write NAME.waivers, which waives ea
 complete -c t1check-all -l force -d 'Overwrite waivers'
 complete -c t1check-all -l baseline -r -F -d 'Tell only what goes beyond known faults'
 complete -c t1check-all -l update-baseline -d 'Make what is found the known faults'
+complete -c t1check-all -l files-from -r -F -d 'Check what this file names too'
+complete -c t1check-all -l exclude -x -d 'Omit fonts whose names match'
 complete -c t1check-all -l shard -x -d 'Check part I of N of the list'
 complete -c t1check-all -l format -x -a 'jsonl sarif github' -d 'Write lines in a form for other programs'
 complete -c t1check-all -l docs -x -d 'Name the page of each rule below this URL'

@@ -12,7 +12,7 @@ END
 try 'known faults that are missing' 3 "$all" --baseline known glyphs.pfb edge.pfb
 wanted <<'END'
 --
-2 fonts: 2 clean, 0 with faults, 0 refused, 0 not checked
+2 fonts: 0 clean, 2 with known faults alone, 0 with faults, 0 refused, 0 not checked
 known faults: 6 rows
 END
 try 'known faults are written' 0 "$all" --baseline known --update-baseline glyphs.pfb edge.pfb
@@ -42,6 +42,21 @@ glyphs.pfb: 4: glyph A - 12 P02 path not closed
 glyphs.pfb: known faults: P03 glyph A: 2 known, 1 found
 END
 try 'what goes beyond known faults' 1 "$all" -q --baseline known glyphs.pfb edge.pfb
+
+# Fonts with known faults alone are a class of their own.
+cp "$fonts/clean.pfb" clean.pfb
+wanted <<'END'
+glyphs.pfb: 2: font StdHW 0 Z01 value of another kind
+glyphs.pfb: 4: glyph A - 12 P02 path not closed
+--
+glyphs.pfb: known faults: P03 glyph A: 2 known, 1 found
+3 fonts: 1 clean, 1 with known faults alone, 1 with faults, 0 refused, 0 not checked
+      1 P02 path not closed
+      1 Z01 value of another kind
+END
+for jobs in 1 3; do
+    try "classes of fonts, $jobs at once" 1 "$all" -j "$jobs" --baseline known glyphs.pfb edge.pfb clean.pfb
+done
 cp "$fonts/E03.bin" edge.pfb
 wanted <<'END'
 edge.pfb: refused: E03 segment cut short
@@ -66,42 +81,54 @@ wanted <<'END'
 t1check-all: no row of known faults: one H02 glyph A glyphs.pfb
 END
 try 'a row that is none' 3 "$all" -q --baseline known glyphs.pfb
+cat >known <<'END'
+1 H02 glyph A edge.pfb
+3 C05 glyph A elsewhere.pfb
+2 H02 glyph A edge.pfb
+END
+cp known twice
+wanted <<'END'
+--
+t1check-all: two rows of known faults: 2 H02 glyph A edge.pfb
+END
+try 'a row that is there twice' 3 "$all" -q --baseline known glyphs.pfb
+try 'a row that is there twice, and an update' 3 "$all" -q --baseline known --update-baseline glyphs.pfb
+wanted <<'END'
+--
+END
+try 'nothing is updated' 0 cmp known twice
 
-# Counts are numbers, also where they have more digits: of a program in t1check's place that finds as many faults as its font says.
-stand_in 9 10 <<'END'
-#!/bin/sh
-read -r count
-awk -v count="$count" 'BEGIN { for (i = 1; i <= count; i++) print i ": glyph A - " i " H02 stems overlap" }'
-exit 1
-END
-echo '9 H02 glyph A 10.pfb' >known
+# Counts are numbers, also where they have more digits.
+echo 'A 9' | make_font 9.pfa
+echo 'A 10' | make_font 10.pfa
+echo '9 P03 glyph A 10.pfa' >known
 wanted <<'END'
-10.pfb: 1: glyph A - 1 H02 stems overlap
-10.pfb: 2: glyph A - 2 H02 stems overlap
-10.pfb: 3: glyph A - 3 H02 stems overlap
-10.pfb: 4: glyph A - 4 H02 stems overlap
-10.pfb: 5: glyph A - 5 H02 stems overlap
-10.pfb: 6: glyph A - 6 H02 stems overlap
-10.pfb: 7: glyph A - 7 H02 stems overlap
-10.pfb: 8: glyph A - 8 H02 stems overlap
-10.pfb: 9: glyph A - 9 H02 stems overlap
-10.pfb: 10: glyph A - 10 H02 stems overlap
+10.pfa: 1: glyph A - 4 P03 closepath without a path
+10.pfa: 2: glyph A - 5 P03 closepath without a path
+10.pfa: 3: glyph A - 6 P03 closepath without a path
+10.pfa: 4: glyph A - 7 P03 closepath without a path
+10.pfa: 5: glyph A - 8 P03 closepath without a path
+10.pfa: 6: glyph A - 9 P03 closepath without a path
+10.pfa: 7: glyph A - 10 P03 closepath without a path
+10.pfa: 8: glyph A - 11 P03 closepath without a path
+10.pfa: 9: glyph A - 12 P03 closepath without a path
+10.pfa: 10: glyph A - 13 P03 closepath without a path
 --
 END
-try 'ten faults where nine are known' 1 "$stand/bin/t1check-all" -q --baseline known 10.pfb
-echo '10 H02 glyph A 9.pfb' >known
+try 'ten faults where nine are known' 1 "$all" -q --baseline known 10.pfa
+echo '10 P03 glyph A 9.pfa' >known
 wanted <<'END'
 --
-9.pfb: known faults: H02 glyph A: 10 known, 9 found
+9.pfa: known faults: P03 glyph A: 10 known, 9 found
 END
-try 'nine faults where ten are known' 0 "$stand/bin/t1check-all" -q --baseline known 9.pfb
-echo '10 H02 glyph A 10.pfb' >known
+try 'nine faults where ten are known' 0 "$all" -q --baseline known 9.pfa
+echo '10 P03 glyph A 10.pfa' >known
 wanted <<'END'
 --
 END
-try 'ten faults where ten are known' 0 "$stand/bin/t1check-all" -q --baseline known 10.pfb
+try 'ten faults where ten are known' 0 "$all" -q --baseline known 10.pfa
 
-# Names of fonts as they are in rows, a row of a waiver, and known faults in a file - of which awk would read standard input.
+# Names of fonts as they are in rows, a row of a waiver, and known faults in a file -, which isn't standard input.
 cp "$fonts/H02.pfb" 'two words.pfb'
 cp "$fonts/H02.pfb" 'back\slash.pfb'
 cp "$fonts/H02.pfb" waived.pfb
@@ -139,29 +166,28 @@ wanted <<'END'
 --
 t1check-all: none/known can't be written
 END
-# Before that the shell says in its own words that there is no such folder.
-try "known faults that can't be written" 3 sh -c "'$all' -q --baseline none/known --update-baseline edge.pfb 2>given
-    given=\$?
-    tail -n 1 given >&2
-    exit \$given"
+try "known faults that can't be written" 3 "$all" -q --baseline none/known --update-baseline edge.pfb
 
-# New rows are written beside the old ones; once all are there, mv puts them in their place.
-mkdir "$scratch/moves"
-printf '#!/bin/sh\nexit 1\n' >"$scratch/moves/mv"
-chmod +x "$scratch/moves/mv"
+# New rows are written beside the old ones, and then take their place: who reads the old file still has all of it.
 mkdir kept
 echo '1 C05 glyph A elsewhere.pfb' >kept/known
+ln kept/known old
 wanted <<'END'
 --
-t1check-all: kept/known can't be written
 END
-try "known faults that can't be put in their place" 3 env PATH="$scratch/moves:$PATH" \
-    "$all" -q --baseline kept/known --update-baseline edge.pfb
+try 'known faults are replaced' 0 "$all" -q --baseline kept/known --update-baseline edge.pfb
 wanted <<'END'
 1 C05 glyph A elsewhere.pfb
 --
 END
-try 'known faults as they were' 0 cat kept/known
+try 'known faults as they were' 0 cat old
+wanted <<'END'
+# Known faults: count, rule, unit, font.
+1 C05 glyph A elsewhere.pfb
+1 H02 glyph A edge.pfb
+--
+END
+try 'known faults as they are' 0 cat kept/known
 wanted <<'END'
 known
 --

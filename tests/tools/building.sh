@@ -8,9 +8,10 @@
 # A script in the place of rt prints where it runs and its words, and makes a program that prints its own name and words. A file `fails`
 # makes it fail, a file `edit` makes it edit a source in the middle of its work.
 build=$scratch/build
-mkdir -p "$build/crates/t1check/src" "$build/crates/t1format/src" "$build/crates/t1draw/src" "$scratch/kit"
-mkdir -p "$build/crates/t1_x/specs/deep" "$build/crates/t1_x/proofs"
+mkdir -p "$build/crates/t1check/src" "$build/crates/t1check_all/src" "$build/crates/t1format/src" "$build/crates/t1draw/src" "$scratch/kit"
+mkdir -p "$build/crates/t1_x/specs/deep" "$build/crates/t1_x/proofs" "$build/docs"
 cp -R "$top/bin" "$build/"
+: >"$build/docs/RULES.md"
 : >"$build/crates.txt"
 cat >"$scratch/kit/rt" <<'END'
 #!/bin/sh
@@ -28,12 +29,27 @@ $tool: a  b
 END
     try "building $tool" 0 env PATH="$scratch/kit:$PATH" "$build/bin/$tool" 'a  b'
 done
+# t1check-all's program gets a folder of its own and a number, which aren't the same in each run.
+cat >"$scratch/plan" <<END
+PATH='$scratch/kit:$PATH' '$build/bin/t1check-all' "\$@" | sed 's|--plan /[^ ]* [0-9]* |--plan |'
+END
+wanted <<'END'
+t1check_all: --plan a  b
+--
+END
+try 'building t1check-all' 0 sh "$scratch/plan" 'a  b'
+try 'building t1check-all once' 0 sh "$scratch/plan" 'a  b'
 touch -t 203001010000 "$build/crates/t1check/src/new.rt"
+wanted <<'END'
+t1check: a  b
+--
+END
 try 'building t1check anew' 0 env PATH="$scratch/kit:$PATH" "$build/bin/t1check" 'a  b'
 wanted <<'END'
 t1check: rt run -- --help
 t1format: rt run -- --help
 t1draw: rt run -- --help
+t1check_all: rt run -- --help
 t1check: rt run -- --help
 --
 END
@@ -83,5 +99,6 @@ wanted <<'END'
 not proved
 END
 try 'a build that fails' 3 env PATH="$scratch/kit:$PATH" "$build/bin/t1check" a
+try 'a build of t1check-all that fails' 3 env PATH="$scratch/kit:$PATH" "$build/bin/t1check-all" a
 
 finish

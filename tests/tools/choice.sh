@@ -72,22 +72,15 @@ missing.pfb: t1check: read failed
 END
 try 'a font that is missing, one that is refused, and one with a line' 3 "$all" -q missing.pfb cut.pfa edge.pfb
 
-# Lines of a program in t1check's place: one of a glyph whose name is empty, and more than a thousand.
-stand_in nameless many <<'END'
-#!/bin/sh
-read -r word
-case $word in
-    nameless) echo '1: glyph  - 9 H02 stems overlap' ;;
-    many) awk 'BEGIN { for (i = 1; i <= 1001; i++) print i ": glyph A - " i " H02 stems overlap" }' ;;
-esac
-exit 1
-END
+# A line of a glyph whose name is empty, and more than a thousand lines.
+echo ' 1' | make_font nameless.pfa
 wanted <<'END'
-nameless.pfb: 1: glyph  - 9 H02 stems overlap
+nameless.pfa: 1: glyph  - 4 P03 closepath without a path
 --
 END
-try 'a rule of a glyph whose name is empty' 1 "$stand/bin/t1check-all" -q --only H02 nameless.pfb
-awk 'BEGIN { for (i = 1; i <= 1001; i++) print "many.pfb: " i ": glyph A - " i " H02 stems overlap"; print "--" }' >wanted
-try 'a thousand and one lines' 1 "$stand/bin/t1check-all" -q --only H02 many.pfb
+try 'a rule of a glyph whose name is empty' 1 "$all" -q --only P03 nameless.pfa
+echo 'A 1001' | make_font many.pfa
+awk 'BEGIN { for (i = 1; i <= 1001; i++) print "many.pfa: " i ": glyph A - " i + 3 " P03 closepath without a path"; print "--" }' >wanted
+try 'a thousand and one lines' 1 "$all" -q --only P03 many.pfa
 
 finish

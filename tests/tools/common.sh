@@ -1,7 +1,7 @@
 #!/bin/sh
 # What the scripts of tests/tools share, each of which reads this in first: how an answer is compared and counted, a time limit, made fonts,
-# a program in t1check's place, a parser of JSON, and a folder to install into. They then stand in a folder of their own, $scratch; the last
-# line of each is `finish`.
+# a script in the place of t1check-all's program, a parser of JSON, and a folder to install into. They then stand in a folder of their own,
+# $scratch; the last line of each is `finish`.
 # shellcheck disable=SC2034
 set -u
 LC_ALL=C
@@ -13,7 +13,7 @@ all=$top/bin/t1check-all
 explain=$top/bin/t1explain
 format=$top/bin/t1format
 # Status 3 tells tests/tools.sh to stop: without the programs no script here can try anything. There is no time limit, since this may build.
-for tool in t1check t1format t1draw; do
+for tool in t1check t1check-all t1format t1draw; do
     if ! "$top/bin/$tool" --help >/dev/null; then
         echo "failed: bin/$tool --help, which builds the program"
         echo "0 passed, 1 failed"
@@ -76,11 +76,9 @@ finish() {
 # A folder of fonts with names that are hard to handle.
 odd=$scratch/odd
 mkdir -p "$odd/-dash" "$odd/sub folder/deep" "$odd/empty"
-byte=$(printf 'b\377d')
 cp "$fonts/H02.pfb" "$odd/-dash/-x.pfb"
 cp "$fonts/K02.pfb" "$odd/a=b.t1"
 cp "$fonts/F01.pfb" "$odd/back\\slash.pfb"
-cp "$fonts/F01.pfb" "$odd/$byte.pfb"
 cp "$fonts/E03.bin" "$odd/cut.pfa"
 cp "$fonts/H02.pfb" "$odd/q'\"uote.PFB"
 cp "$fonts/Z05.pfb" "$odd/sub folder/deep/two words.pfb"
@@ -93,23 +91,75 @@ mkdir "$lines"
 cp "$fonts/Z05.pfb" "$lines/$(printf 'two\nlines.pfb')"
 cp "$fonts/Z05.pfb" "$lines/one.pfb"
 
+# A folder with a font whose name isn't UTF-8.
+bytes=$scratch/bytes
+mkdir "$bytes"
+cp "$fonts/Z05.pfb" "$bytes/$(printf 'b\377d.pfb')"
+cp "$fonts/Z05.pfb" "$bytes/one.pfb"
+
 # A font with lines of its dictionaries and of its glyphs, and one with a line of a glyph.
 cp "$fonts/zones_and_glyphs.pfb" "$scratch/glyphs.pfb"
 cp "$fonts/H02.pfb" "$scratch/edge.pfb"
 
-# Makes a copy of t1check-all, $stand/bin/t1check-all, that runs a script in t1check's place. The script is on standard input here, and
-# finds a font on its own. Each font WORD.pfb, which this makes too, has that word alone: WORD...
+# Makes a copy of t1check-all, $stand/bin/t1check-all, that runs a script in the place of its program. The script is on standard input here,
+# and gets the words that the program would; $checker is the program itself.
 stand_in() {
     stand=$scratch/stand
-    mkdir -p "$stand/bin" "$stand/docs" "$stand/crates/t1check/out"
+    mkdir -p "$stand/bin" "$stand/libexec/t1check"
     cp "$all" "$stand/bin/"
-    cp "$top/docs/RULES.md" "$stand/docs/"
-    printf '#!/bin/sh\n' >"$stand/bin/t1check"
-    cat >"$stand/crates/t1check/out/t1check"
-    chmod +x "$stand/bin/t1check" "$stand/crates/t1check/out/t1check"
-    for word; do
-        echo "$word" >"$word.pfb"
-    done
+    cat >"$stand/libexec/t1check/t1check_all"
+    chmod +x "$stand/libexec/t1check/t1check_all"
+}
+checker=$top/crates/t1check_all/out/t1check_all
+export checker
+
+# Makes a font, $1, a PFA. Each line of standard input is a glyph's name, a blank and the number of its faults: of closepaths without a path,
+# which are P03.
+make_font() {
+    awk '
+        # Writes a byte of the encrypted section, in hexadecimal.
+        function put(byte,    high) {
+            high = int(key / 256)
+            byte = 16 * mixed[int(byte / 16), int(high / 16)] + mixed[byte % 16, high % 16]
+            key = (byte + key) * 52845 % 65536 + 22719
+            key %= 65536
+            printf "%02x%s", byte, ++bytes % 32 ? "" : "\n"
+        }
+        function put_text(text,    i) {
+            for (i = 1; i <= length(text); i++) put(code[substr(text, i, 1)])
+        }
+        # hsbw 0 500, the faults, endchar.
+        function put_glyph(name, faults) {
+            put_text("/" name " " faults + 5 " RD ")
+            put(139); put(248); put(136); put(13)
+            while (faults-- > 0) put(9)
+            put(14)
+            put_text(" ND\n")
+        }
+        BEGIN {
+            for (a = 0; a < 16; a++) for (b = 0; b < 16; b++) for (bit = 1; bit < 16; bit *= 2)
+                mixed[a, b] += int(a / bit) % 2 == int(b / bit) % 2 ? 0 : bit
+            for (byte = 32; byte < 127; byte++) code[sprintf("%c", byte)] = byte
+            code["\n"] = 10
+            key = 55665
+            print "%!PS-AdobeFont-1.0: T\n/FontType 1 def\n/PaintType 0 def\n/Encoding StandardEncoding def\ncurrentfile eexec"
+            for (i = 0; i < 4; i++) put(0)
+            put_text("dup /Private 8 dict dup begin\n/password 5839 def\n/MinFeature {16 16} def\n/lenIV -1 def\n")
+            put_text("2 index /CharStrings 4 dict dup begin\n")
+            put_glyph(".notdef", 0)
+        }
+        {
+            name = $0
+            sub(/ [0-9]*$/, "", name)
+            put_glyph(name, $NF)
+        }
+        END {
+            put_text("end\n")
+            print ""
+            for (i = 0; i < 8; i++) print "0000000000000000000000000000000000000000000000000000000000000000"
+            print "cleartomark"
+        }
+    ' >"$1"
 }
 
 # Programs that print what a parser reads in a file of JSON: a line a value, the way to it and the value. With `lines` each line is

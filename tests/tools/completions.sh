@@ -36,6 +36,9 @@ ask "$1/bin/t1explain" H02 e0
 ask t1check-all --format s
 ask t1check-all --format = ''
 ask t1check-all --docs f
+ask t1check-all --fi
+ask t1check-all --files-from f
+ask t1check-all --exclude f
 ask t1draw --edition ''
 ask t1draw A f
 ask t1draw --step f
@@ -65,6 +68,9 @@ $prefix/bin/t1explain,H02,e0:E01,E02,E03,E04,E05,E06,E07,E08,E09
 t1check-all,--format,s:sarif
 t1check-all,--format,=,:jsonl,sarif,github
 t1check-all,--docs,f:
+t1check-all,--fi:--files-from
+t1check-all,--files-from,f:
+t1check-all,--exclude,f:
 t1draw,--edition,:1,2
 t1draw,A,f:font.pfb
 t1draw,--step,f:

@@ -1,85 +1,91 @@
 #!/bin/sh
-# Tries t1check-all where t1check crashes, t1format fails, a signal ends the run, or the device that takes the output is full.
+# Tries t1check-all where its program crashes, a signal ends the run, or the device that takes the output is full.
 
 # shellcheck source=tests/tools/common.sh
 . "$(dirname "$0")/common.sh"
 
-# A program in t1check's place that writes a line and then waits, ends itself by a signal, or with a status of its own.
 mkdir "$scratch/tmp"
-stand_in wait crash line seven words mask <<END
+for font in first second third; do
+    cp "$fonts/F01.pfb" "$font.pfb"
+done
+
+# In the program's place it does what the file `act` says, of a part where it is the second one.
+stand_in <<END
 #!/bin/sh
-read -r kind
-case \$kind in
-    wait) echo \$\$ >>'$scratch/running'; exec sleep 60 ;;
-    crash) kill -SEGV \$\$ ;;
-    line) echo '1: font file 0 F01 no end segment'; exit 1 ;;
-    seven) exit 7 ;;
-    words) echo 'words of its own' >&2; exit 9 ;;
-    mask) ls -ld '$scratch'/tmp/t1check-all.* | cut -c 1-10 >&2; exit 9 ;;
+case \$1 in
+    --part) [ "\$3" -ne 2 ] || . '$scratch/act' ;;
+    "\$(cat '$scratch/when')") . '$scratch/act' ;;
 esac
+exec "\$checker" "\$@"
 END
+: >when
 wanted <<'END'
-line.pfb: 1: font file 0 F01 no end segment
+first.pfb: 1: font file 0 F01 no end segment
+third.pfb: 1: font file 0 F01 no end segment
 --
-crash.pfb: t1check: ended by signal 11
-seven.pfb: t1check: ended with status 7
-END
-try 'a program that crashes' 3 "$stand/bin/t1check-all" -q -j1 crash.pfb line.pfb seven.pfb
-
-# Nobody else may read what is kept while fonts are checked.
-wanted <<'END'
---
-mask.pfb: drwx------
-END
-try 'the folder of what is kept' 3 env TMPDIR="$scratch/tmp" "$stand/bin/t1check-all" -q mask.pfb
-
-# What t1format gets: one in its place writes its words, then what it reads, and fails where it is asked for sarif.
-mkdir -p "$stand/crates/t1format/out"
-printf '#!/bin/sh\n' >"$stand/bin/t1format"
-cat >"$stand/crates/t1format/out/t1format" <<'END'
-#!/bin/sh
-printf '<%s>\n' "$@"
-cat
-echo end
-[ "$1" != sarif ]
-END
-chmod +x "$stand/bin/t1format" "$stand/crates/t1format/out/t1format"
-wanted <<'END'
-<jsonl>
-crash.pfb: t1check: ended by signal 11
-line.pfb: 1: font file 0 F01 no end segment
-words.pfb: t1check: words of its own
-end
---
-crash.pfb: t1check: ended by signal 11
-words.pfb: words of its own
-END
-try 'what t1format gets' 3 "$stand/bin/t1check-all" -q -j1 --format jsonl crash.pfb line.pfb words.pfb
-wanted <<'END'
-<github>
-<--docs>
-<https://example.org/it's "$HOME" here>
-end
---
+second.pfb: t1check: ended by signal 9
+3 fonts: 0 clean, 2 with faults, 0 refused, 1 not checked
+      2 F01 no end segment
 END
 # shellcheck disable=SC2016
-try 'what t1format is told' 0 "$stand/bin/t1check-all" -q --only L --format github \
-    --docs 'https://example.org/it'\''s "$HOME" here' line.pfb
+echo 'kill -s KILL $$' >act
+try 'a part that is killed' 3 "$stand/bin/t1check-all" -j3 first.pfb second.pfb third.pfb
 wanted <<'END'
-<sarif>
-line.pfb: 1: font file 0 F01 no end segment
-end
+{"code":"F01","file":"first.pfb","index":0,"key":"file","number":1,"text":"no end segment","unit":"font"}
+{"file":"second.pfb","text":"ended by signal 9","unit":"unchecked"}
+{"code":"F01","file":"third.pfb","index":0,"key":"file","number":1,"text":"no end segment","unit":"font"}
 --
-t1check-all: write failed
+second.pfb: t1check: ended by signal 9
 END
-try 'a t1format that fails' 3 "$stand/bin/t1check-all" -q --format sarif line.pfb
+try 'a part that is killed, as jsonl' 3 "$stand/bin/t1check-all" -q -j3 --format jsonl first.pfb second.pfb third.pfb
 wanted <<'END'
-<sarif>
-end
+first.pfb: 1: font file 0 F01 no end segment
+third.pfb: 1: font file 0 F01 no end segment
 --
-t1check-all: write failed
+second.pfb: t1check: ended with status 7
 END
-try 'a t1format that fails in an empty shard' 3 "$stand/bin/t1check-all" -q --format sarif --shard 1/2 line.pfb
+echo 'exit 7' >act
+try 'a part that ends with a status of its own' 3 "$stand/bin/t1check-all" -q -j3 first.pfb second.pfb third.pfb
+wanted <<'END'
+--
+t1check-all: ended by signal 9
+END
+# shellcheck disable=SC2016
+echo 'kill -s KILL $$' >act
+for call in plan all; do
+    echo "--$call" >when
+    try "the program is killed, --$call" 3 "$stand/bin/t1check-all" -q -j1 first.pfb second.pfb
+done
+# The call that joins.
+stand_in <<END
+#!/bin/sh
+[ "\$1" != --join ] || kill -s KILL \$\$
+exec "\$checker" "\$@"
+END
+try 'the program is killed, --join' 3 "$stand/bin/t1check-all" -q -j2 first.pfb second.pfb
+
+# Nobody else may read what is kept while fonts are checked. What is written for the user has the user's own mask.
+stand_in <<'END'
+#!/bin/sh
+[ "$1" != --join ] || ls -ld "$2" | cut -c 1-10 >&2
+exec "$checker" "$@"
+END
+wanted <<'END'
+--
+drwx------
+END
+try 'the folder of what is kept' 0 env TMPDIR="$scratch/tmp" sh -c "umask 022
+    '$stand/bin/t1check-all' -q -j2 --baseline masked --update-baseline first.pfb second.pfb"
+wanted <<'END'
+-rw-r--r--
+--
+END
+try 'the mask of known faults' 0 sh -c 'ls -l masked | cut -c 1-10'
+wanted <<'END'
+--
+t1check-all: no folder can be made in nowhere
+END
+try 'no folder for what is kept' 3 env TMPDIR=nowhere "$all" -q first.pfb
 
 # Whether nothing is left of a run that was ended: no process, no file.
 nothing_left() {
@@ -108,14 +114,26 @@ if [ -n "$($with sh -c 'kill -s INT $$; echo ignored' 2>/dev/null)" ] || ! $with
     signals=TERM
     with=''
 fi
-cp wait.pfb wait2.pfb
+
+# A program that waits, so that a signal comes while it does: as it plans, checks all, checks two parts, or joins them.
+stand_in <<END
+#!/bin/sh
+[ "\$1" != "\$(cat '$scratch/when')" ] || { echo \$\$ >>'$scratch/running'; exec sleep 60; }
+exec "\$checker" "\$@"
+END
 for signal in $signals; do
-    for form in '' '--format jsonl'; do
+    for call in plan all part join; do
+        jobs=1 processes=1
+        case $call in
+            part) jobs=2 processes=2 ;;
+            join) jobs=2 ;;
+        esac
+        echo "--$call" >when
         : >"$scratch/running"
-        # The signal comes once both fonts are being checked, and after a minute in any case.
+        # The signal comes once these processes run, and after a minute in any case.
         (
             seconds=0
-            while [ "$(wc -l <"$scratch/running")" -lt 2 ] && [ "$seconds" -lt 60 ]; do
+            while [ "$(wc -l <"$scratch/running")" -lt "$processes" ] && [ "$seconds" -lt 60 ]; do
                 sleep 1
                 seconds=$((seconds + 1))
             done
@@ -123,61 +141,110 @@ for signal in $signals; do
         ) &
         # shellcheck disable=SC2086
         limited env TMPDIR="$scratch/tmp" $with sh -c "echo \$\$ >'$scratch/main'
-            exec '$stand/bin/t1check-all' -j2 $form wait.pfb wait2.pfb" >given 2>/dev/null
+            exec '$stand/bin/t1check-all' -q -j$jobs first.pfb second.pfb" >given 2>/dev/null
         status=$?
         wait
         case $signal$status in
             INT130 | TERM143) pass ;;
-            *) fail "$signal $form: status $status" ;;
+            *) fail "$signal, --$call: status $status" ;;
         esac
-        nothing_left "$signal $form"
-        # A document isn't closed as if all fonts had their place in it.
-        [ "$(cat given)" = "${form:+<jsonl>}" ] || fail "$signal $form: $(cat given)"
+        nothing_left "$signal, --$call"
+        [ ! -s given ] || fail "$signal, --$call: $(cat given)"
     done
 done
 
-# A signal while known faults are put in their place, which mv does.
-mkdir "$scratch/moves" kept
-cat >"$scratch/moves/mv" <<'END'
-#!/bin/sh
-kill -s TERM "$PPID"
-exit 1
-END
-chmod +x "$scratch/moves/mv"
-: >"$scratch/running"
-limited env PATH="$scratch/moves:$PATH" TMPDIR="$scratch/tmp" \
-    "$stand/bin/t1check-all" -q --baseline kept/known --update-baseline line.pfb >given 2>/dev/null
-status=$?
-if [ "$status" -eq 143 ] && [ ! -s given ]; then
-    pass
-else
-    fail "TERM while known faults are written: status $status, $(cat given)"
-fi
-nothing_left 'TERM while known faults are written'
-wanted <<'END'
---
-END
-try 'nothing beside known faults' 0 ls kept
-
-if [ -c /dev/full ]; then
+# A signal while progress is shown: the line is cleared.
+if [ "$(script -qec 'echo shown' /dev/null </dev/null 2>/dev/null | tr -d '\r')" = shown ]; then
+    echo --part >when
     : >"$scratch/running"
-    limited env TMPDIR="$scratch/tmp" "$all" -q glyphs.pfb 2>given >/dev/full
-    given=$?
-    if [ "$given" -eq 3 ] && grep -qx 't1check-all: write failed' given; then
+    (
+        seconds=0
+        while [ "$(wc -l <"$scratch/running")" -lt 2 ] && [ "$seconds" -lt 60 ]; do
+            sleep 1
+            seconds=$((seconds + 1))
+        done
+        kill -s TERM "$(cat "$scratch/main")"
+    ) &
+    limited env TMPDIR="$scratch/tmp" script -qec "sh -c 'echo \$\$ >\"$scratch/main\"
+        exec \"$stand/bin/t1check-all\" -j2 first.pfb second.pfb'" /dev/null </dev/null >given 2>/dev/null
+    status=$?
+    wait
+    if [ "$status" -eq 143 ] && [ "$(tail -c 4 given)" = "$(printf '\r\033[K')" ]; then
         pass
     else
-        fail "a full device: status $given"
+        fail "TERM while progress is shown: status $status, $(cat given)"
     fi
-    nothing_left 'a full device'
-    for form in jsonl sarif; do
-        limited env TMPDIR="$scratch/tmp" "$all" -q --format "$form" glyphs.pfb 2>given >/dev/full
+    nothing_left 'TERM while progress is shown'
+else
+    echo 'skipped: TERM while progress is shown, since script is not here'
+fi
+
+# A document isn't closed as if all fonts had their place in it. It is longer than a pipe takes in; who reads the pipe takes a byte, sends the
+# signal, and takes the rest once the run has ended.
+echo 'A 20000' | make_font many.pfa
+mkfifo pipe
+: >"$scratch/running"
+# shellcheck disable=SC2016
+limited sh -c '{
+    dd bs=1 count=1 2>/dev/null
+    read -r main <"$0/main"
+    kill -s TERM "$main"
+    while kill -0 "$main" 2>/dev/null; do sleep 1; done
+    cat
+} <pipe >given' "$scratch" &
+limited env TMPDIR="$scratch/tmp" sh -c "echo \$\$ >'$scratch/main'
+    exec '$all' -q -j1 --format sarif first.pfb many.pfa" >pipe 2>/dev/null
+status=$?
+wait
+if [ "$status" -eq 143 ] && [ -s given ] && [ -n "$(tail -c 1 given)" ]; then
+    pass
+else
+    fail "TERM in a document: status $status, $(tail -c 60 given)"
+fi
+nothing_left 'TERM in a document'
+
+# The first signal to a process is lost, as one to a process that was just forked can be.
+cat >"$stand/bin/lossy" <<END
+#!/bin/sh
+kill() {
+    { [ "\$1" != -s ] && mkdir '$scratch/lost' 2>/dev/null; } || command kill "\$@"
+}
+. '$stand/bin/t1check-all'
+END
+chmod +x "$stand/bin/lossy"
+echo --part >when
+: >"$scratch/running"
+(
+    seconds=0
+    while [ "$(wc -l <"$scratch/running")" -lt 2 ] && [ "$seconds" -lt 60 ]; do
+        sleep 1
+        seconds=$((seconds + 1))
+    done
+    kill -s TERM "$(cat "$scratch/main")"
+) &
+limited env TMPDIR="$scratch/tmp" sh -c "echo \$\$ >'$scratch/main'
+    exec '$stand/bin/lossy' -q -j2 first.pfb second.pfb" >given 2>/dev/null
+status=$?
+wait
+if [ "$status" -eq 143 ] && [ -e lost ]; then
+    pass
+else
+    fail "a signal that is lost: status $status"
+fi
+nothing_left 'a signal that is lost'
+
+if [ -c /dev/full ]; then
+    for words in -j1 -j2 '-j1 --format jsonl' '-j2 --format jsonl' '-j1 --format sarif' '-j2 --format sarif'; do
+        : >"$scratch/running"
+        # shellcheck disable=SC2086
+        limited env TMPDIR="$scratch/tmp" "$all" -q $words glyphs.pfb edge.pfb 2>given >/dev/full
         given=$?
         if [ "$given" -eq 3 ] && grep -qx 't1check-all: write failed' given; then
             pass
         else
-            fail "a full device, with $form: status $given"
+            fail "a full device, $words: status $given, $(cat given)"
         fi
-        nothing_left "a full device, with $form"
+        nothing_left "a full device, $words"
     done
 else
     echo 'skipped: a full device, since there is no /dev/full'

@@ -6,39 +6,36 @@
 
 find_reader
 
-# Names have what each form writes in another way: a backslash, bytes below 32, letters beyond ASCII, a byte that makes it no UTF-8, and
-# what parts the properties of a command.
+# Names have what each form writes in another way: a backslash, bytes below 32, letters beyond ASCII, and what parts the properties of a
+# command.
 named=$scratch/named
 mkdir "$named"
 cp "$fonts/F01.pfb" "$named/100%, a:b.pfb"
 cp "$fonts/F01.pfb" "$named/$(printf 'e\303\251\033.pfb')"
-cp "$fonts/F01.pfb" "$named/$(printf 'e\303\251\377.pfb')"
 cp "$fonts/F01.pfb" "$named/$(printf 'return\r.pfb')"
 cd "$odd" || exit 1
 wanted <<'END'
 {"code":"H02","file":"-dash/-x.pfb","name":"A","number":1,"path":[],"step":9,"text":"stems overlap","unit":"glyph"}
 {"code":"K02","file":"a=b.t1","name":"C","number":1,"path":[],"step":9,"text":"seac code not in StandardEncoding","unit":"glyph"}
 {"code":"F01","file":"back\\\\slash.pfb","index":0,"key":"file","number":1,"text":"no end segment","unit":"font"}
-{"code":"F01","file":"b\\xFFd.pfb","index":0,"key":"file","number":1,"text":"no end segment","unit":"font"}
 {"code":"E03","file":"cut.pfa","text":"segment cut short","unit":"refused"}
 {"code":"H02","file":"q'\"uote.PFB","name":"A","number":1,"path":[],"step":9,"text":"stems overlap","unit":"glyph"}
 {"code":"Z05","file":"sub folder/deep/two words.pfb","index":4,"key":"BlueValues","number":1,"text":"zones too near","unit":"font"}
 {"file":"missing.pfb","text":"read failed","unit":"unchecked"}
 --
 missing.pfb: t1check: read failed
-8 fonts: 0 clean, 6 with faults, 1 refused, 1 not checked
-      2 F01 no end segment
+7 fonts: 0 clean, 5 with faults, 1 refused, 1 not checked
       2 H02 stems overlap
+      1 F01 no end segment
       1 K02 seac code not in StandardEncoding
       1 Z05 zones too near
 END
 try 'a folder as jsonl' 3 "$all" --format jsonl . missing.pfb
 cp "$scratch/out" "$scratch/odd.jsonl"
-wanted <<END
+wanted <<'END'
 ::warning file=-dash/-x.pfb,line=1,title=H02 stems overlap::1: glyph A - 9 H02 stems overlap
 ::warning file=a=b.t1,line=1,title=K02 seac code not in StandardEncoding::1: glyph C - 9 K02 seac code not in StandardEncoding
-::warning file=back\\slash.pfb,line=1,title=F01 no end segment::1: font file 0 F01 no end segment
-::warning file=$byte.pfb,line=1,title=F01 no end segment::1: font file 0 F01 no end segment
+::warning file=back\slash.pfb,line=1,title=F01 no end segment::1: font file 0 F01 no end segment
 ::error file=cut.pfa,line=1,title=E03 segment cut short::refused: E03 segment cut short
 ::warning file=q'"uote.PFB,line=1,title=H02 stems overlap::1: glyph A - 9 H02 stems overlap
 ::warning file=sub folder/deep/two words.pfb,line=1,title=Z05 zones too near::1: font BlueValues 4 Z05 zones too near
@@ -50,7 +47,6 @@ try 'a folder as commands' 3 "$all" -q . --format=github missing.pfb
 wanted <<END
 {"code":"F01","file":"100%, a:b.pfb","index":0,"key":"file","number":1,"text":"no end segment","unit":"font"}
 {"code":"F01","file":"$(printf 'e\303\251')\\\\x1B.pfb","index":0,"key":"file","number":1,"text":"no end segment","unit":"font"}
-{"code":"F01","file":"e\\\\xC3\\\\xA9\\\\xFF.pfb","index":0,"key":"file","number":1,"text":"no end segment","unit":"font"}
 {"code":"F01","file":"return\\\\x0D.pfb","index":0,"key":"file","number":1,"text":"no end segment","unit":"font"}
 --
 END
@@ -67,7 +63,6 @@ wanted <<'END'
 H02 warning
 K02 warning
 F01 warning
-F01 warning
 E03 error
 H02 warning
 Z05 warning
@@ -76,11 +71,11 @@ missing.pfb: t1check: read failed
 END
 try_document 'a folder as sarif' 3 "$all" -q --format sarif . missing.pfb
 wanted <<'END'
-8
+7
 --
 END
 if [ -n "$reader" ]; then
-    try 'jsonl by a parser' 0 sh -c "'$reader' '$scratch/read' '$scratch/odd.jsonl' lines | grep -c '^[0-7]\.unit '"
+    try 'jsonl by a parser' 0 sh -c "'$reader' '$scratch/read' '$scratch/odd.jsonl' lines | grep -c '^[0-6]\.unit '"
     # Where the rules' pages are is told of each rule, with --docs alone.
     wanted <<'END'
 --
@@ -135,6 +130,16 @@ END
 try 'a waiver that is not used, as jsonl' 1 "$all" -q --only U01 --format jsonl glyphs.pfb
 rm -f glyphs.pfb.waivers
 
+# Each form is the same from one part of the list and from several.
+limited "$all" -q --format sarif -j1 "$fonts" >whole.sarif 2>/dev/null
+wanted <<'END'
+--
+END
+for jobs in 2 7; do
+    limited "$all" -q --format sarif -j "$jobs" "$fonts" >joined.sarif 2>/dev/null
+    try "sarif, $jobs at once" 0 cmp whole.sarif joined.sarif
+done
+
 # What was not even found is told in the form, too.
 wanted <<'END'
 {"text":"a name with a line end is passed over","unit":"unchecked"}
@@ -143,6 +148,13 @@ wanted <<'END'
 t1check-all: a name with a line end is passed over
 END
 try 'a name with a line end, as jsonl' 3 sh -c "cd '$lines' && '$all' -q --format jsonl ."
+wanted <<'END'
+{"file":".","text":"search failed","unit":"unchecked"}
+{"code":"Z05","file":"one.pfb","index":4,"key":"BlueValues","number":1,"text":"zones too near","unit":"font"}
+--
+.: t1check: search failed
+END
+try "a name that isn't UTF-8, as jsonl" 3 sh -c "cd '$bytes' && '$all' -q --format jsonl ."
 
 # Shards in a form: one behind the other they are the whole, of which each line has one.
 limited "$all" -q "$fonts" >whole 2>/dev/null

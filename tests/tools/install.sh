@@ -11,7 +11,7 @@ leave_home
 copy=$scratch/copy
 mkdir -p "$copy/docs" "$scratch/shells"
 cp -R "$top/bin" "$top/man" "$top/completions" "$copy/"
-for tool in t1check t1format t1draw; do
+for tool in t1check t1check_all t1format t1draw; do
     mkdir -p "$copy/crates/$tool/out"
     cp "$top/crates/$tool/out/$tool" "$copy/crates/$tool/out/"
     : >"$copy/crates/$tool/out/built"
@@ -58,6 +58,7 @@ wanted <<'END'
 ./bin/t1draw
 ./bin/t1explain
 ./bin/t1format
+./libexec/t1check/t1check_all
 ./share/bash-completion/completions/t1check
 ./share/bash-completion/completions/t1check-all
 ./share/bash-completion/completions/t1draw
@@ -86,6 +87,13 @@ glyphs.pfb: 3: glyph A 5 6 P03 closepath without a path
 --
 END
 try 'an installed t1check-all' 1 "$prefix/bin/t1check-all" -q --only P03 glyphs.pfb
+try 'an installed t1check-all, of two parts' 1 "$prefix/bin/t1check-all" -q -j2 --only P03 glyphs.pfb edge.pfb
+echo 0123abc >"$prefix/share/t1check/commit"
+wanted <<'END'
+t1check-all of commit 0123abc
+--
+END
+try 'the version of an installed t1check-all' 0 "$prefix/bin/t1check-all" --version
 wanted <<'END'
 3: glyph A 5 6 P03 closepath without a path
 --
@@ -127,6 +135,8 @@ try 'taking away' 0 "$top/bin/install" --prefix "$prefix" --remove
 wanted <<'END'
 ./bin/foreign
 ./foreign
+./libexec/foreign
+./libexec/t1check/foreign
 ./share/bash-completion/completions/foreign
 ./share/bash-completion/foreign
 ./share/fish/foreign
@@ -216,7 +226,8 @@ try 'a relative prefix' 0 sed -n '1p; /^export PATH=/p' given
 wanted <<'END'
 --
 END
-try 'what others may not read' 0 find there/below/bin there/below/share ! -perm -044 -o -type d ! -perm -055
+try 'what others may not read' 0 find there/below/bin there/below/libexec there/below/share ! -perm -044 -o -type d ! -perm -055
+try 'what others may not run' 0 find there/below/bin there/below/libexec ! -perm -055
 
 # Files of an older version, which had more, go.
 echo share/t1check/old >>there/below/share/t1check/installed

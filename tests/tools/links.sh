@@ -20,6 +20,8 @@ edge.pfb: 1: glyph A - 9 H02 stems overlap
 --
 END
     try "t1check-all, $place" 1 "linked/$place/t1check-all" -q edge.pfb
+    ln -sf "$place/t1check-all" linked/check
+    try "a link to t1check-all, $place" 1 linked/check -q edge.pfb
     wanted <<'END'
 1: glyph A - 9 H02 stems overlap
 --

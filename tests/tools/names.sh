@@ -1,30 +1,29 @@
 #!/bin/sh
-# Tries which fonts t1check-all checks, and in which order: names that are odd, links, fonts that are missing or can't be read, folders that
-# are empty or can't be searched.
+# Tries which fonts t1check-all checks, and in which order: names that are odd, lists of names, globs, links, fonts that are missing or can't
+# be read, folders that are empty or can't be searched.
 
 # shellcheck source=tests/tools/common.sh
 . "$(dirname "$0")/common.sh"
 
 cd "$odd" || exit 1
-wanted <<END
+wanted <<'END'
 -dash/-x.pfb: 1: glyph A - 9 H02 stems overlap
 a=b.t1: 1: glyph C - 9 K02 seac code not in StandardEncoding
-back\\slash.pfb: 1: font file 0 F01 no end segment
-$byte.pfb: 1: font file 0 F01 no end segment
+back\slash.pfb: 1: font file 0 F01 no end segment
 cut.pfa: refused: E03 segment cut short
 q'"uote.PFB: 1: glyph A - 9 H02 stems overlap
 sub folder/deep/two words.pfb: 1: font BlueValues 4 Z05 zones too near
 --
-7 fonts: 0 clean, 6 with faults, 1 refused, 0 not checked
-      2 F01 no end segment
+6 fonts: 0 clean, 5 with faults, 1 refused, 0 not checked
       2 H02 stems overlap
+      1 F01 no end segment
       1 K02 seac code not in StandardEncoding
       1 Z05 zones too near
 END
 for jobs in 1 2 7; do
     try "a folder, $jobs at once" 2 "$all" -j "$jobs" .
 done
-try 'a folder by its whole path and without it' 2 "$all" ./ . "./sub folder/deep/two words.pfb"
+try 'a folder by its whole path and without it' 2 "$all" ./ . "./sub folder/deep/two words.pfb" ".//sub folder/"
 
 wanted <<'END'
 sub folder/deep/two words.pfb: 1: font BlueValues 4 Z05 zones too near
@@ -50,6 +49,50 @@ t1check-all: there is no font to check
 t1check-all: 't1check-all --help' says how it is used
 END
 try 'a folder without fonts' 3 "$all" empty
+try 'a list without names' 3 "$all" --files-from /dev/null
+try 'fonts that are all excluded' 3 "$all" --exclude '*.pf*' --exclude 'a?b.t1' --exclude '*.PFB' .
+
+# Lists of names, a line each: after the words that are names themselves, and in the order of their options. An empty line is no name, and
+# the last line may have no end.
+printf 'sub folder\n\n-dash/-x.pfb\n' >"$scratch/list"
+printf '%s' "q'\"uote.PFB" >"$scratch/list2"
+wanted <<'END'
+a=b.t1: 1: glyph C - 9 K02 seac code not in StandardEncoding
+sub folder/deep/two words.pfb: 1: font BlueValues 4 Z05 zones too near
+-dash/-x.pfb: 1: glyph A - 9 H02 stems overlap
+q'"uote.PFB: 1: glyph A - 9 H02 stems overlap
+--
+END
+for jobs in 1 4; do
+    try "lists of names, $jobs at once" 1 "$all" -q -j "$jobs" --files-from "$scratch/list" a=b.t1 --files-from="$scratch/list2"
+    # shellcheck disable=SC2016
+    try "a list on standard input, $jobs at once" 1 sh -c '"$0" -q -j "$1" --files-from - a=b.t1 --files-from "$2/list2" <"$2/list"' \
+        "$all" "$jobs" "$scratch"
+    # shellcheck disable=SC2016
+    try "a list on standard input that is read twice, $jobs at once" 1 sh -c '{ cat "$2/list"; echo "q'\''\"uote.PFB"; } |
+        "$0" -q -j "$1" --files-from - a=b.t1 --files-from -' "$all" "$jobs" "$scratch"
+done
+wanted <<'END'
+--
+t1check-all: nowhere can't be read
+t1check-all: 't1check-all --help' says how it is used
+END
+try 'a list that is missing' 3 "$all" --files-from nowhere a=b.t1
+
+# Globs: one without a slash matches the last part of a name too, one with a slash all of it.
+wanted <<'END'
+a=b.t1: 1: glyph C - 9 K02 seac code not in StandardEncoding
+q'"uote.PFB: 1: glyph A - 9 H02 stems overlap
+--
+END
+try 'excluded fonts' 1 "$all" -q --exclude='-x*' --exclude='sub folder/**' --exclude 'cut.pf[ab]' --exclude 'back?slash.pfb' .
+try 'excluded fonts, by their whole names' 1 "$all" -q --exclude '*/-x.pfb' --exclude '*/*/*.pfb' --exclude '[!aq]*' .
+wanted <<'END'
+-dash/-x.pfb: 1: glyph A - 9 H02 stems overlap
+a=b.t1: 1: glyph C - 9 K02 seac code not in StandardEncoding
+--
+END
+try 'globs that match nothing' 1 "$all" -q --exclude 'dash/*' --exclude '?.pfb' --exclude 'a=b' --exclude '' -- -dash a=b.t1
 
 wanted <<'END'
 one.pfb: 1: font BlueValues 4 Z05 zones too near
@@ -69,6 +112,32 @@ wanted <<'END'
 t1check-all: a name with a line end is passed over
 END
 try 'a word with a line end, and an empty shard' 3 "$all" -q --shard 1/2 "$(printf 'two\nlines.pfb')" edge.pfb
+
+# An excluded name isn't skipped for its line end.
+wanted <<'END'
+one.pfb: 1: font BlueValues 4 Z05 zones too near
+--
+END
+# shellcheck disable=SC2016
+try 'a name with a line end that is excluded' 1 sh -c 'cd "$1" && "$0" -q --exclude "two*" .' "$all" "$lines"
+
+# Names that aren't UTF-8: below a folder, which so isn't searched whole; as a word, and in a list.
+wanted <<'END'
+one.pfb: 1: font BlueValues 4 Z05 zones too near
+--
+.: t1check: search failed
+END
+# shellcheck disable=SC2016
+try "a name that isn't UTF-8 below a folder" 3 sh -c 'cd "$1" && "$0" -q .' "$all" "$bytes"
+wanted <<'END'
+one.pfb: 1: font BlueValues 4 Z05 zones too near
+--
+t1check-all: a name with a line end is passed over
+END
+# shellcheck disable=SC2016
+try "a word that isn't UTF-8" 3 sh -c 'cd "$1" && "$0" -q "$(printf "b\377d.pfb")" one.pfb' "$all" "$bytes"
+# shellcheck disable=SC2016
+try "a name that isn't UTF-8 in a list" 3 sh -c 'cd "$1" && printf "one.pfb\nb\377d.pfb\n" | "$0" -q --files-from -' "$all" "$bytes"
 
 # Links: a folder that is named may be one. Below a folder a link to a font is a font, and one to a folder is skipped, whatever its name.
 mkdir named links
@@ -101,7 +170,7 @@ try 'blanks at the ends of names' 1 "$all" -q ' front.pfb' 'back.pfb '
 as=''
 if [ "$(id -u)" -ne 0 ]; then
     as='sh -c'
-elif chmod 755 "$scratch" && su -s /bin/sh nobody -c "test -x '$top/crates/t1check/out/t1check' && test -x '$all'" 2>/dev/null; then
+elif chmod 755 "$scratch" && su -s /bin/sh nobody -c "test -x '$checker' && test -x '$all'" 2>/dev/null; then
     as='su -s /bin/sh nobody -c'
 else
     echo "skipped: unreadable fonts, waivers and folders, since nobody may not run $all"
@@ -126,11 +195,30 @@ END
     wanted <<'END'
 shut/edge.pfb: 1: glyph A - 9 H02 stems overlap
 --
+shut/inner: t1check: search failed
 END
-    # What is printed of the folder are words of find.
     # shellcheck disable=SC2086
-    try "a folder that can't be searched" 3 $as "cd '$scratch' && '$all' -q shut 2>/dev/null"
+    try "a folder that can't be searched" 3 $as "cd '$scratch' && '$all' -q shut"
     chmod 755 shut/inner
+    mkdir locked
+    cp edge.pfb locked
+    echo '1 C05 glyph A elsewhere.pfb' >locked/known
+    chmod 666 locked/known
+    chmod 555 locked
+    wanted <<'END'
+--
+t1check-all: known can't be written
+END
+    # shellcheck disable=SC2086
+    try "known faults in a folder that can't be written" 3 $as "cd '$scratch/locked' &&
+        '$all' -q --baseline known --update-baseline edge.pfb"
+    wanted <<'END'
+--
+t1check-all: edge.pfb.waivers can't be written
+END
+    # shellcheck disable=SC2086
+    try "waivers in a folder that can't be written" 3 $as "cd '$scratch/locked' && '$all' -q --write-waivers edge.pfb"
+    chmod 755 locked
 fi
 
 finish

@@ -78,6 +78,27 @@ glyphs.pfb: refused: E14 waivers malformed
 --
 END
 try 'malformed waivers' 2 "$all" -q glyphs.pfb
+
+# Waivers past 1,048,576 bytes aren't read, so they aren't written. The first font has 8,192 lines of 128 bytes, the other one byte more.
+awk 'BEGIN { for (i = 1; i <= 8192; i++) printf "%0123d 1\n", i }' | make_font most.pfa
+awk 'BEGIN { for (i = 1; i <= 8191; i++) printf "%0123d 1\n", i; printf "%0124d 1\n", i }' | make_font past.pfa
+wanted <<'END'
+--
+past.pfa: too many waivers
+END
+for jobs in 1 2; do
+    rm -f most.pfa.waivers
+    try "too many waivers, $jobs at once" 3 "$all" -q -j "$jobs" --write-waivers most.pfa past.pfa
+done
+wanted <<'END'
+ 1048576 most.pfa.waivers
+--
+END
+try 'the most waivers' 0 sh -c 'wc -c most.pfa.waivers | sed "s/^ */ /"; [ ! -e past.pfa.waivers ]'
+wanted <<'END'
+--
+END
+try 'the most waivers beside a font' 0 "$all" -q most.pfa
 awk 'BEGIN { print "A H02"; for (i = 1; i <= 5000; i++) print "g" i " C05" }' >edge.pfb.waivers
 awk 'BEGIN { for (i = 1; i <= 5000; i++) print "edge.pfb: " i ": waiver g" i " C05 U01 waiver not used"; print "--" }' >wanted
 try 'five thousand waivers' 1 "$all" -q edge.pfb

@@ -1,19 +1,18 @@
 #!/bin/sh
-# Tries how t1check-all shares fonts out: as many at once as -j says, each font once, lines in the order of the list; and that it ends
-# where a worker dies, or where a signal to a worker is lost.
+# Tries how t1check-all splits a list into parts: as many at once as -j says, or as there are processors, each font once, lines in the order
+# of the list, and progress on a terminal.
 
 # shellcheck source=tests/tools/common.sh
 . "$(dirname "$0")/common.sh"
 
-# A program in t1check's place, which keeps the word of its font. For pair it ends well only if pair2 runs at the same time, for alone only
-# if no other alone does. For early it waits until late has begun, for parent it kills the worker, and for sleep it runs longer than a test
-# may.
-stand_in pair pair2 alone alone2 early middle late parent clean sleep <<END
-#!/bin/sh
-read -r word
-echo "\$word" >>'$scratch/runs'
+cp "$fonts/F01.pfb" first.pfb
+cp "$fonts/F01.pfb" second.pfb
+cp "$fonts/F01.pfb" third.pfb
 
-# Waits for a condition, a command, for 20 seconds at most.
+# In the program's place it keeps each call, as `--part 2`, and does what the file `act` says. There `await` waits for a condition, a command,
+# for 20 seconds at most.
+stand_in <<END
+#!/bin/sh
 await() {
     turn=0
     until "\$@"; do
@@ -22,75 +21,99 @@ await() {
         turn=\$((turn + 1))
     done
 }
+case \$1 in
+    --part) call="\$1 \$3" ;;
+    *) call=\$1 ;;
+esac
+echo "\$call" >>'$scratch/calls'
+. '$scratch/act'
+exec "\$checker" "\$@"
+END
 
-case \$word in
-    pair) : >'$scratch/here' && await [ -e '$scratch/there' ] ;;
-    pair2) : >'$scratch/there' && await [ -e '$scratch/here' ] ;;
-    alone*) mkdir '$scratch/lock' 2>/dev/null || exit 9; sleep 1; rmdir '$scratch/lock' ;;
-    early) await [ -e '$scratch/late' ]; echo '1: font file 0 F01 no end segment'; exit 1 ;;
-    middle) echo '1: font file 0 F01 no end segment'; exit 1 ;;
-    late) : >'$scratch/late' ;;
-    parent) kill -s KILL \$PPID ;;
-    sleep) exec sleep 100 ;;
+# Each of two parts ends well only if the other one runs at the same time.
+cat >act <<END
+case \$call in
+    '--part 1') : >'$scratch/here' && await [ -e '$scratch/there' ] ;;
+    '--part 2') : >'$scratch/there' && await [ -e '$scratch/here' ] ;;
 esac
 END
 wanted <<'END'
+first.pfb: 1: font file 0 F01 no end segment
+second.pfb: 1: font file 0 F01 no end segment
 --
 END
-try 'two at once' 0 "$stand/bin/t1check-all" -q -j2 pair.pfb pair2.pfb
-try 'one at once' 0 "$stand/bin/t1check-all" -q -j1 alone.pfb alone2.pfb
+try 'two at once' 1 "$stand/bin/t1check-all" -q -j2 first.pfb second.pfb
 
-# One of two workers has the first font until the other has checked the second and begun with the third. So lines of the second come first.
+# The first part begins once the second one has ended.
+cat >act <<END
+case \$call in
+    '--part 1') await [ -e '$scratch/ended' ] ;;
+    '--part 2') "\$checker" "\$@" && : >'$scratch/ended'; exit ;;
+esac
+END
 wanted <<'END'
-early.pfb: 1: font file 0 F01 no end segment
-middle.pfb: 1: font file 0 F01 no end segment
+first.pfb: 1: font file 0 F01 no end segment
+second.pfb: 1: font file 0 F01 no end segment
+third.pfb: 1: font file 0 F01 no end segment
 --
 END
-try 'lines in the order of the list' 1 "$stand/bin/t1check-all" -qj2 early.pfb middle.pfb late.pfb
+try 'lines in the order of the list' 1 "$stand/bin/t1check-all" -qj2 first.pfb second.pfb third.pfb
 
-# Of 40 fonts a single worker takes five at a time, each of two takes two, and each of forty one.
+# Forty fonts, each with a line: by one part, which needs no others, by a few, by one for each font, and by one for each processor, of which
+# there are three here.
+mkdir forty kit
+printf '#!/bin/sh\necho 3\n' >kit/getconf
+chmod +x kit/getconf
+: >act
 awk 'BEGIN { for (number = 101; number <= 140; number++) print number }' >numbers
-mkdir forty
 while read -r number; do
-    echo "$number" >"forty/$number.pfb"
+    cp "$fonts/F01.pfb" "forty/$number.pfb"
 done <numbers
-for jobs in 1 2 40; do
-    : >runs
-    wanted <<'END'
---
-40 fonts: 40 clean, 0 with faults, 0 refused, 0 not checked
-END
-    try "forty fonts, $jobs at once" 0 "$stand/bin/t1check-all" -j "$jobs" forty
-    { cat numbers && echo --; } >wanted
-    try "each of forty fonts once, $jobs at once" 0 sort runs
+{
+    sed 's|.*|forty/&.pfb: 1: font file 0 F01 no end segment|' numbers
+    echo '--'
+    echo '40 fonts: 0 clean, 40 with faults, 0 refused, 0 not checked'
+    echo '     40 F01 no end segment'
+} >forty.wanted
+for jobs in 1 2 3 40 50 ''; do
+    : >calls
+    cat forty.wanted >wanted
+    try "forty fonts, ${jobs:-three} at once" 1 env PATH="$scratch/kit:$PATH" "$stand/bin/t1check-all" ${jobs:+-j "$jobs"} forty
+    parts=${jobs:-3}
+    [ "$parts" -le 40 ] || parts=40
+    {
+        echo '--plan'
+        if [ "$parts" -eq 1 ]; then
+            echo '--all'
+        else
+            awk -v parts="$parts" 'BEGIN { for (part = 1; part <= parts; part++) print "--part " part }'
+            echo '--join'
+        fi
+    } | sort >wanted
+    echo '--' >>wanted
+    try "calls for forty fonts, ${jobs:-three} at once" 0 sort calls
 done
 
-# The only worker dies before it reports its font, so no worker is left. Some shells print a line of their own on that.
-wanted <<'END'
+# Progress is on standard error, where that is a terminal, and is cleared before the summary.
+if [ "$(script -qec 'echo shown' /dev/null </dev/null 2>/dev/null | tr -d '\r')" = shown ]; then
+    for jobs in 1 3; do
+        limited script -qec "'$all' -j$jobs forty 2>&1 >/dev/null" /dev/null </dev/null >given
+        wanted <<'END'
+40 fonts: 0 clean, 40 with faults, 0 refused, 0 not checked
+     40 F01 no end segment
 --
-t1check-all: write failed
 END
-try 'a worker that dies' 3 sh -c "'$stand/bin/t1check-all' -q -j1 clean.pfb parent.pfb middle.pfb 2>given
-    given=\$?
-    tail -n 1 given >&2
-    exit \$given"
-
-# The first signal of a run is lost, as one to a worker that was just forked can be. A row that is none ends the run while its worker is
-# busy.
-cat >"$stand/bin/lossy" <<END
-#!/bin/sh
-kill() {
-    mkdir '$scratch/lost' 2>/dev/null || command kill "\$@"
-}
-. '$stand/bin/t1check-all'
-END
-chmod +x "$stand/bin/lossy"
-echo 'no row' >known
-wanted <<'END'
+        # shellcheck disable=SC2016
+        try "progress, $jobs at once" 0 sh -c 'tr -d "\r" <given | sed "s/^.*$(printf "\033")\[K//"'
+        grep -q "^$(printf '\r')[0-9]* of 40$(printf '\033')\[K" given || fail "progress, $jobs at once: none"
+        limited script -qec "'$all' -q -j$jobs forty 2>&1 >/dev/null" /dev/null </dev/null >given
+        wanted <<'END'
 --
-t1check-all: no row of known faults: no row
 END
-try 'a signal to a worker that is lost' 3 "$stand/bin/lossy" -q -j1 --baseline known sleep.pfb
-[ -e lost ] || fail 'a signal to a worker that is lost: none was sent'
+        try "no progress, $jobs at once" 0 cat given
+    done
+else
+    echo 'skipped: progress, since script is not here'
+fi
 
 finish

@@ -1,0 +1,109 @@
+//! What the words call for: a whole run, or a step of one that is split into parts.
+
+use crate::joining::join_parts;
+use crate::parts::{check_listed, check_part};
+use crate::planning::plan;
+use crate::usage::version;
+use crate::whole::check_whole;
+use std::alloc::{AllocError, Global};
+use std::io::Write;
+use t1_batch::PROGRAM;
+use t1_io::Out;
+use t1_options::{Options, Request, options};
+use t1_run::{Status, UsageError, explain};
+
+/// A step of a run, with its folder. The words of the run stand behind it.
+#[derive(Clone, Copy)]
+pub(crate) enum Step<'a> {
+    /// Lists the fonts, for so many processors.
+    Plan {
+        folder: &'a str,
+        processors: &'a str,
+    },
+    /// Checks the fonts of a part, whose number stands here.
+    Part {
+        folder: &'a str,
+        number: &'a str,
+    },
+    /// Checks the fonts that were listed, in this process.
+    All {
+        folder: &'a str,
+    },
+    /// Joins the parts.
+    Join {
+        folder: &'a str,
+    },
+}
+
+/// Answers the words, the program's name first.
+pub(crate) fn call_of<W: Write + Drop, E: Write + Drop>(
+    rt: &HostRuntime,
+    words: &[String],
+    out: Out<W>,
+    errors: Out<E>,
+) -> Status {
+    let mut out = out;
+    let mut errors = errors;
+    let (step, start) = step_in(words);
+    let words = words.get(start..).unwrap_or(&[]);
+    match (request_in(rt.alloc(), words), step) {
+        (Ok(Request::Check(options)), None) => check_whole(rt, options, out, errors),
+        (Ok(Request::Check(options)), Some(step)) => take_step(rt, step, options, out, errors),
+        (Ok(Request::Version), step) => version(rt, step, &mut out, &mut errors),
+        (Err(error), _) => explain(PROGRAM, &error, &mut out, &mut errors),
+    }
+}
+
+/// What the words of a run request.
+fn request_in(alloc: Global, words: &[String]) -> Result<Request, UsageError> {
+    let words = named(alloc, words)?;
+    options(alloc, words.as_slice())
+}
+
+/// Words with the program's name in front, which is in the texts of usage errors.
+fn named(alloc: Global, words: &[String]) -> Result<Vec<&str>, AllocError> {
+    let mut all = Vec::new(alloc);
+    all.push(PROGRAM)?;
+    for word in words {
+        all.push(word.as_str())?;
+    }
+    Ok(all)
+}
+
+/// The step that the words call for, if any, and where the words of the run begin.
+fn step_in(words: &[String]) -> (Option<Step<'_>>, usize) {
+    let word = |place: usize| match words.get(place) {
+        Some(word) => word.as_str(),
+        None => "",
+    };
+    let folder = word(2);
+    match word(1) {
+        "--plan" if 3 < words.len() => {
+            let processors = word(3);
+            (Some(Step::Plan { folder, processors }), 4)
+        }
+        "--part" if 3 < words.len() => {
+            let number = word(3);
+            (Some(Step::Part { folder, number }), 4)
+        }
+        "--all" if 2 < words.len() => (Some(Step::All { folder }), 3),
+        "--join" if 2 < words.len() => (Some(Step::Join { folder }), 3),
+        _ => (None, 1),
+    }
+}
+
+/// Takes a step of a run with these options.
+fn take_step<W: Write + Drop, E: Write + Drop>(
+    rt: &HostRuntime,
+    step: Step<'_>,
+    options: Options,
+    out: Out<W>,
+    errors: Out<E>,
+) -> Status {
+    match step {
+        Step::Plan { folder, processors } => { plan(rt, folder, processors, &options, out, errors) }
+        Step::Part { folder, number } => check_part(rt, folder, number, options, errors),
+        Step::All { folder } => check_listed(rt, folder, options, out, errors),
+        Step::Join { folder } => join_parts(rt, folder, options, out, errors),
+    }
+}
