@@ -153,7 +153,7 @@ for signal in $signals; do
     done
 done
 
-# A signal while progress is shown: the line is cleared.
+# A signal while progress is shown: the line is cleared. `exec`, since a shell that waited for the run would itself tell of its end.
 if [ "$(script -qec 'echo shown' /dev/null </dev/null 2>/dev/null | tr -d '\r')" = shown ]; then
     echo --part >when
     : >"$scratch/running"
@@ -165,7 +165,7 @@ if [ "$(script -qec 'echo shown' /dev/null </dev/null 2>/dev/null | tr -d '\r')"
         done
         kill -s TERM "$(cat "$scratch/main")"
     ) &
-    limited env TMPDIR="$scratch/tmp" script -qec "sh -c 'echo \$\$ >\"$scratch/main\"
+    limited env TMPDIR="$scratch/tmp" script -qec "exec sh -c 'echo \$\$ >\"$scratch/main\"
         exec \"$stand/bin/t1check-all\" -j2 first.pfb second.pfb'" /dev/null </dev/null >given 2>/dev/null
     status=$?
     wait
