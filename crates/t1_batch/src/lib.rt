@@ -19,5 +19,5 @@ pub use ending::{Codes, Ended, end, status_of};
 pub use mode::{Mode, Selection};
 pub use running::{Left, PROGRAM, Ran, conclude, run, tell_lost};
 pub use shards::names_of_part;
-pub use unlisted::Unlisted;
+pub use unlisted::{Unlisted, give_unlisted};
 pub use writing::{Output, Written, write_fonts};

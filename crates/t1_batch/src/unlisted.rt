@@ -29,7 +29,7 @@ impl<'a> Unlisted<'a> {
 }
 
 /// Gives a formatter what couldn't be listed: for each name that was passed over that it was, then the folders.
-pub(crate) fn give_unlisted<T: Formatter, W: Sink>(
+pub fn give_unlisted<T: Formatter, W: Sink>(
     alloc: Global,
     unlisted: Unlisted<'_>,
     formatter: &mut T,
