@@ -1,12 +1,12 @@
 #!/bin/sh
-# Tries when the scripts in bin/ build their programs: where there is none yet, and where a source is newer. Where a build fails, no program
-# runs.
+# Tries when the scripts in bin/ build their programs: where there is none yet, and where a source is newer. They show how far a build is.
+# Where it fails, no program runs.
 
 # shellcheck source=tests/tools/common.sh
 . "$(dirname "$0")/common.sh"
 
-# A script in the place of rt prints where it runs and its words, and makes a program that prints its own name and words. A file `fails`
-# makes it fail, a file `edit` makes it edit a source in the middle of its work.
+# A script in the place of rt keeps where it runs and its words, prints what rt prints of two functions, and makes a program that prints its own
+# name and words, or the stamp of a library. A file `fails` makes it fail, a file `edit` makes it edit a source in the middle of its work.
 build=$scratch/build
 mkdir -p "$build/crates/t1check/src" "$build/crates/t1check_all/src" "$build/crates/t1format/src" "$build/crates/t1draw/src" "$scratch/kit"
 mkdir -p "$build/crates/t1_x/specs/deep" "$build/crates/t1_x/proofs" "$build/docs"
@@ -19,15 +19,26 @@ tool=${PWD##*/}
 echo "$tool: rt $*" >>../../runs
 [ ! -e ../../fails ] || { echo 'not proved' >&2; exit 1; }
 [ ! -e ../../edit ] || { sleep 1; mv ../../edit src/edit.rt; touch src/edit.rt; sleep 1; }
+echo 'checked t1_x::first, 1 of 2'
+echo 'checked t1_x::second, 2 of 2'
+[ "$1" = run ] || { mkdir -p out/rlib && : >out/rlib/stamp; exit; }
 printf '#!/bin/sh\necho "${0##*/}: $*"\n' >"out/$tool" && chmod +x "out/$tool"
 END
 chmod +x "$scratch/kit/rt"
-for tool in t1check t1format t1format t1draw t1draw t1check; do
+for tool in t1check t1format t1draw; do
+    wanted <<END
+$tool: a  b
+--
+$tool: proving and building crate 1 of 1, $tool
+END
+    try "building $tool" 0 env PATH="$scratch/kit:$PATH" "$build/bin/$tool" 'a  b'
+done
+for tool in t1draw t1format t1check; do
     wanted <<END
 $tool: a  b
 --
 END
-    try "building $tool" 0 env PATH="$scratch/kit:$PATH" "$build/bin/$tool" 'a  b'
+    try "$tool, which is built" 0 env PATH="$scratch/kit:$PATH" "$build/bin/$tool" 'a  b'
 done
 # t1check-all's program gets a folder of its own and a number, which aren't the same in each run.
 cat >"$scratch/plan" <<END
@@ -36,13 +47,19 @@ END
 wanted <<'END'
 t1check_all: --plan a  b
 --
+t1check_all: proving and building crate 1 of 1, t1check_all
 END
 try 'building t1check-all' 0 sh "$scratch/plan" 'a  b'
+wanted <<'END'
+t1check_all: --plan a  b
+--
+END
 try 'building t1check-all once' 0 sh "$scratch/plan" 'a  b'
 touch -t 203001010000 "$build/crates/t1check/src/new.rt"
 wanted <<'END'
 t1check: a  b
 --
+t1check: proving and building crate 1 of 1, t1check
 END
 try 'building t1check anew' 0 env PATH="$scratch/kit:$PATH" "$build/bin/t1check" 'a  b'
 wanted <<'END'
@@ -67,7 +84,7 @@ for source in crates.txt crates/t1_x/specs/new.antt crates/t1_x/specs/deep/new.a
     : >"$build/runs"
     touch -t 203001010000 "$build/$source"
     # shellcheck disable=SC2016
-    try "building for $source" 0 env PATH="$scratch/kit:$PATH" sh -c '"$0/bin/t1check" a
+    try "building for $source" 0 env PATH="$scratch/kit:$PATH" sh -c '"$0/bin/t1check" a 2>/dev/null
         touch -t 200001010000 "$0/$1"
         "$0/bin/t1check" a
         echo built $(wc -l <"$0/runs")' "$build" "$source"
@@ -85,20 +102,82 @@ built 2
 --
 END
 # shellcheck disable=SC2016
-try 'a source that is edited during a build' 0 env PATH="$scratch/kit:$PATH" sh -c '"$0/bin/t1check" a
+try 'a source that is edited during a build' 0 env PATH="$scratch/kit:$PATH" sh -c '"$0/bin/t1check" a 2>/dev/null
     touch -t 200001010000 "$0/crates.txt"
-    "$0/bin/t1check" a
+    "$0/bin/t1check" a 2>/dev/null
     "$0/bin/t1check" a
     echo built $(wc -l <"$0/runs")' "$build"
+
+# The libraries below a program are proved first, each once, and those above one that has changed.
+mkdir -p "$build/crates/t1_y/src" "$build/crates/t1_z/src"
+printf 't1_x:\nt1_z:\nt1_y: t1_x hex\nt1check: t1_y clap\n' >"$build/crates.txt"
+touch -t 200001010000 "$build/crates.txt"
+show() {
+    : >"$build/runs"
+    rm -f "$build/crates/t1check/out/built"
+    wanted
+    try "$1" 0 env PATH="$scratch/kit:$PATH" "$build/bin/t1check" a
+}
+show 'building libraries' <<'END'
+t1check: a
+--
+t1check: proving crate 1 of 3, t1_x
+t1check: proving crate 2 of 3, t1_y
+t1check: proving and building crate 3 of 3, t1check
+END
+show 'libraries that are built' <<'END'
+t1check: a
+--
+t1check: proving and building crate 3 of 3, t1check
+END
+touch -t 203001010000 "$build/crates/t1_y/src/new.rt"
+show 'a library that has changed' <<'END'
+t1check: a
+--
+t1check: proving crate 2 of 3, t1_y
+t1check: proving and building crate 3 of 3, t1check
+END
+touch -t 200001010000 "$build/crates/t1_y/src/new.rt"
+wanted <<'END'
+t1_y: rt check
+t1check: rt run -- --help
+--
+END
+try 'what was proved' 0 cat "$build/runs"
+
+# On a terminal one line moves, and is cleared.
+if [ "$(limited script -qec 'echo here' /dev/null </dev/null 2>/dev/null | tr -d '\r')" = here ]; then
+    rm -f "$build/crates/t1check/out/built"
+    printf '\r%s\033[K' 't1check: proving and building crate 3 of 3, t1check' >"$scratch/moved"
+    for function in '1 of 2' '2 of 2'; do
+        printf '\r%s\033[K' "t1check: proving and building crate 3 of 3, t1check, function $function" >>"$scratch/moved"
+    done
+    printf '\r\033[Kt1check: a\r\n' >>"$scratch/moved"
+    limited env PATH="$scratch/kit:$PATH" script -qec "exec '$build/bin/t1check' a" /dev/null </dev/null >"$scratch/shown"
+    if cmp -s "$scratch/moved" "$scratch/shown"; then
+        pass
+    else
+        fail "a build on a terminal: $(cat "$scratch/shown")"
+    fi
+else
+    echo 'skipped: a build on a terminal, since script is not here'
+fi
+: >"$build/crates.txt"
 
 # The program of an earlier build is there, and does not run.
 : >"$build/fails"
 touch -t 203001010000 "$build/crates.txt"
 wanted <<'END'
 --
+t1check: proving and building crate 1 of 1, t1check
 not proved
 END
 try 'a build that fails' 3 env PATH="$scratch/kit:$PATH" "$build/bin/t1check" a
+wanted <<'END'
+--
+t1check_all: proving and building crate 1 of 1, t1check_all
+not proved
+END
 try 'a build of t1check-all that fails' 3 env PATH="$scratch/kit:$PATH" "$build/bin/t1check-all" a
 
 finish
