@@ -1,3 +1,4 @@
+pub mod CommandParts
 pub mod Floats
 pub mod NotTold
 pub mod OneObject

@@ -1,9 +1,11 @@
 -- The statements of laws.
-use Rattle.std.specs.Prelude.{◌≡◌, ◌<◌, ℕ, List, Option, Some, IfSome}
-use Rattle.std.specs.List.{AllByRecursion}
+use Rattle.std.specs.Prelude.{◌≡◌, ◌<◌, ◌==◌, ◌||◌, ℕ, Bool, false, List, Option, Some, IfSome}
+use Rattle.std.specs.List.{AllByRecursion, flat_map, list_any}
 use Rattle.t1_lines.specs.Lines.{IsLine, LineValue, PlaceValue, at_key, at_step, at_waiver, of_fault, of_refusal, spelled}
+use Rattle.t1_forms.specs.Commands.{message_byte, property_byte}
 use Rattle.t1_forms.specs.NameWords.{name_of_word}
 use Rattle.t1_forms.specs.Objects.{object_of}
+use Rattle.t1_forms.specs.Percents.{decoded}
 use Rattle.t1_forms.specs.Shown.{shown}
 use Rattle.t1_forms.specs.Tellings.{IsWhat, ToldValue, WhatValue, behind_name, of_line, of_unchecked}
 
@@ -41,3 +43,21 @@ pub record IsOfBytes (t : ToldValue) : Type 0 where
 abbrev pub DifferentTellingsHaveDifferentObjects : Type 0
 DifferentTellingsHaveDifferentObjects =
     (a b : ToldValue) → IsOfBytes a → IsOfBytes b → object_of a ≡ object_of b → a ≡ b
+
+-- What a command shows, and the value of a property, are read back as they were.
+abbrev pub CommandsAreReadBack : Type 0
+CommandsAreReadBack =
+    (text : List ℕ) → (decoded (flat_map message_byte text) ≡ Some text) × (decoded (flat_map property_byte text) ≡ Some text)
+
+-- A line end would end a command, and `:` and `,` the value of a property too.
+abbrev pub ends_message : ℕ → Bool
+ends_message byte = byte == 10 || byte == 13
+
+abbrev pub ends_property : ℕ → Bool
+ends_property byte = ends_message byte || (byte == 58 || byte == 44)
+
+-- No such byte is in what a command shows, or in such a value.
+abbrev pub PartsStayInCommands : Type 0
+PartsStayInCommands =
+    (text : List ℕ)
+    → (list_any ends_message (flat_map message_byte text) ≡ false) × (list_any ends_property (flat_map property_byte text) ≡ false)

@@ -1,6 +1,8 @@
+pub mod Commands
 pub mod Laws
 pub mod NameWords
 pub mod Objects
+pub mod Percents
 pub mod Private
 pub mod Shown
 pub mod Tellings

@@ -1,7 +1,14 @@
 //! Commands of a workflow of GitHub, by which it shows a line at the file that it speaks of.
 
+ghost use Rattle.std.specs.Prelude.{◌≡◌, ◌++◌, codes, ◌∷◌, [], IfNone, IfSome, option_map};
+ghost use Rattle.std.specs.List.{flat_map};
+ghost use Rattle.t1_io.specs.Devices.{Writes};
+ghost use Rattle.t1_forms.specs.Commands.{command_kind, command_of, file_property, message_byte, property_byte, title_code, title_text};
+ghost use Rattle.t1_forms.specs.Private.Escapes.{byte_in};
+ghost use Rattle.t1_forms.specs.Tellings.{told_value, what_value};
+
 use crate::objects::{refusal_code, refusal_reason};
-use crate::{FormatError, Told, What};
+use crate::{Told, What};
 use t1_io::{Broken, Sink, put_all, put_parts};
 use t1_lines::Line;
 use t1_rules::{rule_code, rule_text};
@@ -15,8 +22,11 @@ enum Part {
     Message,
 }
 
-/// What stands for a byte that has a meaning of its own in a part of a command.
-fn escaped(byte: u8, part: Part) -> Option<&'static [u8]> {
+/// What a byte with a meaning of its own is written as.
+fn escaped(byte: u8, part: Part) -> Option<&'static [u8]>
+    ensures some { IfSome result (λ text. text.now ≡ byte_in part byte) }
+    ensures none { IfNone result (byte_in part byte ≡ byte ∷ []) }
+{
     match byte {
         b'%' => Some(b"%25"),
         b'\r' => Some(b"%0D"),
@@ -28,38 +38,79 @@ fn escaped(byte: u8, part: Part) -> Option<&'static [u8]> {
 }
 
 /// Writes a text as a part of a command.
-fn put_escaped<W: Sink>(sink: &mut W, text: &[u8], part: Part) -> Result<(), Broken> {
+fn put_escaped<W: Sink>(sink: &mut W, text: &[u8], part: Part) -> Result<(), Broken>
+    ensures { Writes (W.state sink.old) (W.state sink.new) (flat_map (byte_in part) text.now) result }
+{
     for byte in text {
-        match escaped(*byte, part) {
-            Some(escaped) => put_all(sink, escaped)?,
-            None => put_all(sink, &[*byte])?,
-        }
+        put_byte(sink, *byte, part)?;
     }
     Ok(())
 }
 
-/// Writes a command that shows a line of t1check at the font: a warning of a fault, an error where the font was refused or
-/// wasn't checked. A font has no lines of text, so line 1 is named.
-pub fn write_command<W: Sink>(sink: &mut W, told: &Told<'_>) -> Result<(), FormatError> {
-    let (kind, code, reason): (&[u8], &[u8], &[u8]) = match &told.what {
-        What::Line(Line::Fault(fault)) => (
-            b"warning",
-            rule_code(fault.rule).as_bytes(),
-            rule_text(fault.rule).as_bytes(),
-        ),
-        What::Line(Line::Refusal(code)) => (b"error", refusal_code(*code), refusal_reason(*code)),
-        What::Unchecked(_) => (b"error", b"not", b"checked"),
-    };
-    put_parts(sink, &[b"::", kind, b" "])?;
-    if let Some(font) = told.font {
-        put_all(sink, b"file=")?;
-        put_escaped(sink, font, Part::Property)?;
-        put_all(sink, b",line=1,")?;
+/// Writes a byte as a part of a command.
+fn put_byte<W: Sink>(sink: &mut W, byte: u8, part: Part) -> Result<(), Broken>
+    ensures { Writes (W.state sink.old) (W.state sink.new) (byte_in part byte) result }
+{
+    match escaped(byte, part) {
+        Some(escaped) => put_all(sink, escaped),
+        None => put_all(sink, &[byte]),
     }
-    put_parts(sink, &[b"title=", code, b" "])?;
-    put_escaped(sink, reason, Part::Property)?;
+}
+
+/// The kind of a command.
+fn kind(what: &What<'_>) -> &'static [u8]
+    ensures { result.now ≡ command_kind (what_value what.now) }
+{
+    match what {
+        What::Line(Line::Fault(_)) => b"warning",
+        What::Line(Line::Refusal(_)) | What::Unchecked(_) => b"error",
+    }
+}
+
+/// The code that a command's title begins with.
+fn code(what: &What<'_>) -> &'static [u8]
+    ensures { result.now ≡ title_code (what_value what.now) }
+{
+    match what {
+        What::Line(Line::Fault(fault)) => rule_code(fault.rule).as_bytes(),
+        What::Line(Line::Refusal(code)) => refusal_code(*code),
+        What::Unchecked(_) => b"not",
+    }
+}
+
+/// The rest of its title.
+fn text(what: &What<'_>) -> &'static [u8]
+    ensures { result.now ≡ title_text (what_value what.now) }
+{
+    match what {
+        What::Line(Line::Fault(fault)) => rule_text(fault.rule).as_bytes(),
+        What::Line(Line::Refusal(code)) => refusal_reason(*code),
+        What::Unchecked(_) => b"checked",
+    }
+}
+
+/// Writes the property that names the font.
+fn put_file<W: Sink>(sink: &mut W, font: Option<&[u8]>) -> Result<(), Broken>
+    ensures { Writes (W.state sink.old) (W.state sink.new) (file_property (option_map (λ name. name.now) font.entry)) result }
+{
+    let Some(font) = font else {
+        return Ok(());
+    };
+    put_all(sink, b"file=")?;
+    put_escaped(sink, font, Part::Property)?;
+    put_all(sink, b",line=1,")
+}
+
+/// Writes a command that shows a line of t1check at the font: a warning of a fault, an error where the font was refused or
+/// wasn't checked. A font has no lines of text, so line 1 is named. After a failure a front of the command went out.
+pub fn write_command<W: Sink>(sink: &mut W, told: &Told<'_>) -> Result<(), Broken>
+    ensures { Writes (W.state sink.old) (W.state sink.new) (command_of (told_value told.now) told.now.line.now) result }
+{
+    put_parts(sink, &[b"::", kind(&told.what), b" "])?;
+    put_file(sink, told.font)?;
+    put_parts(sink, &[b"title=", code(&told.what), b" "])?;
+    put_escaped(sink, text(&told.what), Part::Property)?;
     put_all(sink, b"::")?;
     put_escaped(sink, told.line, Part::Message)?;
-    put_all(sink, b"\n")?;
-    Ok(())
+    put_all(sink, b"\n")
 }

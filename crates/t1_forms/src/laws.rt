@@ -1,6 +1,6 @@
 //! Laws above the definitions: each is the contract of a function that does nothing, but for calling the laws on which it rests.
 
-ghost use Rattle.t1_forms.specs.Laws.{ATextTellsOneLine, DifferentTellingsHaveDifferentObjects, ShownNamesAreWords};
+ghost use Rattle.t1_forms.specs.Laws.{ATextTellsOneLine, CommandsAreReadBack, DifferentTellingsHaveDifferentObjects, PartsStayInCommands, ShownNamesAreWords};
 
 use t1_lines::{a_text_is_one_line, no_line_stands_in_another};
 
@@ -23,4 +23,10 @@ pub fn shown_names_are_words()
 /// refusal, or why the font wasn't checked.
 pub fn different_tellings_have_different_objects()
     ensures { DifferentTellingsHaveDifferentObjects }
+{}
+
+/// What a command of GitHub shows, whatever bytes are in it, neither ends the command nor a property, and is read back as it was.
+pub fn commands_are_read_back()
+    ensures read { CommandsAreReadBack }
+    ensures parts { PartsStayInCommands }
 {}

@@ -10,9 +10,10 @@
 //!   one line at most.
 //! - The line of JSON is the compact text of the object that the line read stands for, and nothing else. What is told differently
 //!   has different objects.
+//! - A command of GitHub is the text that its definition says. What it shows stays in its place, and is read back as it was.
 //!
 //! Each is written before the next one is read: memory doesn't grow with the lines, but for fonts that weren't checked, of which
-//! a document keeps at most a thousand. This, the documents of SARIF and GitHub's commands are shown by tests alone.
+//! a document keeps at most a thousand. This, and the documents of SARIF, are shown by tests alone.
 //!
 //! ```
 //! match read_told(b"a.pfb: 1: glyph A - 9 H02 stems overlap") {
@@ -34,7 +35,8 @@ mod told;
 pub use commands::write_command;
 pub use error::FormatError;
 pub use laws::{
-    a_text_tells_one_line, different_tellings_have_different_objects, shown_names_are_words,
+    a_text_tells_one_line, commands_are_read_back, different_tellings_have_different_objects,
+    shown_names_are_words,
 };
 pub use names::shown;
 pub use objects::{object, write_object};

@@ -2,7 +2,7 @@
 
 ghost use Rattle.std.specs.Prelude.{◌≡◌, None};
 
-use crate::formatter::{Formatter, written};
+use crate::formatter::Formatter;
 use std::alloc::Global;
 use t1_forms::{Told, write_command};
 use t1_io::Sink;
@@ -24,7 +24,7 @@ impl Formatter for GitHubCommands {
         sink: &mut W,
         told: &Told<'_>,
     ) -> Result<(), Lost> {
-        written(write_command(sink, told))
+        Ok(write_command(sink, told)?)
     }
 
     fn finish<W: Sink>(self, _alloc: Global, _sink: &mut W) -> Result<(), Lost> {

@@ -1,10 +1,9 @@
 //! The program's run: line by line.
 
-ghost use Rattle.std.specs.Prelude.{◌≡◌, ◌<◌, ◌^◌, ℕ, List, true, Some, IfOk, length, option_map};
+ghost use Rattle.std.specs.Prelude.{◌≡◌, ◌<◌, ◌^◌, ℕ, List, Some, IfOk, length, option_map};
 ghost use Rattle.t1_forms.specs.Tellings.{told_value};
 ghost use Rattle.t1_io.specs.Devices.{Delivered, Wrote};
-ghost use Rattle.t1format.specs.declared.command_line.Form.TheVariants.{JsonLines};
-ghost use Rattle.t1format.specs.Runs.{IsRunOver, font_of, is_json, of_font, passed_line};
+ghost use Rattle.t1format.specs.Runs.{IsRunOver, LineForm, font_of, form_asked, form_written, of_font, passed_line};
 ghost use Rattle.t1format.specs.Private.Lines.{IsDone, ReadsLine};
 
 use crate::command_line::Options;
@@ -82,7 +81,8 @@ fn tell_of_line<E: Sink>(alloc: Global, errors: &mut E, number: u64) -> Result<(
 
 /// What is told, of the font of this name where no other is named.
 fn of_font<'a>(told: Told<'a>, font: Option<&'a [u8]>) -> Told<'a>
-    ensures { told_value result ≡ of_font (option_map (λ name. name.now) font.entry) (told_value told.entry) }
+    ensures told { told_value result ≡ of_font (option_map (λ name. name.now) font.entry) (told_value told.entry) }
+    ensures line { result.line.now ≡ told.entry.line.now }
 {
     Told {
         font: told.font.or(font),
@@ -101,9 +101,9 @@ fn write_line<W: Sink, E: Sink>(
     out: &mut W,
     errors: &mut E,
 ) -> Result<bool, Stop>
-    ensures done { is_json writer.old ≡ true → IfOk result (λ is. IsDone (option_map (λ name. name.now) font.entry) number line.now
+    ensures done { (form : LineForm) → form_written writer.old ≡ Some form → IfOk result (λ is. IsDone form (option_map (λ name. name.now) font.entry) number line.now
         (W.state out.old) (W.state out.new) (E.state errors.old) (E.state errors.new) is) }
-    ensures json { is_json writer.old ≡ true → is_json writer.new ≡ true }
+    ensures form { (form : LineForm) → form_written writer.old ≡ Some form → form_written writer.new ≡ Some form }
 {
     match read_told(line) {
         Some(told) => {
@@ -126,10 +126,10 @@ fn write_lines<R: BufRead, W: Sink, E: Sink>(
     out: &mut W,
     errors: &mut E,
 ) -> Result<bool, Stop>
-    ensures written { is_json writer.old ≡ true → (text : List ℕ) → R.remaining input.old ≡ Some text → length text < 2 ^ 63
-        → IfOk result (IsRunOver Wrote (option_map (λ name. name.now) font.entry) text
+    ensures written { (form : LineForm) → form_written writer.old ≡ Some form → (text : List ℕ) → R.remaining input.old ≡ Some text
+        → length text < 2 ^ 63 → IfOk result (IsRunOver Wrote form (option_map (λ name. name.now) font.entry) text
         (W.state out.old) (W.state out.new) (E.state errors.old) (E.state errors.new)) }
-    ensures json { is_json writer.old ≡ true → is_json writer.new ≡ true }
+    ensures form { (form : LineForm) → form_written writer.old ≡ Some form → form_written writer.new ≡ Some form }
 {
     let mut line = Vec::new(alloc);
     let mut are_lines = true;
@@ -153,8 +153,8 @@ pub fn run<R: BufRead, W: Sink, E: Sink>(
     out: &mut W,
     errors: &mut E,
 ) -> Result<bool, Stop>
-    ensures json { options.now.form ≡ JsonLines → (text : List ℕ) → R.remaining input.old ≡ Some text → length text < 2 ^ 63
-        → IfOk result (IsRunOver Delivered (font_of options.now) text
+    ensures { (form : LineForm) → form_asked options.now.form ≡ Some form → (text : List ℕ) → R.remaining input.old ≡ Some text
+        → length text < 2 ^ 63 → IfOk result (IsRunOver Delivered form (font_of options.now) text
         (W.state out.old) (W.state out.new) (E.state errors.old) (E.state errors.new)) }
 {
     let font = options.font.as_ref().map(String::as_bytes);

@@ -1,10 +1,9 @@
 //! The form in which lines are written.
 
-ghost use Rattle.std.specs.Prelude.{◌≡◌, true, IfOk};
-ghost use Rattle.t1_forms.specs.Objects.{object_line};
+ghost use Rattle.std.specs.Prelude.{◌≡◌, IfOk, Some};
 ghost use Rattle.t1_forms.specs.Tellings.{told_value};
 ghost use Rattle.t1_forms.specs.Writing.{WritesLine};
-ghost use Rattle.t1format.specs.Runs.{is_json};
+ghost use Rattle.t1format.specs.Runs.{LineForm, form_asked, form_written, text_in};
 
 use crate::command_line::{Form, Options};
 use std::alloc::Global;
@@ -20,14 +19,14 @@ pub enum Writer<'a> {
 }
 
 impl<'a> Writer<'a> {
-    /// Writes what stands in front of all lines: in lines of JSON nothing.
+    /// Writes what stands in front of all lines: only a document has something there.
     pub fn begin<W: Sink>(
         alloc: Global,
         sink: &mut W,
         options: &'a Options,
     ) -> Result<Writer<'a>, FormatError>
-        ensures json { options.now.form ≡ Form.JsonLines → IfOk result (λ writer. is_json writer ≡ true) }
-        ensures nothing { options.now.form ≡ Form.JsonLines → W.state sink.new ≡ W.state sink.old }
+        ensures form { (form : LineForm) → form_asked options.now.form ≡ Some form → IfOk result (λ writer. form_written writer ≡ Some form) }
+        ensures nothing { (form : LineForm) → form_asked options.now.form ≡ Some form → W.state sink.new ≡ W.state sink.old }
     {
         match options.form {
             Form::JsonLines => Ok(Writer::JsonLines),
@@ -39,27 +38,27 @@ impl<'a> Writer<'a> {
         }
     }
 
-    /// Writes a line: in lines of JSON its object.
+    /// Writes a line: its object, its command, or its result in a document.
     pub fn put<W: Sink>(
         &mut self,
         alloc: Global,
         sink: &mut W,
         told: &Told<'_>,
     ) -> Result<(), FormatError>
-        ensures object { is_json self.old ≡ true → WritesLine (W.state sink.old) (W.state sink.new)
-            (object_line (told_value told.now)) result }
-        ensures json { is_json self.old ≡ true → is_json self.new ≡ true }
+        ensures text { (form : LineForm) → form_written self.old ≡ Some form → WritesLine (W.state sink.old) (W.state sink.new)
+            (text_in form (told_value told.now) told.now.line.now) result }
+        ensures form { form_written self.new ≡ form_written self.old }
     {
         match self {
             Writer::JsonLines => write_object(alloc, sink, told),
             Writer::Sarif(document) => document.put(alloc, sink, told),
-            Writer::GitHub => write_command(sink, told),
+            Writer::GitHub => Ok(write_command(sink, told)?),
         }
     }
 
-    /// Writes what stands behind all lines: in lines of JSON nothing.
+    /// Writes what stands behind all lines: only a document has something there.
     pub fn end<W: Sink>(self, alloc: Global, sink: &mut W) -> Result<(), FormatError>
-        ensures nothing { is_json self.entry ≡ true → W.state sink.new ≡ W.state sink.old }
+        ensures nothing { (form : LineForm) → form_written self.entry ≡ Some form → W.state sink.new ≡ W.state sink.old }
     {
         match self {
             Writer::Sarif(document) => document.end(alloc, sink),

@@ -1,12 +1,12 @@
-use Rattle.std.proofs.Common.{◌≡◌, List, ℕ, true, Some, option_map}
+use Rattle.std.proofs.Common.{◌≡◌, List, ℕ, Some, option_map}
 use Rattle.t1format.specs.Private.Lines.{IsSoFar}
-use Rattle.t1format.specs.Runs.{is_json}
+use Rattle.t1format.specs.Runs.{LineForm, form_written}
 use Rattle.t1format.proofs.running.write_lines.Given as goal
 
 abbrev pub invariant-loop-number : goal.invariant-loop-number
 invariant-loop-number g l =
-    is_json l.fn.writer ≡ true
-    → (is_json l.writer ≡ true)
+    (form : LineForm) → form_written l.fn.writer ≡ Some form
+    → (form_written l.writer ≡ Some form)
     × ((text : List ℕ) → g.R.Read.remaining l.fn.input ≡ Some text
-    → IsSoFar (option_map (λ name. name.now) l.font) text l.number (g.R.Read.remaining l.input)
+    → IsSoFar form (option_map (λ name. name.now) l.font) text l.number (g.R.Read.remaining l.input)
     (g.W.Sink.state l.fn.out) (g.W.Sink.state l.out) (g.E.Sink.state l.fn.errors) (g.E.Sink.state l.errors) l.are_lines)
