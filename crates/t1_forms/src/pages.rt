@@ -95,7 +95,7 @@ static PAGES_2: [Page; 5] = [
         code: "F13",
         anchor: "f13-encoded-glyph-missing",
         title: "encoded glyph missing",
-        text: "The code prints as `.notdef`. Subsets of fonts often keep the codes of the whole font; that is harmless while no text uses them. In a whole font\nit is mostly a misspelled name. Where a code is set twice its later name counts. Example: no glyph is named `Alpha`.\n\n    dup 65 /Alpha put\n    1: font Encoding 65 F13 encoded glyph missing\n\nCure: add the glyph, mend the name, or leave the row out.",
+        text: "The code prints as `.notdef`. Subsets of fonts often keep the codes of the whole font; that is harmless while no text uses them. In a whole font\nit is mostly a misspelled name. Where a code is set twice its later name counts. Example: no glyph is named `Alpha`.\n\n    dup 65 /Alpha put\n    1: font Encoding 65 F13 encoded glyph missing\n\nHow much it matters: in a subset not at all, so long as its text has no such code. 43 of 1,454 real fonts have 430 such rows.\n\nCure: add the glyph, mend the name, or leave the row out.",
     },
     Page {
         code: "F14",
@@ -128,13 +128,13 @@ static PAGES_3: [Page; 5] = [
         code: "Z04",
         anchor: "z04-zone-numbers-fall",
         title: "zone numbers fall",
-        text: "The numbers have to rise, within a zone and from zone to zone (equal ones don't break this rule). A zone whose top lies below its bottom\ncatches no edge.\n\n    /BlueValues [-15 0 700 690] def\n    1: font BlueValues 3 Z04 zone numbers fall\n\nCure: sort the pairs, each with the lower number first. A negative overshoot at the baseline is `-15 0`, not `0 -15`.",
+        text: "The numbers have to rise, within a zone and from zone to zone (equal ones don't break this rule). A zone whose top lies below its bottom\ncatches no edge.\n\n    /BlueValues [-15 0 700 690] def\n    1: font BlueValues 3 Z04 zone numbers fall\n\nHow much it matters: the zone is lost. Numbers that fall are also too near, so mostly Z05 names the same place, and one cure ends both lines. In\n1,454 real fonts this was so at each of 182 places.\n\nCure: sort the pairs, each with the lower number first. A negative overshoot at the baseline is `-15 0`, not `0 -15`.",
     },
     Page {
         code: "Z05",
         anchor: "z05-zones-too-near",
         title: "zones too near",
-        text: "BlueFuzz widens each zone by so many units below and above. Two zones of a list have to lie D = 2 × BlueFuzz + 1 units apart; else an\nedge may belong to both, and similar glyphs get different heights.\n\n    /BlueValues [-15 0 520 530 532 545] def\n    1: font BlueValues 4 Z05 zones too near\n\n532 − 530 = 2, and D is 3. Cure: make one zone of both, move them apart, or set `/BlueFuzz 0 def`, with which D is 1.",
+        text: "BlueFuzz widens each zone by so many units below and above. Two zones of a list have to lie D = 2 × BlueFuzz + 1 units apart; else an\nedge may belong to both, and similar glyphs get different heights.\n\n    /BlueValues [-15 0 520 530 532 545] def\n    1: font BlueValues 4 Z05 zones too near\n\n532 − 530 = 2, and D is 3.\n\nHow much it matters: where Z04 names the same place, mend that one. Elsewhere edges in the gap may jump.\n\nCure: make one zone of both, move them apart, or set `/BlueFuzz 0 def`, with which D is 1.",
     },
     Page {
         code: "Z06",
@@ -149,7 +149,7 @@ static PAGES_4: [Page; 5] = [
         code: "Z07",
         anchor: "z07-zone-too-high-for-bluescale",
         title: "zone too high for BlueScale",
-        text: "BlueScale says, in pixels a unit, up to which size overshoots are suppressed: all edges of a zone are then put on one line. A zone that is a whole\npixel high at that size, or more, would lose a difference that could be shown, and heights jump where suppression ends.\n\n    /BlueValues [0 26] def\n    1: font BlueValues 1 Z07 zone too high for BlueScale\n\n26 × 0.039625 = 1.03025; a height of 25 gives 0.990625 and is right. Cure: make the zone lower, or BlueScale less than 1 divided by the\nheight of the highest zone, here `/BlueScale .038 def` (26 × .038 = 0.988). Digits behind the ninth decimal are cut: 24 × 0.0416666667 is\n24 × 0.041666666 here, 0.999999984, and below 1.",
+        text: "BlueScale says, in pixels a unit, up to which size overshoots are suppressed: all edges of a zone are then put on one line. A zone that is a whole\npixel high at that size, or more, would lose a difference that could be shown, and heights jump where suppression ends.\n\n    /BlueValues [0 26] def\n    1: font BlueValues 1 Z07 zone too high for BlueScale\n\n26 × 0.039625 = 1.03025; a height of 25 gives 0.990625 and is right.\n\nHow much it matters: often only a digit was rounded. Of 147 such places in 1,454 real fonts, 109 had a height that times BlueScale gave at least 1\nand less than 1.001. There nothing is seen, and a BlueScale whose last digit is one lower ends the line.\n\nCure: make the zone lower, or BlueScale less than 1 divided by the\nheight of the highest zone, here `/BlueScale .038 def` (26 × .038 = 0.988). Digits behind the ninth decimal are cut: 24 × 0.0416666667 is\n24 × 0.041666666 here, 0.999999984, and below 1.",
     },
     Page {
         code: "Z08",
@@ -272,7 +272,7 @@ static PAGES_7: [Page; 5] = [
         code: "GE02",
         anchor: "ge02-tokens-after-the-end",
         title: "tokens after the end",
-        text: "What stands behind endchar or seac is never executed: either it is left over, or endchar stands too early and the rest of the outline is\nmissing. In a Subr one `return` may follow, since some tools end each Subr so.\n\n    A: 0 500 hsbw endchar 50 hmoveto 100 hlineto closepath endchar\n    1: glyph A - 4 GE02 tokens after the end\n\nCure: leave out what stands behind, as an endchar behind seac; or the endchar that stands too early.",
+        text: "What stands behind endchar or seac is never executed: either it is left over, or endchar stands too early and the rest of the outline is\nmissing. In a Subr one `return` may follow, since some tools end each Subr so.\n\n    A: 0 500 hsbw endchar 50 hmoveto 100 hlineto closepath endchar\n    1: glyph A - 4 GE02 tokens after the end\n\nHow much it matters: what is left over does no harm, and 19 of 1,454 real fonts have it in 690 places. An endchar that stands too early loses a part\nof the glyph: look at it once.\n\nCure: leave out what stands behind, as an endchar behind seac; or the endchar that stands too early.",
     },
 ];
 
@@ -305,7 +305,7 @@ static PAGES_8: [Page; 5] = [
         code: "P03",
         anchor: "p03-closepath-without-a-path",
         title: "closepath without a path",
-        text: "There is nothing to close: a closepath stands twice, or the lines and curves of the path are missing.\n\n    A: 0 500 hsbw 50 hmoveto closepath endchar\n    1: glyph A - 6 P03 closepath without a path\n\nCure: leave the closepath out; or write what is missing. A move from which nothing is drawn can go as well, but the next one has to move as far as\nboth did: `50 hmoveto closepath 10 20 rmoveto` becomes `60 20 rmoveto`.",
+        text: "There is nothing to close: a closepath stands twice, or the lines and curves of the path are missing.\n\n    A: 0 500 hsbw 50 hmoveto closepath endchar\n    1: glyph A - 6 P03 closepath without a path\n\nHow much it matters: nothing different is drawn, unless lines are missing. No rule is broken more often: 13,842 times in 135 of 1,454 real fonts, and\n99 of these break no other rule, since some tools write each closepath twice.\n\nCure: leave the closepath out; or write what is missing. A move from which nothing is drawn can go as well, but the next one has to move as far as\nboth did: `50 hmoveto closepath 10 20 rmoveto` becomes `60 20 rmoveto`.",
     },
 ];
 
@@ -332,7 +332,7 @@ static PAGES_9: [Page; 5] = [
         code: "H04",
         anchor: "h04-unequal-stem3",
         title: "unequal stem3",
-        text: "hstem3 and vstem3 are for three strokes that a rasteriser keeps evenly apart, as those of `m` or of the sign `≡`: the outer two have to be\nequally wide, and the middle of the second has to be half-way between their middles. Otherwise it evens out what isn't even. Here the widths\nare 30 and 40, and the middles 65, 165 and 270.\n\n    A: 0 500 hsbw 50 30 150 30 250 40 vstem3 endchar\n    1: glyph A - 10 H04 unequal stem3\n\nCure: mend the numbers where the strokes are even, here `250 30` for the third; otherwise write three stems, each by a command of its own.",
+        text: "hstem3 and vstem3 are for three strokes that a rasteriser keeps evenly apart, as those of `m` or of the sign `≡`: the outer two have to be\nequally wide, and the middle of the second has to be half-way between their middles. Otherwise it evens out what isn't even. Here the widths\nare 30 and 40, and the middles 65, 165 and 270.\n\n    A: 0 500 hsbw 50 30 150 30 250 40 vstem3 endchar\n    1: glyph A - 10 H04 unequal stem3\n\nHow much it matters: often a middle was rounded. Of 195 such places in 1,454 real fonts, 169 had outer strokes of equal width and a middle at most\nhalf a unit off.\n\nCure: mend the numbers where the strokes are even, here `250 30` for the third; otherwise write three stems, each by a command of its own.",
     },
     Page {
         code: "R01",
@@ -479,7 +479,7 @@ static PAGES_14: [Page; 5] = [
         code: "E01",
         anchor: "e01-not-a-pfa-or-pfb",
         title: "not a PFA or PFB",
-        text: "The file begins neither with byte 128 nor with `%!`; an empty file too.\n\nPrinters and installers won't take the file as a Type 1 font either.\n\nExample: a font in another format, as OpenType.\n\nCure: convert the font to Type 1, or name the right file.",
+        text: "The file begins neither with byte 128 nor with `%!`; an empty file too.\n\nPrinters and installers won't take the file as a Type 1 font either.\n\nExample: a font in another format, as TrueType or OpenType, or Type1C, which PDFs have. OpenType fonts with cubic outlines (CFF) and Type1C have\nmuch in common with Type 1, and aren't Type 1 fonts.\n\nCure: convert the font to Type 1, or name the right file. `cfftot1`, of Debian's lcdf-typetools, converts CFF. Recipes say how\nto check the fonts of a PDF.",
     },
     Page {
         code: "E02",
