@@ -1,10 +1,11 @@
 -- What can be wrong with options, and the text of each case.
 use Rattle.std.specs.Prelude.{◌&&◌, ◌||◌, Bool, not, List, [], ◌∷◌, ◌++◌, Option, find, is_some, option_and_then, option_map, codes}
+use Rattle.std.specs.List.{list_any}
 use Rattle.clap.specs.Walk.{is_empty}
 use Rattle.clap.specs.Words.{Text}
 use Rattle.t1_options.specs.Choices.{are_known, codes_of}
 use Rattle.t1_options.specs.Given.{GivenValue}
-use Rattle.t1_options.specs.Values.{edition_in, file_in, form_in, number_in, shard_in, url_in}
+use Rattle.t1_options.specs.Values.{edition_in, file_in, form_in, is_marked, number_in, shard_in, url_in}
 use Rattle.t1_options.specs.declared.complaint.Complaint.{Complaint}
 use Rattle.t1_options.specs.declared.complaint.Complaint.TheVariants as complaint
 
@@ -23,6 +24,7 @@ text_of complaint.NoFont = codes "no font is named"
 text_of complaint.Shard = codes "--shard wants I/N, I from 1 to N"
 text_of complaint.Only = codes "--only wants codes of rules or their letters, as H02,Z"
 text_of complaint.Except = codes "--except wants codes of rules or their letters, as H02,Z"
+text_of complaint.Exclude = codes "--exclude wants a glob that is UTF-8"
 
 -- The two lines to print.
 abbrev pub usage_text : Complaint → Text
@@ -36,7 +38,8 @@ is_wrong meaning value = is_some value && not (is_some (option_and_then meaning 
 abbrev pub are_wrong : List Text → Bool
 are_wrong values = not (is_empty values) && not (are_known (codes_of values))
 
--- What can be wrong, in the order of the search: five values, combinations, a missing font, and then the shard and the codes.
+-- What can be wrong, in the order of the search: five values, combinations, a missing font, and then the shard, the codes and
+-- the globs.
 abbrev pub checks_of : GivenValue → List (Bool × Complaint)
 checks_of given =
     (is_wrong number_in given.jobs, complaint.Jobs)
@@ -53,6 +56,7 @@ checks_of given =
     ∷ (is_wrong shard_in given.shard, complaint.Shard)
     ∷ (are_wrong given.only, complaint.Only)
     ∷ (are_wrong given.except, complaint.Except)
+    ∷ (list_any is_marked given.exclude, complaint.Exclude)
     ∷ []
 
 -- The first that holds.

@@ -17,6 +17,10 @@ abbrev pub begins : ℕ → Text → Bool
 begins byte [] = false
 begins byte (first ∷ rest) = first == byte
 
+-- A word that isn't UTF-8 stands behind a NUL, which no word has.
+abbrev pub is_marked : Text → Bool
+is_marked word = begins 0 word
+
 -- One to five digits, of which the first is not 0.
 abbrev pub is_number : Text → Bool
 is_number text =

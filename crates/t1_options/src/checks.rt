@@ -1,15 +1,17 @@
 //! What is wrong with the given values.
 
 ghost use Rattle.std.specs.Prelude.{◌≡◌, is_some, map, option_map, string_bytes};
+ghost use Rattle.std.specs.List.{list_any};
 ghost use Rattle.clap.specs.Walk.{is_empty};
 ghost use Rattle.t1_options.specs.Choices.{codes_of};
 ghost use Rattle.t1_options.specs.Complaints.{complaint_of, first_so};
 ghost use Rattle.t1_options.specs.Given.{given_value};
+ghost use Rattle.t1_options.specs.Values.{is_marked};
 
 use crate::choices::are_known;
 use crate::complaint::Complaint;
 use crate::given::Given;
-use crate::values::{baseline, docs, edition, form, jobs, shard};
+use crate::values::{baseline, docs, edition, form, is_marked, jobs, shard};
 
 /// The first thing that is wrong with the given values, if any. `only` and `except` are the codes that these options name.
 pub(crate) fn complaint_of(
@@ -61,6 +63,7 @@ pub(crate) fn complaint_of(
             !are_none(given.except) & !are_known(except),
             Complaint::Except,
         ),
+        (is_one_marked(given.exclude), Complaint::Exclude),
     ];
     first_so(&checks)
 }
@@ -83,6 +86,13 @@ fn are_none(values: &[&str]) -> bool
         [] => true,
         [_, ..] => false,
     }
+}
+
+/// Whether one of these values isn't UTF-8.
+fn is_one_marked(values: &[&str]) -> bool
+    ensures { result ≡ list_any is_marked (map (λ s. s.now) values.now) }
+{
+    values.iter().any(|value| is_marked(value))
 }
 
 /// The first complaint whose condition holds.

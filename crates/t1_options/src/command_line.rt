@@ -16,7 +16,7 @@ use std::convert::AsStr;
 use t1_run::{UsageError, parse};
 
 /// The text of `--help`.
-const HELP: &str = "\
+pub const HELP: &str = "\
 Checks many fonts: t1check-all [OPTION...] [--] FONT|FOLDER...
 
 A folder stands for the .pfa, .pfb and .t1 files below it, in the order of their paths. Each line of a report, and each

@@ -36,6 +36,8 @@ pub(crate) enum Complaint {
     Only,
     /// `--except` names no code, or an unknown one.
     Except,
+    /// `--exclude` has a value that isn't UTF-8.
+    Exclude,
 }
 
 /// The sentence that says so.
@@ -57,6 +59,7 @@ fn text_of(complaint: Complaint) -> &'static str
         Complaint::Shard => "--shard wants I/N, I from 1 to N",
         Complaint::Only => "--only wants codes of rules or their letters, as H02,Z",
         Complaint::Except => "--except wants codes of rules or their letters, as H02,Z",
+        Complaint::Exclude => "--exclude wants a glob that is UTF-8",
     }
 }
 

@@ -9,6 +9,7 @@
 //! - the options are those that the words mean: of an option that is given again the last value counts, and `--only`, `--except`,
 //!   `--files-from` and `--exclude` add values ([`uses_count`]);
 //! - the options keep the codes of `--only` and `--except`, and these choose the rules that are printed ([`codes_choose_rules`]);
+//! - a word that isn't UTF-8 is told by a mark in front of it ([`is_marked`]), and is no glob;
 //! - where several things are wrong, the first in one order is reported (`checks_of`);
 //! - options go together ([`options_go_together`]), a shard is one of its parts ([`shards_are_parts`]), and `--only` and `--except` name any
 //!   rule and no refusal ([`rules_are_known`]).
@@ -30,7 +31,8 @@ mod texts;
 mod values;
 
 pub use asked::{Form, KnownFaults, Options, Request, Shard, Waivers};
-pub use command_line::options;
+pub use command_line::{HELP, options};
 pub use laws::{
     codes_choose_rules, options_go_together, rules_are_known, shards_are_parts, uses_count,
 };
+pub use values::is_marked;

@@ -2,7 +2,7 @@
 
 ghost use Rattle.std.specs.Prelude.{◌≡◌, option_and_then, option_map};
 ghost use Rattle.std.specs.List.{list_all};
-ghost use Rattle.t1_options.specs.Values.{begins, edition_in, file_in, form_in, is_number, number_in, part_of, shard_in, shard_of, url_in};
+ghost use Rattle.t1_options.specs.Values.{begins, edition_in, file_in, form_in, is_marked, is_number, number_in, part_of, shard_in, shard_of, url_in};
 ghost use Rattle.t1_scan.specs.Bytes.{is_decimal_digit};
 
 use crate::asked::{Form, Shard};
@@ -58,6 +58,13 @@ fn begins(byte: u8, text: &[u8]) -> bool
         [] => false,
         [first, ..] => *first == byte,
     }
+}
+
+/// Whether a word stands behind a NUL, as one does that isn't UTF-8: no word of a command line has a NUL.
+pub fn is_marked(word: &str) -> bool
+    ensures { result ≡ is_marked word.now }
+{
+    begins(0, word.as_bytes())
 }
 
 /// Whether all bytes are digits.

@@ -44,4 +44,5 @@ returns c =
       shard_is,
       format_is,
       docs_is,
+      c.is_one_marked.ensures,
     ) (refl {a = complaint_of given})
