@@ -5,6 +5,7 @@ pub mod FormMaps
 pub mod FormattedRuns
 pub mod GivenEach
 pub mod ModeFonts
+pub mod MoreFiles
 pub mod PartNames
 pub mod RunEnds
 pub mod WrittenTexts

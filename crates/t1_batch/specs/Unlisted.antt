@@ -1,6 +1,7 @@
 -- What is given to a formatter of what couldn't be listed.
-use Rattle.std.specs.Prelude.{◌≡◌, ◌⊎◌, ◌++◌, ℕ, Bool, true, false, List, [], ◌∷◌, codes, map, replicate, Option, None, Some}
+use Rattle.std.specs.Prelude.{◌≡◌, ◌⊎◌, ◌++◌, ℕ, Bool, true, false, List, [], ◌∷◌, codes, map, replicate, Option, None, Some, string_bytes}
 use Rattle.t1_forms.specs.Tellings.{ToldValue, of_unchecked}
+use Rattle.t1_batch.specs.declared.unlisted.Unlisted.{Unlisted}
 use Rattle.t1_io.specs.Devices.{SinkState}
 use Rattle.t1_many.specs.declared.recipient.Lost.{Lost}
 
@@ -12,6 +13,10 @@ GivesEach {T} writes old new out out' (told ∷ more) lost =
     ((next : T) × (behind : SinkState) × writes old next out behind told None × GivesEach writes next new behind out' more lost)
     ⊎ ((reason : Lost) × writes old new out out' told (Some reason) × (lost ≡ Some reason))
 
+-- A name that isn't UTF-8 can't be given to the system, so none is given.
+abbrev pub undecoded : ToldValue
+undecoded = record { font = None; what = of_unchecked (codes "a name that is not UTF-8 is passed over") }
+
 -- A name with a line end can't stand in a line, so none is given.
 abbrev pub passed_over : ToldValue
 passed_over = record { font = None; what = of_unchecked (codes "a name with a line end is passed over") }
@@ -20,8 +25,13 @@ passed_over = record { font = None; what = of_unchecked (codes "a name with a li
 abbrev pub unsearched : List ℕ → ToldValue
 unsearched folder = record { font = Some folder; what = of_unchecked (codes "search failed") }
 
-abbrev pub unlisted_told : ℕ → List (List ℕ) → List ToldValue
-unlisted_told count folders = replicate count passed_over ++ map unsearched folders
+-- Names that aren't UTF-8, names with a line end, and the folders.
+abbrev pub unlisted_told : ℕ → ℕ → List (List ℕ) → List ToldValue
+unlisted_told nameless count folders = replicate nameless undecoded ++ (replicate count passed_over ++ map unsearched folders)
+
+-- The same of a value of the program.
+abbrev pub unlisted_in : Unlisted → List ToldValue
+unlisted_in unlisted = unlisted_told unlisted.undecoded unlisted.passed_over (map string_bytes unlisted.unsearched.now)
 
 -- All could be listed.
 abbrev pub is_whole : List ToldValue → Bool

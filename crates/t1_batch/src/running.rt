@@ -5,7 +5,7 @@ ghost use Rattle.std.specs.Fn.{FnReturnsAt};
 ghost use Rattle.t1_batch.specs.Endings.{choice_of};
 ghost use Rattle.t1_batch.specs.Modes.{judges_of, mode_value};
 ghost use Rattle.t1_batch.specs.Runs.{Concludes, ConcludesWritten, Runs, left_value, lost_line, nothing_left};
-ghost use Rattle.t1_batch.specs.Unlisted.{unlisted_told};
+ghost use Rattle.t1_batch.specs.Unlisted.{unlisted_in};
 ghost use Rattle.t1_many.specs.Files.{files_by};
 ghost use Rattle.t1_run.specs.Telling.{Tells};
 
@@ -68,7 +68,7 @@ where
     requires open_font { O.IsAlwaysCallable fonts.open_font }
     requires open_waivers { P.IsAlwaysCallable fonts.open_waivers }
     requires unbroken { (name : _) (file : R) → FnReturnsAt O.Fn fonts.open_font name (Ok file) → (R.state file).failed ≡ false }
-    ensures { Runs output.entry.form (unlisted_told output.entry.unlisted.passed_over (map string_bytes output.entry.unlisted.unsearched.now))
+    ensures { Runs output.entry.form (unlisted_in output.entry.unlisted)
         (mode_value selection.entry.mode) selection.entry.rules (choice_of codes.entry) quiet
         (files_by R.state V.state (FnReturnsAt O.Fn fonts.entry.open_font) (FnReturnsAt P.Fn fonts.entry.open_waivers)) selection.entry.edition
         (map string_bytes fonts.entry.names.now)

@@ -1,8 +1,10 @@
 //! What of a list of fonts couldn't be listed, in the forms that other programs read.
 
 ghost use Rattle.std.specs.Prelude.{◌≡◌, map, replicate, string_bytes};
-ghost use Rattle.t1_batch.specs.Unlisted.{GivesEach, is_whole, passed_over, unlisted_told, unsearched};
+ghost use Rattle.t1_batch.specs.Unlisted.{GivesEach, is_whole, passed_over, undecoded, unlisted_in, unsearched};
+ghost use Rattle.t1_forms.specs.Tellings.{told_value};
 ghost use Rattle.t1_many.specs.Handing.{lost_of};
+ghost use Rattle.t1_many_forms.specs.Formatting.{HasItsLine};
 
 use std::alloc::Global;
 use t1_forms::{Told, What};
@@ -13,6 +15,8 @@ use t1_many_forms::Formatter;
 /// What of a list of fonts couldn't be listed.
 #[derive(Clone, Copy, Debug)]
 pub struct Unlisted<'a> {
+    /// How many names aren't UTF-8, and so are no names of files here.
+    pub undecoded: usize,
     /// How many names have a line end, and so can't stand in a line.
     pub passed_over: usize,
     /// The folders that weren't searched whole.
@@ -22,13 +26,14 @@ pub struct Unlisted<'a> {
 impl<'a> Unlisted<'a> {
     /// Whether all could be listed.
     pub fn is_empty(&self) -> bool
-        ensures { result ≡ is_whole (unlisted_told self.now.passed_over (map string_bytes self.now.unsearched.now)) }
+        ensures { result ≡ is_whole (unlisted_in self.now) }
     {
-        self.passed_over == 0 && self.unsearched.is_empty()
+        self.undecoded == 0 && self.passed_over == 0 && self.unsearched.is_empty()
     }
 }
 
-/// Gives a formatter what couldn't be listed: for each name that was passed over that it was, then the folders.
+/// Gives a formatter what couldn't be listed: for each name that isn't UTF-8 that it was passed over, for each with a line end that it was, then
+/// the folders.
 pub fn give_unlisted<T: Formatter, W: Sink>(
     alloc: Global,
     unlisted: Unlisted<'_>,
@@ -36,13 +41,32 @@ pub fn give_unlisted<T: Formatter, W: Sink>(
     out: &mut W,
 ) -> Result<(), Lost>
     ensures { GivesEach T.writes formatter.old formatter.new (W.state out.old) (W.state out.new)
-        (unlisted_told unlisted.entry.passed_over (map string_bytes unlisted.entry.unsearched.now)) (lost_of result) }
+        (unlisted_in unlisted.entry) (lost_of result) }
 {
+    give_undecoded(alloc, unlisted.undecoded, formatter, out)?;
     give_passed_over(alloc, unlisted.passed_over, formatter, out)?;
     give_unsearched(alloc, unlisted.unsearched, formatter, out)
 }
 
-/// Gives a formatter so often that a name was passed over.
+/// Gives a formatter so often that a name isn't UTF-8.
+fn give_undecoded<T: Formatter, W: Sink>(
+    alloc: Global,
+    count: usize,
+    formatter: &mut T,
+    out: &mut W,
+) -> Result<(), Lost>
+    ensures { GivesEach T.writes formatter.old formatter.new (W.state out.old) (W.state out.new)
+        (replicate count undecoded) (lost_of result) }
+{
+    let told = Told {
+        font: None,
+        what: What::Unchecked(b"a name that is not UTF-8 is passed over"),
+        line: b"t1check: a name that is not UTF-8 is passed over",
+    };
+    give_times(alloc, count, &told, formatter, out)
+}
+
+/// Gives a formatter so often that a name has a line end.
 fn give_passed_over<T: Formatter, W: Sink>(
     alloc: Global,
     count: usize,
@@ -52,13 +76,28 @@ fn give_passed_over<T: Formatter, W: Sink>(
     ensures { GivesEach T.writes formatter.old formatter.new (W.state out.old) (W.state out.new)
         (replicate count passed_over) (lost_of result) }
 {
-    for _name in 0..count {
-        let told = Told {
-            font: None,
-            what: What::Unchecked(b"a name with a line end is passed over"),
-            line: b"t1check: a name with a line end is passed over",
-        };
-        formatter.write(alloc, out, &told)?;
+    let told = Told {
+        font: None,
+        what: What::Unchecked(b"a name with a line end is passed over"),
+        line: b"t1check: a name with a line end is passed over",
+    };
+    give_times(alloc, count, &told, formatter, out)
+}
+
+/// Gives a formatter the same thing so often.
+fn give_times<T: Formatter, W: Sink>(
+    alloc: Global,
+    count: usize,
+    told: &Told<'_>,
+    formatter: &mut T,
+    out: &mut W,
+) -> Result<(), Lost>
+    requires { HasItsLine told.now }
+    ensures { GivesEach T.writes formatter.old formatter.new (W.state out.old) (W.state out.new)
+        (replicate count (told_value told.now)) (lost_of result) }
+{
+    for _time in 0..count {
+        formatter.write(alloc, out, told)?;
     }
     Ok(())
 }

@@ -4,7 +4,7 @@ ghost use Rattle.std.specs.Prelude.{◌≡◌, false, map, string_bytes, Ok};
 ghost use Rattle.std.specs.Fn.{FnReturnsAt};
 ghost use Rattle.t1_batch.specs.Checks.{ChecksFonts, IsFound};
 ghost use Rattle.t1_batch.specs.Modes.{judges_of, mode_value};
-ghost use Rattle.t1_batch.specs.Unlisted.{unlisted_told};
+ghost use Rattle.t1_batch.specs.Unlisted.{unlisted_in};
 ghost use Rattle.t1_batch.specs.Writing.{FinishesChecked, FinishesForm, WritesFormatted, WritesInForm, WritesPlain};
 ghost use Rattle.t1_many.specs.Files.{files_by};
 ghost use Rattle.t1_many.specs.Handing.{lost_of};
@@ -66,7 +66,7 @@ where
     requires open_font { O.IsAlwaysCallable fonts.open_font }
     requires open_waivers { P.IsAlwaysCallable fonts.open_waivers }
     requires unbroken { (name : _) (file : R) → FnReturnsAt O.Fn fonts.open_font name (Ok file) → (R.state file).failed ≡ false }
-    ensures { WritesInForm output.entry.form (unlisted_told output.entry.unlisted.passed_over (map string_bytes output.entry.unlisted.unsearched.now))
+    ensures { WritesInForm output.entry.form (unlisted_in output.entry.unlisted)
         (judges_of (mode_value selection.entry.mode) selection.entry.rules)
         (files_by R.state V.state (FnReturnsAt O.Fn fonts.entry.open_font) (FnReturnsAt P.Fn fonts.entry.open_waivers)) selection.entry.edition
         (map string_bytes fonts.entry.names.now)
@@ -172,7 +172,7 @@ where
     requires open_font { O.IsAlwaysCallable fonts.open_font }
     requires open_waivers { P.IsAlwaysCallable fonts.open_waivers }
     requires unbroken { (name : _) (file : R) → FnReturnsAt O.Fn fonts.open_font name (Ok file) → (R.state file).failed ≡ false }
-    ensures { WritesFormatted T.writes T.finishes (unlisted_told unlisted.entry.passed_over (map string_bytes unlisted.entry.unsearched.now))
+    ensures { WritesFormatted T.writes T.finishes (unlisted_in unlisted.entry)
         (judges_of (mode_value selection.entry.mode) selection.entry.rules)
         (files_by R.state V.state (FnReturnsAt O.Fn fonts.entry.open_font) (FnReturnsAt P.Fn fonts.entry.open_waivers)) selection.entry.edition
         (map string_bytes fonts.entry.names.now) formatter
