@@ -1,3 +1,4 @@
+pub mod LinesRead
 pub mod RecordLists
 pub mod Stops
 pub mod Strings

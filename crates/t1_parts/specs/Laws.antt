@@ -1,5 +1,8 @@
 -- The statements of laws.
-use Rattle.std.specs.Prelude.{◌≡◌, Result, Ok, Err}
+use Rattle.std.specs.Prelude.{◌≡◌, ℕ, List, map, string_bytes, Result, Ok, Err, String, Vec}
+use Rattle.std.specs.List.{All}
+use Rattle.std.specs.declared.alloc.Global.{Global}
+use Rattle.t1_parts.specs.Lines.{AreLinesOf, IsLine, lines_text}
 use Rattle.t1_parts.specs.PartTexts.{IsReadAs, part_text}
 use Rattle.t1_parts.specs.PartValues.{IsPart, PartValue, part_value}
 use Rattle.t1_parts.specs.declared.part.Part.{Part}
@@ -19,3 +22,14 @@ IsReadBack part (Err Memory) = Unit {0}
 -- The text of a part is read as this part.
 abbrev pub PartsAreReadBack : Type 0
 PartsAreReadBack = (part : PartValue) (result : Result Part NotPart) → IsPart part → IsReadAs (part_text part) result → IsReadBack part result
+
+-- These texts were read, or memory ran out.
+abbrev pub AreReadBack : List (List ℕ) → Result (Vec (String Global) Global) NotPart → Type 0
+AreReadBack texts (Ok read) = map string_bytes read.items ≡ texts
+AreReadBack texts (Err NoPart) = ⊥
+AreReadBack texts (Err Memory) = Unit {0}
+
+-- Texts without line ends that are written a line each are read as these texts.
+abbrev pub LinesAreReadBack : Type 0
+LinesAreReadBack = (texts : List (List ℕ)) (result : Result (Vec (String Global) Global) NotPart) → All IsLine texts
+    → AreLinesOf (lines_text texts) result → AreReadBack texts result

@@ -1,4 +1,5 @@
 pub mod Laws
+pub mod Lines
 pub mod Netstrings
 pub mod PartTexts
 pub mod PartValues

@@ -1,9 +1,10 @@
 -- Records that are read one after another.
-use Rattle.std.specs.Prelude.{◌≡◌, ◌≢◌, ℕ, ◌∷◌, ◌++◌, List, Option, None, Some, Result, Ok, Err, Vec, codes, map}
+use Rattle.std.specs.Prelude.{◌≡◌, ◌≢◌, ℕ, ◌∷◌, ◌++◌, List, Option, None, Some, Result, Ok, Err, String, Vec, [], codes, map, string_bytes}
 use Rattle.std.specs.Borrow.{Bor}
 use Rattle.std.specs.List.{All, flat_map}
 use Rattle.std.specs.declared.alloc.Global.{Global}
 use Rattle.t1_many.specs.declared.readings.Reading.{Reading}
+use Rattle.t1_parts.specs.Lines.{IsLine, line_text}
 use Rattle.t1_parts.specs.Netstrings.{IsName, IsString, netstring}
 use Rattle.t1_parts.specs.PartTexts.{kept_record, reading_record}
 use Rattle.t1_parts.specs.PartValues.{IsFontRows, IsFontText, font_rows}
@@ -82,3 +83,19 @@ tally_text tally = codes "T" ++ numbers_text tally
 abbrev pub ReadsTally : List ℕ → Option Tally → Type 0
 ReadsTally text None = (tally : Tally) → IsTally tally → text ≢ tally_text tally
 ReadsTally text (Some tally) = IsTally tally × (text ≡ tally_text tally)
+
+-- ---- lines
+
+-- Nothing is left.
+abbrev pub IsNothing : List ℕ → Type 0
+IsNothing text = text ≡ []
+
+abbrev pub ReadsLine : List ℕ → Result (Option (String Global × Bor (List ℕ))) NotPart → Type 0
+ReadsLine text result = ReadsRecord string_bytes line_text IsLine IsNothing text result
+
+-- A text without a line end is read so.
+abbrev pub IsEnd : List ℕ → Result (Option (String Global × Bor (List ℕ))) NotPart → Type 0
+IsEnd text (Ok None) = IsNothing text
+IsEnd text (Ok (Some read)) = ⊥
+IsEnd text (Err NoPart) = IsNothing text → ⊥
+IsEnd text (Err Memory) = ⊥
