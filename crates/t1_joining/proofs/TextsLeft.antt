@@ -1,0 +1,174 @@
+-- What one process writes and tells of fonts, as texts.
+use Rattle.std.proofs.Common.{◌≡◌, ℕ, List, [], ◌∷◌, ◌++◌, Option, None, Some, Ok, Err, inl, inr, refl, sym, subst, ◌∙◌}
+use Rattle.std.proofs.KnownBytes.{Appends-kept, Appends-nil, Appends-trans}
+use Rattle.std.proofs.lemmas.Option.{none-some}
+use Rattle.std.specs.Io.KnownBytes.{Appends}
+use Rattle.std.specs.List.{flat_map}
+use Rattle.t1_batch.specs.Checks.{ChecksFonts, IsFound, all_handed}
+use Rattle.t1_batch.specs.Checks.ChecksFonts.{cut_short, whole}
+use Rattle.t1_batch.specs.Modes.{ModeValue, judges_of}
+use Rattle.t1_batch.specs.Unlisted.{GivesEach}
+use Rattle.t1_batch.specs.Writing.{AnyEnd, AnyText, FinishesForm, NoEnd, WritesDocument, WritesFormatted}
+use Rattle.t1_batch.specs.Writing.FinishesForm.{flushed, unfinished as unfinished'}
+use Rattle.t1_batch.specs.Writing.WritesDocument.{begun, not_begun}
+use Rattle.t1_batch.specs.Writing.WritesFormatted.{stopped, unfinished, unlistable, written}
+use Rattle.t1_char.specs.declared.edition.Edition.{Edition}
+use Rattle.t1_forms.specs.Objects.{object_line}
+use Rattle.t1_forms.specs.Tellings.{ToldValue}
+use Rattle.t1_io.specs.Devices.{SinkState}
+use Rattle.t1_joining.specs.Laws.{AProcessLeavesTexts}
+use Rattle.t1_joining.specs.Texts.{HasLeft, IsOutputOf, WentOut}
+use Rattle.t1_many.proofs.PlainLines.{written as plain_written}
+use Rattle.t1_many.specs.Files.{Files}
+use Rattle.t1_many.specs.Handing.{Handed, HandsOn, done, failure, line}
+use Rattle.t1_many.specs.Plain.{Devices, PlainTakes, tellings, texts, told_of}
+use Rattle.t1_many.specs.declared.recipient.Lost.{Lost}
+use Rattle.t1_many_forms.proofs.JsonTexts.{seen-written}
+use Rattle.t1_many_forms.specs.Formatting.{FormattedTakes, Formatting, GivesUnchecked, told, untold, unchecked_line}
+use Rattle.t1_many_forms.specs.JsonLines.{object_written, objects}
+use Rattle.t1_many_forms.specs.declared.json_lines.JsonLines.{JsonLines as Objects}
+use Rattle.t1_options.specs.declared.asked.Form.{Form}
+use Rattle.t1_options.specs.declared.asked.Form.TheVariants.{GitHub, JsonLines, Sarif}
+use Rattle.t1_parts.specs.declared.part.Part.{Part}
+use Rattle.t1_rules.specs.declared.mask.Mask.{Mask}
+use Rattle.t1_run.specs.declared.failure.Failure.{Failure}
+use Rattle.t1_run.specs.declared.failure.Failure.TheVariants as failures
+use Rattle.t1_run.specs.declared.status.Status.{Status}
+
+pub ok-err : {T E : Type 0} (x : T) (e : E) → Ok x ≡ Err e → ⊥
+ok-err x e same = cc
+
+pub none-same : (a b : SinkState) → b ≡ a → Appends a.written b.written []
+none-same a b same = subst (λ (s : SinkState). Appends a.written s.written []) (sym same) (Appends-nil a.written)
+
+-- ---- what is told on standard error, in any form for another program
+
+module _ {T : Type 0} (writes : T → T → SinkState → SinkState → ToldValue → Option Lost → Type 0) where
+  unchecked_told : (old new : Formatting T) (name reason : List ℕ) → GivesUnchecked writes old new name reason None
+      → Appends old.errors.written new.errors.written (unchecked_line name reason)
+  unchecked_told old new name reason (told wrote gives) = wrote.bytes
+  unchecked_told old new name reason (untold broke formatter out is) = absurd (none-some _ is)
+
+  failure_told : (old new : Formatting T) (name : List ℕ) (reason : Failure) → FormattedTakes writes old new (failure name reason) None
+      → Appends old.errors.written new.errors.written (told_of (failure name reason))
+  failure_told old new name (failures.Refused code) (gives, same) = none-same old.errors new.errors same
+  failure_told old new name failures.Broken gives = unchecked_told old new name _ gives
+  failure_told old new name failures.Memory gives = unchecked_told old new name _ gives
+
+  one_told : (old new : Formatting T) (handed : Handed) → FormattedTakes writes old new handed None
+      → Appends old.errors.written new.errors.written (told_of handed)
+  one_told old new (line name font waivers fault) (gives, same) = none-same old.errors new.errors same
+  one_told old new (failure name reason) gives = failure_told old new name reason gives
+  one_told old new (done name found) (formatter, flush, same) = none-same old.errors new.errors same
+
+  all_told : (old new : Formatting T) (handed : List Handed) → HandsOn (FormattedTakes writes) old new handed None
+      → Appends old.errors.written new.errors.written (tellings handed)
+  all_told old new [] (same, none) =
+      subst (λ (f : Formatting T). Appends old.errors.written f.errors.written []) (sym same) (Appends-nil old.errors.written)
+  all_told old new (x ∷ xs) (inl (next, took, rest)) =
+      Appends-trans old.errors.written next.errors.written new.errors.written (told_of x) (tellings xs) (one_told old next x took)
+      (all_told next new xs rest)
+  all_told old new (x ∷ xs) (inr (reason, took, is)) = absurd (none-some reason is)
+
+-- ---- lines of JSON
+
+objects_given : (formatter after : Objects) (a b : SinkState) (unlisted : List ToldValue) → GivesEach object_written formatter after a b unlisted None
+    → Appends a.written b.written (flat_map object_line unlisted)
+objects_given formatter after a b [] (same, same_out, none) = none-same a b same_out
+objects_given formatter after a b (x ∷ xs) (inl (next, behind, wrote, rest)) =
+    Appends-trans a.written behind.written b.written (object_line x) (flat_map object_line xs) wrote.bytes (objects_given next after behind b xs rest)
+objects_given formatter after a b (x ∷ xs) (inr (reason, wrote, is)) = absurd (none-some reason is)
+
+objects_finished : (a b : SinkState) → FinishesForm (λ old new lost. (new ≡ old) × (lost ≡ None)) a b None → (text : List ℕ) (before : SinkState)
+    → Appends before.written a.written text → Appends before.written b.written text
+objects_finished a b (flushed behind (same, none) flush) text before appends =
+    Appends-kept before.written behind.written b.written text
+    (subst (λ (s : SinkState). Appends before.written s.written text) (sym same) appends) flush.bytes
+objects_finished a b (unfinished' reason finishes is) text before appends = absurd (none-some reason is)
+
+-- ---- all of them
+
+module _ (unlisted : List ToldValue) (mode : ModeValue) (rules : Mask) (files : Files) (edition : Edition) (names : List (List ℕ))
+    (old new : Devices) (found : Part) where
+  plain : (status : Status)
+      → ChecksFonts PlainTakes (judges_of mode rules) files edition names old new (IsFound mode rules found) (Ok status)
+      → HasLeft None unlisted mode rules files edition names old new found
+  plain status (whole entries are handed found_is is) =
+      let handed_are = all_handed (judges_of mode rules) entries in
+      let wrote = plain_written old new handed_are None handed in
+      record {
+        output = texts handed_are;
+        errors = tellings handed_are;
+        texts = record { entries = entries; are = are; output_is = refl; errors_are = refl; found_is = found_is };
+        went_out = wrote.0;
+        told = wrote.1;
+      }
+  plain status (cut_short count entries are lost stop handed why is) = absurd (ok-err status lost is)
+
+  json : (formatter : Objects) (status : Status)
+      → WritesFormatted object_written (λ formatter old new lost. (new ≡ old) × (lost ≡ None)) unlisted (judges_of mode rules) files edition names
+      formatter old new (IsFound mode rules found) (Ok status)
+      → HasLeft (Some JsonLines) unlisted mode rules files edition names old new found
+  json formatter status (written from to given same_errors s (whole entries are handed found_is is) finish same_end result_is) =
+      let handed_are = all_handed (judges_of mode rules) entries in
+      let wrote = seen-written (λ (f : Formatting Objects). f) from to handed_are None handed in
+      let given_out = objects_given formatter from.formatter old.out from.out unlisted given in
+      record {
+        output = flat_map object_line unlisted ++ objects handed_are;
+        errors = tellings handed_are;
+        texts = record { entries = entries; are = are; output_is = refl; errors_are = refl; found_is = found_is };
+        went_out = objects_finished to.out new.out finish (flat_map object_line unlisted ++ objects handed_are) old.out
+            (Appends-trans old.out.written from.out.written to.out.written (flat_map object_line unlisted) (objects handed_are) given_out
+            wrote.0);
+        told = subst (λ (s : SinkState). Appends old.errors.written s.written (tellings handed_are)) (sym same_end)
+            (subst (λ (s : SinkState). Appends s.written to.errors.written (tellings handed_are)) same_errors wrote.1);
+      }
+  json formatter status (written from to given same_errors s (cut_short count entries are lost stop handed why is) finish same_end result_is) =
+      absurd (ok-err s lost is)
+  json formatter status (unfinished from to given same_errors s checked lost finish same_end is) = absurd (ok-err status lost is)
+  json formatter status (stopped from to given same_errors lost checked same is) = absurd (ok-err status lost is)
+  json formatter status (unlistable left lost given same_errors is) = absurd (ok-err status lost is)
+
+  -- a form whose texts have no definition
+  module _ {T : Type 0} (writes : T → T → SinkState → SinkState → ToldValue → Option Lost → Type 0)
+      (finishes : T → SinkState → SinkState → Option Lost → Type 0) (form : Option Form)
+      (any : (handed : List Handed) → IsOutputOf form unlisted handed []) where
+    others : (formatter : T) (before : Devices) (status : Status) → before.errors ≡ old.errors → WentOut form old.out new.out []
+        → WritesFormatted writes finishes unlisted (judges_of mode rules) files edition names formatter before new (IsFound mode rules found)
+        (Ok status)
+        → HasLeft form unlisted mode rules files edition names old new found
+    others formatter before status same out
+        (written from to given same_errors s (whole entries are handed found_is is) finish same_end result_is) =
+        let handed_are = all_handed (judges_of mode rules) entries in
+        record {
+          output = [];
+          errors = tellings handed_are;
+          texts = record { entries = entries; are = are; output_is = any handed_are; errors_are = refl; found_is = found_is };
+          went_out = out;
+          told = subst (λ (s : SinkState). Appends old.errors.written s.written (tellings handed_are)) (sym same_end)
+              (subst (λ (s : SinkState). Appends s.written to.errors.written (tellings handed_are)) (same_errors ∙ same)
+              (all_told writes from to handed_are handed));
+        }
+    others formatter before status same out
+        (written from to given same_errors s (cut_short count entries are lost stop handed why is) finish same_end result_is) =
+        absurd (ok-err s lost is)
+    others formatter before status same out (unfinished from to given same_errors s checked lost finish same_end is) =
+        absurd (ok-err status lost is)
+    others formatter before status same out (stopped from to given same_errors lost checked same_end is) = absurd (ok-err status lost is)
+    others formatter before status same out (unlistable left lost given same_errors is) = absurd (ok-err status lost is)
+
+  sarif : (status : Status) → WritesDocument unlisted (judges_of mode rules) files edition names old new (IsFound mode rules found) (Ok status)
+      → HasLeft (Some Sarif) unlisted mode rules files edition names old new found
+  sarif status (begun document behind wrote) =
+      others AnyText AnyEnd (Some Sarif) (λ _. tt) document (record { out = behind; errors = old.errors }) status refl tt wrote
+  sarif status (not_begun lost same is) = absurd (ok-err status lost is)
+
+pub process_leaves_texts : (files : Files) → AProcessLeavesTexts files
+process_leaves_texts files None unlisted mode rules edition names old new found status wrote =
+    plain unlisted mode rules files edition names old new found status wrote
+process_leaves_texts files (Some JsonLines) unlisted mode rules edition names old new found status (formatter, wrote) =
+    json unlisted mode rules files edition names old new found formatter status wrote
+process_leaves_texts files (Some GitHub) unlisted mode rules edition names old new found status (formatter, wrote) =
+    others unlisted mode rules files edition names old new found AnyText NoEnd (Some GitHub) (λ _. tt) formatter old status refl tt wrote
+process_leaves_texts files (Some Sarif) unlisted mode rules edition names old new found status wrote =
+    sarif unlisted mode rules files edition names old new found status wrote
