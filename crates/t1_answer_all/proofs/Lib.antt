@@ -1,0 +1,7 @@
+pub mod Lists
+pub mod Puts
+pub mod QuietAgain
+pub mod RunLemmas
+pub mod Times
+pub mod Told
+pub mod WordLists

@@ -1,0 +1,43 @@
+-- Files that are put one after another.
+use Rattle.std.proofs.Common.{◌≡◌, ◌++◌, ◌&&◌, ℕ, Bool, true, false, List, [], ◌∷◌, ap, inr, refl, subst, ◌∙◌}
+use Rattle.t1_answer_all.specs.Replacing.{IsKeptBack, PutsEach, PutsWaiversOf}
+use Rattle.t1_io.specs.Devices.{SinkState}
+use Rattle.t1_waiving.specs.FontTexts.{FontText}
+
+module _ {F : Type 0} (Puts : F → F → List ℕ → List ℕ → Bool → Type 0) (Has : F → List ℕ → Bool → Type 0) (overwrites : Bool) where
+  -- the waivers of one font more
+  pub each-push : (fonts : List FontText) (font : FontText) (f g h : F) (a b c : SinkState) (done one : Bool)
+      → PutsEach Puts Has overwrites fonts f g a b done → PutsWaiversOf Puts Has overwrites font g h b c one
+      → PutsEach Puts Has overwrites (fonts ++ font ∷ []) f h a c (done && one)
+  each-push [] font f g h a b c done one (same, same_errors, all) put = (
+    h,
+    c,
+    one,
+    true,
+    subst (λ (s : F). PutsWaiversOf Puts Has overwrites font s h a c one) same
+        (subst (λ (s : SinkState). PutsWaiversOf Puts Has overwrites font g h s c one) same_errors put),
+    (refl, refl, refl),
+    ap (λ d. d && one) all ∙ and-true one,
+  )
+    where
+      and-true : (b : Bool) → (true && b) ≡ (b && true)
+      and-true true = refl
+      and-true false = refl
+  each-push (first ∷ fonts) font f g h a b c done one (next, behind, this, others, put_first, rest, is) put = (
+    next,
+    behind,
+    this,
+    others && one,
+    put_first,
+    each-push fonts font next g h behind b c others one rest put,
+    ap (λ d. d && one) is ∙ and-assoc this others one,
+  )
+    where
+      and-assoc : (x y z : Bool) → ((x && y) && z) ≡ (x && (y && z))
+      and-assoc true y z = refl
+      and-assoc false y z = refl
+
+  -- whether waivers are kept back, by what is there
+  pub kept_back : (files : F) (name : List ℕ) (there : Bool) → overwrites ≡ false → Has files name there → IsKeptBack Has overwrites files name there
+  kept_back files name true kept has = (kept, has)
+  kept_back files name false kept has = inr has

@@ -1,0 +1,8 @@
+use Rattle.t1_answer_all.proofs.answering.answer.Goals as goal
+use Rattle.t1_answer_all.specs.Answers.Answers.{checks, explained}
+
+pub returns-in-Ok-Check : goal.returns-in-Ok-Check
+returns-in-Ok-Check g c = checks c.in-Ok-Check.options (rw c.in-Ok-Check.field-0-is at c.in-Ok-Check.ensures.taken) c.check.ensures
+
+pub returns-in-Err : goal.returns-in-Err
+returns-in-Err g c = explained c.in-Err.error c.in-Err.ensures.refused c.explained.ensures

@@ -1,0 +1,25 @@
+-- The file of known faults, as the options name it.
+use Rattle.std.specs.Prelude.{◌≡◌, ◌⊎◌, ℕ, List, [], string_bytes}
+use Rattle.t1_known.specs.Reads.{HasKeyTwice, HasNoRow}
+use Rattle.t1_options.specs.declared.asked.KnownFaults.{KnownFaults}
+use Rattle.t1_options.specs.declared.asked.KnownFaults.TheVariants.{Anew, Beyond, Unnamed}
+use Rattle.t1_answer_all.specs.Places.{Texts}
+use Rattle.t1_answer_all.specs.Usage.{no_row_text, two_rows_text, unreadable_text}
+
+-- Its text: empty where none is named, or where one is made that isn't there yet.
+abbrev pub IsKnownText : Texts → KnownFaults → List ℕ → Type 0
+IsKnownText texts Unnamed text = text ≡ []
+IsKnownText texts (Beyond file) text = texts.Has (string_bytes file) text
+IsKnownText texts (Anew file) text = texts.Has (string_bytes file) text ⊎ (texts.HasNone (string_bytes file) × (text ≡ []))
+
+-- It can't be read, and this is told.
+abbrev pub IsNotKnownText : Texts → KnownFaults → List ℕ → Type 0
+IsNotKnownText texts Unnamed told = ⊥
+IsNotKnownText texts (Beyond file) told =
+    (texts.CannotRead (string_bytes file) ⊎ texts.HasNone (string_bytes file)) × (told ≡ unreadable_text (string_bytes file))
+IsNotKnownText texts (Anew file) told = texts.CannotRead (string_bytes file) × (told ≡ unreadable_text (string_bytes file))
+
+-- A text has no known faults, and this is told of the first line that is wrong.
+pub data IsWrong (text told : List ℕ) : Type 0 where
+  no_row : (line : List ℕ) → HasNoRow text line → told ≡ no_row_text line → IsWrong text told
+  two_rows : (line : List ℕ) → HasKeyTwice text line → told ≡ two_rows_text line → IsWrong text told

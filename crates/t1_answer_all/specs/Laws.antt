@@ -1,0 +1,48 @@
+-- The statements of laws.
+use Rattle.std.specs.Prelude.{◌≡◌, ◌⊎◌, ℕ, List, [], map, Ok}
+use Rattle.std.specs.List.{AllByRecursion, IsDistinct}
+use Rattle.std.specs.Str.{bytes_eq}
+use Rattle.t1_batch.specs.Checks.{all_handed}
+use Rattle.t1_batch.specs.Endings.{shortfalls_text}
+use Rattle.t1_batch.specs.Modes.{anew, beyond, judges_of, readings_of}
+use Rattle.t1_known.specs.Readings.{IsReadable}
+use Rattle.t1_known.specs.Reads.{IsReadAs}
+use Rattle.t1_many.specs.Choice.{Choice, is_told}
+use Rattle.t1_many.specs.Counting.{all_lines}
+use Rattle.t1_many.specs.Handing.{found_of}
+use Rattle.t1_many.specs.KnownFaults.{RowValue, file_text, updated}
+use Rattle.t1_many.specs.Outcomes.{Entry, Outcome, failed, found_of_failure, reported}
+use Rattle.t1_rules.specs.Book.{code_of, number_of}
+use Rattle.t1_rules.specs.Mask.{has}
+use Rattle.t1_rules.specs.declared.mask.Mask.{Mask}
+use Rattle.t1_rules.specs.declared.rule.Rule.{Rule}
+use Rattle.t1_summary.specs.declared.found.Found.{Found}
+use Rattle.t1_summary.specs.declared.found.Found.TheVariants.{Clean, Known}
+
+-- The rules are those that the codes choose.
+abbrev pub AreChosenBy : Choice → Mask → Type 0
+AreChosenBy choice rules = (rule : Rule) → has rules (number_of rule) ≡ is_told choice (code_of rule)
+
+-- Each font was checked once, and what was found in it can be read of rows.
+pub record CanBeKnown (rules : Mask) (entries : List Entry) : Type 0 where
+  pub once : IsDistinct bytes_eq (map (λ entry. entry.name) entries)
+  pub readable : AllByRecursion IsReadable (readings_of (anew []) rules entries)
+
+-- A font is clean or has known faults alone; of one without a report it is said why there is none.
+abbrev pub IsQuietFont : Outcome → Found → Type 0
+IsQuietFont (reported report) found = (found ≡ Clean) ⊎ (found ≡ Known)
+IsQuietFont (failed reason) found = found ≡ found_of_failure reason
+
+-- No line of a report is handed on, no row is told as one that is no longer reached, and no font is told to have faults.
+pub record IsQuiet (choice : Choice) (rules : Mask) (known : List RowValue) (entries : List Entry) : Type 0 where
+  pub lines : all_lines (all_handed (judges_of (beyond known) rules) entries) ≡ []
+  pub rows : shortfalls_text (beyond known) choice (readings_of (beyond known) rules entries) ≡ []
+  pub founds :
+      AllByRecursion (λ entry. IsQuietFont entry.outcome (found_of (judges_of (beyond known) rules entry.name) entry.outcome)) entries
+
+-- Where known faults were made anew of fonts, and the file is read, the same fonts are quiet: it had these rows before, and has what was found.
+abbrev pub AnUpdateIsQuietNextTime : Type 0
+AnUpdateIsQuietNextTime =
+    (choice : Choice) (rules : Mask) (entries : List Entry) (text : List ℕ) (rows known : List RowValue)
+    → AreChosenBy choice rules → CanBeKnown rules entries → IsReadAs text (Ok rows)
+    → IsReadAs (file_text (updated choice (readings_of (anew rows) rules entries) rows)) (Ok known) → IsQuiet choice rules known entries

@@ -1,0 +1,11 @@
+pub mod Answers
+pub mod Checking
+pub mod Known
+pub mod Laws
+pub mod Listing
+pub mod Places
+pub mod Private
+pub mod Replacing
+pub mod Telling
+pub mod Usage
+pub mod Words

@@ -1,0 +1,93 @@
+-- The fonts that options name.
+use Rattle.std.specs.Prelude.{◌≡◌, ◌≢◌, ◌≤◌, ◌-◌, ℕ, List, [], map, string_bytes, Option, None, Some, Ok}
+use Rattle.std.specs.List.{AllZip}
+use Rattle.std.specs.Str.{chars}
+use Rattle.t1_batch.specs.Unlisted.{unlisted_told}
+use Rattle.t1_forms.specs.Tellings.{ToldValue}
+use Rattle.t1_known.specs.Reads.{IsReadAs}
+use Rattle.t1_many.specs.KnownFaults.{RowValue}
+use Rattle.t1_many.specs.Shards.{part_of}
+use Rattle.t1_names.specs.Globs.{Glob, IsRead}
+use Rattle.t1_names.specs.Named.{AreNamed}
+use Rattle.t1_options.specs.declared.asked.Options.{Options}
+use Rattle.t1_options.specs.declared.asked.Shard.{Shard}
+use Rattle.t1_answer_all.specs.Known.{IsKnownText, IsNotKnownText, IsWrong}
+use Rattle.t1_answer_all.specs.Places.{ListsGiven, Texts}
+use Rattle.t1_answer_all.specs.Usage.{no_font_text}
+use Rattle.t1_answer_all.specs.Words.{CannotReadOne, undecoded_of, words_of}
+use Rattle.t1_answer_all.specs.declared.listing.Fonts.{Fonts}
+
+-- Fonts, and what couldn't be listed.
+pub record FontsValue : Type 0 where
+  pub names : List (List ℕ)
+  pub unsearched : List (List ℕ)
+  pub undecoded : ℕ
+  pub passed_over : ℕ
+
+abbrev pub fonts_value : Fonts → FontsValue
+fonts_value fonts = record {
+  names = map string_bytes fonts.names.items;
+  unsearched = map string_bytes fonts.unsearched.items;
+  undecoded = fonts.undecoded;
+  passed_over = fonts.passed_over;
+}
+
+-- What is told of it.
+abbrev pub unlisted_of : FontsValue → List ToldValue
+unlisted_of fonts = unlisted_told fonts.undecoded fonts.passed_over fonts.unsearched
+
+-- The glob that a text is.
+abbrev pub IsGlobOf : List ℕ → Glob → Type 0
+IsGlobOf text glob = IsRead (chars text) glob
+
+-- The whole list: the lists have texts, and these are the fonts that their words and those of the command line name.
+pub record AreNamedBy (given : ListsGiven) (options : Options) (fonts : FontsValue) : Type 0 where
+  pub texts : List (List ℕ)
+  pub read : AllZip given.texts.Has (map string_bytes options.files_from.items) texts
+  pub globs : List Glob
+  pub globs_are : AllZip IsGlobOf (map string_bytes options.exclude.items) globs
+  pub named :
+      AreNamed given.IsFolder given.Lists (words_of (map string_bytes options.paths.items) texts) globs fonts.names fonts.unsearched fonts.passed_over
+  pub undecoded_is : fonts.undecoded ≡ undecoded_of (map string_bytes options.paths.items) texts
+
+-- The part of a list that is checked. A shard of options is one of its parts.
+abbrev pub IsPartOf : Option Shard → List (List ℕ) → List (List ℕ) → Type 0
+IsPartOf None all part = part ≡ all
+IsPartOf (Some shard) all part = 1 ≤ shard.part → shard.part ≤ shard.parts → part ≡ part_of shard.parts all (shard.part - 1)
+
+-- The fonts that are checked: a part of a list that isn't empty.
+pub record AreFonts (given : ListsGiven) (options : Options) (fonts : FontsValue) : Type 0 where
+  pub all : List (List ℕ)
+  pub named : AreNamedBy given options (record fonts { names = all })
+  pub some : all ≢ []
+  pub part : IsPartOf options.shard all fonts.names
+
+-- The list has no font, and this is told.
+pub record NamesNone (given : ListsGiven) (options : Options) (told : List ℕ) : Type 0 where
+  pub fonts : FontsValue
+  pub named : AreNamedBy given options fonts
+  pub none : fonts.names ≡ []
+  pub told_is : told ≡ no_font_text
+
+-- The text of the file of known faults, and its rows.
+pub record HasKnown (known : Texts) (options : Options) (text : List ℕ) : Type 0 where
+  pub is : IsKnownText known options.known_faults text
+  pub rows : List RowValue
+  pub read : IsReadAs text (Ok rows)
+
+-- What is listed: the text of the file of known faults, which has rows, and the fonts.
+pub record IsListed (known : Texts) (given : ListsGiven) (options : Options) (text : List ℕ) (fonts : FontsValue) : Type 0 where
+  pub has_known : HasKnown known options text
+  pub fonts_are : AreFonts given options fonts
+
+-- A list can't be read, or there is no font, and this is told.
+pub data HasNoFonts (given : ListsGiven) (options : Options) (told : List ℕ) : Type 0 where
+  unread : CannotReadOne given.texts (map string_bytes options.files_from.items) told → HasNoFonts given options told
+  none : NamesNone given options told → HasNoFonts given options told
+
+-- Something is wrong, and this is told: of the file of known faults; else of the lists, or that there is no font.
+pub data IsNotListed (known : Texts) (given : ListsGiven) (options : Options) (told : List ℕ) : Type 0 where
+  no_text : IsNotKnownText known options.known_faults told → IsNotListed known given options told
+  no_rows :
+      (text : List ℕ) → IsKnownText known options.known_faults text → IsWrong text told → IsNotListed known given options told
+  no_fonts : (text : List ℕ) → HasKnown known options text → HasNoFonts given options told → IsNotListed known given options told

@@ -1,0 +1,127 @@
+-- Files that are replaced once all was told.
+use Rattle.std.specs.Prelude.{◌≡◌, ◌⊎◌, ◌++◌, ◌&&◌, ℕ, Bool, true, false, List, [], ◌∷◌, codes, Option, None, Some, option_map, string_bytes, if◌then◌else◌}
+use Rattle.std.specs.List.{concat}
+use Rattle.t1_answer_all.specs.declared.replacing.NewFile.{NewFile}
+use Rattle.t1_answer_all.specs.declared.replacing.Replacements.{Replacements}
+use Rattle.t1_batch.specs.Runs.{program}
+use Rattle.t1_io.specs.Devices.{SinkState}
+use Rattle.t1_run.specs.Failures.{out_of_memory_line}
+use Rattle.t1_run.specs.Telling.{Tells}
+use Rattle.t1_run.specs.declared.status.Status.{Status}
+use Rattle.t1_run.specs.declared.status.Status.TheVariants.{Failed}
+use Rattle.t1_waiving.specs.FontTexts.{FontText}
+
+-- A file that is to be replaced.
+pub record NewFileValue : Type 0 where
+  pub name : List ℕ
+  pub text : List ℕ
+
+abbrev pub new_file_value : NewFile → NewFileValue
+new_file_value file = record { name = string_bytes file.name; text = file.text.items }
+
+-- What is left to do.
+pub record ReplacementsValue : Type 0 where
+  pub status : Status
+  pub known_faults : Option NewFileValue
+  pub waivers : Option (List FontText)
+  pub overwrites : Bool
+
+abbrev pub replacements_value : Replacements → ReplacementsValue
+replacements_value left = record {
+  status = left.status;
+  known_faults = option_map new_file_value left.known_faults;
+  waivers = left.waivers;
+  overwrites = left.overwrites;
+}
+
+-- ---- what is told
+
+abbrev pub unwritten_line : List ℕ → List ℕ
+unwritten_line name = concat (program ∷ codes ": " ∷ name ∷ codes " can't be written\n" ∷ [])
+
+abbrev pub there_line : List ℕ → List ℕ
+there_line font = concat (font ∷ codes ": waivers are there already\n" ∷ [])
+
+-- That something failed is told, as far as the device takes it.
+abbrev pub TellsFailure : List ℕ → SinkState → SinkState → Type 0
+TellsFailure text errors errors' = (status : Status) × Tells text Failed errors errors' status
+
+-- ---- one file
+
+-- A text was put in the place of a file; or that failed, which is told.
+pub data PutsFile {F : Type 0} (Puts : F → F → List ℕ → List ℕ → Bool → Type 0) (name text : List ℕ) (old new : F) (errors errors' : SinkState)
+    (done : Bool) : Type 0 where
+  put : Puts old new name text true → errors' ≡ errors → done ≡ true → PutsFile Puts name text old new errors errors' done
+  unwritten :
+      Puts old new name text false → TellsFailure (unwritten_line name) errors errors' → done ≡ false
+      → PutsFile Puts name text old new errors errors' done
+
+-- The file of known faults, if it is to be replaced.
+abbrev pub PutsKnownFaults : {F : Type 0} → (F → F → List ℕ → List ℕ → Bool → Type 0) → Option NewFileValue → F → F → SinkState → SinkState → Bool
+    → Type 0
+PutsKnownFaults Puts None old new errors errors' done = (new ≡ old) × (errors' ≡ errors) × (done ≡ true)
+PutsKnownFaults Puts (Some file) old new errors errors' done = PutsFile Puts file.name file.text old new errors errors' done
+
+-- ---- waivers
+
+-- The file of the waivers of a font.
+abbrev pub waivers_name : List ℕ → List ℕ
+waivers_name font = font ++ codes ".waivers"
+
+-- They are kept back where there is such a file already, unless it is overwritten.
+abbrev pub IsKeptBack : {F : Type 0} → (F → List ℕ → Bool → Type 0) → Bool → F → List ℕ → Bool → Type 0
+IsKeptBack Has overwrites files name true = (overwrites ≡ false) × Has files name true
+IsKeptBack Has overwrites files name false = (overwrites ≡ true) ⊎ Has files name false
+
+-- The waivers of a font are put into their file; or they are kept back, or memory runs out, and that is told.
+pub data TriesToPut {F : Type 0} (Puts : F → F → List ℕ → List ℕ → Bool → Type 0) (Has : F → List ℕ → Bool → Type 0) (overwrites : Bool)
+    (font text : List ℕ) (old new : F) (errors errors' : SinkState) (done : Bool) : Type 0 where
+  tried :
+      IsKeptBack Has overwrites old (waivers_name font) false → PutsFile Puts (waivers_name font) text old new errors errors' done
+      → TriesToPut Puts Has overwrites font text old new errors errors' done
+  there_already :
+      IsKeptBack Has overwrites old (waivers_name font) true → new ≡ old → TellsFailure (there_line font) errors errors' → done ≡ false
+      → TriesToPut Puts Has overwrites font text old new errors errors' done
+  no_memory :
+      new ≡ old → TellsFailure (out_of_memory_line program) errors errors' → done ≡ false
+      → TriesToPut Puts Has overwrites font text old new errors errors' done
+
+-- Of a font with too many waivers none is written.
+abbrev pub PutsText : {F : Type 0} → (F → F → List ℕ → List ℕ → Bool → Type 0) → (F → List ℕ → Bool → Type 0) → Bool → List ℕ → Option (List ℕ)
+    → F → F → SinkState → SinkState → Bool → Type 0
+PutsText Puts Has overwrites font None old new errors errors' done = (new ≡ old) × (errors' ≡ errors) × (done ≡ true)
+PutsText Puts Has overwrites font (Some text) old new errors errors' done = TriesToPut Puts Has overwrites font text old new errors errors' done
+
+abbrev pub PutsWaiversOf : {F : Type 0} → (F → F → List ℕ → List ℕ → Bool → Type 0) → (F → List ℕ → Bool → Type 0) → Bool → FontText → F → F
+    → SinkState → SinkState → Bool → Type 0
+PutsWaiversOf Puts Has overwrites font old new errors errors' done = PutsText Puts Has overwrites font.name font.text old new errors errors' done
+
+-- Those of fonts, one after another, whatever failed before.
+abbrev pub PutsEach : {F : Type 0} → (F → F → List ℕ → List ℕ → Bool → Type 0) → (F → List ℕ → Bool → Type 0) → Bool → List FontText → F → F
+    → SinkState → SinkState → Bool → Type 0
+PutsEach Puts Has overwrites [] old new errors errors' done = (new ≡ old) × (errors' ≡ errors) × (done ≡ true)
+PutsEach {F} Puts Has overwrites (font ∷ fonts) old new errors errors' done =
+    (next : F) × (behind : SinkState) × (one others : Bool) × PutsWaiversOf Puts Has overwrites font old next errors behind one
+    × PutsEach Puts Has overwrites fonts next new behind errors' others × (done ≡ (one && others))
+
+abbrev pub PutsWaivers : {F : Type 0} → (F → F → List ℕ → List ℕ → Bool → Type 0) → (F → List ℕ → Bool → Type 0) → Bool → Option (List FontText)
+    → F → F → SinkState → SinkState → Bool → Type 0
+PutsWaivers Puts Has overwrites None old new errors errors' done = (new ≡ old) × (errors' ≡ errors) × (done ≡ true)
+PutsWaivers Puts Has overwrites (Some fonts) old new errors errors' done = PutsEach Puts Has overwrites fonts old new errors errors' done
+
+-- ---- all files
+
+abbrev pub status_if : Bool → Status → Status
+status_if done status = if done then status else Failed
+
+-- The file of known faults is replaced, if it is left to be, and the waivers are written that are left to be: no other file is touched. Where
+-- something failed that is told, and the status is that of a failure.
+pub record Replaces {F : Type 0} (Puts : F → F → List ℕ → List ℕ → Bool → Type 0) (Has : F → List ℕ → Bool → Type 0) (left : ReplacementsValue)
+    (old new : F) (errors errors' : SinkState) (status : Status) : Type 0 where
+  pub between : F
+  pub behind : SinkState
+  pub known : Bool
+  pub waivers : Bool
+  pub known_faults : PutsKnownFaults Puts left.known_faults old between errors behind known
+  pub waivers_are : PutsWaivers Puts Has left.overwrites left.waivers between new behind errors' waivers
+  pub status_is : status ≡ status_if (known && waivers) left.status

@@ -1,0 +1,209 @@
+//! Files that are replaced once all was told.
+
+ghost use Rattle.std.specs.Prelude.{◌≡◌, ℕ, IfOk, List, Bool, map, option_map, string_bytes};
+ghost use Rattle.std.specs.Result.{is_ok};
+ghost use Rattle.t1_answer_all.specs.Replacing.{IsKeptBack, PutsEach, PutsFile, PutsKnownFaults, PutsWaivers, PutsWaiversOf, Replaces, TriesToPut, new_file_value, replacements_value, status_if, waivers_name};
+ghost use Rattle.t1_waiving.specs.FontTexts.{font_text};
+
+use std::alloc::{AllocError, Global};
+use std::io;
+use t1_batch::PROGRAM;
+use t1_io::Sink;
+use t1_run::{Failure, Status, tell_failure, tell_parts};
+use t1_waiving::{FontWaivers, Kept};
+
+/// Files that can be replaced, by their names.
+pub trait FileStore {
+    // A text was put in the place of a file, or that failed.
+    ghost puts: { Self → Self → List ℕ → List ℕ → Bool → Type 0 };
+
+    // There is a file of this name, or there is none.
+    ghost has: { Self → List ℕ → Bool → Type 0 };
+
+    /// Puts a text in the place of a file.
+    fn replace(&mut self, name: &str, text: &[u8]) -> io::Result<()>
+        ensures { puts self.old self.new name.now text.now (is_ok result) };
+
+    /// Whether there is a file of this name.
+    fn is_there(&self, name: &str) -> bool
+        ensures { has self.now name.now result };
+}
+
+/// A file that is to be replaced.
+#[derive(Drop)]
+pub struct NewFile {
+    /// Its name.
+    pub name: String,
+    /// The text that it has from then on.
+    pub text: Vec<u8>,
+}
+
+/// What is left to do once all was answered.
+#[derive(Drop)]
+pub struct Replacements {
+    /// The status so far.
+    pub status: Status,
+    /// The file of known faults, if it is replaced.
+    pub known_faults: Option<NewFile>,
+    /// The waivers that are written beside their fonts, if some are.
+    pub waivers: Option<Kept>,
+    /// Whether waivers are written over those that are there.
+    pub overwrites: bool,
+}
+
+/// Replaces the files that are left to be replaced, and returns the status. Where a file can't be replaced, or waivers are there already, that
+/// is told, the status is that of a failure, and the rest is done all the same.
+pub fn replace_files<F: FileStore, E: Sink>(
+    alloc: Global,
+    left: &Replacements,
+    files: &mut F,
+    errors: &mut E,
+) -> Status
+    ensures { Replaces F.puts F.has (replacements_value left.now) files.old files.new (E.state errors.old) (E.state errors.new) result }
+{
+    let known_faults = put_known_faults(&left.known_faults, files, errors);
+    let waivers = put_waivers(alloc, &left.waivers, left.overwrites, files, errors);
+    status_if(known_faults & waivers, left.status)
+}
+
+/// The status, unless something failed.
+fn status_if(done: bool, status: Status) -> Status
+    ensures { result ≡ status_if done status }
+{
+    if done { status } else { Status::Failed }
+}
+
+/// Replaces the file of known faults, if it is to be replaced. Whether nothing failed.
+fn put_known_faults<F: FileStore, E: Sink>(
+    file: &Option<NewFile>,
+    files: &mut F,
+    errors: &mut E,
+) -> bool
+    ensures { PutsKnownFaults F.puts (option_map new_file_value file.now) files.old files.new (E.state errors.old) (E.state errors.new) result }
+{
+    match file {
+        Some(file) => put_file(file.name.as_str(), file.text.as_slice(), files, errors),
+        None => true,
+    }
+}
+
+/// Writes waivers beside their fonts, if some are to be written. Whether nothing failed.
+fn put_waivers<F: FileStore, E: Sink>(
+    alloc: Global,
+    waivers: &Option<Kept>,
+    overwrites: bool,
+    files: &mut F,
+    errors: &mut E,
+) -> bool
+    ensures { PutsWaivers F.puts F.has overwrites waivers.now files.old files.new (E.state errors.old) (E.state errors.new) result }
+{
+    match waivers {
+        Some(waivers) => put_each(alloc, waivers.fonts(), overwrites, files, errors),
+        None => true,
+    }
+}
+
+/// Writes the waivers of these fonts. Whether nothing failed.
+fn put_each<F: FileStore, E: Sink>(
+    alloc: Global,
+    fonts: &[FontWaivers],
+    overwrites: bool,
+    files: &mut F,
+    errors: &mut E,
+) -> bool
+    ensures { PutsEach F.puts F.has overwrites (map font_text fonts.now) files.old files.new (E.state errors.old) (E.state errors.new) result }
+{
+    let mut done = true;
+    for font in fonts {
+        let one = put_font(alloc, font, overwrites, files, errors);
+        done = done & one;
+    }
+    done
+}
+
+/// Writes the waivers of a font, if they have a text, and there are none already or they are overwritten. Whether nothing failed.
+fn put_font<F: FileStore, E: Sink>(
+    alloc: Global,
+    font: &FontWaivers,
+    overwrites: bool,
+    files: &mut F,
+    errors: &mut E,
+) -> bool
+    ensures { PutsWaiversOf F.puts F.has overwrites (font_text font.now) files.old files.new (E.state errors.old) (E.state errors.new) result }
+{
+    match &font.text {
+        Some(text) => put_text(
+            alloc,
+            font.name.as_str(),
+            text.as_slice(),
+            overwrites,
+            files,
+            errors,
+        ),
+        None => true,
+    }
+}
+
+/// Writes the waivers of the font of this name. Whether nothing failed.
+fn put_text<F: FileStore, E: Sink>(
+    alloc: Global,
+    font: &str,
+    text: &[u8],
+    overwrites: bool,
+    files: &mut F,
+    errors: &mut E,
+) -> bool
+    ensures { TriesToPut F.puts F.has overwrites font.now text.now files.old files.new (E.state errors.old) (E.state errors.new) result }
+{
+    let Ok(name) = waivers_name(alloc, font) else {
+        tell_failure(PROGRAM, Failure::Memory, errors);
+        return false;
+    };
+    if is_kept_back(overwrites, name.as_str(), files) {
+        tell_parts(
+            errors,
+            &[font.as_bytes(), b": waivers are there already\n"],
+            Status::Failed,
+        );
+        return false;
+    }
+    put_file(name.as_str(), text, files, errors)
+}
+
+/// Whether waivers are kept back, since there are some already.
+fn is_kept_back<F: FileStore>(overwrites: bool, name: &str, files: &F) -> bool
+    ensures { IsKeptBack F.has overwrites files.now name.now result }
+{
+    if overwrites {
+        return false;
+    }
+    files.is_there(name)
+}
+
+/// The name of a font's file of waivers.
+pub fn waivers_name(alloc: Global, font: &str) -> Result<String, AllocError>
+    ensures { IfOk result (λ name. string_bytes name ≡ waivers_name font.now) }
+{
+    let mut name = String::from_str(alloc, font)?;
+    name.push_str(".waivers")?;
+    Ok(name)
+}
+
+/// Puts a text in the place of a file; where that fails it is told. Whether it succeeded.
+fn put_file<F: FileStore, E: Sink>(name: &str, text: &[u8], files: &mut F, errors: &mut E) -> bool
+    ensures { PutsFile F.puts name.now text.now files.old files.new (E.state errors.old) (E.state errors.new) result }
+{
+    match files.replace(name, text) {
+        Ok(()) => true,
+        Err(_) => {
+            let parts = [
+                PROGRAM.as_bytes(),
+                b": ",
+                name.as_bytes(),
+                b" can't be written\n",
+            ];
+            tell_parts(errors, &parts, Status::Failed);
+            false
+        }
+    }
+}

@@ -1,0 +1,93 @@
+//! The words that name fonts and folders: those of the command line, and those of lists.
+
+ghost use Rattle.std.specs.Prelude.{◌≡◌, ◌+◌, ◌-◌, ◌^◌, ◌++◌, IfErr, IfOk, OnOk, map, min, string_bytes};
+ghost use Rattle.std.specs.Fn.{FnReturnsAt};
+ghost use Rattle.t1_answer_all.specs.Places.{texts_by};
+ghost use Rattle.t1_answer_all.specs.Usage.{IsToldSo};
+ghost use Rattle.t1_answer_all.specs.Private.Words.{AddsList, AreWordsOf, IsText, IsNoText};
+ghost use Rattle.t1_answer_all.specs.Words.{CannotReadOne, given_words, undecoded_in};
+
+use crate::usage::unreadable;
+use std::alloc::{AllocError, Global};
+use std::io;
+use t1_names::words_in;
+use t1_options::is_marked;
+use t1_run::UsageError;
+
+/// Words that may name fonts and folders.
+#[derive(Drop)]
+pub(crate) struct Words {
+    /// Those that are UTF-8.
+    pub(crate) words: Vec<String>,
+    /// How many aren't; 2^64 - 1 where there are more.
+    pub(crate) undecoded: usize,
+}
+
+/// The words of the command line, and those of these lists, in this order.
+pub(crate) fn all_words<T>(
+    alloc: Global,
+    paths: &[String],
+    files: &[String],
+    list_text: &T,
+) -> Result<Words, UsageError>
+where
+    T: Fn(&str) -> io::Result<Vec<u8>>,
+    requires { T.IsAlwaysCallable list_text.now }
+    ensures words { IfOk result (AreWordsOf (texts_by (FnReturnsAt T.Fn list_text.now)) (map string_bytes paths.now) (map string_bytes files.now)) }
+    ensures none { IfErr result (IsToldSo (CannotReadOne (texts_by (FnReturnsAt T.Fn list_text.now)) (map string_bytes files.now))) }
+{
+    let mut words = words_given(alloc, paths)?;
+    for file in files {
+        let text = text_of(alloc, file.as_str(), list_text)?;
+        add_list(alloc, &mut words, text.as_slice())?;
+    }
+    Ok(words)
+}
+
+/// The words of the command line.
+fn words_given(alloc: Global, paths: &[String]) -> Result<Words, AllocError>
+    ensures words { IfOk result (λ all. map string_bytes all.words.items ≡ given_words (map string_bytes paths.now)) }
+    ensures undecoded { IfOk result (λ all. all.undecoded ≡ undecoded_in (map string_bytes paths.now)) }
+{
+    let mut words = Vec::new(alloc);
+    for path in paths {
+        if !is_marked(path.as_str()) {
+            words.push(String::from_str(alloc, path.as_str())?)?;
+        }
+    }
+    Ok(Words {
+        words,
+        undecoded: count_marked(paths),
+    })
+}
+
+/// How many words aren't UTF-8.
+fn count_marked(paths: &[String]) -> usize
+    ensures { result ≡ undecoded_in (map string_bytes paths.now) }
+{
+    paths.iter().filter(|path| is_marked(path.as_str())).count()
+}
+
+/// The text of a list.
+fn text_of<T>(alloc: Global, file: &str, list_text: &T) -> Result<Vec<u8>, UsageError>
+where
+    T: Fn(&str) -> io::Result<Vec<u8>>,
+    requires { T.IsAlwaysCallable list_text.now }
+    ensures text { IfOk result (IsText (texts_by (FnReturnsAt T.Fn list_text.now)) file.now) }
+    ensures none { IfErr result (IsToldSo (IsNoText (texts_by (FnReturnsAt T.Fn list_text.now)) file.now)) }
+{
+    match list_text(file) {
+        Ok(text) => Ok(text),
+        Err(_) => Err(unreadable(alloc, file)),
+    }
+}
+
+/// Adds the words of a list.
+fn add_list(alloc: Global, words: &mut Words, text: &[u8]) -> Result<(), AllocError>
+    ensures { OnOk result (AddsList text.now words.old words.new) }
+{
+    let mut listed = words_in(alloc, text)?;
+    words.words.append(&mut listed.words)?;
+    words.undecoded = words.undecoded.saturating_add(listed.passed_over);
+    Ok(())
+}
