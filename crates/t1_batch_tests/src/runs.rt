@@ -59,6 +59,7 @@ fn plain<'a>() -> Output<'a> {
         form: None,
         docs: None,
         unlisted: Unlisted {
+            undecoded: 0,
             passed_over: 0,
             unsearched: &[],
         },
@@ -337,6 +338,7 @@ fn tells_what_was_not_listed(rt: HostRuntime) -> Result<(), Fail> {
             form: Some(Form::JsonLines),
             docs: None,
             unlisted: Unlisted {
+                undecoded: 1,
                 passed_over: 1,
                 unsearched: unsearched.as_slice(),
             },
@@ -353,6 +355,7 @@ fn tells_what_was_not_listed(rt: HostRuntime) -> Result<(), Fail> {
     )?;
     assert_eq!(rt; left.status, Status::Failed);
     let lines = b"\
+{\"text\":\"a name that is not UTF-8 is passed over\",\"unit\":\"unchecked\"}
 {\"text\":\"a name with a line end is passed over\",\"unit\":\"unchecked\"}
 {\"file\":\"fonts/old\",\"text\":\"search failed\",\"unit\":\"unchecked\"}
 {\"code\":\"P03\",\"file\":\"faulty.pfb\",\"name\":\"A\",\"number\":4,\"path\":[],\"step\":4,\"text\":\"closepath without a path\",\"unit\":\"glyph\"}

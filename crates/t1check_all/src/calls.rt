@@ -1,16 +1,17 @@
 //! What the words call for: a whole run, or a step of one that is split into parts.
 
+use crate::folder::write;
 use crate::joining::join_parts;
 use crate::parts::{check_listed, check_part};
 use crate::planning::plan;
-use crate::usage::version;
-use crate::whole::check_whole;
+use crate::usage::VERSION;
+use crate::whole::answer_words;
 use std::alloc::{AllocError, Global};
 use std::io::Write;
 use t1_batch::PROGRAM;
 use t1_io::Out;
 use t1_options::{Options, Request, options};
-use t1_run::{Status, UsageError, explain};
+use t1_run::{Failure, Status, explain, give, tell_failure};
 
 /// A step of a run, with its folder. The words of the run stand behind it.
 #[derive(Clone, Copy)]
@@ -42,22 +43,48 @@ pub(crate) fn call_of<W: Write + Drop, E: Write + Drop>(
     out: Out<W>,
     errors: Out<E>,
 ) -> Status {
-    let mut out = out;
-    let mut errors = errors;
     let (step, start) = step_in(words);
-    let words = words.get(start..).unwrap_or(&[]);
-    match (request_in(rt.alloc(), words), step) {
-        (Ok(Request::Check(options)), None) => check_whole(rt, options, out, errors),
-        (Ok(Request::Check(options)), Some(step)) => take_step(rt, step, options, out, errors),
-        (Ok(Request::Version), step) => version(rt, step, &mut out, &mut errors),
-        (Err(error), _) => explain(PROGRAM, &error, &mut out, &mut errors),
+    let Ok(words) = named(rt.alloc(), words.get(start..).unwrap_or(&[])) else {
+        let mut errors = errors;
+        return tell_failure(PROGRAM, Failure::Memory, &mut errors);
+    };
+    match step {
+        Some(step) => begin_step(rt, step, words.as_slice(), out, errors),
+        None => answer_words(rt, words.as_slice(), out, errors),
     }
 }
 
-/// What the words of a run request.
-fn request_in(alloc: Global, words: &[String]) -> Result<Request, UsageError> {
-    let words = named(alloc, words)?;
-    options(alloc, words.as_slice())
+/// Takes a step of a run with the options of these words.
+fn begin_step<W: Write + Drop, E: Write + Drop>(
+    rt: &HostRuntime,
+    step: Step<'_>,
+    words: &[&str],
+    out: Out<W>,
+    errors: Out<E>,
+) -> Status {
+    let mut out = out;
+    let mut errors = errors;
+    match options(rt.alloc(), words) {
+        Ok(Request::Check(options)) => take_step(rt, step, options, out, errors),
+        Ok(Request::Version) => version(rt, step, &mut out, &mut errors),
+        Err(error) => explain(PROGRAM, &error, &mut out, &mut errors),
+    }
+}
+
+/// Writes the version, or leaves it to be written by what knows more of it.
+fn version<W: Write + Drop, E: Write + Drop>(
+    rt: &HostRuntime,
+    step: Step<'_>,
+    out: &mut Out<W>,
+    errors: &mut Out<E>,
+) -> Status {
+    match step {
+        Step::Plan { folder, .. } => match write(rt, folder, "version", VERSION) {
+            Ok(()) => Status::Clean,
+            Err(_) => Status::Failed,
+        },
+        _ => give(PROGRAM, VERSION, out, errors),
+    }
 }
 
 /// Words with the program's name in front, which is in the texts of usage errors.

@@ -2,10 +2,11 @@
 
 ghost use Rattle.std.specs.Prelude.{◌≡◌, false, IfOk};
 
-use std::alloc::{AllocError, Global};
+use std::alloc::AllocError;
 use std::fs::{File, OpenOptions};
-use std::io::{ErrorKind, Write};
+use std::io::{ErrorKind, Read, Write};
 use std::{fs, io};
+use t1_answer_all::{FileStore, waivers_name};
 use t1_io::{In, Source};
 use t1_names::{Entry, Listing, is_font_name};
 
@@ -28,13 +29,6 @@ pub(crate) fn count_font(rt: &HostRuntime, name: &str) {
     }
 }
 
-/// The name of a font's file of waivers.
-pub(crate) fn waivers_name(alloc: Global, name: &str) -> Result<String, AllocError> {
-    let mut waivers = String::from_str(alloc, name)?;
-    waivers.push_str(".waivers")?;
-    Ok(waivers)
-}
-
 /// Opens a font's file of waivers, if there is one, and it is to be read.
 pub(crate) fn open_waivers(
     rt: &HostRuntime,
@@ -55,6 +49,25 @@ pub(crate) fn open_waivers(
             ErrorKind::NotFound | ErrorKind::InvalidFilename => None,
             _ => Some(Err(error)),
         },
+    }
+}
+
+/// The text of a list of fonts and folders: that of standard input for `-`.
+pub(crate) fn list_text(rt: &HostRuntime, file: &str) -> io::Result<Vec<u8>> {
+    if file.as_bytes() != b"-".as_slice() {
+        return fs::read(rt, file);
+    }
+    let mut text = Vec::new(rt.alloc());
+    rt.stdin().read_to_end(&mut text)?;
+    Ok(text)
+}
+
+/// The text of a file of known faults: None where there is no such file.
+pub(crate) fn known_text(rt: &HostRuntime, file: &str) -> Option<io::Result<Vec<u8>>> {
+    match fs::metadata(rt, file) {
+        Ok(metadata) if metadata.is_file() => Some(fs::read(rt, file)),
+        Ok(_) => Some(Err(io::Error::from(ErrorKind::InvalidInput))),
+        Err(_) => None,
     }
 }
 
@@ -100,11 +113,31 @@ pub(crate) fn list_folder(rt: &HostRuntime, folder: &str) -> Result<Listing, All
     Ok(listing)
 }
 
+/// The system's files, as they are replaced.
+#[derive(Drop)]
+pub(crate) struct SystemFiles<'a> {
+    pub(crate) rt: &'a HostRuntime,
+}
+
+impl<'a> FileStore for SystemFiles<'a> {
+    ghost puts = { λ _ _ _ _ _. Unit {0} };
+
+    ghost has = { λ _ _ _. Unit {0} };
+
+    fn replace(&mut self, name: &str, text: &[u8]) -> io::Result<()> {
+        replace(self.rt, name, text)
+    }
+
+    fn is_there(&self, name: &str) -> bool {
+        fs::metadata(self.rt, name).is_ok()
+    }
+}
+
 /// How many names are tried of a file that is to stand beside another one.
 const MOST_TRIES: u32 = 100;
 
 /// Puts a text in the place of a file: it is written beside it first, into a file that wasn't there.
-pub(crate) fn replace(rt: &HostRuntime, name: &str, text: &[u8]) -> io::Result<()> {
+fn replace(rt: &HostRuntime, name: &str, text: &[u8]) -> io::Result<()> {
     let (beside, mut file) = create_beside(rt, name)?;
     let written = file.write_all(text);
     drop(file);

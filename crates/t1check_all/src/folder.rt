@@ -1,9 +1,11 @@
 //! The folder of a run that is split into parts: what its steps leave to one another.
 
 use std::alloc::AllocError;
-use std::io::{BufWriter, ErrorKind, Write};
+use std::io::{BufWriter, ErrorKind};
 use std::{fs, io};
-use t1_names::Named;
+use t1_answer_all::Fonts;
+use t1_io::{Out, Sink};
+use t1_parts::{NotPart, read_lines, write_lines};
 
 /// The name of a file in a folder.
 pub(crate) fn in_folder(rt: &HostRuntime, folder: &str, file: &str) -> Result<String, AllocError> {
@@ -39,50 +41,47 @@ pub(crate) fn write(rt: &HostRuntime, folder: &str, file: &str, text: &[u8]) -> 
 }
 
 /// Leaves the list: the fonts, and what couldn't be listed.
-pub(crate) fn write_list(rt: &HostRuntime, folder: &str, named: &Named) -> io::Result<()> {
-    write_lines(rt, folder, "list", named.names.as_slice())?;
-    write_lines(rt, folder, "unsearched", named.unsearched.as_slice())?;
-    let count = named.passed_over.to_string(rt.alloc())?;
-    write(rt, folder, "passed_over", count.as_bytes())
+pub(crate) fn write_list(rt: &HostRuntime, folder: &str, fonts: &Fonts) -> io::Result<()> {
+    leave_lines(rt, folder, "list", fonts.names.as_slice())?;
+    leave_lines(rt, folder, "unsearched", fonts.unsearched.as_slice())?;
+    write_number(rt, folder, "undecoded", fonts.undecoded)?;
+    write_number(rt, folder, "passed_over", fonts.passed_over)
 }
 
 /// The list that was left.
-pub(crate) fn read_list(rt: &HostRuntime, folder: &str) -> io::Result<Named> {
-    Ok(Named {
-        names: read_lines(rt, folder, "list")?,
-        unsearched: read_lines(rt, folder, "unsearched")?,
+pub(crate) fn read_list(rt: &HostRuntime, folder: &str) -> io::Result<Fonts> {
+    Ok(Fonts {
+        names: left_lines(rt, folder, "list")?,
+        unsearched: left_lines(rt, folder, "unsearched")?,
+        undecoded: read_number(rt, folder, "undecoded")? as usize,
         passed_over: read_number(rt, folder, "passed_over")? as usize,
     })
 }
 
-/// Writes texts without line ends, a line each.
-fn write_lines(rt: &HostRuntime, folder: &str, file: &str, lines: &[String]) -> io::Result<()> {
+/// Writes a number.
+fn write_number(rt: &HostRuntime, folder: &str, file: &str, number: usize) -> io::Result<()> {
+    let text = number.to_string(rt.alloc())?;
+    write(rt, folder, file, text.as_bytes())
+}
+
+/// Leaves texts without line ends in a file, a line each.
+fn leave_lines(rt: &HostRuntime, folder: &str, file: &str, lines: &[String]) -> io::Result<()> {
     let name = in_folder(rt, folder, file)?;
-    let mut writer = BufWriter::new(rt.alloc(), fs::create(rt, &name)?)?;
-    for line in lines {
-        writer.write_all(line.as_bytes())?;
-        writer.write_all(b"\n")?;
+    let mut out = Out::new(BufWriter::new(rt.alloc(), fs::create(rt, &name)?)?);
+    if write_lines(lines, &mut out).is_err() || out.flush().is_err() {
+        return Err(io::Error::from(ErrorKind::Other));
     }
-    writer.flush()
+    Ok(())
 }
 
 /// The texts of a file that has a line each.
-fn read_lines(rt: &HostRuntime, folder: &str, file: &str) -> io::Result<Vec<String>> {
-    let alloc = rt.alloc();
+fn left_lines(rt: &HostRuntime, folder: &str, file: &str) -> io::Result<Vec<String>> {
     let text = read(rt, folder, file)?;
-    let mut lines = Vec::new(alloc);
-    let mut rest = text.as_slice();
-    for _line in 0..text.len() {
-        let Some(end) = rest.iter().position(|byte| *byte == b'\n') else {
-            break;
-        };
-        match str::from_utf8(&rest[..end]) {
-            Ok(line) => lines.push(String::from_str(alloc, line)?)?,
-            Err(_) => return Err(io::Error::from(ErrorKind::InvalidData)),
-        }
-        rest = &rest[end + 1..];
+    match read_lines(rt.alloc(), text.as_slice()) {
+        Ok(lines) => Ok(lines),
+        Err(NotPart::NoPart) => Err(io::Error::from(ErrorKind::InvalidData)),
+        Err(NotPart::Memory) => Err(io::Error::from(ErrorKind::OutOfMemory)),
     }
-    Ok(lines)
 }
 
 /// The number that a file has.

@@ -7,14 +7,14 @@
 //!       1 F01 no end segment
 //! ```
 //!
-//! What is promised of it is t1_batch's. This is the program over it: it lists folders, opens files and replaces them.
+//! What is promised of it is t1_answer_all's. This is the program over it: it lists folders, opens files and replaces them, and splits a run into
+//! parts.
 #![tactic(auto)]
 
 mod calls;
 mod files;
 mod folder;
 mod joining;
-mod listing;
 mod parts;
 mod planning;
 mod replacing;

@@ -3,14 +3,14 @@
 use crate::files::{count_font, open_file, open_waivers};
 use crate::folder::{of_part, read, read_list, read_number};
 use crate::usage::said;
-use crate::whole::{check_fonts_of, output_of, read_known, unlisted_in};
+use crate::whole::check_fonts_of;
 use std::fs::File;
 use std::io::{BufWriter, ErrorKind, Write};
 use std::{fs, io};
-use t1_batch::{Fonts, PROGRAM, Unlisted, Written, names_of_part, selection, write_fonts};
+use t1_answer_all::{Fonts as Listed, output_of, read_known};
+use t1_batch::{Fonts, Output, PROGRAM, Unlisted, Written, names_of_part, selection, write_fonts};
 use t1_io::{Out, Sink};
 use t1_known::KnownFaults;
-use t1_names::Named;
 use t1_options::{Options, Shard, Waivers};
 use t1_parts::write_part;
 use t1_run::{Status, explain, tell_failure};
@@ -26,7 +26,7 @@ pub(crate) fn check_listed<W: Write + Drop, E: Write + Drop>(
     let mut out = out;
     let mut errors = errors;
     match (read_list(rt, folder), read(rt, folder, "known")) {
-        (Ok(named), Ok(text)) => check_fonts_of(rt, &options, &named, text.as_slice(), out, errors),
+        (Ok(named), Ok(text)) => check_fonts_of(rt, options, &named, text.as_slice(), out, errors),
         _ => {
             let error = said(rt.alloc(), &[folder.as_bytes(), b" can't be read"]);
             explain(PROGRAM, &error, &mut out, &mut errors)
@@ -75,7 +75,7 @@ fn written_part<'a>(
     rt: &HostRuntime,
     folder: &str,
     shard: Shard,
-    named: &'a Named,
+    named: &'a Listed,
     known: &KnownFaults<'_>,
     options: &'a Options,
 ) -> io::Result<Written<Out<BufWriter<File>>, Out<BufWriter<File>>>> {
@@ -95,22 +95,23 @@ fn written_part<'a>(
         rt.alloc(),
         fonts,
         selection(options, known),
-        output_of(options, unlisted_of(named, shard)),
+        output_of_part(options, named, shard),
         out,
         errors,
     ))
 }
 
-/// What couldn't be listed, which belongs to the first part.
-fn unlisted_of(named: &Named, shard: Shard) -> Unlisted<'_> {
-    if shard.part == 1 {
-        unlisted_in(named)
-    } else {
-        Unlisted {
+/// The output that the options ask for. What couldn't be listed belongs to the first part.
+fn output_of_part<'a>(options: &'a Options, named: &'a Listed, shard: Shard) -> Output<'a> {
+    let mut output = output_of(options, named);
+    if shard.part != 1 {
+        output.unlisted = Unlisted {
+            undecoded: 0,
             passed_over: 0,
             unsearched: &[],
-        }
+        };
     }
+    output
 }
 
 /// Creates a file of a part.

@@ -3,8 +3,8 @@
 use std::alloc::{AllocError, Global};
 use std::env::{Env, FillError};
 
-/// The words that the program was started with, its name first. A word that isn't UTF-8 stands behind a NUL, which no word has, with U+FFFD in
-/// the place of what isn't.
+/// The words that the program was started with, its name first. A word that isn't UTF-8 stands behind a NUL, by which [`is_marked`](t1_options::is_marked)
+/// knows it, with U+FFFD in the place of what isn't.
 pub(crate) fn words_given(rt: &HostRuntime) -> Result<Vec<String>, AllocError> {
     let alloc = rt.alloc();
     let mut words = Vec::new(alloc);
@@ -45,9 +45,4 @@ fn word_of(alloc: Global, bytes: &[u8]) -> Result<String, AllocError> {
     let mut word = String::from_str(alloc, "\0")?;
     word.push_str(String::from_utf8_lossy(alloc, bytes)?.as_str())?;
     Ok(word)
-}
-
-/// Whether a word isn't UTF-8.
-pub(crate) fn is_marked(word: &str) -> bool {
-    word.as_bytes().first() == Some(&0)
 }
