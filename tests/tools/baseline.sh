@@ -194,4 +194,39 @@ known
 END
 try 'nothing beside known faults' 0 ls kept
 
+# A file beside it that is there already is another's.
+echo another >kept/known.new.0
+wanted <<'END'
+--
+END
+try 'known faults are replaced beside another file' 0 "$all" -q --baseline kept/known --update-baseline --only C edge.pfb
+wanted <<'END'
+another
+--
+END
+try 'the other file' 0 cat kept/known.new.0
+
+# New rows that can't be written whole leave the old ones, and nothing beside them.
+awk 'BEGIN { for (i = 1; i <= 200; i++) print "g" i, 1 }' | make_font rows.pfa
+echo '1 C05 glyph A elsewhere.pfb' >kept/known
+wanted <<'END'
+--
+t1check-all: kept/known can't be written
+END
+# shellcheck disable=SC2016
+try "known faults that can't be written whole" 3 sh -c 'trap "" XFSZ
+    ulimit -f 1
+    "$0" -q -j1 --baseline kept/known --update-baseline rows.pfa' "$all"
+wanted <<'END'
+1 C05 glyph A elsewhere.pfb
+--
+END
+try 'known faults that could not be replaced' 0 cat kept/known
+wanted <<'END'
+known
+known.new.0
+--
+END
+try 'nothing more beside known faults' 0 ls kept
+
 finish

@@ -39,6 +39,31 @@ second.pfb: t1check: ended by signal 9
 END
 try 'a part that is killed, as jsonl' 3 "$stand/bin/t1check-all" -q -j3 --format jsonl first.pfb second.pfb third.pfb
 wanted <<'END'
+::warning file=first.pfb,line=1,title=F01 no end segment::1: font file 0 F01 no end segment
+::error file=second.pfb,line=1,title=not checked::t1check: ended by signal 9
+::warning file=third.pfb,line=1,title=F01 no end segment::1: font file 0 F01 no end segment
+--
+second.pfb: t1check: ended by signal 9
+END
+try 'a part that is killed, as commands' 3 "$stand/bin/t1check-all" -q -j3 --format github first.pfb second.pfb third.pfb
+# What it wrote is shown, but for a line that isn't whole.
+long=$(printf '%040000d' 0)
+cat >act <<END
+printf 'second.pfb: 1: %s\n\nsecond.pfb: 2: fo' "$long" >"\$2/out.2"
+printf 'second.pfb: t1check: told\nsecond.p' >"\$2/errors.2"
+exit 8
+END
+wanted <<END
+first.pfb: 1: font file 0 F01 no end segment
+second.pfb: 1: $long
+
+third.pfb: 1: font file 0 F01 no end segment
+--
+second.pfb: t1check: told
+second.pfb: t1check: ended with status 8
+END
+try 'a part that ends in the middle of a line' 3 "$stand/bin/t1check-all" -q -j3 first.pfb second.pfb third.pfb
+wanted <<'END'
 first.pfb: 1: font file 0 F01 no end segment
 third.pfb: 1: font file 0 F01 no end segment
 --
@@ -46,6 +71,14 @@ second.pfb: t1check: ended with status 7
 END
 echo 'exit 7' >act
 try 'a part that ends with a status of its own' 3 "$stand/bin/t1check-all" -q -j3 first.pfb second.pfb third.pfb
+wanted <<'END'
+first.pfb: 1: font file 0 F01 no end segment
+third.pfb: 1: font file 0 F01 no end segment
+--
+second.pfb: t1check: not checked
+END
+echo 'exit 0' >act
+try 'a part that leaves nothing' 3 "$stand/bin/t1check-all" -q -j3 first.pfb second.pfb third.pfb
 wanted <<'END'
 --
 t1check-all: ended by signal 9
@@ -86,6 +119,17 @@ wanted <<'END'
 t1check-all: no folder can be made in nowhere
 END
 try 'no folder for what is kept' 3 env TMPDIR=nowhere "$all" -q first.pfb
+# A folder of its name that is there already is another's.
+wanted <<'END'
+first.pfb: 1: font file 0 F01 no end segment
+--
+END
+# shellcheck disable=SC2016
+try 'a folder of another' 1 env TMPDIR="$scratch/tmp" sh -c 'mkdir "$TMPDIR/t1check-all.$$.0" && exec "$0" -q first.pfb' "$all"
+wanted <<'END'
+--
+END
+try 'the folder of another' 0 rmdir "$scratch/tmp"/t1check-all.*.0
 
 # Whether nothing is left of a run that was ended: no process, no file.
 nothing_left() {
@@ -113,6 +157,12 @@ if [ -n "$($with sh -c 'kill -s INT $$; echo ignored' 2>/dev/null)" ] || ! $with
     echo 'skipped: SIGINT, since it is ignored here'
     signals=TERM
     with=''
+fi
+# shellcheck disable=SC2016
+if ! sh -c 'kill -s HUP $$' 2>/dev/null; then
+    signals="$signals HUP"
+else
+    echo 'skipped: SIGHUP, since it is ignored here'
 fi
 
 # A program that waits, so that a signal comes while it does: as it plans, checks all, checks two parts, or joins them.
@@ -145,7 +195,7 @@ for signal in $signals; do
         status=$?
         wait
         case $signal$status in
-            INT130 | TERM143) pass ;;
+            INT130 | TERM143 | HUP129) pass ;;
             *) fail "$signal, --$call: status $status" ;;
         esac
         nothing_left "$signal, --$call"

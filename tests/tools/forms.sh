@@ -149,12 +149,31 @@ t1check-all: a name with a line end is passed over
 END
 try 'a name with a line end, as jsonl' 3 sh -c "cd '$lines' && '$all' -q --format jsonl ."
 wanted <<'END'
+{"text":"a name with a line end is passed over","unit":"unchecked"}
+{"code":"Z05","file":"one.pfb","index":4,"key":"BlueValues","number":1,"text":"zones too near","unit":"font"}
+{"code":"H02","file":"../edge.pfb","name":"A","number":1,"path":[],"step":9,"text":"stems overlap","unit":"glyph"}
+--
+t1check-all: a name with a line end is passed over
+END
+try 'a name with a line end, as jsonl, in two parts' 3 sh -c "cd '$lines' && '$all' -q -j2 --format jsonl . ../edge.pfb"
+wanted <<'END'
 {"file":".","text":"search failed","unit":"unchecked"}
 {"code":"Z05","file":"one.pfb","index":4,"key":"BlueValues","number":1,"text":"zones too near","unit":"font"}
 --
 .: t1check: search failed
 END
-try "a name that isn't UTF-8, as jsonl" 3 sh -c "cd '$bytes' && '$all' -q --format jsonl ."
+try "a name below a folder that isn't UTF-8, as jsonl" 3 sh -c "cd '$bytes' && '$all' -q --format jsonl ."
+wanted <<'END'
+{"text":"a name that is not UTF-8 is passed over","unit":"unchecked"}
+{"text":"a name with a line end is passed over","unit":"unchecked"}
+{"code":"Z05","file":"one.pfb","index":4,"key":"BlueValues","number":1,"text":"zones too near","unit":"font"}
+--
+t1check-all: a name that is not UTF-8 is passed over
+t1check-all: a name with a line end is passed over
+END
+# shellcheck disable=SC2016
+try "a word that isn't UTF-8, and a name with a line end, as jsonl" 3 \
+    sh -c 'cd "$1" && "$0" -q --format jsonl "$(printf "b\377d.pfb")" .' "$all" "$lines"
 
 # Shards in a form: one behind the other they are the whole, of which each line has one.
 limited "$all" -q "$fonts" >whole 2>/dev/null

@@ -107,6 +107,7 @@ t1check-all: a name with a line end is passed over
 END
 cd "$scratch" || exit 1
 try 'a word with a line end' 3 "$all" -q "$(printf 'two\nlines.pfb')" edge.pfb
+try 'a word with a line end, in two parts' 3 "$all" -q -j2 --only H02 "$(printf 'two\nlines.pfb')" edge.pfb glyphs.pfb
 wanted <<'END'
 --
 t1check-all: a name with a line end is passed over
@@ -131,13 +132,39 @@ END
 try "a name that isn't UTF-8 below a folder" 3 sh -c 'cd "$1" && "$0" -q .' "$all" "$bytes"
 wanted <<'END'
 one.pfb: 1: font BlueValues 4 Z05 zones too near
+../edge.pfb: 1: glyph A - 9 H02 stems overlap
 --
-t1check-all: a name with a line end is passed over
+.: t1check: search failed
+END
+# shellcheck disable=SC2016
+try "a name that isn't UTF-8 below a folder, in two parts" 3 sh -c 'cd "$1" && "$0" -q -j2 . ../edge.pfb' "$all" "$bytes"
+wanted <<'END'
+one.pfb: 1: font BlueValues 4 Z05 zones too near
+--
+t1check-all: a name that is not UTF-8 is passed over
 END
 # shellcheck disable=SC2016
 try "a word that isn't UTF-8" 3 sh -c 'cd "$1" && "$0" -q "$(printf "b\377d.pfb")" one.pfb' "$all" "$bytes"
 # shellcheck disable=SC2016
 try "a name that isn't UTF-8 in a list" 3 sh -c 'cd "$1" && printf "one.pfb\nb\377d.pfb\n" | "$0" -q --files-from -' "$all" "$bytes"
+
+wanted <<'END'
+edge.pfb: 1: glyph A - 9 H02 stems overlap
+--
+t1check-all: a name that is not UTF-8 is passed over
+t1check-all: a name that is not UTF-8 is passed over
+t1check-all: a name with a line end is passed over
+END
+# shellcheck disable=SC2016
+try "names that aren't UTF-8, and one with a line end" 3 sh -c 'printf "b\377d.pfb\n" | "$0" -q --files-from - "$(printf "b\377d.pfb")" "$1" edge.pfb' \
+    "$all" "$(printf 'two\nlines.pfb')"
+wanted <<'END'
+--
+t1check-all: --exclude wants a glob that is UTF-8
+t1check-all: 't1check-all --help' says how it is used
+END
+# shellcheck disable=SC2016
+try "a glob that isn't UTF-8" 3 sh -c '"$0" -q --exclude "$(printf "b\377d")" edge.pfb' "$all"
 
 # Links: a folder that is named may be one. Below a folder a link to a font is a font, and one to a folder is skipped, whatever its name.
 mkdir named links
@@ -156,6 +183,21 @@ links/font.pfb: 1: glyph A - 9 H02 stems overlap
 END
 try 'a font that is a link, and a link to a folder with the name of a font' 1 "$all" -q links
 
+# A pipe isn't read, and below a folder it's no font.
+mkdir piped
+mkfifo piped/pipe.pfb
+cp edge.pfb piped/real.pfb
+wanted <<'END'
+piped/real.pfb: 1: glyph A - 9 H02 stems overlap
+--
+END
+try 'a pipe below a folder' 1 "$all" -q piped
+wanted <<'END'
+--
+piped/pipe.pfb: t1check: read failed
+END
+try 'a pipe that is named' 3 "$all" -q piped/pipe.pfb
+
 # Blanks at the ends of names.
 cp edge.pfb ' front.pfb'
 cp edge.pfb 'back.pfb '
@@ -165,6 +207,22 @@ back.pfb : 1: glyph A - 9 H02 stems overlap
 --
 END
 try 'blanks at the ends of names' 1 "$all" -q ' front.pfb' 'back.pfb '
+
+# Waivers that lead to themselves can't be read. A font whose name leaves no room for that of its waivers has none.
+cp edge.pfb loop.pfb
+ln -s loop.pfb.waivers loop.pfb.waivers
+wanted <<'END'
+--
+loop.pfb: t1check: read failed
+END
+try 'waivers that are a link to themselves' 3 "$all" -q loop.pfb
+long=$(printf '%0250d' 0).pfb
+cp edge.pfb "$long"
+wanted <<END
+$long: 1: glyph A - 9 H02 stems overlap
+--
+END
+try 'a font with a long name' 1 "$all" -q "$long"
 
 # As a user who may not read all files: root may.
 as=''

@@ -112,6 +112,20 @@ END
 END
         try "no progress, $jobs at once" 0 cat given
     done
+    # It counts fonts: the second part begins once the font of the first is shown.
+    cat >act <<END
+case \$call in
+    '--part 2') await grep -q '1 of 2' '$scratch/given' ;;
+esac
+END
+    limited script -qec "'$stand/bin/t1check-all' -j2 first.pfb second.pfb 2>&1 >/dev/null" /dev/null </dev/null >given
+    wanted <<'END'
+2 fonts: 0 clean, 2 with faults, 0 refused, 0 not checked
+      2 F01 no end segment
+--
+END
+    # shellcheck disable=SC2016
+    try 'progress that counts' 0 sh -c 'tr -d "\r" <given | sed "s/^.*$(printf "\033")\[K//"'
 else
     echo 'skipped: progress, since script is not here'
 fi
