@@ -16,6 +16,7 @@ pub mod FontRules
 pub mod GlyphPlaces
 pub mod KeyRows
 pub mod Keys
+pub mod Levels
 pub mod Lines
 pub mod KnownCalls
 pub mod Mask

@@ -3,6 +3,7 @@ pub mod Components
 pub mod FontRules
 pub mod Keys
 pub mod Laws
+pub mod Levels
 pub mod Mask
 pub mod Private
 pub mod StandardEncoding

@@ -1,6 +1,7 @@
 //! Laws of the definitions, each on a call that does nothing.
 
 ghost use Rattle.t1_rules.specs.Laws.Book.{CodesAreOfTheirRules, EachRuleStands, NoMoreRulesStand};
+ghost use Rattle.t1_rules.specs.Laws.Levels.{LevelsHaveTheirWords};
 ghost use Rattle.t1_rules.specs.Laws.Arguments.{KeptIsNotPast, NoneAreTooManyAtTheTop, NumbersOverflowAt24, OthersHaveNoArguments, TooFewAreFewerThanWanted, TooManyAreMoreThanArguments};
 ghost use Rattle.t1_rules.specs.Laws.Calls.{SoundCallsGoIn};
 ghost use Rattle.t1_rules.specs.Laws.FontRules.{AbsentEntriesBreakNothing, BrokenIsInTheBook, NothingIsBrokenPastLast, NothingIsBrokenPastPlaces, RuleNumbersAreInOrder};
@@ -312,4 +313,10 @@ pub fn rules_are_in_the_book()
     ensures each { EachRuleStands }
     ensures no_more { NoMoreRulesStand }
     ensures codes { CodesAreOfTheirRules }
+{}
+
+/// A word stands for a level exactly where it is that level's.
+#[tactic(auto, using(crate::proofs::Lemmas::Levels::levels_have_their_words))]
+pub fn levels_have_their_words()
+    ensures { LevelsHaveTheirWords }
 {}

@@ -1,7 +1,7 @@
 //! The rule book of Type 1 fonts: what may be wrong with a font, and where it is. Adobe Type 1 Font
 //! Format 1.1, chapters 2 and 5 to 8, and Technical Note 5040.
 //!
-//! [`Rule`] has all rules, with their numbers, codes and texts. [`font_faults`] answers, as a [`Mask`],
+//! [`Rule`] has all rules, with their numbers, codes and texts, and [`rule_level`] how much each matters. [`font_faults`] answers, as a [`Mask`],
 //! which rules a font breaks at a key and an index: a key is the file or an entry of a dictionary
 //! ([`key_text`] names it), an index is 0 for what is said of the entry as a whole, and else the place
 //! of a number in a list, a code, a Subr's number or a glyph's. [`places`] says how many indexes of a
@@ -47,6 +47,7 @@ mod font_rules;
 mod glyph_names;
 mod keys;
 mod laws;
+mod level;
 mod mask;
 mod rule;
 mod sidebearings;
@@ -55,7 +56,7 @@ mod step_rules;
 mod watch;
 mod watches;
 
-pub use book::{rule_code, rule_text};
+pub use book::{rule_code, rule_level, rule_text};
 pub use font_rules::font_faults;
 pub use glyph_names::glyph_named;
 pub use keys::{INDEXES, KEYS, key_text, places};
@@ -65,7 +66,7 @@ pub use laws::{
     components_are_judged_by_their_steps, current_points_move_on, editions_agree_on_other_rules,
     editions_differ_in_stems_of_one_edge, ends_break_one_rule, flex_goes_from_its_start_to_its_end,
     hint_sets_begin_anew, hint_sets_grow, kept_numbers_are_not_past, later_steps_have_no_say,
-    letters_name_themselves, numbers_are_counted, numbers_rise_where_none_falls,
+    letters_name_themselves, levels_have_their_words, numbers_are_counted, numbers_rise_where_none_falls,
     one_step_starts_without_width, other_counts_are_no_flex, othersubr_calls_are_one_of_five,
     paths_are_by_places, points_are_put, pops_of_nothing_change_nothing, replacements_are_followed,
     rules_are_in_the_book, rules_are_on_zones, rules_have_their_numbers, rules_have_their_places,
@@ -74,6 +75,7 @@ pub use laws::{
     stems_overlap_where_they_share_a_place, step_rules_have_their_numbers, three_stems_are_even,
     zones_are_pairs, zones_come_near_both_ways,
 };
+pub use level::Level;
 pub use mask::Mask;
 pub use rule::Rule;
 pub use sidebearings::Sidebearings;
