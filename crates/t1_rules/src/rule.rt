@@ -1,11 +1,11 @@
 //! The rules and their numbers.
 
 ghost use Rattle.std.specs.Prelude.{◌≡◌, ◌⊎◌, ◌<◌, ◌≤◌, nat_eq, IfNone, IfSome};
-ghost use Rattle.std.proofs.Common.{rules};
+ghost use Rattle.std.proofs.Common as common;
 ghost use Rattle.std.specs.Cmp.Rules.{comparing, hashing};
 ghost use Rattle.std.specs.Hash as fed;
 ghost use Rattle.std.specs.Ordering.{on};
-ghost use Rattle.t1_rules.specs.Book.{last_number, number_of, rule_coded};
+ghost use Rattle.t1_rules.specs.Book.{last_number, number_of, rule_coded, rules};
 
 use crate::book::{rows, rule_in, rule_of};
 use std::hash::{Hash, Hasher};
@@ -182,11 +182,92 @@ impl Rule {
     }
 }
 
+/// The rules, in the order of their numbers.
+static RULES: [Rule; 70] = [
+    Rule::F01,
+    Rule::F02,
+    Rule::F03,
+    Rule::F04,
+    Rule::F05,
+    Rule::F06,
+    Rule::F07,
+    Rule::F08,
+    Rule::F09,
+    Rule::F10,
+    Rule::F11,
+    Rule::F12,
+    Rule::F13,
+    Rule::F14,
+    Rule::Z01,
+    Rule::Z02,
+    Rule::Z03,
+    Rule::Z04,
+    Rule::Z05,
+    Rule::Z06,
+    Rule::Z07,
+    Rule::Z08,
+    Rule::Z09,
+    Rule::Z10,
+    Rule::Z11,
+    Rule::C01,
+    Rule::C02,
+    Rule::C03,
+    Rule::C04,
+    Rule::C05,
+    Rule::C06,
+    Rule::C07,
+    Rule::C08,
+    Rule::C09,
+    Rule::S01,
+    Rule::S02,
+    Rule::S03,
+    Rule::S04,
+    Rule::GE01,
+    Rule::GE02,
+    Rule::W01,
+    Rule::W02,
+    Rule::P01,
+    Rule::P02,
+    Rule::P03,
+    Rule::H01,
+    Rule::H02,
+    Rule::H03,
+    Rule::H04,
+    Rule::R01,
+    Rule::R02,
+    Rule::X01,
+    Rule::X02,
+    Rule::X03,
+    Rule::X04,
+    Rule::X05,
+    Rule::X06,
+    Rule::O01,
+    Rule::O02,
+    Rule::O03,
+    Rule::O04,
+    Rule::K01,
+    Rule::K02,
+    Rule::K03,
+    Rule::K04,
+    Rule::K05,
+    Rule::K06,
+    Rule::K07,
+    Rule::L01,
+    Rule::U01,
+];
+
+/// All rules, in the order of their numbers.
+pub fn all_rules() -> &'static [Rule; 70]
+    ensures { result.now ≡ rules }
+{
+    &RULES
+}
+
 // By its number: a set that has rules as members is written down by their numbers.
 impl PartialEq for Rule {
     ghost eq = { on number_of nat_eq };
 
-    ghost laws = { Prim.search (comparing, rules) };
+    ghost laws = { Prim.search (comparing, common.rules) };
 
     fn eq(&self, other: &Rule) -> bool {
         self.number() == other.number()
@@ -194,13 +275,13 @@ impl PartialEq for Rule {
 }
 
 impl Eq for Rule {
-    ghost laws = { Prim.search (comparing, rules) };
+    ghost laws = { Prim.search (comparing, common.rules) };
 }
 
 impl Hash for Rule {
     ghost hash_input = { λ rule. fed.u8 (number_of rule) };
 
-    ghost respects_eq = { Prim.search (hashing, rules) };
+    ghost respects_eq = { Prim.search (hashing, common.rules) };
 
     fn hash<H: Hasher>(&self, state: &mut H) {
         state.write_u8(self.number());

@@ -6,7 +6,8 @@ use Rattle.std.proofs.KnownBytes.{Appends-nil}
 use Rattle.std.proofs.lemmas.List.{drop-replicate}
 use Rattle.t1_io.specs.Devices.{SinkState, Wrote}
 use Rattle.t1_rules.specs.declared.rule.Rule.{Rule}
-use Rattle.t1_rules.specs.Book.{code_of, text_of}
+use Rattle.t1_rules.specs.Book.{code_of, level_of, text_of}
+use Rattle.t1_rules.specs.Levels.{level_text}
 use Rattle.t1_summary.specs.Private.Lines.{told_line}
 use Rattle.t1_summary.specs.Summaries.{fonts_line, one_or_many, rule_line}
 use Rattle.t1_summary.specs.Tallies.{all_fonts, fonts_in, lines_in}
@@ -50,15 +51,16 @@ blanks_left n width is =
     let left : drop {A = ℕ} width (replicate 7 32) ≡ replicate (7 - width) 32 = drop-replicate width 7 32 in
     rw same at left
 
-pub rule_told : (tally : Tally) (rule : Rule) (lines : ℕ) (blanks digits code text : List ℕ) → lines ≡ lines_in tally rule → ¬ (lines ≡ 0)
+pub rule_told : (tally : Tally) (rule : Rule) (lines : ℕ) (blanks digits code text level : List ℕ) → lines ≡ lines_in tally rule → ¬ (lines ≡ 0)
     → digits ≡ decimal lines → blanks ≡ replicate (7 - length digits) 32 → code ≡ code_of rule → text ≡ text_of rule
-    → blanks ++ (digits ++ (codes " " ++ (code ++ (codes " " ++ (text ++ (codes "\n" ++ []))))))
+    → level ≡ level_text (level_of rule)
+    → blanks ++ (digits ++ (codes " " ++ (code ++ (codes " " ++ (text ++ (codes " (" ++ (level ++ (codes ")\n" ++ []))))))))
     ≡ told_line tally rule
 unfolding told_line rule_line
-rule_told tally rule lines blanks digits code text is some are_digits are_blanks is_code is_text =
+rule_told tally rule lines blanks digits code text level is some are_digits are_blanks is_code is_text is_level =
     let not_none : (lines_in tally rule == 0) ≡ false = grind (arith, nat_tests) in
     let digits_are : digits ≡ decimal (lines_in tally rule) = are_digits ∙ ap decimal is in
-    rw (not_none, is_code, is_text, are_blanks, digits_are)
+    rw (not_none, is_code, is_text, is_level, are_blanks, digits_are)
     (sym (append_assoc (replicate (7 - length (decimal (lines_in tally rule))) 32) (decimal (lines_in tally rule)) _))
 
 pub fonts_told : (has_known : Bool) (tally : Tally) (all clean known faulty refused unchecked name known_number known_words : List ℕ)

@@ -2,7 +2,8 @@
 use Rattle.std.specs.Prelude.{ℕ, ◌-◌, ◌++◌, ◌==◌, nat_lt, Bool, List, [], ◌∷◌, Option, None, Some, codes, filter, flat_map, length, replicate, if◌then◌else◌}
 use Rattle.std.specs.Fmt.{decimal}
 use Rattle.std.specs.List.{concat}
-use Rattle.t1_rules.specs.Book.{code_of, text_of}
+use Rattle.t1_rules.specs.Book.{code_of, level_of, text_of}
+use Rattle.t1_rules.specs.Levels.{level_text}
 use Rattle.t1_rules.specs.declared.rule.Rule.{Rule}
 use Rattle.t1_summary.specs.Rankings.{ranking}
 use Rattle.t1_summary.specs.Tallies.{all_fonts, fonts_in, lines_in}
@@ -34,10 +35,11 @@ rows_line (Some rows) = concat (codes "known faults: " ∷ decimal rows ∷ one_
 abbrev pub aligned_right : ℕ → List ℕ → List ℕ
 aligned_right columns text = replicate (columns - length text) 32 ++ text
 
--- `      2 F01 no end segment`.
+-- `      2 F01 no end segment (should)`.
 unfoldable pub rule_line : Tally → Rule → List ℕ
 rule_line tally rule = concat
-    (aligned_right 7 (decimal (lines_in tally rule)) ∷ codes " " ∷ code_of rule ∷ codes " " ∷ text_of rule ∷ codes "\n" ∷ [])
+    (aligned_right 7 (decimal (lines_in tally rule)) ∷ codes " " ∷ code_of rule ∷ codes " " ∷ text_of rule
+    ∷ codes " (" ∷ level_text (level_of rule) ∷ codes ")\n" ∷ [])
 
 -- A line for each rule that has lines.
 abbrev pub rule_lines : Tally → List ℕ

@@ -19,7 +19,7 @@
 //! tally.add(Found::Faulty);
 //! tally.add_line(Rule::F01);
 //! // 2 fonts: 1 clean, 1 with faults, 0 refused, 0 not checked
-//! //       1 F01 no end segment
+//! //       1 F01 no end segment (should)
 //! summary(&tally, None, false, &mut sink)?;
 //! ```
 #![tactic(auto)]

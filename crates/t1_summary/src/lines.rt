@@ -10,7 +10,7 @@ use crate::ranking::ranking;
 use crate::tally::Tally;
 use itoa::Buffer;
 use t1_io::{Broken, Sink, put_parts};
-use t1_rules::{Rule, rule_code, rule_text};
+use t1_rules::{Rule, rule_code, rule_level, rule_text};
 
 /// The columns in which the number of a rule's lines is aligned right.
 const COLUMNS: usize = 7;
@@ -133,7 +133,9 @@ fn put_rule<W: Sink>(tally: &Tally, rule: Rule, sink: &mut W) -> Result<(), Brok
             rule_code(rule).as_bytes(),
             b" ",
             rule_text(rule).as_bytes(),
-            b"\n",
+            b" (",
+            rule_level(rule).text().as_bytes(),
+            b")\n",
         ],
     )
 }

@@ -76,11 +76,11 @@ fn prints_rules_by_lines_and_code(rt: HostRuntime) -> Result<(), Fail> {
     let text = printed(rt.alloc(), &tally, None, false)?;
     let lines = b"\
 5 fonts: 1 clean, 2 with faults, 1 refused, 1 not checked
-      3 H02 stems overlap
-      2 C05 too many arguments
-      2 F01 no end segment
-      2 GE01 no endchar
-      1 U01 waiver not used
+      3 H02 stems overlap (should)
+      2 C05 too many arguments (must)
+      2 F01 no end segment (should)
+      2 GE01 no endchar (must)
+      1 U01 waiver not used (should)
 ";
     assert!(rt; text.as_slice() == lines.as_slice());
     Ok(())
@@ -92,7 +92,7 @@ fn prints_known_faults(rt: HostRuntime) -> Result<(), Fail> {
     let text = printed(rt.alloc(), &tally, None, true)?;
     let lines = b"\
 3 fonts: 0 clean, 2 with known faults alone, 1 with faults, 0 refused, 0 not checked
-      1 Z04 zone numbers fall
+      1 Z04 zone numbers fall (should)
 ";
     assert!(rt; text.as_slice() == lines.as_slice());
     Ok(())
@@ -134,9 +134,9 @@ fn prints_large_numbers(rt: HostRuntime) -> Result<(), Fail> {
     let text = printed(rt.alloc(), &tally, None, false)?;
     let lines = b"\
 18446744073709551615 fonts: 18446744073709551615 clean, 1 with faults, 0 refused, 0 not checked
-12345678 F02 bytes after the end segment
-1234567 F01 no end segment
- 123456 F03 FontType is not 1
+12345678 F02 bytes after the end segment (tidy)
+1234567 F01 no end segment (should)
+ 123456 F03 FontType is not 1 (must)
 ";
     assert!(rt; text.as_slice() == lines.as_slice());
     Ok(())
