@@ -42,8 +42,8 @@ _t1check() {
     case $tool in
         t1check) options='--after --max --trace --edition --waive --help' ;;
         t1check-all)
-            options='-j -q --edition --only --except --no-waivers --write-waivers --force --baseline --update-baseline
-                --files-from --exclude --shard --format --docs --help --version'
+            options='-j -q --edition --only --except --level --fail-on --no-waivers --write-waivers --force --baseline
+                --update-baseline --files-from --exclude --shard --format --docs --long --no-settings --help --version'
             ;;
         t1draw) options='--edition --waive --step --help' ;;
         t1format) options='--font --docs --help' ;;
@@ -55,6 +55,7 @@ _t1check() {
         t1check-all--shard | t1check-all--docs | t1format--docs) ;;
         t1check--edition | t1check-all--edition | t1draw--edition) _t1check_take < <(compgen -W '1 2' -- "$word") ;;
         t1check-all--only | t1check-all--except) _t1check_rules "$1" "$word" ;;
+        t1check-all--level | t1check-all--fail-on) _t1check_take < <(compgen -W 'must should tidy' -- "$word") ;;
         t1check-all--format) _t1check_take < <(compgen -W 'jsonl sarif github' -- "$word") ;;
         t1format--font) _t1check_fonts "$word" ;;
         *)

@@ -155,11 +155,15 @@ while read -r code number; do
     try_example "$code" "$number"
 done <"$scratch/examples"
 
-# The texts of the rules and the refusals, as the code has them.
-sed -n 's/^    (Rule::\([A-Z0-9]*\), "\1", "\(.*\)"),$/\1 \2/p' "$top/crates/t1_rules/src/book.rt" >"$scratch/book"
+# The texts of the rules and the refusals, as the code has them, and the levels of the rules.
+book=$top/crates/t1_rules/src/book.rt
+sed -n 's/^    (Rule::\([A-Z0-9]*\), Level::[A-Z][a-z]*, "\1", "\(.*\)"),$/\1 \2/p' "$book" >"$scratch/book"
 while read -r code text; do
-    if ! grep -qF "| $code | $text |" "$rules"; then
-        fail "docs/RULES.md: no row of the table says $code $text"
+    level=$(sed -n "s/^    (Rule::$code, Level::\\([A-Z][a-z]*\\), .*/\\1/p" "$book" | tr '[:upper:]' '[:lower:]')
+    if ! grep -qF "| $code | $text | $level |" "$rules"; then
+        fail "docs/RULES.md: no row of the table says $code $text, $level"
+    elif ! sed -n "/^### $code /,/^Level/p" "$rules" | grep -q "^Level \*$level\*: "; then
+        fail "docs/RULES.md: the page of $code doesn't say that its level is $level"
     elif ! grep -qxF "### $code $text" "$rules"; then
         fail "docs/RULES.md: no heading says $code $text"
     elif ! grep -qx "$code 1 .*" "$scratch/all"; then
@@ -230,7 +234,7 @@ list_breaches() {
 
 # The definitions in the rows of docs/RULES.md: code, number, word and file.
 list_definitions() {
-    sed -n 's/^| \([A-Z]*[0-9][0-9]\) | .* | .* | .* | \([^|]*\) |$/\1 \2/p' "$rules" | awk '{
+    sed -n 's/^| \([A-Z]*[0-9][0-9]\) | .* | .* | .* | .* | \([^|]*\) |$/\1 \2/p' "$rules" | awk '{
         number = held = 0
         count = split($0, parts, "`")
         for (i = 2; i < count; i += 2) {
@@ -288,7 +292,7 @@ grep -oh 'Rule::[A-Z]*[0-9][0-9]' "$top"/crates/t1_rules/src/font_rules/*.rt "$t
 compare_codes 'the code in crates/t1_rules/src and crates/t1_report/src' sorted <"$scratch/list"
 find "$tests" "$report_tests" -name '*.rt' ! -name book.rt ! -name mask.rt ! -name faults.rt -exec cat {} + | codes_in >"$scratch/list"
 compare_codes 'the tests in crates/t1_rules_tests/src and crates/t1_report_tests/src' sorted <"$scratch/list"
-sed -n 's/^| \([A-Z]*[0-9][0-9]\) | .* | .* | .* | .* |$/\1/p' "$rules" >"$scratch/list"
+sed -n 's/^| \([A-Z]*[0-9][0-9]\) | .* | .* | .* | .* | .* |$/\1/p' "$rules" >"$scratch/list"
 compare_codes 'docs/RULES.md, the table' codes <"$scratch/list"
 sed -n 's/^### \([A-Z]*[0-9][0-9]\) .*/\1/p' "$rules" | grep -v '^E[0-9]' >"$scratch/list"
 compare_codes 'docs/RULES.md, the headings' codes <"$scratch/list"

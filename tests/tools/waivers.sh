@@ -41,7 +41,7 @@ glyphs.pfb: 1: font BlueValues 1 Z07 zone too high for BlueScale
 glyphs.pfb: 2: font StdHW 0 Z01 value of another kind
 --
 t1check-all: lines of a font itself can not be waived
-glyphs.pfb: waivers are there already
+glyphs.pfb: waivers are there already; --force overwrites them
 END
 try 'waivers that are there' 3 "$all" -q --write-waivers glyphs.pfb
 echo 'A H02' >glyphs.pfb.waivers

@@ -1,10 +1,10 @@
 -- How fonts are listed and checked by options.
 use Rattle.std.specs.Prelude.{◌≡◌, ◌||◌, ℕ, Bool, true, false, List, [], ◌∷◌, Option, None, Ok, map, string_bytes}
 use Rattle.t1_batch.specs.Choosing.{mode_by}
+use Rattle.t1_batch.specs.Endings.{WantedValue}
 use Rattle.t1_batch.specs.Runs.{LeftValue, Runs, nothing_left, program}
 use Rattle.t1_io.specs.Devices.{SinkState}
 use Rattle.t1_known.specs.Reads.{IsReadAs}
-use Rattle.t1_many.specs.Choice.{Choice}
 use Rattle.t1_many.specs.Files.{Files}
 use Rattle.t1_many.specs.KnownFaults.{RowValue}
 use Rattle.t1_many.specs.Plain.{Devices}
@@ -33,9 +33,12 @@ abbrev pub waivers_given : {X : Type 0} → Bool → (List ℕ → Option X → 
 waivers_given true Gives name result = Gives name result
 waivers_given false Gives name result = result ≡ None
 
--- The rules that the codes of the options choose.
-abbrev pub choice_in : Options → Choice
-choice_in options = record { only = map string_bytes options.only.items; except = map string_bytes options.except.items }
+-- The rules that the codes of the options choose, and those of which a line makes the status that of faults.
+abbrev pub wanted_in : Options → WantedValue
+wanted_in options = record {
+  choice = record { only = map string_bytes options.only.items; except = map string_bytes options.except.items };
+  failing = options.failing;
+}
 
 -- No summary is told where there is no font, as in an empty part.
 abbrev pub has_none : List (List ℕ) → Bool
@@ -46,10 +49,10 @@ abbrev pub is_quiet : Options → FontsValue → Bool
 is_quiet options fonts = options.quiet || has_none fonts.names
 
 -- A run over the fonts by the options, given the rows of known faults.
-pub record RunsOver (files : Files) (options : Options) (rows : List RowValue) (fonts : FontsValue) (choice : Choice) (old new : Devices)
+pub record RunsOver (files : Files) (options : Options) (rows : List RowValue) (fonts : FontsValue) (wanted : WantedValue) (old new : Devices)
     (left : LeftValue) : Type 0 where
   pub runs :
-      Runs options.form (unlisted_of fonts) (mode_by options.waivers options.known_faults rows) options.rules choice (is_quiet options fonts) files
+      Runs options.form (unlisted_of fonts) (mode_by options.waivers options.known_faults rows) options.rules wanted (is_quiet options fonts) files
       options.edition fonts.names old new left
 
 -- Nothing was checked: this is told, and nothing is left to do.
@@ -60,7 +63,7 @@ pub record Stops (error : UsageError) (old new : Devices) (left : LeftValue) : T
 
 -- The fonts are checked; or memory runs out before the first.
 pub data ChecksOver (files : Files) (options : Options) (rows : List RowValue) (fonts : FontsValue) (old new : Devices) (left : LeftValue) : Type 0 where
-  ran : RunsOver files options rows fonts (choice_in options) old new left → ChecksOver files options rows fonts old new left
+  ran : RunsOver files options rows fonts (wanted_in options) old new left → ChecksOver files options rows fonts old new left
   no_memory : Stops Memory old new left → ChecksOver files options rows fonts old new left
 
 -- What couldn't be listed is told first.

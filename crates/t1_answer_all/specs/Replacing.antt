@@ -40,7 +40,7 @@ abbrev pub unwritten_line : List ℕ → List ℕ
 unwritten_line name = concat (program ∷ codes ": " ∷ name ∷ codes " can't be written\n" ∷ [])
 
 abbrev pub there_line : List ℕ → List ℕ
-there_line font = concat (font ∷ codes ": waivers are there already\n" ∷ [])
+there_line font = concat (font ∷ codes ": waivers are there already; --force overwrites them\n" ∷ [])
 
 -- That something failed is told, as far as the device takes it.
 abbrev pub TellsFailure : List ℕ → SinkState → SinkState → Type 0

@@ -2,10 +2,10 @@
 
 ghost use Rattle.std.specs.Prelude.{◌≡◌, false, map, string_bytes, Ok};
 ghost use Rattle.std.specs.Fn.{FnReturnsAt};
-ghost use Rattle.t1_answer_all.specs.Checking.{ChecksBy, ChecksKnown, ChecksOver, RunsOver, Stops, TellsAndChecks, are_read, choice_in, has_none, is_quiet, waivers_given};
+ghost use Rattle.t1_answer_all.specs.Checking.{ChecksBy, ChecksKnown, ChecksOver, RunsOver, Stops, TellsAndChecks, are_read, has_none, is_quiet, waivers_given, wanted_in};
 ghost use Rattle.t1_answer_all.specs.Listing.{fonts_value, unlisted_of};
 ghost use Rattle.t1_answer_all.specs.Places.{known_by, lists_by};
-ghost use Rattle.t1_batch.specs.Endings.{choice_of};
+ghost use Rattle.t1_batch.specs.Endings.{wanted_value};
 ghost use Rattle.t1_batch.specs.Runs.{left_value};
 ghost use Rattle.t1_batch.specs.Unlisted.{unlisted_in};
 ghost use Rattle.t1_many.specs.Files.{files_by};
@@ -16,7 +16,7 @@ use crate::places::{Places, System};
 use crate::telling::tell_unlisted;
 use std::alloc::{AllocError, Global};
 use std::io;
-use t1_batch::{Codes, Fonts as Named, Left, Output, PROGRAM, Ran, as_codes, run, selection};
+use t1_batch::{Fonts as Named, Left, Output, PROGRAM, Ran, Wanted, as_codes, run, selection};
 use t1_io::{Sink, Source};
 use t1_known::KnownFaults;
 use t1_names::Listing;
@@ -212,9 +212,10 @@ where
             options,
             known,
             fonts,
-            Codes {
+            Wanted {
                 only: only.as_slice(),
                 except: except.as_slice(),
+                failing: options.failing,
             },
             open_font,
             open_waivers,
@@ -231,7 +232,7 @@ fn run_over<R, V, O, P, W, E>(
     options: &Options,
     known: &KnownFaults<'_>,
     fonts: &Fonts,
-    codes: Codes<'_>,
+    wanted: Wanted<'_>,
     open_font: O,
     open_waivers: P,
     out: W,
@@ -249,7 +250,7 @@ where
     requires unbroken { (name : _) (file : R) → FnReturnsAt O.Fn open_font name (Ok file) → (R.state file).failed ≡ false }
     ensures { RunsOver
         (files_by R.state V.state (FnReturnsAt O.Fn open_font) (waivers_given (are_read options.now.waivers) (FnReturnsAt P.Fn open_waivers)))
-        options.now known.now (fonts_value fonts.now) (choice_of codes.entry) (record { out = W.state out; errors = E.state errors })
+        options.now known.now (fonts_value fonts.now) (wanted_value wanted.entry) (record { out = W.state out; errors = E.state errors })
         (record { out = W.state result.out; errors = E.state result.errors }) (left_value result.left) }
 {
     if are_read(options.waivers) {
@@ -258,7 +259,7 @@ where
             options,
             known,
             fonts,
-            codes,
+            wanted,
             open_font,
             open_waivers,
             out,
@@ -270,7 +271,7 @@ where
         options,
         known,
         fonts,
-        codes,
+        wanted,
         open_font,
         |_name: &str| -> Option<io::Result<V>> { None },
         out,
@@ -294,7 +295,7 @@ fn run_opening<R, V, O, P, W, E>(
     options: &Options,
     known: &KnownFaults<'_>,
     fonts: &Fonts,
-    codes: Codes<'_>,
+    wanted: Wanted<'_>,
     open_font: O,
     open_waivers: P,
     out: W,
@@ -311,7 +312,7 @@ where
     requires open_waivers { P.IsAlwaysCallable open_waivers }
     requires unbroken { (name : _) (file : R) → FnReturnsAt O.Fn open_font name (Ok file) → (R.state file).failed ≡ false }
     ensures { RunsOver (files_by R.state V.state (FnReturnsAt O.Fn open_font) (FnReturnsAt P.Fn open_waivers))
-        options.now known.now (fonts_value fonts.now) (choice_of codes.entry) (record { out = W.state out; errors = E.state errors })
+        options.now known.now (fonts_value fonts.now) (wanted_value wanted.entry) (record { out = W.state out; errors = E.state errors })
         (record { out = W.state result.out; errors = E.state result.errors }) (left_value result.left) }
 {
     let named = Named {
@@ -324,7 +325,7 @@ where
         named,
         selection(options, known),
         output_of(options, fonts),
-        codes,
+        wanted,
         is_quiet(options, fonts),
         out,
         errors,

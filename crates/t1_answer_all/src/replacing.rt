@@ -51,7 +51,7 @@ pub struct Replacements {
     pub overwrites: bool,
 }
 
-/// Replaces the files that are left to be replaced, and returns the status. Where a file can't be replaced, or waivers are there already, that
+/// Replaces the files that are left to be replaced, and returns the status. Where a file can't be replaced, or waivers are there already; --force overwrites them, that
 /// is told, the status is that of a failure, and the rest is done all the same.
 pub fn replace_files<F: FileStore, E: Sink>(
     alloc: Global,
@@ -162,7 +162,7 @@ fn put_text<F: FileStore, E: Sink>(
     if is_kept_back(overwrites, name.as_str(), files) {
         tell_parts(
             errors,
-            &[font.as_bytes(), b": waivers are there already\n"],
+            &[font.as_bytes(), b": waivers are there already; --force overwrites them\n"],
             Status::Failed,
         );
         return false;

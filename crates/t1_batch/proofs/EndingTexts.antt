@@ -2,7 +2,7 @@
 use Rattle.std.proofs.Common.{◌≡◌, ℕ, Bool, true, false, List, [], ◌∷◌, Option, Result, Ok, Err, if◌then◌else◌, refl, sym, subst, ◌∙◌}
 use Rattle.std.specs.List.{AllZip}
 use Rattle.std.specs.Result.{IsErrAnd}
-use Rattle.t1_batch.specs.Endings.{CountsRows, Ends, IsFoundIn, rest_text, shortfalls_text}
+use Rattle.t1_batch.specs.Endings.{CountsRows, Ends, IsFoundIn, WantedValue, rest_text, shortfalls_text}
 use Rattle.t1_batch.specs.Modes.{ModeValue}
 use Rattle.t1_batch.specs.Private.Updates.{IsBorrowed}
 use Rattle.t1_batch.specs.declared.ending.Ended.{Ended}
@@ -11,7 +11,6 @@ use Rattle.t1_io.specs.Devices.{PutFailed, SinkState, Wrote}
 use Rattle.t1_known.specs.Readings.{AreReadingsOf, AreTextsOf}
 use Rattle.t1_known.specs.Writes.{WritesAll}
 use Rattle.t1_known.specs.declared.readings.Reading.{Reading as Text}
-use Rattle.t1_many.specs.Choice.{Choice}
 use Rattle.t1_many.specs.KnownFaults.{Reading}
 use Rattle.t1_many.specs.declared.readings.Reading.{Reading as Kept}
 use Rattle.t1_many.specs.declared.recipient.Lost.{Lost}
@@ -49,19 +48,19 @@ not_failed false status is other = refl
 
 -- ---- what is told
 
-module _ (mode : ModeValue) (choice : Choice) (quiet : Bool) (tally : Tally) (all : List Reading) (waivers : List FontText) (rows : Option ℕ)
-    (counts : CountsRows mode choice all rows) (a b c : SinkState) where
+module _ (mode : ModeValue) (wanted : WantedValue) (quiet : Bool) (tally : Tally) (all : List Reading) (waivers : List FontText) (rows : Option ℕ)
+    (counts : CountsRows mode wanted.choice all rows) (a b c : SinkState) where
   pub short_failed : (lost : Lost) (result : Result Ended Lost) → IsErrAnd result (λ l. l ≡ lost)
-      → WritesAll a b (shortfalls_text mode choice all) (Err lost) → Ends mode choice quiet tally all waivers a b result
+      → WritesAll a b (shortfalls_text mode wanted.choice all) (Err lost) → Ends mode wanted quiet tally all waivers a b result
   short_failed lost (Ok ended) is wrote = absurd is
   short_failed Device (Err l) is failed =
-      subst (λ (e : Lost). Ends mode choice quiet tally all waivers a b (Err e)) (sym is)
-      (rows, counts, PutFailed-first a b (shortfalls_text mode choice all) (rest_text mode quiet tally rows waivers) failed)
-  short_failed Memory (Err l) is same = subst (λ (e : Lost). Ends mode choice quiet tally all waivers a b (Err e)) (sym is) same
+      subst (λ (e : Lost). Ends mode wanted quiet tally all waivers a b (Err e)) (sym is)
+      (rows, counts, PutFailed-first a b (shortfalls_text mode wanted.choice all) (rest_text mode quiet tally rows waivers) failed)
+  short_failed Memory (Err l) is same = subst (λ (e : Lost). Ends mode wanted quiet tally all waivers a b (Err e)) (sym is) same
 
-  pub rest_failed : (result : Result Ended Lost) → IsErrAnd result (λ l. l ≡ Device) → Wrote a b (shortfalls_text mode choice all)
-      → PutFailed b c (rest_text mode quiet tally rows waivers) → Ends mode choice quiet tally all waivers a c result
+  pub rest_failed : (result : Result Ended Lost) → IsErrAnd result (λ l. l ≡ Device) → Wrote a b (shortfalls_text mode wanted.choice all)
+      → PutFailed b c (rest_text mode quiet tally rows waivers) → Ends mode wanted quiet tally all waivers a c result
   rest_failed (Ok ended) is wrote failed = absurd is
   rest_failed (Err l) is wrote failed =
-      subst (λ (e : Lost). Ends mode choice quiet tally all waivers a c (Err e)) (sym is)
-      (rows, counts, PutFailed-second a b c (shortfalls_text mode choice all) (rest_text mode quiet tally rows waivers) wrote failed)
+      subst (λ (e : Lost). Ends mode wanted quiet tally all waivers a c (Err e)) (sym is)
+      (rows, counts, PutFailed-second a b c (shortfalls_text mode wanted.choice all) (rest_text mode quiet tally rows waivers) wrote failed)

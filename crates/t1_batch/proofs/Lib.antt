@@ -1,5 +1,6 @@
 pub mod CountedFonts
 pub mod EndingTexts
+pub mod FailingLines
 pub mod FontsTaken
 pub mod FormMaps
 pub mod FormattedRuns

@@ -1,6 +1,7 @@
 -- What holds of a run over files holds over files that give as much.
 use Rattle.std.proofs.Common.{ℕ, Bool, List, [], ◌∷◌, Option, None, Some, Result, Ok, Err, inl, inr}
 use Rattle.std.specs.List.{AllByRecursion}
+use Rattle.t1_batch.specs.Endings.{WantedValue}
 use Rattle.t1_batch.specs.Checks.{ChecksFonts, IsFound}
 use Rattle.t1_batch.specs.Checks.ChecksFonts.{cut_short, whole}
 use Rattle.t1_batch.specs.Modes.{ModeValue, judges_of}
@@ -13,7 +14,6 @@ use Rattle.t1_char.specs.declared.edition.Edition.{Edition}
 use Rattle.t1_forms.specs.Tellings.{ToldValue}
 use Rattle.t1_io.specs.Devices.{SinkState, SourceState}
 use Rattle.t1_lines.specs.declared.refusal.Reason.{Reason}
-use Rattle.t1_many.specs.Choice.{Choice}
 use Rattle.t1_many.specs.Ends.{AreEntries, IsEntry}
 use Rattle.t1_many.specs.Files.{Files, IsFound as IsFoundBy, files_by, given_of}
 use Rattle.t1_many.specs.Files.IsFound.{breaks, breaks_waivers, no_memory, refused, reports, waivers_refused}
@@ -167,12 +167,12 @@ module _ (files more : Files) (includes : Includes files more) where
   written_too (Some Sarif) unlisted judges edition names old new Keeps result (not_begun lost errors is) = not_begun lost errors is
 
   -- a whole run
-  pub runs_too : (form : Option Form) (unlisted : List ToldValue) (mode : ModeValue) (rules : Mask) (choice : Choice) (quiet : Bool) (edition : Edition)
-      (names : List (List ℕ)) (old new : Devices) (left : LeftValue) → Runs form unlisted mode rules choice quiet files edition names old new left
-      → Runs form unlisted mode rules choice quiet more edition names old new left
-  runs_too form unlisted mode rules choice quiet edition names old new left (concluded behind kept status wrote concludes same) =
+  pub runs_too : (form : Option Form) (unlisted : List ToldValue) (mode : ModeValue) (rules : Mask) (wanted : WantedValue) (quiet : Bool) (edition : Edition)
+      (names : List (List ℕ)) (old new : Devices) (left : LeftValue) → Runs form unlisted mode rules wanted quiet files edition names old new left
+      → Runs form unlisted mode rules wanted quiet more edition names old new left
+  runs_too form unlisted mode rules wanted quiet edition names old new left (concluded behind kept status wrote concludes same) =
       concluded behind kept status
       (written_too form unlisted (judges_of mode rules) edition names old behind (IsFound mode rules kept) (Ok status) wrote) concludes same
-  runs_too form unlisted mode rules choice quiet edition names old new left (stopped behind kept lost wrote status tells same is) =
+  runs_too form unlisted mode rules wanted quiet edition names old new left (stopped behind kept lost wrote status tells same is) =
       stopped behind kept lost (written_too form unlisted (judges_of mode rules) edition names old behind (IsFound mode rules kept) (Err lost) wrote)
       status tells same is

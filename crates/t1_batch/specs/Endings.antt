@@ -1,5 +1,5 @@
 -- What is told once all fonts were checked, and what is left to do.
-use Rattle.std.specs.Prelude.{◌≡◌, ◌++◌, ℕ, nat_lt, Bool, true, false, List, [], codes, length, Option, None, Some, option_map, Result, Ok, Err, if◌then◌else◌}
+use Rattle.std.specs.Prelude.{◌≡◌, ◌++◌, ℕ, ◌&&◌, nat_lt, Bool, true, false, List, [], codes, length, Option, None, Some, option_map, Result, Ok, Err, if◌then◌else◌}
 use Rattle.std.specs.List.{flat_map, list_any}
 use Rattle.t1_io.specs.Devices.{PutFailed, SinkState, Wrote}
 use Rattle.t1_known.specs.Readings.{IsReadable, choice_of as choice_by}
@@ -9,22 +9,29 @@ use Rattle.t1_many.specs.KnownFaults.{Reading, RowValue, file_text, shortfall, u
 use Rattle.t1_many.specs.declared.readings.Reading.{Reading as Kept}
 use Rattle.t1_many.specs.declared.recipient.Lost.{Lost}
 use Rattle.t1_many.specs.declared.recipient.Lost.TheVariants.{Device, Memory}
+use Rattle.t1_rules.specs.Book.{number_of, rules}
+use Rattle.t1_rules.specs.Mask.{has}
+use Rattle.t1_rules.specs.declared.mask.Mask.{Mask}
 use Rattle.t1_run.specs.declared.status.Status.{Status}
 use Rattle.t1_run.specs.declared.status.Status.TheVariants.{Clean, Failed, Faults, Refused}
 use Rattle.t1_summary.specs.Summaries.{summary_text as text_of_summary}
-use Rattle.t1_summary.specs.Tallies.{fonts_in}
+use Rattle.t1_summary.specs.Tallies.{fonts_in, lines_in}
 use Rattle.t1_summary.specs.declared.found.Found.TheVariants as founds
 use Rattle.t1_summary.specs.declared.tally.Tally.{Tally}
 use Rattle.t1_waiving.specs.FontTexts.{FontText}
 use Rattle.t1_waiving.specs.TooMany.{has_too_many, too_many_line}
 use Rattle.t1_batch.specs.Checks.{IsTextOf}
 use Rattle.t1_batch.specs.Modes.{ModeValue, anew, beyond, told, waived}
-use Rattle.t1_batch.specs.declared.ending.Codes.{Codes}
+use Rattle.t1_batch.specs.declared.ending.Wanted.{Wanted}
 use Rattle.t1_batch.specs.declared.ending.Ended.{Ended}
 
--- The rules that the codes choose.
-abbrev pub choice_of : Codes → Choice
-choice_of codes = choice_by codes.only.now codes.except.now
+-- Which rules are told, and which make the status that of faults.
+pub record WantedValue : Type 0 where
+  pub choice : Choice
+  pub failing : Mask
+
+abbrev pub wanted_value : Wanted → WantedValue
+wanted_value wanted = record { choice = choice_by wanted.only.now wanted.except.now; failing = wanted.failing }
 
 -- What was found in a font, where its rows can be read.
 abbrev pub IsFoundIn : Kept → Reading → Type 0
@@ -74,16 +81,20 @@ ending_text mode choice quiet tally readings rows waivers = shortfalls_text mode
 
 -- ---- what is left
 
--- The greatest status of the fonts that a tally has.
-abbrev pub status_of : Tally → Status
-status_of tally =
+-- A line of one of these rules was handed on.
+unfoldable pub has_failing : Mask → Tally → Bool
+has_failing failing tally = list_any (λ rule. has failing (number_of rule) && nat_lt 0 (lines_in tally rule)) rules
+
+-- The status of the fonts and lines that a tally has: that of faults where a line of a rule was handed on that makes it so.
+abbrev pub status_of : Mask → Tally → Status
+status_of failing tally =
     if nat_lt 0 (fonts_in tally founds.Unchecked) then Failed
     else (if nat_lt 0 (fonts_in tally founds.Refused) then Refused
-    else (if nat_lt 0 (fonts_in tally founds.Faulty) then Faults else Clean))
+    else (if has_failing failing tally then Faults else Clean))
 
 -- A font with too many waivers is a failure.
-abbrev pub status_in : Tally → List FontText → Status
-status_in tally waivers = if list_any has_too_many waivers then Failed else status_of tally
+abbrev pub status_in : Mask → Tally → List FontText → Status
+status_in failing tally waivers = if list_any has_too_many waivers then Failed else status_of failing tally
 
 -- The text of the file of known faults from now on.
 abbrev pub known_faults_in : ModeValue → Choice → List Reading → Option (List ℕ)
@@ -96,10 +107,12 @@ abbrev pub text_of : Ended → Option (List ℕ)
 text_of ended = option_map (λ text. text.items) ended.known_faults
 
 -- All was told; or the device failed behind a front of it; or memory ran out, and nothing was told.
-abbrev pub Ends : ModeValue → Choice → Bool → Tally → List Reading → List FontText → SinkState → SinkState → Result Ended Lost → Type 0
-Ends mode choice quiet tally readings waivers old new (Ok ended) =
-    (rows : Option ℕ) × CountsRows mode choice readings rows × Wrote old new (ending_text mode choice quiet tally readings rows waivers)
-    × (ended.status ≡ status_in tally waivers) × (text_of ended ≡ known_faults_in mode choice readings)
-Ends mode choice quiet tally readings waivers old new (Err Device) =
-    (rows : Option ℕ) × CountsRows mode choice readings rows × PutFailed old new (ending_text mode choice quiet tally readings rows waivers)
-Ends mode choice quiet tally readings waivers old new (Err Memory) = new ≡ old
+abbrev pub Ends : ModeValue → WantedValue → Bool → Tally → List Reading → List FontText → SinkState → SinkState → Result Ended Lost → Type 0
+Ends mode wanted quiet tally readings waivers old new (Ok ended) =
+    (rows : Option ℕ) × CountsRows mode wanted.choice readings rows
+    × Wrote old new (ending_text mode wanted.choice quiet tally readings rows waivers)
+    × (ended.status ≡ status_in wanted.failing tally waivers) × (text_of ended ≡ known_faults_in mode wanted.choice readings)
+Ends mode wanted quiet tally readings waivers old new (Err Device) =
+    (rows : Option ℕ) × CountsRows mode wanted.choice readings rows
+    × PutFailed old new (ending_text mode wanted.choice quiet tally readings rows waivers)
+Ends mode wanted quiet tally readings waivers old new (Err Memory) = new ≡ old

@@ -1,6 +1,7 @@
 pub mod Checks
 pub mod Choosing
 pub mod Endings
+pub mod Laws
 pub mod Modes
 pub mod Private
 pub mod Runs

@@ -2,7 +2,7 @@
 use Rattle.std.specs.Prelude.{◌≡◌, ℕ, Bool, List, codes, Option, None, Some, option_map, Result, Ok, Err, if◌then◌else◌}
 use Rattle.std.specs.List.{AllZip}
 use Rattle.t1_batch.specs.Checks.{IsFound}
-use Rattle.t1_batch.specs.Endings.{Ends, IsFoundIn, text_of}
+use Rattle.t1_batch.specs.Endings.{Ends, IsFoundIn, WantedValue, text_of}
 use Rattle.t1_batch.specs.Modes.{ModeValue, judges_of}
 use Rattle.t1_batch.specs.Unlisted.{is_whole}
 use Rattle.t1_batch.specs.Writing.{WritesInForm}
@@ -12,7 +12,6 @@ use Rattle.t1_batch.specs.declared.running.Left.{Left}
 use Rattle.t1_char.specs.declared.edition.Edition.{Edition}
 use Rattle.t1_forms.specs.Tellings.{ToldValue}
 use Rattle.t1_io.specs.Devices.{SinkState}
-use Rattle.t1_many.specs.Choice.{Choice}
 use Rattle.t1_many.specs.Files.{Files}
 use Rattle.t1_many.specs.KnownFaults.{Reading}
 use Rattle.t1_many.specs.Plain.{Devices}
@@ -52,37 +51,37 @@ nothing_left status = record { status = status; known_faults = None; waivers = N
 
 -- All that was found is told, and the files are left to be replaced, and where not all could be listed the status is that of a failure; or it
 -- stopped, which is told, and nothing is left.
-pub data Concludes (mode : ModeValue) (choice : Choice) (quiet : Bool) (found : Part) (whole : Bool) (old new : SinkState)
+pub data Concludes (mode : ModeValue) (wanted : WantedValue) (quiet : Bool) (found : Part) (whole : Bool) (old new : SinkState)
     (left : LeftValue) : Type 0 where
   told :
       (ended : Ended)
       → ((all : List Reading) → AllZip IsFoundIn found.readings.items all
-      → Ends mode choice quiet found.tally all found.kept old new (Ok ended))
+      → Ends mode wanted quiet found.tally all found.kept old new (Ok ended))
       → left ≡ record { status = if whole then ended.status else Failed; known_faults = text_of ended; waivers = Some found.kept }
-      → Concludes mode choice quiet found whole old new left
+      → Concludes mode wanted quiet found whole old new left
   stopped :
       (lost : Lost) → (behind : SinkState)
       → ((all : List Reading) → AllZip IsFoundIn found.readings.items all
-      → Ends mode choice quiet found.tally all found.kept old behind (Err lost))
+      → Ends mode wanted quiet found.tally all found.kept old behind (Err lost))
       → (status : Status) → Tells (lost_line lost) Failed behind new status → left ≡ nothing_left status
-      → Concludes mode choice quiet found whole old new left
+      → Concludes mode wanted quiet found whole old new left
 
 -- The same once what is selected of the fonts was written, and where that stopped.
-abbrev pub ConcludesWritten : ModeValue → Choice → Bool → Part → Bool → Result Status Lost → SinkState → SinkState → LeftValue → Type 0
-ConcludesWritten mode choice quiet found whole (Ok status) old new left = Concludes mode choice quiet found whole old new left
-ConcludesWritten mode choice quiet found whole (Err lost) old new left =
+abbrev pub ConcludesWritten : ModeValue → WantedValue → Bool → Part → Bool → Result Status Lost → SinkState → SinkState → LeftValue → Type 0
+ConcludesWritten mode wanted quiet found whole (Ok status) old new left = Concludes mode wanted quiet found whole old new left
+ConcludesWritten mode wanted quiet found whole (Err lost) old new left =
     (status : Status) × Tells (lost_line lost) Failed old new status × (left ≡ nothing_left status)
 
 -- What is selected of the fonts was written, and all was told; or it stopped while that was written, which is told, and nothing is left.
-pub data Runs (form : Option Form) (unlisted : List ToldValue) (mode : ModeValue) (rules : Mask) (choice : Choice) (quiet : Bool) (files : Files)
+pub data Runs (form : Option Form) (unlisted : List ToldValue) (mode : ModeValue) (rules : Mask) (wanted : WantedValue) (quiet : Bool) (files : Files)
     (edition : Edition) (names : List (List ℕ)) (old new : Devices) (left : LeftValue) : Type 0 where
   concluded :
       (behind : Devices) → (found : Part) → (status : Status)
       → WritesInForm form unlisted (judges_of mode rules) files edition names old behind (IsFound mode rules found) (Ok status)
-      → Concludes mode choice quiet found (is_whole unlisted) behind.errors new.errors left → new.out ≡ behind.out
-      → Runs form unlisted mode rules choice quiet files edition names old new left
+      → Concludes mode wanted quiet found (is_whole unlisted) behind.errors new.errors left → new.out ≡ behind.out
+      → Runs form unlisted mode rules wanted quiet files edition names old new left
   stopped :
       (behind : Devices) → (found : Part) → (lost : Lost)
       → WritesInForm form unlisted (judges_of mode rules) files edition names old behind (IsFound mode rules found) (Err lost)
       → (status : Status) → Tells (lost_line lost) Failed behind.errors new.errors status → new.out ≡ behind.out → left ≡ nothing_left status
-      → Runs form unlisted mode rules choice quiet files edition names old new left
+      → Runs form unlisted mode rules wanted quiet files edition names old new left

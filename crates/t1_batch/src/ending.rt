@@ -2,7 +2,7 @@
 
 ghost use Rattle.std.specs.Prelude.{◌≡◌, IfOk, IfSome, List, option_map};
 ghost use Rattle.std.specs.List.{AllZip};
-ghost use Rattle.t1_batch.specs.Endings.{Ends, IsFoundIn, choice_of, has_known, rest_text, shortfalls_text, status_in, status_of, summary_text, unwaived_text};
+ghost use Rattle.t1_batch.specs.Endings.{Ends, IsFoundIn, has_failing, has_known, rest_text, shortfalls_text, status_in, status_of, summary_text, unwaived_text, wanted_value};
 ghost use Rattle.t1_batch.specs.Modes.{mode_value};
 ghost use Rattle.t1_batch.specs.Private.Updates.{IsBorrowed, IsUpdated};
 ghost use Rattle.t1_io.specs.Devices.{Writes};
@@ -16,18 +16,21 @@ use t1_io::{Broken, Sink, put_all};
 use t1_known::{KnownFaults, Reading, write_shortfalls, write_updated};
 use t1_many::{Lost, Reading as Kept};
 use t1_parts::Part;
+use t1_rules::{Mask, all_rules};
 use t1_run::Status;
 use t1_summary::{Found, Tally, summary};
 use t1_text::Text;
 use t1_waiving::{Kept as KeptWaivers, tell_too_many};
 
-/// The codes of rules that `--only` and `--except` name.
+/// Which rules are told, by their codes, and which make the status that of faults.
 #[derive(Clone, Copy, Debug)]
-pub struct Codes<'a> {
-    /// Those of `--only`. Without any, all rules are told.
+pub struct Wanted<'a> {
+    /// The codes of those that are told. Without any, all are.
     pub only: &'a [&'a [u8]],
-    /// Those of `--except`.
+    /// The codes of those that aren't told all the same.
     pub except: &'a [&'a [u8]],
+    /// The rules of which a line makes the status that of faults.
+    pub failing: Mask,
 }
 
 /// What is left to do once all was told.
@@ -57,22 +60,30 @@ struct Remade {
 pub fn end<E: Sink>(
     alloc: Global,
     mode: Mode<'_>,
-    codes: Codes<'_>,
+    wanted: Wanted<'_>,
     quiet: bool,
     found: &Part,
     errors: &mut E,
 ) -> Result<Ended, Lost>
     ensures { (all : List ReadingValue) → AllZip IsFoundIn found.now.readings.items all
-        → Ends (mode_value mode.entry) (choice_of codes.entry) quiet found.now.tally all found.now.kept (E.state errors.old) (E.state errors.new) result }
+        → Ends (mode_value mode.entry) (wanted_value wanted.entry) quiet found.now.tally all found.now.kept (E.state errors.old) (E.state errors.new) result }
 {
     let Ok(readings) = borrowed(alloc, found.readings.as_slice()) else {
         return Err(Lost::Memory);
     };
     let texts = readings.as_slice();
-    let remade = known_faults_anew(alloc, mode, texts, codes)?;
-    tell_shortfalls(alloc, mode, texts, codes, errors)?;
+    let remade = known_faults_anew(alloc, mode, texts, wanted)?;
+    tell_shortfalls(alloc, mode, texts, wanted, errors)?;
     let rows = rows_in(&remade);
-    let status = tell_rest(mode, quiet, &found.tally, rows, &found.kept, errors)?;
+    let status = tell_rest(
+        mode,
+        wanted.failing,
+        quiet,
+        &found.tally,
+        rows,
+        &found.kept,
+        errors,
+    )?;
     Ok(Ended {
         status,
         known_faults: text_in(remade),
@@ -119,14 +130,14 @@ fn known_faults_anew(
     alloc: Global,
     mode: Mode<'_>,
     readings: &[Reading<'_>],
-    codes: Codes<'_>,
+    wanted: Wanted<'_>,
 ) -> Result<Option<Remade>, Lost>
-    ensures { IsUpdated (mode_value mode.entry) (choice_of codes.entry) readings.now result }
+    ensures { IsUpdated (mode_value mode.entry) (wanted_value wanted.entry).choice readings.now result }
 {
     let Mode::Anew(known) = mode else {
         return Ok(None);
     };
-    let Some(text) = text_anew(alloc, known, readings, codes) else {
+    let Some(text) = text_anew(alloc, known, readings, wanted) else {
         return Err(Lost::Memory);
     };
     let rows = match KnownFaults::read(alloc, text.as_slice()) {
@@ -141,13 +152,13 @@ fn text_anew(
     alloc: Global,
     known: &KnownFaults<'_>,
     readings: &[Reading<'_>],
-    codes: Codes<'_>,
+    wanted: Wanted<'_>,
 ) -> Option<Vec<u8>>
     ensures { IfSome result (λ text. (all : List ReadingValue) → AreTextsOf readings.now all
-        → text.items ≡ file_text (updated (choice_of codes.entry) all known.now)) }
+        → text.items ≡ file_text (updated (wanted_value wanted.entry).choice all known.now)) }
 {
     let mut text = Text::new(alloc);
-    let written = write_updated(alloc, &mut text, known, readings, codes.only, codes.except);
+    let written = write_updated(alloc, &mut text, known, readings, wanted.only, wanted.except);
     if written.is_ok() {
         Some(text.into_bytes())
     } else {
@@ -160,15 +171,15 @@ fn tell_shortfalls<E: Sink>(
     alloc: Global,
     mode: Mode<'_>,
     readings: &[Reading<'_>],
-    codes: Codes<'_>,
+    wanted: Wanted<'_>,
     errors: &mut E,
 ) -> Result<(), Lost>
     ensures { (all : List ReadingValue) → AreReadingsOf readings.now all → WritesAll (E.state errors.old) (E.state errors.new)
-        (shortfalls_text (mode_value mode.entry) (choice_of codes.entry) all) result }
+        (shortfalls_text (mode_value mode.entry) (wanted_value wanted.entry).choice all) result }
 {
     match mode {
         Mode::Beyond(known) => {
-            write_shortfalls(alloc, errors, known, readings, codes.only, codes.except)
+            write_shortfalls(alloc, errors, known, readings, wanted.only, wanted.except)
         }
         Mode::Told | Mode::Anew(_) | Mode::Waived => Ok(()),
     }
@@ -177,6 +188,7 @@ fn tell_shortfalls<E: Sink>(
 /// Tells what comes after that, and returns the status.
 fn tell_rest<E: Sink>(
     mode: Mode<'_>,
+    failing: Mask,
     quiet: bool,
     tally: &Tally,
     rows: Option<u64>,
@@ -184,13 +196,13 @@ fn tell_rest<E: Sink>(
     errors: &mut E,
 ) -> Result<Status, Broken>
     ensures told { Writes (E.state errors.old) (E.state errors.new) (rest_text (mode_value mode.entry) quiet tally.now rows waivers.now) result }
-    ensures status { IfOk result (λ status. status ≡ status_in tally.now waivers.now) }
+    ensures status { IfOk result (λ status. status ≡ status_in failing tally.now waivers.now) }
 {
     tell_summary(mode, quiet, tally, rows, errors)?;
     tell_unwaived(mode, tally, errors)?;
     match tell_too_many(errors, waivers)? {
         Status::Failed => Ok(Status::Failed),
-        _ => Ok(status_of(tally)),
+        _ => Ok(status_of(failing, tally)),
     }
 }
 
@@ -233,17 +245,26 @@ fn tell_unwaived<E: Sink>(mode: Mode<'_>, tally: &Tally, errors: &mut E) -> Resu
     }
 }
 
-/// The greatest status of fonts that were found so.
-pub fn status_of(tally: &Tally) -> Status
-    ensures { result ≡ status_of tally.now }
+/// The status of fonts that were found so: that of faults where a line of a rule was handed on that makes it so.
+pub fn status_of(failing: Mask, tally: &Tally) -> Status
+    ensures { result ≡ status_of failing tally.now }
 {
     if 0 < tally.fonts_found(Found::Unchecked) {
         Status::Failed
     } else if 0 < tally.fonts_found(Found::Refused) {
         Status::Refused
-    } else if 0 < tally.fonts_found(Found::Faulty) {
+    } else if has_failing(failing, tally) {
         Status::Faults
     } else {
         Status::Clean
     }
+}
+
+/// Whether a line of one of these rules was handed on.
+fn has_failing(failing: Mask, tally: &Tally) -> bool
+    ensures { result ≡ has_failing failing tally.now }
+{
+    all_rules()
+        .iter()
+        .any(|rule| failing.has(*rule) && 0 < tally.lines_of(*rule))
 }

@@ -7,6 +7,7 @@
 mod checking;
 mod choosing;
 mod ending;
+mod laws;
 mod mode;
 mod running;
 mod shards;
@@ -15,7 +16,8 @@ mod writing;
 
 pub use checking::{Checked, Fonts, check_fonts};
 pub use choosing::{as_codes, selection};
-pub use ending::{Codes, Ended, end, status_of};
+pub use ending::{Ended, Wanted, end, status_of};
+pub use laws::statuses_are_by_lines;
 pub use mode::{Mode, Selection};
 pub use running::{Left, PROGRAM, Ran, conclude, run, tell_lost};
 pub use shards::names_of_part;

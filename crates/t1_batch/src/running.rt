@@ -2,7 +2,7 @@
 
 ghost use Rattle.std.specs.Prelude.{◌≡◌, false, if◌then◌else◌, map, string_bytes, Ok};
 ghost use Rattle.std.specs.Fn.{FnReturnsAt};
-ghost use Rattle.t1_batch.specs.Endings.{choice_of};
+ghost use Rattle.t1_batch.specs.Endings.{wanted_value};
 ghost use Rattle.t1_batch.specs.Modes.{judges_of, mode_value};
 ghost use Rattle.t1_batch.specs.Runs.{Concludes, ConcludesWritten, Runs, left_value, lost_line, nothing_left};
 ghost use Rattle.t1_batch.specs.Unlisted.{unlisted_in};
@@ -10,7 +10,7 @@ ghost use Rattle.t1_many.specs.Files.{files_by};
 ghost use Rattle.t1_run.specs.Telling.{Tells};
 
 use crate::checking::Fonts;
-use crate::ending::{Codes, end};
+use crate::ending::{Wanted, end};
 use crate::mode::{Mode, Selection};
 use crate::writing::{Output, Written, write_fonts};
 use std::alloc::Global;
@@ -53,7 +53,7 @@ pub fn run<R, V, O, P, W, E>(
     fonts: Fonts<'_, O, P>,
     selection: Selection<'_>,
     output: Output<'_>,
-    codes: Codes<'_>,
+    wanted: Wanted<'_>,
     quiet: bool,
     out: W,
     errors: E,
@@ -69,7 +69,7 @@ where
     requires open_waivers { P.IsAlwaysCallable fonts.open_waivers }
     requires unbroken { (name : _) (file : R) → FnReturnsAt O.Fn fonts.open_font name (Ok file) → (R.state file).failed ≡ false }
     ensures { Runs output.entry.form (unlisted_in output.entry.unlisted)
-        (mode_value selection.entry.mode) selection.entry.rules (choice_of codes.entry) quiet
+        (mode_value selection.entry.mode) selection.entry.rules (wanted_value wanted.entry) quiet
         (files_by R.state V.state (FnReturnsAt O.Fn fonts.entry.open_font) (FnReturnsAt P.Fn fonts.entry.open_waivers)) selection.entry.edition
         (map string_bytes fonts.entry.names.now)
         (record { out = W.state out; errors = E.state errors }) (record { out = W.state result.out; errors = E.state result.errors })
@@ -85,7 +85,7 @@ where
     let left = conclude_written(
         alloc,
         selection.mode,
-        codes,
+        wanted,
         quiet,
         status,
         found,
@@ -99,18 +99,18 @@ where
 fn conclude_written<E: Sink>(
     alloc: Global,
     mode: Mode<'_>,
-    codes: Codes<'_>,
+    wanted: Wanted<'_>,
     quiet: bool,
     status: Result<Status, Lost>,
     found: Part,
     whole: bool,
     errors: &mut E,
 ) -> Left
-    ensures { ConcludesWritten (mode_value mode.entry) (choice_of codes.entry) quiet found whole status
+    ensures { ConcludesWritten (mode_value mode.entry) (wanted_value wanted.entry) quiet found whole status
         (E.state errors.old) (E.state errors.new) (left_value result) }
 {
     match status {
-        Ok(_) => conclude(alloc, mode, codes, quiet, found, whole, errors),
+        Ok(_) => conclude(alloc, mode, wanted, quiet, found, whole, errors),
         Err(lost) => nothing_left(tell_lost(lost, errors)),
     }
 }
@@ -119,15 +119,15 @@ fn conclude_written<E: Sink>(
 pub fn conclude<E: Sink>(
     alloc: Global,
     mode: Mode<'_>,
-    codes: Codes<'_>,
+    wanted: Wanted<'_>,
     quiet: bool,
     found: Part,
     whole: bool,
     errors: &mut E,
 ) -> Left
-    ensures { Concludes (mode_value mode.entry) (choice_of codes.entry) quiet found whole (E.state errors.old) (E.state errors.new) (left_value result) }
+    ensures { Concludes (mode_value mode.entry) (wanted_value wanted.entry) quiet found whole (E.state errors.old) (E.state errors.new) (left_value result) }
 {
-    match end(alloc, mode, codes, quiet, &found, errors) {
+    match end(alloc, mode, wanted, quiet, &found, errors) {
         Ok(ended) => Left {
             status: status_of_list(whole, ended.status),
             known_faults: ended.known_faults,

@@ -4,9 +4,10 @@ use std::alloc::{AllocError, Global};
 use std::io;
 use std::io::ErrorKind;
 use std::test::Fail;
-use t1_batch::{Codes, Left, Mode, Output, Unlisted};
+use t1_batch::{Left, Mode, Output, Unlisted, Wanted};
 use t1_io::{Fuse, In, Limit, Out, Sink};
 use t1_joining::{PartFiles, Split, join};
+use t1_many::told_rules;
 use t1_options::Form;
 use t1_run::Status;
 
@@ -97,11 +98,12 @@ fn join_left<W: Sink, E: Sink>(
             },
         },
     };
-    let codes = Codes {
+    let wanted = Wanted {
         only: &[],
         except: &[],
+        failing: told_rules(&[], &[]),
     };
-    Ok(join(alloc, files, split, Mode::Told, codes, false, out, errors))
+    Ok(join(alloc, files, split, Mode::Told, wanted, false, out, errors))
 }
 
 /// The numbers of a font with a line of F01 and of one that wasn't checked.
@@ -125,7 +127,7 @@ b.pfb: t1check: read failed
 c.pfb: t1check: ended by signal 9
 d.pfb: t1check: ended by signal 9
 6 fonts: 2 clean, 1 with faults, 0 refused, 3 not checked
-      1 F01 no end segment
+      1 F01 no end segment (should)
 ";
 
 /// The parts of fonts with these outputs: the second part died in its second line.
@@ -339,9 +341,10 @@ fn tells_a_file_that_is_missing(rt: HostRuntime) -> Result<(), Fail> {
             },
         },
     };
-    let codes = Codes {
+    let wanted = Wanted {
         only: &[],
         except: &[],
+        failing: told_rules(&[], &[]),
     };
     let mut text = Vec::new(rt.alloc());
     let mut told = Vec::new(rt.alloc());
@@ -350,7 +353,7 @@ fn tells_a_file_that_is_missing(rt: HostRuntime) -> Result<(), Fail> {
         files,
         split,
         Mode::Told,
-        codes,
+        wanted,
         true,
         &mut Out::new(&mut text),
         &mut Out::new(&mut told),

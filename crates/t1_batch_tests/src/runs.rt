@@ -6,7 +6,7 @@ use std::alloc::{AllocError, Global};
 use std::io;
 use std::io::ErrorKind;
 use std::test::Fail;
-use t1_batch::{Codes, Fonts, Left, Mode, Output, Ran, Selection, Unlisted, run};
+use t1_batch::{Fonts, Left, Mode, Output, Ran, Selection, Unlisted, Wanted, run};
 use t1_char::Edition;
 use t1_io::{Broken, Fuse, In, Limit, Out, Sink, Source};
 use t1_known::KnownFaults;
@@ -44,6 +44,15 @@ fn names_of(alloc: Global, names: &[&str]) -> Result<Vec<String>, AllocError> {
     Ok(kept)
 }
 
+/// The codes of the rules that are reported, of those that aren't all the same, and of those whose lines make the status 1; without any, all
+/// are.
+#[derive(Clone, Copy)]
+struct Codes<'a> {
+    only: &'a [&'a [u8]],
+    except: &'a [&'a [u8]],
+    failing: &'a [&'a [u8]],
+}
+
 /// How fonts are checked, and what is printed of them.
 #[derive(Clone, Copy)]
 struct Asked<'a> {
@@ -70,12 +79,14 @@ fn plain<'a>() -> Output<'a> {
 const P03_ALONE: Codes<'static> = Codes {
     only: &[b"P03"],
     except: &[],
+    failing: &[],
 };
 
 /// All rules but C07 are reported.
 const ALL_BUT_C07: Codes<'static> = Codes {
     only: &[],
     except: &[b"C07"],
+    failing: &[],
 };
 
 /// Checks the fonts of these names, and returns what is left to do.
@@ -98,6 +109,11 @@ fn run_over<'a, W: Sink + Drop, E: Sink + Drop>(
         rules: told_rules(asked.codes.only, asked.codes.except),
         mode: asked.mode,
     };
+    let wanted = Wanted {
+        only: asked.codes.only,
+        except: asked.codes.except,
+        failing: told_rules(asked.codes.failing, &[]),
+    };
     let Ran {
         left,
         out: _out,
@@ -107,7 +123,7 @@ fn run_over<'a, W: Sink + Drop, E: Sink + Drop>(
         fonts,
         selection,
         asked.output,
-        asked.codes,
+        wanted,
         asked.quiet,
         out,
         errors,
@@ -152,9 +168,42 @@ cut.pfa: refused: E04 no eexec
     let lines = b"\
 absent.pfb: t1check: read failed
 3 fonts: 0 clean, 1 with faults, 1 refused, 1 not checked
-      1 P03 closepath without a path
+      1 P03 closepath without a path (tidy)
 ";
     assert!(rt; told.as_slice() == lines.as_slice());
+    Ok(())
+}
+
+/// The status of a run over the faulty font where lines of these rules make it 1.
+fn status_failing(alloc: Global, files: &[File<'_>], failing: &[&[u8]]) -> Result<Status, AllocError> {
+    let asked = Asked {
+        codes: Codes {
+            only: &[],
+            except: &[b"C07"],
+            failing,
+        },
+        mode: Mode::Told,
+        output: plain(),
+        quiet: true,
+    };
+    let mut text = Vec::new(alloc);
+    let mut told = Vec::new(alloc);
+    let (out, errors) = (Out::new(&mut text), Out::new(&mut told));
+    Ok(run_over(alloc, &["faulty.pfb"], files, asked, out, errors)?.status)
+}
+
+/// A line makes the status 1 where its rule does, and is told.
+#[test]
+fn some_rules_make_the_status(rt: HostRuntime) -> Result<(), Fail> {
+    let faulty = Sample::new(rt.alloc())?.glyph(b"A", FOUR_FAULTS)?.pfb()?;
+    let files = [("faulty.pfb", faulty.as_slice())];
+    for (failing, status) in [
+        ([b"P03".as_slice(), b"H02"], Status::Faults),
+        ([b"C07", b"H02"], Status::Clean),
+    ] {
+        let found = status_failing(rt.alloc(), &files, &failing)?;
+        assert_eq!(rt; found, status);
+    }
     Ok(())
 }
 
@@ -305,7 +354,7 @@ fn leaves_waivers(rt: HostRuntime) -> Result<(), Fail> {
     assert!(rt; text.as_slice() == lines.as_slice());
     let lines = b"\
 1 font: 0 clean, 1 with faults, 0 refused, 0 not checked
-      1 F08 MinFeature is not {16 16}
+      1 F08 MinFeature is not {16 16} (tidy)
 t1check-all: lines of a font itself can not be waived
 ";
     assert!(rt; told.as_slice() == lines.as_slice());

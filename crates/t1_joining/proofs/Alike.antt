@@ -2,14 +2,13 @@
 use Rattle.std.proofs.Common.{◌≡◌, Bool, List, [], ◌∷◌, ℕ, Option, Some, Result, Ok, Err, if◌then◌else◌, sym, ap, subst, ◌∙◌}
 use Rattle.std.specs.List.{AllZip}
 use Rattle.t1_batch.specs.Checks.{IsFound, IsTextOf}
-use Rattle.t1_batch.specs.Endings.{Ends, IsFoundIn, text_of}
+use Rattle.t1_batch.specs.Endings.{Ends, IsFoundIn, WantedValue, text_of}
 use Rattle.t1_batch.specs.Modes.{ModeValue, readings_of}
 use Rattle.t1_batch.specs.Runs.{Concludes, LeftValue}
 use Rattle.t1_batch.specs.Runs.Concludes.{stopped, told}
 use Rattle.t1_batch.specs.declared.ending.Ended.{Ended}
 use Rattle.t1_io.specs.Devices.{SinkState}
 use Rattle.t1_joining.specs.Laws.{TheFoundConcludes}
-use Rattle.t1_many.specs.Choice.{Choice}
 use Rattle.t1_many.specs.KnownFaults.{Reading as ReadingValue}
 use Rattle.t1_many.specs.Outcomes.{Entry}
 use Rattle.t1_many.specs.declared.readings.Reading.{Reading}
@@ -43,7 +42,7 @@ alike (x ∷ xs) (y ∷ ys) (r ∷ all) (s ∷ some) (first, rest) (other, other
 
 module _ (mode : ModeValue) (rules : Mask) (entries : List Entry) (a b : Part) (is : IsFound mode rules a entries)
     (are : IsFound mode rules b entries)
-    (choice : Choice) (quiet : Bool) where
+    (wanted : WantedValue) (quiet : Bool) where
   tallies : a.tally ≡ b.tally
   tallies = is.counted ∙ sym are.counted
 
@@ -51,20 +50,20 @@ module _ (mode : ModeValue) (rules : Mask) (entries : List Entry) (a b : Part) (
   waivers = is.kept.waivers_are ∙ sym are.kept.waivers_are
 
   ends : (old new : SinkState) (result : Result Ended Lost)
-      → ((all : List ReadingValue) → AllZip IsFoundIn a.readings.items all → Ends mode choice quiet a.tally all a.kept old new result)
-      → (all : List ReadingValue) → AllZip IsFoundIn b.readings.items all → Ends mode choice quiet b.tally all b.kept old new result
+      → ((all : List ReadingValue) → AllZip IsFoundIn a.readings.items all → Ends mode wanted quiet a.tally all a.kept old new result)
+      → (all : List ReadingValue) → AllZip IsFoundIn b.readings.items all → Ends mode wanted quiet b.tally all b.kept old new result
   ends old new result each all found =
-      subst (λ (t : Tally). Ends mode choice quiet t all b.kept old new result) tallies
-      (subst (λ (ws : List FontText). Ends mode choice quiet a.tally all ws old new result) waivers
+      subst (λ (t : Tally). Ends mode wanted quiet t all b.kept old new result) tallies
+      (subst (λ (ws : List FontText). Ends mode wanted quiet a.tally all ws old new result) waivers
       (each all (alike a.readings.items b.readings.items (readings_of mode rules entries) all is.kept.readings_are are.kept.readings_are found)))
 
-  concludes : (whole : Bool) (old new : SinkState) (left : LeftValue) → Concludes mode choice quiet a whole old new left
-      → Concludes mode choice quiet b whole old new left
+  concludes : (whole : Bool) (old new : SinkState) (left : LeftValue) → Concludes mode wanted quiet a whole old new left
+      → Concludes mode wanted quiet b whole old new left
   concludes whole old new left (told ended each left_is) =
       told ended (ends old new (Ok ended) each) (left_is ∙ ap (waiving (if whole then ended.status else Failed) (text_of ended)) waivers)
   concludes whole old new left (stopped lost behind each status tells left_is) =
       stopped lost behind (ends old behind (Err lost) each) status tells left_is
 
 pub found_concludes : TheFoundConcludes
-found_concludes mode rules entries a b is are choice quiet whole old new left ends =
-    concludes mode rules entries a b is are choice quiet whole old new left ends
+found_concludes mode rules entries a b is are wanted quiet whole old new left ends =
+    concludes mode rules entries a b is are wanted quiet whole old new left ends

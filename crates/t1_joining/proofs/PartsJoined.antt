@@ -3,6 +3,7 @@ use Rattle.std.proofs.Common.{◌≡◌, ◌+◌, ◌<◌, ◌++◌, ◌∷◌, 
 use Rattle.std.proofs.lemmas.Grind.{flat_map-append}
 use Rattle.std.specs.List.{AllZip, flat_map}
 use Rattle.t1_batch.proofs.GivenEach.{replicate-push}
+use Rattle.t1_batch.specs.Endings.{WantedValue}
 use Rattle.t1_batch.specs.Modes.{ModeValue}
 use Rattle.t1_batch.specs.Runs.{LeftValue}
 use Rattle.t1_batch.specs.Unlisted.{is_whole}
@@ -13,7 +14,6 @@ use Rattle.t1_joining.specs.Joins.{AreJoined, Joins, JoinsAll, JoinsList, JoinsP
 use Rattle.t1_joining.specs.Joins.Joins.{concluded, stopped}
 use Rattle.t1_joining.specs.Joins.JoinsAll.{joined, no_memory, stopped as stopped_at}
 use Rattle.t1_joining.specs.Private.Parts.{Added, AddsPart, ConcludesJoined}
-use Rattle.t1_many.specs.Choice.{Choice}
 use Rattle.t1_joining.specs.Steps.{OnOutput}
 use Rattle.t1_many.specs.Handing.{lost_of}
 use Rattle.t1_many.specs.Plain.{Devices, IsFlushed}
@@ -142,12 +142,12 @@ module _ (JoinsOne : ℕ → Devices → Devices → Result Part Lost → Type 0
 
 -- ---- the end
 
-pub join_ends : (files : FilesOfParts) (form : Option Form) (unlisted : List ToldValue) (mode : ModeValue) (choice : Choice) (quiet : Bool)
+pub join_ends : (files : FilesOfParts) (form : Option Form) (unlisted : List ToldValue) (mode : ModeValue) (wanted : WantedValue) (quiet : Bool)
     (names : List (List ℕ)) (count : ℕ) (old behind new : Devices) (left : LeftValue) (result : Result Part Lost)
     → JoinsList files form unlisted names count old behind result
-    → ConcludesJoined mode choice quiet result (is_whole unlisted) behind.errors new.errors left → new.out ≡ behind.out
-    → Joins files form unlisted mode choice quiet names count old new left
-join_ends files form unlisted mode choice quiet names count old behind new left (Ok found) joins ends same =
+    → ConcludesJoined mode wanted quiet result (is_whole unlisted) behind.errors new.errors left → new.out ≡ behind.out
+    → Joins files form unlisted mode wanted quiet names count old new left
+join_ends files form unlisted mode wanted quiet names count old behind new left (Ok found) joins ends same =
     concluded behind found joins ends same
-join_ends files form unlisted mode choice quiet names count old behind new left (Err lost) joins (status, tells, is) same =
+join_ends files form unlisted mode wanted quiet names count old behind new left (Err lost) joins (status, tells, is) same =
     stopped behind lost joins status tells same is

@@ -1,6 +1,7 @@
 -- How what the parts of a run left is joined.
 use Rattle.std.specs.Prelude.{◌≡◌, ◌≤◌, ◌<◌, ◌-◌, ◌++◌, ◌∷◌, ℕ, zero, suc, Bool, List, [], length, Option, Some, Result, Ok, Err, IfOk}
 use Rattle.std.specs.List.{AllZip, flat_map}
+use Rattle.t1_batch.specs.Endings.{WantedValue}
 use Rattle.t1_batch.specs.Runs.{Concludes, LeftValue, lost_line, nothing_left}
 use Rattle.t1_batch.specs.Modes.{ModeValue}
 use Rattle.t1_batch.specs.Unlisted.{is_whole}
@@ -9,7 +10,6 @@ use Rattle.t1_joining.specs.Died.{WritesDied, died_lines, died_part, died_told}
 use Rattle.t1_joining.specs.FilesOfParts.{CopiesErrors, CopiesOutput, FilesOfParts, HasDied}
 use Rattle.t1_joining.specs.Steps.{OnErrors, OnOutput, Then}
 use Rattle.t1_joining.specs.declared.copying.Extent.TheVariants.{All, WholeLines}
-use Rattle.t1_many.specs.Choice.{Choice}
 use Rattle.t1_many.specs.Handing.{lost_of}
 use Rattle.t1_many.specs.Plain.{Devices, IsFlushed, IsPut}
 use Rattle.t1_many.specs.Shards.{part_of}
@@ -89,13 +89,13 @@ JoinsList files form unlisted names count old new result =
     JoinsAll (λ number. JoinsPart files form unlisted (part_of count names (number - 1)) number) count old new result
 
 -- What the parts left was joined, and then told is what is told once all fonts were checked; or it stopped, which is told, and nothing is left.
-pub data Joins (files : FilesOfParts) (form : Option Form) (unlisted : List ToldValue) (mode : ModeValue) (choice : Choice) (quiet : Bool)
+pub data Joins (files : FilesOfParts) (form : Option Form) (unlisted : List ToldValue) (mode : ModeValue) (wanted : WantedValue) (quiet : Bool)
     (names : List (List ℕ)) (count : ℕ) (old new : Devices) (left : LeftValue) : Type 0 where
   concluded :
       (behind : Devices) → (found : Part) → JoinsList files form unlisted names count old behind (Ok found)
-      → Concludes mode choice quiet found (is_whole unlisted) behind.errors new.errors left → new.out ≡ behind.out
-      → Joins files form unlisted mode choice quiet names count old new left
+      → Concludes mode wanted quiet found (is_whole unlisted) behind.errors new.errors left → new.out ≡ behind.out
+      → Joins files form unlisted mode wanted quiet names count old new left
   stopped :
       (behind : Devices) → (lost : Lost) → JoinsList files form unlisted names count old behind (Err lost) → (status : Status)
       → Tells (lost_line lost) Failed behind.errors new.errors status → new.out ≡ behind.out → left ≡ nothing_left status
-      → Joins files form unlisted mode choice quiet names count old new left
+      → Joins files form unlisted mode wanted quiet names count old new left

@@ -1,6 +1,7 @@
 -- The statements of laws.
 use Rattle.std.specs.Prelude.{◌≡◌, ◌<◌, ℕ, zero, suc, Bool, List, [], Option, Some, Ok}
 use Rattle.std.specs.Io.KnownBytes.{Appends}
+use Rattle.t1_batch.specs.Endings.{WantedValue}
 use Rattle.t1_batch.specs.Checks.{IsFound}
 use Rattle.t1_batch.specs.Modes.{ModeValue, judges_of}
 use Rattle.t1_batch.specs.Runs.{Concludes, LeftValue}
@@ -11,7 +12,6 @@ use Rattle.t1_io.specs.Devices.{SinkState, SourceState}
 use Rattle.t1_joining.specs.FilesOfParts.{FilesOfParts}
 use Rattle.t1_joining.specs.Joins.{JoinsList}
 use Rattle.t1_joining.specs.Texts.{HasLeft, LeavesTexts}
-use Rattle.t1_many.specs.Choice.{Choice}
 use Rattle.t1_many.specs.Files.{Files}
 use Rattle.t1_many.specs.Outcomes.{Entry}
 use Rattle.t1_many.specs.Plain.{Devices}
@@ -60,5 +60,5 @@ PartsGiveTheWhole files left =
 abbrev pub TheFoundConcludes : Type 0
 TheFoundConcludes =
     (mode : ModeValue) (rules : Mask) (entries : List Entry) (a b : Part) → IsFound mode rules a entries → IsFound mode rules b entries
-    → (choice : Choice) (quiet whole : Bool) (old new : SinkState) (left : LeftValue)
-    → Concludes mode choice quiet a whole old new left → Concludes mode choice quiet b whole old new left
+    → (wanted : WantedValue) (quiet whole : Bool) (old new : SinkState) (left : LeftValue)
+    → Concludes mode wanted quiet a whole old new left → Concludes mode wanted quiet b whole old new left

@@ -1,7 +1,7 @@
 //! The last step of a run in parts.
 
 ghost use Rattle.std.specs.Prelude.{◌≡◌, map, string_bytes};
-ghost use Rattle.t1_batch.specs.Endings.{choice_of};
+ghost use Rattle.t1_batch.specs.Endings.{wanted_value};
 ghost use Rattle.t1_batch.specs.Modes.{mode_value};
 ghost use Rattle.t1_batch.specs.Runs.{left_value};
 ghost use Rattle.t1_batch.specs.Unlisted.{unlisted_in};
@@ -13,7 +13,7 @@ use crate::files::PartFiles;
 use crate::parts::{Split, join_parts};
 use std::alloc::{AllocError, Global};
 use std::io;
-use t1_batch::{Codes, Left, Mode, conclude, tell_lost};
+use t1_batch::{Left, Mode, Wanted, conclude, tell_lost};
 use t1_io::{Sink, Source};
 use t1_many::Lost;
 use t1_parts::Part;
@@ -25,7 +25,7 @@ pub fn join<R, F, O, E, D, W, S>(
     files: PartFiles<F, O, E, D>,
     split: Split<'_>,
     mode: Mode<'_>,
-    codes: Codes<'_>,
+    wanted: Wanted<'_>,
     quiet: bool,
     out: &mut W,
     errors: &mut S,
@@ -43,31 +43,31 @@ where
     requires errors { E.IsAlwaysCallable files.errors }
     requires reason { D.IsAlwaysCallable files.reason }
     ensures { Joins (files_by R.state (F.post files.found) (O.post files.output) (E.post files.errors) (D.post files.reason))
-        split.entry.output.form (unlisted_in split.entry.output.unlisted) (mode_value mode.entry) (choice_of codes.entry) quiet
+        split.entry.output.form (unlisted_in split.entry.output.unlisted) (mode_value mode.entry) (wanted_value wanted.entry) quiet
         (map string_bytes split.entry.names.now) split.entry.parts
         (record { out = W.state out.old; errors = S.state errors.old }) (record { out = W.state out.new; errors = S.state errors.new })
         (left_value result) }
 {
     let joined = join_parts(alloc, &files, split, out, errors);
     let whole = split.output.unlisted.is_empty();
-    conclude_joined(alloc, mode, codes, quiet, joined, whole, errors)
+    conclude_joined(alloc, mode, wanted, quiet, joined, whole, errors)
 }
 
 /// Tells what is told once the parts were joined, or why they weren't.
 fn conclude_joined<S: Sink>(
     alloc: Global,
     mode: Mode<'_>,
-    codes: Codes<'_>,
+    wanted: Wanted<'_>,
     quiet: bool,
     joined: Result<Part, Lost>,
     whole: bool,
     errors: &mut S,
 ) -> Left
-    ensures { ConcludesJoined (mode_value mode.entry) (choice_of codes.entry) quiet joined whole
+    ensures { ConcludesJoined (mode_value mode.entry) (wanted_value wanted.entry) quiet joined whole
         (S.state errors.old) (S.state errors.new) (left_value result) }
 {
     match joined {
-        Ok(found) => conclude(alloc, mode, codes, quiet, found, whole, errors),
+        Ok(found) => conclude(alloc, mode, wanted, quiet, found, whole, errors),
         Err(lost) => Left {
             status: tell_lost(lost, errors),
             known_faults: None,

@@ -39,7 +39,7 @@ or_true : (a : Bool) → (a || true) ≡ true
 or_true true = refl
 or_true false = refl
 
-any_of : (test : Rule → Bool) (list : List Rule) (place : ℕ) (rule : Rule) → slice_get list place ≡ Some rule → test rule ≡ true
+pub any_of : (test : Rule → Bool) (list : List Rule) (place : ℕ) (rule : Rule) → slice_get list place ≡ Some rule → test rule ≡ true
     → list_any test list ≡ true
 any_of test [] place rule at passes = cc
 any_of test (first ∷ list) zero rule at passes =

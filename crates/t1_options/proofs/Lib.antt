@@ -1,5 +1,6 @@
 pub mod CommandLemmas
 pub mod Known
+pub mod Levels
 pub mod Numbers
 pub mod Shards
 pub mod Together

@@ -14,6 +14,8 @@ uses_count = record {
   docs = λ first last. refl;
   only = λ first last. refl;
   except = λ first last. refl;
+  level = λ first last. refl;
+  fail_on = λ first last. refl;
   files_from = λ first last. refl;
   exclude = λ first last. refl;
 }

@@ -38,6 +38,8 @@ rules =
     ∷ option_rule (codes "edition")
     ∷ list_rule (codes "only")
     ∷ list_rule (codes "except")
+    ∷ list_rule (codes "level")
+    ∷ list_rule (codes "fail-on")
     ∷ flag_rule (codes "no-waivers")
     ∷ flag_rule (codes "write-waivers")
     ∷ flag_rule (codes "force")
@@ -48,6 +50,8 @@ rules =
     ∷ option_rule (codes "shard")
     ∷ option_rule (codes "format")
     ∷ option_rule (codes "docs")
+    ∷ flag_rule (codes "long")
+    ∷ flag_rule (codes "no-settings")
     ∷ version_rule
     ∷ path_rule
     ∷ []

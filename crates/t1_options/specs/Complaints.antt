@@ -3,7 +3,7 @@ use Rattle.std.specs.Prelude.{◌&&◌, ◌||◌, Bool, not, List, [], ◌∷◌
 use Rattle.std.specs.List.{list_any}
 use Rattle.clap.specs.Walk.{is_empty}
 use Rattle.clap.specs.Words.{Text}
-use Rattle.t1_options.specs.Choices.{are_known, codes_of}
+use Rattle.t1_options.specs.Choices.{are_known, are_levels, codes_of, words_of}
 use Rattle.t1_options.specs.Given.{GivenValue}
 use Rattle.t1_options.specs.Values.{edition_in, file_in, form_in, is_marked, number_in, shard_in, url_in}
 use Rattle.t1_options.specs.declared.complaint.Complaint.{Complaint}
@@ -24,6 +24,8 @@ text_of complaint.NoFont = codes "no font is named"
 text_of complaint.Shard = codes "--shard wants I/N, I from 1 to N"
 text_of complaint.Only = codes "--only wants codes of rules or their letters, as H02,Z"
 text_of complaint.Except = codes "--except wants codes of rules or their letters, as H02,Z"
+text_of complaint.Level = codes "--level wants must, should or tidy"
+text_of complaint.FailOn = codes "--fail-on wants must, should or tidy"
 text_of complaint.Exclude = codes "--exclude wants a glob that is UTF-8"
 
 -- The two lines to print.
@@ -38,8 +40,12 @@ is_wrong meaning value = is_some value && not (is_some (option_and_then meaning 
 abbrev pub are_wrong : List Text → Bool
 are_wrong values = not (is_empty values) && not (are_known (codes_of values))
 
--- What can be wrong, in the order of the search: five values, combinations, a missing font, and then the shard, the codes and
--- the globs.
+-- There are values, and they name no level or an unknown one.
+abbrev pub are_no_levels : List Text → Bool
+are_no_levels values = not (is_empty values) && not (are_levels (words_of values))
+
+-- What can be wrong, in the order of the search: five values, combinations, a missing font, and then the shard, the codes, the
+-- levels and the globs.
 abbrev pub checks_of : GivenValue → List (Bool × Complaint)
 checks_of given =
     (is_wrong number_in given.jobs, complaint.Jobs)
@@ -56,6 +62,8 @@ checks_of given =
     ∷ (is_wrong shard_in given.shard, complaint.Shard)
     ∷ (are_wrong given.only, complaint.Only)
     ∷ (are_wrong given.except, complaint.Except)
+    ∷ (are_no_levels given.level, complaint.Level)
+    ∷ (are_no_levels given.fail_on, complaint.FailOn)
     ∷ (list_any is_marked given.exclude, complaint.Exclude)
     ∷ []
 

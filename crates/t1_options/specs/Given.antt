@@ -10,6 +10,8 @@ pub record GivenValue : Type 0 where
   pub edition : Option Text
   pub only : List Text
   pub except : List Text
+  pub level : List Text
+  pub fail_on : List Text
   pub no_waivers : Bool
   pub write_waivers : Bool
   pub force : Bool
@@ -20,6 +22,8 @@ pub record GivenValue : Type 0 where
   pub shard : Option Text
   pub format : Option Text
   pub docs : Option Text
+  pub long : Bool
+  pub no_settings : Bool
   pub version : Bool
   pub paths : List Text
 
@@ -39,6 +43,8 @@ given_in rows = record {
   edition = first_of (codes "edition") rows;
   only = values_in rows (codes "only");
   except = values_in rows (codes "except");
+  level = values_in rows (codes "level");
+  fail_on = values_in rows (codes "fail-on");
   no_waivers = is_in rows (codes "no-waivers");
   write_waivers = is_in rows (codes "write-waivers");
   force = is_in rows (codes "force");
@@ -49,6 +55,8 @@ given_in rows = record {
   shard = first_of (codes "shard") rows;
   format = first_of (codes "format") rows;
   docs = first_of (codes "docs") rows;
+  long = is_in rows (codes "long");
+  no_settings = is_in rows (codes "no-settings");
   version = is_in rows (codes "show-version");
   paths = values_in rows (codes "path");
 }
@@ -65,6 +73,8 @@ given_value g = record {
   edition = option_map (λ s. s.now) g.edition;
   only = map (λ s. s.now) g.only.now;
   except = map (λ s. s.now) g.except.now;
+  level = map (λ s. s.now) g.level.now;
+  fail_on = map (λ s. s.now) g.fail_on.now;
   no_waivers = g.no_waivers;
   write_waivers = g.write_waivers;
   force = g.force;
@@ -75,6 +85,8 @@ given_value g = record {
   shard = option_map (λ s. s.now) g.shard;
   format = option_map (λ s. s.now) g.format;
   docs = option_map (λ s. s.now) g.docs;
+  long = g.long;
+  no_settings = g.no_settings;
   version = g.version;
   paths = map (λ s. s.now) g.paths.now;
 }

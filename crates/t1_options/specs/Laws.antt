@@ -1,11 +1,11 @@
 -- The statements of laws.
-use Rattle.std.specs.Prelude.{◌≡◌, ◌+◌, ◌<◌, ◌≤◌, ◌++◌, [], codes, Bool, true, false, ◌∷◌, None, Some, is_some, length, map, string_bytes}
+use Rattle.std.specs.Prelude.{◌≡◌, ◌&&◌, ◌+◌, ◌<◌, ◌≤◌, ◌++◌, [], codes, Bool, true, false, ◌∷◌, None, Some, is_some, length, map, string_bytes}
 use Rattle.clap.specs.Words.{Text}
 use Rattle.t1_many.specs.Choice.{is_told, letters_of}
 use Rattle.t1_rules.specs.Book.{code_of, number_of}
 use Rattle.t1_rules.specs.Mask.{has}
 use Rattle.t1_rules.specs.declared.rule.Rule.{Rule}
-use Rattle.t1_options.specs.Choices.{is_known}
+use Rattle.t1_options.specs.Choices.{codes_of, is_known, is_of_levels, words_of}
 use Rattle.t1_options.specs.Given.{GivenValue, given_by}
 use Rattle.t1_options.specs.Options.{AreMeant, is_anew}
 use Rattle.t1_options.specs.Values.{shard_in}
@@ -29,6 +29,12 @@ abbrev pub CodesChooseRules : Type 0
 CodesChooseRules =
     (given : GivenValue) (options : Options) → AreMeant given options → (rule : Rule) → has options.rules (number_of rule)
     ≡ is_told (record { only = map string_bytes options.only.items; except = map string_bytes options.except.items }) (code_of rule)
+
+-- Codes and levels are both to choose a rule.
+abbrev pub LevelsChooseRules : Type 0
+LevelsChooseRules =
+    (given : GivenValue) (options : Options) → AreMeant given options → (rule : Rule) → has options.rules (number_of rule)
+    ≡ (is_told (record { only = codes_of given.only; except = codes_of given.except }) (code_of rule) && is_of_levels (words_of given.level) rule)
 
 -- A part is one of those from 1 to their number, of which there are at most 99,999.
 pub record IsPart (shard : Shard) : Type 0 where
@@ -69,5 +75,7 @@ pub record UsesCount : Type 0 where
   pub docs : (first last : Text) → (given_twice (codes "--docs=") first last).docs ≡ Some last
   pub only : (first last : Text) → (given_twice (codes "--only=") first last).only ≡ first ∷ last ∷ []
   pub except : (first last : Text) → (given_twice (codes "--except=") first last).except ≡ first ∷ last ∷ []
+  pub level : (first last : Text) → (given_twice (codes "--level=") first last).level ≡ first ∷ last ∷ []
+  pub fail_on : (first last : Text) → (given_twice (codes "--fail-on=") first last).fail_on ≡ first ∷ last ∷ []
   pub files_from : (first last : Text) → (given_twice (codes "--files-from=") first last).files_from ≡ first ∷ last ∷ []
   pub exclude : (first last : Text) → (given_twice (codes "--exclude=") first last).exclude ≡ first ∷ last ∷ []

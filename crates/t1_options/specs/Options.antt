@@ -7,7 +7,7 @@ use Rattle.t1_rules.specs.Book.{code_of, number_of}
 use Rattle.t1_rules.specs.Mask.{has}
 use Rattle.t1_rules.specs.declared.mask.Mask.{Mask}
 use Rattle.t1_rules.specs.declared.rule.Rule.{Rule}
-use Rattle.t1_options.specs.Choices.{choice_of, codes_of}
+use Rattle.t1_options.specs.Choices.{choice_of, codes_of, excepted, is_of_levels, words_of}
 use Rattle.t1_options.specs.Complaints.{complaint_of}
 use Rattle.t1_options.specs.Given.{GivenValue}
 use Rattle.t1_options.specs.Values.{edition_in, form_in, number_in, shard_in, url_in}
@@ -40,7 +40,7 @@ pub record HasValues (given : GivenValue) (options : Options) : Type 0 where
   pub jobs : options.jobs ≡ option_and_then number_in given.jobs
   pub edition : options.edition ≡ unwrap_or (option_and_then edition_in given.edition) One
   pub only : map string_bytes options.only.items ≡ codes_of given.only
-  pub except : map string_bytes options.except.items ≡ codes_of given.except
+  pub except : map string_bytes options.except.items ≡ excepted given
   pub waivers : options.waivers ≡ waivers_of given
   pub known_faults : file_of options.known_faults ≡ given.baseline
   pub anew : is_anew options.known_faults ≡ (given.update_baseline && is_some given.baseline)
@@ -49,14 +49,21 @@ pub record HasValues (given : GivenValue) (options : Options) : Type 0 where
   pub shard : options.shard ≡ option_and_then shard_in given.shard
   pub form : options.form ≡ option_and_then form_in given.format
   pub docs : option_map string_bytes options.docs ≡ option_and_then url_in given.docs
+  pub long : options.long ≡ given.long
+  pub no_settings : options.no_settings ≡ given.no_settings
   pub paths : map string_bytes options.paths.items ≡ given.paths
 
 -- These are the rules that the words choose.
 abbrev pub AreChosen : GivenValue → Mask → Type 0
 AreChosen given rules = (rule : Rule) → has rules (number_of rule) ≡ is_told (choice_of given) (code_of rule)
 
+-- These are the rules whose lines make the status 1: those of the levels that `--fail-on` names, or all.
+abbrev pub AreFailing : GivenValue → Mask → Type 0
+AreFailing given rules = (rule : Rule) → has rules (number_of rule) ≡ is_of_levels (words_of given.fail_on) rule
+
 -- Nothing is wrong with what was given, and it means these options.
 pub record AreMeant (given : GivenValue) (options : Options) : Type 0 where
   pub faultless : complaint_of given ≡ None
   pub values : HasValues given options
   pub rules : AreChosen given options.rules
+  pub failing : AreFailing given options.failing

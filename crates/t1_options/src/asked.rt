@@ -25,8 +25,10 @@ pub struct Options {
     pub rules: Mask,
     /// The codes that `--only` names, in capitals: of rules or their letters.
     pub only: Vec<String>,
-    /// The codes that `--except` names, in capitals.
+    /// The codes that `--except` names, in capitals, and behind them those of the rules whose levels `--level` leaves out.
     pub except: Vec<String>,
+    /// The rules whose lines make the status 1.
+    pub failing: Mask,
     /// What happens to files of waivers.
     pub waivers: Waivers,
     /// The file of known faults.
@@ -41,6 +43,10 @@ pub struct Options {
     pub form: Option<Form>,
     /// The URL of the page of all rules.
     pub docs: Option<String>,
+    /// Whether a line of the report is printed for each fault, also on a terminal.
+    pub long: bool,
+    /// Whether a settings file is left aside.
+    pub no_settings: bool,
     /// Fonts and folders.
     pub paths: Vec<String>,
 }

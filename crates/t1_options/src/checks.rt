@@ -3,24 +3,38 @@
 ghost use Rattle.std.specs.Prelude.{◌≡◌, is_some, map, option_map, string_bytes};
 ghost use Rattle.std.specs.List.{list_any};
 ghost use Rattle.clap.specs.Walk.{is_empty};
-ghost use Rattle.t1_options.specs.Choices.{codes_of};
+ghost use Rattle.t1_options.specs.Choices.{codes_of, words_of};
 ghost use Rattle.t1_options.specs.Complaints.{complaint_of, first_so};
 ghost use Rattle.t1_options.specs.Given.{given_value};
 ghost use Rattle.t1_options.specs.Values.{is_marked};
 
-use crate::choices::are_known;
+use crate::choices::{are_known, are_levels};
 use crate::complaint::Complaint;
 use crate::given::Given;
 use crate::values::{baseline, docs, edition, form, is_marked, jobs, shard};
 
-/// The first thing that is wrong with the given values, if any. `only` and `except` are the codes that these options name.
+/// The words that options on rules name.
+#[derive(Clone, Copy)]
+pub(crate) struct Named<'a> {
+    /// The codes of `--only`.
+    pub(crate) only: &'a [String],
+    /// The codes of `--except`.
+    pub(crate) except: &'a [String],
+    /// The levels of `--level`.
+    pub(crate) level: &'a [String],
+    /// The levels of `--fail-on`.
+    pub(crate) fail_on: &'a [String],
+}
+
+/// The first thing that is wrong with the given values, if any. `named` is what the options on rules name.
 pub(crate) fn complaint_of(
     given: &Given<'_>,
-    only: &[String],
-    except: &[String],
+    named: Named<'_>,
 ) -> Option<Complaint>
-    requires only { map string_bytes only.now ≡ codes_of (given_value given.now).only }
-    requires except { map string_bytes except.now ≡ codes_of (given_value given.now).except }
+    requires only { map string_bytes named.only.now ≡ codes_of (given_value given.now).only }
+    requires except { map string_bytes named.except.now ≡ codes_of (given_value given.now).except }
+    requires level { map string_bytes named.level.now ≡ words_of (given_value given.now).level }
+    requires fail_on { map string_bytes named.fail_on.now ≡ words_of (given_value given.now).fail_on }
     ensures { result ≡ complaint_of (given_value given.now) }
 {
     let has_baseline = is_given(given.baseline);
@@ -58,10 +72,21 @@ pub(crate) fn complaint_of(
             Complaint::NoFont,
         ),
         (has_shard & shard(given.shard).is_none(), Complaint::Shard),
-        (!are_none(given.only) & !are_known(only), Complaint::Only),
         (
-            !are_none(given.except) & !are_known(except),
+            !are_none(given.only) & !are_known(named.only),
+            Complaint::Only,
+        ),
+        (
+            !are_none(given.except) & !are_known(named.except),
             Complaint::Except,
+        ),
+        (
+            !are_none(given.level) & !are_levels(named.level),
+            Complaint::Level,
+        ),
+        (
+            !are_none(given.fail_on) & !are_levels(named.fail_on),
+            Complaint::FailOn,
         ),
         (is_one_marked(given.exclude), Complaint::Exclude),
     ];

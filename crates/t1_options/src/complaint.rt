@@ -36,6 +36,10 @@ pub(crate) enum Complaint {
     Only,
     /// `--except` names no code, or an unknown one.
     Except,
+    /// `--level` names no level, or an unknown one.
+    Level,
+    /// `--fail-on` names no level, or an unknown one.
+    FailOn,
     /// `--exclude` has a value that isn't UTF-8.
     Exclude,
 }
@@ -59,6 +63,8 @@ fn text_of(complaint: Complaint) -> &'static str
         Complaint::Shard => "--shard wants I/N, I from 1 to N",
         Complaint::Only => "--only wants codes of rules or their letters, as H02,Z",
         Complaint::Except => "--except wants codes of rules or their letters, as H02,Z",
+        Complaint::Level => "--level wants must, should or tidy",
+        Complaint::FailOn => "--fail-on wants must, should or tidy",
         Complaint::Exclude => "--exclude wants a glob that is UTF-8",
     }
 }

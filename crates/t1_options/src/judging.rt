@@ -1,14 +1,14 @@
 //! The options that the given values mean.
 
 ghost use Rattle.std.specs.Prelude.{◌≡◌, ◌&&◌, IfErr, IfOk, is_some, map, option_map, string_bytes};
-ghost use Rattle.t1_options.specs.Choices.{codes_of};
+ghost use Rattle.t1_options.specs.Choices.{codes_of, excepted};
 ghost use Rattle.t1_options.specs.Given.{given_value};
 ghost use Rattle.t1_options.specs.Options.{AreMeant, HasValues, file_of, is_anew, waivers_of};
 ghost use Rattle.t1_options.specs.Words.{IsWrong};
 
 use crate::asked::{KnownFaults, Options, Waivers};
-use crate::checks::complaint_of;
-use crate::choices::{codes_of, rules_of};
+use crate::checks::{Named, complaint_of};
+use crate::choices::{codes_of, excepted, failing_of, rules_of, words_of};
 use crate::complaint::usage_text;
 use crate::given::Given;
 use crate::texts::copies;
@@ -25,25 +25,37 @@ pub(crate) fn options_meant(alloc: Global, given: &Given<'_>) -> Result<Options,
 {
     let only = codes_of(alloc, given.only)?;
     let except = codes_of(alloc, given.except)?;
-    if let Some(complaint) = complaint_of(given, only.as_slice(), except.as_slice()) {
+    let level = words_of(alloc, given.level)?;
+    let fail_on = words_of(alloc, given.fail_on)?;
+    let named = Named {
+        only: only.as_slice(),
+        except: except.as_slice(),
+        level: level.as_slice(),
+        fail_on: fail_on.as_slice(),
+    };
+    if let Some(complaint) = complaint_of(given, named) {
         return Err(UsageError::Usage(usage_text(alloc, complaint)?));
     }
+    let except = excepted(alloc, except.as_slice(), level.as_slice())?;
     let rules = rules_of(alloc, only.as_slice(), except.as_slice())?;
-    Ok(options_of(alloc, given, rules, only, except)?)
+    let failing = failing_of(alloc, fail_on.as_slice())?;
+    Ok(options_of(alloc, given, rules, failing, only, except)?)
 }
 
-/// The options, with these rules and the codes that choose them.
+/// The options, with these rules, those whose lines make the status 1, and the codes that choose the former.
 fn options_of(
     alloc: Global,
     given: &Given<'_>,
     rules: Mask,
+    failing: Mask,
     only: Vec<String>,
     except: Vec<String>,
 ) -> Result<Options, AllocError>
     requires only { map string_bytes only.items ≡ codes_of (given_value given.now).only }
-    requires except { map string_bytes except.items ≡ codes_of (given_value given.now).except }
+    requires except { map string_bytes except.items ≡ excepted (given_value given.now) }
     ensures values { IfOk result (HasValues (given_value given.now)) }
     ensures rules { IfOk result (λ options. options.rules ≡ rules) }
+    ensures failing { IfOk result (λ options. options.failing ≡ failing) }
 {
     let known_faults = known_faults(alloc, given)?;
     let files_from = copies(alloc, given.files_from)?;
@@ -57,6 +69,7 @@ fn options_of(
         rules,
         only,
         except,
+        failing,
         waivers: waivers_of(given),
         known_faults,
         files_from,
@@ -64,6 +77,8 @@ fn options_of(
         shard: shard(given.shard),
         form: form(given.format),
         docs,
+        long: given.long,
+        no_settings: given.no_settings,
         paths,
     })
 }

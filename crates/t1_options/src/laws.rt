@@ -1,6 +1,6 @@
 //! Laws above the definitions: each is the contract of a function that does nothing.
 
-ghost use Rattle.t1_options.specs.Laws.{CodesChooseRules, MeantGoTogether, NoRefusalIsKnown, RulesAreKnown, ShardsAreParts, UsesCount};
+ghost use Rattle.t1_options.specs.Laws.{CodesChooseRules, LevelsChooseRules, MeantGoTogether, NoRefusalIsKnown, RulesAreKnown, ShardsAreParts, UsesCount};
 
 /// `--only` and `--except` accept the code of each rule and its letters, and nothing that begins with E: refusals are always printed.
 #[tactic(auto, using(crate::proofs::Known::rules_are_known, crate::proofs::Known::no_refusal_is_known))]
@@ -14,6 +14,12 @@ pub fn codes_choose_rules()
     ensures { CodesChooseRules }
 {}
 
+/// A rule is told where its code is chosen and its level is.
+#[tactic(auto, using(crate::proofs::Levels::levels_choose_rules))]
+pub fn levels_choose_rules()
+    ensures { LevelsChooseRules }
+{}
+
 /// `--shard` names a part from 1 to the number of parts, which is at most 99,999.
 pub fn shards_are_parts()
     ensures { ShardsAreParts }
@@ -24,8 +30,8 @@ pub fn options_go_together()
     ensures { MeantGoTogether }
 {}
 
-/// If an option is given twice, as `--NAME=VALUE`, its last value counts; of `--only`, `--except`, `--files-from` and `--exclude` both do, in
-/// their order.
+/// If an option is given twice, as `--NAME=VALUE`, its last value counts; of `--only`, `--except`, `--level`, `--fail-on`, `--files-from` and
+/// `--exclude` both do, in their order.
 #[tactic(auto, using(crate::proofs::Uses::uses_count))]
 pub fn uses_count()
     ensures { UsesCount }

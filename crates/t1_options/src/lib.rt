@@ -7,8 +7,9 @@
 //!
 //! - words are taken exactly where clap finds no fault and nothing is wrong with what they give;
 //! - the options are those that the words mean: of an option that is given again the last value counts, and `--only`, `--except`,
-//!   `--files-from` and `--exclude` add values ([`uses_count`]);
-//! - the options keep the codes of `--only` and `--except`, and these choose the rules that are printed ([`codes_choose_rules`]);
+//!   `--level`, `--fail-on`, `--files-from` and `--exclude` add values ([`uses_count`]);
+//! - the options keep the codes of `--only` and `--except`, and with the latter those that `--level` leaves out; these choose the rules that are
+//!   printed ([`codes_choose_rules`]): those that codes and levels both choose ([`levels_choose_rules`]);
 //! - a word that isn't UTF-8 is told by a mark in front of it ([`is_marked`]), and is no glob;
 //! - where several things are wrong, the first in one order is reported (`checks_of`);
 //! - options go together ([`options_go_together`]), a shard is one of its parts ([`shards_are_parts`]), and `--only` and `--except` name any
@@ -33,6 +34,6 @@ mod values;
 pub use asked::{Form, KnownFaults, Options, Request, Shard, Waivers};
 pub use command_line::{HELP, options};
 pub use laws::{
-    codes_choose_rules, options_go_together, rules_are_known, shards_are_parts, uses_count,
+    codes_choose_rules, levels_choose_rules, options_go_together, rules_are_known, shards_are_parts, uses_count,
 };
 pub use values::is_marked;

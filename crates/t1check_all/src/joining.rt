@@ -8,7 +8,7 @@ use std::fs::File;
 use std::io::{ErrorKind, Write};
 use std::{fs, io};
 use t1_answer_all::{Fonts, output_of, read_known};
-use t1_batch::{Codes, Left, PROGRAM, as_codes, selection};
+use t1_batch::{Left, PROGRAM, Wanted, as_codes, selection};
 use t1_io::{In, Out, Sink};
 use t1_joining::{PartFiles, Split, join};
 use t1_known::KnownFaults;
@@ -62,16 +62,17 @@ fn left_of<W: Sink, E: Sink>(
     let known = read_known(rt.alloc(), text)?;
     let only = as_codes(rt.alloc(), options.only.as_slice())?;
     let except = as_codes(rt.alloc(), options.except.as_slice())?;
-    let codes = Codes {
+    let wanted = Wanted {
         only: only.as_slice(),
         except: except.as_slice(),
+        failing: options.failing,
     };
     let split = Split {
         names: fonts.names.as_slice(),
         parts,
         output: output_of(options, fonts),
     };
-    Ok(join_all(rt, folder, split, options, &known, codes, out, errors))
+    Ok(join_all(rt, folder, split, options, &known, wanted, out, errors))
 }
 
 /// The same, given the known faults.
@@ -81,7 +82,7 @@ fn join_all<W: Sink, E: Sink>(
     split: Split<'_>,
     options: &Options,
     known: &KnownFaults<'_>,
-    codes: Codes<'_>,
+    wanted: Wanted<'_>,
     out: &mut W,
     errors: &mut E,
 ) -> Left {
@@ -93,7 +94,7 @@ fn join_all<W: Sink, E: Sink>(
     };
     let quiet = options.quiet || split.names.is_empty();
     let mode = selection(options, known).mode;
-    join(rt.alloc(), files, split, mode, codes, quiet, out, errors)
+    join(rt.alloc(), files, split, mode, wanted, quiet, out, errors)
 }
 
 /// The text of what was found in the fonts of a part: None where its process died.

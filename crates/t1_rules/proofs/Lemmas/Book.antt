@@ -1,7 +1,7 @@
 -- The rules, their numbers and the rows of the book.
 use Rattle.std.proofs.Common.{slice_get, ◌≡◌, ◌<◌, ◌≤◌, ◌-◌, ℕ, refl, sym, ap, ◌∙◌, arith, slice_index_or, zero, suc, ◌+◌, ◌&&◌, ◌==◌, Bool, true, false, List, [], ◌∷◌, map, length, subst, Option, None, Some, cond, drop}
 use Rattle.t1_rules.specs.declared.level.Level.{Level}
-use Rattle.t1_rules.specs.declared.level.Level.TheVariants.{Tidy}
+use Rattle.t1_rules.specs.declared.level.Level.TheVariants.{Must}
 use Rattle.t1_rules.specs.declared.rule.Rule.{Rule}
 use Rattle.t1_rules.specs.declared.rule.Rule.TheVariants.{F01, L01}
 use Rattle.t1_rules.specs.Private.BookRows.{row_coded, row_view, rows}
@@ -94,4 +94,4 @@ no_row code table i past = ap (λ (t : List (Rule × Level × Bor (List ℕ) × 
 
 -- What stands for a row where there is none.
 abbrev pub empty_row : Rule × Level × Bor (List ℕ) × Bor (List ℕ)
-empty_row = (F01, Tidy, record { ref_ptr = (0, 0); now = [] }, record { ref_ptr = (0, 0); now = [] })
+empty_row = (F01, Must, record { ref_ptr = (0, 0); now = [] }, record { ref_ptr = (0, 0); now = [] })

@@ -2,7 +2,7 @@ use Rattle.std.proofs.Common.{List, Option, subst, sym, ◌∙◌, ℕ}
 use Rattle.std.specs.List.{AllZip}
 use Rattle.t1_batch.proofs.EndingTexts.{readings_are, rest_failed, short_failed}
 use Rattle.t1_batch.proofs.ending.end.Goals as goal
-use Rattle.t1_batch.specs.Endings.{CountsRows, IsFoundIn, choice_of}
+use Rattle.t1_batch.specs.Endings.{CountsRows, IsFoundIn, wanted_value}
 use Rattle.t1_batch.specs.Modes.{mode_value}
 use Rattle.t1_io.proofs.SinkLemmas.{Wrote-trans}
 use Rattle.t1_known.specs.Readings.{AreReadingsOf}
@@ -14,7 +14,7 @@ returns-in_err-tell_shortfalls g c = λ all found.
     let are = subst (λ (ts : List Text). AreReadingsOf ts all) (sym c.as_slice-texts.ensures.value)
     (readings_are c.as_slice.result.now c.in-Ok.readings.items all c.in-Ok.ensures
     (subst (λ (ks : List Kept). AllZip IsFoundIn ks all) (sym c.as_slice.ensures.value) found)) in
-    short_failed (mode_value c.args.mode) (choice_of c.args.codes) c.args.quiet c.args.found.now.tally all c.args.found.now.kept _
+    short_failed (mode_value c.args.mode) (wanted_value c.args.wanted) c.args.quiet c.args.found.now.tally all c.args.found.now.kept _
     (c.in_ok-remade.ensures all are).0 _ _ (g.E.Sink.state c.args.errors.now) c.in_err-tell_shortfalls.field-0.0
     c.from_residual-in_err-tell_shortfalls.result c.from_residual-in_err-tell_shortfalls.ensures.1 (c.in_err-tell_shortfalls.ensures all are)
 
@@ -23,9 +23,9 @@ returns-in_err-status g c = λ all found.
     let are = subst (λ (ts : List Text). AreReadingsOf ts all) (sym c.as_slice-texts.ensures.value)
     (readings_are c.as_slice.result.now c.in-Ok.readings.items all c.in-Ok.ensures
     (subst (λ (ks : List Kept). AllZip IsFoundIn ks all) (sym c.as_slice.ensures.value) found)) in
-    rest_failed (mode_value c.args.mode) (choice_of c.args.codes) c.args.quiet c.args.found.now.tally all c.args.found.now.kept
+    rest_failed (mode_value c.args.mode) (wanted_value c.args.wanted) c.args.quiet c.args.found.now.tally all c.args.found.now.kept
     c.rows_in-rows.result
-    (subst (λ (rows : Option ℕ). CountsRows (mode_value c.args.mode) (choice_of c.args.codes) all rows) (sym c.rows_in-rows.ensures)
+    (subst (λ (rows : Option ℕ). CountsRows (mode_value c.args.mode) (wanted_value c.args.wanted).choice all rows) (sym c.rows_in-rows.ensures)
     (c.in_ok-remade.ensures all are).0) _ _ _ c.from_residual-in_err-status.result c.from_residual-in_err-status.ensures.1
     (c.in_ok-tell_shortfalls.ensures all are) c.in_err-status.ensures.told
 
@@ -36,7 +36,7 @@ returns g c = λ all found.
     (subst (λ (ks : List Kept). AllZip IsFoundIn ks all) (sym c.as_slice.ensures.value) found)) in
     let remade = c.in_ok-remade.ensures all are in (
       c.rows_in-rows.result,
-      subst (λ (rows : Option ℕ). CountsRows (mode_value c.args.mode) (choice_of c.args.codes) all rows) (sym c.rows_in-rows.ensures) remade.0,
+      subst (λ (rows : Option ℕ). CountsRows (mode_value c.args.mode) (wanted_value c.args.wanted).choice all rows) (sym c.rows_in-rows.ensures) remade.0,
       Wrote-trans _ _ _ _ _ (c.in_ok-tell_shortfalls.ensures all are) c.in_ok-status.ensures.told,
       c.in_ok-status.ensures.status,
       c.text_in.ensures ∙ sym remade.1,

@@ -29,6 +29,6 @@ returns-in_default g c = record {
   told = Wrote-trans _ _ _ _ _ c.in_ok-tell_summary.ensures
       (Wrote-trans _ _ _ _ _ c.in_ok-tell_unwaived.ensures c.in_ok-tell_too_many.ensures.told);
   status = c.status_of.ensures
-      ∙ sym (ap (λ (b : Bool). if b then Failed else status_of c.args.tally.now)
+      ∙ sym (ap (λ (b : Bool). if b then Failed else status_of c.args.failing c.args.tally.now)
       (not_failed _ _ c.in_ok-tell_too_many.ensures.status c.in_default.not-Failed));
 }
