@@ -155,11 +155,12 @@ while read -r code number; do
     try_example "$code" "$number"
 done <"$scratch/examples"
 
-# The texts of the rules and the refusals, as the code has them, and the levels of the rules.
-book=$top/crates/t1_rules/src/book.rt
-sed -n 's/^    (Rule::\([A-Z0-9]*\), Level::[A-Z][a-z]*, "\1", "\(.*\)"),$/\1 \2/p' "$book" >"$scratch/book"
+# The rules' codes, levels and texts, as the code has them.
+sed -n '/^static BOOK/,/^];$/p' "$top/crates/t1_rules/src/book.rt" | tr '\n' ' ' | sed 's/,* *),/\n/g' |
+    sed -n 's/^.*Rule::\([A-Z0-9]*\), *Level::\([A-Z][a-z]*\), *"\1", *"\(.*\)"$/\1 \2 \3/p' >"$scratch/levels"
+sed 's/^\([^ ]*\) [^ ]*/\1/' "$scratch/levels" >"$scratch/book"
 while read -r code text; do
-    level=$(sed -n "s/^    (Rule::$code, Level::\\([A-Z][a-z]*\\), .*/\\1/p" "$book" | tr '[:upper:]' '[:lower:]')
+    level=$(sed -n "s/^$code \\([A-Z][a-z]*\\) .*/\\1/p" "$scratch/levels" | tr '[:upper:]' '[:lower:]')
     if ! grep -qF "| $code | $text | $level |" "$rules"; then
         fail "docs/RULES.md: no row of the table says $code $text, $level"
     elif ! sed -n "/^### $code /,/^Level/p" "$rules" | grep -q "^Level \*$level\*: "; then

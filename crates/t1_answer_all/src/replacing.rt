@@ -162,7 +162,10 @@ fn put_text<F: FileStore, E: Sink>(
     if is_kept_back(overwrites, name.as_str(), files) {
         tell_parts(
             errors,
-            &[font.as_bytes(), b": waivers are there already; --force overwrites them\n"],
+            &[
+                font.as_bytes(),
+                b": waivers are there already; --force overwrites them\n",
+            ],
             Status::Failed,
         );
         return false;

@@ -158,7 +158,14 @@ fn text_anew(
         → text.items ≡ file_text (updated (wanted_value wanted.entry).choice all known.now)) }
 {
     let mut text = Text::new(alloc);
-    let written = write_updated(alloc, &mut text, known, readings, wanted.only, wanted.except);
+    let written = write_updated(
+        alloc,
+        &mut text,
+        known,
+        readings,
+        wanted.only,
+        wanted.except,
+    );
     if written.is_ok() {
         Some(text.into_bytes())
     } else {

@@ -265,7 +265,9 @@ fn keeps_waivers_that_are_there(rt: HostRuntime) -> Result<(), Fail> {
     let status = replace_files(rt.alloc(), &left, &mut files, &mut Out::new(&mut told));
     assert_eq!(rt; status, Status::Failed);
     assert!(rt; files.put.as_slice() == b"b.pfb.waivers=A H02\n".as_slice());
-    assert!(rt; told.as_slice() == b"a.pfb: waivers are there already; --force overwrites them\n".as_slice());
+    assert!(rt;
+        told.as_slice() == b"a.pfb: waivers are there already; --force overwrites them\n".as_slice()
+    );
     Ok(())
 }
 

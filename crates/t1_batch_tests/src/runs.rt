@@ -175,7 +175,11 @@ absent.pfb: t1check: read failed
 }
 
 /// The status of a run over the faulty font where lines of these rules make it 1.
-fn status_failing(alloc: Global, files: &[File<'_>], failing: &[&[u8]]) -> Result<Status, AllocError> {
+fn status_failing(
+    alloc: Global,
+    files: &[File<'_>],
+    failing: &[&[u8]],
+) -> Result<Status, AllocError> {
     let asked = Asked {
         codes: Codes {
             only: &[],

@@ -27,10 +27,7 @@ pub(crate) struct Named<'a> {
 }
 
 /// The first thing that is wrong with the given values, if any. `named` is what the options on rules name.
-pub(crate) fn complaint_of(
-    given: &Given<'_>,
-    named: Named<'_>,
-) -> Option<Complaint>
+pub(crate) fn complaint_of(given: &Given<'_>, named: Named<'_>) -> Option<Complaint>
     requires only { map string_bytes named.only.now ≡ codes_of (given_value given.now).only }
     requires except { map string_bytes named.except.now ≡ codes_of (given_value given.now).except }
     requires level { map string_bytes named.level.now ≡ words_of (given_value given.now).level }

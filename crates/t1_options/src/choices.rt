@@ -147,7 +147,10 @@ fn left_out(alloc: Global, levels: &[String]) -> Result<Vec<&'static str>, Alloc
 fn is_of_levels(levels: &[String], rule: Rule) -> bool
     ensures { result ≡ is_of_levels (map string_bytes levels.now) rule }
 {
-    levels.is_empty() | levels.iter().any(|level| level.as_str() == rule_level(rule).text())
+    levels.is_empty()
+        | levels
+            .iter()
+            .any(|level| level.as_str() == rule_level(rule).text())
 }
 
 /// The rules of these levels, or all where no level is named.

@@ -34,6 +34,7 @@ mod values;
 pub use asked::{Form, KnownFaults, Options, Request, Shard, Waivers};
 pub use command_line::{HELP, options};
 pub use laws::{
-    codes_choose_rules, levels_choose_rules, options_go_together, rules_are_known, shards_are_parts, uses_count,
+    codes_choose_rules, levels_choose_rules, options_go_together, rules_are_known,
+    shards_are_parts, uses_count,
 };
 pub use values::is_marked;

@@ -23,12 +23,12 @@ word_is_its word level found =
     elim (cases_Bool (same_name (level_text Must) word)) [
       | inl must ↦ word_of word Must level must (rw must at found)
       | inr no_must ↦ (elim (cases_Bool (same_name (level_text Should) word)) [
-          | inl should ↦ word_of word Should level should (rw (no_must, should) at found)
-          | inr no_should ↦ (elim (cases_Bool (same_name (level_text Tidy) word)) [
-              | inl tidy ↦ word_of word Tidy level tidy (rw (no_must, no_should, tidy) at found)
-              | inr no_tidy ↦ (let none : None ≡ Some level = rw (no_must, no_should, no_tidy) at found in cc)
-            ])
+        | inl should ↦ word_of word Should level should (rw (no_must, should) at found)
+        | inr no_should ↦ (elim (cases_Bool (same_name (level_text Tidy) word)) [
+          | inl tidy ↦ word_of word Tidy level tidy (rw (no_must, no_should, tidy) at found)
+          | inr no_tidy ↦ (let none : None ≡ Some level = rw (no_must, no_should, no_tidy) at found in cc)
         ])
+      ])
     ]
 
 pub levels_have_their_words : LevelsHaveTheirWords

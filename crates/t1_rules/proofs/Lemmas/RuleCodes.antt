@@ -1,5 +1,5 @@
 -- Codes and rules are one to one.
-use Rattle.std.proofs.Common.{◌≡◌, ℕ, Option, Some, None, List, [], ◌∷◌, inl, inr, refl, subst}
+use Rattle.std.proofs.Common.{◌≡◌, ℕ, Some, List, [], ◌∷◌, inl, inr, refl, subst}
 use Rattle.std.proofs.lemmas.Bool.{cases_Bool}
 use Rattle.t1_font.specs.Keys.{same_name}
 use Rattle.t1_font.proofs.Tables.{name_exact}
