@@ -10,10 +10,11 @@ export LC_ALL
 
 top=$(CDPATH='' cd -P -- "$(dirname "$0")/.." && pwd -P) || exit 1
 
-cat <<'END' || exit 1
-.TH T1CHECK\-RULES 7 2026-11-25 t1check "rules of t1check"
+version=$(sed -n 's/^pub const VERSION: &str = "\(.*\)";$/\1/p' "$top/crates/t1_forms/src/version.rt") || exit 1
+cat <<END || exit 1
+.TH T1CHECK\\-RULES 7 2026-11-27 "t1check $version" "rules of t1check"
 .SH NAME
-t1check\-rules \- rules and refusals of t1check
+t1check\\-rules \\- rules and refusals of t1check
 .SH DESCRIPTION
 END
 # shellcheck disable=SC2016

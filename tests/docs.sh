@@ -190,6 +190,17 @@ done <"$scratch/refusals"
 [ "$(wc -l <"$scratch/book")" -eq 70 ] || fail "the book's rows aren't read: $(wc -l <"$scratch/book")"
 [ "$(wc -l <"$scratch/refusals")" -eq 15 ] || fail "the refusals' texts aren't read: $(wc -l <"$scratch/refusals")"
 
+# The version of the changes and of the manual pages is that of the programs.
+version=$(sed -n 's/^pub const VERSION: &str = "\(.*\)";$/\1/p' "$top/crates/t1_forms/src/version.rt")
+if [ -n "$version" ] && [ "$(sed -n 's/^## //p' "$top/CHANGELOG.md" | sed -n 1p)" = "$version" ]; then
+    pass
+else
+    fail "CHANGELOG.md: its first heading isn't the version $version"
+fi
+for page in "$top"/man/*.1; do
+    if sed -n 1p "$page" | grep -qF " \"t1check $version\" "; then pass; else fail "${page##*/}: it isn't of version $version"; fi
+done
+
 if sh "$top/crates/t1_forms/pages.sh" | cmp -s - "$top/crates/t1_forms/src/pages.rt"; then
     pass
 else

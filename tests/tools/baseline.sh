@@ -51,8 +51,8 @@ glyphs.pfb: 4: glyph A - 12 P02 path not closed
 --
 glyphs.pfb: known faults: P03 glyph A: 2 known, 1 found
 3 fonts: 1 clean, 1 with known faults alone, 1 with faults, 0 refused, 0 not checked
-      1 P02 path not closed
-      1 Z01 value of another kind
+      1 P02 path not closed (should)
+      1 Z01 value of another kind (must)
 END
 for jobs in 1 3; do
     try "classes of fonts, $jobs at once" 1 "$all" -j "$jobs" --baseline known glyphs.pfb edge.pfb clean.pfb

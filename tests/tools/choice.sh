@@ -45,6 +45,59 @@ edge20.pfb: 1: waiver A C05 U01 waiver not used
 END
 try 'edition 2 with waivers' 1 "$all" -q --edition 2 edge20.pfb
 
+# Levels: H02 is should. What is told stays, and so do refusals, which are must.
+wanted <<'END'
+edge.pfb: 1: glyph A - 9 H02 stems overlap
+--
+END
+try 'a level' 1 "$all" -q --level should edge.pfb
+try 'two levels' 1 "$all" -q --level=Tidy,SHOULD edge.pfb
+try 'a level, given again' 1 "$all" -q --level tidy --level should edge.pfb
+try 'a level and a rule' 1 "$all" -q --level should --only H edge.pfb
+try 'a level that makes the status' 1 "$all" -q --fail-on must,should edge.pfb
+try 'a level that does not' 0 "$all" -q --fail-on must edge.pfb
+wanted <<'END'
+--
+END
+try 'another level' 0 "$all" -q --level must,tidy edge.pfb
+try 'a level and another rule' 0 "$all" -q --level should --only GE02 edge.pfb
+try 'a level, and its rule left out' 0 "$all" -q --level should --except H02 edge.pfb
+cp "$fonts/E03.bin" cut.pfa
+wanted <<'END'
+cut.pfa: refused: E03 segment cut short
+edge.pfb: 1: glyph A - 9 H02 stems overlap
+--
+END
+try 'a refusal, whatever makes the status' 2 "$all" -q --fail-on tidy cut.pfa edge.pfb
+for option in level fail-on; do
+    for levels in '' , error must,H02; do
+        wanted <<END
+--
+t1check-all: --$option wants must, should or tidy
+t1check-all: 't1check-all --help' says how it is used
+END
+        try "--$option '$levels'" 3 "$all" "--$option=$levels" edge.pfb
+    done
+done
+
+# Known faults of levels that are left out are neither judged nor dropped.
+cat >known <<'END'
+3 GE02 glyph B edge.pfb
+1 H02 glyph A edge.pfb
+END
+wanted <<'END'
+--
+END
+try 'known faults of a level' 0 "$all" -q --baseline known --level should edge.pfb
+try 'an update of a level' 0 "$all" -q --baseline known --update-baseline --level should edge.pfb
+wanted <<'END'
+# Known faults: count, rule, unit, font.
+3 GE02 glyph B edge.pfb
+1 H02 glyph A edge.pfb
+--
+END
+try 'what an update of a level keeps' 0 cat known
+
 # Shards: what they write one behind the other is what one run writes.
 limited "$all" -q "$fonts" >whole 2>/dev/null
 : >joined

@@ -25,7 +25,7 @@ third.pfb: 1: font file 0 F01 no end segment
 --
 second.pfb: t1check: ended by signal 9
 3 fonts: 0 clean, 2 with faults, 0 refused, 1 not checked
-      2 F01 no end segment
+      2 F01 no end segment (should)
 END
 # shellcheck disable=SC2016
 echo 'kill -s KILL $$' >act

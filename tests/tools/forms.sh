@@ -25,10 +25,10 @@ wanted <<'END'
 --
 missing.pfb: t1check: read failed
 7 fonts: 0 clean, 5 with faults, 1 refused, 1 not checked
-      2 H02 stems overlap
-      1 F01 no end segment
-      1 K02 seac code not in StandardEncoding
-      1 Z05 zones too near
+      2 H02 stems overlap (should)
+      1 F01 no end segment (should)
+      1 K02 seac code not in StandardEncoding (must)
+      1 Z05 zones too near (should)
 END
 try 'a folder as jsonl' 3 "$all" --format jsonl . missing.pfb
 cp "$scratch/out" "$scratch/odd.jsonl"

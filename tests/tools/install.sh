@@ -78,6 +78,7 @@ wanted <<'END'
 ./share/t1check/RULES.md
 ./share/t1check/commit
 ./share/t1check/installed
+./share/t1check/version
 ./share/zsh/site-functions/_t1check
 --
 END
@@ -90,10 +91,20 @@ try 'an installed t1check-all' 1 "$prefix/bin/t1check-all" -q --only P03 glyphs.
 try 'an installed t1check-all, of two parts' 1 "$prefix/bin/t1check-all" -q -j2 --only P03 glyphs.pfb edge.pfb
 echo 0123abc >"$prefix/share/t1check/commit"
 wanted <<'END'
-t1check-all of commit 0123abc
+t1check-all 1.0.0 of commit 0123abc
 --
 END
 try 'the version of an installed t1check-all' 0 "$prefix/bin/t1check-all" --version
+wanted <<'END'
+t1explain 1.0.0
+--
+END
+try 'the version of an installed t1explain' 0 "$prefix/bin/t1explain" --version
+wanted <<'END'
+install of t1check 1.0.0
+--
+END
+try 'the version of install' 0 "$top/bin/install" --version
 wanted <<'END'
 3: glyph A 5 6 P03 closepath without a path
 --

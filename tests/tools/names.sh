@@ -15,10 +15,10 @@ q'"uote.PFB: 1: glyph A - 9 H02 stems overlap
 sub folder/deep/two words.pfb: 1: font BlueValues 4 Z05 zones too near
 --
 6 fonts: 0 clean, 5 with faults, 1 refused, 0 not checked
-      2 H02 stems overlap
-      1 F01 no end segment
-      1 K02 seac code not in StandardEncoding
-      1 Z05 zones too near
+      2 H02 stems overlap (should)
+      1 F01 no end segment (should)
+      1 K02 seac code not in StandardEncoding (must)
+      1 Z05 zones too near (should)
 END
 for jobs in 1 2 7; do
     try "a folder, $jobs at once" 2 "$all" -j "$jobs" .
@@ -39,7 +39,7 @@ not-a-font.txt: 1: font BlueValues 4 Z05 zones too near
 --
 missing.pfb: t1check: read failed
 2 fonts: 0 clean, 1 with faults, 0 refused, 1 not checked
-      1 Z05 zones too near
+      1 Z05 zones too near (should)
 END
 try 'a missing font, and a file that is named' 3 "$all" missing.pfb not-a-font.txt
 

@@ -88,7 +88,7 @@ if [ -c /dev/full ]; then
 fi
 commit=$(git -C "$top" rev-parse --short HEAD 2>/dev/null)
 wanted <<END
-t1check-all${commit:+ of commit $commit}
+t1check-all 1.0.0${commit:+ of commit $commit}
 --
 END
 try 'the version' 0 "$all" --version

@@ -9,8 +9,8 @@ glyphs.pfb: 1: font BlueValues 1 Z07 zone too high for BlueScale
 glyphs.pfb: 2: font StdHW 0 Z01 value of another kind
 --
 1 font: 0 clean, 1 with faults, 0 refused, 0 not checked
-      1 Z01 value of another kind
-      1 Z07 zone too high for BlueScale
+      1 Z01 value of another kind (must)
+      1 Z07 zone too high for BlueScale (should)
 t1check-all: lines of a font itself can not be waived
 END
 try 'waivers are written' 1 "$all" --write-waivers glyphs.pfb

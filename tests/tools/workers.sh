@@ -100,7 +100,7 @@ if [ "$(script -qec 'echo shown' /dev/null </dev/null 2>/dev/null | tr -d '\r')"
         limited script -qec "'$all' -j$jobs forty 2>&1 >/dev/null" /dev/null </dev/null >given
         wanted <<'END'
 40 fonts: 0 clean, 40 with faults, 0 refused, 0 not checked
-     40 F01 no end segment
+     40 F01 no end segment (should)
 --
 END
         # shellcheck disable=SC2016
@@ -121,7 +121,7 @@ END
     limited script -qec "'$stand/bin/t1check-all' -j2 first.pfb second.pfb 2>&1 >/dev/null" /dev/null </dev/null >given
     wanted <<'END'
 2 fonts: 0 clean, 2 with faults, 0 refused, 0 not checked
-      2 F01 no end segment
+      2 F01 no end segment (should)
 --
 END
     # shellcheck disable=SC2016

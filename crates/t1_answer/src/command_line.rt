@@ -34,7 +34,10 @@ Examples:
   t1check font.pfb                        writes the whole report
   t1check --after 20 --max 10 font.pfb    writes its lines 21 to 30
   t1check --trace A font.pfb              writes the steps of glyph A
-  t1check --waive font.waivers font.pfb   leaves out what is meant";
+  t1check --waive font.waivers font.pfb   leaves out what is meant
+  t1check <font.pfb                       reads the font from standard input
+
+For many fonts there is t1check-all. t1check is of the version that t1check-all --version tells.";
 
 /// Reads the words of the command line, the program's name first.
 pub fn options<S: AsStr>(alloc: Global, words: &[S]) -> Result<Options, UsageError>

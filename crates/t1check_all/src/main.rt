@@ -4,7 +4,7 @@
 //! $ t1check-all fonts
 //! fonts/a.pfb: 1: font file 0 F01 no end segment
 //! 2 fonts: 1 clean, 1 with faults, 0 refused, 0 not checked
-//!       1 F01 no end segment
+//!       1 F01 no end segment (should)
 //! ```
 //!
 //! What is promised of it is t1_answer_all's. This is the program over it: it lists folders, opens files and replaces them, and splits a run into
