@@ -83,11 +83,11 @@ pub meant_go_together : MeantGoTogether
 meant_go_together given options meant =
     let values = meant.values in
     let check = none_at (checks_of given) meant.faultless in
-    let form : is_wrong form_in given.format ≡ false = check 3 in
-    let update_shard : (given.update_baseline && is_some given.shard) ≡ false = check 6 in
-    let write : (given.write_waivers && (is_some given.baseline || is_some given.shard)) ≡ false = check 7 in
-    let docs_form : (is_some given.docs && not (is_some given.format)) ≡ false = check 9 in
-    let fonts : (is_empty given.paths && is_empty given.files_from) ≡ false = check 10 in
+    let form : is_wrong form_in given.format ≡ false = check 4 in
+    let update_shard : (given.update_baseline && is_some given.shard) ≡ false = check 7 in
+    let write : (given.write_waivers && (is_some given.baseline || is_some given.shard)) ≡ false = check 8 in
+    let docs_form : (is_some given.docs && not (is_some given.format)) ≡ false = check 10 in
+    let fonts : (is_empty given.paths && is_empty given.files_from) ≡ false = check 11 in
     record {
       updated = λ is.
           let on = first_true given.update_baseline (is_some given.baseline) (sym values.anew ∙ is) in

@@ -50,6 +50,8 @@ rules =
     ∷ option_rule (codes "shard")
     ∷ option_rule (codes "format")
     ∷ option_rule (codes "docs")
+    ∷ option_rule (codes "columns")
+    ∷ flag_rule (codes "colour")
     ∷ flag_rule (codes "long")
     ∷ flag_rule (codes "no-settings")
     ∷ version_rule

@@ -12,6 +12,7 @@ use Rattle.t1_options.specs.declared.complaint.Complaint.TheVariants as complain
 abbrev pub text_of : Complaint → Text
 text_of complaint.Jobs = codes "-j wants a number from 1 on"
 text_of complaint.Edition = codes "--edition wants 1 or 2"
+text_of complaint.Columns = codes "--columns wants a number from 1 on"
 text_of complaint.Baseline = codes "--baseline wants a file"
 text_of complaint.Format = codes "--format wants jsonl, sarif or github"
 text_of complaint.Docs = codes "--docs wants a URL"
@@ -44,12 +45,13 @@ are_wrong values = not (is_empty values) && not (are_known (codes_of values))
 abbrev pub are_no_levels : List Text → Bool
 are_no_levels values = not (is_empty values) && not (are_levels (words_of values))
 
--- What can be wrong, in the order of the search: five values, combinations, a missing font, and then the shard, the codes, the
+-- What can be wrong, in the order of the search: six values, combinations, a missing font, and then the shard, the codes, the
 -- levels and the globs.
 abbrev pub checks_of : GivenValue → List (Bool × Complaint)
 checks_of given =
     (is_wrong number_in given.jobs, complaint.Jobs)
     ∷ (is_wrong edition_in given.edition, complaint.Edition)
+    ∷ (is_wrong number_in given.columns, complaint.Columns)
     ∷ (is_wrong file_in given.baseline, complaint.Baseline)
     ∷ (is_wrong form_in given.format, complaint.Format)
     ∷ (is_wrong url_in given.docs, complaint.Docs)

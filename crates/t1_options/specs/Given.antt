@@ -22,6 +22,8 @@ pub record GivenValue : Type 0 where
   pub shard : Option Text
   pub format : Option Text
   pub docs : Option Text
+  pub columns : Option Text
+  pub colour : Bool
   pub long : Bool
   pub no_settings : Bool
   pub version : Bool
@@ -55,6 +57,8 @@ given_in rows = record {
   shard = first_of (codes "shard") rows;
   format = first_of (codes "format") rows;
   docs = first_of (codes "docs") rows;
+  columns = first_of (codes "columns") rows;
+  colour = is_in rows (codes "colour");
   long = is_in rows (codes "long");
   no_settings = is_in rows (codes "no-settings");
   version = is_in rows (codes "show-version");
@@ -85,6 +89,8 @@ given_value g = record {
   shard = option_map (λ s. s.now) g.shard;
   format = option_map (λ s. s.now) g.format;
   docs = option_map (λ s. s.now) g.docs;
+  columns = option_map (λ s. s.now) g.columns;
+  colour = g.colour;
   long = g.long;
   no_settings = g.no_settings;
   version = g.version;

@@ -43,7 +43,11 @@ pub struct Options {
     pub form: Option<Form>,
     /// The URL of the page of all rules.
     pub docs: Option<String>,
-    /// Whether a line of the report is printed for each fault, also on a terminal.
+    /// The columns to which a line for each font and rule is cut. Without it: a line for each fault.
+    pub columns: Option<u32>,
+    /// Whether these lines have colours.
+    pub colour: bool,
+    /// Whether a line is printed for each fault, whatever `columns` says.
     pub long: bool,
     /// Whether a settings file is left aside.
     pub no_settings: bool,

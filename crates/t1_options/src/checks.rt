@@ -11,7 +11,7 @@ ghost use Rattle.t1_options.specs.Values.{is_marked};
 use crate::choices::{are_known, are_levels};
 use crate::complaint::Complaint;
 use crate::given::Given;
-use crate::values::{baseline, docs, edition, form, is_marked, jobs, shard};
+use crate::values::{baseline, docs, edition, form, is_marked, number, shard};
 
 /// The words that options on rules name.
 #[derive(Clone, Copy)]
@@ -40,12 +40,16 @@ pub(crate) fn complaint_of(given: &Given<'_>, named: Named<'_>) -> Option<Compla
     let has_docs = is_given(given.docs);
     let checks = [
         (
-            is_given(given.jobs) & jobs(given.jobs).is_none(),
+            is_given(given.jobs) & number(given.jobs).is_none(),
             Complaint::Jobs,
         ),
         (
             is_given(given.edition) & edition(given.edition).is_none(),
             Complaint::Edition,
+        ),
+        (
+            is_given(given.columns) & number(given.columns).is_none(),
+            Complaint::Columns,
         ),
         (
             has_baseline & baseline(given.baseline).is_none(),

@@ -40,7 +40,9 @@ font NAME has its waivers, lines as `A H02`.
   --shard I/N        check part I of N of the list
   --format FORM      write lines, and what was not checked, in a form for other programs: jsonl, sarif or github
   --docs URL         let a sarif document name the page of each rule, as URL#ANCHOR
-  --long             write each line of a report, also on a terminal, where lines of a font and rule are one otherwise
+  --columns N        write a line for each font and rule, cut to N columns, as on a terminal
+  --colour           colour these by the levels of their rules
+  --long             write each line of a report, also on a terminal
   --no-settings      leave the settings file aside, .t1check.toml in the folder of the first PATH or above it
   --help, --version
 
@@ -123,6 +125,8 @@ fn command<'a>(alloc: Global) -> Result<Command<'a>, AllocError>
     let command = with(command, option(alloc, "shard", "I/N"))?;
     let command = with(command, option(alloc, "format", "FORM"))?;
     let command = with(command, option(alloc, "docs", "URL"))?;
+    let command = with(command, option(alloc, "columns", "N"))?;
+    let command = with(command, flag(alloc, "colour"))?;
     let command = with(command, flag(alloc, "long"))?;
     let command = with(command, flag(alloc, "no-settings"))?;
     let command = with(command, version(alloc))?;

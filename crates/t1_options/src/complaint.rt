@@ -12,6 +12,8 @@ pub(crate) enum Complaint {
     Jobs,
     /// `--edition` has another value than 1 or 2.
     Edition,
+    /// `--columns` has no number from 1 to 99,999.
+    Columns,
     /// `--baseline` has an empty value.
     Baseline,
     /// `--format` has a value that is no form.
@@ -51,6 +53,7 @@ fn text_of(complaint: Complaint) -> &'static str
     match complaint {
         Complaint::Jobs => "-j wants a number from 1 on",
         Complaint::Edition => "--edition wants 1 or 2",
+        Complaint::Columns => "--columns wants a number from 1 on",
         Complaint::Baseline => "--baseline wants a file",
         Complaint::Format => "--format wants jsonl, sarif or github",
         Complaint::Docs => "--docs wants a URL",

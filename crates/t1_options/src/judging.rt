@@ -12,7 +12,7 @@ use crate::choices::{codes_of, excepted, failing_of, rules_of, words_of};
 use crate::complaint::usage_text;
 use crate::given::Given;
 use crate::texts::copies;
-use crate::values::{docs, edition, form, jobs, shard};
+use crate::values::{docs, edition, form, number, shard};
 use std::alloc::{AllocError, Global};
 use t1_char::Edition;
 use t1_rules::Mask;
@@ -64,7 +64,7 @@ fn options_of(
     let paths = copies(alloc, given.paths)?;
     Ok(Options {
         quiet: given.quiet,
-        jobs: jobs(given.jobs),
+        jobs: number(given.jobs),
         edition: edition(given.edition).unwrap_or(Edition::One),
         rules,
         only,
@@ -77,6 +77,8 @@ fn options_of(
         shard: shard(given.shard),
         form: form(given.format),
         docs,
+        columns: number(given.columns),
+        colour: given.colour,
         long: given.long,
         no_settings: given.no_settings,
         paths,

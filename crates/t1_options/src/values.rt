@@ -8,8 +8,8 @@ ghost use Rattle.t1_scan.specs.Bytes.{is_decimal_digit};
 use crate::asked::{Form, Shard};
 use t1_char::Edition;
 
-/// The number of `-j`, if it is one.
-pub(crate) fn jobs(value: Option<&str>) -> Option<u32>
+/// The number of an option, if it is one.
+pub(crate) fn number(value: Option<&str>) -> Option<u32>
     ensures { result ≡ option_and_then number_in (option_map (λ s. s.now) value.entry) }
 {
     number_in(value?)

@@ -20,6 +20,10 @@ pub(crate) struct Expected<'a> {
     pub(crate) shard: Option<Shard>,
     pub(crate) form: Option<Form>,
     pub(crate) docs: Option<&'a str>,
+    pub(crate) columns: Option<u32>,
+    pub(crate) colour: bool,
+    pub(crate) long: bool,
+    pub(crate) no_settings: bool,
     pub(crate) paths: &'a [&'a str],
 }
 
@@ -37,6 +41,10 @@ pub(crate) const PLAIN: Expected<'static> = Expected {
     shard: None,
     form: None,
     docs: None,
+    columns: None,
+    colour: false,
+    long: false,
+    no_settings: false,
     paths: &["a.pfb"],
 };
 
@@ -80,6 +88,10 @@ fn are_expected(options: &Options, expected: Expected<'_>) -> bool {
         && options.shard == expected.shard
         && options.form == expected.form
         && text(&options.docs) == expected.docs
+        && options.columns == expected.columns
+        && options.colour == expected.colour
+        && options.long == expected.long
+        && options.no_settings == expected.no_settings
         && are(options.paths.as_slice(), expected.paths)
 }
 

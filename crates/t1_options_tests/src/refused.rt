@@ -113,6 +113,25 @@ const CHOICES: &[Case] = &[
     ),
 ];
 
+const LEVELS: &[Case] = &[
+    (
+        &["t1check-all", "--level", "error", "a.pfb"],
+        "--level wants must, should or tidy",
+    ),
+    (
+        &["t1check-all", "--level=,", "a.pfb"],
+        "--level wants must, should or tidy",
+    ),
+    (
+        &["t1check-all", "--fail-on", "must,H02", "a.pfb"],
+        "--fail-on wants must, should or tidy",
+    ),
+    (
+        &["t1check-all", "--columns", "0", "a.pfb"],
+        "--columns wants a number from 1 on",
+    ),
+];
+
 const COMBINATIONS: &[Case] = &[
     (&["t1check-all"], "no font is named"),
     (&["t1check-all", "-q"], "no font is named"),
@@ -212,7 +231,7 @@ fn refuses(alloc: Global, words: &[&str], sentence: &str) -> bool {
 
 #[test]
 fn refuses_words(rt: HostRuntime) {
-    for cases in [VALUES, CHOICES, COMBINATIONS, FIRST] {
+    for cases in [VALUES, CHOICES, LEVELS, COMBINATIONS, FIRST] {
         for (words, sentence) in cases {
             assert!(rt; refuses(rt.alloc(), words, sentence), "of {words:?}");
         }

@@ -27,6 +27,23 @@ const CHOICES: &[Case] = &[
     (
         &[
             "t1check-all",
+            "--level",
+            "Must,tidy",
+            "--except",
+            "C",
+            "a.pfb",
+        ],
+        &[Rule::F03, Rule::GE02, Rule::P03],
+        &[Rule::C05, Rule::H02, Rule::F01],
+    ),
+    (
+        &["t1check-all", "--level=tidy", "--only", "P,H", "a.pfb"],
+        &[Rule::P03],
+        &[Rule::P01, Rule::P02, Rule::H02, Rule::GE02],
+    ),
+    (
+        &[
+            "t1check-all",
             "--except",
             "GE",
             "--except",
@@ -53,6 +70,44 @@ fn words_choose_rules(rt: HostRuntime) {
             panic!(rt; "of {words:?}");
         };
         assert!(rt; told.iter().all(|rule| rules.has(*rule)), "of {words:?}");
+        assert!(rt; !others.iter().any(|rule| rules.has(*rule)), "of {words:?}");
+    }
+}
+
+/// The rules whose lines make the status 1.
+fn failing_of(alloc: Global, words: &[&str]) -> Option<Mask> {
+    match options(alloc, words) {
+        Ok(Request::Check(options)) => Some(options.failing),
+        _ => None,
+    }
+}
+
+const FAILING: &[Case] = &[
+    (
+        &["t1check-all", "a.pfb"],
+        &[Rule::F03, Rule::H02, Rule::GE02],
+        &[],
+    ),
+    (
+        &[
+            "t1check-all",
+            "--fail-on",
+            "MUST",
+            "--fail-on=tidy",
+            "a.pfb",
+        ],
+        &[Rule::F03, Rule::GE02],
+        &[Rule::H02, Rule::U01],
+    ),
+];
+
+#[test]
+fn levels_make_the_status(rt: HostRuntime) {
+    for (words, failing, others) in FAILING {
+        let Some(rules) = failing_of(rt.alloc(), words) else {
+            panic!(rt; "of {words:?}");
+        };
+        assert!(rt; failing.iter().all(|rule| rules.has(*rule)), "of {words:?}");
         assert!(rt; !others.iter().any(|rule| rules.has(*rule)), "of {words:?}");
     }
 }

@@ -238,6 +238,23 @@ const FORMS: &[Case] = &[
             ..PLAIN
         },
     ),
+    (
+        &[
+            "t1check-all",
+            "--columns=72",
+            "--colour",
+            "a.pfb",
+            "--long",
+            "--no-settings",
+        ],
+        Expected {
+            columns: Some(72),
+            colour: true,
+            long: true,
+            no_settings: true,
+            ..PLAIN
+        },
+    ),
 ];
 
 #[test]
