@@ -12,7 +12,7 @@ use Rattle.t1_rules.proofs.Lemmas.Book.{listed}
 use Rattle.t1_rules.specs.Book.{code_of, number_of, rules}
 use Rattle.t1_rules.specs.declared.rule.Rule.{Rule}
 use Rattle.t1_options.proofs.Known.{any_of}
-use Rattle.t1_options.specs.Choices.{codes_of, is_of_levels, left_out, words_of}
+use Rattle.t1_options.specs.Choices.{codes_of, codes_outside, is_of_levels, left_out, words_of}
 use Rattle.t1_options.specs.Laws.{LevelsChooseRules}
 
 and_true : (b : Bool) → (b && true) ≡ b
@@ -24,6 +24,7 @@ picks_own rule = rw (itself (code_of rule)) refl
 
 -- the codes that levels leave out pick the rules of other levels
 pub picked_by_level : (words : List Text) (rule : Rule) → list_any (picks (code_of rule)) (left_out words) ≡ not (is_of_levels words rule)
+unfolding codes_outside
 picked_by_level words rule =
     let test : Rule → Bool = λ other. picks (code_of rule) (code_of other) in
     let out : Rule → Bool = λ other. not (is_of_levels words other) in

@@ -3,6 +3,7 @@ pub mod Known
 pub mod Levels
 pub mod Numbers
 pub mod Shards
+pub mod TextTests
 pub mod Together
 pub mod Uses
 pub mod WrongValues

@@ -48,9 +48,12 @@ are_levels words = not (is_empty words) && list_all (λ word. is_some (level_nam
 unfoldable pub is_of_levels : List Text → Rule → Bool
 is_of_levels words rule = is_empty words || list_any (λ word. bytes_eq word (level_text (level_of rule))) words
 
--- The codes of the rules whose levels are left out.
+-- The codes of those of these rules whose levels are left out.
+unfoldable pub codes_outside : List Text → List Rule → List Text
+codes_outside words list = map code_of (filter (λ rule. not (is_of_levels words rule)) list)
+
 abbrev pub left_out : List Text → List Text
-left_out words = map code_of (filter (λ rule. not (is_of_levels words rule)) rules)
+left_out words = codes_outside words rules
 
 -- ---- the choice
 

@@ -3,7 +3,7 @@
 ghost use Rattle.std.specs.Prelude.{◌≡◌, ◌∷◌, ◌++◌, IfOk, is_some, map, string_bytes};
 ghost use Rattle.std.specs.List.{flat_map};
 ghost use Rattle.t1_many.specs.Choice.{is_told};
-ghost use Rattle.t1_options.specs.Choices.{are_known, are_levels, codes_in, codes_of, in_capitals, is_known, is_of_levels, left_out, words_of};
+ghost use Rattle.t1_options.specs.Choices.{are_known, are_levels, codes_in, codes_of, codes_outside, in_capitals, is_known, is_of_levels, left_out, words_of};
 ghost use Rattle.t1_rules.specs.Book.{code_of, number_of};
 ghost use Rattle.t1_rules.specs.Levels.{level_named};
 ghost use Rattle.t1_rules.specs.Mask.{has};
@@ -136,7 +136,18 @@ fn texts_of(alloc: Global, texts: &[String]) -> Result<Vec<&str>, AllocError>
 fn left_out(alloc: Global, levels: &[String]) -> Result<Vec<&'static str>, AllocError>
     ensures { IfOk result (λ codes. map (λ s. s.now) codes.items ≡ left_out (map string_bytes levels.now)) }
 {
-    all_rules()
+    codes_outside(alloc, all_rules(), levels)
+}
+
+/// The codes of those of these rules whose levels are left out.
+fn codes_outside(
+    alloc: Global,
+    rules: &[Rule],
+    levels: &[String],
+) -> Result<Vec<&'static str>, AllocError>
+    ensures { IfOk result (λ codes. map (λ s. s.now) codes.items ≡ codes_outside (map string_bytes levels.now) rules.now) }
+{
+    rules
         .iter()
         .filter(|rule| !is_of_levels(levels, **rule))
         .map(|rule| rule_code(*rule))
