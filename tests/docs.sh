@@ -201,11 +201,17 @@ for page in "$top"/man/*.1; do
     if sed -n 1p "$page" | grep -qF " \"t1check $version\" "; then pass; else fail "${page##*/}: it isn't of version $version"; fi
 done
 
-if sh "$top/crates/t1_forms/pages.sh" | cmp -s - "$top/crates/t1_forms/src/pages.rt"; then
-    pass
-else
-    fail "crates/t1_forms/src/pages.rt: crates/t1_forms/pages.sh writes another one of docs/RULES.md"
-fi
+for words in 'src/pages.rt' 'specs/Pages.antt specs'; do
+    file=crates/t1_forms/${words% *}
+    # shellcheck disable=SC2086
+    set -- $words
+    shift
+    if sh "$top/crates/t1_forms/pages.sh" "$@" | cmp -s - "$top/$file"; then
+        pass
+    else
+        fail "$file: crates/t1_forms/pages.sh $* writes another one of docs/RULES.md"
+    fi
+done
 
 # The places in which each rule stands.
 specs=$top/crates/t1_rules/specs
@@ -310,8 +316,10 @@ sed -n 's/^### \([A-Z]*[0-9][0-9]\) .*/\1/p' "$rules" | grep -v '^E[0-9]' >"$scr
 compare_codes 'docs/RULES.md, the headings' codes <"$scratch/list"
 list_contents >"$scratch/list"
 compare_codes 'docs/RULES.md, the contents' codes <"$scratch/list"
-sed -n 's/^        code: "\(.*\)",$/\1/p' "$top/crates/t1_forms/src/pages.rt" | grep -v '^E[0-9]' >"$scratch/list"
+sed -n 's/^    code: "\(.*\)",$/\1/p' "$top/crates/t1_forms/src/pages.rt" | grep -v '^E[0-9]' >"$scratch/list"
 compare_codes crates/t1_forms/src/pages.rt codes <"$scratch/list"
+sed -n 's/^  code = codes "\(.*\)";$/\1/p' "$top/crates/t1_forms/specs/Pages.antt" | grep -v '^E[0-9]' >"$scratch/list"
+compare_codes crates/t1_forms/specs/Pages.antt codes <"$scratch/list"
 list_cases >"$scratch/list"
 compare_codes 'tests/program, cases of the rules and their fonts' codes <"$scratch/list"
 

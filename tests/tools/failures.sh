@@ -31,9 +31,9 @@ END
 echo 'kill -s KILL $$' >act
 try 'a part that is killed' 3 "$stand/bin/t1check-all" -j3 first.pfb second.pfb third.pfb
 wanted <<'END'
-{"code":"F01","file":"first.pfb","index":0,"key":"file","number":1,"text":"no end segment","unit":"font"}
+{"code":"F01","file":"first.pfb","index":0,"key":"file","level":"should","number":1,"text":"no end segment","unit":"font"}
 {"file":"second.pfb","text":"ended by signal 9","unit":"unchecked"}
-{"code":"F01","file":"third.pfb","index":0,"key":"file","number":1,"text":"no end segment","unit":"font"}
+{"code":"F01","file":"third.pfb","index":0,"key":"file","level":"should","number":1,"text":"no end segment","unit":"font"}
 --
 second.pfb: t1check: ended by signal 9
 END

@@ -15,12 +15,12 @@ cp "$fonts/F01.pfb" "$named/$(printf 'e\303\251\033.pfb')"
 cp "$fonts/F01.pfb" "$named/$(printf 'return\r.pfb')"
 cd "$odd" || exit 1
 wanted <<'END'
-{"code":"H02","file":"-dash/-x.pfb","name":"A","number":1,"path":[],"step":9,"text":"stems overlap","unit":"glyph"}
-{"code":"K02","file":"a=b.t1","name":"C","number":1,"path":[],"step":9,"text":"seac code not in StandardEncoding","unit":"glyph"}
-{"code":"F01","file":"back\\\\slash.pfb","index":0,"key":"file","number":1,"text":"no end segment","unit":"font"}
-{"code":"E03","file":"cut.pfa","text":"segment cut short","unit":"refused"}
-{"code":"H02","file":"q'\"uote.PFB","name":"A","number":1,"path":[],"step":9,"text":"stems overlap","unit":"glyph"}
-{"code":"Z05","file":"sub folder/deep/two words.pfb","index":4,"key":"BlueValues","number":1,"text":"zones too near","unit":"font"}
+{"code":"H02","file":"-dash/-x.pfb","level":"should","name":"A","number":1,"path":[],"step":9,"text":"stems overlap","unit":"glyph"}
+{"code":"K02","file":"a=b.t1","level":"must","name":"C","number":1,"path":[],"step":9,"text":"seac code not in StandardEncoding","unit":"glyph"}
+{"code":"F01","file":"back\\\\slash.pfb","index":0,"key":"file","level":"should","number":1,"text":"no end segment","unit":"font"}
+{"code":"E03","file":"cut.pfa","level":"must","text":"segment cut short","unit":"refused"}
+{"code":"H02","file":"q'\"uote.PFB","level":"should","name":"A","number":1,"path":[],"step":9,"text":"stems overlap","unit":"glyph"}
+{"code":"Z05","file":"sub folder/deep/two words.pfb","index":4,"key":"BlueValues","level":"should","number":1,"text":"zones too near","unit":"font"}
 {"file":"missing.pfb","text":"read failed","unit":"unchecked"}
 --
 missing.pfb: t1check: read failed
@@ -34,7 +34,7 @@ try 'a folder as jsonl' 3 "$all" --format jsonl . missing.pfb
 cp "$scratch/out" "$scratch/odd.jsonl"
 wanted <<'END'
 ::warning file=-dash/-x.pfb,line=1,title=H02 stems overlap::1: glyph A - 9 H02 stems overlap
-::warning file=a=b.t1,line=1,title=K02 seac code not in StandardEncoding::1: glyph C - 9 K02 seac code not in StandardEncoding
+::error file=a=b.t1,line=1,title=K02 seac code not in StandardEncoding::1: glyph C - 9 K02 seac code not in StandardEncoding
 ::warning file=back\slash.pfb,line=1,title=F01 no end segment::1: font file 0 F01 no end segment
 ::error file=cut.pfa,line=1,title=E03 segment cut short::refused: E03 segment cut short
 ::warning file=q'"uote.PFB,line=1,title=H02 stems overlap::1: glyph A - 9 H02 stems overlap
@@ -45,9 +45,9 @@ missing.pfb: t1check: read failed
 END
 try 'a folder as commands' 3 "$all" -q . --format=github missing.pfb
 wanted <<END
-{"code":"F01","file":"100%, a:b.pfb","index":0,"key":"file","number":1,"text":"no end segment","unit":"font"}
-{"code":"F01","file":"$(printf 'e\303\251')\\\\x1B.pfb","index":0,"key":"file","number":1,"text":"no end segment","unit":"font"}
-{"code":"F01","file":"return\\\\x0D.pfb","index":0,"key":"file","number":1,"text":"no end segment","unit":"font"}
+{"code":"F01","file":"100%, a:b.pfb","index":0,"key":"file","level":"should","number":1,"text":"no end segment","unit":"font"}
+{"code":"F01","file":"$(printf 'e\303\251')\\\\x1B.pfb","index":0,"key":"file","level":"should","number":1,"text":"no end segment","unit":"font"}
+{"code":"F01","file":"return\\\\x0D.pfb","index":0,"key":"file","level":"should","number":1,"text":"no end segment","unit":"font"}
 --
 END
 try 'odd names as jsonl' 1 sh -c "cd '$named' && '$all' -q --format jsonl ."
@@ -61,7 +61,7 @@ try 'odd names as commands' 1 sh -c "cd '$named' && '$all' -q --format github 10
 wanted <<'END'
 2.1.0 t1check false 1 listed
 H02 warning
-K02 warning
+K02 error
 F01 warning
 E03 error
 H02 warning
@@ -116,15 +116,15 @@ try_document 'nothing as sarif' 0 "$all" -q --format sarif --only L01 glyphs.pfb
 try_document 'an empty shard as sarif' 0 "$all" --format sarif --shard 1/2 glyphs.pfb
 try_document 'known faults are written, with sarif' 0 "$all" -q --format sarif --baseline now --update-baseline glyphs.pfb
 wanted <<'END'
-{"code":"Z07","file":"glyphs.pfb","index":1,"key":"BlueValues","number":1,"text":"zone too high for BlueScale","unit":"font"}
-{"code":"Z01","file":"glyphs.pfb","index":0,"key":"StdHW","number":2,"text":"value of another kind","unit":"font"}
+{"code":"Z07","file":"glyphs.pfb","index":1,"key":"BlueValues","level":"should","number":1,"text":"zone too high for BlueScale","unit":"font"}
+{"code":"Z01","file":"glyphs.pfb","index":0,"key":"StdHW","level":"must","number":2,"text":"value of another kind","unit":"font"}
 --
 t1check-all: lines of a font itself can not be waived
 END
 try 'waivers are written, with jsonl' 1 "$all" -q --write-waivers --format jsonl glyphs.pfb
 echo 'A H02' >glyphs.pfb.waivers
 wanted <<'END'
-{"code":"U01","file":"glyphs.pfb","name":"A","number":6,"text":"waiver not used","unit":"waiver","waived":"H02"}
+{"code":"U01","file":"glyphs.pfb","level":"should","name":"A","number":6,"text":"waiver not used","unit":"waiver","waived":"H02"}
 --
 END
 try 'a waiver that is not used, as jsonl' 1 "$all" -q --only U01 --format jsonl glyphs.pfb
@@ -143,22 +143,22 @@ done
 # What was not even found is told in the form, too.
 wanted <<'END'
 {"text":"a name with a line end is passed over","unit":"unchecked"}
-{"code":"Z05","file":"one.pfb","index":4,"key":"BlueValues","number":1,"text":"zones too near","unit":"font"}
+{"code":"Z05","file":"one.pfb","index":4,"key":"BlueValues","level":"should","number":1,"text":"zones too near","unit":"font"}
 --
 t1check-all: a name with a line end is passed over
 END
 try 'a name with a line end, as jsonl' 3 sh -c "cd '$lines' && '$all' -q --format jsonl ."
 wanted <<'END'
 {"text":"a name with a line end is passed over","unit":"unchecked"}
-{"code":"Z05","file":"one.pfb","index":4,"key":"BlueValues","number":1,"text":"zones too near","unit":"font"}
-{"code":"H02","file":"../edge.pfb","name":"A","number":1,"path":[],"step":9,"text":"stems overlap","unit":"glyph"}
+{"code":"Z05","file":"one.pfb","index":4,"key":"BlueValues","level":"should","number":1,"text":"zones too near","unit":"font"}
+{"code":"H02","file":"../edge.pfb","level":"should","name":"A","number":1,"path":[],"step":9,"text":"stems overlap","unit":"glyph"}
 --
 t1check-all: a name with a line end is passed over
 END
 try 'a name with a line end, as jsonl, in two parts' 3 sh -c "cd '$lines' && '$all' -q -j2 --format jsonl . ../edge.pfb"
 wanted <<'END'
 {"file":".","text":"search failed","unit":"unchecked"}
-{"code":"Z05","file":"one.pfb","index":4,"key":"BlueValues","number":1,"text":"zones too near","unit":"font"}
+{"code":"Z05","file":"one.pfb","index":4,"key":"BlueValues","level":"should","number":1,"text":"zones too near","unit":"font"}
 --
 .: t1check: search failed
 END
@@ -166,7 +166,7 @@ try "a name below a folder that isn't UTF-8, as jsonl" 3 sh -c "cd '$bytes' && '
 wanted <<'END'
 {"text":"a name that is not UTF-8 is passed over","unit":"unchecked"}
 {"text":"a name with a line end is passed over","unit":"unchecked"}
-{"code":"Z05","file":"one.pfb","index":4,"key":"BlueValues","number":1,"text":"zones too near","unit":"font"}
+{"code":"Z05","file":"one.pfb","index":4,"key":"BlueValues","level":"should","number":1,"text":"zones too near","unit":"font"}
 --
 t1check-all: a name that is not UTF-8 is passed over
 t1check-all: a name with a line end is passed over

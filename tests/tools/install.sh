@@ -111,7 +111,7 @@ wanted <<'END'
 END
 try 'an installed t1check' 1 "$prefix/bin/t1check" --after 2 --max 1 glyphs.pfb
 wanted <<'END'
-{"code":"P03","file":"glyphs.pfb","name":"A","number":3,"path":[5],"step":6,"text":"closepath without a path","unit":"glyph"}
+{"code":"P03","file":"glyphs.pfb","level":"tidy","name":"A","number":3,"path":[5],"step":6,"text":"closepath without a path","unit":"glyph"}
 --
 END
 try 'an installed t1check-all with jsonl' 1 "$prefix/bin/t1check-all" -q --only P03 --format jsonl glyphs.pfb

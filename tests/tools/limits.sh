@@ -87,7 +87,7 @@ named.pfa: 1: glyph $glyph - 4 P03 closepath without a path
 END
 try 'a long name of a glyph' 1 "$all" -q named.pfa
 wanted <<END
-{"code":"P03","file":"named.pfa","name":"$glyph","number":1,"path":[],"step":4,"text":"closepath without a path","unit":"glyph"}
+{"code":"P03","file":"named.pfa","level":"tidy","name":"$glyph","number":1,"path":[],"step":4,"text":"closepath without a path","unit":"glyph"}
 --
 END
 try 'a long name of a glyph, as jsonl' 1 "$all" -q --format jsonl named.pfa

@@ -28,7 +28,7 @@ END
 END
     try "t1check, $place" 1 "linked/$place/t1check" edge.pfb
     wanted <<'END'
-{"code":"H02","name":"A","number":1,"path":[],"step":9,"text":"stems overlap","unit":"glyph"}
+{"code":"H02","level":"should","name":"A","number":1,"path":[],"step":9,"text":"stems overlap","unit":"glyph"}
 --
 END
     try "t1format, $place" 0 sh -c "'linked/$place/t1format' jsonl <lines.in"

@@ -30,19 +30,19 @@ a b.pfb: t1check: ended by signal 11
 1: glyph $(printf '\303\251\377') - 9 H02 stems overlap
 END
 wanted <<END
-{"code":"F01","index":0,"key":"file","number":1,"text":"no end segment","unit":"font"}
-{"code":"P01","name":"A","number":2,"path":[5,6],"step":8,"text":"drawing without a move","unit":"glyph"}
-{"code":"U01","name":"A","number":3,"text":"waiver not used","unit":"waiver","waived":"P01"}
-{"code":"E03","text":"segment cut short","unit":"refused"}
+{"code":"F01","index":0,"key":"file","level":"should","number":1,"text":"no end segment","unit":"font"}
+{"code":"P01","level":"must","name":"A","number":2,"path":[5,6],"step":8,"text":"drawing without a move","unit":"glyph"}
+{"code":"U01","level":"should","name":"A","number":3,"text":"waiver not used","unit":"waiver","waived":"P01"}
+{"code":"E03","level":"must","text":"segment cut short","unit":"refused"}
 {"text":"read failed","unit":"unchecked"}
-{"code":"P01","file":"a b.pfb","name":"B","number":18,"path":[5],"step":12,"text":"drawing without a move","unit":"glyph"}
-{"code":"U01","file":"a b.pfb","name":"B","number":19,"text":"waiver not used","unit":"waiver","waived":"H02"}
-{"code":"E14","file":"a b.pfb","text":"waivers malformed","unit":"refused"}
+{"code":"P01","file":"a b.pfb","level":"must","name":"B","number":18,"path":[5],"step":12,"text":"drawing without a move","unit":"glyph"}
+{"code":"U01","file":"a b.pfb","level":"should","name":"B","number":19,"text":"waiver not used","unit":"waiver","waived":"H02"}
+{"code":"E14","file":"a b.pfb","level":"must","text":"waivers malformed","unit":"refused"}
 {"file":"a b.pfb","text":"ended by signal 11","unit":"unchecked"}
-{"code":"H02","name":"","number":1,"path":[],"step":9,"text":"stems overlap","unit":"glyph"}
-{"code":"H02","name":"a\\"\\\\\\\\b","number":1,"path":[],"step":9,"text":"stems overlap","unit":"glyph"}
-{"code":"H02","name":"$(printf '\303\251')\\\\x1B\\\\x7F","number":1,"path":[],"step":9,"text":"stems overlap","unit":"glyph"}
-{"code":"H02","name":"\\\\xC3\\\\xA9\\\\xFF","number":1,"path":[],"step":9,"text":"stems overlap","unit":"glyph"}
+{"code":"H02","level":"should","name":"","number":1,"path":[],"step":9,"text":"stems overlap","unit":"glyph"}
+{"code":"H02","level":"should","name":"a\\"\\\\\\\\b","number":1,"path":[],"step":9,"text":"stems overlap","unit":"glyph"}
+{"code":"H02","level":"should","name":"$(printf '\303\251')\\\\x1B\\\\x7F","number":1,"path":[],"step":9,"text":"stems overlap","unit":"glyph"}
+{"code":"H02","level":"should","name":"\\\\xC3\\\\xA9\\\\xFF","number":1,"path":[],"step":9,"text":"stems overlap","unit":"glyph"}
 --
 END
 try_form 'each unit as jsonl' 0 jsonl
@@ -58,10 +58,10 @@ fi
 wanted <<'END'
 2.1.0 t1check false 2 listed
 F01 warning
-P01 warning
+P01 error
 U01 warning
 E03 error
-P01 warning
+P01 error
 U01 warning
 E14 error
 H02 warning
@@ -74,22 +74,22 @@ try_document 'each unit as sarif' 0 "$scratch/form" sarif --font one.pfb
 sed -n '1,2p; 4,6p; 8,9p' lines.in >some
 mv some lines.in
 wanted <<'END'
-{"code":"F01","file":"-one.pfb","index":0,"key":"file","number":1,"text":"no end segment","unit":"font"}
-{"code":"P01","file":"-one.pfb","name":"A","number":2,"path":[5,6],"step":8,"text":"drawing without a move","unit":"glyph"}
-{"code":"E03","file":"-one.pfb","text":"segment cut short","unit":"refused"}
+{"code":"F01","file":"-one.pfb","index":0,"key":"file","level":"should","number":1,"text":"no end segment","unit":"font"}
+{"code":"P01","file":"-one.pfb","level":"must","name":"A","number":2,"path":[5,6],"step":8,"text":"drawing without a move","unit":"glyph"}
+{"code":"E03","file":"-one.pfb","level":"must","text":"segment cut short","unit":"refused"}
 {"file":"-one.pfb","text":"read failed","unit":"unchecked"}
-{"code":"P01","file":"a b.pfb","name":"B","number":18,"path":[5],"step":12,"text":"drawing without a move","unit":"glyph"}
-{"code":"E14","file":"a b.pfb","text":"waivers malformed","unit":"refused"}
+{"code":"P01","file":"a b.pfb","level":"must","name":"B","number":18,"path":[5],"step":12,"text":"drawing without a move","unit":"glyph"}
+{"code":"E14","file":"a b.pfb","level":"must","text":"waivers malformed","unit":"refused"}
 {"file":"a b.pfb","text":"ended by signal 11","unit":"unchecked"}
 --
 END
 try_form 'lines of one font as jsonl' 0 jsonl --font=-one.pfb
 wanted <<'END'
 ::warning file=one%2Ctwo.pfb,line=1,title=F01 no end segment::1: font file 0 F01 no end segment
-::warning file=one%2Ctwo.pfb,line=1,title=P01 drawing without a move::2: glyph A 5>6 8 P01 drawing without a move
+::error file=one%2Ctwo.pfb,line=1,title=P01 drawing without a move::2: glyph A 5>6 8 P01 drawing without a move
 ::error file=one%2Ctwo.pfb,line=1,title=E03 segment cut short::refused: E03 segment cut short
 ::error file=one%2Ctwo.pfb,line=1,title=not checked::t1check: read failed
-::warning file=a b.pfb,line=1,title=P01 drawing without a move::18: glyph B 5 12 P01 drawing without a move
+::error file=a b.pfb,line=1,title=P01 drawing without a move::18: glyph B 5 12 P01 drawing without a move
 ::error file=a b.pfb,line=1,title=E14 waivers malformed::refused: E14 waivers malformed
 ::error file=a b.pfb,line=1,title=not checked::t1check: ended by signal 11
 --
@@ -106,9 +106,9 @@ a.pfb: 1: glyph A - 9 H02
 a.pfb: 1: glyph A - 9 H02 stems overlap
 END
 wanted <<'END'
-{"code":"F01","file":"a.pfb","index":0,"key":"file","number":1,"text":"no end segment","unit":"font"}
-{"code":"E03","file":"a.pfb","text":"segment cut short","unit":"refused"}
-{"code":"H02","file":"a.pfb","name":"A","number":1,"path":[],"step":9,"text":"stems overlap","unit":"glyph"}
+{"code":"F01","file":"a.pfb","index":0,"key":"file","level":"should","number":1,"text":"no end segment","unit":"font"}
+{"code":"E03","file":"a.pfb","level":"must","text":"segment cut short","unit":"refused"}
+{"code":"H02","file":"a.pfb","level":"should","name":"A","number":1,"path":[],"step":9,"text":"stems overlap","unit":"glyph"}
 --
 t1format: line 2: no line of t1check
 t1format: line 4: no line of t1check
@@ -152,19 +152,19 @@ d.pfb: t1check: read failed
 END
 cat >"$scratch/split.awk" <<'END'
 {
-    sub(/"rules":\[.*\][}][}]/, "\"rules\":[]}}")
+    sub(/"rules":\[.*\],"version"/, "\"rules\":[],\"version\"")
     gsub(/"ruleIndex":[0-9]+/, "\"ruleIndex\":N")
     gsub(/[{]"level"/, "\n&")
     print
 }
 END
 cat >"$scratch/wanted" <<'END'
-{"$schema":"https://json.schemastore.org/sarif-2.1.0.json","version":"2.1.0","runs":[{"tool":{"driver":{"name":"t1check","rules":[]}},"results":[
-{"level":"warning","locations":[{"logicalLocations":[{"kind":"key","name":"file"},{"kind":"index","name":"0"}],"physicalLocation":{"artifactLocation":{"uri":"a%20b%25.pfb"},"region":{"startLine":1}}}],"message":{"text":"1: font file 0 F01 no end segment"},"partialFingerprints":{"t1check/v1":"a b%.pfb font file F01 1"},"ruleId":"F01","ruleIndex":N},
-{"level":"warning","locations":[{"logicalLocations":[{"kind":"glyph","name":"A"},{"kind":"subr","name":"5"},{"kind":"subr","name":"6"},{"kind":"step","name":"8"}],"physicalLocation":{"artifactLocation":{"uri":"a%20b%25.pfb"},"region":{"startLine":1}}}],"message":{"text":"2: glyph A 5>6 8 P01 drawing without a move"},"partialFingerprints":{"t1check/v1":"a b%.pfb glyph A P01 1"},"ruleId":"P01","ruleIndex":N},
-{"level":"warning","locations":[{"logicalLocations":[{"kind":"glyph","name":"A"},{"kind":"step","name":"9"}],"physicalLocation":{"artifactLocation":{"uri":"a%20b%25.pfb"},"region":{"startLine":1}}}],"message":{"text":"3: glyph A - 9 P01 drawing without a move"},"partialFingerprints":{"t1check/v1":"a b%.pfb glyph A P01 2"},"ruleId":"P01","ruleIndex":N},
-{"level":"warning","locations":[{"logicalLocations":[{"kind":"glyph","name":"B"},{"kind":"step","name":"9"}],"physicalLocation":{"artifactLocation":{"uri":"a%20b%25.pfb"},"region":{"startLine":1}}}],"message":{"text":"4: glyph B - 9 P01 drawing without a move"},"partialFingerprints":{"t1check/v1":"a b%.pfb glyph B P01 1"},"ruleId":"P01","ruleIndex":N},
-{"level":"warning","locations":[{"logicalLocations":[{"kind":"waiver","name":"A"},{"kind":"rule","name":"P01"}],"physicalLocation":{"artifactLocation":{"uri":"a%20b%25.pfb"},"region":{"startLine":1}}}],"message":{"text":"5: waiver A P01 U01 waiver not used"},"partialFingerprints":{"t1check/v1":"a b%.pfb waiver A P01 U01 1"},"ruleId":"U01","ruleIndex":N},
+{"$schema":"https://json.schemastore.org/sarif-2.1.0.json","version":"2.1.0","runs":[{"tool":{"driver":{"name":"t1check","rules":[],"version":"1.0.0"}},"results":[
+{"level":"warning","locations":[{"logicalLocations":[{"kind":"key","name":"file"},{"kind":"index","name":"0"}],"physicalLocation":{"artifactLocation":{"uri":"a%20b%25.pfb"},"region":{"startLine":1}}}],"message":{"text":"font file 0 F01 no end segment"},"partialFingerprints":{"t1check/v1":"a b%.pfb font file F01 1"},"ruleId":"F01","ruleIndex":N},
+{"level":"error","locations":[{"logicalLocations":[{"kind":"glyph","name":"A"},{"kind":"subr","name":"5"},{"kind":"subr","name":"6"},{"kind":"step","name":"8"}],"physicalLocation":{"artifactLocation":{"uri":"a%20b%25.pfb"},"region":{"startLine":1}}}],"message":{"text":"glyph A 5>6 8 P01 drawing without a move"},"partialFingerprints":{"t1check/v1":"a b%.pfb glyph A P01 1"},"ruleId":"P01","ruleIndex":N},
+{"level":"error","locations":[{"logicalLocations":[{"kind":"glyph","name":"A"},{"kind":"step","name":"9"}],"physicalLocation":{"artifactLocation":{"uri":"a%20b%25.pfb"},"region":{"startLine":1}}}],"message":{"text":"glyph A - 9 P01 drawing without a move"},"partialFingerprints":{"t1check/v1":"a b%.pfb glyph A P01 2"},"ruleId":"P01","ruleIndex":N},
+{"level":"error","locations":[{"logicalLocations":[{"kind":"glyph","name":"B"},{"kind":"step","name":"9"}],"physicalLocation":{"artifactLocation":{"uri":"a%20b%25.pfb"},"region":{"startLine":1}}}],"message":{"text":"glyph B - 9 P01 drawing without a move"},"partialFingerprints":{"t1check/v1":"a b%.pfb glyph B P01 1"},"ruleId":"P01","ruleIndex":N},
+{"level":"warning","locations":[{"logicalLocations":[{"kind":"waiver","name":"A"},{"kind":"rule","name":"P01"}],"physicalLocation":{"artifactLocation":{"uri":"a%20b%25.pfb"},"region":{"startLine":1}}}],"message":{"text":"waiver A P01 U01 waiver not used"},"partialFingerprints":{"t1check/v1":"a b%.pfb waiver A P01 U01 1"},"ruleId":"U01","ruleIndex":N},
 {"level":"error","locations":[{"physicalLocation":{"artifactLocation":{"uri":"c.pfb"},"region":{"startLine":1}}}],"message":{"text":"refused: E03 segment cut short"},"partialFingerprints":{"t1check/v1":"c.pfb refused E03 1"},"ruleId":"E03","ruleIndex":N}],"invocations":[{"executionSuccessful":false,"toolExecutionNotifications":[
 {"level":"error","locations":[{"physicalLocation":{"artifactLocation":{"uri":"d.pfb"},"region":{"startLine":1}}}],"message":{"text":"t1check: read failed"}}]}]}]}
 --
@@ -191,8 +191,12 @@ END {
     }
 }
 AWK
-sed -n 's/^### \([A-Z]*[0-9][0-9] .*\)/\1/p' "$top/docs/RULES.md" |
-    awk '{ print $0, ($1 ~ /^E/ ? "error" : "warning"), "page" } END { print "--" }' >wanted
+awk -F ' *[|] *' '
+    BEGIN { word["must"] = "error"; word["should"] = "warning"; word["tidy"] = "note" }
+    /^[|] [A-Z]+[0-9][0-9] / && $4 in word { level[$2] = word[$4] }
+    /^### [A-Z]+[0-9][0-9] / { split($0, words, " "); print substr($0, 5), words[2] in level ? level[words[2]] : "error", "page" }
+    END { print "--" }
+' "$top/docs/RULES.md" >wanted
 : >lines.in
 # shellcheck disable=SC2016
 [ -z "$reader" ] || try 'what sarif says of rules' 0 \
@@ -242,7 +246,7 @@ try_form 'a message with odd bytes as a command' 0 github
 name=$(printf '%070000d' 0)
 echo "$name.pfb: 1: font file 0 F01 no end segment" >lines.in
 wanted <<END
-{"code":"F01","file":"$name.pfb","index":0,"key":"file","number":1,"text":"no end segment","unit":"font"}
+{"code":"F01","file":"$name.pfb","index":0,"key":"file","level":"should","number":1,"text":"no end segment","unit":"font"}
 --
 END
 try_form 'a line of 70,000 bytes as jsonl' 0 jsonl

@@ -411,7 +411,7 @@ fn tells_what_was_not_listed(rt: HostRuntime) -> Result<(), Fail> {
 {\"text\":\"a name that is not UTF-8 is passed over\",\"unit\":\"unchecked\"}
 {\"text\":\"a name with a line end is passed over\",\"unit\":\"unchecked\"}
 {\"file\":\"fonts/old\",\"text\":\"search failed\",\"unit\":\"unchecked\"}
-{\"code\":\"P03\",\"file\":\"faulty.pfb\",\"name\":\"A\",\"number\":4,\"path\":[],\"step\":4,\"text\":\"closepath without a path\",\"unit\":\"glyph\"}
+{\"code\":\"P03\",\"file\":\"faulty.pfb\",\"level\":\"tidy\",\"name\":\"A\",\"number\":4,\"path\":[],\"step\":4,\"text\":\"closepath without a path\",\"unit\":\"glyph\"}
 ";
     assert!(rt; text.as_slice() == lines.as_slice());
     assert!(rt; told.is_empty());

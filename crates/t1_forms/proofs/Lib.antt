@@ -3,5 +3,8 @@ pub mod Floats
 pub mod NotTold
 pub mod OneObject
 pub mod OneTelling
+pub mod SarifCounts
+pub mod SarifFloats
+pub mod SarifRuns
 pub mod ShownNames
 pub mod ShownWords

@@ -1,7 +1,9 @@
 -- Commands of a workflow of GitHub: `::KIND file=NAME,line=1,title=TITLE::LINE`.
 use Rattle.std.specs.Prelude.{ℕ, ◌==◌, List, [], ◌∷◌, ◌++◌, codes, Option, Some, None, if◌then◌else◌}
 use Rattle.std.specs.List.{flat_map}
-use Rattle.t1_rules.specs.Book.{code_of, text_of}
+use Rattle.t1_rules.specs.declared.level.Level.{Level}
+use Rattle.t1_rules.specs.declared.level.Level.TheVariants.{Must, Should, Tidy}
+use Rattle.t1_rules.specs.Book.{code_of, level_of, text_of}
 use Rattle.t1_lines.specs.Lines.{of_fault, of_refusal}
 use Rattle.t1_forms.specs.Objects.{refusal_code_of, refusal_reason_of}
 use Rattle.t1_forms.specs.Tellings.{ToldValue, WhatValue, of_line, of_unchecked}
@@ -19,9 +21,15 @@ property_byte byte =
     if byte == 58 then codes "%3A"
     else (if byte == 44 then codes "%2C" else message_byte byte)
 
--- A fault is a warning. A font that was refused or not checked is an error.
+-- By the level of a rule.
+abbrev pub level_kind : Level → List ℕ
+level_kind Must = codes "error"
+level_kind Should = codes "warning"
+level_kind Tidy = codes "notice"
+
+-- Of a fault by its rule. A font that was refused or not checked is an error.
 abbrev pub command_kind : WhatValue → List ℕ
-command_kind (of_line (of_fault l)) = codes "warning"
+command_kind (of_line (of_fault l)) = level_kind (level_of l.rule)
 command_kind (of_line (of_refusal code)) = codes "error"
 command_kind (of_unchecked reason) = codes "error"
 

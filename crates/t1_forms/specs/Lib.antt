@@ -2,8 +2,13 @@ pub mod Commands
 pub mod Laws
 pub mod NameWords
 pub mod Objects
+pub mod PageValues
+pub mod Pages
 pub mod Percents
 pub mod Private
+pub mod Sarif
+pub mod SarifDocuments
+pub mod SarifObjects
 pub mod Shown
 pub mod Tellings
 pub mod Writing

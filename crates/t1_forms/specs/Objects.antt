@@ -4,8 +4,10 @@ use Rattle.serde_json.specs.Data.{Data, number, unsigned, string, array, object,
 use Rattle.serde_json.specs.View.{items_of}
 use Rattle.serde_json.specs.Written.{compact_text}
 use Rattle.t1_rules.specs.declared.rule.Rule.{Rule}
-use Rattle.t1_rules.specs.Book.{code_of, text_of}
+use Rattle.t1_rules.specs.declared.level.Level.TheVariants.{Must}
+use Rattle.t1_rules.specs.Book.{code_of, level_of, text_of}
 use Rattle.t1_rules.specs.Keys.{key_text_of}
+use Rattle.t1_rules.specs.Levels.{level_text}
 use Rattle.t1_lines.specs.Lines.{PlaceValue, at_key, at_step, at_waiver, of_fault, of_refusal}
 use Rattle.t1_lines.specs.declared.refusal.RefusalCode.{RefusalCode}
 use Rattle.t1_lines.specs.RefusalTexts.{refusal_text_of}
@@ -27,9 +29,10 @@ list_of numbers = array (items_of (map (λ n. number (unsigned n)) numbers))
 abbrev pub members_of_all : ℕ → Rule → List ℕ → Members
 members_of_all n rule unit =
     member (codes "code") (string (code_of rule))
+    (member (codes "level") (string (level_text (level_of rule)))
     (member (codes "number") (number (unsigned n))
     (member (codes "text") (string (text_of rule))
-    (member (codes "unit") (string unit) no_members)))
+    (member (codes "unit") (string unit) no_members))))
 
 -- A fault in an entry of the font, in a step of a glyph, or a waiver.
 abbrev pub fault_members : ℕ → PlaceValue → Rule → Members
@@ -47,13 +50,14 @@ fault_members n (at_waiver name waived) rule =
     (put (codes "name") (string (shown name))
     (members_of_all n rule (codes "waiver")))
 
--- A fault, a refusal, or why a font wasn't checked.
+-- A fault, a refusal, which has the level of what must be, or why a font wasn't checked.
 abbrev pub what_members : WhatValue → Members
 what_members (of_line (of_fault l)) = fault_members l.number l.place l.rule
 what_members (of_line (of_refusal code)) =
     member (codes "code") (string (shown (refusal_code_of code)))
+    (member (codes "level") (string (level_text Must))
     (member (codes "text") (string (shown (refusal_reason_of code)))
-    (member (codes "unit") (string (codes "refused")) no_members))
+    (member (codes "unit") (string (codes "refused")) no_members)))
 what_members (of_unchecked reason) =
     member (codes "text") (string (shown reason))
     (member (codes "unit") (string (codes "unchecked")) no_members)

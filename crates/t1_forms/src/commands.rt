@@ -3,7 +3,7 @@
 ghost use Rattle.std.specs.Prelude.{◌≡◌, ◌++◌, codes, ◌∷◌, [], IfNone, IfSome, option_map};
 ghost use Rattle.std.specs.List.{flat_map};
 ghost use Rattle.t1_io.specs.Devices.{Writes};
-ghost use Rattle.t1_forms.specs.Commands.{command_kind, command_of, file_property, message_byte, property_byte, title_code, title_text};
+ghost use Rattle.t1_forms.specs.Commands.{command_kind, command_of, file_property, level_kind, message_byte, property_byte, title_code, title_text};
 ghost use Rattle.t1_forms.specs.Private.Escapes.{byte_in};
 ghost use Rattle.t1_forms.specs.Tellings.{told_value, what_value};
 
@@ -11,7 +11,7 @@ use crate::objects::{refusal_code, refusal_reason};
 use crate::{Told, What};
 use t1_io::{Broken, Sink, put_all, put_parts};
 use t1_lines::Line;
-use t1_rules::{rule_code, rule_text};
+use t1_rules::{Level, rule_code, rule_level, rule_text};
 
 /// A part of a command.
 #[derive(Clone, Copy, PartialEq, Eq)]
@@ -57,12 +57,23 @@ fn put_byte<W: Sink>(sink: &mut W, byte: u8, part: Part) -> Result<(), Broken>
     }
 }
 
+/// The kind of a fault's command, by the level of its rule.
+fn kind_at(level: Level) -> &'static [u8]
+    ensures { result.now ≡ level_kind level }
+{
+    match level {
+        Level::Must => b"error",
+        Level::Should => b"warning",
+        Level::Tidy => b"notice",
+    }
+}
+
 /// The kind of a command.
 fn kind(what: &What<'_>) -> &'static [u8]
     ensures { result.now ≡ command_kind (what_value what.now) }
 {
     match what {
-        What::Line(Line::Fault(_)) => b"warning",
+        What::Line(Line::Fault(fault)) => kind_at(rule_level(fault.rule)),
         What::Line(Line::Refusal(_)) | What::Unchecked(_) => b"error",
     }
 }
@@ -101,8 +112,9 @@ fn put_file<W: Sink>(sink: &mut W, font: Option<&[u8]>) -> Result<(), Broken>
     put_all(sink, b",line=1,")
 }
 
-/// Writes a command that shows a line of t1check at the font: a warning of a fault, an error where the font was refused or
-/// wasn't checked. A font has no lines of text, so line 1 is named. After a failure a front of the command went out.
+/// Writes a command that shows a line of t1check at the font: an error, a warning or a notice of a fault, by its rule's level, an
+/// error where the font was refused or wasn't checked. A font has no lines of text, so line 1 is named. After a failure a front of
+/// the command went out.
 pub fn write_command<W: Sink>(sink: &mut W, told: &Told<'_>) -> Result<(), Broken>
     ensures { Writes (W.state sink.old) (W.state sink.new) (command_of (told_value told.now) told.now.line.now) result }
 {

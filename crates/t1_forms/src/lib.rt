@@ -30,7 +30,10 @@ mod names;
 mod objects;
 mod pages;
 mod sarif;
+mod sarif_laws;
+mod sarif_objects;
 mod told;
+mod version;
 
 pub use commands::write_command;
 pub use error::FormatError;
@@ -41,4 +44,6 @@ pub use laws::{
 pub use names::shown;
 pub use objects::{object, write_object};
 pub use sarif::Sarif;
+pub use sarif_laws::{all_is_told_in_documents, documents_are_of_their_runs};
 pub use told::{Told, What, read_told};
+pub use version::VERSION;

@@ -14,7 +14,7 @@ use serde_json::{Map, Value, put};
 use std::alloc::{AllocError, Global};
 use t1_io::{Sink, put_all};
 use t1_lines::{FaultLine, Line, Place, RefusalCode, refusal_text};
-use t1_rules::{Rule, key_text, rule_code, rule_text};
+use t1_rules::{Level, Rule, key_text, rule_code, rule_level, rule_text};
 
 /// The code of a refusal: `E03`.
 pub(crate) fn refusal_code(code: RefusalCode) -> &'static [u8]
@@ -63,6 +63,12 @@ fn members_of_all(
         alloc,
         "code",
         Value::try_from_str(alloc, rule_code(rule))?,
+    )?;
+    put(
+        &mut members,
+        alloc,
+        "level",
+        Value::try_from_str(alloc, rule_level(rule).text())?,
     )?;
     put(&mut members, alloc, "number", Value::from(number))?;
     put(
@@ -188,6 +194,12 @@ fn what_members(alloc: Global, what: &What<'_>) -> Result<Map<String, Value>, Al
             put(
                 &mut members,
                 alloc,
+                "level",
+                Value::try_from_str(alloc, Level::Must.text())?,
+            )?;
+            put(
+                &mut members,
+                alloc,
                 "text",
                 text(alloc, refusal_reason(*refusal))?,
             )?;
@@ -208,8 +220,8 @@ fn what_members(alloc: Global, what: &What<'_>) -> Result<Map<String, Value>, Al
 /// The object that a line stands for.
 ///
 /// Its members: `unit` (`font`, `glyph`, `waiver`, `refused`, `unchecked`) and `text`; `file`, the font's name, where there is
-/// one; of a fault `number` and `code`, of a refusal `code`; in the font `key` and `index`, in a glyph `name`, `path` and
-/// `step`, of a waiver `name` and `waived`.
+/// one; of a fault `number`, `code` and `level`, of a refusal `code` and `level`; in the font `key` and `index`, in a glyph `name`,
+/// `path` and `step`, of a waiver `name` and `waived`.
 pub fn object(alloc: Global, told: &Told<'_>) -> Result<Value, AllocError>
     ensures { IfOk result (λ v. view v ≡ object_of (told_value told.now)) }
 {

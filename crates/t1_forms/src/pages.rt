@@ -1,5 +1,9 @@
 //! The pages of rules and refusals, as docs/RULES.md has them. Made by pages.sh; what is changed here is lost.
 
+ghost use Rattle.std.specs.Prelude.{◌≡◌, map};
+ghost use Rattle.t1_forms.specs.PageValues.{page_value};
+ghost use Rattle.t1_forms.specs.Pages.{pages, page_0, page_1, page_2, page_3, page_4, page_5, page_6, page_7, page_8, page_9, page_10, page_11, page_12, page_13, page_14, page_15, page_16, page_17, page_18, page_19, page_20, page_21, page_22, page_23, page_24, page_25, page_26, page_27, page_28, page_29, page_30, page_31, page_32, page_33, page_34, page_35, page_36, page_37, page_38, page_39, page_40, page_41, page_42, page_43, page_44, page_45, page_46, page_47, page_48, page_49, page_50, page_51, page_52, page_53, page_54, page_55, page_56, page_57, page_58, page_59, page_60, page_61, page_62, page_63, page_64, page_65, page_66, page_67, page_68, page_69, page_70, page_71, page_72, page_73, page_74, page_75, page_76, page_77, page_78, page_79, page_80, page_81, page_82, page_83, page_84};
+
 /// The page of a rule or a refusal.
 pub(crate) struct Page {
     /// `F01`.
@@ -12,663 +16,1289 @@ pub(crate) struct Page {
     pub(crate) text: &'static str,
 }
 
-static PAGES_0: [Page; 5] = [
-    Page {
-        code: "F01",
-        anchor: "f01-no-end-segment",
-        title: "no end segment",
-        text: "Level *should*: outlines are read, but a downloader may wait, and the file may have been cut.\n\nThe file was cut, or written by a tool that leaves the mark out. Printers' downloaders wait for it.\nExample: a PFB file without its last two bytes, `80 03`.\n\n    1: font file 0 F01 no end segment\n\nCure: write the two bytes `80 03` at the end; if other bytes are missing as well, take the font from its source again.",
-    },
-    Page {
-        code: "F02",
-        anchor: "f02-bytes-after-the-end-segment",
-        title: "bytes after the end segment",
-        text: "Level *tidy*: nothing reads these bytes.\n\nNothing reads these bytes: two files were put together, or a transfer filled the file up. Example: one more byte `0A` behind `80 03`.\n\n    1: font file 0 F02 bytes after the end segment\n\nCure: cut the file behind `80 03`, after a look at what stands there.",
-    },
-    Page {
-        code: "F03",
-        anchor: "f03-fonttype-is-not-1",
-        title: "FontType is not 1",
-        text: "Level *must*: an interpreter refuses the font, or doesn't read its charstrings. Ghostscript refuses it.\n\nBy this number a PostScript interpreter decides how it reads glyphs. With another one it doesn't use the charstrings, or refuses the font.\n\n    /FontType 3 def\n    1: font FontType 0 F03 FontType is not 1\n\nCure: `/FontType 1 def` in the clear text.",
-    },
-    Page {
-        code: "F04",
-        anchor: "f04-painttype-is-not-0-or-2",
-        title: "PaintType is not 0 or 2",
-        text: "Level *must*: interpreters paint something else, or nothing.\n\n0 means that outlines are filled, 2 that they are stroked with the width StrokeWidth. Type 1 fonts have no other way to be painted, so\ninterpreters fail, or paint something else than was meant.\n\n    /PaintType 1 def\n    1: font PaintType 0 F04 PaintType is not 0 or 2\n\nCure: `/PaintType 0 def`.",
-    },
-    Page {
-        code: "F05",
-        anchor: "f05-uniqueid-out-of-range",
-        title: "UniqueID out of range",
-        text: "Level *must*: an interpreter may refuse the font, as Ghostscript does below 0, or print another font's glyphs.\n\nA printer keeps drawn glyphs under this number, which has 24 bits. With a number past them an interpreter fails, or mixes up fonts.\nThe entry may be absent, in both dictionaries.\n\n    /UniqueID 16777216 def\n    1: font UniqueID 0 F05 UniqueID out of range\n\nCure: a registered number, one from 4000000 to 4999999 (which are for private use), or no UniqueID in either dictionary.",
-    },
-];
-
-static PAGES_1: [Page; 5] = [
-    Page {
-        code: "F06",
-        anchor: "f06-uniqueids-differ",
-        title: "UniqueIDs differ",
-        text: "Level *must*: a printer may print the glyphs of another font, which it has kept under the number.\n\nThe font's dictionary and Private have to name the same number. Where they differ the number is no mark of the font: a printer may ignore\nit, and draw each glyph anew, or print another font's glyphs that it has kept. Such a font was often made from another one. Where only one\ndictionary has a number this rule isn't violated.\n\n    /UniqueID 5000793 def     % in the clear text\n    /UniqueID 5000794 def     % in Private\n    1: font PrivateUniqueID 0 F06 UniqueIDs differ\n\nCure: the same number in both, a new one where the glyphs aren't those of the older font. Where Private gives it twice the later one counts: leave the\nwrong one out.",
-    },
-    Page {
-        code: "F07",
-        anchor: "f07-password-is-not-5839",
-        title: "password is not 5839",
-        text: "Level *must*: early interpreters refuse the font.\n\nThe format asks each font for this entry of Private; early interpreters fail without it.\n\n    /password 5838 def\n    1: font password 0 F07 password is not 5839\n\nCure: `/password 5839 def` in Private.",
-    },
-    Page {
-        code: "F08",
-        anchor: "f08-minfeature-is-not-16-16",
-        title: "MinFeature is not {16 16}",
-        text: "Level *tidy*: the entry has no effect on what is drawn.\n\nThis entry, too, is asked for so that early interpreters read the font; it has this value alone. An array, `[16 16]`, is taken as well.\n\n    /MinFeature {16} def\n    1: font MinFeature 0 F08 MinFeature is not {16 16}\n\nCure: `/MinFeature {16 16} def` in Private.",
-    },
-    Page {
-        code: "F09",
-        anchor: "f09-no-notdef",
-        title: "no .notdef",
-        text: "Level *must*: where a code has no glyph an interpreter fails.\n\nThis glyph is shown for each code and each name that has none. Without it an interpreter refuses the font, or stops at the first such\ncharacter of a text. Example: `A` is the only glyph.\n\n    /A 9 RD … ND\n    1: font CharStrings 0 F09 no .notdef\n\nCure: add a glyph `.notdef`; one with a width and no outline will do.",
-    },
-    Page {
-        code: "F10",
-        anchor: "f10-glyph-given-twice",
-        title: "glyph given twice",
-        text: "Level *must*: some interpreters draw the first of the two, others the last.\n\nPostScript keeps the later one, as t1check does; a reader that stops at the first match shows the earlier one. So the font can look\ndifferent on screen and on paper. The line's index counts names from 0 in the order in which they first appear.\n\n    /.notdef 9 RD … ND\n    /A 9 RD … ND\n    /A 43 RD … ND\n    1: font CharStrings 1 F10 glyph given twice\n\nCure: leave out the one that isn't wanted, and write the smaller number of glyphs in front of `dict`. This command prints the name at index 1 (with\n`3p` that at index 2, and so on):\n\n    t1disasm font.pfb | sed -n '/\\/CharStrings/,$ s/^\\/\\([^ ]*\\) {$/\\1/p' | awk '!seen[$0]++' | sed -n 2p",
-    },
-];
-
-static PAGES_2: [Page; 5] = [
-    Page {
-        code: "F11",
-        anchor: "f11-encoding-of-another-form",
-        title: "Encoding of another form",
-        text: "Level *must*: an interpreter may refuse the font, or give codes other glyphs.\n\nInstallers and screen drivers, such as Adobe Type Manager, don't execute PostScript: they look for `/Encoding StandardEncoding def` or\nfor a custom Encoding as above (Type 1 Format, chapters 2 and 10). In other forms they find no codes.\n\n    /Encoding ISOLatin1Encoding def\n    1: font Encoding 0 F11 Encoding of another form\n\nAn array written out in brackets and one of another size (`128 array`) are such forms too. Cure: write the codes as rows of `256 array`.",
-    },
-    Page {
-        code: "F12",
-        anchor: "f12-code-past-255",
-        title: "code past 255",
-        text: "Level *must*: an interpreter refuses the font, as Ghostscript does, or the code has no glyph.\n\nThe array has the codes 0 to 255. A row with another code stops an interpreter with `rangecheck` or `typecheck`: the font isn't loaded.\nt1check passes the row over. However many such rows there are, there is one line.\n\n    dup 256 /A put\n    1: font Encoding 0 F12 code past 255\n\nCure: mend the code, or leave the row out; a glyph without a code is still reached by its name.",
-    },
-    Page {
-        code: "F13",
-        anchor: "f13-encoded-glyph-missing",
-        title: "encoded glyph missing",
-        text: "Level *should*: `.notdef` is drawn for the code; a subset may have been cut so on purpose.\n\nThe code prints as `.notdef`. Subsets of fonts often keep the codes of the whole font; that is harmless while no text uses them. In a whole font\nit is mostly a misspelled name. Where a code is set twice its later name counts. Example: no glyph is named `Alpha`.\n\n    dup 65 /Alpha put\n    1: font Encoding 65 F13 encoded glyph missing\n\nHow much it matters: in a subset not at all, so long as its text has no such code. 43 of 1,454 real fonts have 430 such rows.\n\nCure: add the glyph, mend the name, or leave the row out.",
-    },
-    Page {
-        code: "F14",
-        anchor: "f14-subr-given-twice-or-past-the-array",
-        title: "Subr given twice or past the array",
-        text: "Level *must*: an interpreter refuses the font, as Ghostscript does, or calls another Subr.\n\n`/Subrs 5 array` has the numbers 0 to 4. An entry past them stops an interpreter with `rangecheck`, so that the font isn't loaded; other readers\nleave it out, and glyphs that call it break. Of two entries with one number readers take one or the other.\n\n    /Subrs 5 array\n    dup 5 7 RD … NP\n    1: font Subrs 5 F14 Subr given twice or past the array\n\nCure: write the greatest number plus 1 in front of `array`; leave out, or number anew, the entry that stands twice.",
-    },
-    Page {
-        code: "Z01",
-        anchor: "z01-value-of-another-kind",
-        title: "value of another kind",
-        text: "Level *must*: an interpreter may refuse the font, as Ghostscript does.\n\nBlueScale, BlueShift and BlueFuzz want a number; the zone lists, StdHW, StdVW, StemSnapH and StemSnapV a list of numbers. An entry of another\nkind stops an interpreter with `typecheck`, or is ignored: the hint is lost. The other rules don't look at its value.\n\n    /StdHW 30 def\n    1: font StdHW 0 Z01 value of another kind\n\n    /BlueScale 3.9e-2 def\n    1: font BlueScale 0 Z01 value of another kind\n\nCure: write `[30]`; write `.039`.",
-    },
-];
-
-static PAGES_3: [Page; 5] = [
-    Page {
-        code: "Z02",
-        anchor: "z02-too-many-zone-numbers",
-        title: "too many zone numbers",
-        text: "Level *must*: an interpreter may refuse the font, as Ghostscript does, or leave zones out.\n\nSeven zones fit in BlueValues and FamilyBlues, five in OtherBlues and FamilyOtherBlues. Rasterisers have room for no more, and drop the\nfurther ones or the whole list. INDEX is that of the first number too many.\n\n    /BlueValues [-15 0 400 410 450 460 500 510 540 550 600 610 650 660 700 710] def\n    1: font BlueValues 14 Z02 too many zone numbers\n\nCure: keep the zones of the most glyphs (baseline, x-height, capitals, ascenders, figures).",
-    },
-    Page {
-        code: "Z03",
-        anchor: "z03-odd-count-of-zone-numbers",
-        title: "odd count of zone numbers",
-        text: "Level *must*: an interpreter may refuse the font, as Ghostscript does.\n\nA bottom or a top is missing, so that all pairs behind it may be shifted: each would then span from one zone's top to the next one's bottom.\n\n    /BlueValues [-15 0 700] def\n    1: font BlueValues 0 Z03 odd count of zone numbers\n\nCure: write the missing number; a zone without height has the same number twice.",
-    },
-    Page {
-        code: "Z04",
-        anchor: "z04-zone-numbers-fall",
-        title: "zone numbers fall",
-        text: "Level *should*: heights are rounded otherwise than meant.\n\nThe numbers have to rise, within a zone and from zone to zone (equal ones don't break this rule). A zone whose top lies below its bottom\ncatches no edge.\n\n    /BlueValues [-15 0 700 690] def\n    1: font BlueValues 3 Z04 zone numbers fall\n\nHow much it matters: the zone is lost. Numbers that fall are also too near, so mostly Z05 names the same place, and one cure ends both lines. In\n1,454 real fonts this was so at each of 182 places.\n\nCure: sort the pairs, each with the lower number first. A negative overshoot at the baseline is `-15 0`, not `0 -15`.",
-    },
-    Page {
-        code: "Z05",
-        anchor: "z05-zones-too-near",
-        title: "zones too near",
-        text: "Level *should*: edges between the two zones may jump at small sizes.\n\nBlueFuzz widens each zone by so many units below and above. Two zones of a list have to lie D = 2 × BlueFuzz + 1 units apart; else an\nedge may belong to both, and similar glyphs get different heights.\n\n    /BlueValues [-15 0 520 530 532 545] def\n    1: font BlueValues 4 Z05 zones too near\n\n532 − 530 = 2, and D is 3.\n\nHow much it matters: where Z04 names the same place, mend that one. Elsewhere edges in the gap may jump.\n\nCure: make one zone of both, move them apart, or set `/BlueFuzz 0 def`, with which D is 1.",
-    },
-    Page {
-        code: "Z06",
-        anchor: "z06-zones-of-two-lists-too-near",
-        title: "zones of two lists too near",
-        text: "Level *should*: edges between the two zones may jump at small sizes.\n\nThe same between a zone of OtherBlues and one of BlueValues, and between a zone of FamilyOtherBlues and one of FamilyBlues. A zone from\na to b and one from c to d are too near where c − b < D and a − d < D, whichever lies below. The line stands at the zone of OtherBlues or\nFamilyOtherBlues, once for each such zone.\n\n    /BlueValues [-8 0] def\n    /OtherBlues [-20 -10] def\n    1: font OtherBlues 0 Z06 zones of two lists too near\n\nc − b = −8 + 10 = 2, and D is 3. Cure: as for Z05; with `/BlueFuzz 0 def` this font breaks no rule. A zone that stands in both lists is left out of\nOtherBlues, or FamilyOtherBlues.",
-    },
-];
-
-static PAGES_4: [Page; 5] = [
-    Page {
-        code: "Z07",
-        anchor: "z07-zone-too-high-for-bluescale",
-        title: "zone too high for BlueScale",
-        text: "Level *should*: at some sizes round letters stand out where they shouldn't.\n\nBlueScale says, in pixels a unit, up to which size overshoots are suppressed: all edges of a zone are then put on one line. A zone that is a whole\npixel high at that size, or more, would lose a difference that could be shown, and heights jump where suppression ends.\n\n    /BlueValues [0 26] def\n    1: font BlueValues 1 Z07 zone too high for BlueScale\n\n26 × 0.039625 = 1.03025; a height of 25 gives 0.990625 and is right.\n\nHow much it matters: often only a digit was rounded. Of 147 such places in 1,454 real fonts, 109 had a height that times BlueScale gave at least 1\nand less than 1.001. There nothing is seen, and a BlueScale whose last digit is one lower ends the line.\n\nCure: make the zone lower, or BlueScale less than 1 divided by the\nheight of the highest zone, here `/BlueScale .038 def` (26 × .038 = 0.988). Digits behind the ninth decimal are cut: 24 × 0.0416666667 is\n24 × 0.041666666 here, 0.999999984, and below 1.",
-    },
-    Page {
-        code: "Z08",
-        anchor: "z08-not-one-standard-width",
-        title: "not one standard width",
-        text: "Level *must*: an interpreter may refuse the font, as Ghostscript does where there are two.\n\nThe standard width is a list with one number. A rasteriser takes the first and ignores the rest; without any it has none to go by.\n\n    /StdVW [84 90] def\n    1: font StdVW 0 Z08 not one standard width\n\nCure: keep the most frequent width here, and write the others in StemSnapV (StemSnapH).",
-    },
-    Page {
-        code: "Z09",
-        anchor: "z09-too-many-stem-snaps",
-        title: "too many stem snaps",
-        text: "Level *should*: further widths have no effect.\n\nTwelve widths fit. Rasterisers drop the further ones or the whole list. INDEX is that of the first number too many, 12.\n\n    /StemSnapH [20 22 24 26 28 30 32 34 36 38 40 42 44] def\n    1: font StemSnapH 12 Z09 too many stem snaps\n\nCure: keep the twelve most frequent widths; those that differ by a unit or two are better given as one.",
-    },
-    Page {
-        code: "Z10",
-        anchor: "z10-stem-snaps-fall",
-        title: "stem snaps fall",
-        text: "Level *should*: an interpreter may leave widths out.\n\nThe widths have to rise: a rasteriser that looks for the nearest one in order finds a wrong one else. Only the first 12 are compared.\n\n    /StemSnapV [84 80] def\n    1: font StemSnapV 1 Z10 stem snaps fall\n\nCure: sort them.",
-    },
-    Page {
-        code: "Z11",
-        anchor: "z11-standard-width-not-among-the-snaps",
-        title: "standard width not among the snaps",
-        text: "Level *should*: stems of the usual width may be rounded otherwise than meant.\n\nStems of the standard width would be drawn with another width, as the nearest one in the list: those stems that are most frequent get uneven.\nOnly the first 12 numbers of the list count.\n\n    /StdHW [30] def\n    /StemSnapH [20 40] def\n    1: font StemSnapH 0 Z11 standard width not among the snaps\n\nCure: add the width in its place, `[20 30 40]`; or mend StdHW where it was copied from another font.",
-    },
-];
-
-static PAGES_5: [Page; 5] = [
-    Page {
-        code: "C01",
-        anchor: "c01-shorter-than-leniv",
-        title: "shorter than lenIV",
-        text: "Level *must*: the glyph can't be decrypted.\n\nIn front of each charstring stand as many random bytes as lenIV says, 4 where nothing else is said. A charstring that hasn't even these has\nno command, and some interpreters read past its end. Example: lenIV is 4, and `A` has three bytes.\n\n    /A 3 RD … ND\n    1: glyph A - 1 C01 shorter than lenIV\n    2: glyph A - 2 GE01 no endchar\n\nCure: compile the glyph again; where all glyphs have this line, mend lenIV (`/lenIV -1 def` says that charstrings aren't encrypted).",
-    },
-    Page {
-        code: "C02",
-        anchor: "c02-breaks-off-in-a-token",
-        title: "breaks off in a token",
-        text: "Level *must*: the glyph breaks off, or isn't drawn.\n\nThe last number or command isn't whole: bytes are missing, or the length in front of `RD` is too small. Example: the last three bytes of `A`\nare 255, which begins a number of four more bytes, and two zeros.\n\n    A: 0 500 hsbw, and the bytes 255 0 0\n    1: glyph A - 4 C02 breaks off in a token\n    2: glyph A - 5 GE01 no endchar\n\nCure: compile the glyph again, or take the font from its source again.",
-    },
-    Page {
-        code: "C03",
-        anchor: "c03-unknown-command",
-        title: "unknown command",
-        text: "Level *must*: interpreters stop at the command, or leave it out.\n\nThe byte is no command of Type 1 fonts. Interpreters stop at it, or draw the rest of the glyph wrongly. Commands of Type 2 charstrings, as\n`hhcurveto` (27), are unknown too, and so is each glyph's noise where lenIV is wrong.\n\n    A: 0 500 hsbw unknown 15 endchar\n    1: glyph A - 4 C03 unknown command\n\nCure: write what was meant in commands of chapter 6; convert a Type 2 charstring with a tool that knows both formats.",
-    },
-    Page {
-        code: "C04",
-        anchor: "c04-too-few-arguments",
-        title: "too few arguments",
-        text: "Level *must*: the glyph isn't drawn, or with numbers that are left from before.\n\nWhat an interpreter takes for the missing number is open: 0, or what an earlier command left in memory. So the glyph differs from one to the\nnext. Here rlineto has one number of its two.\n\n    A: 0 500 hsbw 50 hmoveto 100 rlineto closepath endchar\n    1: glyph A - 7 C04 too few arguments\n\nCure: write the missing number, or the command that was meant, here hlineto.",
-    },
-    Page {
-        code: "C05",
-        anchor: "c05-too-many-arguments",
-        title: "too many arguments",
-        text: "Level *must*: some interpreters take the lowest numbers, others the topmost.\n\nNumbers are left over, so a number or a command was lost, or the wrong command stands there. Interpreters disagree on which numbers they\ntake. Here hmoveto takes one.\n\n    A: 0 500 hsbw 50 20 hmoveto 100 hlineto closepath endchar\n    1: glyph A - 6 C05 too many arguments\n\nCure: write the command that was meant, here rmoveto, or leave the number out. Numbers in front of the end of a Subr may be meant for its\ncaller and break no rule there.",
-    },
-];
-
-static PAGES_6: [Page; 5] = [
-    Page {
-        code: "C06",
-        anchor: "c06-more-than-24-numbers",
-        title: "more than 24 numbers",
-        text: "Level *must*: an interpreter's stack overflows, and the glyph isn't drawn.\n\nAn interpreter's stack has 24 places. A further number stops it or is lost, or overwrites memory where the interpreter doesn't guard it.\nEach number past the 24th has its line. Here rlineto is given thirteen pairs of `10 20`, as a Type 2 charstring may have them.\n\n    A: 0 500 hsbw 0 hmoveto 10 20 … 10 20 rlineto closepath endchar\n    1: glyph A - 30 C06 more than 24 numbers\n    2: glyph A - 31 C06 more than 24 numbers\n    3: glyph A - 32 C05 too many arguments\n\nCure: give each command its own numbers, here thirteen times `10 20 rlineto`.",
-    },
-    Page {
-        code: "C07",
-        anchor: "c07-number-out-of-range",
-        title: "number out of range",
-        text: "Level *must*: interpreters refuse the number, or cut it.\n\nThe arguments of a command, as the way of a move or the width of a stem, may be up to 32000 either way. Greater numbers, which the format\nwrites in five bytes, are for div. Interpreters that keep 16 bits for a number draw something else.\n\n    A: 0 500 hsbw 32001 hmoveto endchar\n    1: glyph A - 5 C07 number out of range\n\nCure: mend the number. A fraction is written by div, as `5 2 div` for 2.5.",
-    },
-    Page {
-        code: "C08",
-        anchor: "c08-quotient-out-of-range",
-        title: "quotient out of range",
-        text: "Level *must*: interpreters refuse the quotient, or cut it.\n\ndiv is there to write fractions, and what it gives has to be in the range of C07.\n\n    A: 0 500 hsbw 64002 2 div hmoveto endchar\n    1: glyph A - 6 C08 quotient out of range\n\nCure: mend the numbers. The quotient is first cut to 1/65536: one that is less than 1/65536 past 32000 is 32000 then, and in range.",
-    },
-    Page {
-        code: "C09",
-        anchor: "c09-division-by-zero",
-        title: "division by zero",
-        text: "Level *must*: interpreters stop there, or go on with any number.\n\nAn interpreter stops with an error, or goes on with any number.\n\n    A: 0 500 hsbw 5 0 div hmoveto endchar\n    1: glyph A - 6 C09 division by zero\n\nCure: mend the divisor; mostly a number was lost, or a fraction was rounded to 0.",
-    },
-    Page {
-        code: "S01",
-        anchor: "s01-no-such-subr",
-        title: "no such Subr",
-        text: "Level *must*: interpreters stop at the call.\n\nThe glyph lacks what the Subr was to draw or to set, and many interpreters drop the whole glyph. Subsets of fonts that leave out a Subr too\nmany have this. A Subr past the array (F14) is there, and is called. Here the font has no Subr 4.\n\n    A: 0 500 hsbw 4 callsubr endchar\n    1: glyph A - 5 S01 no such Subr\n\nCure: add the Subr, or mend the number. A number that isn't whole, as by `11 2 div`, names none.",
-    },
-];
-
-static PAGES_7: [Page; 5] = [
-    Page {
-        code: "S02",
-        anchor: "s02-calls-nested-too-deep",
-        title: "calls nested too deep",
-        text: "Level *must*: interpreters stop at the call.\n\nTen calls may stand inside one another, and interpreters have room for no more. Mostly a Subr calls itself, straight or by way of others,\nwhich no glyph can want.\n\n    Subr 5: 5 callsubr return\n    A: 0 500 hsbw 5 callsubr endchar\n    1: glyph A 5>5>5>5>5>5>5>5>5>5 25 S02 calls nested too deep\n\nCure: mend the Subr's number; where chains of Subrs are really so long, put what the innermost ones do in their place.",
-    },
-    Page {
-        code: "S03",
-        anchor: "s03-return-outside-a-subr",
-        title: "return outside a Subr",
-        text: "Level *must*: interpreters stop at the command, or leave it out.\n\n`return` goes back to the charstring that called. In a glyph there is none: interpreters stop with an error, or end the glyph there.\n\n    A: 0 500 hsbw return endchar\n    1: glyph A - 4 S03 return outside a Subr\n\nCure: leave it out; where the glyph was to end there, write endchar.",
-    },
-    Page {
-        code: "S04",
-        anchor: "s04-subr-without-return",
-        title: "Subr without return",
-        text: "Level *must*: interpreters stop at its end, or go on in the glyph.\n\nA Subr has to end with `return`, or end the glyph by endchar or seac. Without it an interpreter reads on behind the Subr's bytes. The line\nstands at the end of the bytes, which a trace writes as `end`; it stands once for each call.\n\n    Subr 5: 100 hlineto\n    A: 0 500 hsbw 50 hmoveto 5 callsubr closepath endchar\n    1: glyph A 5 10 S04 Subr without return\n\nCure: write `return` at the Subr's end; where its bytes were cut, take it from its source again.",
-    },
-    Page {
-        code: "GE01",
-        anchor: "ge01-no-endchar",
-        title: "no endchar",
-        text: "Level *must*: interpreters refuse the glyph, or draw what they have.\n\nA glyph has to end with endchar, or with seac. Without it an interpreter reads on behind the glyph's bytes, or doesn't fill the outline. An\nempty charstring breaks this rule too.\n\n    A: 0 500 hsbw 50 hmoveto 100 hlineto closepath\n    1: glyph A - 9 GE01 no endchar\n\nCure: write endchar at the end; where the charstring was cut, take the font from its source again.",
-    },
-    Page {
-        code: "GE02",
-        anchor: "ge02-tokens-after-the-end",
-        title: "tokens after the end",
-        text: "Level *tidy*: an interpreter has ended the glyph before.\n\nWhat stands behind endchar or seac is never executed: either it is left over, or endchar stands too early and the rest of the outline is\nmissing. In a Subr one `return` may follow, since some tools end each Subr so.\n\n    A: 0 500 hsbw endchar 50 hmoveto 100 hlineto closepath endchar\n    1: glyph A - 4 GE02 tokens after the end\n\nHow much it matters: what is left over does no harm, and 19 of 1,454 real fonts have it in 690 places. An endchar that stands too early loses a part\nof the glyph: look at it once.\n\nCure: leave out what stands behind, as an endchar behind seac; or the endchar that stands too early.",
-    },
-];
-
-static PAGES_8: [Page; 5] = [
-    Page {
-        code: "W01",
-        anchor: "w01-hsbw-or-sbw-not-first",
-        title: "hsbw or sbw not first",
-        text: "Level *must*: interpreters refuse the glyph, or place it elsewhere.\n\nWithout a width in front an interpreter can't place the glyph: it stops with an error, or sets the glyph over the next one. Numbers, a call\nof a Subr and div may stand before hsbw; the first clearing command has to be hsbw or sbw.\n\n    A: 50 hmoveto 100 hlineto closepath endchar\n    1: glyph A - 2 W01 hsbw or sbw not first\n\nCure: write the sidebearing and the width in front, as `0 500 hsbw`; where they come later, move them there.",
-    },
-    Page {
-        code: "W02",
-        anchor: "w02-hsbw-or-sbw-again",
-        title: "hsbw or sbw again",
-        text: "Level *must*: interpreters draw the rest elsewhere, or refuse the glyph.\n\nA glyph has one width. A second hsbw sets the current point back as well, so that what is drawn behind it moves. Where another clearing\ncommand stands in front of the only hsbw, there are two lines: W01 at that command, and W02 at hsbw.\n\n    A: 0 500 hsbw 0 600 hsbw endchar\n    1: glyph A - 6 W02 hsbw or sbw again\n\nCure: keep the one that is right; a Subr that is called twice, or for several glyphs, shouldn't have it.",
-    },
-    Page {
-        code: "P01",
-        anchor: "p01-drawing-without-a-move",
-        title: "drawing without a move",
-        text: "Level *must*: interpreters begin the path at different points, or refuse the glyph.\n\nEach path begins with a move (rmoveto, hmoveto, vmoveto), the one behind a closepath as well. Without it interpreters stop with an error, or\njoin this path to the one before. Each line and curve of such a path has its line in the report.\n\n    A: 0 500 hsbw 100 hlineto closepath endchar\n    1: glyph A - 5 P01 drawing without a move\n\nCure: write a move in front; it may be `0 hmoveto`, which stays where it is. Flex counts as one curve: its seven moves begin no path.",
-    },
-    Page {
-        code: "P02",
-        anchor: "p02-path-not-closed",
-        title: "path not closed",
-        text: "Level *should*: a filled path looks the same, and one that is stroked stays open.\n\nclosepath is missing. A path that is filled is closed all the same, but where outlines are stroked (PaintType 2) the corner at its beginning\nstays open. Behind the last path it has to stand as well, in front of endchar.\n\n    A: 0 500 hsbw 50 hmoveto 100 hlineto endchar\n    1: glyph A - 8 P02 path not closed\n\nCure: write closepath in front of the command that the line names.",
-    },
-    Page {
-        code: "P03",
-        anchor: "p03-closepath-without-a-path",
-        title: "closepath without a path",
-        text: "Level *tidy*: no interpreter draws anything for it.\n\nThere is nothing to close: a closepath stands twice, or the lines and curves of the path are missing.\n\n    A: 0 500 hsbw 50 hmoveto closepath endchar\n    1: glyph A - 6 P03 closepath without a path\n\nHow much it matters: nothing different is drawn, unless lines are missing. No rule is broken more often: 13,842 times in 135 of 1,454 real fonts, and\n99 of these break no other rule, since some tools write each closepath twice.\n\nCure: leave the closepath out; or write what is missing. A move from which nothing is drawn can go as well, but the next one has to move as far as\nboth did: `50 hmoveto closepath 10 20 rmoveto` becomes `60 20 rmoveto`.",
-    },
-];
-
-static PAGES_9: [Page; 5] = [
-    Page {
-        code: "H01",
-        anchor: "h01-stem-after-drawing",
-        title: "stem after drawing",
-        text: "Level *should*: hints have no effect on what was drawn before.\n\nA stem holds for what is drawn behind it. Stems stand in front of the first path; what was drawn before they came has other hints than what\nfollows, and rasterisers either ignore such a stem or distort the outline. Here the stem stands behind the path that it was meant for.\n\n    A: 0 500 hsbw 50 hmoveto 100 hlineto closepath 0 20 hstem endchar\n    1: glyph A - 11 H01 stem after drawing\n\nCure: move the stem in front of the first path; where it is meant for later ones alone, put it in a Subr, and replace the hints by that.",
-    },
-    Page {
-        code: "H02",
-        anchor: "h02-stems-overlap",
-        title: "stems overlap",
-        text: "Level *should*: one of the stems has no effect, or both are moved against one another.\n\nOf two stems that overlap a rasteriser can't say which one an edge belongs to: it drops one, or moves an edge twice. Stems that only touch\ndon't overlap. A stem is compared with those of its own command, and with the first 96 of its direction since the glyph's beginning or the last\nhint replacement. Here the first stem covers 0 to 20, the second 15 to 35.\n\n    A: 0 500 hsbw 0 20 hstem 15 20 hstem endchar\n    1: glyph A - 9 H02 stems overlap\n\nA stem whose width is exactly -20 or -21 is compared by these numbers in edition 1, and overlaps nothing in edition 2. With\n`10 -20 hstem` for the second stem, which covers -10 to 10, the line is there in edition 1 alone.\n\nCure: put stems that overlap into hint sets of their own, by hint replacement; or leave one out. A Subr of stems that is called without a\nhint replacement adds them to those that hold. Where stems of one edge are meant, check by edition 2.",
-    },
-    Page {
-        code: "H03",
-        anchor: "h03-stem-of-zero-width",
-        title: "stem of zero width",
-        text: "Level *should*: the hint has no effect.\n\nSuch a stem has no stroke. Mostly a width was rounded to 0, or a number was lost: the width of `20 hstem` is 0 as well, with C04 beside it.\n\n    A: 0 500 hsbw 100 0 vstem endchar\n    1: glyph A - 6 H03 stem of zero width\n\nCure: write the stroke's width, or leave the stem out. Where one edge alone is to be held, give the stem a small width.",
-    },
-    Page {
-        code: "H04",
-        anchor: "h04-unequal-stem3",
-        title: "unequal stem3",
-        text: "Level *should*: the strokes may be drawn unequal at small sizes.\n\nhstem3 and vstem3 are for three strokes that a rasteriser keeps evenly apart, as those of `m` or of the sign `≡`: the outer two have to be\nequally wide, and the middle of the second has to be half-way between their middles. Otherwise it evens out what isn't even. Here the widths\nare 30 and 40, and the middles 65, 165 and 270.\n\n    A: 0 500 hsbw 50 30 150 30 250 40 vstem3 endchar\n    1: glyph A - 10 H04 unequal stem3\n\nHow much it matters: often a middle was rounded. Of 195 such places in 1,454 real fonts, 169 had outer strokes of equal width and a middle at most\nhalf a unit off.\n\nCure: mend the numbers where the strokes are even, here `250 30` for the third; otherwise write three stems, each by a command of its own.",
-    },
-    Page {
-        code: "R01",
-        anchor: "r01-no-pop-after-hint-replacement",
-        title: "no pop after hint replacement",
-        text: "Level *must*: a number stays behind, which a later command takes.\n\nOtherSubr 3 takes a Subr's number and gives back the number to be called: that one, or 3, a Subr that does nothing, where an interpreter\ncan't replace hints. Without pop the answer isn't looked at. The line stands at the step behind callothersubr, whatever it is.\n\n    A: 0 500 hsbw 5 1 3 callothersubr endchar\n    1: glyph A - 8 R01 no pop after hint replacement\n\nCure: write `5 1 3 callothersubr pop callsubr`, with a Subr 5 that sets the stems.",
-    },
-];
-
-static PAGES_10: [Page; 5] = [
-    Page {
-        code: "R02",
-        anchor: "r02-no-callsubr-after-hint-replacement",
-        title: "no callsubr after hint replacement",
-        text: "Level *must*: hints of both parts apply at once, or a number stays behind.\n\npop has put the number of the Subr on the stack, and callsubr has to follow at once: some interpreters know a hint replacement by this row of\ncommands. Each step counts, so a `return` in between breaks this rule as well. Here a move takes the number.\n\n    A: 0 500 hsbw 5 1 3 callothersubr pop hmoveto endchar\n    1: glyph A - 9 R02 no callsubr after hint replacement\n\nCure: write callsubr right behind pop. Subr 4, which many fonts have for it, is `1 3 callothersubr pop callsubr return`.",
-    },
-    Page {
-        code: "X01",
-        anchor: "x01-flex-inside-flex",
-        title: "flex inside flex",
-        text: "Level *must*: interpreters lose points of the curves.\n\nA flex can't hold another one. Interpreters count its points anew, or from the first start on, or stop with an error. Here the start stands\ntwice.\n\n    A: 0 500 hsbw 0 hmoveto 0 1 callothersubr 0 1 callothersubr\n       1 hmoveto 0 2 callothersubr … (seven times) 50 7 0 3 0 callothersubr pop pop setcurrentpoint closepath endchar\n    1: glyph A - 11 X01 flex inside flex\n\nCure: leave one start out; where the end of the flex before it is missing, write that.",
-    },
-    Page {
-        code: "X02",
-        anchor: "x02-flex-call-outside-flex",
-        title: "flex call outside flex",
-        text: "Level *must*: interpreters refuse the glyph, or move the point.\n\nA point or an end belongs to no flex: the start is missing, or the end stands twice. Interpreters take points that were left in memory, or\nstop with an error.\n\n    A: 0 500 hsbw 0 2 callothersubr endchar\n    1: glyph A - 6 X02 flex call outside flex\n\nCure: write the start in front of the first of the seven moves; or leave the call out.",
-    },
-    Page {
-        code: "X03",
-        anchor: "x03-command-inside-flex",
-        title: "command inside flex",
-        text: "Level *must*: interpreters lose points of the curves, or draw lines between them.\n\nBetween start and end only moves may stand, with their points. What is drawn there is drawn before the flex, from wherever its moves have\nled, and a stem there is ignored or stops an interpreter. Behind a start whose end is missing each further clearing command but\na move has this line, endchar too. Here a line stands in front of the first move.\n\n    A: 0 500 hsbw 0 hmoveto 0 1 callothersubr 5 vlineto\n       1 hmoveto 0 2 callothersubr … (seven times) 50 7 5 3 0 callothersubr pop pop setcurrentpoint closepath endchar\n    1: glyph A - 10 X03 command inside flex\n\nCure: move the command in front of the start or behind the end; what belongs to the flex is written as moves.",
-    },
-    Page {
-        code: "X04",
-        anchor: "x04-flex-points-are-not-seven-pairs",
-        title: "flex points are not seven pairs",
-        text: "Level *must*: interpreters draw other curves, or refuse the glyph.\n\nEach point stands behind one move, and there are seven of both: a reference point, and six points of two curves. Interpreters draw from what\nthey have counted, so one too many or too few spoils the rest of the glyph. A move without its point has a line at each later point and at\nthe end. Here there are six of both.\n\n    A: 0 500 hsbw 0 hmoveto 0 1 callothersubr\n       1 hmoveto 0 2 callothersubr … (six times) 50 6 0 3 0 callothersubr pop pop setcurrentpoint closepath endchar\n    1: glyph A - 44 X04 flex points are not seven pairs\n\nCure: write a point behind each move, and seven of both; a move that leads nowhere is `0 hmoveto`.",
-    },
-];
-
-static PAGES_11: [Page; 5] = [
-    Page {
-        code: "X05",
-        anchor: "x05-flex-ends-elsewhere",
-        title: "flex ends elsewhere",
-        text: "Level *must*: what comes after the curves is drawn elsewhere by some interpreters.\n\nThe end names the point where the flex ends, in the glyph's own coordinates, as hsbw and all moves, lines and curves before have led there.\nAn interpreter that draws the flex as a line takes this point, another one adds up the moves: if they differ, what follows is shifted, on one\ndevice and not on another. Here the seven moves lead to 7 0, and the end says 8 0.\n\n    A: 0 500 hsbw 0 hmoveto 0 1 callothersubr\n       1 hmoveto 0 2 callothersubr … (seven times) 50 8 0 3 0 callothersubr pop pop setcurrentpoint closepath endchar\n    1: glyph A - 49 X05 flex ends elsewhere\n\nCure: write the point, here `50 7 0`. The picture of the glyph, `t1draw A font.pfb`, says so below the fault's line: `the pen is at 7 0, the end\nnames 8 0`. Later flexes of the glyph were mostly counted on from the wrong point: their ends have this line then, and are\nmended in the same way. Where the path doesn't end where it began with the points that you have counted, the point was right: mend a move of the flex.\n\nhsbw begins at the sidebearing and 0, and closepath leaves the current point where it is. Where moves have fractions, by div, the point has to be\ntheir exact sum. To find the point by hand, begin with hsbw's first number and 0 (sbw's first two), and go through the glyph's trace,\n`t1check --trace A font.pfb`: rmoveto and rlineto add both numbers, hmoveto and hlineto the first to x, vmoveto and vlineto the first to y, rrcurveto\nits three pairs; vhcurveto adds its second and fourth number to x and its first and third to y, hvcurveto its first and second to x and its third and\nfourth to y. Behind the end of a flex count on from the point that it names, which setcurrentpoint sets.",
-    },
-    Page {
-        code: "X06",
-        anchor: "x06-setcurrentpoint-outside-flex",
-        title: "setcurrentpoint outside flex",
-        text: "Level *must*: what comes after the curves is drawn elsewhere.\n\nsetcurrentpoint tells an interpreter where an OtherSubr has led to; it moves nothing by itself. It has its place behind the end of a flex and\nthe two pops that fetch the point, and nowhere else.\n\n    A: 0 500 hsbw 50 0 setcurrentpoint endchar\n    1: glyph A - 6 X06 setcurrentpoint outside flex\n\nCure: write a move where one is meant. Behind the end of a flex write `pop pop setcurrentpoint`, with nothing between.",
-    },
-    Page {
-        code: "O01",
-        anchor: "o01-unknown-othersubr",
-        title: "unknown OtherSubr",
-        text: "Level *must*: interpreters do different things with the call.\n\nAn interpreter without PostScript doesn't know what the number means. It leaves the arguments for pop, or stops with an error, and the glyph\ndiffers between screen and paper. OtherSubrs 14 to 18, of multiple master fonts, are unknown here too.\n\n    A: 0 500 hsbw 0 4 callothersubr endchar\n    1: glyph A - 6 O01 unknown OtherSubr\n\nCure: write what the OtherSubr does in commands of chapter 6; or mend the number.",
-    },
-    Page {
-        code: "O02",
-        anchor: "o02-bad-othersubr-count",
-        title: "bad OtherSubr count",
-        text: "Level *must*: interpreters stop at the call.\n\nThe number below the OtherSubr's says how many arguments it takes. If there aren't so many, an interpreter takes what an earlier command left\nin memory, or fails. Here the Subr's number is missing in front of a hint replacement.\n\n    A: 0 500 hsbw 1 3 callothersubr endchar\n    1: glyph A - 6 O02 bad OtherSubr count\n\nCure: write the arguments, then their count, then the number of the OtherSubr.",
-    },
-    Page {
-        code: "O03",
-        anchor: "o03-wrong-count-for-this-othersubr",
-        title: "wrong count for this OtherSubr",
-        text: "Level *must*: interpreters take other numbers, or stop at the call.\n\nOtherSubr 0 takes three arguments, 1 and 2 take none, and 3 takes one. With another count it isn't executed as what it is: here it ends no\nflex.\n\n    A: 0 500 hsbw 0 0 callothersubr endchar\n    1: glyph A - 6 O03 wrong count for this OtherSubr\n\nCure: write the count that belongs to the OtherSubr, and so many arguments.",
-    },
-];
-
-static PAGES_12: [Page; 5] = [
-    Page {
-        code: "O04",
-        anchor: "o04-pop-of-nothing",
-        title: "pop of nothing",
-        text: "Level *must*: interpreters stop there, or go on with any number.\n\npop fetches a result of an OtherSubr. Where none waits, an interpreter fetches what was left there before, or fails. The end of a flex leaves\ntwo results, a hint replacement one, the start and the points none.\n\n    A: 0 500 hsbw pop endchar\n    1: glyph A - 4 O04 pop of nothing\n\nCure: leave the pop out, or write the callothersubr in front of it.",
-    },
-    Page {
-        code: "K01",
-        anchor: "k01-seac-code-is-not-0-to-255",
-        title: "seac code is not 0 to 255",
-        text: "Level *must*: interpreters refuse the glyph.\n\nAn interpreter looks a code up in a table of 256 names. Past its end it finds nothing, or whatever stands in memory. The code of a fraction is\nnone.\n\n    C: 0 500 hsbw 7 0 0 65 256 seac\n    1: glyph C - 9 K01 seac code is not 0 to 255\n\nCure: write the code that the component's name has in StandardEncoding.",
-    },
-    Page {
-        code: "K02",
-        anchor: "k02-seac-code-not-in-standardencoding",
-        title: "seac code not in StandardEncoding",
-        text: "Level *must*: a part of the glyph is missing.\n\nThere is no component: the accent is left out, or the interpreter stops with an error. Mostly the code is of another table, as the font's own\nEncoding. Here 146 is acute in ISOLatin1Encoding; in StandardEncoding that is 194. A code that is missing counts as 0, which has no name.\n\n    C: 0 500 hsbw 7 0 0 65 146 seac\n    1: glyph C - 9 K02 seac code not in StandardEncoding\n\nCure: write the code of StandardEncoding. A character whose parts aren't both there can't be made by seac: draw it as one outline.",
-    },
-    Page {
-        code: "K03",
-        anchor: "k03-seac-component-missing",
-        title: "seac component missing",
-        text: "Level *must*: a part of the glyph is missing, or interpreters refuse it.\n\nStandardEncoding names the component, but the font has no glyph of that name: the character is drawn without it, or not at all. Mostly a tool\nthat took glyphs out of the font looked at the characters in use, and not at their parts. Here acute isn't in the font.\n\n    C: 0 500 hsbw 7 0 0 65 194 seac\n    1: glyph C - 9 K03 seac component missing\n\nCure: put the glyph back; or draw the character as one outline.",
-    },
-    Page {
-        code: "K04",
-        anchor: "k04-seac-of-a-seac",
-        title: "seac of a seac",
-        text: "Level *must*: interpreters refuse the glyph, or draw a part of it.\n\nA component must be drawn by commands of its own. Many interpreters can't execute a seac inside of another, and stop, or draw the wrong part.\nA glyph that names itself has this line too. A seac behind the step limit of the edition counts as none. Here the accent is an accented character\nitself.\n\n    C: 0 500 hsbw 7 0 0 65 66 seac\n    D: 0 500 hsbw 0 0 0 65 67 seac\n    1: glyph D - 9 K04 seac of a seac\n\nCure: name the parts that have an outline; if there are three, draw the character as one outline.",
-    },
-];
-
-static PAGES_13: [Page; 5] = [
-    Page {
-        code: "K05",
-        anchor: "k05-accent-sidebearing-differs",
-        title: "accent sidebearing differs",
-        text: "Level *must*: interpreters put the accent at different places.\n\nThe standard wants ASB to be the sidebearing that the accent's own hsbw or sbw says. Some interpreters place the accent by ASB and others by the\naccent's own: if they differ, it stands further left or right on one device than on another. The base's sidebearing is nothing to this rule, nor\nis one that the accent sets behind the step limit of the edition.\n\n    C: 0 500 hsbw 9 0 0 65 66 seac\n    1: glyph C - 9 K05 accent sidebearing differs\n\nCure: write the accent's sidebearing for ASB, here 7. If it was changed by editing the accent, mend each seac that names it, and ADX with it\nwhere the accent should stay in its place.",
-    },
-    Page {
-        code: "K06",
-        anchor: "k06-seac-beside-other-commands",
-        title: "seac beside other commands",
-        text: "Level *must*: interpreters draw the other commands, or leave them out.\n\nseac is the whole of its glyph: only the width stands in front of it, by hsbw or sbw. Outlines and stems come from the components; what the\nglyph draws besides is drawn or dropped, and a stem of it is a hint for an outline that isn't its own. A move counts, in a flex too.\n\n    C: 0 500 hsbw 10 20 hstem 7 0 0 65 66 seac\n    1: glyph C - 12 K06 seac beside other commands\n\nCure: leave the other commands out; or draw the character as one outline.",
-    },
-    Page {
-        code: "K07",
-        anchor: "k07-seac-component-without-sidebearing",
-        title: "seac component without sidebearing",
-        text: "Level *must*: interpreters put the part at different places, or refuse the glyph.\n\nA component wants its hsbw or sbw like every glyph: seac places the accent by its sidebearing, and where none is set the place is open. The\ncomponent has a line as well, mostly W01. hsbw or sbw behind the step limit of the edition counts as none. Here `B` is `endchar` alone.\n\n    C: 0 500 hsbw 7 0 0 65 66 seac\n    1: glyph B - 1 W01 hsbw or sbw not first\n    2: glyph C - 9 K07 seac component without sidebearing\n\nCure: write hsbw or sbw first in the component.",
-    },
-    Page {
-        code: "L01",
-        anchor: "l01-step-limit",
-        title: "step limit",
-        text: "Level *must*: the glyph isn't checked further, and an interpreter may take as long.\n\nThe first 100,000 steps of a glyph are checked, or 1,000,000 in edition 2, and then it is left: what stands behind them\nisn't known. Real glyphs have some hundreds; but a few Subrs that call one another make a charstring that keeps a printer busy for a long\ntime. STEP and PATH are those of the first step that isn't checked. Here Subr 1 is ten times dotsection, and return; Subr 2 is ten times\n`1 callsubr`, and return; Subr 3 calls Subr 2 in this way, Subr 4 calls Subr 3, and Subr 5 calls Subr 4.\n\n    Subr 5: 4 callsubr … 4 callsubr return\n    A: 0 500 hsbw 5 callsubr endchar\n    1: glyph A 5>4>3>2>1 100001 L01 step limit\n\n`A` has 133,337 steps. In edition 2 it is clean; there the line of a glyph of more than 1,000,000 has the step 1000001.\n\nCure: `--trace A` shows which Subrs are executed again and again; mend their numbers. Where so many steps are meant, check by edition 2, or waive\nthe rule for this glyph.",
-    },
-    Page {
-        code: "U01",
-        anchor: "u01-waiver-not-used",
-        title: "waiver not used",
-        text: "Level *should*: a waiver says more than the font needs, so a fault that comes back is hidden.\n\nThe waiver leaves out nothing: the font has no glyph of that name, or the glyph doesn't break that rule. The fault was mended, or the glyph was\nrenamed or taken out; or the name or the code is misspelled, also by a byte order mark in front of the first name, which isn't\nseen; or the edition is the other one. So no waiver stays in the file that might later hide a fault that nobody means. The whole font decides, also\nwhere `--after` and `--max` leave lines out. A waiver that stands twice in the file has one line, by its first place. Here the file has the two lines\n`A GE01` and `A C05`.\n\n    A: 0 500 hsbw\n    1: waiver A C05 U01 waiver not used\n\nCure: take the line out of the file, each time that it stands there, or mend its name or its code.",
-    },
-];
-
-static PAGES_14: [Page; 5] = [
-    Page {
-        code: "E01",
-        anchor: "e01-not-a-pfa-or-pfb",
-        title: "not a PFA or PFB",
-        text: "The file begins neither with byte 128 nor with `%!`; an empty file too.\n\nPrinters and installers won't take the file as a Type 1 font either.\n\nExample: a font in another format, as TrueType or OpenType, or Type1C, which PDFs have. OpenType fonts with cubic outlines (CFF) and Type1C have\nmuch in common with Type 1, and aren't Type 1 fonts.\n\nCure: convert the font to Type 1, or name the right file. `cfftot1`, of Debian's lcdf-typetools, converts CFF. Recipes say how\nto check the fonts of a PDF.",
-    },
-    Page {
-        code: "E02",
-        anchor: "e02-bad-segment-header",
-        title: "bad segment header",
-        text: "Where a segment should begin stands another byte than 128, or 128 and a type that is none of 1, 2, 3.\n\nThe file is damaged, often by a transfer that changed line ends, or it was cut.\n\nExample: `80 04`; `80 01 00 00 00 00 41`.\n\nCure: take it from its source again, by a binary transfer.",
-    },
-    Page {
-        code: "E03",
-        anchor: "e03-segment-cut-short",
-        title: "segment cut short",
-        text: "The file ends behind a 128, inside a segment's length, or before the end of its bytes.\n\nThe file is damaged, often by a transfer that changed line ends, or it was cut.\n\nExample: `80 01 05 00 00 00 25 21 0A 0A`.\n\nCure: take it from its source again, by a binary transfer.",
-    },
-    Page {
-        code: "E04",
-        anchor: "e04-no-eexec",
-        title: "no eexec",
-        text: "The segments' bytes, joined, don't begin with `%!`; or the clear text ends without the word `eexec`.\n\nThere is no encrypted part, so no Private dictionary and no glyphs; or the first segment isn't the clear text. `eexec` in a comment, a\nstring, a procedure or an array doesn't count, nor as a key's value.\n\nExample: a file that ends before `currentfile eexec`.\n\nCure: take the font from its source again; a Type 3 or bitmap font can't be checked.",
-    },
-    Page {
-        code: "E05",
-        anchor: "e05-file-too-large",
-        title: "file too large",
-        text: "The file has more than 16,777,216 bytes.\n\nA Type 1 font of this size doesn't exist in practice.\n\nExample: a disk image, a collection of fonts.\n\nCure: name the right file.",
-    },
-];
-
-static PAGES_15: [Page; 5] = [
-    Page {
-        code: "E06",
-        anchor: "e06-encrypted-part-too-short",
-        title: "encrypted part too short",
-        text: "Fewer than four encrypted bytes stand behind `eexec`.\n\nThe file was cut, or an editor changed the encrypted bytes.\n\nExample: a file that ends behind `currentfile eexec`.\n\nCure: take it from its source again.",
-    },
-    Page {
-        code: "E07",
-        anchor: "e07-unclosed-or-too-deeply-nested-token",
-        title: "unclosed or too deeply nested token",
-        text: "A string, procedure or array isn't closed, or procedures and arrays are nested more than 32 deep (brackets inside a procedure don't count).\n\nA bracket is missing or one too many; an interpreter reads the rest of the font as part of this token.\n\nExample: `/Weight (Medium` with no `)` to follow; 33 times `[`.\n\nCure: close the token; in a string write a single parenthesis as `\\(` or `\\)`.",
-    },
-    Page {
-        code: "E08",
-        anchor: "e08-subrs-malformed",
-        title: "Subrs malformed",
-        text: "Behind `/Subrs` stands neither an empty array nor a whole number of 0 or more and `array`; or an entry isn't `dup`, number, length, a word,\nand the bytes; or the text ends inside.\n\nGlyphs call Subrs for flex and hint replacement. A length that isn't that of the bytes makes all that follows unreadable.\n\nExample: `/Subrs 4 def`; `dup -1 9 RD`.\n\nCure: write the number of Subrs and `array`, and each entry's true length and one blank behind `RD`; let an assembler write these.",
-    },
-    Page {
-        code: "E09",
-        anchor: "e09-charstrings-malformed-or-absent",
-        title: "CharStrings malformed or absent",
-        text: "Behind `/CharStrings` stands no whole number of 0 or more with `dict dup begin`; or an entry isn't a name, length, a word, and the bytes; or\nthe text ends before the `end` of the glyphs.\n\nNo glyph can be drawn, or not all.\n\nExample: `/CharStrings 4 array`; a file cut between two glyphs.\n\nCure: write the number of glyphs and `dict dup begin`, and each entry's true length and one blank behind `RD`; let an assembler write these.\nWhere the file was cut, take it from its source again.",
-    },
-    Page {
-        code: "E10",
-        anchor: "e10-leniv-out-of-range",
-        title: "lenIV out of range",
-        text: "A value of `/lenIV` is no whole number from -1 to 64, or the text ends behind the key.\n\nlenIV says how many random bytes stand in front of each charstring; if it is wrong, each glyph is noise. 4 is the usual value, -1 says that\ncharstrings aren't encrypted.\n\nExample: `/lenIV 65 def`; `/lenIV [4] def`.\n\nCure: `/lenIV 4 def`, or no such entry, with four such bytes in front of each charstring.",
-    },
-];
-
-static PAGES_16: [Page; 5] = [
-    Page {
-        code: "E11",
-        anchor: "e11-count-past-its-limit",
-        title: "count past its limit",
-        text: "The number behind `/Subrs` or `/CharStrings`, a charstring's length, or the number of different glyphs is past 65,535; or a Subr's number is\npast 65,534.\n\nNo real font comes near; mostly a number was damaged.\n\nExample: `/Subrs 65536 array`.\n\nCure: mend the number, or split the font.",
-    },
-    Page {
-        code: "E12",
-        anchor: "e12-second-subrs",
-        title: "second Subrs",
-        text: "The name `/Subrs` stands a second time in front of the glyphs, other than as a key's value.\n\nA hybrid font has Subrs for low and for high resolution, so each charstring has two meanings.\n\nExample: `/Subrs 6 array … ND` and later `/Subrs 0 array ND`.\n\nCure: check each of both as a font of its own, with one set of Subrs.",
-    },
-    Page {
-        code: "E13",
-        anchor: "e13-multiple-master-font",
-        title: "multiple master font",
-        text: "The name `/WeightVector` stands in the clear text, outside a custom Encoding and other than as a key's value.\n\nA multiple master font has several designs in one; its charstrings mix their numbers.\n\nExample: `/WeightVector [0.5 0.5] def`.\n\nCure: make a font of one instance, and check that.",
-    },
-    Page {
-        code: "E14",
-        anchor: "e14-waivers-malformed",
-        title: "waivers malformed",
-        text: "A line of the file of waivers isn't what a waiver has to be. It has to be a name, one blank (byte 32) and a code, and nothing else. The\nname has the bytes that a name in a font can have: all but zero, tab, line feed, form feed, carriage return, the blank, and `( ) < > [ ] { } / %`.\nThe code is that of a rule from C01 to L01, in capital letters. Each of these lines is malformed:\n\n    A                    no code\n    A C05 H02            two codes\n    A  C05               two blanks; so is a blank at the end, or a tab\n    /A C05               a slash\n    A F01                a rule on the font\n    A U01                the rule on waivers\n    A C10                no rule\n    % meant so           a comment\n\nThe one line on standard error is `refused: E14 waivers malformed`. This command prints the malformed lines of the file `font.waivers`, and nothing\nelse:\n\n    LC_ALL=C awk '{ line = $0; sub(/\\r$/, \"\", line) }\n        line != \"\" && line !~ (\"^[\\001-\\010\\013\\016-\\037!-$&-\\047*-.0-;=?-Z\\\\\\\\^-z|~-\\377]* \" \\\n            \"(C0[1-9]|GE0[12]|[RW]0[12]|P0[1-3]|[HOS]0[1-4]|X0[1-6]|K0[1-7]|L01)$\")' <font.waivers\n\nWith `{ print NR \": \" $0 }` in front of the last `'` it tells their numbers as well. Some awks, as busybox's, end a line at a zero byte. For these\nwrite `LC_ALL=C tr '\\000' '(' <font.waivers |` at the beginning and nothing behind the last `'`; then such a byte is shown as `(`.\n\nOne such line is enough, since it can't be said what it was to waive.\n\nCure: mend these lines, or take them out.",
-    },
-    Page {
-        code: "E15",
-        anchor: "e15-waivers-past-their-limit",
-        title: "waivers past their limit",
-        text: "The file of waivers has more than 1,048,576 bytes, so no line of it is looked at. No font needs so many waivers; mostly another file was named. The one line on standard error is `refused: E15 waivers past their\nlimit`. Example: a file of 1,048,577 line feeds; with 1,048,576 of them it is read, and waives nothing.\n\nCure: name the right file. A waiver that stands more than once can be left out but for one; `LC_ALL=C sort -u` does that.",
-    },
-];
-
 /// How many pages there are.
 pub(crate) const COUNT: usize = 85;
 
-fn pages_0() -> &'static [Page] {
-    &PAGES_0
+static PAGE_0: Page = Page {
+    code: "F01",
+    anchor: "f01-no-end-segment",
+    title: "no end segment",
+    text: "Level *should*: outlines are read, but a downloader may wait, and the file may have been cut.\n\nThe file was cut, or written by a tool that leaves the mark out. Printers' downloaders wait for it.\nExample: a PFB file without its last two bytes, `80 03`.\n\n    1: font file 0 F01 no end segment\n\nCure: write the two bytes `80 03` at the end; if other bytes are missing as well, take the font from its source again.",
+};
+
+#[tactic(auto, unfolding(crate::specs::Pages::page_0))]
+fn page_0() -> &'static Page
+    ensures { page_value result.now ≡ page_0 }
+{
+    &PAGE_0
 }
 
-fn pages_1() -> &'static [Page] {
-    &PAGES_1
+static PAGE_1: Page = Page {
+    code: "F02",
+    anchor: "f02-bytes-after-the-end-segment",
+    title: "bytes after the end segment",
+    text: "Level *tidy*: nothing reads these bytes.\n\nNothing reads these bytes: two files were put together, or a transfer filled the file up. Example: one more byte `0A` behind `80 03`.\n\n    1: font file 0 F02 bytes after the end segment\n\nCure: cut the file behind `80 03`, after a look at what stands there.",
+};
+
+#[tactic(auto, unfolding(crate::specs::Pages::page_1))]
+fn page_1() -> &'static Page
+    ensures { page_value result.now ≡ page_1 }
+{
+    &PAGE_1
 }
 
-fn pages_2() -> &'static [Page] {
-    &PAGES_2
+static PAGE_2: Page = Page {
+    code: "F03",
+    anchor: "f03-fonttype-is-not-1",
+    title: "FontType is not 1",
+    text: "Level *must*: an interpreter refuses the font, or doesn't read its charstrings. Ghostscript refuses it.\n\nBy this number a PostScript interpreter decides how it reads glyphs. With another one it doesn't use the charstrings, or refuses the font.\n\n    /FontType 3 def\n    1: font FontType 0 F03 FontType is not 1\n\nCure: `/FontType 1 def` in the clear text.",
+};
+
+#[tactic(auto, unfolding(crate::specs::Pages::page_2))]
+fn page_2() -> &'static Page
+    ensures { page_value result.now ≡ page_2 }
+{
+    &PAGE_2
 }
 
-fn pages_3() -> &'static [Page] {
-    &PAGES_3
+static PAGE_3: Page = Page {
+    code: "F04",
+    anchor: "f04-painttype-is-not-0-or-2",
+    title: "PaintType is not 0 or 2",
+    text: "Level *must*: interpreters paint something else, or nothing.\n\n0 means that outlines are filled, 2 that they are stroked with the width StrokeWidth. Type 1 fonts have no other way to be painted, so\ninterpreters fail, or paint something else than was meant.\n\n    /PaintType 1 def\n    1: font PaintType 0 F04 PaintType is not 0 or 2\n\nCure: `/PaintType 0 def`.",
+};
+
+#[tactic(auto, unfolding(crate::specs::Pages::page_3))]
+fn page_3() -> &'static Page
+    ensures { page_value result.now ≡ page_3 }
+{
+    &PAGE_3
 }
 
-fn pages_4() -> &'static [Page] {
-    &PAGES_4
+static PAGE_4: Page = Page {
+    code: "F05",
+    anchor: "f05-uniqueid-out-of-range",
+    title: "UniqueID out of range",
+    text: "Level *must*: an interpreter may refuse the font, as Ghostscript does below 0, or print another font's glyphs.\n\nA printer keeps drawn glyphs under this number, which has 24 bits. With a number past them an interpreter fails, or mixes up fonts.\nThe entry may be absent, in both dictionaries.\n\n    /UniqueID 16777216 def\n    1: font UniqueID 0 F05 UniqueID out of range\n\nCure: a registered number, one from 4000000 to 4999999 (which are for private use), or no UniqueID in either dictionary.",
+};
+
+#[tactic(auto, unfolding(crate::specs::Pages::page_4))]
+fn page_4() -> &'static Page
+    ensures { page_value result.now ≡ page_4 }
+{
+    &PAGE_4
 }
 
-fn pages_5() -> &'static [Page] {
-    &PAGES_5
+static PAGE_5: Page = Page {
+    code: "F06",
+    anchor: "f06-uniqueids-differ",
+    title: "UniqueIDs differ",
+    text: "Level *must*: a printer may print the glyphs of another font, which it has kept under the number.\n\nThe font's dictionary and Private have to name the same number. Where they differ the number is no mark of the font: a printer may ignore\nit, and draw each glyph anew, or print another font's glyphs that it has kept. Such a font was often made from another one. Where only one\ndictionary has a number this rule isn't violated.\n\n    /UniqueID 5000793 def     % in the clear text\n    /UniqueID 5000794 def     % in Private\n    1: font PrivateUniqueID 0 F06 UniqueIDs differ\n\nCure: the same number in both, a new one where the glyphs aren't those of the older font. Where Private gives it twice the later one counts: leave the\nwrong one out.",
+};
+
+#[tactic(auto, unfolding(crate::specs::Pages::page_5))]
+fn page_5() -> &'static Page
+    ensures { page_value result.now ≡ page_5 }
+{
+    &PAGE_5
 }
 
-fn pages_6() -> &'static [Page] {
-    &PAGES_6
+static PAGE_6: Page = Page {
+    code: "F07",
+    anchor: "f07-password-is-not-5839",
+    title: "password is not 5839",
+    text: "Level *must*: early interpreters refuse the font.\n\nThe format asks each font for this entry of Private; early interpreters fail without it.\n\n    /password 5838 def\n    1: font password 0 F07 password is not 5839\n\nCure: `/password 5839 def` in Private.",
+};
+
+#[tactic(auto, unfolding(crate::specs::Pages::page_6))]
+fn page_6() -> &'static Page
+    ensures { page_value result.now ≡ page_6 }
+{
+    &PAGE_6
 }
 
-fn pages_7() -> &'static [Page] {
-    &PAGES_7
+static PAGE_7: Page = Page {
+    code: "F08",
+    anchor: "f08-minfeature-is-not-16-16",
+    title: "MinFeature is not {16 16}",
+    text: "Level *tidy*: the entry has no effect on what is drawn.\n\nThis entry, too, is asked for so that early interpreters read the font; it has this value alone. An array, `[16 16]`, is taken as well.\n\n    /MinFeature {16} def\n    1: font MinFeature 0 F08 MinFeature is not {16 16}\n\nCure: `/MinFeature {16 16} def` in Private.",
+};
+
+#[tactic(auto, unfolding(crate::specs::Pages::page_7))]
+fn page_7() -> &'static Page
+    ensures { page_value result.now ≡ page_7 }
+{
+    &PAGE_7
 }
 
-fn pages_8() -> &'static [Page] {
-    &PAGES_8
+static PAGE_8: Page = Page {
+    code: "F09",
+    anchor: "f09-no-notdef",
+    title: "no .notdef",
+    text: "Level *must*: where a code has no glyph an interpreter fails.\n\nThis glyph is shown for each code and each name that has none. Without it an interpreter refuses the font, or stops at the first such\ncharacter of a text. Example: `A` is the only glyph.\n\n    /A 9 RD … ND\n    1: font CharStrings 0 F09 no .notdef\n\nCure: add a glyph `.notdef`; one with a width and no outline will do.",
+};
+
+#[tactic(auto, unfolding(crate::specs::Pages::page_8))]
+fn page_8() -> &'static Page
+    ensures { page_value result.now ≡ page_8 }
+{
+    &PAGE_8
 }
 
-fn pages_9() -> &'static [Page] {
-    &PAGES_9
+static PAGE_9: Page = Page {
+    code: "F10",
+    anchor: "f10-glyph-given-twice",
+    title: "glyph given twice",
+    text: "Level *must*: some interpreters draw the first of the two, others the last.\n\nPostScript keeps the later one, as t1check does; a reader that stops at the first match shows the earlier one. So the font can look\ndifferent on screen and on paper. The line's index counts names from 0 in the order in which they first appear.\n\n    /.notdef 9 RD … ND\n    /A 9 RD … ND\n    /A 43 RD … ND\n    1: font CharStrings 1 F10 glyph given twice\n\nCure: leave out the one that isn't wanted, and write the smaller number of glyphs in front of `dict`. This command prints the name at index 1 (with\n`3p` that at index 2, and so on):\n\n    t1disasm font.pfb | sed -n '/\\/CharStrings/,$ s/^\\/\\([^ ]*\\) {$/\\1/p' | awk '!seen[$0]++' | sed -n 2p",
+};
+
+#[tactic(auto, unfolding(crate::specs::Pages::page_9))]
+fn page_9() -> &'static Page
+    ensures { page_value result.now ≡ page_9 }
+{
+    &PAGE_9
 }
 
-fn pages_10() -> &'static [Page] {
-    &PAGES_10
+static PAGE_10: Page = Page {
+    code: "F11",
+    anchor: "f11-encoding-of-another-form",
+    title: "Encoding of another form",
+    text: "Level *must*: an interpreter may refuse the font, or give codes other glyphs.\n\nInstallers and screen drivers, such as Adobe Type Manager, don't execute PostScript: they look for `/Encoding StandardEncoding def` or\nfor a custom Encoding as above (Type 1 Format, chapters 2 and 10). In other forms they find no codes.\n\n    /Encoding ISOLatin1Encoding def\n    1: font Encoding 0 F11 Encoding of another form\n\nAn array written out in brackets and one of another size (`128 array`) are such forms too. Cure: write the codes as rows of `256 array`.",
+};
+
+#[tactic(auto, unfolding(crate::specs::Pages::page_10))]
+fn page_10() -> &'static Page
+    ensures { page_value result.now ≡ page_10 }
+{
+    &PAGE_10
 }
 
-fn pages_11() -> &'static [Page] {
-    &PAGES_11
+static PAGE_11: Page = Page {
+    code: "F12",
+    anchor: "f12-code-past-255",
+    title: "code past 255",
+    text: "Level *must*: an interpreter refuses the font, as Ghostscript does, or the code has no glyph.\n\nThe array has the codes 0 to 255. A row with another code stops an interpreter with `rangecheck` or `typecheck`: the font isn't loaded.\nt1check passes the row over. However many such rows there are, there is one line.\n\n    dup 256 /A put\n    1: font Encoding 0 F12 code past 255\n\nCure: mend the code, or leave the row out; a glyph without a code is still reached by its name.",
+};
+
+#[tactic(auto, unfolding(crate::specs::Pages::page_11))]
+fn page_11() -> &'static Page
+    ensures { page_value result.now ≡ page_11 }
+{
+    &PAGE_11
 }
 
-fn pages_12() -> &'static [Page] {
-    &PAGES_12
+static PAGE_12: Page = Page {
+    code: "F13",
+    anchor: "f13-encoded-glyph-missing",
+    title: "encoded glyph missing",
+    text: "Level *should*: `.notdef` is drawn for the code; a subset may have been cut so on purpose.\n\nThe code prints as `.notdef`. Subsets of fonts often keep the codes of the whole font; that is harmless while no text uses them. In a whole font\nit is mostly a misspelled name. Where a code is set twice its later name counts. Example: no glyph is named `Alpha`.\n\n    dup 65 /Alpha put\n    1: font Encoding 65 F13 encoded glyph missing\n\nHow much it matters: in a subset not at all, so long as its text has no such code. 43 of 1,454 real fonts have 430 such rows.\n\nCure: add the glyph, mend the name, or leave the row out.",
+};
+
+#[tactic(auto, unfolding(crate::specs::Pages::page_12))]
+fn page_12() -> &'static Page
+    ensures { page_value result.now ≡ page_12 }
+{
+    &PAGE_12
 }
 
-fn pages_13() -> &'static [Page] {
-    &PAGES_13
+static PAGE_13: Page = Page {
+    code: "F14",
+    anchor: "f14-subr-given-twice-or-past-the-array",
+    title: "Subr given twice or past the array",
+    text: "Level *must*: an interpreter refuses the font, as Ghostscript does, or calls another Subr.\n\n`/Subrs 5 array` has the numbers 0 to 4. An entry past them stops an interpreter with `rangecheck`, so that the font isn't loaded; other readers\nleave it out, and glyphs that call it break. Of two entries with one number readers take one or the other.\n\n    /Subrs 5 array\n    dup 5 7 RD … NP\n    1: font Subrs 5 F14 Subr given twice or past the array\n\nCure: write the greatest number plus 1 in front of `array`; leave out, or number anew, the entry that stands twice.",
+};
+
+#[tactic(auto, unfolding(crate::specs::Pages::page_13))]
+fn page_13() -> &'static Page
+    ensures { page_value result.now ≡ page_13 }
+{
+    &PAGE_13
 }
 
-fn pages_14() -> &'static [Page] {
-    &PAGES_14
+static PAGE_14: Page = Page {
+    code: "Z01",
+    anchor: "z01-value-of-another-kind",
+    title: "value of another kind",
+    text: "Level *must*: an interpreter may refuse the font, as Ghostscript does.\n\nBlueScale, BlueShift and BlueFuzz want a number; the zone lists, StdHW, StdVW, StemSnapH and StemSnapV a list of numbers. An entry of another\nkind stops an interpreter with `typecheck`, or is ignored: the hint is lost. The other rules don't look at its value.\n\n    /StdHW 30 def\n    1: font StdHW 0 Z01 value of another kind\n\n    /BlueScale 3.9e-2 def\n    1: font BlueScale 0 Z01 value of another kind\n\nCure: write `[30]`; write `.039`.",
+};
+
+#[tactic(auto, unfolding(crate::specs::Pages::page_14))]
+fn page_14() -> &'static Page
+    ensures { page_value result.now ≡ page_14 }
+{
+    &PAGE_14
 }
 
-fn pages_15() -> &'static [Page] {
-    &PAGES_15
+static PAGE_15: Page = Page {
+    code: "Z02",
+    anchor: "z02-too-many-zone-numbers",
+    title: "too many zone numbers",
+    text: "Level *must*: an interpreter may refuse the font, as Ghostscript does, or leave zones out.\n\nSeven zones fit in BlueValues and FamilyBlues, five in OtherBlues and FamilyOtherBlues. Rasterisers have room for no more, and drop the\nfurther ones or the whole list. INDEX is that of the first number too many.\n\n    /BlueValues [-15 0 400 410 450 460 500 510 540 550 600 610 650 660 700 710] def\n    1: font BlueValues 14 Z02 too many zone numbers\n\nCure: keep the zones of the most glyphs (baseline, x-height, capitals, ascenders, figures).",
+};
+
+#[tactic(auto, unfolding(crate::specs::Pages::page_15))]
+fn page_15() -> &'static Page
+    ensures { page_value result.now ≡ page_15 }
+{
+    &PAGE_15
 }
 
-fn pages_16() -> &'static [Page] {
-    &PAGES_16
+static PAGE_16: Page = Page {
+    code: "Z03",
+    anchor: "z03-odd-count-of-zone-numbers",
+    title: "odd count of zone numbers",
+    text: "Level *must*: an interpreter may refuse the font, as Ghostscript does.\n\nA bottom or a top is missing, so that all pairs behind it may be shifted: each would then span from one zone's top to the next one's bottom.\n\n    /BlueValues [-15 0 700] def\n    1: font BlueValues 0 Z03 odd count of zone numbers\n\nCure: write the missing number; a zone without height has the same number twice.",
+};
+
+#[tactic(auto, unfolding(crate::specs::Pages::page_16))]
+fn page_16() -> &'static Page
+    ensures { page_value result.now ≡ page_16 }
+{
+    &PAGE_16
 }
 
-/// Five of them, in the order of docs/RULES.md; none behind the last.
-fn group(number: usize) -> &'static [Page] {
-    match number {
-        0 => pages_0(),
-        1 => pages_1(),
-        2 => pages_2(),
-        3 => pages_3(),
-        4 => pages_4(),
-        5 => pages_5(),
-        6 => pages_6(),
-        7 => pages_7(),
-        8 => pages_8(),
-        9 => pages_9(),
-        10 => pages_10(),
-        11 => pages_11(),
-        12 => pages_12(),
-        13 => pages_13(),
-        14 => pages_14(),
-        15 => pages_15(),
-        16 => pages_16(),
-        _ => &[],
-    }
+static PAGE_17: Page = Page {
+    code: "Z04",
+    anchor: "z04-zone-numbers-fall",
+    title: "zone numbers fall",
+    text: "Level *should*: heights are rounded otherwise than meant.\n\nThe numbers have to rise, within a zone and from zone to zone (equal ones don't break this rule). A zone whose top lies below its bottom\ncatches no edge.\n\n    /BlueValues [-15 0 700 690] def\n    1: font BlueValues 3 Z04 zone numbers fall\n\nHow much it matters: the zone is lost. Numbers that fall are also too near, so mostly Z05 names the same place, and one cure ends both lines. In\n1,454 real fonts this was so at each of 182 places.\n\nCure: sort the pairs, each with the lower number first. A negative overshoot at the baseline is `-15 0`, not `0 -15`.",
+};
+
+#[tactic(auto, unfolding(crate::specs::Pages::page_17))]
+fn page_17() -> &'static Page
+    ensures { page_value result.now ≡ page_17 }
+{
+    &PAGE_17
 }
 
-/// The page that stands at this place of docs/RULES.md.
-pub(crate) fn page_at(place: usize) -> Option<&'static Page> {
-    group(place / 5).get(place % 5)
+static PAGE_18: Page = Page {
+    code: "Z05",
+    anchor: "z05-zones-too-near",
+    title: "zones too near",
+    text: "Level *should*: edges between the two zones may jump at small sizes.\n\nBlueFuzz widens each zone by so many units below and above. Two zones of a list have to lie D = 2 × BlueFuzz + 1 units apart; else an\nedge may belong to both, and similar glyphs get different heights.\n\n    /BlueValues [-15 0 520 530 532 545] def\n    1: font BlueValues 4 Z05 zones too near\n\n532 − 530 = 2, and D is 3.\n\nHow much it matters: where Z04 names the same place, mend that one. Elsewhere edges in the gap may jump.\n\nCure: make one zone of both, move them apart, or set `/BlueFuzz 0 def`, with which D is 1.",
+};
+
+#[tactic(auto, unfolding(crate::specs::Pages::page_18))]
+fn page_18() -> &'static Page
+    ensures { page_value result.now ≡ page_18 }
+{
+    &PAGE_18
+}
+
+static PAGE_19: Page = Page {
+    code: "Z06",
+    anchor: "z06-zones-of-two-lists-too-near",
+    title: "zones of two lists too near",
+    text: "Level *should*: edges between the two zones may jump at small sizes.\n\nThe same between a zone of OtherBlues and one of BlueValues, and between a zone of FamilyOtherBlues and one of FamilyBlues. A zone from\na to b and one from c to d are too near where c − b < D and a − d < D, whichever lies below. The line stands at the zone of OtherBlues or\nFamilyOtherBlues, once for each such zone.\n\n    /BlueValues [-8 0] def\n    /OtherBlues [-20 -10] def\n    1: font OtherBlues 0 Z06 zones of two lists too near\n\nc − b = −8 + 10 = 2, and D is 3. Cure: as for Z05; with `/BlueFuzz 0 def` this font breaks no rule. A zone that stands in both lists is left out of\nOtherBlues, or FamilyOtherBlues.",
+};
+
+#[tactic(auto, unfolding(crate::specs::Pages::page_19))]
+fn page_19() -> &'static Page
+    ensures { page_value result.now ≡ page_19 }
+{
+    &PAGE_19
+}
+
+static PAGE_20: Page = Page {
+    code: "Z07",
+    anchor: "z07-zone-too-high-for-bluescale",
+    title: "zone too high for BlueScale",
+    text: "Level *should*: at some sizes round letters stand out where they shouldn't.\n\nBlueScale says, in pixels a unit, up to which size overshoots are suppressed: all edges of a zone are then put on one line. A zone that is a whole\npixel high at that size, or more, would lose a difference that could be shown, and heights jump where suppression ends.\n\n    /BlueValues [0 26] def\n    1: font BlueValues 1 Z07 zone too high for BlueScale\n\n26 × 0.039625 = 1.03025; a height of 25 gives 0.990625 and is right.\n\nHow much it matters: often only a digit was rounded. Of 147 such places in 1,454 real fonts, 109 had a height that times BlueScale gave at least 1\nand less than 1.001. There nothing is seen, and a BlueScale whose last digit is one lower ends the line.\n\nCure: make the zone lower, or BlueScale less than 1 divided by the\nheight of the highest zone, here `/BlueScale .038 def` (26 × .038 = 0.988). Digits behind the ninth decimal are cut: 24 × 0.0416666667 is\n24 × 0.041666666 here, 0.999999984, and below 1.",
+};
+
+#[tactic(auto, unfolding(crate::specs::Pages::page_20))]
+fn page_20() -> &'static Page
+    ensures { page_value result.now ≡ page_20 }
+{
+    &PAGE_20
+}
+
+static PAGE_21: Page = Page {
+    code: "Z08",
+    anchor: "z08-not-one-standard-width",
+    title: "not one standard width",
+    text: "Level *must*: an interpreter may refuse the font, as Ghostscript does where there are two.\n\nThe standard width is a list with one number. A rasteriser takes the first and ignores the rest; without any it has none to go by.\n\n    /StdVW [84 90] def\n    1: font StdVW 0 Z08 not one standard width\n\nCure: keep the most frequent width here, and write the others in StemSnapV (StemSnapH).",
+};
+
+#[tactic(auto, unfolding(crate::specs::Pages::page_21))]
+fn page_21() -> &'static Page
+    ensures { page_value result.now ≡ page_21 }
+{
+    &PAGE_21
+}
+
+static PAGE_22: Page = Page {
+    code: "Z09",
+    anchor: "z09-too-many-stem-snaps",
+    title: "too many stem snaps",
+    text: "Level *should*: further widths have no effect.\n\nTwelve widths fit. Rasterisers drop the further ones or the whole list. INDEX is that of the first number too many, 12.\n\n    /StemSnapH [20 22 24 26 28 30 32 34 36 38 40 42 44] def\n    1: font StemSnapH 12 Z09 too many stem snaps\n\nCure: keep the twelve most frequent widths; those that differ by a unit or two are better given as one.",
+};
+
+#[tactic(auto, unfolding(crate::specs::Pages::page_22))]
+fn page_22() -> &'static Page
+    ensures { page_value result.now ≡ page_22 }
+{
+    &PAGE_22
+}
+
+static PAGE_23: Page = Page {
+    code: "Z10",
+    anchor: "z10-stem-snaps-fall",
+    title: "stem snaps fall",
+    text: "Level *should*: an interpreter may leave widths out.\n\nThe widths have to rise: a rasteriser that looks for the nearest one in order finds a wrong one else. Only the first 12 are compared.\n\n    /StemSnapV [84 80] def\n    1: font StemSnapV 1 Z10 stem snaps fall\n\nCure: sort them.",
+};
+
+#[tactic(auto, unfolding(crate::specs::Pages::page_23))]
+fn page_23() -> &'static Page
+    ensures { page_value result.now ≡ page_23 }
+{
+    &PAGE_23
+}
+
+static PAGE_24: Page = Page {
+    code: "Z11",
+    anchor: "z11-standard-width-not-among-the-snaps",
+    title: "standard width not among the snaps",
+    text: "Level *should*: stems of the usual width may be rounded otherwise than meant.\n\nStems of the standard width would be drawn with another width, as the nearest one in the list: those stems that are most frequent get uneven.\nOnly the first 12 numbers of the list count.\n\n    /StdHW [30] def\n    /StemSnapH [20 40] def\n    1: font StemSnapH 0 Z11 standard width not among the snaps\n\nCure: add the width in its place, `[20 30 40]`; or mend StdHW where it was copied from another font.",
+};
+
+#[tactic(auto, unfolding(crate::specs::Pages::page_24))]
+fn page_24() -> &'static Page
+    ensures { page_value result.now ≡ page_24 }
+{
+    &PAGE_24
+}
+
+static PAGE_25: Page = Page {
+    code: "C01",
+    anchor: "c01-shorter-than-leniv",
+    title: "shorter than lenIV",
+    text: "Level *must*: the glyph can't be decrypted.\n\nIn front of each charstring stand as many random bytes as lenIV says, 4 where nothing else is said. A charstring that hasn't even these has\nno command, and some interpreters read past its end. Example: lenIV is 4, and `A` has three bytes.\n\n    /A 3 RD … ND\n    1: glyph A - 1 C01 shorter than lenIV\n    2: glyph A - 2 GE01 no endchar\n\nCure: compile the glyph again; where all glyphs have this line, mend lenIV (`/lenIV -1 def` says that charstrings aren't encrypted).",
+};
+
+#[tactic(auto, unfolding(crate::specs::Pages::page_25))]
+fn page_25() -> &'static Page
+    ensures { page_value result.now ≡ page_25 }
+{
+    &PAGE_25
+}
+
+static PAGE_26: Page = Page {
+    code: "C02",
+    anchor: "c02-breaks-off-in-a-token",
+    title: "breaks off in a token",
+    text: "Level *must*: the glyph breaks off, or isn't drawn.\n\nThe last number or command isn't whole: bytes are missing, or the length in front of `RD` is too small. Example: the last three bytes of `A`\nare 255, which begins a number of four more bytes, and two zeros.\n\n    A: 0 500 hsbw, and the bytes 255 0 0\n    1: glyph A - 4 C02 breaks off in a token\n    2: glyph A - 5 GE01 no endchar\n\nCure: compile the glyph again, or take the font from its source again.",
+};
+
+#[tactic(auto, unfolding(crate::specs::Pages::page_26))]
+fn page_26() -> &'static Page
+    ensures { page_value result.now ≡ page_26 }
+{
+    &PAGE_26
+}
+
+static PAGE_27: Page = Page {
+    code: "C03",
+    anchor: "c03-unknown-command",
+    title: "unknown command",
+    text: "Level *must*: interpreters stop at the command, or leave it out.\n\nThe byte is no command of Type 1 fonts. Interpreters stop at it, or draw the rest of the glyph wrongly. Commands of Type 2 charstrings, as\n`hhcurveto` (27), are unknown too, and so is each glyph's noise where lenIV is wrong.\n\n    A: 0 500 hsbw unknown 15 endchar\n    1: glyph A - 4 C03 unknown command\n\nCure: write what was meant in commands of chapter 6; convert a Type 2 charstring with a tool that knows both formats.",
+};
+
+#[tactic(auto, unfolding(crate::specs::Pages::page_27))]
+fn page_27() -> &'static Page
+    ensures { page_value result.now ≡ page_27 }
+{
+    &PAGE_27
+}
+
+static PAGE_28: Page = Page {
+    code: "C04",
+    anchor: "c04-too-few-arguments",
+    title: "too few arguments",
+    text: "Level *must*: the glyph isn't drawn, or with numbers that are left from before.\n\nWhat an interpreter takes for the missing number is open: 0, or what an earlier command left in memory. So the glyph differs from one to the\nnext. Here rlineto has one number of its two.\n\n    A: 0 500 hsbw 50 hmoveto 100 rlineto closepath endchar\n    1: glyph A - 7 C04 too few arguments\n\nCure: write the missing number, or the command that was meant, here hlineto.",
+};
+
+#[tactic(auto, unfolding(crate::specs::Pages::page_28))]
+fn page_28() -> &'static Page
+    ensures { page_value result.now ≡ page_28 }
+{
+    &PAGE_28
+}
+
+static PAGE_29: Page = Page {
+    code: "C05",
+    anchor: "c05-too-many-arguments",
+    title: "too many arguments",
+    text: "Level *must*: some interpreters take the lowest numbers, others the topmost.\n\nNumbers are left over, so a number or a command was lost, or the wrong command stands there. Interpreters disagree on which numbers they\ntake. Here hmoveto takes one.\n\n    A: 0 500 hsbw 50 20 hmoveto 100 hlineto closepath endchar\n    1: glyph A - 6 C05 too many arguments\n\nCure: write the command that was meant, here rmoveto, or leave the number out. Numbers in front of the end of a Subr may be meant for its\ncaller and break no rule there.",
+};
+
+#[tactic(auto, unfolding(crate::specs::Pages::page_29))]
+fn page_29() -> &'static Page
+    ensures { page_value result.now ≡ page_29 }
+{
+    &PAGE_29
+}
+
+static PAGE_30: Page = Page {
+    code: "C06",
+    anchor: "c06-more-than-24-numbers",
+    title: "more than 24 numbers",
+    text: "Level *must*: an interpreter's stack overflows, and the glyph isn't drawn.\n\nAn interpreter's stack has 24 places. A further number stops it or is lost, or overwrites memory where the interpreter doesn't guard it.\nEach number past the 24th has its line. Here rlineto is given thirteen pairs of `10 20`, as a Type 2 charstring may have them.\n\n    A: 0 500 hsbw 0 hmoveto 10 20 … 10 20 rlineto closepath endchar\n    1: glyph A - 30 C06 more than 24 numbers\n    2: glyph A - 31 C06 more than 24 numbers\n    3: glyph A - 32 C05 too many arguments\n\nCure: give each command its own numbers, here thirteen times `10 20 rlineto`.",
+};
+
+#[tactic(auto, unfolding(crate::specs::Pages::page_30))]
+fn page_30() -> &'static Page
+    ensures { page_value result.now ≡ page_30 }
+{
+    &PAGE_30
+}
+
+static PAGE_31: Page = Page {
+    code: "C07",
+    anchor: "c07-number-out-of-range",
+    title: "number out of range",
+    text: "Level *must*: interpreters refuse the number, or cut it.\n\nThe arguments of a command, as the way of a move or the width of a stem, may be up to 32000 either way. Greater numbers, which the format\nwrites in five bytes, are for div. Interpreters that keep 16 bits for a number draw something else.\n\n    A: 0 500 hsbw 32001 hmoveto endchar\n    1: glyph A - 5 C07 number out of range\n\nCure: mend the number. A fraction is written by div, as `5 2 div` for 2.5.",
+};
+
+#[tactic(auto, unfolding(crate::specs::Pages::page_31))]
+fn page_31() -> &'static Page
+    ensures { page_value result.now ≡ page_31 }
+{
+    &PAGE_31
+}
+
+static PAGE_32: Page = Page {
+    code: "C08",
+    anchor: "c08-quotient-out-of-range",
+    title: "quotient out of range",
+    text: "Level *must*: interpreters refuse the quotient, or cut it.\n\ndiv is there to write fractions, and what it gives has to be in the range of C07.\n\n    A: 0 500 hsbw 64002 2 div hmoveto endchar\n    1: glyph A - 6 C08 quotient out of range\n\nCure: mend the numbers. The quotient is first cut to 1/65536: one that is less than 1/65536 past 32000 is 32000 then, and in range.",
+};
+
+#[tactic(auto, unfolding(crate::specs::Pages::page_32))]
+fn page_32() -> &'static Page
+    ensures { page_value result.now ≡ page_32 }
+{
+    &PAGE_32
+}
+
+static PAGE_33: Page = Page {
+    code: "C09",
+    anchor: "c09-division-by-zero",
+    title: "division by zero",
+    text: "Level *must*: interpreters stop there, or go on with any number.\n\nAn interpreter stops with an error, or goes on with any number.\n\n    A: 0 500 hsbw 5 0 div hmoveto endchar\n    1: glyph A - 6 C09 division by zero\n\nCure: mend the divisor; mostly a number was lost, or a fraction was rounded to 0.",
+};
+
+#[tactic(auto, unfolding(crate::specs::Pages::page_33))]
+fn page_33() -> &'static Page
+    ensures { page_value result.now ≡ page_33 }
+{
+    &PAGE_33
+}
+
+static PAGE_34: Page = Page {
+    code: "S01",
+    anchor: "s01-no-such-subr",
+    title: "no such Subr",
+    text: "Level *must*: interpreters stop at the call.\n\nThe glyph lacks what the Subr was to draw or to set, and many interpreters drop the whole glyph. Subsets of fonts that leave out a Subr too\nmany have this. A Subr past the array (F14) is there, and is called. Here the font has no Subr 4.\n\n    A: 0 500 hsbw 4 callsubr endchar\n    1: glyph A - 5 S01 no such Subr\n\nCure: add the Subr, or mend the number. A number that isn't whole, as by `11 2 div`, names none.",
+};
+
+#[tactic(auto, unfolding(crate::specs::Pages::page_34))]
+fn page_34() -> &'static Page
+    ensures { page_value result.now ≡ page_34 }
+{
+    &PAGE_34
+}
+
+static PAGE_35: Page = Page {
+    code: "S02",
+    anchor: "s02-calls-nested-too-deep",
+    title: "calls nested too deep",
+    text: "Level *must*: interpreters stop at the call.\n\nTen calls may stand inside one another, and interpreters have room for no more. Mostly a Subr calls itself, straight or by way of others,\nwhich no glyph can want.\n\n    Subr 5: 5 callsubr return\n    A: 0 500 hsbw 5 callsubr endchar\n    1: glyph A 5>5>5>5>5>5>5>5>5>5 25 S02 calls nested too deep\n\nCure: mend the Subr's number; where chains of Subrs are really so long, put what the innermost ones do in their place.",
+};
+
+#[tactic(auto, unfolding(crate::specs::Pages::page_35))]
+fn page_35() -> &'static Page
+    ensures { page_value result.now ≡ page_35 }
+{
+    &PAGE_35
+}
+
+static PAGE_36: Page = Page {
+    code: "S03",
+    anchor: "s03-return-outside-a-subr",
+    title: "return outside a Subr",
+    text: "Level *must*: interpreters stop at the command, or leave it out.\n\n`return` goes back to the charstring that called. In a glyph there is none: interpreters stop with an error, or end the glyph there.\n\n    A: 0 500 hsbw return endchar\n    1: glyph A - 4 S03 return outside a Subr\n\nCure: leave it out; where the glyph was to end there, write endchar.",
+};
+
+#[tactic(auto, unfolding(crate::specs::Pages::page_36))]
+fn page_36() -> &'static Page
+    ensures { page_value result.now ≡ page_36 }
+{
+    &PAGE_36
+}
+
+static PAGE_37: Page = Page {
+    code: "S04",
+    anchor: "s04-subr-without-return",
+    title: "Subr without return",
+    text: "Level *must*: interpreters stop at its end, or go on in the glyph.\n\nA Subr has to end with `return`, or end the glyph by endchar or seac. Without it an interpreter reads on behind the Subr's bytes. The line\nstands at the end of the bytes, which a trace writes as `end`; it stands once for each call.\n\n    Subr 5: 100 hlineto\n    A: 0 500 hsbw 50 hmoveto 5 callsubr closepath endchar\n    1: glyph A 5 10 S04 Subr without return\n\nCure: write `return` at the Subr's end; where its bytes were cut, take it from its source again.",
+};
+
+#[tactic(auto, unfolding(crate::specs::Pages::page_37))]
+fn page_37() -> &'static Page
+    ensures { page_value result.now ≡ page_37 }
+{
+    &PAGE_37
+}
+
+static PAGE_38: Page = Page {
+    code: "GE01",
+    anchor: "ge01-no-endchar",
+    title: "no endchar",
+    text: "Level *must*: interpreters refuse the glyph, or draw what they have.\n\nA glyph has to end with endchar, or with seac. Without it an interpreter reads on behind the glyph's bytes, or doesn't fill the outline. An\nempty charstring breaks this rule too.\n\n    A: 0 500 hsbw 50 hmoveto 100 hlineto closepath\n    1: glyph A - 9 GE01 no endchar\n\nCure: write endchar at the end; where the charstring was cut, take the font from its source again.",
+};
+
+#[tactic(auto, unfolding(crate::specs::Pages::page_38))]
+fn page_38() -> &'static Page
+    ensures { page_value result.now ≡ page_38 }
+{
+    &PAGE_38
+}
+
+static PAGE_39: Page = Page {
+    code: "GE02",
+    anchor: "ge02-tokens-after-the-end",
+    title: "tokens after the end",
+    text: "Level *tidy*: an interpreter has ended the glyph before.\n\nWhat stands behind endchar or seac is never executed: either it is left over, or endchar stands too early and the rest of the outline is\nmissing. In a Subr one `return` may follow, since some tools end each Subr so.\n\n    A: 0 500 hsbw endchar 50 hmoveto 100 hlineto closepath endchar\n    1: glyph A - 4 GE02 tokens after the end\n\nHow much it matters: what is left over does no harm, and 19 of 1,454 real fonts have it in 690 places. An endchar that stands too early loses a part\nof the glyph: look at it once.\n\nCure: leave out what stands behind, as an endchar behind seac; or the endchar that stands too early.",
+};
+
+#[tactic(auto, unfolding(crate::specs::Pages::page_39))]
+fn page_39() -> &'static Page
+    ensures { page_value result.now ≡ page_39 }
+{
+    &PAGE_39
+}
+
+static PAGE_40: Page = Page {
+    code: "W01",
+    anchor: "w01-hsbw-or-sbw-not-first",
+    title: "hsbw or sbw not first",
+    text: "Level *must*: interpreters refuse the glyph, or place it elsewhere.\n\nWithout a width in front an interpreter can't place the glyph: it stops with an error, or sets the glyph over the next one. Numbers, a call\nof a Subr and div may stand before hsbw; the first clearing command has to be hsbw or sbw.\n\n    A: 50 hmoveto 100 hlineto closepath endchar\n    1: glyph A - 2 W01 hsbw or sbw not first\n\nCure: write the sidebearing and the width in front, as `0 500 hsbw`; where they come later, move them there.",
+};
+
+#[tactic(auto, unfolding(crate::specs::Pages::page_40))]
+fn page_40() -> &'static Page
+    ensures { page_value result.now ≡ page_40 }
+{
+    &PAGE_40
+}
+
+static PAGE_41: Page = Page {
+    code: "W02",
+    anchor: "w02-hsbw-or-sbw-again",
+    title: "hsbw or sbw again",
+    text: "Level *must*: interpreters draw the rest elsewhere, or refuse the glyph.\n\nA glyph has one width. A second hsbw sets the current point back as well, so that what is drawn behind it moves. Where another clearing\ncommand stands in front of the only hsbw, there are two lines: W01 at that command, and W02 at hsbw.\n\n    A: 0 500 hsbw 0 600 hsbw endchar\n    1: glyph A - 6 W02 hsbw or sbw again\n\nCure: keep the one that is right; a Subr that is called twice, or for several glyphs, shouldn't have it.",
+};
+
+#[tactic(auto, unfolding(crate::specs::Pages::page_41))]
+fn page_41() -> &'static Page
+    ensures { page_value result.now ≡ page_41 }
+{
+    &PAGE_41
+}
+
+static PAGE_42: Page = Page {
+    code: "P01",
+    anchor: "p01-drawing-without-a-move",
+    title: "drawing without a move",
+    text: "Level *must*: interpreters begin the path at different points, or refuse the glyph.\n\nEach path begins with a move (rmoveto, hmoveto, vmoveto), the one behind a closepath as well. Without it interpreters stop with an error, or\njoin this path to the one before. Each line and curve of such a path has its line in the report.\n\n    A: 0 500 hsbw 100 hlineto closepath endchar\n    1: glyph A - 5 P01 drawing without a move\n\nCure: write a move in front; it may be `0 hmoveto`, which stays where it is. Flex counts as one curve: its seven moves begin no path.",
+};
+
+#[tactic(auto, unfolding(crate::specs::Pages::page_42))]
+fn page_42() -> &'static Page
+    ensures { page_value result.now ≡ page_42 }
+{
+    &PAGE_42
+}
+
+static PAGE_43: Page = Page {
+    code: "P02",
+    anchor: "p02-path-not-closed",
+    title: "path not closed",
+    text: "Level *should*: a filled path looks the same, and one that is stroked stays open.\n\nclosepath is missing. A path that is filled is closed all the same, but where outlines are stroked (PaintType 2) the corner at its beginning\nstays open. Behind the last path it has to stand as well, in front of endchar.\n\n    A: 0 500 hsbw 50 hmoveto 100 hlineto endchar\n    1: glyph A - 8 P02 path not closed\n\nCure: write closepath in front of the command that the line names.",
+};
+
+#[tactic(auto, unfolding(crate::specs::Pages::page_43))]
+fn page_43() -> &'static Page
+    ensures { page_value result.now ≡ page_43 }
+{
+    &PAGE_43
+}
+
+static PAGE_44: Page = Page {
+    code: "P03",
+    anchor: "p03-closepath-without-a-path",
+    title: "closepath without a path",
+    text: "Level *tidy*: no interpreter draws anything for it.\n\nThere is nothing to close: a closepath stands twice, or the lines and curves of the path are missing.\n\n    A: 0 500 hsbw 50 hmoveto closepath endchar\n    1: glyph A - 6 P03 closepath without a path\n\nHow much it matters: nothing different is drawn, unless lines are missing. No rule is broken more often: 13,842 times in 135 of 1,454 real fonts, and\n99 of these break no other rule, since some tools write each closepath twice.\n\nCure: leave the closepath out; or write what is missing. A move from which nothing is drawn can go as well, but the next one has to move as far as\nboth did: `50 hmoveto closepath 10 20 rmoveto` becomes `60 20 rmoveto`.",
+};
+
+#[tactic(auto, unfolding(crate::specs::Pages::page_44))]
+fn page_44() -> &'static Page
+    ensures { page_value result.now ≡ page_44 }
+{
+    &PAGE_44
+}
+
+static PAGE_45: Page = Page {
+    code: "H01",
+    anchor: "h01-stem-after-drawing",
+    title: "stem after drawing",
+    text: "Level *should*: hints have no effect on what was drawn before.\n\nA stem holds for what is drawn behind it. Stems stand in front of the first path; what was drawn before they came has other hints than what\nfollows, and rasterisers either ignore such a stem or distort the outline. Here the stem stands behind the path that it was meant for.\n\n    A: 0 500 hsbw 50 hmoveto 100 hlineto closepath 0 20 hstem endchar\n    1: glyph A - 11 H01 stem after drawing\n\nCure: move the stem in front of the first path; where it is meant for later ones alone, put it in a Subr, and replace the hints by that.",
+};
+
+#[tactic(auto, unfolding(crate::specs::Pages::page_45))]
+fn page_45() -> &'static Page
+    ensures { page_value result.now ≡ page_45 }
+{
+    &PAGE_45
+}
+
+static PAGE_46: Page = Page {
+    code: "H02",
+    anchor: "h02-stems-overlap",
+    title: "stems overlap",
+    text: "Level *should*: one of the stems has no effect, or both are moved against one another.\n\nOf two stems that overlap a rasteriser can't say which one an edge belongs to: it drops one, or moves an edge twice. Stems that only touch\ndon't overlap. A stem is compared with those of its own command, and with the first 96 of its direction since the glyph's beginning or the last\nhint replacement. Here the first stem covers 0 to 20, the second 15 to 35.\n\n    A: 0 500 hsbw 0 20 hstem 15 20 hstem endchar\n    1: glyph A - 9 H02 stems overlap\n\nA stem whose width is exactly -20 or -21 is compared by these numbers in edition 1, and overlaps nothing in edition 2. With\n`10 -20 hstem` for the second stem, which covers -10 to 10, the line is there in edition 1 alone.\n\nCure: put stems that overlap into hint sets of their own, by hint replacement; or leave one out. A Subr of stems that is called without a\nhint replacement adds them to those that hold. Where stems of one edge are meant, check by edition 2.",
+};
+
+#[tactic(auto, unfolding(crate::specs::Pages::page_46))]
+fn page_46() -> &'static Page
+    ensures { page_value result.now ≡ page_46 }
+{
+    &PAGE_46
+}
+
+static PAGE_47: Page = Page {
+    code: "H03",
+    anchor: "h03-stem-of-zero-width",
+    title: "stem of zero width",
+    text: "Level *should*: the hint has no effect.\n\nSuch a stem has no stroke. Mostly a width was rounded to 0, or a number was lost: the width of `20 hstem` is 0 as well, with C04 beside it.\n\n    A: 0 500 hsbw 100 0 vstem endchar\n    1: glyph A - 6 H03 stem of zero width\n\nCure: write the stroke's width, or leave the stem out. Where one edge alone is to be held, give the stem a small width.",
+};
+
+#[tactic(auto, unfolding(crate::specs::Pages::page_47))]
+fn page_47() -> &'static Page
+    ensures { page_value result.now ≡ page_47 }
+{
+    &PAGE_47
+}
+
+static PAGE_48: Page = Page {
+    code: "H04",
+    anchor: "h04-unequal-stem3",
+    title: "unequal stem3",
+    text: "Level *should*: the strokes may be drawn unequal at small sizes.\n\nhstem3 and vstem3 are for three strokes that a rasteriser keeps evenly apart, as those of `m` or of the sign `≡`: the outer two have to be\nequally wide, and the middle of the second has to be half-way between their middles. Otherwise it evens out what isn't even. Here the widths\nare 30 and 40, and the middles 65, 165 and 270.\n\n    A: 0 500 hsbw 50 30 150 30 250 40 vstem3 endchar\n    1: glyph A - 10 H04 unequal stem3\n\nHow much it matters: often a middle was rounded. Of 195 such places in 1,454 real fonts, 169 had outer strokes of equal width and a middle at most\nhalf a unit off.\n\nCure: mend the numbers where the strokes are even, here `250 30` for the third; otherwise write three stems, each by a command of its own.",
+};
+
+#[tactic(auto, unfolding(crate::specs::Pages::page_48))]
+fn page_48() -> &'static Page
+    ensures { page_value result.now ≡ page_48 }
+{
+    &PAGE_48
+}
+
+static PAGE_49: Page = Page {
+    code: "R01",
+    anchor: "r01-no-pop-after-hint-replacement",
+    title: "no pop after hint replacement",
+    text: "Level *must*: a number stays behind, which a later command takes.\n\nOtherSubr 3 takes a Subr's number and gives back the number to be called: that one, or 3, a Subr that does nothing, where an interpreter\ncan't replace hints. Without pop the answer isn't looked at. The line stands at the step behind callothersubr, whatever it is.\n\n    A: 0 500 hsbw 5 1 3 callothersubr endchar\n    1: glyph A - 8 R01 no pop after hint replacement\n\nCure: write `5 1 3 callothersubr pop callsubr`, with a Subr 5 that sets the stems.",
+};
+
+#[tactic(auto, unfolding(crate::specs::Pages::page_49))]
+fn page_49() -> &'static Page
+    ensures { page_value result.now ≡ page_49 }
+{
+    &PAGE_49
+}
+
+static PAGE_50: Page = Page {
+    code: "R02",
+    anchor: "r02-no-callsubr-after-hint-replacement",
+    title: "no callsubr after hint replacement",
+    text: "Level *must*: hints of both parts apply at once, or a number stays behind.\n\npop has put the number of the Subr on the stack, and callsubr has to follow at once: some interpreters know a hint replacement by this row of\ncommands. Each step counts, so a `return` in between breaks this rule as well. Here a move takes the number.\n\n    A: 0 500 hsbw 5 1 3 callothersubr pop hmoveto endchar\n    1: glyph A - 9 R02 no callsubr after hint replacement\n\nCure: write callsubr right behind pop. Subr 4, which many fonts have for it, is `1 3 callothersubr pop callsubr return`.",
+};
+
+#[tactic(auto, unfolding(crate::specs::Pages::page_50))]
+fn page_50() -> &'static Page
+    ensures { page_value result.now ≡ page_50 }
+{
+    &PAGE_50
+}
+
+static PAGE_51: Page = Page {
+    code: "X01",
+    anchor: "x01-flex-inside-flex",
+    title: "flex inside flex",
+    text: "Level *must*: interpreters lose points of the curves.\n\nA flex can't hold another one. Interpreters count its points anew, or from the first start on, or stop with an error. Here the start stands\ntwice.\n\n    A: 0 500 hsbw 0 hmoveto 0 1 callothersubr 0 1 callothersubr\n       1 hmoveto 0 2 callothersubr … (seven times) 50 7 0 3 0 callothersubr pop pop setcurrentpoint closepath endchar\n    1: glyph A - 11 X01 flex inside flex\n\nCure: leave one start out; where the end of the flex before it is missing, write that.",
+};
+
+#[tactic(auto, unfolding(crate::specs::Pages::page_51))]
+fn page_51() -> &'static Page
+    ensures { page_value result.now ≡ page_51 }
+{
+    &PAGE_51
+}
+
+static PAGE_52: Page = Page {
+    code: "X02",
+    anchor: "x02-flex-call-outside-flex",
+    title: "flex call outside flex",
+    text: "Level *must*: interpreters refuse the glyph, or move the point.\n\nA point or an end belongs to no flex: the start is missing, or the end stands twice. Interpreters take points that were left in memory, or\nstop with an error.\n\n    A: 0 500 hsbw 0 2 callothersubr endchar\n    1: glyph A - 6 X02 flex call outside flex\n\nCure: write the start in front of the first of the seven moves; or leave the call out.",
+};
+
+#[tactic(auto, unfolding(crate::specs::Pages::page_52))]
+fn page_52() -> &'static Page
+    ensures { page_value result.now ≡ page_52 }
+{
+    &PAGE_52
+}
+
+static PAGE_53: Page = Page {
+    code: "X03",
+    anchor: "x03-command-inside-flex",
+    title: "command inside flex",
+    text: "Level *must*: interpreters lose points of the curves, or draw lines between them.\n\nBetween start and end only moves may stand, with their points. What is drawn there is drawn before the flex, from wherever its moves have\nled, and a stem there is ignored or stops an interpreter. Behind a start whose end is missing each further clearing command but\na move has this line, endchar too. Here a line stands in front of the first move.\n\n    A: 0 500 hsbw 0 hmoveto 0 1 callothersubr 5 vlineto\n       1 hmoveto 0 2 callothersubr … (seven times) 50 7 5 3 0 callothersubr pop pop setcurrentpoint closepath endchar\n    1: glyph A - 10 X03 command inside flex\n\nCure: move the command in front of the start or behind the end; what belongs to the flex is written as moves.",
+};
+
+#[tactic(auto, unfolding(crate::specs::Pages::page_53))]
+fn page_53() -> &'static Page
+    ensures { page_value result.now ≡ page_53 }
+{
+    &PAGE_53
+}
+
+static PAGE_54: Page = Page {
+    code: "X04",
+    anchor: "x04-flex-points-are-not-seven-pairs",
+    title: "flex points are not seven pairs",
+    text: "Level *must*: interpreters draw other curves, or refuse the glyph.\n\nEach point stands behind one move, and there are seven of both: a reference point, and six points of two curves. Interpreters draw from what\nthey have counted, so one too many or too few spoils the rest of the glyph. A move without its point has a line at each later point and at\nthe end. Here there are six of both.\n\n    A: 0 500 hsbw 0 hmoveto 0 1 callothersubr\n       1 hmoveto 0 2 callothersubr … (six times) 50 6 0 3 0 callothersubr pop pop setcurrentpoint closepath endchar\n    1: glyph A - 44 X04 flex points are not seven pairs\n\nCure: write a point behind each move, and seven of both; a move that leads nowhere is `0 hmoveto`.",
+};
+
+#[tactic(auto, unfolding(crate::specs::Pages::page_54))]
+fn page_54() -> &'static Page
+    ensures { page_value result.now ≡ page_54 }
+{
+    &PAGE_54
+}
+
+static PAGE_55: Page = Page {
+    code: "X05",
+    anchor: "x05-flex-ends-elsewhere",
+    title: "flex ends elsewhere",
+    text: "Level *must*: what comes after the curves is drawn elsewhere by some interpreters.\n\nThe end names the point where the flex ends, in the glyph's own coordinates, as hsbw and all moves, lines and curves before have led there.\nAn interpreter that draws the flex as a line takes this point, another one adds up the moves: if they differ, what follows is shifted, on one\ndevice and not on another. Here the seven moves lead to 7 0, and the end says 8 0.\n\n    A: 0 500 hsbw 0 hmoveto 0 1 callothersubr\n       1 hmoveto 0 2 callothersubr … (seven times) 50 8 0 3 0 callothersubr pop pop setcurrentpoint closepath endchar\n    1: glyph A - 49 X05 flex ends elsewhere\n\nCure: write the point, here `50 7 0`. The picture of the glyph, `t1draw A font.pfb`, says so below the fault's line: `the pen is at 7 0, the end\nnames 8 0`. Later flexes of the glyph were mostly counted on from the wrong point: their ends have this line then, and are\nmended in the same way. Where the path doesn't end where it began with the points that you have counted, the point was right: mend a move of the flex.\n\nhsbw begins at the sidebearing and 0, and closepath leaves the current point where it is. Where moves have fractions, by div, the point has to be\ntheir exact sum. To find the point by hand, begin with hsbw's first number and 0 (sbw's first two), and go through the glyph's trace,\n`t1check --trace A font.pfb`: rmoveto and rlineto add both numbers, hmoveto and hlineto the first to x, vmoveto and vlineto the first to y, rrcurveto\nits three pairs; vhcurveto adds its second and fourth number to x and its first and third to y, hvcurveto its first and second to x and its third and\nfourth to y. Behind the end of a flex count on from the point that it names, which setcurrentpoint sets.",
+};
+
+#[tactic(auto, unfolding(crate::specs::Pages::page_55))]
+fn page_55() -> &'static Page
+    ensures { page_value result.now ≡ page_55 }
+{
+    &PAGE_55
+}
+
+static PAGE_56: Page = Page {
+    code: "X06",
+    anchor: "x06-setcurrentpoint-outside-flex",
+    title: "setcurrentpoint outside flex",
+    text: "Level *must*: what comes after the curves is drawn elsewhere.\n\nsetcurrentpoint tells an interpreter where an OtherSubr has led to; it moves nothing by itself. It has its place behind the end of a flex and\nthe two pops that fetch the point, and nowhere else.\n\n    A: 0 500 hsbw 50 0 setcurrentpoint endchar\n    1: glyph A - 6 X06 setcurrentpoint outside flex\n\nCure: write a move where one is meant. Behind the end of a flex write `pop pop setcurrentpoint`, with nothing between.",
+};
+
+#[tactic(auto, unfolding(crate::specs::Pages::page_56))]
+fn page_56() -> &'static Page
+    ensures { page_value result.now ≡ page_56 }
+{
+    &PAGE_56
+}
+
+static PAGE_57: Page = Page {
+    code: "O01",
+    anchor: "o01-unknown-othersubr",
+    title: "unknown OtherSubr",
+    text: "Level *must*: interpreters do different things with the call.\n\nAn interpreter without PostScript doesn't know what the number means. It leaves the arguments for pop, or stops with an error, and the glyph\ndiffers between screen and paper. OtherSubrs 14 to 18, of multiple master fonts, are unknown here too.\n\n    A: 0 500 hsbw 0 4 callothersubr endchar\n    1: glyph A - 6 O01 unknown OtherSubr\n\nCure: write what the OtherSubr does in commands of chapter 6; or mend the number.",
+};
+
+#[tactic(auto, unfolding(crate::specs::Pages::page_57))]
+fn page_57() -> &'static Page
+    ensures { page_value result.now ≡ page_57 }
+{
+    &PAGE_57
+}
+
+static PAGE_58: Page = Page {
+    code: "O02",
+    anchor: "o02-bad-othersubr-count",
+    title: "bad OtherSubr count",
+    text: "Level *must*: interpreters stop at the call.\n\nThe number below the OtherSubr's says how many arguments it takes. If there aren't so many, an interpreter takes what an earlier command left\nin memory, or fails. Here the Subr's number is missing in front of a hint replacement.\n\n    A: 0 500 hsbw 1 3 callothersubr endchar\n    1: glyph A - 6 O02 bad OtherSubr count\n\nCure: write the arguments, then their count, then the number of the OtherSubr.",
+};
+
+#[tactic(auto, unfolding(crate::specs::Pages::page_58))]
+fn page_58() -> &'static Page
+    ensures { page_value result.now ≡ page_58 }
+{
+    &PAGE_58
+}
+
+static PAGE_59: Page = Page {
+    code: "O03",
+    anchor: "o03-wrong-count-for-this-othersubr",
+    title: "wrong count for this OtherSubr",
+    text: "Level *must*: interpreters take other numbers, or stop at the call.\n\nOtherSubr 0 takes three arguments, 1 and 2 take none, and 3 takes one. With another count it isn't executed as what it is: here it ends no\nflex.\n\n    A: 0 500 hsbw 0 0 callothersubr endchar\n    1: glyph A - 6 O03 wrong count for this OtherSubr\n\nCure: write the count that belongs to the OtherSubr, and so many arguments.",
+};
+
+#[tactic(auto, unfolding(crate::specs::Pages::page_59))]
+fn page_59() -> &'static Page
+    ensures { page_value result.now ≡ page_59 }
+{
+    &PAGE_59
+}
+
+static PAGE_60: Page = Page {
+    code: "O04",
+    anchor: "o04-pop-of-nothing",
+    title: "pop of nothing",
+    text: "Level *must*: interpreters stop there, or go on with any number.\n\npop fetches a result of an OtherSubr. Where none waits, an interpreter fetches what was left there before, or fails. The end of a flex leaves\ntwo results, a hint replacement one, the start and the points none.\n\n    A: 0 500 hsbw pop endchar\n    1: glyph A - 4 O04 pop of nothing\n\nCure: leave the pop out, or write the callothersubr in front of it.",
+};
+
+#[tactic(auto, unfolding(crate::specs::Pages::page_60))]
+fn page_60() -> &'static Page
+    ensures { page_value result.now ≡ page_60 }
+{
+    &PAGE_60
+}
+
+static PAGE_61: Page = Page {
+    code: "K01",
+    anchor: "k01-seac-code-is-not-0-to-255",
+    title: "seac code is not 0 to 255",
+    text: "Level *must*: interpreters refuse the glyph.\n\nAn interpreter looks a code up in a table of 256 names. Past its end it finds nothing, or whatever stands in memory. The code of a fraction is\nnone.\n\n    C: 0 500 hsbw 7 0 0 65 256 seac\n    1: glyph C - 9 K01 seac code is not 0 to 255\n\nCure: write the code that the component's name has in StandardEncoding.",
+};
+
+#[tactic(auto, unfolding(crate::specs::Pages::page_61))]
+fn page_61() -> &'static Page
+    ensures { page_value result.now ≡ page_61 }
+{
+    &PAGE_61
+}
+
+static PAGE_62: Page = Page {
+    code: "K02",
+    anchor: "k02-seac-code-not-in-standardencoding",
+    title: "seac code not in StandardEncoding",
+    text: "Level *must*: a part of the glyph is missing.\n\nThere is no component: the accent is left out, or the interpreter stops with an error. Mostly the code is of another table, as the font's own\nEncoding. Here 146 is acute in ISOLatin1Encoding; in StandardEncoding that is 194. A code that is missing counts as 0, which has no name.\n\n    C: 0 500 hsbw 7 0 0 65 146 seac\n    1: glyph C - 9 K02 seac code not in StandardEncoding\n\nCure: write the code of StandardEncoding. A character whose parts aren't both there can't be made by seac: draw it as one outline.",
+};
+
+#[tactic(auto, unfolding(crate::specs::Pages::page_62))]
+fn page_62() -> &'static Page
+    ensures { page_value result.now ≡ page_62 }
+{
+    &PAGE_62
+}
+
+static PAGE_63: Page = Page {
+    code: "K03",
+    anchor: "k03-seac-component-missing",
+    title: "seac component missing",
+    text: "Level *must*: a part of the glyph is missing, or interpreters refuse it.\n\nStandardEncoding names the component, but the font has no glyph of that name: the character is drawn without it, or not at all. Mostly a tool\nthat took glyphs out of the font looked at the characters in use, and not at their parts. Here acute isn't in the font.\n\n    C: 0 500 hsbw 7 0 0 65 194 seac\n    1: glyph C - 9 K03 seac component missing\n\nCure: put the glyph back; or draw the character as one outline.",
+};
+
+#[tactic(auto, unfolding(crate::specs::Pages::page_63))]
+fn page_63() -> &'static Page
+    ensures { page_value result.now ≡ page_63 }
+{
+    &PAGE_63
+}
+
+static PAGE_64: Page = Page {
+    code: "K04",
+    anchor: "k04-seac-of-a-seac",
+    title: "seac of a seac",
+    text: "Level *must*: interpreters refuse the glyph, or draw a part of it.\n\nA component must be drawn by commands of its own. Many interpreters can't execute a seac inside of another, and stop, or draw the wrong part.\nA glyph that names itself has this line too. A seac behind the step limit of the edition counts as none. Here the accent is an accented character\nitself.\n\n    C: 0 500 hsbw 7 0 0 65 66 seac\n    D: 0 500 hsbw 0 0 0 65 67 seac\n    1: glyph D - 9 K04 seac of a seac\n\nCure: name the parts that have an outline; if there are three, draw the character as one outline.",
+};
+
+#[tactic(auto, unfolding(crate::specs::Pages::page_64))]
+fn page_64() -> &'static Page
+    ensures { page_value result.now ≡ page_64 }
+{
+    &PAGE_64
+}
+
+static PAGE_65: Page = Page {
+    code: "K05",
+    anchor: "k05-accent-sidebearing-differs",
+    title: "accent sidebearing differs",
+    text: "Level *must*: interpreters put the accent at different places.\n\nThe standard wants ASB to be the sidebearing that the accent's own hsbw or sbw says. Some interpreters place the accent by ASB and others by the\naccent's own: if they differ, it stands further left or right on one device than on another. The base's sidebearing is nothing to this rule, nor\nis one that the accent sets behind the step limit of the edition.\n\n    C: 0 500 hsbw 9 0 0 65 66 seac\n    1: glyph C - 9 K05 accent sidebearing differs\n\nCure: write the accent's sidebearing for ASB, here 7. If it was changed by editing the accent, mend each seac that names it, and ADX with it\nwhere the accent should stay in its place.",
+};
+
+#[tactic(auto, unfolding(crate::specs::Pages::page_65))]
+fn page_65() -> &'static Page
+    ensures { page_value result.now ≡ page_65 }
+{
+    &PAGE_65
+}
+
+static PAGE_66: Page = Page {
+    code: "K06",
+    anchor: "k06-seac-beside-other-commands",
+    title: "seac beside other commands",
+    text: "Level *must*: interpreters draw the other commands, or leave them out.\n\nseac is the whole of its glyph: only the width stands in front of it, by hsbw or sbw. Outlines and stems come from the components; what the\nglyph draws besides is drawn or dropped, and a stem of it is a hint for an outline that isn't its own. A move counts, in a flex too.\n\n    C: 0 500 hsbw 10 20 hstem 7 0 0 65 66 seac\n    1: glyph C - 12 K06 seac beside other commands\n\nCure: leave the other commands out; or draw the character as one outline.",
+};
+
+#[tactic(auto, unfolding(crate::specs::Pages::page_66))]
+fn page_66() -> &'static Page
+    ensures { page_value result.now ≡ page_66 }
+{
+    &PAGE_66
+}
+
+static PAGE_67: Page = Page {
+    code: "K07",
+    anchor: "k07-seac-component-without-sidebearing",
+    title: "seac component without sidebearing",
+    text: "Level *must*: interpreters put the part at different places, or refuse the glyph.\n\nA component wants its hsbw or sbw like every glyph: seac places the accent by its sidebearing, and where none is set the place is open. The\ncomponent has a line as well, mostly W01. hsbw or sbw behind the step limit of the edition counts as none. Here `B` is `endchar` alone.\n\n    C: 0 500 hsbw 7 0 0 65 66 seac\n    1: glyph B - 1 W01 hsbw or sbw not first\n    2: glyph C - 9 K07 seac component without sidebearing\n\nCure: write hsbw or sbw first in the component.",
+};
+
+#[tactic(auto, unfolding(crate::specs::Pages::page_67))]
+fn page_67() -> &'static Page
+    ensures { page_value result.now ≡ page_67 }
+{
+    &PAGE_67
+}
+
+static PAGE_68: Page = Page {
+    code: "L01",
+    anchor: "l01-step-limit",
+    title: "step limit",
+    text: "Level *must*: the glyph isn't checked further, and an interpreter may take as long.\n\nThe first 100,000 steps of a glyph are checked, or 1,000,000 in edition 2, and then it is left: what stands behind them\nisn't known. Real glyphs have some hundreds; but a few Subrs that call one another make a charstring that keeps a printer busy for a long\ntime. STEP and PATH are those of the first step that isn't checked. Here Subr 1 is ten times dotsection, and return; Subr 2 is ten times\n`1 callsubr`, and return; Subr 3 calls Subr 2 in this way, Subr 4 calls Subr 3, and Subr 5 calls Subr 4.\n\n    Subr 5: 4 callsubr … 4 callsubr return\n    A: 0 500 hsbw 5 callsubr endchar\n    1: glyph A 5>4>3>2>1 100001 L01 step limit\n\n`A` has 133,337 steps. In edition 2 it is clean; there the line of a glyph of more than 1,000,000 has the step 1000001.\n\nCure: `--trace A` shows which Subrs are executed again and again; mend their numbers. Where so many steps are meant, check by edition 2, or waive\nthe rule for this glyph.",
+};
+
+#[tactic(auto, unfolding(crate::specs::Pages::page_68))]
+fn page_68() -> &'static Page
+    ensures { page_value result.now ≡ page_68 }
+{
+    &PAGE_68
+}
+
+static PAGE_69: Page = Page {
+    code: "U01",
+    anchor: "u01-waiver-not-used",
+    title: "waiver not used",
+    text: "Level *should*: a waiver says more than the font needs, so a fault that comes back is hidden.\n\nThe waiver leaves out nothing: the font has no glyph of that name, or the glyph doesn't break that rule. The fault was mended, or the glyph was\nrenamed or taken out; or the name or the code is misspelled, also by a byte order mark in front of the first name, which isn't\nseen; or the edition is the other one. So no waiver stays in the file that might later hide a fault that nobody means. The whole font decides, also\nwhere `--after` and `--max` leave lines out. A waiver that stands twice in the file has one line, by its first place. Here the file has the two lines\n`A GE01` and `A C05`.\n\n    A: 0 500 hsbw\n    1: waiver A C05 U01 waiver not used\n\nCure: take the line out of the file, each time that it stands there, or mend its name or its code.",
+};
+
+#[tactic(auto, unfolding(crate::specs::Pages::page_69))]
+fn page_69() -> &'static Page
+    ensures { page_value result.now ≡ page_69 }
+{
+    &PAGE_69
+}
+
+static PAGE_70: Page = Page {
+    code: "E01",
+    anchor: "e01-not-a-pfa-or-pfb",
+    title: "not a PFA or PFB",
+    text: "The file begins neither with byte 128 nor with `%!`; an empty file too.\n\nPrinters and installers won't take the file as a Type 1 font either.\n\nExample: a font in another format, as TrueType or OpenType, or Type1C, which PDFs have. OpenType fonts with cubic outlines (CFF) and Type1C have\nmuch in common with Type 1, and aren't Type 1 fonts.\n\nCure: convert the font to Type 1, or name the right file. `cfftot1`, of Debian's lcdf-typetools, converts CFF. Recipes say how\nto check the fonts of a PDF.",
+};
+
+#[tactic(auto, unfolding(crate::specs::Pages::page_70))]
+fn page_70() -> &'static Page
+    ensures { page_value result.now ≡ page_70 }
+{
+    &PAGE_70
+}
+
+static PAGE_71: Page = Page {
+    code: "E02",
+    anchor: "e02-bad-segment-header",
+    title: "bad segment header",
+    text: "Where a segment should begin stands another byte than 128, or 128 and a type that is none of 1, 2, 3.\n\nThe file is damaged, often by a transfer that changed line ends, or it was cut.\n\nExample: `80 04`; `80 01 00 00 00 00 41`.\n\nCure: take it from its source again, by a binary transfer.",
+};
+
+#[tactic(auto, unfolding(crate::specs::Pages::page_71))]
+fn page_71() -> &'static Page
+    ensures { page_value result.now ≡ page_71 }
+{
+    &PAGE_71
+}
+
+static PAGE_72: Page = Page {
+    code: "E03",
+    anchor: "e03-segment-cut-short",
+    title: "segment cut short",
+    text: "The file ends behind a 128, inside a segment's length, or before the end of its bytes.\n\nThe file is damaged, often by a transfer that changed line ends, or it was cut.\n\nExample: `80 01 05 00 00 00 25 21 0A 0A`.\n\nCure: take it from its source again, by a binary transfer.",
+};
+
+#[tactic(auto, unfolding(crate::specs::Pages::page_72))]
+fn page_72() -> &'static Page
+    ensures { page_value result.now ≡ page_72 }
+{
+    &PAGE_72
+}
+
+static PAGE_73: Page = Page {
+    code: "E04",
+    anchor: "e04-no-eexec",
+    title: "no eexec",
+    text: "The segments' bytes, joined, don't begin with `%!`; or the clear text ends without the word `eexec`.\n\nThere is no encrypted part, so no Private dictionary and no glyphs; or the first segment isn't the clear text. `eexec` in a comment, a\nstring, a procedure or an array doesn't count, nor as a key's value.\n\nExample: a file that ends before `currentfile eexec`.\n\nCure: take the font from its source again; a Type 3 or bitmap font can't be checked.",
+};
+
+#[tactic(auto, unfolding(crate::specs::Pages::page_73))]
+fn page_73() -> &'static Page
+    ensures { page_value result.now ≡ page_73 }
+{
+    &PAGE_73
+}
+
+static PAGE_74: Page = Page {
+    code: "E05",
+    anchor: "e05-file-too-large",
+    title: "file too large",
+    text: "The file has more than 16,777,216 bytes.\n\nA Type 1 font of this size doesn't exist in practice.\n\nExample: a disk image, a collection of fonts.\n\nCure: name the right file.",
+};
+
+#[tactic(auto, unfolding(crate::specs::Pages::page_74))]
+fn page_74() -> &'static Page
+    ensures { page_value result.now ≡ page_74 }
+{
+    &PAGE_74
+}
+
+static PAGE_75: Page = Page {
+    code: "E06",
+    anchor: "e06-encrypted-part-too-short",
+    title: "encrypted part too short",
+    text: "Fewer than four encrypted bytes stand behind `eexec`.\n\nThe file was cut, or an editor changed the encrypted bytes.\n\nExample: a file that ends behind `currentfile eexec`.\n\nCure: take it from its source again.",
+};
+
+#[tactic(auto, unfolding(crate::specs::Pages::page_75))]
+fn page_75() -> &'static Page
+    ensures { page_value result.now ≡ page_75 }
+{
+    &PAGE_75
+}
+
+static PAGE_76: Page = Page {
+    code: "E07",
+    anchor: "e07-unclosed-or-too-deeply-nested-token",
+    title: "unclosed or too deeply nested token",
+    text: "A string, procedure or array isn't closed, or procedures and arrays are nested more than 32 deep (brackets inside a procedure don't count).\n\nA bracket is missing or one too many; an interpreter reads the rest of the font as part of this token.\n\nExample: `/Weight (Medium` with no `)` to follow; 33 times `[`.\n\nCure: close the token; in a string write a single parenthesis as `\\(` or `\\)`.",
+};
+
+#[tactic(auto, unfolding(crate::specs::Pages::page_76))]
+fn page_76() -> &'static Page
+    ensures { page_value result.now ≡ page_76 }
+{
+    &PAGE_76
+}
+
+static PAGE_77: Page = Page {
+    code: "E08",
+    anchor: "e08-subrs-malformed",
+    title: "Subrs malformed",
+    text: "Behind `/Subrs` stands neither an empty array nor a whole number of 0 or more and `array`; or an entry isn't `dup`, number, length, a word,\nand the bytes; or the text ends inside.\n\nGlyphs call Subrs for flex and hint replacement. A length that isn't that of the bytes makes all that follows unreadable.\n\nExample: `/Subrs 4 def`; `dup -1 9 RD`.\n\nCure: write the number of Subrs and `array`, and each entry's true length and one blank behind `RD`; let an assembler write these.",
+};
+
+#[tactic(auto, unfolding(crate::specs::Pages::page_77))]
+fn page_77() -> &'static Page
+    ensures { page_value result.now ≡ page_77 }
+{
+    &PAGE_77
+}
+
+static PAGE_78: Page = Page {
+    code: "E09",
+    anchor: "e09-charstrings-malformed-or-absent",
+    title: "CharStrings malformed or absent",
+    text: "Behind `/CharStrings` stands no whole number of 0 or more with `dict dup begin`; or an entry isn't a name, length, a word, and the bytes; or\nthe text ends before the `end` of the glyphs.\n\nNo glyph can be drawn, or not all.\n\nExample: `/CharStrings 4 array`; a file cut between two glyphs.\n\nCure: write the number of glyphs and `dict dup begin`, and each entry's true length and one blank behind `RD`; let an assembler write these.\nWhere the file was cut, take it from its source again.",
+};
+
+#[tactic(auto, unfolding(crate::specs::Pages::page_78))]
+fn page_78() -> &'static Page
+    ensures { page_value result.now ≡ page_78 }
+{
+    &PAGE_78
+}
+
+static PAGE_79: Page = Page {
+    code: "E10",
+    anchor: "e10-leniv-out-of-range",
+    title: "lenIV out of range",
+    text: "A value of `/lenIV` is no whole number from -1 to 64, or the text ends behind the key.\n\nlenIV says how many random bytes stand in front of each charstring; if it is wrong, each glyph is noise. 4 is the usual value, -1 says that\ncharstrings aren't encrypted.\n\nExample: `/lenIV 65 def`; `/lenIV [4] def`.\n\nCure: `/lenIV 4 def`, or no such entry, with four such bytes in front of each charstring.",
+};
+
+#[tactic(auto, unfolding(crate::specs::Pages::page_79))]
+fn page_79() -> &'static Page
+    ensures { page_value result.now ≡ page_79 }
+{
+    &PAGE_79
+}
+
+static PAGE_80: Page = Page {
+    code: "E11",
+    anchor: "e11-count-past-its-limit",
+    title: "count past its limit",
+    text: "The number behind `/Subrs` or `/CharStrings`, a charstring's length, or the number of different glyphs is past 65,535; or a Subr's number is\npast 65,534.\n\nNo real font comes near; mostly a number was damaged.\n\nExample: `/Subrs 65536 array`.\n\nCure: mend the number, or split the font.",
+};
+
+#[tactic(auto, unfolding(crate::specs::Pages::page_80))]
+fn page_80() -> &'static Page
+    ensures { page_value result.now ≡ page_80 }
+{
+    &PAGE_80
+}
+
+static PAGE_81: Page = Page {
+    code: "E12",
+    anchor: "e12-second-subrs",
+    title: "second Subrs",
+    text: "The name `/Subrs` stands a second time in front of the glyphs, other than as a key's value.\n\nA hybrid font has Subrs for low and for high resolution, so each charstring has two meanings.\n\nExample: `/Subrs 6 array … ND` and later `/Subrs 0 array ND`.\n\nCure: check each of both as a font of its own, with one set of Subrs.",
+};
+
+#[tactic(auto, unfolding(crate::specs::Pages::page_81))]
+fn page_81() -> &'static Page
+    ensures { page_value result.now ≡ page_81 }
+{
+    &PAGE_81
+}
+
+static PAGE_82: Page = Page {
+    code: "E13",
+    anchor: "e13-multiple-master-font",
+    title: "multiple master font",
+    text: "The name `/WeightVector` stands in the clear text, outside a custom Encoding and other than as a key's value.\n\nA multiple master font has several designs in one; its charstrings mix their numbers.\n\nExample: `/WeightVector [0.5 0.5] def`.\n\nCure: make a font of one instance, and check that.",
+};
+
+#[tactic(auto, unfolding(crate::specs::Pages::page_82))]
+fn page_82() -> &'static Page
+    ensures { page_value result.now ≡ page_82 }
+{
+    &PAGE_82
+}
+
+static PAGE_83: Page = Page {
+    code: "E14",
+    anchor: "e14-waivers-malformed",
+    title: "waivers malformed",
+    text: "A line of the file of waivers isn't what a waiver has to be. It has to be a name, one blank (byte 32) and a code, and nothing else. The\nname has the bytes that a name in a font can have: all but zero, tab, line feed, form feed, carriage return, the blank, and `( ) < > [ ] { } / %`.\nThe code is that of a rule from C01 to L01, in capital letters. Each of these lines is malformed:\n\n    A                    no code\n    A C05 H02            two codes\n    A  C05               two blanks; so is a blank at the end, or a tab\n    /A C05               a slash\n    A F01                a rule on the font\n    A U01                the rule on waivers\n    A C10                no rule\n    % meant so           a comment\n\nThe one line on standard error is `refused: E14 waivers malformed`. This command prints the malformed lines of the file `font.waivers`, and nothing\nelse:\n\n    LC_ALL=C awk '{ line = $0; sub(/\\r$/, \"\", line) }\n        line != \"\" && line !~ (\"^[\\001-\\010\\013\\016-\\037!-$&-\\047*-.0-;=?-Z\\\\\\\\^-z|~-\\377]* \" \\\n            \"(C0[1-9]|GE0[12]|[RW]0[12]|P0[1-3]|[HOS]0[1-4]|X0[1-6]|K0[1-7]|L01)$\")' <font.waivers\n\nWith `{ print NR \": \" $0 }` in front of the last `'` it tells their numbers as well. Some awks, as busybox's, end a line at a zero byte. For these\nwrite `LC_ALL=C tr '\\000' '(' <font.waivers |` at the beginning and nothing behind the last `'`; then such a byte is shown as `(`.\n\nOne such line is enough, since it can't be said what it was to waive.\n\nCure: mend these lines, or take them out.",
+};
+
+#[tactic(auto, unfolding(crate::specs::Pages::page_83))]
+fn page_83() -> &'static Page
+    ensures { page_value result.now ≡ page_83 }
+{
+    &PAGE_83
+}
+
+static PAGE_84: Page = Page {
+    code: "E15",
+    anchor: "e15-waivers-past-their-limit",
+    title: "waivers past their limit",
+    text: "The file of waivers has more than 1,048,576 bytes, so no line of it is looked at. No font needs so many waivers; mostly another file was named. The one line on standard error is `refused: E15 waivers past their\nlimit`. Example: a file of 1,048,577 line feeds; with 1,048,576 of them it is read, and waives nothing.\n\nCure: name the right file. A waiver that stands more than once can be left out but for one; `LC_ALL=C sort -u` does that.",
+};
+
+#[tactic(auto, unfolding(crate::specs::Pages::page_84))]
+fn page_84() -> &'static Page
+    ensures { page_value result.now ≡ page_84 }
+{
+    &PAGE_84
+}
+
+/// All pages, in the order of docs/RULES.md.
+#[tactic(auto, unfolding(crate::specs::Pages::pages))]
+pub(crate) fn pages() -> [&'static Page; COUNT]
+    ensures { map (λ page. page_value page.now) result ≡ pages }
+{
+    [
+        page_0(),
+        page_1(),
+        page_2(),
+        page_3(),
+        page_4(),
+        page_5(),
+        page_6(),
+        page_7(),
+        page_8(),
+        page_9(),
+        page_10(),
+        page_11(),
+        page_12(),
+        page_13(),
+        page_14(),
+        page_15(),
+        page_16(),
+        page_17(),
+        page_18(),
+        page_19(),
+        page_20(),
+        page_21(),
+        page_22(),
+        page_23(),
+        page_24(),
+        page_25(),
+        page_26(),
+        page_27(),
+        page_28(),
+        page_29(),
+        page_30(),
+        page_31(),
+        page_32(),
+        page_33(),
+        page_34(),
+        page_35(),
+        page_36(),
+        page_37(),
+        page_38(),
+        page_39(),
+        page_40(),
+        page_41(),
+        page_42(),
+        page_43(),
+        page_44(),
+        page_45(),
+        page_46(),
+        page_47(),
+        page_48(),
+        page_49(),
+        page_50(),
+        page_51(),
+        page_52(),
+        page_53(),
+        page_54(),
+        page_55(),
+        page_56(),
+        page_57(),
+        page_58(),
+        page_59(),
+        page_60(),
+        page_61(),
+        page_62(),
+        page_63(),
+        page_64(),
+        page_65(),
+        page_66(),
+        page_67(),
+        page_68(),
+        page_69(),
+        page_70(),
+        page_71(),
+        page_72(),
+        page_73(),
+        page_74(),
+        page_75(),
+        page_76(),
+        page_77(),
+        page_78(),
+        page_79(),
+        page_80(),
+        page_81(),
+        page_82(),
+        page_83(),
+        page_84(),
+    ]
 }

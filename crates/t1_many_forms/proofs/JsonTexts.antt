@@ -19,23 +19,23 @@ use Rattle.t1_run.specs.declared.failure.Failure.TheVariants as failures
 
 -- ---- fronts
 
-front-all : (a b : Option (List ℕ)) (x : List ℕ) → Appends a b x → AppendsFront a b x
+pub front-all : (a b : Option (List ℕ)) (x : List ℕ) → Appends a b x → AppendsFront a b x
 front-all a b x all = (x, ([], (sym (append-nil x), all)))
 
-front-none : (a b : Option (List ℕ)) (x : List ℕ) → Appends a b [] → AppendsFront a b x
+pub front-none : (a b : Option (List ℕ)) (x : List ℕ) → Appends a b [] → AppendsFront a b x
 front-none a b x none = ([], (x, (refl, none)))
 
-front-first : (a b : Option (List ℕ)) (x y : List ℕ) → AppendsFront a b x → AppendsFront a b (x ++ y)
+pub front-first : (a b : Option (List ℕ)) (x y : List ℕ) → AppendsFront a b x → AppendsFront a b (x ++ y)
 front-first a b x y (front, (rest, (split, out))) = (front, (rest ++ y, (ap (λ l. l ++ y) split ∙ append_assoc front rest y, out)))
 
-front-second : (a b c : Option (List ℕ)) (x y : List ℕ) → Appends a b x → AppendsFront b c y → AppendsFront a c (x ++ y)
+pub front-second : (a b c : Option (List ℕ)) (x y : List ℕ) → Appends a b x → AppendsFront b c y → AppendsFront a c (x ++ y)
 front-second a b c x y before (front, (rest, (split, out))) =
     (x ++ front, (rest, (ap (λ l. x ++ l) split ∙ sym (append_assoc x front rest), Appends-trans a b c x front before out)))
 
-kept : (a b : Option (List ℕ)) → Keeps a b → Appends a b []
+pub kept : (a b : Option (List ℕ)) → Keeps a b → Appends a b []
 kept a b keeps = Appends-kept a a b [] (Appends-nil a) keeps
 
-none-same : (a b : SinkState) → b ≡ a → Appends a.written b.written []
+pub none-same : (a b : SinkState) → b ≡ a → Appends a.written b.written []
 none-same a b same = subst (λ (s : SinkState). Appends a.written s.written []) (sym same) (Appends-nil a.written)
 
 -- ---- the output
@@ -67,7 +67,7 @@ IsOne old new handed (Some lost) =
     AppendsFront old.out.written new.out.written (object_text handed) × AppendsFront old.errors.written new.errors.written (told_of handed)
     × ((lost ≡ Memory) ⊎ (new.out.failed ≡ true) ⊎ (new.errors.failed ≡ true))
 
-cause : (lost : Lost) (out errors : SinkState) → (lost ≡ Memory) ⊎ (out.failed ≡ true)
+pub cause : (lost : Lost) (out errors : SinkState) → (lost ≡ Memory) ⊎ (out.failed ≡ true)
     → (lost ≡ Memory) ⊎ (out.failed ≡ true) ⊎ (errors.failed ≡ true)
 cause lost out errors (inl memory) = inl memory
 cause lost out errors (inr failed) = inr (inl failed)

@@ -1,3 +1,4 @@
+pub mod DocumentTexts
 pub mod JsonTexts
 pub mod LineTexts
 pub mod Written

@@ -1,3 +1,4 @@
+pub mod Documents
 pub mod Formatting
 pub mod JsonLines
 pub mod Laws

@@ -3,6 +3,8 @@
 ghost use Rattle.std.specs.Prelude.{◌≡◌, List, [], ◌∷◌, ◌++◌, ℕ, Option, None, true};
 ghost use Rattle.t1_many.specs.Handing.{Handed, HandsOn, done};
 ghost use Rattle.t1_many.specs.declared.recipient.Lost.{Lost as LostValue};
+ghost use Rattle.t1_forms.specs.declared.sarif.Sarif.{Sarif as SarifValue};
+ghost use Rattle.t1_many_forms.specs.Documents.{IsDocumentOf};
 ghost use Rattle.t1_many_forms.specs.JsonLines.{AreObjects};
 ghost use Rattle.t1_many_forms.specs.Laws.{LinesAreThoseOfReports};
 ghost use Rattle.t1_many_forms.specs.declared.formatted.Formatted.{Formatted as FormattedValue};
@@ -11,6 +13,7 @@ ghost use Rattle.t1_summary.specs.declared.found.Found.{Found as FoundValue};
 
 use crate::formatted::Formatted;
 use crate::json_lines::JsonLines;
+use t1_forms::Sarif;
 use t1_io::Sink;
 use t1_many::Form;
 
@@ -29,4 +32,13 @@ pub fn json_lines_are_written<W: Sink, E: Sink>()
     ensures flushed { (old new : FormattedValue JsonLinesValue W E) (handed : List Handed) (name : List ℕ) (found : FoundValue)
         → HandsOn ⟦<Formatted<JsonLines, W, E> as Form>⟧.takes old new (handed ++ done name found ∷ []) None
         → (W.state new.out).flushed ≡ true }
+{}
+
+/// What is handed on as a document of SARIF is written as the text of what it tells, up to the end of the document, and told as the plain form
+/// tells it. Where a device fails, or memory runs out, a front of it was.
+pub fn documents_are_written<W: Sink, E: Sink>()
+    ensures { (old new : FormattedValue SarifValue W E) (handed : List Handed) (lost : Option LostValue)
+        → HandsOn ⟦<Formatted<Sarif<'_>, W, E> as Form>⟧.takes old new handed lost
+        → IsDocumentOf (record { formatter = old.formatter; out = W.state old.out; errors = E.state old.errors })
+        (record { formatter = new.formatter; out = W.state new.out; errors = E.state new.errors }) handed lost }
 {}

@@ -26,4 +26,4 @@ pub use formatted::Formatted;
 pub use formatter::Formatter;
 pub use github::GitHubCommands;
 pub use json_lines::JsonLines;
-pub use laws::{json_lines_are_written, lines_are_those_of_reports};
+pub use laws::{documents_are_written, json_lines_are_written, lines_are_those_of_reports};

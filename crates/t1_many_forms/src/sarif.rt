@@ -1,5 +1,7 @@
 //! A document of SARIF.
 
+ghost use Rattle.t1_many_forms.specs.Documents.{end_written, telling_written};
+
 use crate::formatter::{Formatter, written};
 use std::alloc::Global;
 use t1_forms::{Sarif, Told};
@@ -8,10 +10,9 @@ use t1_many::Lost;
 
 /// A document that was begun by [`Sarif::begin`].
 impl<'a> Formatter for Sarif<'a> {
-    // The text of a document has no definition.
-    ghost writes = { λ _ _ _ _ _ _. Unit {0} };
+    ghost writes = { telling_written };
 
-    ghost finishes = { λ _ _ _ _. Unit {0} };
+    ghost finishes = { end_written };
 
     fn write<W: Sink>(&mut self, alloc: Global, sink: &mut W, told: &Told<'_>) -> Result<(), Lost> {
         written(self.put(alloc, sink, told))

@@ -90,8 +90,8 @@ fn writes_lines_of_json(rt: HostRuntime) -> Result<(), Fail> {
     )?;
     assert_eq!(rt; status, Ok(Status::Failed));
     let lines = b"\
-{\"code\":\"P03\",\"file\":\"faulty.pfb\",\"name\":\"A\",\"number\":4,\"path\":[],\"step\":4,\"text\":\"closepath without a path\",\"unit\":\"glyph\"}
-{\"code\":\"E04\",\"file\":\"cut.pfa\",\"text\":\"no eexec\",\"unit\":\"refused\"}
+{\"code\":\"P03\",\"file\":\"faulty.pfb\",\"level\":\"tidy\",\"name\":\"A\",\"number\":4,\"path\":[],\"step\":4,\"text\":\"closepath without a path\",\"unit\":\"glyph\"}
+{\"code\":\"E04\",\"file\":\"cut.pfa\",\"level\":\"must\",\"text\":\"no eexec\",\"unit\":\"refused\"}
 {\"file\":\"absent.pfb\",\"text\":\"read failed\",\"unit\":\"unchecked\"}
 ";
     assert!(rt; text.as_slice() == lines.as_slice());
@@ -117,7 +117,7 @@ fn writes_commands(rt: HostRuntime) -> Result<(), Fail> {
     )?;
     assert_eq!(rt; status, Ok(Status::Failed));
     let lines = b"\
-::warning file=faulty.pfb,line=1,title=P03 closepath without a path::4: glyph A - 4 P03 closepath without a path
+::notice file=faulty.pfb,line=1,title=P03 closepath without a path::4: glyph A - 4 P03 closepath without a path
 ::error file=cut.pfa,line=1,title=E04 no eexec::refused: E04 no eexec
 ::error file=absent.pfb,line=1,title=not checked::t1check: read failed
 ";
@@ -148,11 +148,11 @@ fn writes_a_document(rt: HostRuntime) -> Result<(), Fail> {
     let front =
         b"{\"$schema\":\"https://json.schemastore.org/sarif-2.1.0.json\",\"version\":\"2.1.0\",\"runs\":[{\"tool\":";
     assert!(rt; text.as_slice().starts_with(front.as_slice()));
-    let end = b"]}},\"results\":[\
-{\"level\":\"warning\",\
+    let end = b"],\"version\":\"1.0.0\"}},\"results\":[\
+{\"level\":\"note\",\
 \"locations\":[{\"logicalLocations\":[{\"kind\":\"glyph\",\"name\":\"A\"},{\"kind\":\"step\",\"name\":\"4\"}],\
 \"physicalLocation\":{\"artifactLocation\":{\"uri\":\"faulty.pfb\"},\"region\":{\"startLine\":1}}}],\
-\"message\":{\"text\":\"4: glyph A - 4 P03 closepath without a path\"},\
+\"message\":{\"text\":\"glyph A - 4 P03 closepath without a path\"},\
 \"partialFingerprints\":{\"t1check/v1\":\"faulty.pfb glyph A P03 1\"},\"ruleId\":\"P03\",\"ruleIndex\":44},\
 {\"level\":\"error\",\
 \"locations\":[{\"physicalLocation\":{\"artifactLocation\":{\"uri\":\"cut.pfa\"},\"region\":{\"startLine\":1}}}],\

@@ -1,11 +1,12 @@
--- What a run in lines of JSON, or in commands of GitHub, writes of a text and tells of it, line by line.
+-- What a run of t1format writes of a text and tells of it, line by line.
 use Rattle.std.specs.Prelude.{◌≡◌, ℕ, ◌+◌, ◌<◌, ◌==◌, List, [], ◌++◌, codes, length, Bool, Option, Some, None, option_map, string_bytes}
 use Rattle.std.specs.Fmt.{decimal}
 use Rattle.std.specs.Io.BufRead.{drop_through, first_piece}
 use Rattle.t1_forms.specs.Commands.{command_of}
 use Rattle.t1_forms.specs.Objects.{object_line}
+use Rattle.t1_forms.specs.Sarif.{SarifState, after_telling, begun, closing, opening, sarif_state, telling_text}
 use Rattle.t1_forms.specs.Tellings.{IsNoLine, IsNotTold, IsWhat, ToldValue, of_unchecked, told_spelled, what_spelled}
-use Rattle.t1_io.specs.Devices.{SinkState, Wrote}
+use Rattle.t1_io.specs.Devices.{Delivered, SinkState, Wrote}
 use Rattle.t1format.specs.declared.command_line.Form.{Form}
 use Rattle.t1format.specs.declared.command_line.Form.TheVariants as asked
 use Rattle.t1format.specs.declared.command_line.Options.{Options}
@@ -16,25 +17,47 @@ use Rattle.t1format.specs.declared.writer.Writer.TheVariants as writers
 abbrev pub font_of : Options → Option (List ℕ)
 font_of options = option_map (λ name. string_bytes name) options.font
 
--- The forms that have something of their own for each line: an object of JSON, or a command of GitHub. A document of SARIF is one text.
-pub data LineForm : Type 0 where
-  object : LineForm
-  command : LineForm
+-- The address of the page of all rules.
+abbrev pub docs_of : Options → Option (List ℕ)
+docs_of options = option_map (λ docs. string_bytes docs) options.docs
 
-abbrev pub form_asked : Form → Option LineForm
-form_asked asked.JsonLines = Some object
-form_asked asked.Sarif = None
-form_asked asked.GitHub = Some command
+-- What is written: objects of JSON, commands of GitHub, or the rest of a document of SARIF.
+pub data Writing : Type 0 where
+  objects : Writing
+  commands : Writing
+  document : SarifState → Writing
 
-abbrev pub form_written : Writer → Option LineForm
-form_written writers.JsonLines = Some object
-form_written (writers.Sarif document) = None
-form_written writers.GitHub = Some command
+abbrev pub writing_of : Writer → Writing
+writing_of writers.JsonLines = objects
+writing_of (writers.Sarif d) = document (sarif_state d)
+writing_of writers.GitHub = commands
 
--- What is written of what is told, in whose line it stands.
-abbrev pub text_in : LineForm → ToldValue → List ℕ → List ℕ
-text_in object t line = object_line t
-text_in command t line = command_of t line
+-- In front of all lines: only a document has something there, and behind them.
+abbrev pub begun_in : Form → Option (List ℕ) → Writing
+begun_in asked.JsonLines docs = objects
+begun_in asked.Sarif docs = document (begun docs)
+begun_in asked.GitHub docs = commands
+
+abbrev pub front_text : Form → Option (List ℕ) → List ℕ
+front_text asked.JsonLines docs = []
+front_text asked.Sarif docs = opening docs
+front_text asked.GitHub docs = []
+
+abbrev pub end_text : Writing → List ℕ
+end_text objects = []
+end_text commands = []
+end_text (document state) = closing state
+
+-- What is written of what is told, in whose line it stands, and what is written then.
+abbrev pub text_in : Writing → ToldValue → List ℕ → List ℕ
+text_in objects t line = object_line t
+text_in commands t line = command_of t line
+text_in (document state) t line = telling_text state t line
+
+abbrev pub after_in : Writing → ToldValue → List ℕ → Writing
+after_in objects t line = objects
+after_in commands t line = commands
+after_in (document state) t line = document (after_telling state t line)
 
 -- What a line is read as; why a font wasn't checked only where it is no line of a report or a refusal.
 pub record IsReadAs (line : List ℕ) (t : ToldValue) : Type 0 where
@@ -54,29 +77,41 @@ of_font font t = record { font = font_or t.font font; what = t.what }
 abbrev pub passed_line : ℕ → List ℕ
 passed_line number = codes "t1format: line " ++ (decimal number ++ codes ": no line of t1check\n")
 
--- What is written of a line, and what is told of it: its object or its command, and nothing; or nothing, and its number.
-pub data IsOfLine (form : LineForm) (font : Option (List ℕ)) (number : ℕ) (line written told : List ℕ) : Type 0 where
+-- What is written of a line, and what is told of it: its text, and nothing; or nothing, and its number.
+pub data IsOfLine (font : Option (List ℕ)) (writing next : Writing) (number : ℕ) (line written told : List ℕ) : Type 0 where
   read :
-      (t : ToldValue) → IsReadAs line t → written ≡ text_in form (of_font font t) (what_spelled t.what) → told ≡ []
-      → IsOfLine form font number line written told
-  passed : IsNotTold line → written ≡ [] → told ≡ passed_line number → IsOfLine form font number line written told
+      (t : ToldValue) → IsReadAs line t → written ≡ text_in writing (of_font font t) (what_spelled t.what)
+      → next ≡ after_in writing (of_font font t) (what_spelled t.what) → told ≡ []
+      → IsOfLine font writing next number line written told
+  passed :
+      IsNotTold line → written ≡ [] → next ≡ writing → told ≡ passed_line number
+      → IsOfLine font writing next number line written told
 
 -- The same of the lines of a text, from one of a number on. Each ends with byte 10, or with the text.
-pub data AreOfLines (form : LineForm) (font : Option (List ℕ)) : ℕ → List ℕ → List ℕ → List ℕ → Type 0 where
-  none : (number : ℕ) → AreOfLines form font number [] [] []
+pub data AreOfLines (font : Option (List ℕ)) (last : Writing) : Writing → ℕ → List ℕ → List ℕ → List ℕ → Type 0 where
+  none : (number : ℕ) → AreOfLines font last last number [] [] []
   line :
-      (number : ℕ) (text written told more more_told : List ℕ) → 0 < length text
-      → IsOfLine form font number (first_piece 10 text) written told
-      → AreOfLines form font (number + 1) (drop_through 10 text) more more_told
-      → AreOfLines form font number text (written ++ more) (told ++ more_told)
+      (writing next : Writing) (number : ℕ) (text written told more more_told : List ℕ) → 0 < length text
+      → IsOfLine font writing next number (first_piece 10 text) written told
+      → AreOfLines font last next (number + 1) (drop_through 10 text) more more_told
+      → AreOfLines font last writing number text (written ++ more) (told ++ more_told)
 
--- A run over a text: of all its lines this went out, written or delivered, and this was told. It is answered whether each was one.
-pub record IsRunOver
-    (GoesOut : SinkState → SinkState → List ℕ → Type 0) (form : LineForm) (font : Option (List ℕ)) (text : List ℕ)
-    (out out' errors errors' : SinkState) (are_lines : Bool) : Type 0 where
+-- Of all lines of a text this was written, and this told. It is answered whether each was one.
+pub record AreWritten
+    (font : Option (List ℕ)) (writing last : Writing) (text : List ℕ) (out out' errors errors' : SinkState) (are_lines : Bool) : Type 0 where
   pub texts : List ℕ
   pub told : List ℕ
-  pub lines : AreOfLines form font 1 text texts told
-  pub written : GoesOut out out' texts
+  pub lines : AreOfLines font last writing 1 text texts told
+  pub written : Wrote out out' texts
+  pub said : Wrote errors errors' told
+  pub all : are_lines ≡ (length told == 0)
+
+-- A run over a text: this went out, and was flushed once, and this was told.
+pub record IsRunOver (form : Form) (docs font : Option (List ℕ)) (text : List ℕ) (out out' errors errors' : SinkState) (are_lines : Bool) : Type 0 where
+  pub texts : List ℕ
+  pub told : List ℕ
+  pub last : Writing
+  pub lines : AreOfLines font last (begun_in form docs) 1 text texts told
+  pub delivered : Delivered out out' (front_text form docs ++ (texts ++ end_text last))
   pub said : Wrote errors errors' told
   pub all : are_lines ≡ (length told == 0)

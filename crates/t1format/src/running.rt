@@ -2,8 +2,8 @@
 
 ghost use Rattle.std.specs.Prelude.{◌≡◌, ◌<◌, ◌^◌, ℕ, List, Some, IfOk, length, option_map};
 ghost use Rattle.t1_forms.specs.Tellings.{told_value};
-ghost use Rattle.t1_io.specs.Devices.{Delivered, Wrote};
-ghost use Rattle.t1format.specs.Runs.{IsRunOver, LineForm, font_of, form_asked, form_written, of_font, passed_line};
+ghost use Rattle.t1_io.specs.Devices.{Wrote};
+ghost use Rattle.t1format.specs.Runs.{AreWritten, IsRunOver, docs_of, font_of, of_font, passed_line, writing_of};
 ghost use Rattle.t1format.specs.Private.Lines.{IsDone, ReadsLine};
 
 use crate::command_line::Options;
@@ -101,9 +101,8 @@ fn write_line<W: Sink, E: Sink>(
     out: &mut W,
     errors: &mut E,
 ) -> Result<bool, Stop>
-    ensures done { (form : LineForm) → form_written writer.old ≡ Some form → IfOk result (λ is. IsDone form (option_map (λ name. name.now) font.entry) number line.now
+    ensures { IfOk result (λ is. IsDone (option_map (λ name. name.now) font.entry) (writing_of writer.old) (writing_of writer.new) number line.now
         (W.state out.old) (W.state out.new) (E.state errors.old) (E.state errors.new) is) }
-    ensures form { (form : LineForm) → form_written writer.old ≡ Some form → form_written writer.new ≡ Some form }
 {
     match read_told(line) {
         Some(told) => {
@@ -126,10 +125,9 @@ fn write_lines<R: BufRead, W: Sink, E: Sink>(
     out: &mut W,
     errors: &mut E,
 ) -> Result<bool, Stop>
-    ensures written { (form : LineForm) → form_written writer.old ≡ Some form → (text : List ℕ) → R.remaining input.old ≡ Some text
-        → length text < 2 ^ 63 → IfOk result (IsRunOver Wrote form (option_map (λ name. name.now) font.entry) text
+    ensures { (text : List ℕ) → R.remaining input.old ≡ Some text → length text < 2 ^ 63
+        → IfOk result (AreWritten (option_map (λ name. name.now) font.entry) (writing_of writer.old) (writing_of writer.new) text
         (W.state out.old) (W.state out.new) (E.state errors.old) (E.state errors.new)) }
-    ensures form { (form : LineForm) → form_written writer.old ≡ Some form → form_written writer.new ≡ Some form }
 {
     let mut line = Vec::new(alloc);
     let mut are_lines = true;
@@ -153,8 +151,8 @@ pub fn run<R: BufRead, W: Sink, E: Sink>(
     out: &mut W,
     errors: &mut E,
 ) -> Result<bool, Stop>
-    ensures { (form : LineForm) → form_asked options.now.form ≡ Some form → (text : List ℕ) → R.remaining input.old ≡ Some text
-        → length text < 2 ^ 63 → IfOk result (IsRunOver Delivered form (font_of options.now) text
+    ensures { (text : List ℕ) → R.remaining input.old ≡ Some text → length text < 2 ^ 63
+        → IfOk result (IsRunOver options.now.form (docs_of options.now) (font_of options.now) text
         (W.state out.old) (W.state out.new) (E.state errors.old) (E.state errors.new)) }
 {
     let font = options.font.as_ref().map(String::as_bytes);

@@ -1,9 +1,9 @@
 //! The form in which lines are written.
 
-ghost use Rattle.std.specs.Prelude.{◌≡◌, IfOk, Some};
+ghost use Rattle.std.specs.Prelude.{◌≡◌, IfOk, OnOk};
 ghost use Rattle.t1_forms.specs.Tellings.{told_value};
 ghost use Rattle.t1_forms.specs.Writing.{WritesLine};
-ghost use Rattle.t1format.specs.Runs.{LineForm, form_asked, form_written, text_in};
+ghost use Rattle.t1format.specs.Runs.{after_in, begun_in, docs_of, end_text, front_text, text_in, writing_of};
 
 use crate::command_line::{Form, Options};
 use std::alloc::Global;
@@ -25,8 +25,8 @@ impl<'a> Writer<'a> {
         sink: &mut W,
         options: &'a Options,
     ) -> Result<Writer<'a>, FormatError>
-        ensures form { (form : LineForm) → form_asked options.now.form ≡ Some form → IfOk result (λ writer. form_written writer ≡ Some form) }
-        ensures nothing { (form : LineForm) → form_asked options.now.form ≡ Some form → W.state sink.new ≡ W.state sink.old }
+        ensures text { WritesLine (W.state sink.old) (W.state sink.new) (front_text options.now.form (docs_of options.now)) result }
+        ensures writing { IfOk result (λ writer. writing_of writer ≡ begun_in options.now.form (docs_of options.now)) }
     {
         match options.form {
             Form::JsonLines => Ok(Writer::JsonLines),
@@ -45,9 +45,8 @@ impl<'a> Writer<'a> {
         sink: &mut W,
         told: &Told<'_>,
     ) -> Result<(), FormatError>
-        ensures text { (form : LineForm) → form_written self.old ≡ Some form → WritesLine (W.state sink.old) (W.state sink.new)
-            (text_in form (told_value told.now) told.now.line.now) result }
-        ensures form { form_written self.new ≡ form_written self.old }
+        ensures text { WritesLine (W.state sink.old) (W.state sink.new) (text_in (writing_of self.old) (told_value told.now) told.now.line.now) result }
+        ensures writing { OnOk result (writing_of self.new ≡ after_in (writing_of self.old) (told_value told.now) told.now.line.now) }
     {
         match self {
             Writer::JsonLines => write_object(alloc, sink, told),
@@ -58,7 +57,7 @@ impl<'a> Writer<'a> {
 
     /// Writes what stands behind all lines: only a document has something there.
     pub fn end<W: Sink>(self, alloc: Global, sink: &mut W) -> Result<(), FormatError>
-        ensures nothing { (form : LineForm) → form_written self.entry ≡ Some form → W.state sink.new ≡ W.state sink.old }
+        ensures { WritesLine (W.state sink.old) (W.state sink.new) (end_text (writing_of self.entry)) result }
     {
         match self {
             Writer::Sarif(document) => document.end(alloc, sink),

@@ -1,4 +1,4 @@
-use Rattle.t1_io.proofs.SinkLemmas.{PutFailed-part, Writes-failed, Wrote-part}
+use Rattle.t1_io.proofs.SinkLemmas.{PutFailed-part, Writes-failed}
 use Rattle.t1_forms.proofs.commands.put_escaped.Goals as goal
 use Rattle.t1_forms.specs.Private.Escapes.{byte_in}
 

@@ -1,24 +1,24 @@
-use Rattle.std.proofs.Common.{rules, ◌≡◌, Ok, option_map, subst, sym}
-use Rattle.t1_io.proofs.SinkLemmas.{Delivers-flush}
-use Rattle.t1_io.specs.Devices.{Wrote}
+use Rattle.std.proofs.Common.{rules, ◌≡◌, ◌++◌, Ok, option_map, subst}
+use Rattle.t1_io.proofs.SinkLemmas.{Delivers-flush, Wrote-trans}
 use Rattle.t1format.proofs.running.run.Goals as goal
-use Rattle.t1format.specs.Runs.{AreOfLines, font_of}
+use Rattle.t1format.specs.Runs.{AreOfLines, begun_in, docs_of, end_text, font_of, front_text, writing_of}
 
 pub returns : goal.returns
 returns g c =
-    λ form asked text is few.
-    let writes = c.in_ok-writer.ensures.form form asked in
-    let lines = c.in_ok-are_lines.ensures.written form writes text is few in
-    let begun = c.in_ok-writer.ensures.nothing form asked in
-    let ended = c.in_ok-end.ensures.nothing form (c.in_ok-are_lines.ensures.form form writes) in
+    λ text is few.
+    let lines = c.in_ok-are_lines.ensures text is few in
+    let last = writing_of c.write_lines.new.writer in
     let font : option_map (λ name. name.now) c.map-font.result ≡ font_of c.args.options.now = search rules in
     record {
       texts = lines.texts;
       told = lines.told;
-      lines = subst (λ f. AreOfLines form f 1 text lines.texts lines.told) font lines.lines;
-      written = Delivers-flush {X = Unit {0}} {E = Unit {0}} _ _ _ _ (Ok tt)
-          (subst (λ s. Wrote s (g.W.Sink.state c.end.new.sink) lines.texts) begun
-          (subst (λ s. Wrote (g.W.Sink.state c.begin.new.sink) s lines.texts) (sym ended) lines.written))
+      last = last;
+      lines = subst (λ f. AreOfLines f last (begun_in c.args.options.now.form (docs_of c.args.options.now)) 1 text lines.texts lines.told) font
+          (subst (λ w. AreOfLines (option_map (λ name. name.now) c.map-font.result) last w 1 text lines.texts lines.told)
+          c.in_ok-writer.ensures.writing lines.lines);
+      delivered = Delivers-flush {X = Unit {0}} {E = Unit {0}} _ _ _ _ (Ok tt)
+          (Wrote-trans _ _ _ (front_text c.args.options.now.form (docs_of c.args.options.now)) (lines.texts ++ end_text last)
+          c.in_ok-writer.ensures.text (Wrote-trans _ _ _ lines.texts (end_text last) lines.written c.in_ok-end.ensures))
           c.in_ok-flush.ensures.flushes;
       said = lines.said;
       all = lines.all;

@@ -1,0 +1,133 @@
+-- A document of SARIF as it is written: what stands in front of all lines, what one line more adds, and what stands behind them all.
+-- Static Analysis Results Interchange Format 2.1.0, 3.13, 3.14, 3.20.
+use Rattle.std.specs.Prelude.{ℕ, ◌+◌, ◌==◌, nat_lt, Bool, true, false, if◌then◌else◌, List, [], ◌∷◌, ◌++◌, codes, bytes_eq, replicate, slice_index, slice_set, Option, option_map, string_bytes}
+use Rattle.serde_json.specs.Written.{comma_if, compact_text}
+use Rattle.t1_io.specs.Devices.{one_more}
+use Rattle.t1_lines.specs.Lines.{LineValue}
+use Rattle.t1_forms.specs.PageValues.{place_among}
+use Rattle.t1_forms.specs.Pages.{page_count, pages}
+use Rattle.t1_forms.specs.SarifObjects.{fingerprint, line_code, notification_object, result_object, tool_object, unit_of}
+use Rattle.t1_forms.specs.Tellings.{ToldValue, WhatValue, of_line, of_unchecked}
+use Rattle.t1_forms.specs.declared.sarif.Sarif.{Sarif}
+
+-- What is kept from line to line.
+pub record SarifState : Type 0 where
+  -- The address of the page of all rules.
+  pub docs : Option (List ℕ)
+  -- Whether the run has a result.
+  pub has_results : Bool
+  -- The unit of the last result.
+  pub unit : List ℕ
+  -- How many results there were of each code since the unit began, by the code's place among the pages.
+  pub counts : List ℕ
+  -- Why fonts weren't checked, as text, and how many these are.
+  pub failures : List ℕ
+  pub failure_count : ℕ
+
+abbrev pub sarif_state : Sarif → SarifState
+sarif_state s = record {
+  docs = option_map (λ docs. docs.now) s.docs;
+  has_results = s.has_results;
+  unit = string_bytes s.unit;
+  counts = s.counts;
+  failures = string_bytes s.failures;
+  failure_count = s.failure_count;
+}
+
+-- ---- runs
+
+-- How many fonts that weren't checked a run tells of.
+abbrev pub most_failures : ℕ
+most_failures = 1000
+
+-- What stands in front of the results of a run: the program and its rules.
+unfoldable pub run_begin : Option (List ℕ) → List ℕ
+run_begin docs = codes "{\"tool\":" ++ (compact_text (tool_object docs) ++ codes ",\"results\":[")
+
+-- And behind them: whether each font was checked, and which were not.
+abbrev pub truth : Bool → List ℕ
+truth is = if is then codes "true" else codes "false"
+
+abbrev pub run_end : Bool → List ℕ → List ℕ
+run_end successful failures =
+    codes "],\"invocations\":[{\"executionSuccessful\":"
+    ++ (truth successful ++ (codes ",\"toolExecutionNotifications\":[" ++ (failures ++ codes "]}]}")))
+
+-- ---- the beginning and the end
+
+abbrev pub no_counts : List ℕ
+no_counts = replicate (page_count + 1) 0
+
+-- A document that has no line yet.
+abbrev pub begun : Option (List ℕ) → SarifState
+begun docs = record { docs = docs; has_results = false; unit = []; counts = no_counts; failures = []; failure_count = 0 }
+
+abbrev pub document_begin : List ℕ
+document_begin = codes "{\"$schema\":\"https://json.schemastore.org/sarif-2.1.0.json\",\"version\":\"2.1.0\",\"runs\":["
+
+abbrev pub opening : Option (List ℕ) → List ℕ
+opening docs = document_begin ++ run_begin docs
+
+abbrev pub state_end : SarifState → List ℕ
+state_end state = run_end (state.failure_count == 0) state.failures
+
+abbrev pub closing : SarifState → List ℕ
+closing state = state_end state ++ codes "]}\n"
+
+-- ---- a line of a report, or a refusal
+
+-- In another unit each code is counted anew.
+abbrev pub counts_in : SarifState → List ℕ → List ℕ
+counts_in state unit = if bytes_eq unit state.unit then state.counts else no_counts
+
+-- The how-manieth result of its unit and its code comes now.
+abbrev pub count_of : SarifState → Option (List ℕ) → LineValue → ℕ
+count_of state font l = one_more (slice_index (counts_in state (unit_of font l)) (place_among pages (line_code l)))
+
+abbrev pub result_text : SarifState → Option (List ℕ) → LineValue → List ℕ → List ℕ
+result_text state font l line =
+    comma_if state.has_results
+    ++ compact_text (result_object font l line (fingerprint (unit_of font l) l (count_of state font l)))
+
+abbrev pub after_result : SarifState → Option (List ℕ) → LineValue → SarifState
+after_result state font l =
+    record state {
+      has_results = true;
+      unit = unit_of font l;
+      counts = slice_set (counts_in state (unit_of font l)) (place_among pages (line_code l)) (count_of state font l);
+    }
+
+-- ---- why a font wasn't checked
+
+-- Where the run tells of as many fonts as it may, the next one begins.
+abbrev pub with_room : SarifState → SarifState
+with_room state =
+    if nat_lt state.failure_count most_failures then state
+    else record state { has_results = false; failures = []; failure_count = 0 }
+
+abbrev pub room_text : SarifState → List ℕ
+room_text state = if nat_lt state.failure_count most_failures then [] else state_end state ++ (44 ∷ run_begin state.docs)
+
+abbrev pub with_failure : SarifState → List ℕ → SarifState
+with_failure state text =
+    record state {
+      failures = state.failures ++ (comma_if (nat_lt 0 state.failure_count) ++ text);
+      failure_count = state.failure_count + 1;
+    }
+
+-- ---- what is told
+
+-- What is written of it. Its line is spelled so.
+abbrev pub text_of_what : SarifState → Option (List ℕ) → WhatValue → List ℕ → List ℕ
+text_of_what state font (of_line l) line = result_text state font l line
+text_of_what state font (of_unchecked reason) line = room_text state
+
+abbrev pub telling_text : SarifState → ToldValue → List ℕ → List ℕ
+telling_text state t line = text_of_what state t.font t.what line
+
+abbrev pub after_what : SarifState → Option (List ℕ) → WhatValue → List ℕ → SarifState
+after_what state font (of_line l) line = after_result state font l
+after_what state font (of_unchecked reason) line = with_failure (with_room state) (compact_text (notification_object font line))
+
+abbrev pub after_telling : SarifState → ToldValue → List ℕ → SarifState
+after_telling state t line = after_what state t.font t.what line

@@ -1,0 +1,96 @@
+-- A document of SARIF as a whole: its runs, each with its results and what wasn't checked.
+use Rattle.std.specs.Prelude.{◌≡◌, ◌≤◌, ℕ, ◌==◌, nat_lt, Bool, true, false, if◌then◌else◌, List, [], ◌∷◌, ◌++◌, codes, length, Option}
+use Rattle.std.specs.List.{AllByRecursion, sum_by}
+use Rattle.serde_json.specs.Data.{Data}
+use Rattle.serde_json.specs.Written.{comma_if, compact_text}
+use Rattle.t1_lines.specs.Lines.{LineValue}
+use Rattle.t1_forms.specs.Sarif.{SarifState, after_telling, begun, closing, count_of, document_begin, most_failures, opening, run_begin, run_end, telling_text}
+use Rattle.t1_forms.specs.SarifObjects.{fingerprint, notification_object, result_object, unit_of}
+use Rattle.t1_forms.specs.Tellings.{ToldValue, WhatValue, of_line, of_unchecked, what_spelled}
+
+-- ---- what is written of tellings, one after another
+
+abbrev pub after_one : SarifState → ToldValue → SarifState
+after_one state t = after_telling state t (what_spelled t.what)
+
+-- And then the end.
+abbrev pub tellings_text : SarifState → List ToldValue → List ℕ
+tellings_text state [] = closing state
+tellings_text state (t ∷ ts) = telling_text state t (what_spelled t.what) ++ tellings_text (after_one state t) ts
+
+-- ---- a document of runs
+
+pub record Run : Type 0 where
+  pub results : List Data
+  pub failures : List Data
+
+-- Objects with commas between them.
+abbrev pub separated_from : Bool → List Data → List ℕ
+separated_from later [] = []
+separated_from later (d ∷ ds) = (comma_if later ++ compact_text d) ++ separated_from true ds
+
+abbrev pub separated : List Data → List ℕ
+separated = separated_from false
+
+-- A run behind its tool and its rules.
+abbrev pub run_rest : Run → List ℕ
+run_rest run = separated run.results ++ run_end (length run.failures == 0) (separated run.failures)
+
+-- Runs with commas between them, and what stands behind the last one.
+abbrev pub runs_text : Bool → Option (List ℕ) → List Run → List ℕ
+runs_text later docs [] = codes "]}\n"
+runs_text later docs (run ∷ runs) = (comma_if later ++ run_begin docs) ++ (run_rest run ++ runs_text true docs runs)
+
+abbrev pub document_text : Option (List ℕ) → List Run → List ℕ
+document_text docs runs = document_begin ++ runs_text false docs runs
+
+-- ---- the runs of tellings
+
+-- The result of a line.
+abbrev pub result_of : SarifState → Option (List ℕ) → LineValue → Data
+result_of state font l = result_object font l (what_spelled (of_line l)) (fingerprint (unit_of font l) l (count_of state font l))
+
+abbrev pub notification_of : Option (List ℕ) → List ℕ → Data
+notification_of font reason = notification_object font (what_spelled (of_unchecked reason))
+
+-- One telling more in the run that has these results and failures. A run tells of a thousand fonts that weren't checked, then the next one
+-- begins.
+abbrev pub run_step : (SarifState → List Data → List Data → List Run) → SarifState → SarifState → List Data → List Data → Option (List ℕ) → WhatValue
+    → List Run
+run_step rest state after results failures font (of_line l) = rest after (results ++ result_of state font l ∷ []) failures
+run_step rest state after results failures font (of_unchecked reason) =
+    if nat_lt (length failures) most_failures then rest after results (failures ++ notification_of font reason ∷ [])
+    else record { results = results; failures = failures } ∷ rest after [] (notification_of font reason ∷ [])
+
+-- The run that has these, and those behind it.
+abbrev pub runs_from : List ToldValue → SarifState → List Data → List Data → List Run
+runs_from [] state results failures = record { results = results; failures = failures } ∷ []
+runs_from (t ∷ ts) state results failures = run_step (runs_from ts) state (after_one state t) results failures t.font t.what
+
+-- The runs of a document that has told of these.
+abbrev pub runs_of : Option (List ℕ) → List ToldValue → List Run
+runs_of docs ts = runs_from ts (begun docs) [] []
+
+-- ---- laws
+
+-- What is written from the beginning to the end is the document of the runs.
+abbrev pub DocumentsAreOfTheirRuns : Type 0
+DocumentsAreOfTheirRuns = (docs : Option (List ℕ)) (ts : List ToldValue) → opening docs ++ tellings_text (begun docs) ts ≡ document_text docs (runs_of docs ts)
+
+abbrev pub line_count : WhatValue → ℕ
+line_count (of_line l) = 1
+line_count (of_unchecked reason) = 0
+
+abbrev pub unchecked_count : WhatValue → ℕ
+unchecked_count (of_line l) = 0
+unchecked_count (of_unchecked reason) = 1
+
+-- All runs have as many results as there are lines of reports and refusals, and tell of as many fonts as weren't checked; each of a thousand
+-- at most.
+pub record IsCounted (runs : List Run) (ts : List ToldValue) : Type 0 where
+  pub results : sum_by (λ run. length run.results) runs ≡ sum_by (λ t. line_count t.what) ts
+  pub failures : sum_by (λ run. length run.failures) runs ≡ sum_by (λ t. unchecked_count t.what) ts
+  pub most : AllByRecursion (λ run. length run.failures ≤ most_failures) runs
+
+abbrev pub AllIsTold : Type 0
+AllIsTold = (docs : Option (List ℕ)) (ts : List ToldValue) → IsCounted (runs_of docs ts) ts

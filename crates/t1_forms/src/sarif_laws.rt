@@ -1,0 +1,14 @@
+//! Laws of documents of SARIF: each is the contract of a function that does nothing.
+
+ghost use Rattle.t1_forms.specs.SarifDocuments.{AllIsTold, DocumentsAreOfTheirRuns};
+
+/// What `Sarif` writes from its beginning to its end is one document: runs with commas between them, each with its tool, its rules, the
+/// results of its lines and the fonts that weren't checked.
+pub fn documents_are_of_their_runs()
+    ensures { DocumentsAreOfTheirRuns }
+{}
+
+/// All runs have as many results as lines were told, and tell of as many fonts as weren't checked; each run of a thousand at most.
+pub fn all_is_told_in_documents()
+    ensures { AllIsTold }
+{}

@@ -1,0 +1,58 @@
+-- A document of SARIF: what is written of things that are handed on.
+use Rattle.std.specs.Prelude.{◌≡◌, ◌⊎◌, ℕ, true, List, [], ◌∷◌, ◌++◌, Option, None, Some}
+use Rattle.std.specs.Io.KnownBytes.{Appends}
+use Rattle.std.specs.List.{flat_map}
+use Rattle.t1_forms.specs.Sarif.{SarifState, after_telling, closing, sarif_state, telling_text}
+use Rattle.t1_forms.specs.SarifDocuments.{tellings_text}
+use Rattle.t1_forms.specs.Tellings.{ToldValue, what_spelled}
+use Rattle.t1_forms.specs.declared.sarif.Sarif.{Sarif}
+use Rattle.t1_io.specs.Devices.{AppendsFront, SinkState}
+use Rattle.t1_many.specs.Handing.{Handed, done, failure, line}
+use Rattle.t1_many.specs.Plain.{tellings}
+use Rattle.t1_many.specs.declared.recipient.Lost.{Lost}
+use Rattle.t1_many.specs.declared.recipient.Lost.TheVariants.{Memory}
+use Rattle.t1_many_forms.specs.Formatting.{Formatting, out_of_memory, read_failed, told_fault, told_refusal, told_unchecked}
+use Rattle.t1_many_forms.specs.JsonLines.{IsLinePut}
+use Rattle.t1_run.specs.declared.failure.Failure.{Failure}
+use Rattle.t1_run.specs.declared.failure.Failure.TheVariants as failures
+
+-- What is kept, unless it stopped.
+abbrev pub IsKept : SarifState → SarifState → Option Lost → Type 0
+IsKept now state None = now ≡ state
+IsKept now state (Some lost) = Unit {0}
+
+-- What a document has of what is told was put, and is kept.
+abbrev pub telling_written : Sarif → Sarif → SinkState → SinkState → ToldValue → Option Lost → Type 0
+telling_written document after old new told lost =
+    IsLinePut old new (telling_text (sarif_state document) told (what_spelled told.what)) lost
+    × IsKept (sarif_state after) (after_telling (sarif_state document) told (what_spelled told.what)) lost
+
+-- What ends it was put.
+abbrev pub end_written : Sarif → SinkState → SinkState → Option Lost → Type 0
+end_written document old new lost = IsLinePut old new (closing (sarif_state document)) lost
+
+-- What is told of a thing that is handed on; how a font was found is told of none.
+abbrev pub failure_value : List ℕ → Failure → ToldValue
+failure_value name (failures.Refused code) = told_refusal name code
+failure_value name failures.Broken = told_unchecked name read_failed
+failure_value name failures.Memory = told_unchecked name out_of_memory
+
+abbrev pub values_of : Handed → List ToldValue
+values_of (line name font waivers fault) = told_fault name font waivers fault ∷ []
+values_of (failure name reason) = failure_value name reason ∷ []
+values_of (done name found) = []
+
+abbrev pub all_values : List Handed → List ToldValue
+all_values handed = flat_map values_of handed
+
+-- What was written of all of these, and then what ends the document, is the text of what they tell; and each was told as the plain form tells
+-- it. Or a front of it was, since memory ran out or a device failed.
+abbrev pub IsDocumentOf : Formatting Sarif → Formatting Sarif → List Handed → Option Lost → Type 0
+IsDocumentOf old new handed None =
+    ((text : List ℕ) × (text ++ closing (sarif_state new.formatter) ≡ tellings_text (sarif_state old.formatter) (all_values handed))
+    × Appends old.out.written new.out.written text)
+    × Appends old.errors.written new.errors.written (tellings handed)
+IsDocumentOf old new handed (Some lost) =
+    AppendsFront old.out.written new.out.written (tellings_text (sarif_state old.formatter) (all_values handed))
+    × AppendsFront old.errors.written new.errors.written (tellings handed)
+    × ((lost ≡ Memory) ⊎ (new.out.failed ≡ true) ⊎ (new.errors.failed ≡ true))
