@@ -4,14 +4,14 @@ use crate::folder::write;
 use crate::joining::join_parts;
 use crate::parts::{check_listed, check_part};
 use crate::planning::plan;
+use crate::settings::{leave_settings, left_settings, named, read_settings};
 use crate::usage::VERSION;
 use crate::whole::answer_words;
-use std::alloc::{AllocError, Global};
 use std::io::Write;
 use t1_batch::PROGRAM;
 use t1_io::Out;
 use t1_options::{Options, Request, options};
-use t1_run::{Failure, Status, explain, give, tell_failure};
+use t1_run::{Failure, Status, UsageError, explain, give, tell_failure};
 
 /// A step of a run, with its folder. The words of the run stand behind it.
 #[derive(Clone, Copy)]
@@ -43,8 +43,41 @@ pub(crate) fn call_of<W: Write + Drop, E: Write + Drop>(
     out: Out<W>,
     errors: Out<E>,
 ) -> Status {
+    let mut out = out;
+    let mut errors = errors;
     let (step, start) = step_in(words);
-    let Ok(words) = named(rt.alloc(), words.get(start..).unwrap_or(&[])) else {
+    let words = words.get(start..).unwrap_or(&[]);
+    match settings(rt, step, words) {
+        Ok(settings) => answer_call(rt, step, settings.as_slice(), words, out, errors),
+        Err(error) => explain(PROGRAM, &error, &mut out, &mut errors),
+    }
+}
+
+/// The words that the settings are. The first step of a run reads them, and the others take what it left, so that all have the same.
+fn settings(
+    rt: &HostRuntime,
+    step: Option<Step<'_>>,
+    words: &[String],
+) -> Result<Vec<String>, UsageError> {
+    match step {
+        None => read_settings(rt, words),
+        Some(Step::Plan { folder, .. }) => leave_settings(rt, folder, words),
+        Some(Step::Part { folder, .. } | Step::All { folder } | Step::Join { folder }) => {
+            left_settings(rt, folder)
+        }
+    }
+}
+
+/// Answers words with those of the settings before them.
+fn answer_call<W: Write + Drop, E: Write + Drop>(
+    rt: &HostRuntime,
+    step: Option<Step<'_>>,
+    settings: &[String],
+    words: &[String],
+    out: Out<W>,
+    errors: Out<E>,
+) -> Status {
+    let Ok(words) = named(rt.alloc(), settings, words) else {
         let mut errors = errors;
         return tell_failure(PROGRAM, Failure::Memory, &mut errors);
     };
@@ -85,16 +118,6 @@ fn version<W: Write + Drop, E: Write + Drop>(
         },
         _ => give(PROGRAM, VERSION, out, errors),
     }
-}
-
-/// Words with the program's name in front, which is in the texts of usage errors.
-fn named(alloc: Global, words: &[String]) -> Result<Vec<&str>, AllocError> {
-    let mut all = Vec::new(alloc);
-    all.push(PROGRAM)?;
-    for word in words {
-        all.push(word.as_str())?;
-    }
-    Ok(all)
 }
 
 /// The step that the words call for, if any, and where the words of the run begin.

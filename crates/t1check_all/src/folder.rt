@@ -58,6 +58,16 @@ pub(crate) fn read_list(rt: &HostRuntime, folder: &str) -> io::Result<Fonts> {
     })
 }
 
+/// Leaves the words of the settings.
+pub(crate) fn leave_words(rt: &HostRuntime, folder: &str, words: &[String]) -> io::Result<()> {
+    leave_lines(rt, folder, "settings", words)
+}
+
+/// The words of the settings that were left.
+pub(crate) fn left_words(rt: &HostRuntime, folder: &str) -> io::Result<Vec<String>> {
+    left_lines(rt, folder, "settings")
+}
+
 /// Writes a number.
 fn write_number(rt: &HostRuntime, folder: &str, file: &str, number: usize) -> io::Result<()> {
     let text = number.to_string(rt.alloc())?;

@@ -18,6 +18,7 @@ mod joining;
 mod parts;
 mod planning;
 mod replacing;
+mod settings;
 mod usage;
 mod whole;
 mod words;

@@ -1,0 +1,5 @@
+pub mod FindingLemmas
+pub mod ReadingLemmas
+pub mod SettledLemmas
+pub mod WordLaws
+pub mod WordLemmas

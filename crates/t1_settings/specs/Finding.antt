@@ -1,0 +1,65 @@
+-- Where a settings file is looked for.
+use Rattle.std.specs.Prelude.{◌≡◌, ℕ, true, List, [], Option, None, Some, Result, Ok, Err, if◌then◌else◌, codes, is_some, string_bytes}
+use Rattle.std.specs.Global.{Global}
+use Rattle.std.specs.Path.{path_file_name, path_join, path_parent}
+use Rattle.std.specs.Str.{bytes_eq}
+use Rattle.std.specs.declared.vec.Vec.{Vec}
+use Rattle.t1_names.specs.Words.{Trims}
+use Rattle.t1_settings.specs.declared.finding.Found.{Found}
+use Rattle.t1_settings.specs.declared.finding.Unfound.{Unfound}
+use Rattle.t1_settings.specs.declared.finding.Unfound.TheVariants.{CannotRead, Memory}
+
+-- Files that are asked for by their names.
+pub record Files : Type 1 where
+  -- A file has this text.
+  pub Has : List ℕ → List ℕ → Type 0
+  -- It is there, and can't be read.
+  pub CannotRead : List ℕ → Type 0
+  -- There is no such file.
+  pub HasNone : List ℕ → Type 0
+
+-- By what reading gives: None where there is no such file.
+abbrev pub files_by : {E : Type 0} → (List ℕ → Option (Result (Vec ℕ Global) E) → Type 0) → Files
+files_by {E} Gives = record {
+  Has = λ name text. (bytes : Vec ℕ Global) × Gives name (Some (Ok bytes)) × (bytes.items ≡ text);
+  CannotRead = λ name. (error : E) × Gives name (Some (Err error));
+  HasNone = λ name. Gives name None;
+}
+
+abbrev pub file_in : List ℕ → List ℕ
+file_in folder = path_join folder (codes ".t1check.toml")
+
+-- The folder above a folder, by its name. The working folder, whose name is empty, has none, nor has a name that ends in `.` or `..`, nor `/`.
+abbrev pub above : List ℕ → Option (List ℕ)
+above folder = if is_some (path_file_name folder) then path_parent folder else None
+
+-- The nearest settings file in a folder or above it, by the folder that it is in and its text, if there is one.
+pub data IsNearest (files : Files) : List ℕ → Option (List ℕ × List ℕ) → Type 0 where
+  here : (folder text : List ℕ) → files.Has (file_in folder) text → IsNearest files folder (Some (folder, text))
+  nowhere : (folder : List ℕ) → files.HasNone (file_in folder) → above folder ≡ None → IsNearest files folder None
+  higher :
+      (folder next : List ℕ) → (found : Option (List ℕ × List ℕ)) → files.HasNone (file_in folder) → above folder ≡ Some next
+      → IsNearest files next found → IsNearest files folder found
+
+-- The nearest one can't be read.
+pub data IsUnread (files : Files) : List ℕ → List ℕ → Type 0 where
+  here : (folder : List ℕ) → files.CannotRead (file_in folder) → IsUnread files folder (file_in folder)
+  higher :
+      (folder next name : List ℕ) → files.HasNone (file_in folder) → above folder ≡ Some next → IsUnread files next name
+      → IsUnread files folder name
+
+abbrev pub IsUnreadOr : Files → List ℕ → Unfound → Type 0
+IsUnreadOr files folder (CannotRead name) = IsUnread files folder (string_bytes name)
+IsUnreadOr files folder Memory = Unit {0}
+
+abbrev pub found_value : Found → List ℕ × List ℕ
+found_value found = (string_bytes found.folder, found.text.items)
+
+abbrev pub dot_is_empty : List ℕ → List ℕ
+dot_is_empty folder = if bytes_eq folder (codes ".") then [] else folder
+
+-- The search begins at the first path, as the names of fonts begin in lines: without `./` and the last slash. Without a path it begins at the
+-- working folder.
+abbrev pub BeginsAt : Option (List ℕ) → List ℕ → Type 0
+BeginsAt None start = start ≡ []
+BeginsAt (Some path) start = (trimmed : List ℕ) × Trims (λ name leads. leads ≡ true) path trimmed × (start ≡ dot_is_empty trimmed)
