@@ -1,0 +1,10 @@
+pub mod Counts
+pub mod Fitting
+pub mod Greatest
+pub mod GroupTails
+pub mod HeldGroups
+pub mod Kept
+pub mod NamesText
+pub mod Runs
+pub mod Steps
+pub mod Written

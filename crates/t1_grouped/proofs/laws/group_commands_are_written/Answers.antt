@@ -1,0 +1,16 @@
+use Rattle.std.proofs.Common.{[], ap, subst, sym}
+use Rattle.t1_grouped.proofs.HeldGroups.{AreGroups, none_held}
+use Rattle.t1_grouped.proofs.Written.{commands_worded, seen, written}
+use Rattle.t1_grouped.proofs.laws.group_commands_are_written.Goals as goal
+use Rattle.t1_grouped.specs.Commands.{command_writing, message_room}
+use Rattle.t1_grouped.specs.RuleGroups.{values_of}
+use Rattle.t1_grouped.specs.Writings.{command_wording}
+
+pub returns : goal.returns
+returns g c old new handed lost none hands =
+    written command_writing command_wording commands_worded []
+    (record { out = g.W.Sink.state old.out; errors = g.E.Sink.state old.errors; groups = values_of message_room old.groups })
+    (record { out = g.W.Sink.state new.out; errors = g.E.Sink.state new.errors; groups = values_of message_room new.groups })
+    handed lost (subst (AreGroups message_room []) (sym (ap (values_of message_room) none)) (none_held message_room))
+    (seen (λ f. f.form) (λ _. command_writing)
+    (λ w f. record { out = g.W.Sink.state f.out; errors = g.E.Sink.state f.errors; groups = values_of w.room f.groups }) old new handed lost hands)

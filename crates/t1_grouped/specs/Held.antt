@@ -1,0 +1,54 @@
+-- Lines of a font that were handed on, rule by rule.
+use Rattle.std.specs.Prelude.{ℕ, ◌==◌, filter, if◌then◌else◌, List, [], ◌∷◌, Bool, true, false, length, map}
+use Rattle.std.specs.List.{flat_map}
+use Rattle.t1_font.specs.Fonts.{FontValue}
+use Rattle.t1_grouped.specs.FaultUnits.{unit_name, unit_number}
+use Rattle.t1_grouped.specs.TerminalNames.{terminal_name}
+use Rattle.t1_grouped.specs.Units.{NamedUnit, names_of}
+use Rattle.t1_report.specs.Faults.{FaultValue}
+use Rattle.t1_report.specs.Waivers.{Waiver}
+use Rattle.t1_rules.specs.Book.{level_of, number_of, rules}
+use Rattle.t1_rules.specs.declared.level.Level.{Level}
+use Rattle.t1_rules.specs.declared.level.Level.TheVariants.{Must, Should, Tidy}
+use Rattle.t1_rules.specs.declared.rule.Rule.{Rule}
+
+-- A line: the rule that is broken, and the unit where.
+pub record HeldLine : Type 0 where
+  pub rule : Rule
+  pub unit : NamedUnit
+
+-- The line of a fault.
+abbrev pub held_line : FontValue → List Waiver → FaultValue → HeldLine
+held_line font waivers fault = record {
+  rule = fault.rule;
+  unit = record { number = unit_number font fault; name = terminal_name (unit_name font waivers fault) };
+}
+
+-- The units of the lines of a rule.
+abbrev pub units_of : Rule → List HeldLine → List NamedUnit
+units_of rule held = map (λ (l : HeldLine). l.unit) (filter (λ (l : HeldLine). number_of l.rule == number_of rule) held)
+
+-- ---- the order of rules
+
+abbrev pub is_same_level : Level → Level → Bool
+is_same_level Must Must = true
+is_same_level Should Should = true
+is_same_level Tidy Tidy = true
+is_same_level _ _ = false
+
+-- What a rule has, if it is of a level.
+abbrev pub level_line : (Rule → List ℕ) → Level → Rule → List ℕ
+level_line text level rule = if is_same_level (level_of rule) level then text rule else []
+
+-- What each rule of a level has, in the order of their numbers.
+abbrev pub of_level : (Rule → List ℕ) → Level → List ℕ
+of_level text level = flat_map (level_line text level) rules
+
+-- What each rule has: those of level must first, then should, then tidy.
+abbrev pub by_level : (Rule → List ℕ) → List ℕ
+by_level text = flat_map (of_level text) (Must ∷ Should ∷ Tidy ∷ [])
+
+-- What each rule that has lines has, of how many there are, and the names of their units.
+abbrev pub held_text : (Rule → ℕ → List (List ℕ) → List ℕ) → List HeldLine → List ℕ
+held_text text held =
+    by_level (λ rule. (let units = units_of rule held in if length units == 0 then [] else text rule (length units) (names_of units)))

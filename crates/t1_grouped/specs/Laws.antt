@@ -1,0 +1,32 @@
+-- The statements of laws.
+use Rattle.std.specs.Prelude.{◌≡◌, ◌⊎◌, ◌≤◌, ℕ, false, List, ◌∷◌, ◌++◌, length}
+use Rattle.std.specs.List.{sum_by}
+use Rattle.t1_grouped.specs.Held.{HeldLine, units_of}
+use Rattle.t1_grouped.specs.Tails.{fits, greatest, tail_with}
+use Rattle.t1_grouped.specs.Terminals.{terminal_tail, terminal_text}
+use Rattle.t1_grouped.specs.Widths.{width_of}
+use Rattle.t1_rules.specs.Book.{rules}
+use Rattle.t1_rules.specs.declared.rule.Rule.{Rule}
+
+-- The numbers of the lines of all rules sum to the lines.
+abbrev pub CountsSumToLines : Type 0
+CountsSumToLines = (held : List HeldLine) → sum_by (λ rule. length (units_of rule held)) rules ≡ length held
+
+-- Each line is in the group of its rule, behind those before it.
+abbrev pub LinesAreInTheirGroups : Type 0
+LinesAreInTheirGroups =
+    (before after : List HeldLine) (l : HeldLine)
+    → units_of l.rule (before ++ l ∷ after) ≡ units_of l.rule before ++ l.unit ∷ units_of l.rule after
+
+-- A line on a terminal, without colours, is as wide as the terminal at most, or it has no name.
+abbrev pub LinesFitTerminals : Type 0
+LinesFitTerminals =
+    (width : ℕ) (name : List ℕ) (rule : Rule) (count : ℕ) (names : List (List ℕ))
+    → (width_of (terminal_text false name rule (terminal_tail width name rule count names)) ≤ width)
+    ⊎ (terminal_tail width name rule count names ≡ tail_with count names 0)
+
+-- No more names fit than are shown.
+abbrev pub NoMoreNamesFit : Type 0
+NoMoreNamesFit =
+    (room count : ℕ) (names : List (List ℕ)) (shown : ℕ) → shown ≤ length names → width_of (tail_with count names shown) ≤ room
+    → shown ≤ greatest (fits room count names) (length names)

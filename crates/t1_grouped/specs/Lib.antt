@@ -1,0 +1,15 @@
+pub mod Commands
+pub mod FaultUnits
+pub mod GroupLines
+pub mod Groups
+pub mod Grouping
+pub mod Held
+pub mod Laws
+pub mod Private
+pub mod RuleGroups
+pub mod Tails
+pub mod TerminalNames
+pub mod Terminals
+pub mod Units
+pub mod Widths
+pub mod Writings

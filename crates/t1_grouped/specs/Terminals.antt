@@ -1,0 +1,61 @@
+-- What is written on a terminal.
+use Rattle.std.specs.Prelude.{ℕ, ◌-◌, Bool, if◌then◌else◌, List, [], ◌∷◌, ◌++◌, codes}
+use Rattle.t1_grouped.specs.GroupLines.{Writing, rule_head, rule_tail, rule_tail_of}
+use Rattle.t1_grouped.specs.TerminalNames.{terminal_name}
+use Rattle.t1_grouped.specs.Widths.{width_of}
+use Rattle.t1_lines.specs.RefusalTexts.{refusal_text_of}
+use Rattle.t1_lines.specs.declared.refusal.RefusalCode.{RefusalCode}
+use Rattle.t1_rules.specs.Book.{level_of}
+use Rattle.t1_rules.specs.declared.level.Level.{Level}
+use Rattle.t1_rules.specs.declared.level.Level.TheVariants.{Must, Should, Tidy}
+use Rattle.t1_rules.specs.declared.rule.Rule.{Rule}
+
+-- The sequence that switches to the colour of a level: red, yellow or cyan. 27 is ESC.
+abbrev pub colour_of : Level → List ℕ
+colour_of Must = 27 ∷ codes "[31m"
+colour_of Should = 27 ∷ codes "[33m"
+colour_of Tidy = 27 ∷ codes "[36m"
+
+-- The sequence that switches back.
+abbrev pub colour_end : List ℕ
+colour_end = 27 ∷ codes "[0m"
+
+abbrev pub coloured : Bool → Level → List ℕ → List ℕ
+coloured has_colours level text = if has_colours then colour_of level ++ (text ++ colour_end) else text
+
+-- `NAME: `.
+abbrev pub name_part : List ℕ → List ℕ
+name_part name = terminal_name name ++ codes ": "
+
+-- `NAME: RULE TEXT × COUNT: NAMES`, with what is after the rule's text.
+abbrev pub terminal_text : Bool → List ℕ → Rule → List ℕ → List ℕ
+terminal_text has_colours name rule tail = name_part name ++ (coloured has_colours (level_of rule) (rule_head rule) ++ tail)
+
+abbrev pub terminal_line : Bool → List ℕ → Rule → List ℕ → List ℕ
+terminal_line has_colours name rule tail = terminal_text has_colours name rule tail ++ codes "\n"
+
+-- The room that is left by the font's name.
+abbrev pub room_after : ℕ → List ℕ → ℕ
+room_after width name = width - width_of (name_part name)
+
+-- `NAME: refused: CODE TEXT`.
+abbrev pub terminal_refusal : Bool → List ℕ → RefusalCode → List ℕ
+terminal_refusal has_colours name code =
+    name_part name ++ (coloured has_colours Must (codes "refused: " ++ refusal_text_of code) ++ codes "\n")
+
+abbrev pub terminal_writing : ℕ → Bool → Writing
+terminal_writing width has_colours = record {
+  room = width;
+  line = λ name rule g. terminal_line has_colours name rule (rule_tail (room_after width name) rule g);
+  refusal = terminal_refusal has_colours;
+  unchecked = λ name reason. [];
+}
+
+-- What is after the rule's text, of so many lines at units of these names.
+abbrev pub terminal_tail : ℕ → List ℕ → Rule → ℕ → List (List ℕ) → List ℕ
+terminal_tail width name rule count names = rule_tail_of (room_after width name) rule count names
+
+-- The line of so many lines of a rule at units of these names.
+abbrev pub terminal_line_of : ℕ → Bool → List ℕ → Rule → ℕ → List (List ℕ) → List ℕ
+terminal_line_of width has_colours name rule count names =
+    terminal_line has_colours name rule (terminal_tail width name rule count names)
