@@ -5,6 +5,8 @@ pub mod OneObject
 pub mod OneTelling
 pub mod SarifCounts
 pub mod SarifFloats
+pub mod SarifParts
 pub mod SarifRuns
+pub mod SarifUnits
 pub mod ShownNames
 pub mod ShownWords

@@ -14,7 +14,7 @@ use Rattle.t1_forms.specs.Laws.{ShownNamesAreWords}
 
 -- ---- digits
 
-abbrev has_value : Option ℕ → ℕ → Bool
+abbrev pub has_value : Option ℕ → ℕ → Bool
 has_value None d = false
 has_value (Some v) d = v == d
 
@@ -22,17 +22,17 @@ value_is : (o : Option ℕ) (d : ℕ) → has_value o d ≡ true → o ≡ Some 
 value_is None d e = cc
 value_is (Some v) d e = let same : v ≡ d = grind (arith, nat_tests, e) in rw same refl
 
-abbrev digits_below : ℕ → Bool
+abbrev pub digits_below : ℕ → Bool
 digits_below zero = true
 digits_below (suc n) = has_value (hex_digit_value (hexadecimal_digit n)) n && digits_below n
 
-digit_below : (n : ℕ) → digits_below n ≡ true → (d : ℕ) → d < n → hex_digit_value (hexadecimal_digit d) ≡ Some d
+pub digit_below : (n : ℕ) → digits_below n ≡ true → (d : ℕ) → d < n → hex_digit_value (hexadecimal_digit d) ≡ Some d
 digit_below zero e d h = absurd (omega arith)
 digit_below (suc n) e d h =
     let p = and_parts _ _ e in
     elim (cases_eq d n) [ inl same ↦ rw same (value_is _ n p.0) | inr other ↦ digit_below n p.1 d (omega arith) ]
 
-all_digits : digits_below 16 ≡ true
+pub all_digits : digits_below 16 ≡ true
 all_digits = refl
 
 -- ---- what stands for a byte, or for a character

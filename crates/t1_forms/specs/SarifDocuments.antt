@@ -1,11 +1,17 @@
 -- A document of SARIF as a whole: its runs, each with its results and what wasn't checked.
-use Rattle.std.specs.Prelude.{◌≡◌, ◌≤◌, ℕ, ◌==◌, nat_lt, Bool, true, false, if◌then◌else◌, List, [], ◌∷◌, ◌++◌, codes, length, Option}
-use Rattle.std.specs.List.{AllByRecursion, sum_by}
+use Rattle.std.specs.Prelude.{◌≡◌, ◌≤◌, ◌+◌, ℕ, ◌==◌, nat_lt, Bool, true, false, bytes_eq, if◌then◌else◌, List, [], ◌∷◌, ◌++◌, codes, length, Option, Some}
+use Rattle.std.specs.List.{AllByRecursion, flat_map, sum_by}
 use Rattle.serde_json.specs.Data.{Data}
 use Rattle.serde_json.specs.Written.{comma_if, compact_text}
-use Rattle.t1_lines.specs.Lines.{LineValue}
-use Rattle.t1_forms.specs.Sarif.{SarifState, after_telling, begun, closing, count_of, document_begin, most_failures, opening, run_begin, run_end, telling_text}
-use Rattle.t1_forms.specs.SarifObjects.{fingerprint, notification_object, result_object, unit_of}
+use Rattle.t1_rules.specs.Book.{code_of, text_of}
+use Rattle.t1_lines.specs.Lines.{FaultLineValue, IsFaultLine, LineValue, fault_spelled, place_words, spaced}
+use Rattle.t1_forms.specs.PageValues.{place_among}
+use Rattle.t1_forms.specs.Pages.{page_count, pages}
+use Rattle.t1_forms.specs.Sarif.{SarifState, after_result, after_telling, begun, closing, count_of, document_begin, most_failures, opening, run_begin, run_end, telling_text}
+use Rattle.t1_forms.specs.Laws.{AreBytes}
+use Rattle.t1_forms.specs.Percents.{decoded}
+use Rattle.t1_io.specs.Devices.{one_more}
+use Rattle.t1_forms.specs.SarifObjects.{behind_colon, fingerprint, line_code, notification_object, result_object, unit_of, uri_byte}
 use Rattle.t1_forms.specs.Tellings.{ToldValue, WhatValue, of_line, of_unchecked, what_spelled}
 
 -- ---- what is written of tellings, one after another
@@ -94,3 +100,24 @@ pub record IsCounted (runs : List Run) (ts : List ToldValue) : Type 0 where
 
 abbrev pub AllIsTold : Type 0
 AllIsTold = (docs : Option (List ℕ)) (ts : List ToldValue) → IsCounted (runs_of docs ts) ts
+
+-- What a result shows of a fault is its line without the number: place, code and text of the rule.
+abbrev pub MessagesHaveNoNumber : Type 0
+MessagesHaveNoNumber =
+    (l : FaultLineValue) → IsFaultLine l → behind_colon (fault_spelled l) ≡ spaced (place_words l.place (code_of l.rule)) (text_of l.rule)
+
+-- A path is read back from its URI.
+abbrev pub UrisAreReadBack : Type 0
+UrisAreReadBack = (path : List ℕ) → AreBytes path → decoded (flat_map uri_byte path) ≡ Some path
+
+-- In each unit the lines of a code are counted from 1 on. One more of the code counts one more, and one of another code nothing: so what a
+-- line is known by stays where lines of other codes, or of other units, come or go.
+pub record CountsGoOn (state : SarifState) (font : Option (List ℕ)) (l other : LineValue) : Type 0 where
+  pub begins : bytes_eq (unit_of font l) state.unit ≡ false → count_of state font l ≡ 1
+  pub stays : unit_of font other ≡ unit_of font l → ¬ (place_among pages (line_code l) ≡ place_among pages (line_code other))
+      → count_of (after_result state font other) font l ≡ count_of state font l
+  pub goes_on : unit_of font other ≡ unit_of font l → place_among pages (line_code l) ≡ place_among pages (line_code other)
+      → length state.counts ≡ page_count + 1 → count_of (after_result state font other) font l ≡ one_more (count_of state font l)
+
+abbrev pub CountsAreOfTheirUnits : Type 0
+CountsAreOfTheirUnits = (state : SarifState) (font : Option (List ℕ)) (l other : LineValue) → CountsGoOn state font l other

@@ -11,9 +11,11 @@
 //! - The line of JSON is the compact text of the object that the line read stands for, and nothing else. What is told differently
 //!   has different objects.
 //! - A command of GitHub is the text that its definition says. What it shows stays in its place, and is read back as it was.
+//! - A document of SARIF is the text that its definition says: runs, each with the rules, a result for each line, and the fonts that
+//!   weren't checked.
 //!
 //! Each is written before the next one is read: memory doesn't grow with the lines, but for fonts that weren't checked, of which
-//! a document keeps at most a thousand. This, and the documents of SARIF, are shown by tests alone.
+//! a document keeps at most a thousand. This is shown by tests alone.
 //!
 //! ```
 //! match read_told(b"a.pfb: 1: glyph A - 9 H02 stems overlap") {
@@ -44,6 +46,8 @@ pub use laws::{
 pub use names::shown;
 pub use objects::{object, write_object};
 pub use sarif::Sarif;
-pub use sarif_laws::{all_is_told_in_documents, documents_are_of_their_runs};
+pub use sarif_laws::{
+    all_is_told_in_documents, documents_are_of_their_runs, fingerprints_stay, results_are_read_back,
+};
 pub use told::{Told, What, read_told};
 pub use version::VERSION;

@@ -6,7 +6,7 @@ use Rattle.t1_forms.specs.Sarif.{SarifState, closing, sarif_state, telling_text}
 use Rattle.t1_forms.specs.SarifDocuments.{after_one, tellings_text}
 use Rattle.t1_forms.specs.Tellings.{ToldValue, what_spelled}
 use Rattle.t1_forms.specs.declared.sarif.Sarif.{Sarif}
-use Rattle.t1_io.specs.Devices.{AppendsFront, SinkState}
+use Rattle.t1_io.specs.Devices.{AppendsFront}
 use Rattle.t1_many.specs.Handing.{Handed, HandsOn, done, failure, line}
 use Rattle.t1_many.specs.Plain.{tellings, told_of}
 use Rattle.t1_many.specs.declared.recipient.Lost.{Lost}
@@ -14,7 +14,6 @@ use Rattle.t1_many.specs.declared.recipient.Lost.TheVariants.{Device, Memory}
 use Rattle.t1_many_forms.proofs.JsonTexts.{cause, front-all, front-first, front-none, front-second, kept, none-same}
 use Rattle.t1_many_forms.specs.Documents.{IsDocumentOf, all_values, telling_written, values_of}
 use Rattle.t1_many_forms.specs.Formatting.{FormattedTakes, Formatting, Gives, GivesFailure, GivesUnchecked, given, no_memory, read_failed, out_of_memory, told, told_unchecked, unchecked_line, untold}
-use Rattle.t1_summary.specs.declared.found.Found.{Found}
 use Rattle.t1_run.specs.declared.failure.Failure.{Failure}
 use Rattle.t1_run.specs.declared.failure.Failure.TheVariants as failures
 
@@ -129,17 +128,15 @@ one old new (done name found) (Some Memory) (formatter, never, same) = absurd ne
 
 more-written : (a b c : Formatting Sarif) (handed : Handed) (more : List Handed) (lost : Option Lost)
     → IsOne a b (values_of handed) (told_of handed) None → IsDocumentOf b c more lost → IsDocumentOf a c (handed ∷ more) lost
-more-written a b c handed more None (first, after, first_told) ((text, (is, out)), errors) =
+more-written a b c handed more None (first, after, first_told) ((text, is, out), errors) =
     let part = part_text (sarif_state a.formatter) (values_of handed) in
     (
       (
         part ++ text,
-        (
-          append_assoc part text (closing (sarif_state c.formatter)) ∙ ap (λ x. part ++ x) is
-          ∙ ap (λ s. part ++ tellings_text s (all_values more)) after
-          ∙ sym (parts (sarif_state a.formatter) (values_of handed) (all_values more)),
-          Appends-trans a.out.written b.out.written c.out.written part text first out,
-        ),
+        append_assoc part text (closing (sarif_state c.formatter)) ∙ ap (λ x. part ++ x) is
+            ∙ ap (λ s. part ++ tellings_text s (all_values more)) after
+            ∙ sym (parts (sarif_state a.formatter) (values_of handed) (all_values more)),
+        Appends-trans a.out.written b.out.written c.out.written part text first out,
       ),
       Appends-trans a.errors.written b.errors.written c.errors.written (told_of handed) (tellings more) first_told errors,
     )
@@ -159,7 +156,7 @@ written : (old new : Formatting Sarif) (handed : List Handed) (lost : Option Los
 written old new [] lost (same, none) =
     subst (IsDocumentOf old new []) (sym none)
     (subst (λ (d : Formatting Sarif). IsDocumentOf old d [] None) (sym same)
-    (([], (refl, Appends-nil old.out.written)), Appends-nil old.errors.written))
+    (([], refl, Appends-nil old.out.written), Appends-nil old.errors.written))
 written old new (handed ∷ more) lost (inl (next, took, rest)) =
     more-written old next new handed more lost (one old next handed None took) (written next new more lost rest)
 written old new (handed ∷ more) lost (inr (reason, took, is)) =

@@ -36,9 +36,9 @@ pub fn json_lines_are_written<W: Sink, E: Sink>()
 
 /// What is handed on as a document of SARIF is written as the text of what it tells, up to the end of the document, and told as the plain form
 /// tells it. Where a device fails, or memory runs out, a front of it was.
-pub fn documents_are_written<W: Sink, E: Sink>()
+pub fn documents_are_written<'a, W: Sink, E: Sink>()
     ensures { (old new : FormattedValue SarifValue W E) (handed : List Handed) (lost : Option LostValue)
-        → HandsOn ⟦<Formatted<Sarif<'_>, W, E> as Form>⟧.takes old new handed lost
+        → HandsOn ⟦<Formatted<Sarif<'a>, W, E> as Form>⟧.takes old new handed lost
         → IsDocumentOf (record { formatter = old.formatter; out = W.state old.out; errors = E.state old.errors })
         (record { formatter = new.formatter; out = W.state new.out; errors = E.state new.errors }) handed lost }
 {}
