@@ -1,21 +1,14 @@
 -- Commands of a workflow of GitHub, one for a font and a rule.
 use Rattle.std.specs.Prelude.{ℕ, List, [], ◌∷◌, ◌++◌, codes, Some}
 use Rattle.std.specs.List.{concat, flat_map}
-use Rattle.t1_forms.specs.Commands.{command_of, file_property, message_byte, property_byte}
+use Rattle.t1_forms.specs.Commands.{command_of, file_property, level_kind, message_byte, property_byte}
 use Rattle.t1_forms.specs.Tellings.{of_line, of_unchecked}
 use Rattle.t1_grouped.specs.GroupLines.{Writing, rule_head, rule_tail, rule_tail_of}
 use Rattle.t1_lines.specs.Lines.{of_refusal, spelled}
 use Rattle.t1_lines.specs.declared.refusal.RefusalCode.{RefusalCode}
 use Rattle.t1_rules.specs.Book.{level_of}
 use Rattle.t1_rules.specs.declared.level.Level.{Level}
-use Rattle.t1_rules.specs.declared.level.Level.TheVariants.{Must, Should, Tidy}
 use Rattle.t1_rules.specs.declared.rule.Rule.{Rule}
-
--- The kind of a command, by the rule's level.
-abbrev pub kind_of : Level → List ℕ
-kind_of Must = codes "error"
-kind_of Should = codes "warning"
-kind_of Tidy = codes "notice"
 
 -- The width of a message.
 abbrev pub message_room : ℕ
@@ -23,7 +16,7 @@ message_room = 120
 
 -- `::KIND `.
 abbrev pub kind_part : Level → List ℕ
-kind_part level = concat (codes "::" ∷ kind_of level ∷ codes " " ∷ [])
+kind_part level = concat (codes "::" ∷ level_kind level ∷ codes " " ∷ [])
 
 -- `title=RULE TEXT::`.
 abbrev pub title_part : Rule → List ℕ

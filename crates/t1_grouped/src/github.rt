@@ -2,8 +2,8 @@
 
 ghost use Rattle.std.specs.Prelude.{◌≡◌, ◌∷◌, ◌++◌, [], IfNone, IfOk, IfSome, OnOk, Some};
 ghost use Rattle.std.specs.List.{flat_map};
-ghost use Rattle.t1_forms.specs.Commands.{file_property};
-ghost use Rattle.t1_grouped.specs.Commands.{command_writing, group_command, kind_of, kind_part, message_part, title_part};
+ghost use Rattle.t1_forms.specs.Commands.{file_property, level_kind};
+ghost use Rattle.t1_grouped.specs.Commands.{command_writing, group_command, kind_part, message_part, title_part};
 ghost use Rattle.t1_grouped.specs.Private.Escapes.{byte_in};
 
 use crate::form::GroupForm;
@@ -128,7 +128,7 @@ fn push_escaped(text: &mut Vec<u8>, bytes: &[u8], part: Part) -> Result<(), Allo
 
 /// The kind of a command.
 fn kind(level: Level) -> &'static [u8]
-    ensures { result.now ≡ kind_of level }
+    ensures { result.now ≡ level_kind level }
 {
     match level {
         Level::Must => b"error",
