@@ -1,3 +1,4 @@
+pub mod Commands
 pub mod Documents
 pub mod Formatting
 pub mod JsonLines

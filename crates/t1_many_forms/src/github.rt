@@ -1,6 +1,7 @@
 //! Commands of a workflow of GitHub.
 
 ghost use Rattle.std.specs.Prelude.{◌≡◌, None};
+ghost use Rattle.t1_many_forms.specs.Commands.{command_written};
 
 use crate::formatter::Formatter;
 use std::alloc::Global;
@@ -13,8 +14,7 @@ use t1_many::Lost;
 pub struct GitHubCommands;
 
 impl Formatter for GitHubCommands {
-    // The text of a command has no definition.
-    ghost writes = { λ _ _ _ _ _ _. Unit {0} };
+    ghost writes = { command_written };
 
     ghost finishes = { λ _ old new lost. (new ≡ old) × (lost ≡ None) };
 

@@ -41,7 +41,7 @@ abbrev pub words_of : List Text → List Text
 words_of values = codes_in (map to_ascii_lowercase (flat_map (λ value. 44 ∷ value) values))
 
 -- There is a word, and each names a level.
-abbrev pub are_levels : List Text → Bool
+unfoldable pub are_levels : List Text → Bool
 are_levels words = not (is_empty words) && list_all (λ word. is_some (level_named word)) words
 
 -- The rule has one of these levels, or no level is named.

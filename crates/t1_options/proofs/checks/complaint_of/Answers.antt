@@ -1,10 +1,22 @@
-use Rattle.std.proofs.Common.{◌≡◌, ◌&&◌, ap, ap₂, not, refl, ◌∙◌}
+use Rattle.std.proofs.Common.{◌≡◌, ◌&&◌, ◌||◌, Bool, List, [], ◌∷◌, ap, ap₂, not, refl, ◌∙◌}
 use Rattle.t1_options.proofs.WrongValues.{wrong, wrong_text}
 use Rattle.t1_options.specs.Choices.{are_known, are_levels}
-use Rattle.t1_options.specs.Complaints.{are_no_levels, are_wrong, complaint_of}
+use Rattle.t1_options.specs.Complaints.{are_no_levels, are_wrong, first_so}
+use Rattle.t1_options.specs.declared.complaint.Complaint.{Complaint}
 use Rattle.t1_options.specs.Given.{given_value}
 use Rattle.t1_options.specs.Values.{edition_in, file_in, form_in, number_in, shard_in, url_in}
 use Rattle.t1_options.proofs.checks.complaint_of.Goals as goal
+
+abbrev none : List (Bool × Complaint)
+none = []
+
+no_more : none ≡ none
+no_more = refl
+
+-- a check more
+one_more : {so other : Bool} (complaint : Complaint) {checks others : List (Bool × Complaint)} → so ≡ other → checks ≡ others
+    → ((so, complaint) ∷ checks) ≡ ((other, complaint) ∷ others)
+one_more complaint same rest = ap₂ (λ (b : Bool) (list : List (Bool × Complaint)). (b, complaint) ∷ list) same rest
 
 pub returns : goal.returns
 returns c =
@@ -34,24 +46,11 @@ returns c =
     ap₂ (λ none known. not none && not known) c.are_none-5.ensures (c.are_levels.ensures ∙ ap are_levels c.requires.level) in
     let fail_on_wrong : (not c.are_none-6.result && not c.are_levels-2.result) ≡ are_no_levels given.fail_on =
     ap₂ (λ none known. not none && not known) c.are_none-6.ensures (c.are_levels-2.ensures ∙ ap are_levels c.requires.fail_on) in
+    let update_of_none = ap (λ b. given.update_baseline && not b) baseline_is in
+    let update_of_shard = ap (λ b. given.update_baseline && b) shard_is in
+    let waivers_of_part = ap₂ (λ known part. given.write_waivers && (known || part)) baseline_is shard_is in
+    let docs_of_lines = ap₂ (λ docs form. docs && not form) docs_is format_is in
+    let no_font = ap₂ (λ paths lists. paths && lists) c.are_none.ensures c.are_none-2.ensures in
     c.first_so.ensures
-    ∙ rw (
-      jobs_wrong,
-      edition_wrong,
-      columns_wrong,
-      baseline_wrong,
-      format_wrong,
-      docs_wrong,
-      shard_wrong,
-      only_wrong,
-      except_wrong,
-      level_wrong,
-      fail_on_wrong,
-      c.are_none.ensures,
-      c.are_none-2.ensures,
-      baseline_is,
-      shard_is,
-      format_is,
-      docs_is,
-      c.is_one_marked.ensures,
-    ) (refl {a = complaint_of given})
+    ∙ ap first_so
+    (one_more _ jobs_wrong (one_more _ edition_wrong (one_more _ columns_wrong (one_more _ baseline_wrong (one_more _ format_wrong (one_more _ docs_wrong (one_more _ update_of_none (one_more _ update_of_shard (one_more _ waivers_of_part (one_more _ (refl {a = given.force && not given.write_waivers}) (one_more _ docs_of_lines (one_more _ no_font (one_more _ shard_wrong (one_more _ only_wrong (one_more _ except_wrong (one_more _ level_wrong (one_more _ fail_on_wrong (one_more _ c.is_one_marked.ensures no_more))))))))))))))))))
