@@ -39,9 +39,9 @@ second.pfb: t1check: ended by signal 9
 END
 try 'a part that is killed, as jsonl' 3 "$stand/bin/t1check-all" -q -j3 --format jsonl first.pfb second.pfb third.pfb
 wanted <<'END'
-::warning file=first.pfb,line=1,title=F01 no end segment::1: font file 0 F01 no end segment
+::warning file=first.pfb,line=1,title=F01 no end segment::F01 no end segment × 1: file
 ::error file=second.pfb,line=1,title=not checked::t1check: ended by signal 9
-::warning file=third.pfb,line=1,title=F01 no end segment::1: font file 0 F01 no end segment
+::warning file=third.pfb,line=1,title=F01 no end segment::F01 no end segment × 1: file
 --
 second.pfb: t1check: ended by signal 9
 END

@@ -33,12 +33,12 @@ END
 try 'a folder as jsonl' 3 "$all" --format jsonl . missing.pfb
 cp "$scratch/out" "$scratch/odd.jsonl"
 wanted <<'END'
-::warning file=-dash/-x.pfb,line=1,title=H02 stems overlap::1: glyph A - 9 H02 stems overlap
-::error file=a=b.t1,line=1,title=K02 seac code not in StandardEncoding::1: glyph C - 9 K02 seac code not in StandardEncoding
-::warning file=back\slash.pfb,line=1,title=F01 no end segment::1: font file 0 F01 no end segment
+::warning file=-dash/-x.pfb,line=1,title=H02 stems overlap::H02 stems overlap × 1: A
+::error file=a=b.t1,line=1,title=K02 seac code not in StandardEncoding::K02 seac code not in StandardEncoding × 1: C
+::warning file=back\slash.pfb,line=1,title=F01 no end segment::F01 no end segment × 1: file
 ::error file=cut.pfa,line=1,title=E03 segment cut short::refused: E03 segment cut short
-::warning file=q'"uote.PFB,line=1,title=H02 stems overlap::1: glyph A - 9 H02 stems overlap
-::warning file=sub folder/deep/two words.pfb,line=1,title=Z05 zones too near::1: font BlueValues 4 Z05 zones too near
+::warning file=q'"uote.PFB,line=1,title=H02 stems overlap::H02 stems overlap × 1: A
+::warning file=sub folder/deep/two words.pfb,line=1,title=Z05 zones too near::Z05 zones too near × 1: BlueValues
 ::error file=missing.pfb,line=1,title=not checked::t1check: read failed
 --
 missing.pfb: t1check: read failed
@@ -52,8 +52,8 @@ wanted <<END
 END
 try 'odd names as jsonl' 1 sh -c "cd '$named' && '$all' -q --format jsonl ."
 wanted <<'END'
-::warning file=100%25%2C a%3Ab.pfb,line=1,title=F01 no end segment::1: font file 0 F01 no end segment
-::warning file=return%0D.pfb,line=1,title=F01 no end segment::1: font file 0 F01 no end segment
+::warning file=100%25%2C a%3Ab.pfb,line=1,title=F01 no end segment::F01 no end segment × 1: file
+::warning file=return%0D.pfb,line=1,title=F01 no end segment::F01 no end segment × 1: file
 --
 END
 try 'odd names as commands' 1 sh -c "cd '$named' && '$all' -q --format github 100* ret*"

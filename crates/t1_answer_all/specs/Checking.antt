@@ -2,6 +2,7 @@
 use Rattle.std.specs.Prelude.{◌≡◌, ◌||◌, ℕ, Bool, true, false, List, [], ◌∷◌, Option, None, Ok, map, string_bytes}
 use Rattle.t1_batch.specs.Choosing.{mode_by}
 use Rattle.t1_batch.specs.Endings.{WantedValue}
+use Rattle.t1_batch.specs.Layouts.{layout_of}
 use Rattle.t1_batch.specs.Runs.{LeftValue, Runs, nothing_left, program}
 use Rattle.t1_io.specs.Devices.{SinkState}
 use Rattle.t1_known.specs.Reads.{IsReadAs}
@@ -52,7 +53,7 @@ is_quiet options fonts = options.quiet || has_none fonts.names
 pub record RunsOver (files : Files) (options : Options) (rows : List RowValue) (fonts : FontsValue) (wanted : WantedValue) (old new : Devices)
     (left : LeftValue) : Type 0 where
   pub runs :
-      Runs options.form (unlisted_of fonts) (mode_by options.waivers options.known_faults rows) options.rules wanted (is_quiet options fonts) files
+      Runs (layout_of options) (unlisted_of fonts) (mode_by options.waivers options.known_faults rows) options.rules wanted (is_quiet options fonts) files
       options.edition fonts.names old new left
 
 -- Nothing was checked: this is told, and nothing is left to do.

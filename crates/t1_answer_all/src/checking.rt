@@ -6,6 +6,7 @@ ghost use Rattle.t1_answer_all.specs.Checking.{ChecksBy, ChecksKnown, ChecksOver
 ghost use Rattle.t1_answer_all.specs.Listing.{fonts_value, unlisted_of};
 ghost use Rattle.t1_answer_all.specs.Places.{known_by, lists_by};
 ghost use Rattle.t1_batch.specs.Endings.{wanted_value};
+ghost use Rattle.t1_batch.specs.Layouts.{layout_of, layout_value};
 ghost use Rattle.t1_batch.specs.Runs.{left_value};
 ghost use Rattle.t1_batch.specs.Unlisted.{unlisted_in};
 ghost use Rattle.t1_many.specs.Files.{files_by};
@@ -16,7 +17,7 @@ use crate::places::{Places, System};
 use crate::telling::tell_unlisted;
 use std::alloc::{AllocError, Global};
 use std::io;
-use t1_batch::{Fonts as Named, Left, Output, PROGRAM, Ran, Wanted, as_codes, run, selection};
+use t1_batch::{Fonts as Named, Left, Output, PROGRAM, Ran, Wanted, as_codes, layout_of, run, selection};
 use t1_io::{Sink, Source};
 use t1_known::KnownFaults;
 use t1_names::Listing;
@@ -351,16 +352,11 @@ fn has_none(names: &[String]) -> bool
 
 /// The output that the options ask for.
 pub fn output_of<'a>(options: &'a Options, fonts: &'a Fonts) -> Output<'a>
-    ensures form { result.form ≡ options.now.form }
+    ensures layout { layout_value result.layout ≡ layout_of options.now }
     ensures unlisted { unlisted_in result.unlisted ≡ unlisted_of (fonts_value fonts.now) }
 {
-    let docs = match &options.docs {
-        Some(docs) => Some(docs.as_str()),
-        None => None,
-    };
     Output {
-        form: options.form,
-        docs,
+        layout: layout_of(options),
         unlisted: fonts.unlisted(),
     }
 }

@@ -5,6 +5,7 @@ pub mod FontsTaken
 pub mod FormMaps
 pub mod FormattedRuns
 pub mod GivenEach
+pub mod GroupedRuns
 pub mod ModeFonts
 pub mod MoreFiles
 pub mod PartNames

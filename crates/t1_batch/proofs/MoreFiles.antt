@@ -1,13 +1,15 @@
 -- What holds of a run over files holds over files that give as much.
 use Rattle.std.proofs.Common.{ℕ, Bool, List, [], ◌∷◌, Option, None, Some, Result, Ok, Err, inl, inr}
 use Rattle.std.specs.List.{AllByRecursion}
+use Rattle.t1_batch.specs.Layouts.{LayoutValue, commands, groups, json_lines, lines, sarif}
 use Rattle.t1_batch.specs.Endings.{WantedValue}
 use Rattle.t1_batch.specs.Checks.{ChecksFonts, IsFound}
 use Rattle.t1_batch.specs.Checks.ChecksFonts.{cut_short, whole}
 use Rattle.t1_batch.specs.Modes.{ModeValue, judges_of}
 use Rattle.t1_batch.specs.Runs.{LeftValue, Runs}
 use Rattle.t1_batch.specs.Runs.Runs.{concluded, stopped}
-use Rattle.t1_batch.specs.Writing.{WritesFormatted, WritesInForm}
+use Rattle.t1_batch.specs.Writing.{WritesFormatted, WritesIn}
+use Rattle.t1_batch.specs.Writing.WritesCommands.{unflushed as commands_unflushed, unlistable as commands_unlistable, written as commands_written}
 use Rattle.t1_batch.specs.Writing.WritesDocument.{begun, not_begun}
 use Rattle.t1_batch.specs.Writing.WritesFormatted.{stopped as formatted_stopped, unfinished as formatted_unfinished, unlistable as formatted_unlistable, written as formatted_written}
 use Rattle.t1_char.specs.declared.edition.Edition.{Edition}
@@ -22,8 +24,6 @@ use Rattle.t1_many.specs.Outcomes.{Entry, Outcome, Report}
 use Rattle.t1_many.specs.Plain.{Devices}
 use Rattle.t1_many.specs.declared.recipient.Lost.{Lost}
 use Rattle.t1_many.specs.declared.verdict.Verdict.{Verdict}
-use Rattle.t1_options.specs.declared.asked.Form.{Form}
-use Rattle.t1_options.specs.declared.asked.Form.TheVariants.{GitHub, JsonLines, Sarif}
 use Rattle.t1_report.specs.Faults.{FaultValue}
 use Rattle.t1_report.specs.Waivers.{Waiver}
 use Rattle.t1_rules.specs.declared.mask.Mask.{Mask}
@@ -154,25 +154,31 @@ module _ (files more : Files) (includes : Includes files more) where
   formatted_too writes finishes unlisted judges edition names formatter old new Keeps result (formatted_unlistable left lost gives errors is) =
       formatted_unlistable left lost gives errors is
 
-  written_too : (form : Option Form) (unlisted : List ToldValue) (judges : List ℕ → Report → FaultValue → Verdict) (edition : Edition)
+  written_too : (layout : LayoutValue) (unlisted : List ToldValue) (judges : List ℕ → Report → FaultValue → Verdict) (edition : Edition)
       (names : List (List ℕ)) (old new : Devices) (Keeps : List Entry → Type 0) (result : Result Status Lost)
-      → WritesInForm form unlisted judges files edition names old new Keeps result → WritesInForm form unlisted judges more edition names old new Keeps result
-  written_too None unlisted judges edition names old new Keeps result checks = checks_too _ judges edition names old new Keeps result checks
-  written_too (Some JsonLines) unlisted judges edition names old new Keeps result (formatter, wrote) =
+      → WritesIn layout unlisted judges files edition names old new Keeps result → WritesIn layout unlisted judges more edition names old new Keeps result
+  written_too lines unlisted judges edition names old new Keeps result checks = checks_too _ judges edition names old new Keeps result checks
+  written_too (groups terminal) unlisted judges edition names old new Keeps result (left, checks) =
+      (left, checks_too _ judges edition names _ _ Keeps result checks)
+  written_too json_lines unlisted judges edition names old new Keeps result (formatter, wrote) =
       (formatter, formatted_too _ _ unlisted judges edition names formatter old new Keeps result wrote)
-  written_too (Some GitHub) unlisted judges edition names old new Keeps result (formatter, wrote) =
-      (formatter, formatted_too _ _ unlisted judges edition names formatter old new Keeps result wrote)
-  written_too (Some Sarif) unlisted judges edition names old new Keeps result (begun document behind wrote) =
-      begun document behind (formatted_too _ _ unlisted judges edition names document _ new Keeps result wrote)
-  written_too (Some Sarif) unlisted judges edition names old new Keeps result (not_begun lost errors is) = not_begun lost errors is
+  written_too (sarif docs) unlisted judges edition names old new Keeps result (begun document behind opened is wrote) =
+      begun document behind opened is (formatted_too _ _ unlisted judges edition names document _ new Keeps result wrote)
+  written_too (sarif docs) unlisted judges edition names old new Keeps result (not_begun lost put errors is) = not_begun lost put errors is
+  written_too commands unlisted judges edition names old new Keeps result (commands_written formatter after begins flushed gives flushes (left, checks)) =
+      commands_written formatter after begins flushed gives flushes (left, checks_too _ judges edition names _ _ Keeps result checks)
+  written_too commands unlisted judges edition names old new Keeps result (commands_unflushed formatter after begins gives lost flushes errors is) =
+      commands_unflushed formatter after begins gives lost flushes errors is
+  written_too commands unlisted judges edition names old new Keeps result (commands_unlistable formatter left lost gives errors is) =
+      commands_unlistable formatter left lost gives errors is
 
   -- a whole run
-  pub runs_too : (form : Option Form) (unlisted : List ToldValue) (mode : ModeValue) (rules : Mask) (wanted : WantedValue) (quiet : Bool) (edition : Edition)
-      (names : List (List ℕ)) (old new : Devices) (left : LeftValue) → Runs form unlisted mode rules wanted quiet files edition names old new left
-      → Runs form unlisted mode rules wanted quiet more edition names old new left
-  runs_too form unlisted mode rules wanted quiet edition names old new left (concluded behind kept status wrote concludes same) =
+  pub runs_too : (layout : LayoutValue) (unlisted : List ToldValue) (mode : ModeValue) (rules : Mask) (wanted : WantedValue) (quiet : Bool) (edition : Edition)
+      (names : List (List ℕ)) (old new : Devices) (left : LeftValue) → Runs layout unlisted mode rules wanted quiet files edition names old new left
+      → Runs layout unlisted mode rules wanted quiet more edition names old new left
+  runs_too layout unlisted mode rules wanted quiet edition names old new left (concluded behind kept status wrote concludes same) =
       concluded behind kept status
-      (written_too form unlisted (judges_of mode rules) edition names old behind (IsFound mode rules kept) (Ok status) wrote) concludes same
-  runs_too form unlisted mode rules wanted quiet edition names old new left (stopped behind kept lost wrote status tells same is) =
-      stopped behind kept lost (written_too form unlisted (judges_of mode rules) edition names old behind (IsFound mode rules kept) (Err lost) wrote)
+      (written_too layout unlisted (judges_of mode rules) edition names old behind (IsFound mode rules kept) (Ok status) wrote) concludes same
+  runs_too layout unlisted mode rules wanted quiet edition names old new left (stopped behind kept lost wrote status tells same is) =
+      stopped behind kept lost (written_too layout unlisted (judges_of mode rules) edition names old behind (IsFound mode rules kept) (Err lost) wrote)
       status tells same is

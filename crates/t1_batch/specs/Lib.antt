@@ -2,6 +2,7 @@ pub mod Checks
 pub mod Choosing
 pub mod Endings
 pub mod Laws
+pub mod Layouts
 pub mod Modes
 pub mod Private
 pub mod Runs

@@ -1,11 +1,12 @@
 -- How a run over many fonts ends, and what is left to do.
 use Rattle.std.specs.Prelude.{◌≡◌, ℕ, Bool, List, codes, Option, None, Some, option_map, Result, Ok, Err, if◌then◌else◌}
 use Rattle.std.specs.List.{AllZip}
+use Rattle.t1_batch.specs.Layouts.{LayoutValue}
 use Rattle.t1_batch.specs.Checks.{IsFound}
 use Rattle.t1_batch.specs.Endings.{Ends, IsFoundIn, WantedValue, text_of}
 use Rattle.t1_batch.specs.Modes.{ModeValue, judges_of}
 use Rattle.t1_batch.specs.Unlisted.{is_whole}
-use Rattle.t1_batch.specs.Writing.{WritesInForm}
+use Rattle.t1_batch.specs.Writing.{WritesIn}
 use Rattle.t1_parts.specs.declared.part.Part.{Part}
 use Rattle.t1_batch.specs.declared.ending.Ended.{Ended}
 use Rattle.t1_batch.specs.declared.running.Left.{Left}
@@ -17,7 +18,6 @@ use Rattle.t1_many.specs.KnownFaults.{Reading}
 use Rattle.t1_many.specs.Plain.{Devices}
 use Rattle.t1_many.specs.declared.recipient.Lost.{Lost}
 use Rattle.t1_many.specs.declared.recipient.Lost.TheVariants.{Device, Memory}
-use Rattle.t1_options.specs.declared.asked.Form.{Form}
 use Rattle.t1_rules.specs.declared.mask.Mask.{Mask}
 use Rattle.t1_run.specs.Failures.{out_of_memory_line, write_failed_line}
 use Rattle.t1_run.specs.Telling.{Tells}
@@ -73,15 +73,15 @@ ConcludesWritten mode wanted quiet found whole (Err lost) old new left =
     (status : Status) × Tells (lost_line lost) Failed old new status × (left ≡ nothing_left status)
 
 -- What is selected of the fonts was written, and all was told; or it stopped while that was written, which is told, and nothing is left.
-pub data Runs (form : Option Form) (unlisted : List ToldValue) (mode : ModeValue) (rules : Mask) (wanted : WantedValue) (quiet : Bool) (files : Files)
+pub data Runs (layout : LayoutValue) (unlisted : List ToldValue) (mode : ModeValue) (rules : Mask) (wanted : WantedValue) (quiet : Bool) (files : Files)
     (edition : Edition) (names : List (List ℕ)) (old new : Devices) (left : LeftValue) : Type 0 where
   concluded :
       (behind : Devices) → (found : Part) → (status : Status)
-      → WritesInForm form unlisted (judges_of mode rules) files edition names old behind (IsFound mode rules found) (Ok status)
+      → WritesIn layout unlisted (judges_of mode rules) files edition names old behind (IsFound mode rules found) (Ok status)
       → Concludes mode wanted quiet found (is_whole unlisted) behind.errors new.errors left → new.out ≡ behind.out
-      → Runs form unlisted mode rules wanted quiet files edition names old new left
+      → Runs layout unlisted mode rules wanted quiet files edition names old new left
   stopped :
       (behind : Devices) → (found : Part) → (lost : Lost)
-      → WritesInForm form unlisted (judges_of mode rules) files edition names old behind (IsFound mode rules found) (Err lost)
+      → WritesIn layout unlisted (judges_of mode rules) files edition names old behind (IsFound mode rules found) (Err lost)
       → (status : Status) → Tells (lost_line lost) Failed behind.errors new.errors status → new.out ≡ behind.out → left ≡ nothing_left status
-      → Runs form unlisted mode rules wanted quiet files edition names old new left
+      → Runs layout unlisted mode rules wanted quiet files edition names old new left

@@ -1,23 +1,31 @@
--- What is written of fonts, by the form.
+-- What is written of fonts, by the layout.
 use Rattle.std.specs.Prelude.{◌≡◌, ℕ, List, Option, None, Some, Result, Ok, Err, IfOk}
 use Rattle.t1_batch.specs.Checks.{ChecksFonts}
 use Rattle.t1_batch.specs.Unlisted.{GivesEach}
+use Rattle.t1_batch.specs.Layouts.{LayoutValue, commands, groups, json_lines, lines, sarif}
 use Rattle.t1_char.specs.declared.edition.Edition.{Edition}
+use Rattle.t1_forms.specs.Sarif.{begun as no_line_of, opening, sarif_state}
 use Rattle.t1_forms.specs.Tellings.{ToldValue}
 use Rattle.t1_forms.specs.declared.sarif.Sarif.{Sarif as Document}
-use Rattle.t1_io.specs.Devices.{SinkState}
+use Rattle.t1_grouped.specs.Commands.{command_writing}
+use Rattle.t1_grouped.specs.GroupLines.{Writing}
+use Rattle.t1_grouped.specs.Grouping.{GroupedTakes}
+use Rattle.t1_grouped.specs.Groups.{GroupValue}
+use Rattle.t1_grouped.specs.RuleGroups.{no_groups}
+use Rattle.t1_grouped.specs.Terminals.{terminal_writing}
+use Rattle.t1_io.specs.Devices.{SinkState, Wrote}
 use Rattle.t1_many.specs.Files.{Files}
 use Rattle.t1_many.specs.Handing.{lost_of}
 use Rattle.t1_many.specs.Outcomes.{Entry, Report}
 use Rattle.t1_many.specs.Plain.{Devices, IsFlushed, PlainTakes}
 use Rattle.t1_many.specs.declared.recipient.Lost.{Lost}
 use Rattle.t1_many.specs.declared.verdict.Verdict.{Verdict}
+use Rattle.t1_many_forms.specs.Commands.{command_written}
+use Rattle.t1_many_forms.specs.Documents.{end_written, telling_written}
 use Rattle.t1_many_forms.specs.Formatting.{FormattedTakes, Formatting}
-use Rattle.t1_many_forms.specs.JsonLines.{object_written}
+use Rattle.t1_many_forms.specs.JsonLines.{IsLinePut, object_written}
 use Rattle.t1_many_forms.specs.declared.github.GitHubCommands.{GitHubCommands as Commands}
 use Rattle.t1_many_forms.specs.declared.json_lines.JsonLines.{JsonLines as Objects}
-use Rattle.t1_options.specs.declared.asked.Form.{Form}
-use Rattle.t1_options.specs.declared.asked.Form.TheVariants.{GitHub, JsonLines, Sarif}
 use Rattle.t1_report.specs.Faults.{FaultValue}
 use Rattle.t1_run.specs.declared.status.Status.{Status}
 
@@ -64,29 +72,51 @@ pub data WritesFormatted {T : Type 0} (writes : T → T → SinkState → SinkSt
 abbrev pub NoEnd : {T : Type 0} → T → SinkState → SinkState → Option Lost → Type 0
 NoEnd formatter old new lost = (new ≡ old) × (lost ≡ None)
 
--- The texts of documents of SARIF and of GitHub's commands have no definition, so nothing is said of them.
-abbrev pub AnyText : {T : Type 0} → T → T → SinkState → SinkState → ToldValue → Option Lost → Type 0
-AnyText old new out out' told lost = Unit {0}
-
-abbrev pub AnyEnd : {T : Type 0} → T → SinkState → SinkState → Option Lost → Type 0
-AnyEnd formatter old new lost = Unit {0}
-
 -- A document of SARIF was begun, and then written; or it couldn't be begun.
-pub data WritesDocument (unlisted : List ToldValue) (judges : List ℕ → Report → FaultValue → Verdict) (files : Files) (edition : Edition)
+pub data WritesDocument (docs : Option (List ℕ)) (unlisted : List ToldValue) (judges : List ℕ → Report → FaultValue → Verdict) (files : Files) (edition : Edition)
     (names : List (List ℕ)) (old new : Devices) (Keeps : List Entry → Type 0) (result : Result Status Lost) : Type 0 where
   begun :
-      (document : Document) → (behind : SinkState)
-      → WritesFormatted AnyText AnyEnd unlisted judges files edition names document (record { out = behind; errors = old.errors }) new Keeps result
-      → WritesDocument unlisted judges files edition names old new Keeps result
-  not_begun : (lost : Lost) → new.errors ≡ old.errors → result ≡ Err lost → WritesDocument unlisted judges files edition names old new Keeps result
+      (document : Document) → (behind : SinkState) → Wrote old.out behind (opening docs) → sarif_state document ≡ no_line_of docs
+      → WritesFormatted telling_written end_written unlisted judges files edition names document (record { out = behind; errors = old.errors }) new Keeps
+      result
+      → WritesDocument docs unlisted judges files edition names old new Keeps result
+  not_begun :
+      (lost : Lost) → IsLinePut old.out new.out (opening docs) (Some lost) → new.errors ≡ old.errors → result ≡ Err lost
+      → WritesDocument docs unlisted judges files edition names old new Keeps result
 
--- What is written in the form that is asked for.
-abbrev pub WritesInForm : Option Form → List ToldValue → (List ℕ → Report → FaultValue → Verdict) → Files → Edition → List (List ℕ) → Devices
+-- What is selected of the fonts was handed on to a form of groups, which had none at first.
+abbrev pub WritesGroups : Writing → (List ℕ → Report → FaultValue → Verdict) → Files → Edition → List (List ℕ) → Devices → Devices
+    → (List Entry → Type 0) → Result Status Lost → Type 0
+WritesGroups writing judges files edition names old new Keeps result =
+    (left : List GroupValue)
+    × ChecksFonts (GroupedTakes writing) judges files edition names
+    (record { out = old.out; errors = old.errors; groups = no_groups writing.room })
+    (record { out = new.out; errors = new.errors; groups = left }) Keeps result
+
+-- Commands were written of what couldn't be listed, and flushed; then groups of the fonts; or it stopped at one of these.
+pub data WritesCommands (unlisted : List ToldValue) (judges : List ℕ → Report → FaultValue → Verdict) (files : Files) (edition : Edition)
+    (names : List (List ℕ)) (old new : Devices) (Keeps : List Entry → Type 0) (result : Result Status Lost) : Type 0 where
+  written :
+      (formatter after : Commands) → (begun flushed : SinkState) → GivesEach command_written formatter after old.out begun unlisted None
+      → IsFlushed begun flushed None
+      → WritesGroups command_writing judges files edition names (record { out = flushed; errors = old.errors }) new Keeps result
+      → WritesCommands unlisted judges files edition names old new Keeps result
+  unflushed :
+      (formatter after : Commands) → (begun : SinkState) → GivesEach command_written formatter after old.out begun unlisted None → (lost : Lost)
+      → IsFlushed begun new.out (Some lost) → new.errors ≡ old.errors → result ≡ Err lost
+      → WritesCommands unlisted judges files edition names old new Keeps result
+  unlistable :
+      (formatter left : Commands) → (lost : Lost) → GivesEach command_written formatter left old.out new.out unlisted (Some lost)
+      → new.errors ≡ old.errors → result ≡ Err lost → WritesCommands unlisted judges files edition names old new Keeps result
+
+-- What is written in the layout that is asked for.
+abbrev pub WritesIn : LayoutValue → List ToldValue → (List ℕ → Report → FaultValue → Verdict) → Files → Edition → List (List ℕ) → Devices
     → Devices → (List Entry → Type 0) → Result Status Lost → Type 0
-WritesInForm None unlisted judges files edition names old new Keeps result = WritesPlain judges files edition names old new Keeps result
-WritesInForm (Some JsonLines) unlisted judges files edition names old new Keeps result =
+WritesIn lines unlisted judges files edition names old new Keeps result = WritesPlain judges files edition names old new Keeps result
+WritesIn (groups terminal) unlisted judges files edition names old new Keeps result =
+    WritesGroups (terminal_writing terminal.width terminal.has_colours) judges files edition names old new Keeps result
+WritesIn json_lines unlisted judges files edition names old new Keeps result =
     (formatter : Objects) × WritesFormatted object_written NoEnd unlisted judges files edition names formatter old new Keeps result
-WritesInForm (Some GitHub) unlisted judges files edition names old new Keeps result =
-    (formatter : Commands) × WritesFormatted AnyText NoEnd unlisted judges files edition names formatter old new Keeps result
-WritesInForm (Some Sarif) unlisted judges files edition names old new Keeps result =
-    WritesDocument unlisted judges files edition names old new Keeps result
+WritesIn (sarif docs) unlisted judges files edition names old new Keeps result =
+    WritesDocument docs unlisted judges files edition names old new Keeps result
+WritesIn commands unlisted judges files edition names old new Keeps result = WritesCommands unlisted judges files edition names old new Keeps result

@@ -3,6 +3,7 @@
 ghost use Rattle.std.specs.Prelude.{◌≡◌, false, if◌then◌else◌, map, string_bytes, Ok};
 ghost use Rattle.std.specs.Fn.{FnReturnsAt};
 ghost use Rattle.t1_batch.specs.Endings.{wanted_value};
+ghost use Rattle.t1_batch.specs.Layouts.{layout_value};
 ghost use Rattle.t1_batch.specs.Modes.{judges_of, mode_value};
 ghost use Rattle.t1_batch.specs.Runs.{Concludes, ConcludesWritten, Runs, left_value, lost_line, nothing_left};
 ghost use Rattle.t1_batch.specs.Unlisted.{unlisted_in};
@@ -68,7 +69,7 @@ where
     requires open_font { O.IsAlwaysCallable fonts.open_font }
     requires open_waivers { P.IsAlwaysCallable fonts.open_waivers }
     requires unbroken { (name : _) (file : R) → FnReturnsAt O.Fn fonts.open_font name (Ok file) → (R.state file).failed ≡ false }
-    ensures { Runs output.entry.form (unlisted_in output.entry.unlisted)
+    ensures { Runs (layout_value output.entry.layout) (unlisted_in output.entry.unlisted)
         (mode_value selection.entry.mode) selection.entry.rules (wanted_value wanted.entry) quiet
         (files_by R.state V.state (FnReturnsAt O.Fn fonts.entry.open_font) (FnReturnsAt P.Fn fonts.entry.open_waivers)) selection.entry.edition
         (map string_bytes fonts.entry.names.now)

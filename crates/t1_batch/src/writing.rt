@@ -1,34 +1,34 @@
-//! Writes what is selected of fonts, in the form that is asked for.
+//! Writes what is selected of fonts, in the layout that is asked for.
 
 ghost use Rattle.std.specs.Prelude.{◌≡◌, false, map, string_bytes, Ok};
 ghost use Rattle.std.specs.Fn.{FnReturnsAt};
 ghost use Rattle.t1_batch.specs.Checks.{ChecksFonts, IsFound};
+ghost use Rattle.t1_batch.specs.Layouts.{layout_value};
 ghost use Rattle.t1_batch.specs.Modes.{judges_of, mode_value};
 ghost use Rattle.t1_batch.specs.Unlisted.{unlisted_in};
-ghost use Rattle.t1_batch.specs.Writing.{FinishesChecked, FinishesForm, WritesFormatted, WritesInForm, WritesPlain};
+ghost use Rattle.t1_batch.specs.Writing.{FinishesChecked, FinishesForm, WritesCommands, WritesFormatted, WritesGroups, WritesIn, WritesPlain};
 ghost use Rattle.t1_many.specs.Files.{files_by};
 ghost use Rattle.t1_many.specs.Handing.{lost_of};
 
 use crate::checking::{Fonts, check_fonts};
+use crate::layout::Layout;
 use crate::mode::Selection;
 use crate::unlisted::{Unlisted, give_unlisted};
 use std::alloc::Global;
 use std::io;
 use t1_forms::{FormatError, Sarif};
+use t1_grouped::{GitHubGroups, GroupForm, Grouped};
 use t1_io::{Sink, Source};
 use t1_many::{Lost, Plain};
 use t1_many_forms::{Formatted, Formatter, GitHubCommands, JsonLines};
-use t1_options::Form;
 use t1_parts::Part;
 use t1_run::Status;
 
-/// The form in which lines are written.
+/// How lines are written, and what is written before them.
 #[derive(Clone, Copy, Debug)]
 pub struct Output<'a> {
-    /// The form for another program. Without it, lines are written as `NAME: LINE`.
-    pub form: Option<Form>,
-    /// The URL of the page of all rules, for a document of SARIF.
-    pub docs: Option<&'a str>,
+    /// How lines are written.
+    pub layout: Layout<'a>,
     /// What couldn't be listed, which a form for another program has before all else.
     pub unlisted: Unlisted<'a>,
 }
@@ -66,19 +66,18 @@ where
     requires open_font { O.IsAlwaysCallable fonts.open_font }
     requires open_waivers { P.IsAlwaysCallable fonts.open_waivers }
     requires unbroken { (name : _) (file : R) → FnReturnsAt O.Fn fonts.open_font name (Ok file) → (R.state file).failed ≡ false }
-    ensures { WritesInForm output.entry.form (unlisted_in output.entry.unlisted)
+    ensures { WritesIn (layout_value output.entry.layout) (unlisted_in output.entry.unlisted)
         (judges_of (mode_value selection.entry.mode) selection.entry.rules)
         (files_by R.state V.state (FnReturnsAt O.Fn fonts.entry.open_font) (FnReturnsAt P.Fn fonts.entry.open_waivers)) selection.entry.edition
         (map string_bytes fonts.entry.names.now)
         (record { out = W.state out; errors = E.state errors }) (record { out = W.state result.out; errors = E.state result.errors })
         (IsFound (mode_value selection.entry.mode) selection.entry.rules result.found) result.status }
 {
-    let Some(form) = output.form else {
-        return write_plain(alloc, fonts, selection, out, errors);
-    };
     let mut out = out;
-    match form {
-        Form::JsonLines => {
+    match output.layout {
+        Layout::Lines => write_plain(alloc, fonts, selection, out, errors),
+        Layout::Groups(terminal) => write_groups(alloc, fonts, selection, terminal, out, errors),
+        Layout::JsonLines => {
             write_formatted(
                 alloc,
                 fonts,
@@ -89,18 +88,8 @@ where
                 errors,
             )
         }
-        Form::GitHub => {
-            write_formatted(
-                alloc,
-                fonts,
-                selection,
-                output.unlisted,
-                GitHubCommands,
-                out,
-                errors,
-            )
-        }
-        Form::Sarif => match Sarif::begin(alloc, &mut out, output.docs) {
+        Layout::GitHub => write_commands(alloc, fonts, selection, output.unlisted, out, errors),
+        Layout::Sarif(docs) => match Sarif::begin(alloc, &mut out, docs) {
             Ok(document) => {
                 write_formatted(
                     alloc,
@@ -148,6 +137,81 @@ where
         found: checked.found,
         out: checked.form.out,
         errors: checked.form.errors,
+    }
+}
+
+/// The same by groups.
+fn write_groups<R, V, O, P, T, W, E>(
+    alloc: Global,
+    fonts: Fonts<'_, O, P>,
+    selection: Selection<'_>,
+    form: T,
+    out: W,
+    errors: E,
+) -> Written<W, E>
+where
+    R: Source + Drop,
+    V: Source + Drop,
+    O: Fn(&str) -> io::Result<R>,
+    P: Fn(&str) -> Option<io::Result<V>>,
+    T: GroupForm + Drop,
+    W: Sink + Drop,
+    E: Sink + Drop,
+    requires open_font { O.IsAlwaysCallable fonts.open_font }
+    requires open_waivers { P.IsAlwaysCallable fonts.open_waivers }
+    requires unbroken { (name : _) (file : R) → FnReturnsAt O.Fn fonts.open_font name (Ok file) → (R.state file).failed ≡ false }
+    ensures { WritesGroups (T.writing form)
+        (judges_of (mode_value selection.entry.mode) selection.entry.rules)
+        (files_by R.state V.state (FnReturnsAt O.Fn fonts.entry.open_font) (FnReturnsAt P.Fn fonts.entry.open_waivers)) selection.entry.edition
+        (map string_bytes fonts.entry.names.now)
+        (record { out = W.state out; errors = E.state errors }) (record { out = W.state result.out; errors = E.state result.errors })
+        (IsFound (mode_value selection.entry.mode) selection.entry.rules result.found) result.status }
+{
+    let grouped = Grouped::new(alloc, form, out, errors);
+    let checked = check_fonts(alloc, fonts, selection, grouped);
+    let (_form, out, errors) = checked.form.into_parts();
+    Written {
+        status: checked.status,
+        found: checked.found,
+        out,
+        errors,
+    }
+}
+
+/// The same as commands of GitHub: first those of what couldn't be listed, which are flushed.
+fn write_commands<R, V, O, P, W, E>(
+    alloc: Global,
+    fonts: Fonts<'_, O, P>,
+    selection: Selection<'_>,
+    unlisted: Unlisted<'_>,
+    out: W,
+    errors: E,
+) -> Written<W, E>
+where
+    R: Source + Drop,
+    V: Source + Drop,
+    O: Fn(&str) -> io::Result<R>,
+    P: Fn(&str) -> Option<io::Result<V>>,
+    W: Sink + Drop,
+    E: Sink + Drop,
+    requires open_font { O.IsAlwaysCallable fonts.open_font }
+    requires open_waivers { P.IsAlwaysCallable fonts.open_waivers }
+    requires unbroken { (name : _) (file : R) → FnReturnsAt O.Fn fonts.open_font name (Ok file) → (R.state file).failed ≡ false }
+    ensures { WritesCommands (unlisted_in unlisted.entry)
+        (judges_of (mode_value selection.entry.mode) selection.entry.rules)
+        (files_by R.state V.state (FnReturnsAt O.Fn fonts.entry.open_font) (FnReturnsAt P.Fn fonts.entry.open_waivers)) selection.entry.edition
+        (map string_bytes fonts.entry.names.now)
+        (record { out = W.state out; errors = E.state errors }) (record { out = W.state result.out; errors = E.state result.errors })
+        (IsFound (mode_value selection.entry.mode) selection.entry.rules result.found) result.status }
+{
+    let mut out = out;
+    let mut formatter = GitHubCommands;
+    if let Err(lost) = give_unlisted(alloc, unlisted, &mut formatter, &mut out) {
+        return unwritten(alloc, lost, out, errors);
+    }
+    match out.flush() {
+        Ok(()) => write_groups(alloc, fonts, selection, GitHubGroups, out, errors),
+        Err(_) => unwritten(alloc, Lost::Device, out, errors),
     }
 }
 

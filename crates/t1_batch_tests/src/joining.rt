@@ -4,11 +4,10 @@ use std::alloc::{AllocError, Global};
 use std::io;
 use std::io::ErrorKind;
 use std::test::Fail;
-use t1_batch::{Left, Mode, Output, Unlisted, Wanted};
+use t1_batch::{Layout, Left, Mode, Output, Unlisted, Wanted};
 use t1_io::{Fuse, In, Limit, Out, Sink};
 use t1_joining::{PartFiles, Split, join};
 use t1_many::told_rules;
-use t1_options::Form;
 use t1_run::Status;
 
 /// What the process of a part left. Where nothing was found, it died.
@@ -71,7 +70,7 @@ fn names_of(alloc: Global, names: &[&str]) -> Result<Vec<String>, AllocError> {
 fn join_left<W: Sink, E: Sink>(
     alloc: Global,
     processes: &[Process<'_>],
-    form: Option<Form>,
+    layout: Layout<'_>,
     out: &mut W,
     errors: &mut E,
 ) -> Result<Left, AllocError> {
@@ -89,8 +88,7 @@ fn join_left<W: Sink, E: Sink>(
         names: names.as_slice(),
         parts: 3,
         output: Output {
-            form,
-            docs: None,
+            layout,
             unlisted: Unlisted {
                 undecoded: 0,
                 passed_over: 0,
@@ -172,7 +170,7 @@ fn joins_lines(rt: HostRuntime) -> Result<(), Fail> {
     let left = join_left(
         rt.alloc(),
         &parts,
-        None,
+        Layout::Lines,
         &mut Out::new(&mut text),
         &mut Out::new(&mut told),
     )?;
@@ -203,7 +201,7 @@ fn joins_lines_of_json(rt: HostRuntime) -> Result<(), Fail> {
     let left = join_left(
         rt.alloc(),
         &parts,
-        Some(Form::JsonLines),
+        Layout::JsonLines,
         &mut Out::new(&mut text),
         &mut Out::new(&mut told),
     )?;
@@ -229,7 +227,7 @@ fn joins_commands(rt: HostRuntime) -> Result<(), Fail> {
     let left = join_left(
         rt.alloc(),
         &parts,
-        Some(Form::GitHub),
+        Layout::GitHub,
         &mut Out::new(&mut text),
         &mut Out::new(&mut told),
     )?;
@@ -267,7 +265,7 @@ fn writes_a_document_anew(rt: HostRuntime) -> Result<(), Fail> {
     let left = join_left(
         rt.alloc(),
         &parts,
-        Some(Form::Sarif),
+        Layout::Sarif(None),
         &mut Out::new(&mut text),
         &mut Out::new(&mut told),
     )?;
@@ -294,7 +292,7 @@ fn leaves_nothing_where_the_output_fails(rt: HostRuntime) -> Result<(), Fail> {
     let left = join_left(
         rt.alloc(),
         &parts,
-        None,
+        Layout::Lines,
         &mut Fuse::sink(Out::new(&mut text), Limit::Bytes(46)),
         &mut Out::new(&mut told),
     )?;
@@ -332,8 +330,7 @@ fn tells_a_file_that_is_missing(rt: HostRuntime) -> Result<(), Fail> {
         names: names.as_slice(),
         parts: 1,
         output: Output {
-            form: None,
-            docs: None,
+            layout: Layout::Lines,
             unlisted: Unlisted {
                 undecoded: 0,
                 passed_over: 0,

@@ -6,12 +6,11 @@ use std::alloc::{AllocError, Global};
 use std::io;
 use std::io::ErrorKind;
 use std::test::Fail;
-use t1_batch::{Fonts, Left, Mode, Output, Ran, Selection, Unlisted, Wanted, run};
+use t1_batch::{Fonts, Layout, Left, Mode, Output, Ran, Selection, Unlisted, Wanted, run};
 use t1_char::Edition;
 use t1_io::{Broken, Fuse, In, Limit, Out, Sink, Source};
 use t1_known::KnownFaults;
 use t1_many::told_rules;
-use t1_options::Form;
 use t1_run::Status;
 use t1_samples::Sample;
 
@@ -65,8 +64,7 @@ struct Asked<'a> {
 /// Lines are written as `NAME: LINE`, and all fonts could be listed.
 fn plain<'a>() -> Output<'a> {
     Output {
-        form: None,
-        docs: None,
+        layout: Layout::Lines,
         unlisted: Unlisted {
             undecoded: 0,
             passed_over: 0,
@@ -388,8 +386,7 @@ fn tells_what_was_not_listed(rt: HostRuntime) -> Result<(), Fail> {
         codes: P03_ALONE,
         mode: Mode::Told,
         output: Output {
-            form: Some(Form::JsonLines),
-            docs: None,
+            layout: Layout::JsonLines,
             unlisted: Unlisted {
                 undecoded: 1,
                 passed_over: 1,

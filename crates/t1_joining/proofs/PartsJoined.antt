@@ -2,6 +2,7 @@
 use Rattle.std.proofs.Common.{◌≡◌, ◌+◌, ◌<◌, ◌++◌, ◌∷◌, ◌∙◌, ℕ, Bool, List, [], map, replicate, Option, None, Result, Ok, Err, IfOk, refl, sym, ap, ap₂, subst, append-nil, add-one, arith}
 use Rattle.std.proofs.lemmas.Grind.{flat_map-append}
 use Rattle.std.specs.List.{AllZip, flat_map}
+use Rattle.t1_batch.specs.Layouts.{LayoutValue}
 use Rattle.t1_batch.proofs.GivenEach.{replicate-push}
 use Rattle.t1_batch.specs.Endings.{WantedValue}
 use Rattle.t1_batch.specs.Modes.{ModeValue}
@@ -19,7 +20,6 @@ use Rattle.t1_many.specs.Handing.{lost_of}
 use Rattle.t1_many.specs.Plain.{Devices, IsFlushed}
 use Rattle.t1_many.specs.declared.readings.Reading.{Reading}
 use Rattle.t1_many.specs.declared.recipient.Lost.{Lost}
-use Rattle.t1_options.specs.declared.asked.Form.{Form}
 use Rattle.t1_parts.specs.PartValues.{FontRows, PartValue, font_rows, part_value}
 use Rattle.t1_parts.specs.declared.part.Part.{Part}
 use Rattle.t1_rules.specs.declared.rule.Rule.{Rule}
@@ -142,12 +142,12 @@ module _ (JoinsOne : ℕ → Devices → Devices → Result Part Lost → Type 0
 
 -- ---- the end
 
-pub join_ends : (files : FilesOfParts) (form : Option Form) (unlisted : List ToldValue) (mode : ModeValue) (wanted : WantedValue) (quiet : Bool)
+pub join_ends : (files : FilesOfParts) (layout : LayoutValue) (unlisted : List ToldValue) (mode : ModeValue) (wanted : WantedValue) (quiet : Bool)
     (names : List (List ℕ)) (count : ℕ) (old behind new : Devices) (left : LeftValue) (result : Result Part Lost)
-    → JoinsList files form unlisted names count old behind result
+    → JoinsList files layout unlisted names count old behind result
     → ConcludesJoined mode wanted quiet result (is_whole unlisted) behind.errors new.errors left → new.out ≡ behind.out
-    → Joins files form unlisted mode wanted quiet names count old new left
-join_ends files form unlisted mode wanted quiet names count old behind new left (Ok found) joins ends same =
+    → Joins files layout unlisted mode wanted quiet names count old new left
+join_ends files layout unlisted mode wanted quiet names count old behind new left (Ok found) joins ends same =
     concluded behind found joins ends same
-join_ends files form unlisted mode wanted quiet names count old behind new left (Err lost) joins (status, tells, is) same =
+join_ends files layout unlisted mode wanted quiet names count old behind new left (Err lost) joins (status, tells, is) same =
     stopped behind lost joins status tells same is

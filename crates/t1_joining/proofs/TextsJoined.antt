@@ -6,11 +6,14 @@ use Rattle.std.proofs.lemmas.List.{map-append}
 use Rattle.std.proofs.lemmas.Option.{none-some}
 use Rattle.std.specs.Io.KnownBytes.{Appends, Consumes, IsAtEnd}
 use Rattle.std.specs.List.{AllByRecursion, AllZip, flat_map}
+use Rattle.t1_batch.specs.Layouts.{LayoutValue, commands, groups, json_lines, lines, sarif}
 use Rattle.t1_batch.specs.Checks.{IsTextOf, all_handed, founds_of}
 use Rattle.t1_batch.specs.Modes.{ModeValue, anew, beyond, entry_readings, judges_of, readings_of, told, waived, waivers_of}
 use Rattle.t1_char.specs.declared.edition.Edition.{Edition}
 use Rattle.t1_forms.specs.Objects.{object_line}
 use Rattle.t1_forms.specs.Tellings.{ToldValue}
+use Rattle.t1_grouped.specs.Held.{HeldLine}
+use Rattle.t1_grouped.specs.Writings.{Wording, command_wording, held_after, terminal_wording, text_after, text_of_one}
 use Rattle.t1_io.specs.Devices.{SinkState, SourceState}
 use Rattle.t1_joining.proofs.TextsLeft.{ok-err}
 use Rattle.t1_joining.specs.FilesOfParts.{CopiesFile, FilesOfParts, HasDied}
@@ -19,22 +22,20 @@ use Rattle.t1_joining.specs.Joins.{CopiesWhole, JoinsAll, JoinsPart, JoinsParts}
 use Rattle.t1_joining.specs.Joins.JoinsAll.{joined as all_joined, no_memory as out_of_memory, stopped}
 use Rattle.t1_joining.specs.Joins.JoinsPart.{died, no_memory, whole}
 use Rattle.t1_joining.specs.Laws.{AreFilesOf, PartsGiveTheWhole, unlisted_at}
-use Rattle.t1_joining.specs.Texts.{IsOutputOf, LeavesTexts}
+use Rattle.t1_joining.specs.Texts.{IsOutputOf, LeavesTexts, unlisted_command}
 use Rattle.t1_joining.specs.declared.copying.Extent.TheVariants.{All}
 use Rattle.t1_many.proofs.Parts.{whole as parts_are_whole}
 use Rattle.t1_many.specs.Counting.{all_lines, lines_of}
 use Rattle.t1_many.specs.Ends.{AreEntries, IsEntry}
 use Rattle.t1_many.specs.Files.{Files}
-use Rattle.t1_many.specs.Handing.{Handed, found_of as found_in, handed_of}
+use Rattle.t1_many.specs.Handing.{Handed, done, found_by, found_of as found_in, handed_of, lines_by}
 use Rattle.t1_many.specs.KnownFaults.{Reading as ReadingValue}
-use Rattle.t1_many.specs.Outcomes.{Entry, Report}
+use Rattle.t1_many.specs.Outcomes.{Entry, Outcome, Report, failed, reported}
 use Rattle.t1_many.specs.Plain.{Devices, tellings, text_of, told_of}
 use Rattle.t1_many.specs.Shards.{first_parts, joined, part_of}
 use Rattle.t1_many.specs.declared.readings.Reading.{Reading}
 use Rattle.t1_many_forms.specs.JsonLines.{object_text, objects}
 use Rattle.t1_many.specs.declared.verdict.Verdict.{Verdict}
-use Rattle.t1_options.specs.declared.asked.Form.{Form}
-use Rattle.t1_options.specs.declared.asked.Form.TheVariants.{GitHub, JsonLines, Sarif}
 use Rattle.t1_parts.proofs.WholeTexts.{a_text_is_one_part}
 use Rattle.t1_parts.specs.PartTexts.{part_text}
 use Rattle.t1_parts.specs.PartValues.{FontRows, PartValue, font_rows, part_value}
@@ -72,7 +73,7 @@ pub record IsWhole (output errors : List ℕ) (found joined : Part) (old new : D
   pub out : Appends old.out.written new.out.written output
   pub told : Appends old.errors.written new.errors.written errors
 
-module _ (left : FilesOfParts) (form : Option Form) (unlisted : List ToldValue) (names : List (List ℕ)) (number : ℕ) (output errors : List ℕ)
+module _ (left : FilesOfParts) (layout : LayoutValue) (unlisted : List ToldValue) (names : List (List ℕ)) (number : ℕ) (output errors : List ℕ)
     (found : Part) (are : AreFilesOf left number output errors found) where
   not_died : HasDied left number → ⊥
   not_died (inl none) = none-some (part_text (part_value found)) (are.finds None none)
@@ -89,7 +90,7 @@ module _ (left : FilesOfParts) (form : Option Form) (unlisted : List ToldValue) 
   )
   copies_whole old new (inr (reason, copied, is)) = absurd (none-some reason is)
 
-  pub part_joined : (old new : Devices) (last : Part) → JoinsPart left form unlisted names number old new (Ok last)
+  pub part_joined : (old new : Devices) (last : Part) → JoinsPart left layout unlisted names number old new (Ok last)
       → IsWhole output errors found last old new
   part_joined old new last (whole text part finds read copies is) =
       let text_is = some-same text (part_text (part_value found)) (are.finds (Some text) finds) in
@@ -147,30 +148,74 @@ abbrev unlisted_before : List ToldValue → ℕ → List ToldValue
 unlisted_before unlisted zero = []
 unlisted_before unlisted (suc n) = unlisted
 
+-- groups that are held after all of these
+held_all : List HeldLine → List Handed → List HeldLine
+held_all held [] = held
+held_all held (x ∷ xs) = held_all (held_after held x) xs
+
+held-append : (held : List HeldLine) (xs ys : List Handed) → held_all held (xs ++ ys) ≡ held_all (held_all held xs) ys
+held-append held [] ys = refl
+held-append held (x ∷ xs) ys = held-append (held_after held x) xs ys
+
+font_closed : (judges : Report → FaultValue → Verdict) (name : List ℕ) (outcome : Outcome) (held : List HeldLine)
+    → held_all held (handed_of judges name outcome) ≡ []
+font_closed judges name (reported report) held =
+    held-append held (lines_by (judges report) name report.font report.waivers report.faults)
+    (done name (found_by (judges report) report.faults) ∷ [])
+font_closed judges name (failed reason) held = refl
+
+all_closed : (judges : List ℕ → Report → FaultValue → Verdict) (entries : List Entry) → held_all [] (all_handed judges entries) ≡ []
+all_closed judges [] = refl
+all_closed judges (e ∷ entries) =
+    held-append [] (handed_of (judges e.name) e.name e.outcome) (all_handed judges entries)
+    ∙ ap (λ (held : List HeldLine). held_all held (all_handed judges entries)) (font_closed (judges e.name) e.name e.outcome [])
+    ∙ all_closed judges entries
+
+after-append : (wording : Wording) (held : List HeldLine) (xs ys : List Handed)
+    → text_after wording held (xs ++ ys) ≡ text_after wording held xs ++ text_after wording (held_all held xs) ys
+after-append wording held [] ys = refl
+after-append wording held (x ∷ xs) ys =
+    ap (λ (l : List ℕ). text_of_one wording held x ++ l) (after-append wording (held_after held x) xs ys)
+    ∙ sym (append_assoc (text_of_one wording held x) (text_after wording (held_after held x) xs) (text_after wording (held_all held (x ∷ xs)) ys))
+
+whole-append : (wording : Wording) (xs ys : List Handed) → held_all [] xs ≡ []
+    → text_after wording [] xs ++ text_after wording [] ys ≡ text_after wording [] (xs ++ ys)
+whole-append wording xs ys closed =
+    sym (after-append wording [] xs ys ∙ ap (λ (held : List HeldLine). text_after wording [] xs ++ text_after wording held ys) closed)
+
 -- what is written of two parts whose second one has nothing that couldn't be listed, or whose first one is none
-output-append : (form : Option Form) (unlisted : List ToldValue) (n : ℕ) (xs ys : List Handed) (a b : List ℕ) → (n ≡ 0 → xs ≡ [])
-    → IsOutputOf form (unlisted_before unlisted n) xs a → IsOutputOf form (unlisted_at unlisted n) ys b
-    → IsOutputOf form (unlisted_before unlisted (suc n)) (xs ++ ys) (a ++ b)
-output-append None unlisted n xs ys a b none first second =
+output-append : (layout : LayoutValue) (unlisted : List ToldValue) (n : ℕ) (xs ys : List Handed) (a b : List ℕ) → (n ≡ 0 → xs ≡ [])
+    → held_all [] xs ≡ [] → IsOutputOf layout (unlisted_before unlisted n) xs a → IsOutputOf layout (unlisted_at unlisted n) ys b
+    → IsOutputOf layout (unlisted_before unlisted (suc n)) (xs ++ ys) (a ++ b)
+output-append lines unlisted n xs ys a b none closed first second =
     ap₂ (λ (l m : List ℕ). l ++ m) first second ∙ sym (flat_map-append text_of xs ys)
-output-append (Some JsonLines) unlisted zero xs ys a b none first second =
+output-append (groups terminal) unlisted n xs ys a b none closed first second =
+    ap₂ (λ (l m : List ℕ). l ++ m) first second ∙ whole-append (terminal_wording terminal.width terminal.has_colours) xs ys closed
+output-append json_lines unlisted zero xs ys a b none closed first second =
     ap₂ (λ (l m : List ℕ). l ++ m) (first ∙ ap objects (none refl)) second
     ∙ ap (λ (hs : List Handed). flat_map object_line unlisted ++ objects (hs ++ ys)) (sym (none refl))
-output-append (Some JsonLines) unlisted (suc n) xs ys a b none first second =
+output-append json_lines unlisted (suc n) xs ys a b none closed first second =
     ap₂ (λ (l m : List ℕ). l ++ m) first second ∙ append_assoc (flat_map object_line unlisted) (objects xs) (objects ys)
     ∙ ap (λ (l : List ℕ). flat_map object_line unlisted ++ l) (sym (flat_map-append object_text xs ys))
-output-append (Some GitHub) unlisted n xs ys a b none first second = tt
-output-append (Some Sarif) unlisted n xs ys a b none first second = tt
+output-append commands unlisted zero xs ys a b none closed first second =
+    ap₂ (λ (l m : List ℕ). l ++ m) (first ∙ ap (text_after command_wording []) (none refl)) second
+    ∙ ap (λ (hs : List Handed). flat_map unlisted_command unlisted ++ text_after command_wording [] (hs ++ ys)) (sym (none refl))
+output-append commands unlisted (suc n) xs ys a b none closed first second =
+    ap₂ (λ (l m : List ℕ). l ++ m) first second
+    ∙ append_assoc (flat_map unlisted_command unlisted) (text_after command_wording [] xs) (text_after command_wording [] ys)
+    ∙ ap (λ (l : List ℕ). flat_map unlisted_command unlisted ++ l) (whole-append command_wording xs ys closed)
+output-append (sarif docs) unlisted n xs ys a b none closed first second = tt
 
 all_listed : (unlisted : List ToldValue) (n : ℕ) → 0 < n → unlisted_before unlisted n ≡ unlisted
 all_listed unlisted zero never = absurd (omega (arith, never))
 all_listed unlisted (suc n) some = refl
 
-no_output : (form : Option Form) → IsOutputOf form [] [] []
-no_output None = refl
-no_output (Some JsonLines) = refl
-no_output (Some GitHub) = tt
-no_output (Some Sarif) = tt
+no_output : (layout : LayoutValue) → IsOutputOf layout [] [] []
+no_output lines = refl
+no_output (groups terminal) = refl
+no_output json_lines = refl
+no_output commands = refl
+no_output (sarif docs) = tt
 
 no_readings : (mode : ModeValue) (rules : Mask) → AllZip IsTextOf [] (readings_of mode rules [])
 no_readings told rules = tt
@@ -186,7 +231,7 @@ no_waivers waived rules = refl
 
 -- ---- part after part
 
-module _ (files : Files) (left : FilesOfParts) (form : Option Form) (unlisted : List ToldValue) (mode : ModeValue) (rules : Mask) (edition : Edition)
+module _ (files : Files) (left : FilesOfParts) (layout : LayoutValue) (unlisted : List ToldValue) (mode : ModeValue) (rules : Mask) (edition : Edition)
     (names : List (List ℕ)) (count : ℕ) (output_of errors_of : ℕ → List ℕ) (found_of : ℕ → Part) where
   abbrev handed_in : List Entry → List Handed
   handed_in entries = all_handed (judges_of mode rules) entries
@@ -198,7 +243,7 @@ module _ (files : Files) (left : FilesOfParts) (form : Option Form) (unlisted : 
     pub none : n ≡ 0 → entries ≡ []
     pub out : Appends old.out.written new.out.written (joined output_of n)
     pub told_out : Appends old.errors.written new.errors.written (joined errors_of n)
-    pub output_is : IsOutputOf form (unlisted_before unlisted n) (handed_in entries) (joined output_of n)
+    pub output_is : IsOutputOf layout (unlisted_before unlisted n) (handed_in entries) (joined output_of n)
     pub errors_are : joined errors_of n ≡ tellings (handed_in entries)
     pub counts : List (List Found × List Rule)
     pub counted : AllZip (λ (part : Part) (c : List Found × List Rule). part.tally ≡ tally_of c.0 c.1) parts counts
@@ -214,7 +259,7 @@ module _ (files : Files) (left : FilesOfParts) (form : Option Form) (unlisted : 
     none = λ _. refl;
     out = Appends-nil old.out.written;
     told_out = Appends-nil old.errors.written;
-    output_is = no_output form;
+    output_is = no_output layout;
     errors_are = refl;
     counts = [];
     counted = tt;
@@ -228,7 +273,7 @@ module _ (files : Files) (left : FilesOfParts) (form : Option Form) (unlisted : 
   one_more {B = B} f xs x = flat_map-append f xs (x ∷ []) ∙ ap (λ (l : List B). flat_map f xs ++ l) (append-nil (f x))
 
   module _ (n : ℕ) (parts : List Part) (old behind new : Devices) (last : Part) (have : Have n parts old behind)
-      (texts_left : LeavesTexts form (unlisted_at unlisted n) mode rules files edition (part_of count names n) (output_of n) (errors_of n)
+      (texts_left : LeavesTexts layout (unlisted_at unlisted n) mode rules files edition (part_of count names n) (output_of n) (errors_of n)
       (found_of n))
       (is : IsWhole (output_of n) (errors_of n) (found_of n) last behind new) where
     abbrev more : List Entry
@@ -255,10 +300,10 @@ module _ (files : Files) (left : FilesOfParts) (form : Option Form) (unlisted : 
       none = λ zero_is. absurd (omega (arith, zero_is));
       out = Appends-trans old.out.written behind.out.written new.out.written (joined output_of n) (output_of n) have.out is.out;
       told_out = Appends-trans old.errors.written behind.errors.written new.errors.written (joined errors_of n) (errors_of n) have.told_out is.told;
-      output_is = subst (λ (hs : List Handed). IsOutputOf form (unlisted_before unlisted (suc n)) hs (joined output_of n ++ output_of n))
+      output_is = subst (λ (hs : List Handed). IsOutputOf layout (unlisted_before unlisted (suc n)) hs (joined output_of n ++ output_of n))
           (sym handed-append)
-          (output-append form unlisted n (handed_in have.entries) (handed_in texts_left.entries) (joined output_of n) (output_of n)
-          (λ zero_is. ap handed_in (have.none zero_is)) have.output_is texts_left.output_is);
+          (output-append layout unlisted n (handed_in have.entries) (handed_in texts_left.entries) (joined output_of n) (output_of n)
+          (λ zero_is. ap handed_in (have.none zero_is)) (all_closed judges have.entries) have.output_is texts_left.output_is);
       errors_are = ap₂ (λ (a b : List ℕ). a ++ b) have.errors_are texts_left.errors_are
           ∙ sym (ap tellings handed-append ∙ flat_map-append told_of (handed_in have.entries) (handed_in texts_left.entries));
       counts = have.counts ++ count_here ∷ [];
@@ -285,24 +330,24 @@ module _ (files : Files) (left : FilesOfParts) (form : Option Form) (unlisted : 
     }
 
   module _ (each : (n : ℕ) → n < count
-      → LeavesTexts form (unlisted_at unlisted n) mode rules files edition (part_of count names n) (output_of n) (errors_of n) (found_of n)
+      → LeavesTexts layout (unlisted_at unlisted n) mode rules files edition (part_of count names n) (output_of n) (errors_of n) (found_of n)
       × AreFilesOf left (suc n) (output_of n) (errors_of n) (found_of n)) where
     have_all : (n : ℕ) → n ≤ count → (old new : Devices) (parts : List Part)
-        → JoinsParts (λ number. JoinsPart left form unlisted (part_of count names (number - 1)) number) n old new parts → Have n parts old new
+        → JoinsParts (λ number. JoinsPart left layout unlisted (part_of count names (number - 1)) number) n old new parts → Have n parts old new
     have_all zero within old new parts (same, none) =
         subst (λ (ps : List Part). Have 0 ps old new) (sym none) (subst (λ (d : Devices). Have 0 [] old d) (sym same) (have_none old))
     have_all (suc n) within old new parts (behind, others, last, before, took, is) =
         let here = each n (omega (arith, within)) in
         subst (λ (ps : List Part). Have (suc n) ps old new) (sym is)
         (have_more n others old behind new last (have_all n (omega (arith, within)) old behind others before) here.0
-        (part_joined left form unlisted (part_of count names (suc n - 1)) (suc n) (output_of n) (errors_of n) (found_of n) here.1 behind new last
+        (part_joined left layout unlisted (part_of count names (suc n - 1)) (suc n) (output_of n) (errors_of n) (found_of n) here.1 behind new last
         took))
 
     pub give : 0 < count → (old new : Devices) (found : Part)
-        → JoinsAll (λ number. JoinsPart left form unlisted (part_of count names (number - 1)) number) count old new (Ok found)
+        → JoinsAll (λ number. JoinsPart left layout unlisted (part_of count names (number - 1)) number) count old new (Ok found)
         → Appends old.out.written new.out.written (joined output_of count)
         × Appends old.errors.written new.errors.written (joined errors_of count)
-        × LeavesTexts form unlisted mode rules files edition names (joined output_of count) (joined errors_of count) found
+        × LeavesTexts layout unlisted mode rules files edition names (joined output_of count) (joined errors_of count) found
     give some old new found (all_joined parts behind before flush are) =
         let have = have_all count (omega arith) old behind parts before in (
           Appends-kept old.out.written behind.out.written new.out.written (joined output_of count) have.out flush.0.bytes,
@@ -310,7 +355,7 @@ module _ (files : Files) (left : FilesOfParts) (form : Option Form) (unlisted : 
           record {
             entries = have.entries;
             are = subst (λ (ns : List (List ℕ)). AreEntries files edition ns have.entries) (parts_are_whole count some names) have.are;
-            output_is = subst (λ (us : List ToldValue). IsOutputOf form us (handed_in have.entries) (joined output_of count))
+            output_is = subst (λ (us : List ToldValue). IsOutputOf layout us (handed_in have.entries) (joined output_of count))
                 (all_listed unlisted count some) have.output_is;
             errors_are = have.errors_are;
             found_is = record {
@@ -327,5 +372,5 @@ module _ (files : Files) (left : FilesOfParts) (form : Option Form) (unlisted : 
     give some old new found (out_of_memory n within parts before is) = absurd (ok-err found _ is)
 
 pub parts_give : (files : Files) (left : FilesOfParts) → PartsGiveTheWhole files left
-parts_give files left form unlisted mode rules edition names count output_of errors_of found_of old new found some each joins =
-    give files left form unlisted mode rules edition names count output_of errors_of found_of each some old new found joins
+parts_give files left layout unlisted mode rules edition names count output_of errors_of found_of old new found some each joins =
+    give files left layout unlisted mode rules edition names count output_of errors_of found_of each some old new found joins

@@ -4,31 +4,44 @@ use Rattle.std.proofs.KnownBytes.{Appends-kept, Appends-nil, Appends-trans}
 use Rattle.std.proofs.lemmas.Option.{none-some}
 use Rattle.std.specs.Io.KnownBytes.{Appends}
 use Rattle.std.specs.List.{flat_map}
+use Rattle.t1_batch.specs.Layouts.{LayoutValue, commands, groups, json_lines, lines, sarif}
 use Rattle.t1_batch.specs.Checks.{ChecksFonts, IsFound, all_handed}
 use Rattle.t1_batch.specs.Checks.ChecksFonts.{cut_short, whole}
 use Rattle.t1_batch.specs.Modes.{ModeValue, judges_of}
 use Rattle.t1_batch.specs.Unlisted.{GivesEach}
-use Rattle.t1_batch.specs.Writing.{AnyEnd, AnyText, FinishesForm, NoEnd, WritesDocument, WritesFormatted}
+use Rattle.t1_batch.specs.Writing.{FinishesForm, WritesCommands, WritesDocument, WritesFormatted, WritesGroups}
+use Rattle.t1_batch.specs.Writing.WritesCommands.{unflushed as commands_unflushed, unlistable as commands_unlistable, written as commands_written}
 use Rattle.t1_batch.specs.Writing.FinishesForm.{flushed, unfinished as unfinished'}
 use Rattle.t1_batch.specs.Writing.WritesDocument.{begun, not_begun}
 use Rattle.t1_batch.specs.Writing.WritesFormatted.{stopped, unfinished, unlistable, written}
 use Rattle.t1_char.specs.declared.edition.Edition.{Edition}
 use Rattle.t1_forms.specs.Objects.{object_line}
 use Rattle.t1_forms.specs.Tellings.{ToldValue}
+use Rattle.t1_grouped.proofs.HeldGroups.{none_held}
+use Rattle.t1_grouped.proofs.Written.{IsWorded, commands_worded, terminal_worded, written as groups_written}
+use Rattle.t1_grouped.specs.Commands.{command_writing}
+use Rattle.t1_grouped.specs.GroupLines.{Writing}
+use Rattle.t1_grouped.specs.RuleGroups.{no_groups}
+use Rattle.t1_grouped.specs.Terminals.{terminal_writing}
+use Rattle.t1_grouped.specs.Writings.{Wording, command_wording, terminal_wording, text_after}
+use Rattle.t1_grouped.specs.declared.terminal.Terminal.{Terminal}
 use Rattle.t1_io.specs.Devices.{SinkState}
 use Rattle.t1_joining.specs.Laws.{AProcessLeavesTexts}
-use Rattle.t1_joining.specs.Texts.{HasLeft, IsOutputOf, WentOut}
+use Rattle.t1_joining.specs.Texts.{HasLeft, IsOutputOf, WentOut, unlisted_command}
 use Rattle.t1_many.proofs.PlainLines.{written as plain_written}
+use Rattle.t1_many.specs.Ends.{AreEntries}
 use Rattle.t1_many.specs.Files.{Files}
 use Rattle.t1_many.specs.Handing.{Handed, HandsOn, done, failure, line}
 use Rattle.t1_many.specs.Plain.{Devices, PlainTakes, tellings, texts, told_of}
+use Rattle.t1_many.specs.Outcomes.{Entry}
 use Rattle.t1_many.specs.declared.recipient.Lost.{Lost}
 use Rattle.t1_many_forms.proofs.JsonTexts.{seen-written}
+use Rattle.t1_many_forms.specs.Commands.{command_written}
+use Rattle.t1_many_forms.specs.Documents.{end_written, telling_written}
 use Rattle.t1_many_forms.specs.Formatting.{FormattedTakes, Formatting, GivesUnchecked, told, untold, unchecked_line}
 use Rattle.t1_many_forms.specs.JsonLines.{object_written, objects}
+use Rattle.t1_many_forms.specs.declared.github.GitHubCommands.{GitHubCommands as Commands}
 use Rattle.t1_many_forms.specs.declared.json_lines.JsonLines.{JsonLines as Objects}
-use Rattle.t1_options.specs.declared.asked.Form.{Form}
-use Rattle.t1_options.specs.declared.asked.Form.TheVariants.{GitHub, JsonLines, Sarif}
 use Rattle.t1_parts.specs.declared.part.Part.{Part}
 use Rattle.t1_rules.specs.declared.mask.Mask.{Mask}
 use Rattle.t1_run.specs.declared.failure.Failure.{Failure}
@@ -79,6 +92,14 @@ objects_given formatter after a b (x ∷ xs) (inl (next, behind, wrote, rest)) =
     Appends-trans a.written behind.written b.written (object_line x) (flat_map object_line xs) wrote.bytes (objects_given next after behind b xs rest)
 objects_given formatter after a b (x ∷ xs) (inr (reason, wrote, is)) = absurd (none-some reason is)
 
+commands_given : (formatter after : Commands) (a b : SinkState) (unlisted : List ToldValue) → GivesEach command_written formatter after a b unlisted None
+    → Appends a.written b.written (flat_map unlisted_command unlisted)
+commands_given formatter after a b [] (same, same_out, none) = none-same a b same_out
+commands_given formatter after a b (x ∷ xs) (inl (next, behind, wrote, rest)) =
+    Appends-trans a.written behind.written b.written (unlisted_command x) (flat_map unlisted_command xs) wrote.bytes
+    (commands_given next after behind b xs rest)
+commands_given formatter after a b (x ∷ xs) (inr (reason, wrote, is)) = absurd (none-some reason is)
+
 objects_finished : (a b : SinkState) → FinishesForm (λ old new lost. (new ≡ old) × (lost ≡ None)) a b None → (text : List ℕ) (before : SinkState)
     → Appends before.written a.written text → Appends before.written b.written text
 objects_finished a b (flushed behind (same, none) flush) text before appends =
@@ -92,7 +113,7 @@ module _ (unlisted : List ToldValue) (mode : ModeValue) (rules : Mask) (files : 
     (old new : Devices) (found : Part) where
   plain : (status : Status)
       → ChecksFonts PlainTakes (judges_of mode rules) files edition names old new (IsFound mode rules found) (Ok status)
-      → HasLeft None unlisted mode rules files edition names old new found
+      → HasLeft lines unlisted mode rules files edition names old new found
   plain status (whole entries are handed found_is is) =
       let handed_are = all_handed (judges_of mode rules) entries in
       let wrote = plain_written old new handed_are None handed in
@@ -108,7 +129,7 @@ module _ (unlisted : List ToldValue) (mode : ModeValue) (rules : Mask) (files : 
   json : (formatter : Objects) (status : Status)
       → WritesFormatted object_written (λ formatter old new lost. (new ≡ old) × (lost ≡ None)) unlisted (judges_of mode rules) files edition names
       formatter old new (IsFound mode rules found) (Ok status)
-      → HasLeft (Some JsonLines) unlisted mode rules files edition names old new found
+      → HasLeft json_lines unlisted mode rules files edition names old new found
   json formatter status (written from to given same_errors s (whole entries are handed found_is is) finish same_end result_is) =
       let handed_are = all_handed (judges_of mode rules) entries in
       let wrote = seen-written (λ (f : Formatting Objects). f) from to handed_are None handed in
@@ -129,14 +150,62 @@ module _ (unlisted : List ToldValue) (mode : ModeValue) (rules : Mask) (files : 
   json formatter status (stopped from to given same_errors lost checked same is) = absurd (ok-err status lost is)
   json formatter status (unlistable left lost given same_errors is) = absurd (ok-err status lost is)
 
+  -- groups of fonts
+  grouped : (writing : Writing) (wording : Wording) → IsWorded writing wording → (before : Devices) (status : Status)
+      → WritesGroups writing (judges_of mode rules) files edition names before new (IsFound mode rules found) (Ok status)
+      → (entries : List Entry) × AreEntries files edition names entries × IsFound mode rules found entries
+      × Appends before.out.written new.out.written (text_after wording [] (all_handed (judges_of mode rules) entries))
+      × Appends before.errors.written new.errors.written (tellings (all_handed (judges_of mode rules) entries))
+  grouped writing wording worded before status (left, whole entries are handed found_is is) =
+      let wrote = groups_written writing wording worded []
+          (record { out = before.out; errors = before.errors; groups = no_groups writing.room })
+          (record { out = new.out; errors = new.errors; groups = left }) (all_handed (judges_of mode rules) entries) None (none_held writing.room) handed in
+      (entries, are, found_is, wrote.0, wrote.1)
+  grouped writing wording worded before status (left, cut_short count entries are lost stop handed why is) = absurd (ok-err status lost is)
+
+  on_terminal : (terminal : Terminal) (status : Status)
+      → WritesGroups (terminal_writing terminal.width terminal.has_colours) (judges_of mode rules) files edition names old new (IsFound mode rules found)
+      (Ok status)
+      → HasLeft (groups terminal) unlisted mode rules files edition names old new found
+  on_terminal terminal status wrote =
+      let all = grouped (terminal_writing terminal.width terminal.has_colours) (terminal_wording terminal.width terminal.has_colours)
+          (terminal_worded terminal.width terminal.has_colours) old status wrote in
+      let handed_are = all_handed (judges_of mode rules) all.0 in
+      record {
+        output = text_after (terminal_wording terminal.width terminal.has_colours) [] handed_are;
+        errors = tellings handed_are;
+        texts = record { entries = all.0; are = all.1; output_is = refl; errors_are = refl; found_is = all.2 };
+        went_out = all.3;
+        told = all.4;
+      }
+
+  as_commands : (status : Status)
+      → WritesCommands unlisted (judges_of mode rules) files edition names old new (IsFound mode rules found) (Ok status)
+      → HasLeft commands unlisted mode rules files edition names old new found
+  as_commands status (commands_written formatter after begins flushed gives flush wrote) =
+      let all = grouped command_writing command_wording commands_worded (record { out = flushed; errors = old.errors }) status wrote in
+      let handed_are = all_handed (judges_of mode rules) all.0 in
+      let given_out = Appends-kept old.out.written begins.written flushed.written (flat_map unlisted_command unlisted)
+          (commands_given formatter after old.out begins unlisted gives) flush.bytes in
+      record {
+        output = flat_map unlisted_command unlisted ++ text_after command_wording [] handed_are;
+        errors = tellings handed_are;
+        texts = record { entries = all.0; are = all.1; output_is = refl; errors_are = refl; found_is = all.2 };
+        went_out = Appends-trans old.out.written flushed.written new.out.written (flat_map unlisted_command unlisted)
+            (text_after command_wording [] handed_are) given_out all.3;
+        told = all.4;
+      }
+  as_commands status (commands_unflushed formatter after begins gives lost flush errors is) = absurd (ok-err status lost is)
+  as_commands status (commands_unlistable formatter left lost gives errors is) = absurd (ok-err status lost is)
+
   -- a form whose texts have no definition
   module _ {T : Type 0} (writes : T → T → SinkState → SinkState → ToldValue → Option Lost → Type 0)
-      (finishes : T → SinkState → SinkState → Option Lost → Type 0) (form : Option Form)
-      (any : (handed : List Handed) → IsOutputOf form unlisted handed []) where
-    others : (formatter : T) (before : Devices) (status : Status) → before.errors ≡ old.errors → WentOut form old.out new.out []
+      (finishes : T → SinkState → SinkState → Option Lost → Type 0) (layout : LayoutValue)
+      (any : (handed : List Handed) → IsOutputOf layout unlisted handed []) where
+    others : (formatter : T) (before : Devices) (status : Status) → before.errors ≡ old.errors → WentOut layout old.out new.out []
         → WritesFormatted writes finishes unlisted (judges_of mode rules) files edition names formatter before new (IsFound mode rules found)
         (Ok status)
-        → HasLeft form unlisted mode rules files edition names old new found
+        → HasLeft layout unlisted mode rules files edition names old new found
     others formatter before status same out
         (written from to given same_errors s (whole entries are handed found_is is) finish same_end result_is) =
         let handed_are = all_handed (judges_of mode rules) entries in
@@ -157,18 +226,21 @@ module _ (unlisted : List ToldValue) (mode : ModeValue) (rules : Mask) (files : 
     others formatter before status same out (stopped from to given same_errors lost checked same_end is) = absurd (ok-err status lost is)
     others formatter before status same out (unlistable left lost given same_errors is) = absurd (ok-err status lost is)
 
-  sarif : (status : Status) → WritesDocument unlisted (judges_of mode rules) files edition names old new (IsFound mode rules found) (Ok status)
-      → HasLeft (Some Sarif) unlisted mode rules files edition names old new found
-  sarif status (begun document behind wrote) =
-      others AnyText AnyEnd (Some Sarif) (λ _. tt) document (record { out = behind; errors = old.errors }) status refl tt wrote
-  sarif status (not_begun lost same is) = absurd (ok-err status lost is)
+  document : (docs : Option (List ℕ)) (status : Status)
+      → WritesDocument docs unlisted (judges_of mode rules) files edition names old new (IsFound mode rules found) (Ok status)
+      → HasLeft (sarif docs) unlisted mode rules files edition names old new found
+  document docs status (begun document behind opened is wrote) =
+      others telling_written end_written (sarif docs) (λ _. tt) document (record { out = behind; errors = old.errors }) status refl tt wrote
+  document docs status (not_begun lost put same is) = absurd (ok-err status lost is)
 
 pub process_leaves_texts : (files : Files) → AProcessLeavesTexts files
-process_leaves_texts files None unlisted mode rules edition names old new found status wrote =
+process_leaves_texts files lines unlisted mode rules edition names old new found status wrote =
     plain unlisted mode rules files edition names old new found status wrote
-process_leaves_texts files (Some JsonLines) unlisted mode rules edition names old new found status (formatter, wrote) =
+process_leaves_texts files (groups terminal) unlisted mode rules edition names old new found status wrote =
+    on_terminal unlisted mode rules files edition names old new found terminal status wrote
+process_leaves_texts files json_lines unlisted mode rules edition names old new found status (formatter, wrote) =
     json unlisted mode rules files edition names old new found formatter status wrote
-process_leaves_texts files (Some GitHub) unlisted mode rules edition names old new found status (formatter, wrote) =
-    others unlisted mode rules files edition names old new found AnyText NoEnd (Some GitHub) (λ _. tt) formatter old status refl tt wrote
-process_leaves_texts files (Some Sarif) unlisted mode rules edition names old new found status wrote =
-    sarif unlisted mode rules files edition names old new found status wrote
+process_leaves_texts files commands unlisted mode rules edition names old new found status wrote =
+    as_commands unlisted mode rules files edition names old new found status wrote
+process_leaves_texts files (sarif docs) unlisted mode rules edition names old new found status wrote =
+    document unlisted mode rules files edition names old new found docs status wrote

@@ -1,6 +1,7 @@
 -- How what the parts of a run left is joined.
 use Rattle.std.specs.Prelude.{◌≡◌, ◌≤◌, ◌<◌, ◌-◌, ◌++◌, ◌∷◌, ℕ, zero, suc, Bool, List, [], length, Option, Some, Result, Ok, Err, IfOk}
 use Rattle.std.specs.List.{AllZip, flat_map}
+use Rattle.t1_batch.specs.Layouts.{LayoutValue}
 use Rattle.t1_batch.specs.Endings.{WantedValue}
 use Rattle.t1_batch.specs.Runs.{Concludes, LeftValue, lost_line, nothing_left}
 use Rattle.t1_batch.specs.Modes.{ModeValue}
@@ -15,7 +16,6 @@ use Rattle.t1_many.specs.Plain.{Devices, IsFlushed, IsPut}
 use Rattle.t1_many.specs.Shards.{part_of}
 use Rattle.t1_many.specs.declared.recipient.Lost.{Lost}
 use Rattle.t1_many.specs.declared.recipient.Lost.TheVariants.{Memory}
-use Rattle.t1_options.specs.declared.asked.Form.{Form}
 use Rattle.t1_parts.specs.PartTexts.{IsReadAs}
 use Rattle.t1_parts.specs.PartValues.{part_value}
 use Rattle.t1_parts.specs.declared.part.Part.{Part}
@@ -35,24 +35,24 @@ CopiesWhole files number old new lost =
 
 -- A part whose process died: the whole lines of what it told were copied, and each of its fonts was told as not checked; then the output was
 -- written.
-abbrev pub CopiesDied : FilesOfParts → Option Form → List ToldValue → List (List ℕ) → ℕ → List ℕ → Devices → Devices → Option Lost → Type 0
-CopiesDied files form unlisted names number reason old new lost =
+abbrev pub CopiesDied : FilesOfParts → LayoutValue → List ToldValue → List (List ℕ) → ℕ → List ℕ → Devices → Devices → Option Lost → Type 0
+CopiesDied files layout unlisted names number reason old new lost =
     Then (OnErrors (Then (CopiesErrors files number WholeLines) (λ a b l. IsPut a b (died_lines names reason) l)))
-    (OnOutput (WritesDied form (CopiesOutput files number WholeLines) unlisted (died_told names reason))) old new lost
+    (OnOutput (WritesDied layout (CopiesOutput files number WholeLines) unlisted (died_told names reason))) old new lost
 
 -- The part of fonts with these names was copied, and this was found in it; or it stopped there.
-pub data JoinsPart (files : FilesOfParts) (form : Option Form) (unlisted : List ToldValue) (names : List (List ℕ)) (number : ℕ) (old new : Devices)
+pub data JoinsPart (files : FilesOfParts) (layout : LayoutValue) (unlisted : List ToldValue) (names : List (List ℕ)) (number : ℕ) (old new : Devices)
     (result : Result Part Lost) : Type 0 where
   whole :
       (text : List ℕ) → (part : Part) → files.Finds number (Some text) → IsReadAs text (Ok part)
       → CopiesWhole files number old new (lost_of result) → IfOk result (λ found. found ≡ part)
-      → JoinsPart files form unlisted names number old new result
+      → JoinsPart files layout unlisted names number old new result
   died :
       HasDied files number → (reason : List ℕ) → files.Dies number reason
-      → CopiesDied files form unlisted names number reason old new (lost_of result)
+      → CopiesDied files layout unlisted names number reason old new (lost_of result)
       → IfOk result (λ found. part_value found ≡ died_part (length names))
-      → JoinsPart files form unlisted names number old new result
-  no_memory : new ≡ old → result ≡ Err Memory → JoinsPart files form unlisted names number old new result
+      → JoinsPart files layout unlisted names number old new result
+  no_memory : new ≡ old → result ≡ Err Memory → JoinsPart files layout unlisted names number old new result
 
 -- ---- all of them
 
@@ -84,18 +84,18 @@ pub data JoinsAll (JoinsOne : ℕ → Devices → Devices → Result Part Lost �
       (n : ℕ) → n ≤ count → (parts : List Part) → JoinsParts JoinsOne n old new parts → result ≡ Err Memory → JoinsAll JoinsOne count old new result
 
 -- The parts of a list.
-abbrev pub JoinsList : FilesOfParts → Option Form → List ToldValue → List (List ℕ) → ℕ → Devices → Devices → Result Part Lost → Type 0
-JoinsList files form unlisted names count old new result =
-    JoinsAll (λ number. JoinsPart files form unlisted (part_of count names (number - 1)) number) count old new result
+abbrev pub JoinsList : FilesOfParts → LayoutValue → List ToldValue → List (List ℕ) → ℕ → Devices → Devices → Result Part Lost → Type 0
+JoinsList files layout unlisted names count old new result =
+    JoinsAll (λ number. JoinsPart files layout unlisted (part_of count names (number - 1)) number) count old new result
 
 -- What the parts left was joined, and then told is what is told once all fonts were checked; or it stopped, which is told, and nothing is left.
-pub data Joins (files : FilesOfParts) (form : Option Form) (unlisted : List ToldValue) (mode : ModeValue) (wanted : WantedValue) (quiet : Bool)
+pub data Joins (files : FilesOfParts) (layout : LayoutValue) (unlisted : List ToldValue) (mode : ModeValue) (wanted : WantedValue) (quiet : Bool)
     (names : List (List ℕ)) (count : ℕ) (old new : Devices) (left : LeftValue) : Type 0 where
   concluded :
-      (behind : Devices) → (found : Part) → JoinsList files form unlisted names count old behind (Ok found)
+      (behind : Devices) → (found : Part) → JoinsList files layout unlisted names count old behind (Ok found)
       → Concludes mode wanted quiet found (is_whole unlisted) behind.errors new.errors left → new.out ≡ behind.out
-      → Joins files form unlisted mode wanted quiet names count old new left
+      → Joins files layout unlisted mode wanted quiet names count old new left
   stopped :
-      (behind : Devices) → (lost : Lost) → JoinsList files form unlisted names count old behind (Err lost) → (status : Status)
+      (behind : Devices) → (lost : Lost) → JoinsList files layout unlisted names count old behind (Err lost) → (status : Status)
       → Tells (lost_line lost) Failed behind.errors new.errors status → new.out ≡ behind.out → left ≡ nothing_left status
-      → Joins files form unlisted mode wanted quiet names count old new left
+      → Joins files layout unlisted mode wanted quiet names count old new left

@@ -1,11 +1,12 @@
 -- The statements of laws.
 use Rattle.std.specs.Prelude.{◌≡◌, ◌<◌, ℕ, zero, suc, Bool, List, [], Option, Some, Ok}
 use Rattle.std.specs.Io.KnownBytes.{Appends}
+use Rattle.t1_batch.specs.Layouts.{LayoutValue}
 use Rattle.t1_batch.specs.Endings.{WantedValue}
 use Rattle.t1_batch.specs.Checks.{IsFound}
 use Rattle.t1_batch.specs.Modes.{ModeValue, judges_of}
 use Rattle.t1_batch.specs.Runs.{Concludes, LeftValue}
-use Rattle.t1_batch.specs.Writing.{WritesInForm}
+use Rattle.t1_batch.specs.Writing.{WritesIn}
 use Rattle.t1_char.specs.declared.edition.Edition.{Edition}
 use Rattle.t1_forms.specs.Tellings.{ToldValue}
 use Rattle.t1_io.specs.Devices.{SinkState, SourceState}
@@ -16,7 +17,6 @@ use Rattle.t1_many.specs.Files.{Files}
 use Rattle.t1_many.specs.Outcomes.{Entry}
 use Rattle.t1_many.specs.Plain.{Devices}
 use Rattle.t1_many.specs.Shards.{joined, part_of}
-use Rattle.t1_options.specs.declared.asked.Form.{Form}
 use Rattle.t1_parts.specs.PartTexts.{part_text}
 use Rattle.t1_parts.specs.PartValues.{IsPart, part_value}
 use Rattle.t1_parts.specs.declared.part.Part.{Part}
@@ -26,10 +26,10 @@ use Rattle.t1_run.specs.declared.status.Status.{Status}
 -- What one process writes and tells of fonts are such texts.
 abbrev pub AProcessLeavesTexts : Files → Type 0
 AProcessLeavesTexts files =
-    (form : Option Form) (unlisted : List ToldValue) (mode : ModeValue) (rules : Mask) (edition : Edition) (names : List (List ℕ))
+    (layout : LayoutValue) (unlisted : List ToldValue) (mode : ModeValue) (rules : Mask) (edition : Edition) (names : List (List ℕ))
     (old new : Devices) (found : Part) (status : Status)
-    → WritesInForm form unlisted (judges_of mode rules) files edition names old new (IsFound mode rules found) (Ok status)
-    → HasLeft form unlisted mode rules files edition names old new found
+    → WritesIn layout unlisted (judges_of mode rules) files edition names old new (IsFound mode rules found) (Ok status)
+    → HasLeft layout unlisted mode rules files edition names old new found
 
 -- What couldn't be listed belongs to the first part.
 abbrev pub unlisted_at : List ToldValue → ℕ → List ToldValue
@@ -46,15 +46,15 @@ pub record AreFilesOf (left : FilesOfParts) (number : ℕ) (output errors : List
 -- Where the parts of a list left such texts, what is joined of them are such texts of the whole list.
 abbrev pub PartsGiveTheWhole : Files → FilesOfParts → Type 0
 PartsGiveTheWhole files left =
-    (form : Option Form) (unlisted : List ToldValue) (mode : ModeValue) (rules : Mask) (edition : Edition) (names : List (List ℕ)) (count : ℕ)
+    (layout : LayoutValue) (unlisted : List ToldValue) (mode : ModeValue) (rules : Mask) (edition : Edition) (names : List (List ℕ)) (count : ℕ)
     (output_of errors_of : ℕ → List ℕ) (found_of : ℕ → Part) (old new : Devices) (found : Part) → 0 < count
     → ((n : ℕ) → n < count
-    → LeavesTexts form (unlisted_at unlisted n) mode rules files edition (part_of count names n) (output_of n) (errors_of n) (found_of n)
+    → LeavesTexts layout (unlisted_at unlisted n) mode rules files edition (part_of count names n) (output_of n) (errors_of n) (found_of n)
     × AreFilesOf left (suc n) (output_of n) (errors_of n) (found_of n))
-    → JoinsList left form unlisted names count old new (Ok found)
+    → JoinsList left layout unlisted names count old new (Ok found)
     → Appends old.out.written new.out.written (joined output_of count)
     × Appends old.errors.written new.errors.written (joined errors_of count)
-    × LeavesTexts form unlisted mode rules files edition names (joined output_of count) (joined errors_of count) found
+    × LeavesTexts layout unlisted mode rules files edition names (joined output_of count) (joined errors_of count) found
 
 -- Whoever found it, what is told once all fonts were checked, the status and what is left are those of what was found in them.
 abbrev pub TheFoundConcludes : Type 0

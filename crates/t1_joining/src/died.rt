@@ -1,6 +1,7 @@
 //! Fonts that weren't checked, since the process of their part died.
 
-ghost use Rattle.std.specs.Prelude.{◌≡◌, ◌++◌, IfOk, codes, map, string_bytes};
+ghost use Rattle.std.specs.Prelude.{◌≡◌, ◌++◌, IfOk, codes, map, option_map, string_bytes};
+ghost use Rattle.t1_batch.specs.Layouts.{layout_value};
 ghost use Rattle.t1_batch.specs.Unlisted.{GivesEach, unlisted_in};
 ghost use Rattle.std.specs.List.{flat_map};
 ghost use Rattle.t1_io.specs.Devices.{Writes};
@@ -16,12 +17,11 @@ use crate::copying::Extent;
 use crate::files::copy_file;
 use std::alloc::{AllocError, Global};
 use std::io;
-use t1_batch::{Output, Unlisted, give_unlisted};
+use t1_batch::{Layout, Output, Unlisted, give_unlisted};
 use t1_forms::{FormatError, Sarif, Told, What};
 use t1_io::{Broken, Sink, Source, put_parts};
 use t1_many::Lost;
 use t1_many_forms::{Formatter, GitHubCommands, JsonLines};
-use t1_options::Form;
 use t1_parts::Part;
 use t1_summary::Found;
 
@@ -96,18 +96,18 @@ where
     W: Sink,
     requires opens { O.IsAlwaysCallable opens.now }
     requires line { died.line.now ≡ codes "t1check: " ++ died.reason.now }
-    ensures { WritesDied output.entry.form
+    ensures { WritesDied (layout_value output.entry.layout)
         (λ a b l. CopiesFile (opened_by R.state (O.post opens.now number)) (unopened_by (O.post opens.now number)) WholeLines a b l)
         (unlisted_in output.entry.unlisted) (died_told (map string_bytes died.entry.names.now) died.entry.reason.now)
         (W.state out.old) (W.state out.new) (lost_of result) }
 {
-    let Some(form) = output.form else {
-        return copy_file(alloc, opens, number, Extent::WholeLines, out);
-    };
-    match form {
-        Form::JsonLines => write_after(alloc, opens, number, JsonLines, died, out),
-        Form::GitHub => write_after(alloc, opens, number, GitHubCommands, died, out),
-        Form::Sarif => write_anew(alloc, output.docs, output.unlisted, died, out),
+    match output.layout {
+        Layout::Lines | Layout::Groups(_) => {
+            copy_file(alloc, opens, number, Extent::WholeLines, out)
+        }
+        Layout::JsonLines => write_after(alloc, opens, number, JsonLines, died, out),
+        Layout::GitHub => write_after(alloc, opens, number, GitHubCommands, died, out),
+        Layout::Sarif(docs) => write_anew(alloc, docs, output.unlisted, died, out),
     }
 }
 
@@ -145,7 +145,7 @@ fn write_anew<W: Sink>(
     out: &mut W,
 ) -> Result<(), Lost>
     requires line { died.line.now ≡ codes "t1check: " ++ died.reason.now }
-    ensures { WritesAnew (unlisted_in unlisted.entry ++ died_told (map string_bytes died.entry.names.now) died.entry.reason.now)
+    ensures { WritesAnew (option_map (λ docs. docs.now) docs.entry) (unlisted_in unlisted.entry ++ died_told (map string_bytes died.entry.names.now) died.entry.reason.now)
         (W.state out.old) (W.state out.new) (lost_of result) }
 {
     match Sarif::begin(alloc, out, docs) {

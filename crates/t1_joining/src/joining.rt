@@ -1,6 +1,7 @@
 //! The last step of a run in parts.
 
 ghost use Rattle.std.specs.Prelude.{◌≡◌, map, string_bytes};
+ghost use Rattle.t1_batch.specs.Layouts.{layout_value};
 ghost use Rattle.t1_batch.specs.Endings.{wanted_value};
 ghost use Rattle.t1_batch.specs.Modes.{mode_value};
 ghost use Rattle.t1_batch.specs.Runs.{left_value};
@@ -43,7 +44,7 @@ where
     requires errors { E.IsAlwaysCallable files.errors }
     requires reason { D.IsAlwaysCallable files.reason }
     ensures { Joins (files_by R.state (F.post files.found) (O.post files.output) (E.post files.errors) (D.post files.reason))
-        split.entry.output.form (unlisted_in split.entry.output.unlisted) (mode_value mode.entry) (wanted_value wanted.entry) quiet
+        (layout_value split.entry.output.layout) (unlisted_in split.entry.output.unlisted) (mode_value mode.entry) (wanted_value wanted.entry) quiet
         (map string_bytes split.entry.names.now) split.entry.parts
         (record { out = W.state out.old; errors = S.state errors.old }) (record { out = W.state out.new; errors = S.state errors.new })
         (left_value result) }

@@ -7,6 +7,7 @@ ghost use Rattle.t1_joining.specs.Steps.{Then};
 ghost use Rattle.t1_joining.specs.declared.copying.Extent.TheVariants.{WholeLines};
 ghost use Rattle.t1_many.specs.Plain.{IsPut};
 ghost use Rattle.t1_joining.specs.Joins.{CopiesDied, CopiesWhole, JoinsList, JoinsPart};
+ghost use Rattle.t1_batch.specs.Layouts.{layout_value};
 ghost use Rattle.t1_batch.specs.Unlisted.{unlisted_in};
 ghost use Rattle.t1_joining.specs.Private.Parts.{Added, JoinsDied};
 ghost use Rattle.t1_many.specs.Handing.{lost_of};
@@ -55,7 +56,7 @@ where
     requires errors { E.IsAlwaysCallable files.now.errors }
     requires reason { D.IsAlwaysCallable files.now.reason }
     ensures { JoinsList (files_by R.state (F.post files.now.found) (O.post files.now.output) (E.post files.now.errors) (D.post files.now.reason))
-        split.entry.output.form (unlisted_in split.entry.output.unlisted) (map string_bytes split.entry.names.now) split.entry.parts
+        (layout_value split.entry.output.layout) (unlisted_in split.entry.output.unlisted) (map string_bytes split.entry.names.now) split.entry.parts
         (record { out = W.state out.old; errors = S.state errors.old }) (record { out = W.state out.new; errors = S.state errors.new }) result }
 {
     let mut all = Part::new(alloc);
@@ -101,7 +102,7 @@ where
     requires first { 1 ≤ number }
     requires last { number ≤ split.parts }
     ensures { JoinsPart (files_by R.state (F.post files.now.found) (O.post files.now.output) (E.post files.now.errors) (D.post files.now.reason))
-        split.entry.output.form (unlisted_in split.entry.output.unlisted)
+        (layout_value split.entry.output.layout) (unlisted_in split.entry.output.unlisted)
         (part_of split.entry.parts (map string_bytes split.entry.names.now) (number - 1)) number
         (record { out = W.state out.old; errors = S.state errors.old }) (record { out = W.state out.new; errors = S.state errors.new }) result }
 {
@@ -169,7 +170,7 @@ where
     requires errors { E.IsAlwaysCallable files.now.errors }
     requires reason { D.IsAlwaysCallable files.now.reason }
     ensures { JoinsDied (files_by R.state (F.post files.now.found) (O.post files.now.output) (E.post files.now.errors) (D.post files.now.reason))
-        output.entry.form (unlisted_in output.entry.unlisted) (map string_bytes names.now) number
+        (layout_value output.entry.layout) (unlisted_in output.entry.unlisted) (map string_bytes names.now) number
         (record { out = W.state out.old; errors = S.state errors.old }) (record { out = W.state out.new; errors = S.state errors.new }) result }
 {
     let Ok(reason) = (files.reason)(number) else {
@@ -209,7 +210,7 @@ where
     requires errors { E.IsAlwaysCallable files.now.errors }
     requires line { died.line.now ≡ codes "t1check: " ++ died.reason.now }
     ensures { CopiesDied (files_by R.state (F.post files.now.found) (O.post files.now.output) (E.post files.now.errors) (D.post files.now.reason))
-        output.entry.form (unlisted_in output.entry.unlisted) (map string_bytes died.entry.names.now) number died.entry.reason.now
+        (layout_value output.entry.layout) (unlisted_in output.entry.unlisted) (map string_bytes died.entry.names.now) number died.entry.reason.now
         (record { out = W.state out.old; errors = S.state errors.old }) (record { out = W.state out.new; errors = S.state errors.new })
         (lost_of result) }
 {

@@ -9,8 +9,7 @@
 //! | [`Sarif`](t1_forms::Sarif) | a result in a document, whose frame `Sarif::begin` and `finish` write |
 //! | [`GitHubCommands`] | a command |
 //!
-//! What is promised: of lines of JSON and of a document of SARIF each byte. Of commands, what is given to them, and what is told on standard
-//! error; their texts are shown by tests alone.
+//! What is promised: each byte that is written, and what is told on standard error.
 #![tactic(auto)]
 
 mod fault_line;

@@ -5,7 +5,7 @@ use crate::joining::join_parts;
 use crate::parts::{check_listed, check_part};
 use crate::planning::plan;
 use crate::settings::{leave_settings, left_settings, named, read_settings};
-use crate::usage::VERSION;
+use crate::usage::version_line;
 use crate::whole::answer_words;
 use std::io::Write;
 use t1_batch::PROGRAM;
@@ -111,12 +111,15 @@ fn version<W: Write + Drop, E: Write + Drop>(
     out: &mut Out<W>,
     errors: &mut Out<E>,
 ) -> Status {
+    let Ok(line) = version_line(rt.alloc()) else {
+        return tell_failure(PROGRAM, Failure::Memory, errors);
+    };
     match step {
-        Step::Plan { folder, .. } => match write(rt, folder, "version", VERSION) {
+        Step::Plan { folder, .. } => match write(rt, folder, "version", line.as_bytes()) {
             Ok(()) => Status::Clean,
             Err(_) => Status::Failed,
         },
-        _ => give(PROGRAM, VERSION, out, errors),
+        _ => give(PROGRAM, line.as_bytes(), out, errors),
     }
 }
 

@@ -1,10 +1,14 @@
 //! What is wrong with the files between the steps of a run, and the version.
 
 use std::alloc::{AllocError, Global};
+use t1_batch::PROGRAM;
+use t1_forms::VERSION;
 use t1_run::UsageError;
 
-/// The version, which names no number.
-pub(crate) const VERSION: &[u8] = b"t1check-all\n";
+/// The version, as it is told.
+pub(crate) fn version_line(alloc: Global) -> Result<String, AllocError> {
+    format!(in alloc; "{PROGRAM} {VERSION}\n")
+}
 
 /// Something is wrong: a sentence of these parts.
 pub(crate) fn said(alloc: Global, parts: &[&[u8]]) -> UsageError {

@@ -4,13 +4,13 @@ use crate::files::{
     SystemFiles, is_folder, known_text, list_folder, list_text, open_file, open_waivers,
 };
 use crate::replacing::replace_left;
-use crate::usage::VERSION;
+use crate::usage::version_line;
 use std::io::Write;
 use t1_answer_all::{Fonts, Places, System, answer, check_listed, read_known, replace_files};
 use t1_batch::PROGRAM;
 use t1_io::Out;
 use t1_options::Options;
-use t1_run::{Status, explain};
+use t1_run::{Failure, Status, explain, tell_failure};
 
 /// Answers the words of a run, the program's name first.
 pub(crate) fn answer_words<W: Write + Drop, E: Write + Drop>(
@@ -29,7 +29,18 @@ pub(crate) fn answer_words<W: Write + Drop, E: Write + Drop>(
         open_font: |name: &str| open_file(rt, name),
         open_waivers: |name: &str| open_waivers(rt, name, true),
     };
-    let answered = answer(rt.alloc(), words, VERSION, system, out, errors);
+    let Ok(version) = version_line(rt.alloc()) else {
+        let mut errors = errors;
+        return tell_failure(PROGRAM, Failure::Memory, &mut errors);
+    };
+    let answered = answer(
+        rt.alloc(),
+        words,
+        version.as_bytes(),
+        system,
+        out,
+        errors,
+    );
     let mut errors = answered.errors;
     replace_files(
         rt.alloc(),

@@ -23,8 +23,9 @@ use crate::command_line::NoOptions;
 use crate::explaining::explain;
 use std::fs;
 use std::io::BufWriter;
+use t1_forms::VERSION;
 use t1_io::{In, Out};
-use t1_run::{Failure, Status, tell_failure, words_given};
+use t1_run::{Failure, Status, give, tell_failure, words_given};
 
 /// The program's name, in front of what it tells.
 const PROGRAM: &str = "t1draw";
@@ -35,6 +36,14 @@ A font whose name isn't UTF-8 can be given on standard input: t1draw GLYPH < FON
 A byte of a glyph's name is written \\xNN
 ";
 
+/// Whether the words, the program's name first, ask for the version alone.
+fn asks_version(words: &[String]) -> bool {
+    match words {
+        [_, word] => word.as_str() == "--version",
+        _ => false,
+    }
+}
+
 fn main(rt: HostRuntime) -> Status {
     let alloc = rt.alloc();
     let mut errors = Out::new(rt.stderr());
@@ -43,6 +52,12 @@ fn main(rt: HostRuntime) -> Status {
     };
     let mut out = Out::new(writer);
     match words_given(&rt, NOT_UTF8) {
+        Ok(words) if asks_version(words.as_slice()) => {
+            match format!(in alloc; "{PROGRAM} {VERSION}\n") {
+                Ok(text) => give(PROGRAM, text.as_bytes(), &mut out, &mut errors),
+                Err(_) => tell_failure(PROGRAM, Failure::Memory, &mut errors),
+            }
+        }
         Ok(words) => {
             let answered = answer(
                 alloc,

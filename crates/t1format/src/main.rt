@@ -17,8 +17,9 @@ mod writer;
 use crate::command_line::read_words;
 use crate::running::{Stop, run};
 use std::io::{BufReader, BufWriter};
+use t1_forms::VERSION;
 use t1_io::Out;
-use t1_run::{Failure, Status, explain, tell_failure, tell_write_failed, words_given};
+use t1_run::{Failure, Status, explain, give, tell_failure, tell_write_failed, words_given};
 
 /// The program's name, in front of what it tells.
 const PROGRAM: &str = "t1format";
@@ -27,6 +28,14 @@ const PROGRAM: &str = "t1format";
 const NOT_UTF8: &str = "
 The name of a font that isn't UTF-8 can stand in the lines that are read
 ";
+
+/// Whether the words, the program's name first, ask for the version alone.
+fn asks_version(words: &[String]) -> bool {
+    match words {
+        [_, word] => word.as_str() == "--version",
+        _ => false,
+    }
+}
 
 fn main(rt: HostRuntime) -> Status {
     let alloc = rt.alloc();
@@ -38,7 +47,16 @@ fn main(rt: HostRuntime) -> Status {
         return tell_failure(PROGRAM, Failure::Memory, &mut errors);
     };
     let mut out = Out::new(writer);
-    let options = match words_given(&rt, NOT_UTF8) {
+    let words = words_given(&rt, NOT_UTF8);
+    if let Ok(words) = &words
+        && asks_version(words.as_slice())
+    {
+        return match format!(in alloc; "{PROGRAM} {VERSION}\n") {
+            Ok(text) => give(PROGRAM, text.as_bytes(), &mut out, &mut errors),
+            Err(_) => tell_failure(PROGRAM, Failure::Memory, &mut errors),
+        };
+    }
+    let options = match words {
         Ok(words) => read_words(alloc, words.as_slice()),
         Err(error) => Err(error),
     };

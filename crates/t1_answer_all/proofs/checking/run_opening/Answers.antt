@@ -4,7 +4,7 @@ pub returns : goal.returns
 returns g c = record {
   runs =
       rw (
-        c.output_of.ensures.form,
+        c.output_of.ensures.layout,
         c.output_of.ensures.unlisted,
         c.selection.ensures.mode,
         c.selection.ensures.edition,

@@ -1,25 +1,16 @@
-use Rattle.std.proofs.Common.{ap}
+use Rattle.std.proofs.Common.{ap, refl}
 use Rattle.t1_batch.proofs.writing.write_fonts.Goals as goal
 use Rattle.t1_batch.specs.Writing.WritesDocument.{begun, not_begun}
 use Rattle.t1_many.specs.declared.recipient.Lost.TheVariants.{Device, Memory}
 
-pub returns-in_default : goal.returns-in_default
-returns-in_default g c = rw c.in_default.is c.write_plain.ensures
+pub returns-in-Lines : goal.returns-in-Lines
+returns-in-Lines g c = rw c.in-Lines.is c.write_plain.ensures
+
+pub returns-in-Groups : goal.returns-in-Groups
+returns-in-Groups g c = rw c.in-Groups.is c.write_groups.ensures
 
 pub returns-in-JsonLines : goal.returns-in-JsonLines
-returns-in-JsonLines g c = rw (c.in-Some.is, c.in-JsonLines.is) (_, c.write_formatted.ensures)
+returns-in-JsonLines g c = rw c.in-JsonLines.is (_, c.write_formatted.ensures)
 
 pub returns-in-GitHub : goal.returns-in-GitHub
-returns-in-GitHub g c = rw (c.in-Some.is, c.in-GitHub.is) (_, c.write_formatted-in-GitHub.ensures)
-
-pub returns-in-Ok : goal.returns-in-Ok
-returns-in-Ok g c = rw (c.in-Some.is, c.in-Sarif.is) (begun c.in-Ok.document _ c.write_formatted-in-Ok.ensures)
-
-pub returns-in-Err-Memory : goal.returns-in-Err-Memory
-returns-in-Err-Memory g c =
-    rw (c.in-Some.is, c.in-Sarif.is) (not_begun Memory (ap g.E.Sink.state c.unwritten.ensures.errors) c.unwritten.ensures.status)
-
-pub returns : goal.returns
-returns g c =
-    rw (c.in-Some.is, c.in-Sarif.is)
-    (not_begun Device (ap g.E.Sink.state c.unwritten-in-Err-Broken.ensures.errors) c.unwritten-in-Err-Broken.ensures.status)
+returns-in-GitHub g c = rw c.in-GitHub.is c.write_commands.ensures

@@ -1,0 +1,19 @@
+use Rattle.std.proofs.Common.{ap}
+use Rattle.t1_batch.proofs.writing.write_commands.Goals as goal
+use Rattle.t1_batch.specs.Writing.WritesCommands.{unflushed, unlistable, written}
+use Rattle.t1_many.specs.declared.recipient.Lost.TheVariants.{Device}
+
+pub returns-in-Err : goal.returns-in-Err
+returns-in-Err g c =
+    unlistable _ c.give_unlisted.new.formatter c.in-Err.lost (rw c.unwritten.ensures.out c.in-Err.ensures) (ap g.E.Sink.state c.unwritten.ensures.errors)
+    c.unwritten.ensures.status
+
+pub returns-in-Ok : goal.returns-in-Ok
+returns-in-Ok g c =
+    written _ c.give_unlisted.new.formatter (g.W.Sink.state c.give_unlisted.new.out) (g.W.Sink.state c.flush.new.self) c.in_default.ensures
+    ? c.write_groups.ensures
+
+pub returns : goal.returns
+returns g c =
+    unflushed _ c.give_unlisted.new.formatter (g.W.Sink.state c.give_unlisted.new.out) c.in_default.ensures Device ?
+    (ap g.E.Sink.state c.unwritten-2.ensures.errors) c.unwritten-2.ensures.status

@@ -1,0 +1,96 @@
+#!/bin/sh
+# Tries the lines that t1check-all writes on a terminal, one for each font and rule, at several widths and in colours, and that it writes
+# each line of a report elsewhere.
+
+# shellcheck source=tests/tools/common.sh
+. "$(dirname "$0")/common.sh"
+
+wanted <<'END'
+glyphs.pfb: Z01 value of another kind × 1: StdHW
+glyphs.pfb: GE01 no endchar × 1: B
+glyphs.pfb: Z07 zone too high for BlueScale × 1: BlueValues
+glyphs.pfb: P02 path not closed × 1: A
+glyphs.pfb: P03 closepath without a path × 1: A
+--
+END
+for columns in 80 200; do
+    try "$columns columns" 1 "$all" -q --columns "$columns" glyphs.pfb
+done
+wanted <<'END'
+glyphs.pfb: Z01 value of another kind × 1: … and 1 more
+glyphs.pfb: GE01 no endchar × 1: B
+glyphs.pfb: Z07 zone too high for BlueScale × 1: … and 1 more
+glyphs.pfb: P02 path not closed × 1: A
+glyphs.pfb: P03 closepath without a path × 1: … and 1 more
+--
+END
+try '40 columns' 1 "$all" -q --columns 200 --columns=40 glyphs.pfb
+cp "$fonts/clean.pfb" clean.pfb
+try '40 columns, in two parts' 1 "$all" -q -j2 --columns 40 glyphs.pfb clean.pfb
+limited "$all" -q glyphs.pfb >"$scratch/long"
+limited "$all" -q --columns 40 --long glyphs.pfb >"$scratch/long.cut"
+limited "$all" -q --columns 40 --format jsonl glyphs.pfb >"$scratch/objects.cut"
+limited "$all" -q --format jsonl glyphs.pfb >"$scratch/objects"
+wanted <<'END'
+--
+END
+try 'each line, whatever the columns' 0 cmp "$scratch/long" "$scratch/long.cut"
+try 'a form, whatever the columns' 0 cmp "$scratch/objects" "$scratch/objects.cut"
+
+# The summary counts lines of reports, and a refusal is coloured as what must be. ESC stands as ^.
+cp "$fonts/E03.bin" cut.pfa
+wanted <<'END'
+cut.pfa: ^[31mrefused: E03 segment cut short^[0m
+glyphs.pfb: ^[31mGE01 no endchar^[0m × 1: B
+glyphs.pfb: ^[33mP02 path not closed^[0m × 1: A
+glyphs.pfb: ^[36mP03 closepath without a path^[0m × 1: A
+--
+END
+try 'colours' 0 sh -c "'$all' -q --colour --columns 80 --only GE,P cut.pfa glyphs.pfb | tr '\033' '^'"
+wanted <<'END'
+glyphs.pfb: P03 closepath without a path × 1: A
+--
+1 font: 0 clean, 1 with faults, 0 refused, 0 not checked
+      1 P03 closepath without a path (tidy)
+END
+try 'the summary' 1 "$all" --columns 80 --only P03 glyphs.pfb
+
+# A terminal, which script makes; tput says how wide it is.
+mkdir narrow
+cat >narrow/tput <<'END'
+#!/bin/sh
+echo 40
+END
+chmod 755 narrow/tput
+if [ "$(limited script -qec 'echo here' /dev/null </dev/null 2>/dev/null | tr -d '\r')" = here ]; then
+    on_terminal() {
+        limited env PATH="$scratch/narrow:$PATH" TERM=xterm "$1" script -qec "exec '$all' -q --only P,GE $2 glyphs.pfb" /dev/null </dev/null |
+            tr -d '\r' | tr '\033' '^'
+    }
+    wanted <<'END'
+glyphs.pfb: GE01 no endchar × 1: B
+glyphs.pfb: P02 path not closed × 1: A
+glyphs.pfb: P03 closepath without a path × 1: … and 1 more
+--
+END
+    on_terminal NO_COLOR=1 '' >"$scratch/shown"
+    try 'a terminal without colours' 0 cat "$scratch/shown"
+    wanted <<'END'
+glyphs.pfb: ^[31mGE01 no endchar^[0m × 1: B
+glyphs.pfb: ^[33mP02 path not closed^[0m × 1: A
+glyphs.pfb: ^[36mP03 closepath without a path^[0m × 1: … and 1 more
+--
+END
+    on_terminal NO_COLOR= '' >"$scratch/shown"
+    try 'a terminal with colours' 0 cat "$scratch/shown"
+    limited "$all" -q --only P,GE glyphs.pfb >"$scratch/long"
+    on_terminal NO_COLOR=1 --long >"$scratch/shown"
+    wanted <<'END'
+--
+END
+    try 'each line on a terminal' 0 cmp "$scratch/long" "$scratch/shown"
+else
+    echo 'skipped: a terminal, since script is not here'
+fi
+
+finish
