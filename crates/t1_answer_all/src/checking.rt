@@ -17,7 +17,9 @@ use crate::places::{Places, System};
 use crate::telling::tell_unlisted;
 use std::alloc::{AllocError, Global};
 use std::io;
-use t1_batch::{Fonts as Named, Left, Output, PROGRAM, Ran, Wanted, as_codes, layout_of, run, selection};
+use t1_batch::{
+    Fonts as Named, Left, Output, PROGRAM, Ran, Wanted, as_codes, layout_of, run, selection,
+};
 use t1_io::{Sink, Source};
 use t1_known::KnownFaults;
 use t1_names::Listing;

@@ -158,8 +158,8 @@ module _ (unlisted : List ToldValue) (mode : ModeValue) (rules : Mask) (files : 
       × Appends before.errors.written new.errors.written (tellings (all_handed (judges_of mode rules) entries))
   grouped writing wording worded before status (left, whole entries are handed found_is is) =
       let wrote = groups_written writing wording worded []
-          (record { out = before.out; errors = before.errors; groups = no_groups writing.room })
-          (record { out = new.out; errors = new.errors; groups = left }) (all_handed (judges_of mode rules) entries) None (none_held writing.room) handed in
+      (record { out = before.out; errors = before.errors; groups = no_groups writing.room })
+      (record { out = new.out; errors = new.errors; groups = left }) (all_handed (judges_of mode rules) entries) None (none_held writing.room) handed in
       (entries, are, found_is, wrote.0, wrote.1)
   grouped writing wording worded before status (left, cut_short count entries are lost stop handed why is) = absurd (ok-err status lost is)
 
@@ -169,7 +169,7 @@ module _ (unlisted : List ToldValue) (mode : ModeValue) (rules : Mask) (files : 
       → HasLeft (groups terminal) unlisted mode rules files edition names old new found
   on_terminal terminal status wrote =
       let all = grouped (terminal_writing terminal.width terminal.has_colours) (terminal_wording terminal.width terminal.has_colours)
-          (terminal_worded terminal.width terminal.has_colours) old status wrote in
+      (terminal_worded terminal.width terminal.has_colours) old status wrote in
       let handed_are = all_handed (judges_of mode rules) all.0 in
       record {
         output = text_after (terminal_wording terminal.width terminal.has_colours) [] handed_are;
@@ -186,7 +186,7 @@ module _ (unlisted : List ToldValue) (mode : ModeValue) (rules : Mask) (files : 
       let all = grouped command_writing command_wording commands_worded (record { out = flushed; errors = old.errors }) status wrote in
       let handed_are = all_handed (judges_of mode rules) all.0 in
       let given_out = Appends-kept old.out.written begins.written flushed.written (flat_map unlisted_command unlisted)
-          (commands_given formatter after old.out begins unlisted gives) flush.bytes in
+      (commands_given formatter after old.out begins unlisted gives) flush.bytes in
       record {
         output = flat_map unlisted_command unlisted ++ text_after command_wording [] handed_are;
         errors = tellings handed_are;

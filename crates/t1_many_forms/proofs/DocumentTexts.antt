@@ -129,8 +129,7 @@ one old new (done name found) (Some Memory) (formatter, never, same) = absurd ne
 more-written : (a b c : Formatting Sarif) (handed : Handed) (more : List Handed) (lost : Option Lost)
     → IsOne a b (values_of handed) (told_of handed) None → IsDocumentOf b c more lost → IsDocumentOf a c (handed ∷ more) lost
 more-written a b c handed more None (first, after, first_told) ((text, is, out), errors) =
-    let part = part_text (sarif_state a.formatter) (values_of handed) in
-    (
+    let part = part_text (sarif_state a.formatter) (values_of handed) in (
       (
         part ++ text,
         append_assoc part text (closing (sarif_state c.formatter)) ∙ ap (λ x. part ++ x) is
@@ -141,8 +140,7 @@ more-written a b c handed more None (first, after, first_told) ((text, is, out),
       Appends-trans a.errors.written b.errors.written c.errors.written (told_of handed) (tellings more) first_told errors,
     )
 more-written a b c handed more (Some reason) (first, after, first_told) (out, errors, failed) =
-    let part = part_text (sarif_state a.formatter) (values_of handed) in
-    (
+    let part = part_text (sarif_state a.formatter) (values_of handed) in (
       subst (AppendsFront a.out.written c.out.written)
           (ap (λ s. part ++ tellings_text s (all_values more)) after
           ∙ sym (parts (sarif_state a.formatter) (values_of handed) (all_values more)))

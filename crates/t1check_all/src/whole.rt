@@ -33,14 +33,7 @@ pub(crate) fn answer_words<W: Write + Drop, E: Write + Drop>(
         let mut errors = errors;
         return tell_failure(PROGRAM, Failure::Memory, &mut errors);
     };
-    let answered = answer(
-        rt.alloc(),
-        words,
-        version.as_bytes(),
-        system,
-        out,
-        errors,
-    );
+    let answered = answer(rt.alloc(), words, version.as_bytes(), system, out, errors);
     let mut errors = answered.errors;
     replace_files(
         rt.alloc(),

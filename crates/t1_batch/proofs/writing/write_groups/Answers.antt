@@ -7,8 +7,7 @@ pub returns : goal.returns
 returns g c =
     let grouped = c.new-grouped.result in
     let left = c.check_fonts-checked.result.form in
-    let room = (g.T.GroupForm.writing c.args.form).room in
-    (
+    let room = (g.T.GroupForm.writing c.args.form).room in (
       values_of room left.groups,
       rw (
         c.into_parts-_form.ensures.out,
@@ -17,7 +16,7 @@ returns g c =
         sym c.new-grouped.ensures.errors,
         sym c.new-grouped.ensures.form,
       )
-      (fonts-seen (λ f. f.form) g.T.GroupForm.writing
-      (λ w f. record { out = g.W.Sink.state f.out; errors = g.E.Sink.state f.errors; groups = values_of w.room f.groups }) _ _ _ _ grouped left _ _
-      c.check_fonts-checked.ensures),
+          (fonts-seen (λ f. f.form) g.T.GroupForm.writing
+          (λ w f. record { out = g.W.Sink.state f.out; errors = g.E.Sink.state f.errors; groups = values_of w.room f.groups }) _ _ _ _ grouped left _ _
+          c.check_fonts-checked.ensures),
     )
