@@ -14,7 +14,7 @@ use Rattle.t1_summary.proofs.TallyCounts.{tallies_count}
 use Rattle.t1_summary.specs.Classes.{capped, lines_of}
 use Rattle.t1_summary.specs.Tallies.{lines_in, tally_of}
 use Rattle.t1_summary.specs.declared.found.Found.{Found}
-use Rattle.t1_batch.specs.Endings.{has_failing}
+use Rattle.t1_batch.specs.Endings.{any_failing}
 use Rattle.t1_batch.specs.Laws.{StatusesAreByLines}
 
 -- ---- tests of lists
@@ -89,7 +89,7 @@ found_in p (line ∷ lines) =
     ∙ ap₂ (λ a b. a || b) (found_once p line) (found_in p lines)
 
 pub statuses_are_by_lines : StatusesAreByLines
-unfolding has_failing
+unfolding any_failing
 statuses_are_by_lines failing founds lines =
     let counts = tallies_count founds lines in
     any_same (λ rule. has failing (number_of rule) && nat_lt 0 (lines_in (tally_of founds lines) rule))

@@ -12,6 +12,7 @@ use Rattle.t1_many.specs.declared.recipient.Lost.TheVariants.{Device, Memory}
 use Rattle.t1_rules.specs.Book.{number_of, rules}
 use Rattle.t1_rules.specs.Mask.{has}
 use Rattle.t1_rules.specs.declared.mask.Mask.{Mask}
+use Rattle.t1_rules.specs.declared.rule.Rule.{Rule}
 use Rattle.t1_run.specs.declared.status.Status.{Status}
 use Rattle.t1_run.specs.declared.status.Status.TheVariants.{Clean, Failed, Faults, Refused}
 use Rattle.t1_summary.specs.Summaries.{summary_text as text_of_summary}
@@ -81,9 +82,13 @@ ending_text mode choice quiet tally readings rows waivers = shortfalls_text mode
 
 -- ---- what is left
 
--- A line of one of these rules was handed on.
-unfoldable pub has_failing : Mask → Tally → Bool
-has_failing failing tally = list_any (λ rule. has failing (number_of rule) && nat_lt 0 (lines_in tally rule)) rules
+-- A line was handed on of one of the failing rules among these.
+unfoldable pub any_failing : Mask → Tally → List Rule → Bool
+any_failing failing tally list = list_any (λ rule. has failing (number_of rule) && nat_lt 0 (lines_in tally rule)) list
+
+-- A line was handed on of a failing rule.
+abbrev pub has_failing : Mask → Tally → Bool
+has_failing failing tally = any_failing failing tally rules
 
 -- The status of the fonts and lines that a tally has: that of faults where a line of a rule was handed on that makes it so.
 abbrev pub status_of : Mask → Tally → Status

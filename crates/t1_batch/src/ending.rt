@@ -2,7 +2,7 @@
 
 ghost use Rattle.std.specs.Prelude.{◌≡◌, IfOk, IfSome, List, option_map};
 ghost use Rattle.std.specs.List.{AllZip};
-ghost use Rattle.t1_batch.specs.Endings.{Ends, IsFoundIn, has_failing, has_known, rest_text, shortfalls_text, status_in, status_of, summary_text, unwaived_text, wanted_value};
+ghost use Rattle.t1_batch.specs.Endings.{Ends, IsFoundIn, any_failing, has_failing, has_known, rest_text, shortfalls_text, status_in, status_of, summary_text, unwaived_text, wanted_value};
 ghost use Rattle.t1_batch.specs.Modes.{mode_value};
 ghost use Rattle.t1_batch.specs.Private.Updates.{IsBorrowed, IsUpdated};
 ghost use Rattle.t1_io.specs.Devices.{Writes};
@@ -16,7 +16,7 @@ use t1_io::{Broken, Sink, put_all};
 use t1_known::{KnownFaults, Reading, write_shortfalls, write_updated};
 use t1_many::{Lost, Reading as Kept};
 use t1_parts::Part;
-use t1_rules::{Mask, all_rules};
+use t1_rules::{Mask, Rule, all_rules};
 use t1_run::Status;
 use t1_summary::{Found, Tally, summary};
 use t1_text::Text;
@@ -267,11 +267,18 @@ pub fn status_of(failing: Mask, tally: &Tally) -> Status
     }
 }
 
-/// Whether a line of one of these rules was handed on.
+/// Whether a line of a failing rule was handed on.
 fn has_failing(failing: Mask, tally: &Tally) -> bool
     ensures { result ≡ has_failing failing tally.now }
 {
-    all_rules()
+    any_failing(all_rules(), failing, tally)
+}
+
+/// Whether a line was handed on of one of the failing rules among these.
+fn any_failing(rules: &[Rule], failing: Mask, tally: &Tally) -> bool
+    ensures { result ≡ any_failing failing tally.now rules.now }
+{
+    rules
         .iter()
         .any(|rule| failing.has(*rule) && 0 < tally.lines_of(*rule))
 }
