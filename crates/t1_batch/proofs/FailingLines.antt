@@ -1,5 +1,5 @@
 -- Lines of some rules, found by the counts of a tally.
-use Rattle.std.proofs.Common.{◌≡◌, ◌&&◌, ◌||◌, ◌+◌, ◌-◌, ◌^◌, ℕ, nat_lt, nat_eq, min, Bool, true, false, List, [], ◌∷◌, inl, inr, refl, sym, ap, ap₂, ◌∙◌, arith}
+use Rattle.std.proofs.Common.{◌≡◌, ◌&&◌, ◌||◌, ◌+◌, ◌-◌, ◌^◌, ℕ, nat_lt, nat_eq, min, Bool, true, false, cond, List, [], ◌∷◌, inl, inr, refl, sym, ap, ap₂, ◌∙◌, arith}
 use Rattle.std.proofs.lemmas.Bool.{cases_Bool}
 use Rattle.std.proofs.lemmas.Bool.Decides.{nat_tests}
 use Rattle.std.specs.List.{count_by, list_any}
@@ -52,9 +52,16 @@ spread false b c = refl
 some_of : (p : Rule → Bool) (list : List Rule) → nat_lt 0 (count_by p list) ≡ list_any p list
 some_of p [] = refl
 some_of p (rule ∷ list) =
+    let next = count_cons {X = Rule} p rule list in
     elim (cases_Bool (p rule)) [
-      | inl is ↦ (let more = count_cons p rule list in rw (more, is) refl)
-      | inr not ↦ (let more = count_cons p rule list in rw (more, not) (some_of p list))
+      | inl is ↦ (
+          let more : count_by p (rule ∷ list) ≡ 1 + count_by p list = next ∙ ap (λ (b : Bool). cond b 1 0 + count_by p list) is in
+          let some : nat_lt 0 (count_by p (rule ∷ list)) ≡ true = grind (arith, nat_tests, more) in
+          some ∙ sym (ap (λ (b : Bool). b || list_any p list) is))
+      | inr not ↦ (
+          let step : count_by p (rule ∷ list) ≡ 0 + count_by p list = next ∙ ap (λ (b : Bool). cond b 1 0 + count_by p list) not in
+          let none : count_by p (rule ∷ list) ≡ count_by p list = omega (arith, step) in
+          ap (nat_lt 0) none ∙ some_of p list ∙ sym (ap (λ (b : Bool). b || list_any p list) not))
     ]
 
 above_none : (n : ℕ) → nat_lt 0 (capped n) ≡ nat_lt 0 n

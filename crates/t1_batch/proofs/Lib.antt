@@ -1,4 +1,5 @@
 pub mod CountedFonts
+pub mod DocumentsBegun
 pub mod EndingTexts
 pub mod FailingLines
 pub mod FontsTaken

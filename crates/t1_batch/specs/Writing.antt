@@ -6,6 +6,8 @@ use Rattle.t1_batch.specs.Layouts.{LayoutValue, commands, groups, json_lines, li
 use Rattle.t1_char.specs.declared.edition.Edition.{Edition}
 use Rattle.t1_forms.specs.Sarif.{begun as no_line_of, opening, sarif_state}
 use Rattle.t1_forms.specs.Tellings.{ToldValue}
+use Rattle.t1_forms.specs.declared.error.FormatError.{FormatError}
+use Rattle.t1_forms.specs.declared.error.FormatError.TheVariants as errors
 use Rattle.t1_forms.specs.declared.sarif.Sarif.{Sarif as Document}
 use Rattle.t1_grouped.specs.Commands.{command_writing}
 use Rattle.t1_grouped.specs.GroupLines.{Writing}
@@ -19,6 +21,7 @@ use Rattle.t1_many.specs.Handing.{lost_of}
 use Rattle.t1_many.specs.Outcomes.{Entry, Report}
 use Rattle.t1_many.specs.Plain.{Devices, IsFlushed, PlainTakes}
 use Rattle.t1_many.specs.declared.recipient.Lost.{Lost}
+use Rattle.t1_many.specs.declared.recipient.Lost.TheVariants.{Device, Memory}
 use Rattle.t1_many.specs.declared.verdict.Verdict.{Verdict}
 use Rattle.t1_many_forms.specs.Commands.{command_written}
 use Rattle.t1_many_forms.specs.Documents.{end_written, telling_written}
@@ -71,6 +74,11 @@ pub data WritesFormatted {T : Type 0} (writes : T → T → SinkState → SinkSt
 -- Nothing stands after all else.
 abbrev pub NoEnd : {T : Type 0} → T → SinkState → SinkState → Option Lost → Type 0
 NoEnd formatter old new lost = (new ≡ old) × (lost ≡ None)
+
+-- Why a run stops where a document can't be begun.
+abbrev pub lost_by : FormatError → Lost
+lost_by errors.Memory = Memory
+lost_by errors.Broken = Device
 
 -- A document of SARIF was begun, and then written; or it couldn't be begun.
 pub data WritesDocument (docs : Option (List ℕ)) (unlisted : List ToldValue) (judges : List ℕ → Report → FaultValue → Verdict) (files : Files) (edition : Edition)

@@ -24,4 +24,4 @@ pub use mode::{Mode, Selection};
 pub use running::{Left, PROGRAM, Ran, conclude, run, tell_lost};
 pub use shards::names_of_part;
 pub use unlisted::{Unlisted, give_unlisted};
-pub use writing::{Output, Written, write_fonts};
+pub use writing::{Output, Written, lost_by, write_fonts};

@@ -6,7 +6,7 @@ ghost use Rattle.t1_batch.specs.Checks.{ChecksFonts, IsFound};
 ghost use Rattle.t1_batch.specs.Layouts.{layout_value};
 ghost use Rattle.t1_batch.specs.Modes.{judges_of, mode_value};
 ghost use Rattle.t1_batch.specs.Unlisted.{unlisted_in};
-ghost use Rattle.t1_batch.specs.Writing.{FinishesChecked, FinishesForm, WritesCommands, WritesFormatted, WritesGroups, WritesIn, WritesPlain};
+ghost use Rattle.t1_batch.specs.Writing.{FinishesChecked, FinishesForm, WritesCommands, WritesFormatted, WritesGroups, WritesIn, WritesPlain, lost_by};
 ghost use Rattle.t1_many.specs.Files.{files_by};
 ghost use Rattle.t1_many.specs.Handing.{lost_of};
 
@@ -101,8 +101,7 @@ where
                     errors,
                 )
             }
-            Err(FormatError::Memory) => unwritten(alloc, Lost::Memory, out, errors),
-            Err(FormatError::Broken) => unwritten(alloc, Lost::Device, out, errors),
+            Err(error) => unwritten(alloc, lost_by(error), out, errors),
         },
     }
 }
@@ -281,6 +280,16 @@ fn finish_form<T: Formatter, W: Sink>(alloc: Global, formatter: T, out: &mut W) 
     formatter.finish(alloc, out)?;
     out.flush()?;
     Ok(())
+}
+
+/// Why a run stops where a document can't be begun.
+pub fn lost_by(error: FormatError) -> Lost
+    ensures { result ≡ lost_by error }
+{
+    match error {
+        FormatError::Memory => Lost::Memory,
+        FormatError::Broken => Lost::Device,
+    }
 }
 
 /// Nothing was found, since it stopped before the first font.

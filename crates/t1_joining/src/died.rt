@@ -17,8 +17,8 @@ use crate::copying::Extent;
 use crate::files::copy_file;
 use std::alloc::{AllocError, Global};
 use std::io;
-use t1_batch::{Layout, Output, Unlisted, give_unlisted};
-use t1_forms::{FormatError, Sarif, Told, What};
+use t1_batch::{Layout, Output, Unlisted, give_unlisted, lost_by};
+use t1_forms::{Sarif, Told, What};
 use t1_io::{Broken, Sink, Source, put_parts};
 use t1_many::Lost;
 use t1_many_forms::{Formatter, GitHubCommands, JsonLines};
@@ -150,8 +150,7 @@ fn write_anew<W: Sink>(
 {
     match Sarif::begin(alloc, out, docs) {
         Ok(document) => write_document(alloc, document, unlisted, died, out),
-        Err(FormatError::Memory) => Err(Lost::Memory),
-        Err(FormatError::Broken) => Err(Lost::Device),
+        Err(error) => Err(lost_by(error)),
     }
 }
 

@@ -11,9 +11,10 @@ returns-in-Err g c =
 pub returns-in-Ok : goal.returns-in-Ok
 returns-in-Ok g c =
     written _ c.give_unlisted.new.formatter (g.W.Sink.state c.give_unlisted.new.out) (g.W.Sink.state c.flush.new.self) c.in_default.ensures
-    ? c.write_groups.ensures
+    c.in-Ok.ensures.flushes c.write_groups.ensures
 
-pub returns : goal.returns
-returns g c =
-    unflushed _ c.give_unlisted.new.formatter (g.W.Sink.state c.give_unlisted.new.out) c.in_default.ensures Device ?
-    (ap g.E.Sink.state c.unwritten-2.ensures.errors) c.unwritten-2.ensures.status
+pub returns-in-Err-flush : goal.returns-in-Err-flush
+returns-in-Err-flush g c =
+    unflushed _ c.give_unlisted.new.formatter (g.W.Sink.state c.give_unlisted.new.out) c.in_default.ensures Device
+    (rw c.unwritten-in-Err-flush.ensures.out c.in-Err-flush.ensures.flushes.0) (ap g.E.Sink.state c.unwritten-in-Err-flush.ensures.errors)
+    c.unwritten-in-Err-flush.ensures.status

@@ -1,7 +1,9 @@
-use Rattle.std.proofs.Common.{ap, refl}
+use Rattle.std.proofs.Common.{Err, ap, ◌∙◌}
+use Rattle.t1_batch.proofs.DocumentsBegun.{not_put}
 use Rattle.t1_batch.proofs.writing.write_fonts.Goals as goal
+use Rattle.t1_batch.specs.Writing.{lost_by}
 use Rattle.t1_batch.specs.Writing.WritesDocument.{begun, not_begun}
-use Rattle.t1_many.specs.declared.recipient.Lost.TheVariants.{Device, Memory}
+use Rattle.t1_forms.specs.declared.sarif.Sarif.{Sarif}
 
 pub returns-in-Lines : goal.returns-in-Lines
 returns-in-Lines g c = rw c.in-Lines.is c.write_plain.ensures
@@ -14,3 +16,13 @@ returns-in-JsonLines g c = rw c.in-JsonLines.is (_, c.write_formatted.ensures)
 
 pub returns-in-GitHub : goal.returns-in-GitHub
 returns-in-GitHub g c = rw c.in-GitHub.is c.write_commands.ensures
+
+pub returns-in-Ok : goal.returns-in-Ok
+returns-in-Ok g c =
+    rw c.in-Sarif.is (begun c.in-Ok.document _ c.in-Ok.ensures.text c.in-Ok.ensures.state c.write_formatted-in-Ok.ensures)
+
+pub returns-in-Err : goal.returns-in-Err
+returns-in-Err g c =
+    rw c.in-Sarif.is
+    (not_begun (lost_by c.in-Err.error) (rw c.unwritten.ensures.out (not_put Sarif _ _ _ c.in-Err.error c.in-Err.ensures.text))
+    (ap g.E.Sink.state c.unwritten.ensures.errors) (c.unwritten.ensures.status ∙ ap Err c.lost_by.ensures))
