@@ -6,26 +6,26 @@ use Rattle.t1_answer_all.specs.Listing.{FontsValue}
 use Rattle.t1_batch.proofs.MoreFiles.{other_waivers, runs_too}
 use Rattle.t1_batch.specs.Runs.{LeftValue}
 use Rattle.t1_io.specs.Devices.{SourceState}
-use Rattle.t1_many.specs.Choice.{Choice}
+use Rattle.t1_batch.specs.Endings.{WantedValue}
 use Rattle.t1_many.specs.Files.{Files, files_by}
 use Rattle.t1_many.specs.KnownFaults.{RowValue}
 use Rattle.t1_many.specs.Plain.{Devices}
 use Rattle.t1_options.specs.declared.asked.Options.{Options}
 
--- the same choice of rules
-pub runs_chosen : (files : Files) (options : Options) (rows : List RowValue) (fonts : FontsValue) (choice other : Choice) (old new : Devices)
-    (left : LeftValue) → choice ≡ other → RunsOver files options rows fonts choice old new left → RunsOver files options rows fonts other old new left
-runs_chosen files options rows fonts choice other old new left is over =
-    subst (λ (c : Choice). RunsOver files options rows fonts c old new left) is over
+-- the same is wanted
+pub runs_chosen : (files : Files) (options : Options) (rows : List RowValue) (fonts : FontsValue) (wanted other : WantedValue) (old new : Devices)
+    (left : LeftValue) → wanted ≡ other → RunsOver files options rows fonts wanted old new left → RunsOver files options rows fonts other old new left
+runs_chosen files options rows fonts wanted other old new left is over =
+    subst (λ (c : WantedValue). RunsOver files options rows fonts c old new left) is over
 
 -- no waivers were opened
 pub runs_unwaived : {R V E F G : Type 0} (state : R → SourceState) (state_of_waivers : V → SourceState)
     (O : Shared F (Bor (List ℕ) × Unit {0}) (Result R E)) (opens : F) (P : Shared G (Bor (List ℕ) × Unit {0}) (Option (Result V E))) (none : G)
-    (options : Options) (rows : List RowValue) (fonts : FontsValue) (choice : Choice) (old new : Devices) (left : LeftValue)
+    (options : Options) (rows : List RowValue) (fonts : FontsValue) (wanted : WantedValue) (old new : Devices) (left : LeftValue)
     → ((name : List ℕ) (given : Option (Result V E)) → FnReturnsAt P none name given → given ≡ None)
-    → RunsOver (files_by state state_of_waivers (FnReturnsAt O opens) (FnReturnsAt P none)) options rows fonts choice old new left
-    → RunsOver (files_by state state_of_waivers (FnReturnsAt O opens) (λ name given. given ≡ None)) options rows fonts choice old new left
-runs_unwaived state state_of_waivers O opens P none options rows fonts choice old new left nothing over = record {
+    → RunsOver (files_by state state_of_waivers (FnReturnsAt O opens) (FnReturnsAt P none)) options rows fonts wanted old new left
+    → RunsOver (files_by state state_of_waivers (FnReturnsAt O opens) (λ name given. given ≡ None)) options rows fonts wanted old new left
+runs_unwaived state state_of_waivers O opens P none options rows fonts wanted old new left nothing over = record {
   runs =
       runs_too _ _ (other_waivers state state_of_waivers (FnReturnsAt O opens) (FnReturnsAt P none) (λ name given. given ≡ None) nothing) _ _ _ _ _ _ _ _
       old new left over.runs;
