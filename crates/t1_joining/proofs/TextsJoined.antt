@@ -149,7 +149,7 @@ unlisted_before unlisted zero = []
 unlisted_before unlisted (suc n) = unlisted
 
 -- groups that are held after all of these
-held_all : List HeldLine → List Handed → List HeldLine
+abbrev held_all : List HeldLine → List Handed → List HeldLine
 held_all held [] = held
 held_all held (x ∷ xs) = held_all (held_after held x) xs
 

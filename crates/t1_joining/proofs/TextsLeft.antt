@@ -182,16 +182,16 @@ module _ (unlisted : List ToldValue) (mode : ModeValue) (rules : Mask) (files : 
   as_commands : (status : Status)
       → WritesCommands unlisted (judges_of mode rules) files edition names old new (IsFound mode rules found) (Ok status)
       → HasLeft commands unlisted mode rules files edition names old new found
-  as_commands status (commands_written formatter after begins flushed gives flush wrote) =
-      let all = grouped command_writing command_wording commands_worded (record { out = flushed; errors = old.errors }) status wrote in
+  as_commands status (commands_written formatter after begins sent gives flush wrote) =
+      let all = grouped command_writing command_wording commands_worded (record { out = sent; errors = old.errors }) status wrote in
       let handed_are = all_handed (judges_of mode rules) all.0 in
-      let given_out = Appends-kept old.out.written begins.written flushed.written (flat_map unlisted_command unlisted)
+      let given_out = Appends-kept old.out.written begins.written sent.written (flat_map unlisted_command unlisted)
       (commands_given formatter after old.out begins unlisted gives) flush.bytes in
       record {
         output = flat_map unlisted_command unlisted ++ text_after command_wording [] handed_are;
         errors = tellings handed_are;
         texts = record { entries = all.0; are = all.1; output_is = refl; errors_are = refl; found_is = all.2 };
-        went_out = Appends-trans old.out.written flushed.written new.out.written (flat_map unlisted_command unlisted)
+        went_out = Appends-trans old.out.written sent.written new.out.written (flat_map unlisted_command unlisted)
             (text_after command_wording [] handed_are) given_out all.3;
         told = all.4;
       }
@@ -226,12 +226,12 @@ module _ (unlisted : List ToldValue) (mode : ModeValue) (rules : Mask) (files : 
     others formatter before status same out (stopped from to given same_errors lost checked same_end is) = absurd (ok-err status lost is)
     others formatter before status same out (unlistable left lost given same_errors is) = absurd (ok-err status lost is)
 
-  document : (docs : Option (List ℕ)) (status : Status)
+  as_document : (docs : Option (List ℕ)) (status : Status)
       → WritesDocument docs unlisted (judges_of mode rules) files edition names old new (IsFound mode rules found) (Ok status)
       → HasLeft (sarif docs) unlisted mode rules files edition names old new found
-  document docs status (begun document behind opened is wrote) =
-      others telling_written end_written (sarif docs) (λ _. tt) document (record { out = behind; errors = old.errors }) status refl tt wrote
-  document docs status (not_begun lost put same is) = absurd (ok-err status lost is)
+  as_document docs status (begun doc behind put is wrote) =
+      others telling_written end_written (sarif docs) (λ _. tt) doc (record { out = behind; errors = old.errors }) status refl tt wrote
+  as_document docs status (not_begun lost put same is) = absurd (ok-err status lost is)
 
 pub process_leaves_texts : (files : Files) → AProcessLeavesTexts files
 process_leaves_texts files lines unlisted mode rules edition names old new found status wrote =
@@ -243,4 +243,4 @@ process_leaves_texts files json_lines unlisted mode rules edition names old new 
 process_leaves_texts files commands unlisted mode rules edition names old new found status wrote =
     as_commands unlisted mode rules files edition names old new found status wrote
 process_leaves_texts files (sarif docs) unlisted mode rules edition names old new found status wrote =
-    document unlisted mode rules files edition names old new found docs status wrote
+    as_document unlisted mode rules files edition names old new found docs status wrote

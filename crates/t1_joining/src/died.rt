@@ -102,9 +102,8 @@ where
         (W.state out.old) (W.state out.new) (lost_of result) }
 {
     match output.layout {
-        Layout::Lines | Layout::Groups(_) => {
-            copy_file(alloc, opens, number, Extent::WholeLines, out)
-        }
+        Layout::Lines => copy_file(alloc, opens, number, Extent::WholeLines, out),
+        Layout::Groups(_) => copy_file(alloc, opens, number, Extent::WholeLines, out),
         Layout::JsonLines => write_after(alloc, opens, number, JsonLines, died, out),
         Layout::GitHub => write_after(alloc, opens, number, GitHubCommands, died, out),
         Layout::Sarif(docs) => write_anew(alloc, docs, output.unlisted, died, out),

@@ -1,5 +1,7 @@
 -- Steps of joining a part.
 use Rattle.std.specs.Prelude.{◌≡◌, ◌⊎◌, ◌++◌, ℕ, Bool, List, length, IfOk, Option, None, Some, Result, Ok, Err}
+use Rattle.t1_batch.specs.Endings.{WantedValue}
+use Rattle.t1_batch.specs.Layouts.{LayoutValue}
 use Rattle.t1_batch.specs.Modes.{ModeValue}
 use Rattle.t1_batch.specs.Runs.{Concludes, LeftValue, lost_line, nothing_left}
 use Rattle.t1_forms.specs.Tellings.{ToldValue}
@@ -7,13 +9,11 @@ use Rattle.t1_io.specs.Devices.{SinkState}
 use Rattle.t1_joining.specs.Died.{died_part}
 use Rattle.t1_joining.specs.FilesOfParts.{FilesOfParts}
 use Rattle.t1_joining.specs.Joins.{CopiesDied}
-use Rattle.t1_many.specs.Choice.{Choice}
 use Rattle.t1_many.specs.Handing.{lost_of}
 use Rattle.t1_many.specs.Plain.{Devices}
 use Rattle.t1_many.specs.declared.recipient.Lost.{Lost}
 use Rattle.t1_many.specs.declared.recipient.Lost.TheVariants.{Device, Memory}
 use Rattle.t1_parts.specs.PartTexts.{IsNoPart, IsReadAs}
-use Rattle.t1_options.specs.declared.asked.Form.{Form}
 use Rattle.t1_parts.specs.PartValues.{part_value}
 use Rattle.t1_parts.specs.declared.part.Part.{Part}
 use Rattle.t1_rules.specs.declared.rule.Rule.{Rule}
@@ -36,13 +36,13 @@ IsFoundAs Finds (Err Device) = ⊥
 IsFoundAs Finds (Err Memory) = Unit {0}
 
 -- A part whose process died was joined, or memory ran out before.
-pub data JoinsDied (files : FilesOfParts) (form : Option Form) (unlisted : List ToldValue) (names : List (List ℕ)) (number : ℕ) (old new : Devices)
+pub data JoinsDied (files : FilesOfParts) (layout : LayoutValue) (unlisted : List ToldValue) (names : List (List ℕ)) (number : ℕ) (old new : Devices)
     (result : Result Part Lost) : Type 0 where
   died :
-      (reason : List ℕ) → files.Dies number reason → CopiesDied files form unlisted names number reason old new (lost_of result)
+      (reason : List ℕ) → files.Dies number reason → CopiesDied files layout unlisted names number reason old new (lost_of result)
       → IfOk result (λ found. part_value found ≡ died_part (length names))
-      → JoinsDied files form unlisted names number old new result
-  no_memory : new ≡ old → result ≡ Err Memory → JoinsDied files form unlisted names number old new result
+      → JoinsDied files layout unlisted names number old new result
+  no_memory : new ≡ old → result ≡ Err Memory → JoinsDied files layout unlisted names number old new result
 
 -- A part comes after others.
 pub record AddsPart (all part after : Part) : Type 0 where
@@ -57,7 +57,7 @@ Added all part after (Ok done) = AddsPart all part after
 Added all part after (Err lost) = lost ≡ Memory
 
 -- What is told once parts were joined, or why they weren't.
-abbrev pub ConcludesJoined : ModeValue → Choice → Bool → Result Part Lost → Bool → SinkState → SinkState → LeftValue → Type 0
-ConcludesJoined mode choice quiet (Ok found) whole old new left = Concludes mode choice quiet found whole old new left
-ConcludesJoined mode choice quiet (Err lost) whole old new left =
+abbrev pub ConcludesJoined : ModeValue → WantedValue → Bool → Result Part Lost → Bool → SinkState → SinkState → LeftValue → Type 0
+ConcludesJoined mode wanted quiet (Ok found) whole old new left = Concludes mode wanted quiet found whole old new left
+ConcludesJoined mode wanted quiet (Err lost) whole old new left =
     (status : Status) × Tells (lost_line lost) Failed old new status × (left ≡ nothing_left status)

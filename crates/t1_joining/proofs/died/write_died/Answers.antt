@@ -4,7 +4,7 @@ pub returns-in-Lines : goal.returns-in-Lines
 returns-in-Lines g c = rw c.in-Lines.is c.copy_file.ensures
 
 pub returns-in-Groups : goal.returns-in-Groups
-returns-in-Groups g c = rw c.in-Groups.is c.copy_file.ensures
+returns-in-Groups g c = rw c.in-Groups.is c.copy_file-in-Groups.ensures
 
 pub returns-in-JsonLines : goal.returns-in-JsonLines
 returns-in-JsonLines g c = rw c.in-JsonLines.is c.write_after.ensures
