@@ -36,9 +36,9 @@ wanted <<'END'
 --
 error: unexpected argument '--color' found
 
-  tip: to pass '--color' as a value, use '-- --color'
+  tip: a similar argument exists: '--colour'
 
-Usage: t1check-all [OPTIONS] [PATH]...
+Usage: t1check-all --colour... [PATH]...
 
 For more information, try '--help'.
 END

@@ -73,7 +73,7 @@ done <numbers
     sed 's|.*|forty/&.pfb: 1: font file 0 F01 no end segment|' numbers
     echo '--'
     echo '40 fonts: 0 clean, 40 with faults, 0 refused, 0 not checked'
-    echo '     40 F01 no end segment'
+    echo '     40 F01 no end segment (should)'
 } >forty.wanted
 for jobs in 1 2 3 40 50 ''; do
     : >calls
