@@ -109,12 +109,12 @@ font.pfb
 two words.PFA
 font.afm
 font.pfb
-H02,Z10	stem snaps fall
-H02,Z11	standard width not among the snaps
-H01	stem after drawing
-H02	stems overlap
-H03	stem of zero width
-H04	unequal stem3
+H02,Z10	stem snaps fall (should)
+H02,Z11	standard width not among the snaps (should)
+H01	stem after drawing (should)
+H02	stems overlap (should)
+H03	stem of zero width (should)
+H04	unequal stem3 (should)
 github	Write lines in a form for other programs
 jsonl	Write lines in a form for other programs
 sarif	Write lines in a form for other programs

@@ -26,7 +26,7 @@ for tool in t1check t1check-all t1draw t1format; do
         grep -vx -e -h | sort >"$scratch/paged"
     try "options in the manual page of $tool" 0 diff "$scratch/options" "$scratch/paged"
 done
-limited "$explain" >"$scratch/listed"
+limited "$explain" | sed 's/ ([a-z]*)$//' >"$scratch/listed"
 sed -n 's/^\.SS \([A-Z]*[0-9][0-9] .*\)/\1/p' "$prefix/share/man/man7/t1check-rules.7" >"$scratch/paged"
 try 'rules in the manual page' 0 diff "$scratch/listed" "$scratch/paged"
 
