@@ -24,7 +24,7 @@ awk 'BEGIN {
     echo '--'
     sed -n '/^n/s/$/: t1check: read failed/p' names
     echo '100000 fonts: 0 clean, 1000 with faults, 0 refused, 99000 not checked'
-    echo '   1000 H02 stems overlap'
+    echo '   1000 H02 stems overlap (should)'
 } >names.wanted
 for jobs in 1 3; do
     cp names.wanted wanted
@@ -128,7 +128,7 @@ END {
     print "past.pfa: refused: E11 count past its limit"
     print "--"
     print "2 fonts: 0 clean, 1 with faults, 1 refused, 0 not checked"
-    print "  65534 P03 closepath without a path"
+    print "  65534 P03 closepath without a path (tidy)"
 }' most.glyphs >wanted
 try 'the most glyphs, and a glyph more' 2 "$all" most.pfa past.pfa
 
