@@ -11,6 +11,8 @@ leave_home
 copy=$scratch/copy
 mkdir -p "$copy/docs" "$scratch/shells"
 cp -R "$top/bin" "$top/man" "$top/completions" "$copy/"
+mkdir -p "$copy/crates/t1_forms/src"
+cp "$top/crates/t1_forms/src/version.rt" "$copy/crates/t1_forms/src/"
 for tool in t1check t1check_all t1format t1draw; do
     mkdir -p "$copy/crates/$tool/out"
     cp "$top/crates/$tool/out/$tool" "$copy/crates/$tool/out/"
@@ -248,6 +250,7 @@ wanted <<'END'
 RULES.md
 commit
 installed
+version
 --
 END
 try 'files of an older version' 0 ls there/below/share/t1check
