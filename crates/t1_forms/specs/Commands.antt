@@ -3,6 +3,7 @@ use Rattle.std.specs.Prelude.{ℕ, ◌==◌, List, [], ◌∷◌, ◌++◌, code
 use Rattle.std.specs.List.{flat_map}
 use Rattle.t1_rules.specs.declared.level.Level.{Level}
 use Rattle.t1_rules.specs.declared.level.Level.TheVariants.{Must, Should, Tidy}
+use Rattle.t1_rules.specs.declared.rule.Rule.{Rule}
 use Rattle.t1_rules.specs.Book.{code_of, level_of, text_of}
 use Rattle.t1_lines.specs.Lines.{of_fault, of_refusal}
 use Rattle.t1_forms.specs.Objects.{refusal_code_of, refusal_reason_of}
@@ -49,11 +50,19 @@ abbrev pub file_property : Option (List ℕ) → List ℕ
 file_property None = []
 file_property (Some name) = codes "file=" ++ (flat_map property_byte name ++ codes ",line=1,")
 
+-- A command of this kind, of this font, with a title, `CODE TEXT`, and a message.
+abbrev pub command : List ℕ → Option (List ℕ) → List ℕ → List ℕ → List ℕ → List ℕ
+command kind font code text message =
+    (codes "::" ++ (kind ++ (codes " " ++ [])))
+    ++ (file_property font
+    ++ ((codes "title=" ++ (code ++ (codes " " ++ [])))
+    ++ (flat_map property_byte text
+    ++ (codes "::" ++ (flat_map message_byte message ++ codes "\n")))))
+
 -- What is told, with its line, as a command.
 abbrev pub command_of : ToldValue → List ℕ → List ℕ
-command_of t line =
-    (codes "::" ++ (command_kind t.what ++ (codes " " ++ [])))
-    ++ (file_property t.font
-    ++ ((codes "title=" ++ (title_code t.what ++ (codes " " ++ [])))
-    ++ (flat_map property_byte (title_text t.what)
-    ++ (codes "::" ++ (flat_map message_byte line ++ codes "\n")))))
+command_of t line = command (command_kind t.what) t.font (title_code t.what) (title_text t.what) line
+
+-- A message of a rule, as a command.
+abbrev pub rule_command : Option (List ℕ) → Rule → List ℕ → List ℕ
+rule_command font rule message = command (level_kind (level_of rule)) font (code_of rule) (text_of rule) message

@@ -1,5 +1,6 @@
 -- What is told of fonts in a line, and how it is spelled.
-use Rattle.std.specs.Prelude.{◌≡◌, ℕ, List, ◌∷◌, ◌++◌, codes, Option, Some, None, option_map}
+use Rattle.std.specs.Prelude.{◌≡◌, ℕ, List, [], ◌∷◌, ◌++◌, codes, Option, Some, None, option_map}
+use Rattle.std.specs.List.{concat}
 use Rattle.t1_lines.specs.Lines.{LineValue, IsLine, line_value, spelled}
 use Rattle.t1_forms.specs.declared.told.Told.{Told}
 use Rattle.t1_forms.specs.declared.told.What.{What}
@@ -30,6 +31,10 @@ what_spelled (of_unchecked reason) = codes "t1check: " ++ reason
 abbrev pub behind_name : Option (List ℕ) → List ℕ → List ℕ
 behind_name None line = line
 behind_name (Some name) line = name ++ (58 ∷ 32 ∷ line)
+
+-- `NAME: t1check: REASON`, with its end.
+abbrev pub unchecked_line : List ℕ → List ℕ → List ℕ
+unchecked_line name reason = concat (name ∷ codes ": " ∷ []) ++ concat (codes "t1check: " ∷ reason ∷ codes "\n" ∷ [])
 
 abbrev pub told_spelled : ToldValue → List ℕ
 told_spelled t = behind_name t.font (what_spelled t.what)

@@ -1,9 +1,9 @@
 //! Commands of a workflow of GitHub, by which it shows a line at the file that it speaks of.
 
-ghost use Rattle.std.specs.Prelude.{◌≡◌, ◌++◌, codes, ◌∷◌, [], IfNone, IfSome, option_map};
+ghost use Rattle.std.specs.Prelude.{◌≡◌, ◌++◌, ◌∷◌, [], IfNone, IfSome, option_map};
 ghost use Rattle.std.specs.List.{flat_map};
 ghost use Rattle.t1_io.specs.Devices.{Writes};
-ghost use Rattle.t1_forms.specs.Commands.{command_kind, command_of, file_property, level_kind, message_byte, property_byte, title_code, title_text};
+ghost use Rattle.t1_forms.specs.Commands.{command, command_kind, command_of, file_property, level_kind, rule_command, title_code, title_text};
 ghost use Rattle.t1_forms.specs.Private.Escapes.{byte_in};
 ghost use Rattle.t1_forms.specs.Tellings.{told_value, what_value};
 
@@ -11,7 +11,7 @@ use crate::objects::{refusal_code, refusal_reason};
 use crate::{Told, What};
 use t1_io::{Broken, Sink, put_all, put_parts};
 use t1_lines::Line;
-use t1_rules::{Level, rule_code, rule_level, rule_text};
+use t1_rules::{Level, Rule, rule_code, rule_level, rule_text};
 
 /// A part of a command.
 #[derive(Clone, Copy, PartialEq, Eq)]
@@ -112,17 +112,62 @@ fn put_file<W: Sink>(sink: &mut W, font: Option<&[u8]>) -> Result<(), Broken>
     put_all(sink, b",line=1,")
 }
 
+/// What a command begins with and is titled by, `CODE TEXT`.
+#[derive(Drop)]
+struct Head {
+    kind: &'static [u8],
+    code: &'static [u8],
+    text: &'static [u8],
+}
+
+/// Writes a command with this head, of this font.
+fn put_command<W: Sink>(
+    sink: &mut W,
+    head: &Head,
+    font: Option<&[u8]>,
+    message: &[u8],
+) -> Result<(), Broken>
+    ensures { Writes (W.state sink.old) (W.state sink.new)
+        (command head.now.kind.now (option_map (λ name. name.now) font.entry) head.now.code.now head.now.text.now message.now) result }
+{
+    put_parts(sink, &[b"::", head.kind, b" "])?;
+    put_file(sink, font)?;
+    put_parts(sink, &[b"title=", head.code, b" "])?;
+    put_escaped(sink, head.text, Part::Property)?;
+    put_all(sink, b"::")?;
+    put_escaped(sink, message, Part::Message)?;
+    put_all(sink, b"\n")
+}
+
 /// Writes a command that shows a line of t1check at the font: an error, a warning or a notice of a fault, by its rule's level, an
 /// error where the font was refused or wasn't checked. A font has no lines of text, so line 1 is named. After a failure a front of
 /// the command went out.
 pub fn write_command<W: Sink>(sink: &mut W, told: &Told<'_>) -> Result<(), Broken>
     ensures { Writes (W.state sink.old) (W.state sink.new) (command_of (told_value told.now) told.now.line.now) result }
 {
-    put_parts(sink, &[b"::", kind(&told.what), b" "])?;
-    put_file(sink, told.font)?;
-    put_parts(sink, &[b"title=", code(&told.what), b" "])?;
-    put_escaped(sink, text(&told.what), Part::Property)?;
-    put_all(sink, b"::")?;
-    put_escaped(sink, told.line, Part::Message)?;
-    put_all(sink, b"\n")
+    let head = Head {
+        kind: kind(&told.what),
+        code: code(&told.what),
+        text: text(&told.what),
+    };
+    put_command(sink, &head, told.font, told.line)
+}
+
+/// Writes a command that shows a message of a rule at the font, by the rule's level and with its text as the title. After a
+/// failure a front of the command went out.
+pub fn write_rule_command<W: Sink>(
+    sink: &mut W,
+    font: Option<&[u8]>,
+    rule: Rule,
+    message: &[u8],
+) -> Result<(), Broken>
+    ensures { Writes (W.state sink.old) (W.state sink.new)
+        (rule_command (option_map (λ name. name.now) font.entry) rule message.now) result }
+{
+    let head = Head {
+        kind: kind_at(rule_level(rule)),
+        code: rule_code(rule).as_bytes(),
+        text: rule_text(rule).as_bytes(),
+    };
+    put_command(sink, &head, font, message)
 }

@@ -37,7 +37,7 @@ mod sarif_objects;
 mod told;
 mod version;
 
-pub use commands::write_command;
+pub use commands::{write_command, write_rule_command};
 pub use error::FormatError;
 pub use laws::{
     a_text_tells_one_line, commands_are_read_back, different_tellings_have_different_objects,
@@ -49,5 +49,5 @@ pub use sarif::Sarif;
 pub use sarif_laws::{
     all_is_told_in_documents, documents_are_of_their_runs, fingerprints_stay, results_are_read_back,
 };
-pub use told::{Told, What, read_told};
+pub use told::{Told, What, read_told, tell_unchecked};
 pub use version::VERSION;

@@ -1,10 +1,12 @@
 //! What is told of fonts, read line by line.
 
 ghost use Rattle.std.specs.Prelude.{◌≡◌, ℕ, List, ◌∷◌, ◌++◌, codes, IfSome, IfNone};
+ghost use Rattle.t1_io.specs.Devices.{Writes};
 ghost use Rattle.t1_lines.specs.Lines.{LineValue, IsLine, line_value, spelled};
-ghost use Rattle.t1_forms.specs.Tellings.{IsNotTold, IsToldAs, IsUncheckedOnly};
+ghost use Rattle.t1_forms.specs.Tellings.{IsNotTold, IsToldAs, IsUncheckedOnly, unchecked_line};
 ghost use Rattle.t1_forms.specs.Private.Searches.{IsLineBehind, IsOfLine, NoLine, NoReason};
 
+use t1_io::{Broken, Sink, put_parts};
 use t1_lines::{Line, read};
 
 /// What stands in front of the reason why a font wasn't checked.
@@ -138,4 +140,20 @@ pub fn read_told(text: &[u8]) -> Option<Told<'_>>
         what: What::Unchecked(reason),
         line: text,
     })
+}
+
+/// Tells that what has this name wasn't checked, as `NAME: t1check: REASON`.
+pub fn tell_unchecked<W: Sink>(sink: &mut W, name: &str, reason: &str) -> Result<(), Broken>
+    ensures { Writes (W.state sink.old) (W.state sink.new) (unchecked_line name.now reason.now) result }
+{
+    put_parts(
+        sink,
+        &[
+            name.as_bytes(),
+            b": ",
+            UNCHECKED,
+            reason.as_bytes(),
+            b"\n",
+        ],
+    )
 }

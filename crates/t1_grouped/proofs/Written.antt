@@ -3,11 +3,12 @@ use Rattle.std.proofs.Common.{◌≡◌, ◌-◌, ℕ, true, Bool, List, [], ◌
 use Rattle.std.proofs.KnownBytes.{Appends-nil, Appends-trans}
 use Rattle.std.proofs.lemmas.Option.{none-some}
 use Rattle.std.specs.Io.KnownBytes.{Appends}
+use Rattle.t1_forms.specs.Tellings.{unchecked_line}
 use Rattle.t1_grouped.proofs.GroupTails.{IsGroup, tail_is}
 use Rattle.t1_grouped.proofs.HeldGroups.{AreGroups, line_held, lines_are_held, none_held}
 use Rattle.t1_grouped.specs.Commands.{command_writing, group_command, message_room}
 use Rattle.t1_grouped.specs.GroupLines.{Writing, group_lines, rule_head}
-use Rattle.t1_grouped.specs.Grouping.{GroupedTakes, Grouping, IsTextPut, TellsFailure, TellsUnchecked, told, untold, unchecked_line}
+use Rattle.t1_grouped.specs.Grouping.{GroupedTakes, Grouping, IsTextPut, TellsFailure, TellsUnchecked, told, untold}
 use Rattle.t1_grouped.specs.Groups.{GroupValue}
 use Rattle.t1_grouped.specs.Held.{HeldLine, held_line, held_text}
 use Rattle.t1_grouped.specs.Terminals.{room_after, terminal_line, terminal_writing}

@@ -1,13 +1,12 @@
 -- What is taken of things that are handed on: lines are kept in groups until their font is done.
-use Rattle.std.specs.Prelude.{◌≡◌, ℕ, List, [], ◌∷◌, Option, None, Some, codes}
-use Rattle.std.specs.List.{concat}
+use Rattle.std.specs.Prelude.{◌≡◌, ℕ, List, Option, None, Some, codes}
+use Rattle.t1_forms.specs.Tellings.{unchecked_line}
 use Rattle.t1_grouped.specs.GroupLines.{Writing, group_lines}
 use Rattle.t1_grouped.specs.Groups.{GroupValue}
 use Rattle.t1_grouped.specs.Held.{held_line}
 use Rattle.t1_grouped.specs.RuleGroups.{no_groups, with_line}
 use Rattle.t1_io.specs.Devices.{Delivered, DeliveryFailed, PutFailed, SinkState, Wrote}
 use Rattle.t1_many.specs.Handing.{Handed, done, failure, line}
-use Rattle.t1_many.specs.Plain.{named}
 use Rattle.t1_many.specs.declared.recipient.Lost.{Lost}
 use Rattle.t1_many.specs.declared.recipient.Lost.TheVariants.{Device, Memory}
 use Rattle.t1_run.specs.declared.failure.Failure.{Failure}
@@ -35,10 +34,6 @@ abbrev pub KeepsLine : Grouping → Grouping → List GroupValue → Option Lost
 KeepsLine old new groups None = IsSilent old new × (new.groups ≡ groups)
 KeepsLine old new groups (Some Device) = ⊥
 KeepsLine old new groups (Some Memory) = IsSilent old new
-
--- `NAME: t1check: REASON`, on standard error.
-abbrev pub unchecked_line : List ℕ → List ℕ → List ℕ
-unchecked_line name reason = named name (concat (codes "t1check: " ∷ reason ∷ codes "\n" ∷ []))
 
 -- That a font wasn't checked was told on standard error, and then a text was put; or standard error failed.
 pub data TellsUnchecked (writing : Writing) (old new : Grouping) (name reason : List ℕ) (lost : Option Lost) : Type 0 where

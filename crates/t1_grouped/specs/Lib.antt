@@ -5,7 +5,6 @@ pub mod Groups
 pub mod Grouping
 pub mod Held
 pub mod Laws
-pub mod Private
 pub mod RuleGroups
 pub mod Tails
 pub mod TerminalNames

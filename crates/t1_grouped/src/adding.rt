@@ -14,10 +14,7 @@ use crate::unit::{UnitNumber, unit_number, waiver_name};
 use std::alloc::{AllocError, Global};
 use t1_font::Font;
 use t1_report::{Fault, Waivers};
-use t1_rules::{INDEXES, Rule, key_text};
-
-/// How many rules there are.
-const RULES: u8 = 70;
+use t1_rules::{INDEXES, Rule, all_rules, key_text};
 
 impl Groups {
     /// Groups of no line, with room for names in each.
@@ -25,7 +22,7 @@ impl Groups {
         ensures { IfOk result (λ g. group_values g ≡ no_groups room) }
     {
         let mut groups = Vec::new(alloc);
-        for _rule in 0..RULES {
+        for _rule in all_rules() {
             groups.push(Group::new(alloc, room))?;
         }
         Ok(Groups { groups })

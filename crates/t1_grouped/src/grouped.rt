@@ -1,11 +1,10 @@
 //! Lines that are kept until their font is done, and then written by groups.
 
 ghost use Rattle.std.specs.Prelude.{◌≡◌, ◌++◌, IfOk, None};
-ghost use Rattle.t1_grouped.specs.Grouping.{GroupedTakes, TellsUnchecked, WritesGroups, unchecked_line};
+ghost use Rattle.t1_grouped.specs.Grouping.{GroupedTakes, TellsUnchecked, WritesGroups};
 ghost use Rattle.t1_grouped.specs.GroupLines.{group_lines};
 ghost use Rattle.t1_grouped.specs.Held.{held_line};
 ghost use Rattle.t1_grouped.specs.RuleGroups.{group_values, values_of, with_line};
-ghost use Rattle.t1_io.specs.Devices.{Writes};
 ghost use Rattle.t1_many.specs.Handing.{lost_of};
 ghost use Rattle.t1_report.specs.Faults.{fault_value};
 ghost use Rattle.t1_report.specs.Lines.{IsInFont};
@@ -15,7 +14,8 @@ use crate::groups::Groups;
 use crate::lines::group_lines;
 use std::alloc::{AllocError, Global};
 use t1_font::Font;
-use t1_io::{Broken, Sink, deliver, put_parts};
+use t1_forms::tell_unchecked;
+use t1_io::{Sink, deliver};
 use t1_many::{Form, Lost};
 use t1_report::{Fault, Waivers};
 use t1_run::Failure;
@@ -173,20 +173,4 @@ fn lines_of<T: GroupForm>(
         Some(groups) => group_lines(alloc, form, &groups, name),
         None => Ok(Vec::new(alloc)),
     }
-}
-
-/// Tells that what has this name wasn't checked.
-fn tell_unchecked<E: Sink>(errors: &mut E, name: &str, reason: &str) -> Result<(), Broken>
-    ensures { Writes (E.state errors.old) (E.state errors.new) (unchecked_line name.now reason.now) result }
-{
-    put_parts(
-        errors,
-        &[
-            name.as_bytes(),
-            b": ",
-            b"t1check: ",
-            reason.as_bytes(),
-            b"\n",
-        ],
-    )
 }

@@ -1,16 +1,14 @@
 //! The lines of a font's groups.
 
-ghost use Rattle.std.specs.Prelude.{◌≡◌, ◌++◌, ◌≤◌, ◌-◌, IfOk, OnOk, slice_index_or};
+ghost use Rattle.std.specs.Prelude.{◌≡◌, ◌++◌, IfOk, OnOk};
 ghost use Rattle.t1_grouped.specs.GroupLines.{group_line, group_lines};
 ghost use Rattle.t1_grouped.specs.Held.{is_same_level, level_line, of_level};
 ghost use Rattle.t1_grouped.specs.RuleGroups.{group_values};
-ghost use Rattle.t1_rules.specs.Book.{last_number, rules};
-ghost use Rattle.t1_rules.specs.declared.rule.Rule.TheVariants.{F01};
 
 use crate::form::GroupForm;
 use crate::groups::Groups;
 use std::alloc::{AllocError, Global};
-use t1_rules::{Level, Rule, rule_level, rules_are_in_the_book};
+use t1_rules::{Level, Rule, all_rules, rule_level};
 
 /// The lines of the groups of the font of this name.
 pub(crate) fn group_lines<T: GroupForm>(
@@ -40,34 +38,30 @@ fn push_level<T: GroupForm>(
     ensures { OnOk result (text.new.items
         ≡ text.old.items ++ of_level (group_line ((T.writing form.now).line name.now) (group_values groups.now)) level) }
 {
-    for index in 0..70u8 {
-        push_number(alloc, form, groups, text, name, level, index + 1)?;
+    let rules = all_rules();
+    for rule in rules {
+        push_of_level(alloc, form, groups, text, name, level, *rule)?;
     }
     Ok(())
 }
 
-/// Appends the line of the rule of a number, if it is of the level.
-fn push_number<T: GroupForm>(
+/// Appends the line of a rule, if it is of the level.
+fn push_of_level<T: GroupForm>(
     alloc: Global,
     form: &T,
     groups: &Groups,
     text: &mut Vec<u8>,
     name: &str,
     level: Level,
-    number: u8,
+    rule: Rule,
 ) -> Result<(), AllocError>
-    requires first { 1 ≤ number }
-    requires last { number ≤ last_number }
     ensures { OnOk result (text.new.items ≡ text.old.items
-        ++ level_line (group_line ((T.writing form.now).line name.now) (group_values groups.now)) level (slice_index_or rules (number - 1) F01)) }
+        ++ level_line (group_line ((T.writing form.now).line name.now) (group_values groups.now)) level rule) }
 {
-    // The call of a law does nothing: the proof cites what it ensures.
-    rules_are_in_the_book();
-    match Rule::from_number(number) {
-        Some(rule) if is_same_level(rule_level(rule), level) => {
-            push_rule(alloc, form, groups, text, name, rule)
-        }
-        _ => Ok(()),
+    if is_same_level(rule_level(rule), level) {
+        push_rule(alloc, form, groups, text, name, rule)
+    } else {
+        Ok(())
     }
 }
 

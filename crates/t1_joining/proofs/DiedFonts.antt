@@ -3,11 +3,11 @@ use Rattle.std.proofs.Common.{◌≡◌, ◌+◌, ◌<◌, ℕ, List, [], ◌∷
 use Rattle.std.specs.List.{flat_map}
 use Rattle.t1_batch.proofs.GivenEach.{given-append, given-one, given-stopped, map-push, map-within}
 use Rattle.t1_batch.specs.Unlisted.{GivesEach}
-use Rattle.t1_forms.specs.Tellings.{ToldValue}
+use Rattle.t1_forms.specs.Tellings.{ToldValue, unchecked_line}
 use Rattle.t1_io.specs.Devices.{SinkState}
 use Rattle.t1_joining.specs.Died.{died_lines, died_told}
 use Rattle.t1_many.specs.declared.recipient.Lost.{Lost}
-use Rattle.t1_many_forms.specs.Formatting.{told_unchecked, unchecked_line}
+use Rattle.t1_many_forms.specs.Formatting.{told_unchecked}
 
 pub lines_of : (reason : List ℕ) (names : List (String Global))
     → flat_map (λ (name : String Global). unchecked_line (string_bytes name) reason) names ≡ died_lines (map string_bytes names) reason

@@ -16,7 +16,7 @@ use Rattle.t1_batch.specs.Writing.WritesDocument.{begun, not_begun}
 use Rattle.t1_batch.specs.Writing.WritesFormatted.{stopped, unfinished, unlistable, written}
 use Rattle.t1_char.specs.declared.edition.Edition.{Edition}
 use Rattle.t1_forms.specs.Objects.{object_line}
-use Rattle.t1_forms.specs.Tellings.{ToldValue}
+use Rattle.t1_forms.specs.Tellings.{ToldValue, unchecked_line}
 use Rattle.t1_grouped.proofs.HeldGroups.{none_held}
 use Rattle.t1_grouped.proofs.Written.{IsWorded, commands_worded, terminal_worded, written as groups_written}
 use Rattle.t1_grouped.specs.Commands.{command_writing}
@@ -38,7 +38,7 @@ use Rattle.t1_many.specs.declared.recipient.Lost.{Lost}
 use Rattle.t1_many_forms.proofs.JsonTexts.{seen-written}
 use Rattle.t1_many_forms.specs.Commands.{command_written}
 use Rattle.t1_many_forms.specs.Documents.{end_written, telling_written}
-use Rattle.t1_many_forms.specs.Formatting.{FormattedTakes, Formatting, GivesUnchecked, told, untold, unchecked_line}
+use Rattle.t1_many_forms.specs.Formatting.{FormattedTakes, Formatting, GivesUnchecked, told, untold}
 use Rattle.t1_many_forms.specs.JsonLines.{object_written, objects}
 use Rattle.t1_many_forms.specs.declared.github.GitHubCommands.{GitHubCommands as Commands}
 use Rattle.t1_many_forms.specs.declared.json_lines.JsonLines.{JsonLines as Objects}

@@ -4,14 +4,14 @@ use Rattle.std.specs.List.{flat_map}
 use Rattle.t1_batch.specs.Layouts.{LayoutValue, commands, groups, json_lines, lines, sarif}
 use Rattle.t1_batch.specs.Unlisted.{GivesEach}
 use Rattle.t1_forms.specs.Sarif.{begun as no_line_of, opening, sarif_state}
-use Rattle.t1_forms.specs.Tellings.{ToldValue}
+use Rattle.t1_forms.specs.Tellings.{ToldValue, unchecked_line}
 use Rattle.t1_forms.specs.declared.sarif.Sarif.{Sarif as Document}
 use Rattle.t1_io.specs.Devices.{SinkState, Wrote}
 use Rattle.t1_joining.specs.Steps.{Then}
 use Rattle.t1_many.specs.declared.recipient.Lost.{Lost}
 use Rattle.t1_many_forms.specs.Commands.{command_written}
 use Rattle.t1_many_forms.specs.Documents.{end_written, telling_written}
-use Rattle.t1_many_forms.specs.Formatting.{told_unchecked, unchecked_line}
+use Rattle.t1_many_forms.specs.Formatting.{told_unchecked}
 use Rattle.t1_many_forms.specs.JsonLines.{IsLinePut, object_written}
 use Rattle.t1_many_forms.specs.declared.github.GitHubCommands.{GitHubCommands as Commands}
 use Rattle.t1_many_forms.specs.declared.json_lines.JsonLines.{JsonLines as Objects}

@@ -10,7 +10,8 @@ ghost use Rattle.t1_joining.specs.FilesOfParts.{CopiesFile, opened_by, unopened_
 ghost use Rattle.t1_joining.specs.Steps.{Then};
 ghost use Rattle.t1_joining.specs.declared.copying.Extent.TheVariants.{WholeLines};
 ghost use Rattle.t1_many.specs.Handing.{lost_of};
-ghost use Rattle.t1_many_forms.specs.Formatting.{told_unchecked, unchecked_line};
+ghost use Rattle.t1_forms.specs.Tellings.{unchecked_line};
+ghost use Rattle.t1_many_forms.specs.Formatting.{told_unchecked};
 ghost use Rattle.t1_parts.specs.PartValues.{part_value};
 
 use crate::copying::Extent;
@@ -18,8 +19,8 @@ use crate::files::copy_file;
 use std::alloc::{AllocError, Global};
 use std::io;
 use t1_batch::{Layout, Output, Unlisted, give_unlisted, lost_by};
-use t1_forms::{Sarif, Told, What};
-use t1_io::{Broken, Sink, Source, put_parts};
+use t1_forms::{Sarif, Told, What, tell_unchecked};
+use t1_io::{Broken, Sink, Source};
 use t1_many::Lost;
 use t1_many_forms::{Formatter, GitHubCommands, JsonLines};
 use t1_parts::Part;
@@ -60,25 +61,9 @@ fn tell_each<E: Sink>(errors: &mut E, names: &[String], reason: &str) -> Result<
     ensures { Writes (E.state errors.old) (E.state errors.new) (flat_map (λ name. unchecked_line (string_bytes name) reason.now) names.now) result }
 {
     for name in names {
-        tell_one(errors, name.as_str(), reason)?;
+        tell_unchecked(errors, name.as_str(), reason)?;
     }
     Ok(())
-}
-
-/// The same of one font.
-fn tell_one<E: Sink>(errors: &mut E, name: &str, reason: &str) -> Result<(), Broken>
-    ensures { Writes (E.state errors.old) (E.state errors.new) (unchecked_line name.now reason.now) result }
-{
-    put_parts(
-        errors,
-        &[
-            name.as_bytes(),
-            b": ",
-            UNCHECKED.as_bytes(),
-            reason.as_bytes(),
-            b"\n",
-        ],
-    )
 }
 
 /// Writes the output of a part whose process died.

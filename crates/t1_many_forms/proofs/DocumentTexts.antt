@@ -4,7 +4,7 @@ use Rattle.std.proofs.KnownBytes.{Appends-nil, Appends-trans}
 use Rattle.std.specs.Io.KnownBytes.{Appends}
 use Rattle.t1_forms.specs.Sarif.{SarifState, closing, sarif_state, telling_text}
 use Rattle.t1_forms.specs.SarifDocuments.{after_one, tellings_text}
-use Rattle.t1_forms.specs.Tellings.{ToldValue, what_spelled}
+use Rattle.t1_forms.specs.Tellings.{ToldValue, what_spelled, unchecked_line}
 use Rattle.t1_forms.specs.declared.sarif.Sarif.{Sarif}
 use Rattle.t1_io.specs.Devices.{AppendsFront}
 use Rattle.t1_many.specs.Handing.{Handed, HandsOn, done, failure, line}
@@ -13,7 +13,7 @@ use Rattle.t1_many.specs.declared.recipient.Lost.{Lost}
 use Rattle.t1_many.specs.declared.recipient.Lost.TheVariants.{Device, Memory}
 use Rattle.t1_many_forms.proofs.JsonTexts.{cause, front-all, front-first, front-none, front-second, kept, none-same}
 use Rattle.t1_many_forms.specs.Documents.{IsDocumentOf, all_values, telling_written, values_of}
-use Rattle.t1_many_forms.specs.Formatting.{FormattedTakes, Formatting, Gives, GivesFailure, GivesUnchecked, given, no_memory, read_failed, out_of_memory, told, told_unchecked, unchecked_line, untold}
+use Rattle.t1_many_forms.specs.Formatting.{FormattedTakes, Formatting, Gives, GivesFailure, GivesUnchecked, given, no_memory, read_failed, out_of_memory, told, told_unchecked, untold}
 use Rattle.t1_run.specs.declared.failure.Failure.{Failure}
 use Rattle.t1_run.specs.declared.failure.Failure.TheVariants as failures
 

@@ -4,13 +4,13 @@ use Rattle.std.proofs.KnownBytes.{Appends-kept, Appends-nil, Appends-trans}
 use Rattle.std.proofs.lemmas.Option.{none-some}
 use Rattle.std.specs.Io.KnownBytes.{Appends, Keeps}
 use Rattle.t1_forms.specs.Objects.{object_line}
-use Rattle.t1_forms.specs.Tellings.{ToldValue}
+use Rattle.t1_forms.specs.Tellings.{ToldValue, unchecked_line}
 use Rattle.t1_io.specs.Devices.{AppendsFront, SinkState}
 use Rattle.t1_many.specs.Handing.{Handed, HandsOn, done, failure, line}
 use Rattle.t1_many.specs.Plain.{tellings, told_of}
 use Rattle.t1_many.specs.declared.recipient.Lost.{Lost}
 use Rattle.t1_many.specs.declared.recipient.Lost.TheVariants.{Device, Memory}
-use Rattle.t1_many_forms.specs.Formatting.{FormattedTakes, Formatting, Gives, GivesFailure, GivesUnchecked, given, no_memory, read_failed, out_of_memory, told, told_unchecked, unchecked_line, untold}
+use Rattle.t1_many_forms.specs.Formatting.{FormattedTakes, Formatting, Gives, GivesFailure, GivesUnchecked, given, no_memory, read_failed, out_of_memory, told, told_unchecked, untold}
 use Rattle.t1_many_forms.specs.JsonLines.{AreObjects, IsLinePut, object_text, object_written, objects}
 use Rattle.t1_many_forms.specs.declared.json_lines.JsonLines.{JsonLines}
 use Rattle.t1_summary.specs.declared.found.Found.{Found}

@@ -1,14 +1,13 @@
 -- What is given to a formatter of things that are handed on, and what is told on standard error.
-use Rattle.std.specs.Prelude.{◌≡◌, ℕ, List, [], ◌∷◌, codes, Option, Some}
-use Rattle.std.specs.List.{concat}
+use Rattle.std.specs.Prelude.{◌≡◌, ℕ, List, codes, Option, Some}
 use Rattle.t1_font.specs.Fonts.{FontValue}
-use Rattle.t1_forms.specs.Tellings.{ToldValue, of_line, of_unchecked, what_spelled, what_value}
+use Rattle.t1_forms.specs.Tellings.{ToldValue, of_line, of_unchecked, unchecked_line, what_spelled, what_value}
 use Rattle.t1_forms.specs.declared.told.Told.{Told}
 use Rattle.t1_io.specs.Devices.{PutFailed, SinkState, Wrote}
 use Rattle.t1_lines.specs.Lines.{line_in, of_fault, of_refusal}
 use Rattle.t1_lines.specs.declared.refusal.RefusalCode.{RefusalCode}
 use Rattle.t1_many.specs.Handing.{Handed, done, failure, line}
-use Rattle.t1_many.specs.Plain.{IsFlushed, named}
+use Rattle.t1_many.specs.Plain.{IsFlushed}
 use Rattle.t1_many.specs.declared.recipient.Lost.{Lost}
 use Rattle.t1_many.specs.declared.recipient.Lost.TheVariants.{Device, Memory}
 use Rattle.t1_report.specs.Faults.{FaultValue}
@@ -36,10 +35,6 @@ read_failed = codes "read failed"
 
 abbrev pub out_of_memory : List ℕ
 out_of_memory = codes "out of memory"
-
--- `NAME: t1check: REASON`, on standard error.
-abbrev pub unchecked_line : List ℕ → List ℕ → List ℕ
-unchecked_line name reason = named name (concat (codes "t1check: " ∷ reason ∷ codes "\n" ∷ []))
 
 -- ---- what is given
 

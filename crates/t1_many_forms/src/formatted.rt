@@ -1,18 +1,17 @@
 //! The forms that other programs read.
 
 ghost use Rattle.std.specs.Prelude.{◌≡◌, Option};
-ghost use Rattle.t1_io.specs.Devices.{Writes};
 ghost use Rattle.t1_many.specs.Handing.{Handed, failure, lost_of};
 ghost use Rattle.t1_run.specs.declared.failure.Failure.TheVariants.{Refused};
-ghost use Rattle.t1_many_forms.specs.Formatting.{FormattedTakes, GivesUnchecked, unchecked_line};
+ghost use Rattle.t1_many_forms.specs.Formatting.{FormattedTakes, GivesUnchecked};
 
 use crate::fault_line::fault_line;
 use crate::formatter::Formatter;
 use crate::line_text::LineText;
 use std::alloc::Global;
 use t1_font::Font;
-use t1_forms::{Told, What};
-use t1_io::{Broken, Sink, put_parts};
+use t1_forms::{Told, What, tell_unchecked};
+use t1_io::Sink;
 use t1_lines::{Line, RefusalCode};
 use t1_many::{Form, Lost};
 use t1_report::{Fault, Waivers};
@@ -127,20 +126,4 @@ impl<T: Formatter, W: Sink, E: Sink> Form for Formatted<T, W, E> {
         self.out.flush()?;
         Ok(())
     }
-}
-
-/// Tells that what has this name wasn't checked.
-fn tell_unchecked<E: Sink>(errors: &mut E, name: &str, reason: &str) -> Result<(), Broken>
-    ensures { Writes (E.state errors.old) (E.state errors.new) (unchecked_line name.now reason.now) result }
-{
-    put_parts(
-        errors,
-        &[
-            name.as_bytes(),
-            b": ",
-            b"t1check: ",
-            reason.as_bytes(),
-            b"\n",
-        ],
-    )
 }

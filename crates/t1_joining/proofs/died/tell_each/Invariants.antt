@@ -1,8 +1,8 @@
 use Rattle.std.proofs.Common.{string_bytes, take}
 use Rattle.std.specs.List.{flat_map}
+use Rattle.t1_forms.specs.Tellings.{unchecked_line}
 use Rattle.t1_io.specs.Devices.{Wrote}
 use Rattle.t1_joining.proofs.died.tell_each.Given as goal
-use Rattle.t1_many_forms.specs.Formatting.{unchecked_line}
 
 abbrev pub invariant-loop-name : goal.invariant-loop-name
 invariant-loop-name g l =

@@ -1,26 +1,23 @@
 use Rattle.t1_io.proofs.SinkLemmas.{PutFailed-first, PutFailed-second, Writes-failed, Writes-then}
-use Rattle.t1_forms.proofs.commands.write_command.Goals as goal
+use Rattle.t1_forms.proofs.commands.put_command.Goals as goal
 
 pub returns-in_err-put_parts : goal.returns-in_err-put_parts
 returns-in_err-put_parts g c =
-    rw (← c.kind.ensures) (Writes-failed _ _ _ _ _ c.from_residual.ensures.1 (PutFailed-first _ _ _ _ c.in_err-put_parts.ensures))
+    (Writes-failed _ _ _ _ _ c.from_residual.ensures.1 (PutFailed-first _ _ _ _ c.in_err-put_parts.ensures))
 
 pub returns-in_err-put_file : goal.returns-in_err-put_file
 returns-in_err-put_file g c =
-    rw (← c.kind.ensures)
     (Writes-failed _ _ _ _ _ c.from_residual-in_err-put_file.ensures.1
     (PutFailed-second _ _ _ _ _ c.in_ok-put_parts.ensures (PutFailed-first _ _ _ _ c.in_err-put_file.ensures)))
 
 pub returns-in_err-put_parts-2 : goal.returns-in_err-put_parts-2
 returns-in_err-put_parts-2 g c =
-    rw (← c.kind.ensures, ← c.code.ensures)
     (Writes-failed _ _ _ _ _ c.from_residual-in_err-put_parts-2.ensures.1
     (PutFailed-second _ _ _ _ _ c.in_ok-put_parts.ensures
     (PutFailed-second _ _ _ _ _ c.in_ok-put_file.ensures (PutFailed-first _ _ _ _ c.in_err-put_parts-2.ensures))))
 
 pub returns-in_err-put_escaped : goal.returns-in_err-put_escaped
 returns-in_err-put_escaped g c =
-    rw (← c.kind.ensures, ← c.code.ensures, ← c.text.ensures)
     (Writes-failed _ _ _ _ _ c.from_residual-in_err-put_escaped.ensures.1
     (PutFailed-second _ _ _ _ _ c.in_ok-put_parts.ensures
     (PutFailed-second _ _ _ _ _ c.in_ok-put_file.ensures
@@ -28,7 +25,6 @@ returns-in_err-put_escaped g c =
 
 pub returns-in_err-put_all : goal.returns-in_err-put_all
 returns-in_err-put_all g c =
-    rw (← c.kind.ensures, ← c.code.ensures, ← c.text.ensures)
     (Writes-failed _ _ _ _ _ c.from_residual-in_err-put_all.ensures.1
     (PutFailed-second _ _ _ _ _ c.in_ok-put_parts.ensures
     (PutFailed-second _ _ _ _ _ c.in_ok-put_file.ensures
@@ -37,7 +33,6 @@ returns-in_err-put_all g c =
 
 pub returns-in_err-put_escaped-2 : goal.returns-in_err-put_escaped-2
 returns-in_err-put_escaped-2 g c =
-    rw (← c.kind.ensures, ← c.code.ensures, ← c.text.ensures)
     (Writes-failed _ _ _ _ _ c.from_residual-in_err-put_escaped-2.ensures.1
     (PutFailed-second _ _ _ _ _ c.in_ok-put_parts.ensures
     (PutFailed-second _ _ _ _ _ c.in_ok-put_file.ensures
@@ -47,7 +42,6 @@ returns-in_err-put_escaped-2 g c =
 
 pub returns : goal.returns
 returns g c =
-    rw (← c.kind.ensures, ← c.code.ensures, ← c.text.ensures)
     (Writes-then _ _ _ _ _ _ c.in_ok-put_parts.ensures
     (Writes-then _ _ _ _ _ _ c.in_ok-put_file.ensures
     (Writes-then _ _ _ _ _ _ c.in_ok-put_parts-2.ensures

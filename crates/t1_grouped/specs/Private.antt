@@ -1,2 +1,0 @@
--- Words that private contracts alone cite.
-pub mod Escapes
