@@ -148,12 +148,6 @@ pub fn tell_unchecked<W: Sink>(sink: &mut W, name: &str, reason: &str) -> Result
 {
     put_parts(
         sink,
-        &[
-            name.as_bytes(),
-            b": ",
-            UNCHECKED,
-            reason.as_bytes(),
-            b"\n",
-        ],
+        &[name.as_bytes(), b": ", UNCHECKED, reason.as_bytes(), b"\n"],
     )
 }

@@ -1,30 +1,13 @@
 -- Steps of loops over rules and groups.
-use Rattle.std.proofs.Common.{◌≡◌, ◌+◌, ◌-◌, ◌<◌, ◌≤◌, ℕ, List, [], ◌∷◌, ◌++◌, ap, append-nil, append_assoc, arith, flat_map, get_or, length, map, set, sym, take, ◌∙◌}
+use Rattle.std.proofs.Common.{◌≡◌, ◌+◌, ◌-◌, ◌<◌, ℕ, List, [], ◌++◌, ap, append-nil, append_assoc, arith, get_or, length, map, set, sym, ◌∙◌}
 use Rattle.std.proofs.Math.ListN.{get_or-map}
-use Rattle.std.proofs.lemmas.List.{get_or_default, length-map, map-set, take_all, take_more}
-use Rattle.std.proofs.lemmas.List.Concat.{flat_map-append}
+use Rattle.std.proofs.lemmas.List.{get_or_default, length-map, map-set}
 use Rattle.t1_grouped.specs.Groups.{added, empty_group, group_value}
 use Rattle.t1_grouped.specs.RuleGroups.{with_line}
 use Rattle.t1_grouped.specs.declared.group.Group.{Group}
 use Rattle.t1_grouped.specs.declared.unit.UnitNumber.{UnitNumber}
 use Rattle.t1_rules.specs.Book.{number_of}
 use Rattle.t1_rules.specs.declared.rule.Rule.{Rule}
-
--- one text more
-pub text_step : {X : Type 0} (f : X → List ℕ) (xs : List X) (d : X) (start before after : List ℕ) (i j : ℕ) → i < length xs → j ≡ i
-    → before ≡ start ++ flat_map f (take i xs) → after ≡ before ++ f (get_or xs j d) → after ≡ start ++ flat_map f (take (i + 1) xs)
-text_step f xs d start before after i j less same was is =
-    let more : flat_map f (take (i + 1) xs) ≡ flat_map f (take i xs) ++ f (get_or xs i d) =
-    ap (flat_map f) (take_more xs i d less) ∙ flat_map-append f (take i xs) (get_or xs i d ∷ [])
-    ∙ ap (λ t. flat_map f (take i xs) ++ t) (append-nil (f (get_or xs i d))) in
-    is ∙ ap (λ k. before ++ f (get_or xs k d)) same ∙ ap (λ t. t ++ f (get_or xs i d)) was
-    ∙ append_assoc start (flat_map f (take i xs)) (f (get_or xs i d))
-    ∙ ap (λ t. start ++ t) (sym more)
-
--- all texts
-pub text_end : {X : Type 0} (f : X → List ℕ) (xs : List X) (start text : List ℕ) (i : ℕ) → length xs ≤ i → text ≡ start ++ flat_map f (take i xs)
-    → text ≡ start ++ flat_map f xs
-text_end f xs start text i all is = is ∙ ap (λ l. start ++ flat_map f l) (take_all i xs all)
 
 -- three texts
 pub three_texts : (none first second third a b c : List ℕ) → none ≡ [] → first ≡ none ++ a → second ≡ first ++ b → third ≡ second ++ c

@@ -22,7 +22,7 @@ impl Groups {
         ensures { IfOk result (λ g. group_values g ≡ no_groups room) }
     {
         let mut groups = Vec::new(alloc);
-        for _rule in all_rules() {
+        for _rule in 0..all_rules().len() {
             groups.push(Group::new(alloc, room))?;
         }
         Ok(Groups { groups })
