@@ -1,17 +1,25 @@
 -- How fonts are listed and checked by options.
-use Rattle.std.specs.Prelude.{◌≡◌, ◌||◌, ℕ, Bool, true, false, List, [], ◌∷◌, Option, None, Ok, map, string_bytes}
+use Rattle.std.specs.Prelude.{◌≡◌, ◌-◌, ◌||◌, ℕ, Bool, true, false, List, [], ◌∷◌, Option, None, Result, Ok, map, string_bytes}
+use Rattle.t1_batch.specs.Checks.{IsFound}
 use Rattle.t1_batch.specs.Choosing.{mode_by}
 use Rattle.t1_batch.specs.Endings.{WantedValue}
 use Rattle.t1_batch.specs.Layouts.{layout_of}
+use Rattle.t1_batch.specs.Modes.{judges_of}
 use Rattle.t1_batch.specs.Runs.{LeftValue, Runs, nothing_left, program}
+use Rattle.t1_batch.specs.Unlisted.{unlisted_at}
+use Rattle.t1_batch.specs.Writing.{WritesIn}
 use Rattle.t1_io.specs.Devices.{SinkState}
 use Rattle.t1_known.specs.Reads.{IsReadAs}
 use Rattle.t1_many.specs.Files.{Files}
 use Rattle.t1_many.specs.KnownFaults.{RowValue}
 use Rattle.t1_many.specs.Plain.{Devices}
+use Rattle.t1_many.specs.Shards.{part_of}
+use Rattle.t1_many.specs.declared.recipient.Lost.{Lost}
 use Rattle.t1_options.specs.declared.asked.Options.{Options}
+use Rattle.t1_options.specs.declared.asked.Shard.{Shard}
 use Rattle.t1_options.specs.declared.asked.Waivers.{Waivers}
 use Rattle.t1_options.specs.declared.asked.Waivers.TheVariants as waivers
+use Rattle.t1_parts.specs.declared.part.Part.{Part}
 use Rattle.t1_run.specs.Telling.{Explains}
 use Rattle.t1_run.specs.declared.status.Status.{Status}
 use Rattle.t1_run.specs.declared.usage.UsageError.{UsageError}
@@ -66,6 +74,14 @@ pub record Stops (error : UsageError) (old new : Devices) (left : LeftValue) : T
 pub data ChecksOver (files : Files) (options : Options) (rows : List RowValue) (fonts : FontsValue) (old new : Devices) (left : LeftValue) : Type 0 where
   ran : RunsOver files options rows fonts (wanted_in options) old new left → ChecksOver files options rows fonts old new left
   no_memory : Stops Memory old new left → ChecksOver files options rows fonts old new left
+
+-- The fonts of a part of the list are checked: what is written and told of them, and what is found in them.
+pub record ChecksPart (files : Files) (options : Options) (rows : List RowValue) (fonts : FontsValue) (shard : Shard) (old new : Devices)
+    (found : Part) (status : Result Status Lost) : Type 0 where
+  pub writes :
+      (let mode = mode_by options.waivers options.known_faults rows in
+      WritesIn (layout_of options) (unlisted_at (unlisted_of fonts) (shard.part - 1)) (judges_of mode options.rules) files options.edition
+      (part_of shard.parts fonts.names (shard.part - 1)) old new (IsFound mode options.rules found) status)
 
 -- What couldn't be listed is told first.
 abbrev pub TellsAndChecks : Files → Options → List RowValue → FontsValue → Devices → Devices → LeftValue → Type 0

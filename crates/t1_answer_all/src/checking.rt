@@ -283,7 +283,7 @@ where
 }
 
 /// Whether the options let waivers be read.
-fn are_read(waivers: Waivers) -> bool
+pub(crate) fn are_read(waivers: Waivers) -> bool
     ensures { result ≡ are_read waivers }
 {
     match waivers {

@@ -154,7 +154,7 @@ module _ (files more : Files) (includes : Includes files more) where
   formatted_too writes finishes unlisted judges edition names formatter old new Keeps result (formatted_unlistable left lost gives errors is) =
       formatted_unlistable left lost gives errors is
 
-  written_too : (layout : LayoutValue) (unlisted : List ToldValue) (judges : List ℕ → Report → FaultValue → Verdict) (edition : Edition)
+  pub written_too : (layout : LayoutValue) (unlisted : List ToldValue) (judges : List ℕ → Report → FaultValue → Verdict) (edition : Edition)
       (names : List (List ℕ)) (old new : Devices) (Keeps : List Entry → Type 0) (result : Result Status Lost)
       → WritesIn layout unlisted judges files edition names old new Keeps result → WritesIn layout unlisted judges more edition names old new Keeps result
   written_too lines unlisted judges edition names old new Keeps result checks = checks_too _ judges edition names old new Keeps result checks

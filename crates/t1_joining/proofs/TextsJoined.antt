@@ -9,6 +9,7 @@ use Rattle.std.specs.List.{AllByRecursion, AllZip, flat_map}
 use Rattle.t1_batch.specs.Layouts.{LayoutValue, commands, groups, json_lines, lines, sarif}
 use Rattle.t1_batch.specs.Checks.{IsTextOf, all_handed, founds_of}
 use Rattle.t1_batch.specs.Modes.{ModeValue, anew, beyond, entry_readings, judges_of, readings_of, told, waived, waivers_of}
+use Rattle.t1_batch.specs.Unlisted.{unlisted_at}
 use Rattle.t1_char.specs.declared.edition.Edition.{Edition}
 use Rattle.t1_forms.specs.Objects.{object_line}
 use Rattle.t1_forms.specs.Tellings.{ToldValue}
@@ -21,7 +22,7 @@ use Rattle.t1_joining.specs.FilesOfParts.CopiesFile.{opened, unopened}
 use Rattle.t1_joining.specs.Joins.{CopiesWhole, JoinsAll, JoinsPart, JoinsParts}
 use Rattle.t1_joining.specs.Joins.JoinsAll.{joined as all_joined, no_memory as out_of_memory, stopped}
 use Rattle.t1_joining.specs.Joins.JoinsPart.{died, no_memory, whole}
-use Rattle.t1_joining.specs.Laws.{AreFilesOf, PartsGiveTheWhole, unlisted_at}
+use Rattle.t1_joining.specs.Laws.{AreFilesOf, PartsGiveTheWhole}
 use Rattle.t1_joining.specs.Texts.{IsOutputOf, LeavesTexts, unlisted_command}
 use Rattle.t1_joining.specs.declared.copying.Extent.TheVariants.{All}
 use Rattle.t1_many.proofs.Parts.{whole as parts_are_whole}

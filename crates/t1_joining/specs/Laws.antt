@@ -1,11 +1,12 @@
 -- The statements of laws.
-use Rattle.std.specs.Prelude.{◌≡◌, ◌<◌, ℕ, zero, suc, Bool, List, [], Option, Some, Ok}
+use Rattle.std.specs.Prelude.{◌≡◌, ◌<◌, ℕ, suc, Bool, List, Option, Some, Ok}
 use Rattle.std.specs.Io.KnownBytes.{Appends}
 use Rattle.t1_batch.specs.Layouts.{LayoutValue}
 use Rattle.t1_batch.specs.Endings.{WantedValue}
 use Rattle.t1_batch.specs.Checks.{IsFound}
 use Rattle.t1_batch.specs.Modes.{ModeValue, judges_of}
 use Rattle.t1_batch.specs.Runs.{Concludes, LeftValue}
+use Rattle.t1_batch.specs.Unlisted.{unlisted_at}
 use Rattle.t1_batch.specs.Writing.{WritesIn}
 use Rattle.t1_char.specs.declared.edition.Edition.{Edition}
 use Rattle.t1_forms.specs.Tellings.{ToldValue}
@@ -30,11 +31,6 @@ AProcessLeavesTexts files =
     (old new : Devices) (found : Part) (status : Status)
     → WritesIn layout unlisted (judges_of mode rules) files edition names old new (IsFound mode rules found) (Ok status)
     → HasLeft layout unlisted mode rules files edition names old new found
-
--- What couldn't be listed belongs to the first part.
-abbrev pub unlisted_at : List ToldValue → ℕ → List ToldValue
-unlisted_at unlisted zero = unlisted
-unlisted_at unlisted (suc n) = []
 
 -- The files of a part have these texts, and its process left what was found.
 pub record AreFilesOf (left : FilesOfParts) (number : ℕ) (output errors : List ℕ) (found : Part) : Type 0 where

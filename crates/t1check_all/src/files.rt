@@ -29,17 +29,8 @@ pub(crate) fn count_font(rt: &HostRuntime, name: &str) {
     }
 }
 
-/// Opens a font's file of waivers, if there is one, and it is to be read.
-pub(crate) fn open_waivers(
-    rt: &HostRuntime,
-    name: &str,
-    is_read: bool,
-) -> Option<io::Result<In<File>>>
-    ensures { is_read ≡ false → result ≡ None }
-{
-    if !is_read {
-        return None;
-    }
+/// Opens a font's file of waivers, if there is one.
+pub(crate) fn open_waivers(rt: &HostRuntime, name: &str) -> Option<io::Result<In<File>>> {
     let Ok(name) = waivers_name(rt.alloc(), name) else {
         return Some(Err(io::Error::from(ErrorKind::OutOfMemory)));
     };

@@ -1,5 +1,7 @@
 //! The steps of a run that check fonts: those of a part, or all in this process.
 
+ghost use Rattle.std.specs.Prelude.{◌≤◌};
+
 use crate::files::{count_font, open_file, open_waivers};
 use crate::folder::{of_part, read, read_list, read_number};
 use crate::usage::said;
@@ -7,11 +9,11 @@ use crate::whole::check_fonts_of;
 use std::fs::File;
 use std::io::{BufWriter, ErrorKind, Write};
 use std::{fs, io};
-use t1_answer_all::{Fonts as Listed, output_of, read_known};
-use t1_batch::{Fonts, Output, PROGRAM, Unlisted, Written, names_of_part, selection, write_fonts};
+use t1_answer_all::{Fonts as Listed, check_part as answer_part, read_known};
+use t1_batch::{PROGRAM, Written};
 use t1_io::{Out, Sink};
 use t1_known::KnownFaults;
-use t1_options::{Options, Shard, Waivers};
+use t1_options::{Options, Shard};
 use t1_parts::write_part;
 use t1_run::{Status, explain, tell_failure};
 
@@ -54,64 +56,50 @@ pub(crate) fn check_part<E: Write + Drop>(
 
 /// Leaves a part.
 fn part_left(rt: &HostRuntime, folder: &str, number: &str, options: Options) -> io::Result<()> {
-    let Ok(number) = number.parse::<u32>() else {
-        return Err(io::Error::from(ErrorKind::InvalidInput));
+    let parts = read_number(rt, folder, "parts")?;
+    let part = match number.parse::<u32>() {
+        Ok(part) if 1 <= part && part <= parts => part,
+        _ => return Err(io::Error::from(ErrorKind::InvalidInput)),
     };
     let named = read_list(rt, folder)?;
     let text = read(rt, folder, "known")?;
-    let shard = Shard {
-        part: number,
-        parts: read_number(rt, folder, "parts")?,
-    };
+    let shard = Shard { part, parts };
     let written = match read_known(rt.alloc(), text.as_slice()) {
         Ok(known) => written_part(rt, folder, shard, &named, &known, &options)?,
         Err(_) => return Err(io::Error::from(ErrorKind::InvalidData)),
     };
-    leave_part(rt, folder, number, written)
+    leave_part(rt, folder, part, written)
 }
 
 /// Checks the fonts of a part. What is written and told of them goes into files.
-fn written_part<'a>(
+fn written_part(
     rt: &HostRuntime,
     folder: &str,
     shard: Shard,
-    named: &'a Listed,
+    named: &Listed,
     known: &KnownFaults<'_>,
-    options: &'a Options,
-) -> io::Result<Written<Out<BufWriter<File>>, Out<BufWriter<File>>>> {
+    options: &Options,
+) -> io::Result<Written<Out<BufWriter<File>>, Out<BufWriter<File>>>>
+    requires first { 1 ≤ shard.part }
+    requires last { shard.part ≤ shard.parts }
+{
     let out = create(rt, folder, "out.", shard.part)?;
     let errors = create(rt, folder, "errors.", shard.part)?;
     let done = of_part(rt, folder, "done.", shard.part)?;
-    let reads_waivers = options.waivers == Waivers::Read;
-    let fonts = Fonts {
-        names: names_of_part(named.names.as_slice(), shard),
-        open_font: |name: &str| {
+    Ok(answer_part(
+        rt.alloc(),
+        options,
+        known,
+        named,
+        shard,
+        |name: &str| {
             count_font(rt, done.as_str());
             open_file(rt, name)
         },
-        open_waivers: |name: &str| open_waivers(rt, name, reads_waivers),
-    };
-    Ok(write_fonts(
-        rt.alloc(),
-        fonts,
-        selection(options, known),
-        output_of_part(options, named, shard),
+        |name: &str| open_waivers(rt, name),
         out,
         errors,
     ))
-}
-
-/// The output that the options ask for. What couldn't be listed belongs to the first part.
-fn output_of_part<'a>(options: &'a Options, named: &'a Listed, shard: Shard) -> Output<'a> {
-    let mut output = output_of(options, named);
-    if shard.part != 1 {
-        output.unlisted = Unlisted {
-            undecoded: 0,
-            passed_over: 0,
-            unsearched: &[],
-        };
-    }
-    output
 }
 
 /// Creates a file of a part.

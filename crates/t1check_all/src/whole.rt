@@ -27,7 +27,7 @@ pub(crate) fn answer_words<W: Write + Drop, E: Write + Drop>(
             list_folder: |folder: &str| list_folder(rt, folder),
         },
         open_font: |name: &str| open_file(rt, name),
-        open_waivers: |name: &str| open_waivers(rt, name, true),
+        open_waivers: |name: &str| open_waivers(rt, name),
     };
     let Ok(version) = version_line(rt.alloc()) else {
         let mut errors = errors;
@@ -62,7 +62,7 @@ pub(crate) fn check_fonts_of<W: Write + Drop, E: Write + Drop>(
                 &known,
                 fonts,
                 |name: &str| open_file(rt, name),
-                |name: &str| open_waivers(rt, name, true),
+                |name: &str| open_waivers(rt, name),
                 out,
                 errors,
             );
