@@ -10,11 +10,13 @@
 # - Each rule stands in all places that docs/ARCHITECTURE.md names for it; one that lacks rules is told with their codes. A file that has all
 #   of them is named there. The definitions in a rule's row of docs/RULES.md are in the files that stand behind them, and the first of them
 #   is cited where specs/ says what breaks the rule. Above each row in specs/ stands a source.
-# - Each word of the definitions that a clause of a public function cites stands, between backquotes, in the first column of a row of
-#   docs/DEFINITIONS.md, or in the last one of a rule's row in docs/RULES.md; and each word that stands in the former is defined. Left out is
-#   what docs/DEFINITIONS.md leaves out: words of laws and of private functions, and types that the code declares. Public are all functions
-#   of the program, and of a library those of the modules of which it hands on more than a constant. The words of private functions stand in
-#   specs/Private, and no definition elsewhere rests on them; there the relations of watchers and pens stand in Standing, with nothing else.
+# - Each word of the definitions that a clause of a public function cites has a row in docs/DEFINITIONS.md, or stands in the last column of a
+#   rule's row in docs/RULES.md, where the README's first promise rests on it: in the files that has_rows below takes. Of each other word that
+#   such a clause cites, the file that defines it is linked from docs/DEFINITIONS.md. Each word of a row is defined in the file that the row
+#   names, and that file is linked. Left out are words of laws and types that the code declares. Public are all functions of a program, and of
+#   a library those of the modules of which it hands on more than a constant; one that isn't handed on itself may cite words of private functions.
+#   These stand in specs/Private, and no definition elsewhere rests on them; there the relations of watchers and pens stand in Standing, with
+#   nothing else.
 # - The README's lines for an editor are lines of crates/example.
 # - Each link between the pages leads to a file, and to a heading where it names one. Each file of crates/, docs/ and tests/ that a page
 #   names is there.
@@ -372,11 +374,23 @@ list_public() {
     done
 }
 
-# The words that clauses of public functions cite: those that the file brings in from definitions, but for a function's own
-# parameters and for fields.
+# The words that clauses of public functions cite, each after the file that defines it, as `t1_seal/Cipher state_after`: those that a file of
+# code brings in from definitions, but for a function's own parameters and for fields. A function that its library doesn't hand on may cite
+# words of private functions.
 list_cited() {
     awk '
-        FNR == 1 { delete words; within = 0 }
+        # What the library of a file hands on; nothing of a program.
+        function handed_on(file,    line, using, all) {
+            sub(/\/src\/.*/, "/src/lib.rt", file)
+            while ((getline line <file) > 0) {
+                if (line ~ /^pub use /) using = 1
+                if (using) all = all " " line
+                if (line ~ /;$/) using = 0
+            }
+            close(file)
+            return all
+        }
+        FNR == 1 { delete words; within = 0; handed = handed_on(FILENAME) }
         /^ghost use / { using = ""; bringing = 1 }
         bringing {
             using = using " " $0
@@ -384,15 +398,32 @@ list_cited() {
             bringing = 0
             if (using !~ /use Rattle\.t1[a-z_]*\.specs\./ ||
                 using ~ /specs\.(declared|Laws|Private\.Standing)\./) next
+            file = using
+            sub(/^.*use Rattle\./, "", file)
+            sub(/\.[{].*$/, "", file)
+            sub(/\.specs\./, "/", file)
+            gsub(/\./, "/", file)
             sub(/^.*specs\.[A-Za-z.]*[{]?/, "", using)
             sub(/[}]?;$/, "", using)
             count = split(using, names, /, */)
-            for (i = 1; i <= count; i++) words[names[i]] = 1
+            for (i = 1; i <= count; i++) {
+                word = names[i]
+                sub(/ as .*/, "", word)
+                sub(/^.* as /, "", names[i])
+                words[names[i]] = file " " word
+            }
             next
         }
         /^pub trait / { trait = 1 }
         /^}/ { trait = 0 }
-        /^ *pub fn / || trait && /^ *fn / { within = 1; clause = 0; delete own }
+        /^ *pub fn / || trait && /^ *fn / {
+            within = 1
+            clause = 0
+            delete own
+            word = $3
+            sub(/[^a-z0-9_].*/, "", word)
+            inner = /^pub fn / && handed != "" && handed !~ ("[^a-z0-9_]" word "[,;} ]")
+        }
         within && /^ *(requires|ensures)/ { clause = 1 }
         within && (/^ *[{]$/ || !clause && /[{]$/ || /^$/) { within = 0 }
         !within { next }
@@ -404,39 +435,77 @@ list_cited() {
         {
             gsub(/[.][A-Za-z_]+/, "")
             count = split($0, names, /[^A-Za-z0-9_]+/)
-            for (i = 1; i <= count; i++) if (names[i] in words && !(names[i] in own)) print names[i]
+            for (i = 1; i <= count; i++)
+                if (names[i] in words && !(names[i] in own) && !(inner && words[names[i]] ~ /\/Private\//)) print words[names[i]]
         }
     ' "$@" | sort -u
 }
 
-# A word of specs/Private that a public contract cites has no row, and so is told.
-awk -F '|' '/^\|/ { print $2 }' "$top/docs/DEFINITIONS.md" | grep -o '`[^`]*`' | tr -d '`' | sort -u >"$scratch/defining"
+# Whether each definition of a file has a row of its own: those that the README's first promise rests on, but for views, which say what a
+# value of Rust holds.
+has_rows() {
+    case $1 in
+        *Views | t1_char/StepValues | t1_font/Entries) return 1 ;;
+        t1_seal/* | t1_scan/* | t1_font/* | t1_char/* | t1_rules/* | t1_report/* | t1_answer/* | t1_lines/Refusal*) return 0 ;;
+    esac
+    return 1
+}
+
+# The words of the rows of docs/DEFINITIONS.md, each after its file; and these with the words in the rows of docs/RULES.md.
+awk -F '|' '/^\| `/ {
+    file = $(NF - 1)
+    gsub(/[][ ]/, "", file)
+    count = split($2, words, "`")
+    for (i = 2; i < count; i += 2) print file, words[i]
+}' "$top/docs/DEFINITIONS.md" | sort -u >"$scratch/defining"
 {
     cat "$scratch/defining"
-    cut -d ' ' -f 3 "$scratch/definitions"
+    awk '{ file = $4; if (!sub(/^crates\//, "", file)) file = "t1_rules/" file; sub(/\/specs\//, "/", file); print file, $3 }' "$scratch/definitions"
 } | sort -u >"$scratch/listed"
+# The files of specs/ that docs/DEFINITIONS.md links: those of rows as `[t1_seal/Cipher]: ../crates/t1_seal/specs/Cipher.antt`, others in line.
+sed -n 's/^\[\(t1[a-z_]*\)\/\([A-Za-z\/]*\)\]: \.\.\/crates\/\1\/specs\/\2\.antt$/\1\/\2/p' "$top/docs/DEFINITIONS.md" >"$scratch/labels"
+{
+    cat "$scratch/labels"
+    grep -o '](\.\./crates/[^)]*\.antt)' "$top/docs/DEFINITIONS.md" | sed 's/^](\.\.\/crates\///; s/\/specs\//\//; s/\.antt)$//'
+} | grep -v '/Private/' | sort -u >"$scratch/linked"
 list_public >"$scratch/public"
+# A word of specs/Private that a public contract cites has no row, no link to its file counts, and so it is told.
 # shellcheck disable=SC2046
 list_cited $(cat "$scratch/public") >"$scratch/cited"
-while read -r word; do
-    if grep -qxF -e "$word" "$scratch/listed"; then
+while read -r file word; do
+    has_rows "$file" || continue
+    if grep -qxF -e "$file $word" "$scratch/listed"; then
         pass
     else
-        fail "docs/DEFINITIONS.md: no row begins with $word, which a contract cites"
+        fail "docs/DEFINITIONS.md: no row of $file begins with $word, which a contract cites"
     fi
 done <"$scratch/cited"
-[ "$(wc -l <"$scratch/cited")" -gt 100 ] || fail "the words of contracts aren't read: $(wc -l <"$scratch/cited")"
-# Definitions, their fields and cases, and types that the code declares.
-find "$top"/crates/*/specs -name '*.antt' -exec sed -n \
-    -e 's/^[a-z]* *pub record \([A-Za-z0-9_]*\).*/\1/p' -e 's/^[a-z]* *pub data \([A-Za-z0-9_]*\).*/\1/p' \
-    -e 's/^[a-z ]*pub \([A-Za-z0-9_]*\) :.*/\1/p' -e 's/^  \([A-Za-z0-9_]*\) :.*/\1/p' {} + >"$scratch/all"
-find "$top"/crates/*/src -name '*.rt' -exec sed -n 's/^pub[()a-z]* [a-z]* \([A-Z][A-Za-z]*\).*/\1/p' {} + >>"$scratch/all"
-sort -u "$scratch/all" >"$scratch/defined"
-while read -r word; do
-    if grep -qxF -e "$word" "$scratch/defined"; then
+cut -d ' ' -f 1 "$scratch/cited" | uniq >"$scratch/files"
+while read -r file; do
+    has_rows "$file" && continue
+    if grep -qxF -e "$file" "$scratch/linked"; then
         pass
     else
-        fail "docs/DEFINITIONS.md: nothing in crates/*/specs defines $word"
+        fail "docs/DEFINITIONS.md: no link leads to $file, whose words a contract cites:" \
+            "$(sed -n "s|^$file ||p" "$scratch/cited" | tr '\n' ' ' | sed 's/ $//')"
+    fi
+done <"$scratch/files"
+[ "$(wc -l <"$scratch/cited")" -gt 100 ] || fail "the words of contracts aren't read: $(wc -l <"$scratch/cited")"
+# Definitions, their fields and cases, each after its file.
+(cd "$top/crates" && find ./*/specs -name '*.antt' -exec awk '
+    FNR == 1 { file = FILENAME; sub(/^\.\//, "", file); sub(/\/specs\//, "/", file); sub(/\.antt$/, "", file) }
+    /^[a-z ]*pub [A-Za-z0-9_]+( |$)/ || /^  [A-Za-z0-9_]+ :/ {
+        sub(/^([a-z ]*pub )?(record |data )? */, "")
+        sub(/[^A-Za-z0-9_].*/, "")
+        print file, $0
+    }' {} +) | sort -u >"$scratch/defined"
+while read -r file word; do
+    if ! grep -qxF -e "$file" "$scratch/labels"; then
+        fail "docs/DEFINITIONS.md: the row of $word names $file, which isn't linked"
+    elif grep -qxF -e "$file $word" "$scratch/defined"; then
+        pass
+    else
+        fail "docs/DEFINITIONS.md: nothing in $file defines $word"
     fi
 done <"$scratch/defining"
 
@@ -472,7 +541,7 @@ anchors() {
     sed -n 's/^##* //p' "$1" | tr 'A-Z' 'a-z' | sed 's/[^a-z0-9 _-]//g; s/ /-/g'
 }
 
-for page in "$top/README.md" "$top"/docs/*.md; do
+for page in "$top/README.md" "$top/CONTRIBUTING.md" "$top"/docs/*.md; do
     grep -o '](\([^)]*\))' "$page" | sed 's/^](//; s/)$//' | sort -u >"$scratch/links"
     while IFS= read -r link; do
         case $link in http*) continue ;; esac
