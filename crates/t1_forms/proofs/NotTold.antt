@@ -1,4 +1,4 @@
--- A text that is no line and no reason, with a name in front and with none, isn't told.
+-- A text that is no line and no reason, with a name before it and with none, reports nothing.
 use Rattle.std.proofs.Common.{◌≡◌, ℕ, List, ◌++◌, Option, Some, None, Bool, true, false, true≢false, ap, codes}
 use Rattle.t1_lines.specs.Lines.{LineValue}
 use Rattle.t1_lines.specs.Readings.{IsReading}

@@ -1,4 +1,4 @@
--- What is told has an object that tells it again: so what is told differently has different objects.
+-- What is reported has an object that reports it again: so what is reported differently has different objects.
 use Rattle.std.proofs.Common.{◌≡◌, ◌==◌, ℕ, List, [], ◌∷◌, true, nat_lt, Option, Some, None, option_map, unwrap_or, codes, length, map, if◌then◌else◌, refl, sym, ap, ap₂, ◌∙◌}
 use Rattle.std.proofs.lemmas.Bool.{and_parts, ltb-true}
 use Rattle.std.specs.List.{list_all}

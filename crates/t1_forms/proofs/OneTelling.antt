@@ -1,4 +1,4 @@
--- A text has one reading as a line with a font's name in front or without: no line stands in another one.
+-- A text has one reading as a line with a font's name before it or without: no line is in another one.
 use Rattle.std.proofs.Common.{◌≡◌, ℕ, List, [], ◌∷◌, ◌++◌, Some, None, refl, sym, ap, arith}
 use Rattle.t1_lines.specs.Laws.{ATextIsOneLine, NoLineStandsInAnother}
 use Rattle.t1_lines.specs.Lines.{IsLine, LineValue, spelled}

@@ -11,7 +11,7 @@ use Rattle.t1_forms.specs.Sarif.{SarifState, after_result, count_of, counts_in, 
 use Rattle.t1_forms.specs.SarifDocuments.{CountsAreOfTheirUnits}
 use Rattle.t1_forms.specs.SarifObjects.{line_code, unit_of}
 
--- A place is one of the pages', or the one behind them.
+-- A place is one of the pages', or the one after them.
 within : (ps : List PageValue) (code : List ℕ) → place_among ps code ≤ length ps
 within [] code = omega arith
 within (p ∷ ps) code = elim (cases_Bool (bytes_eq p.code code)) [
@@ -29,7 +29,7 @@ place_within code = let at = within pages code in let all = page_length in omega
 none_counted : (code : List ℕ) → get_or no_counts (place_among pages code) 0 ≡ 0
 none_counted code = get_or-replicate (page_count + 1) (place_among pages code) 0 0 (place_within code)
 
--- Behind a result of the same unit its counts are gone on with.
+-- After a result of the same unit its counts continue.
 same_unit : (state : SarifState) (font : Option (List ℕ)) (l other : LineValue) → unit_of font other ≡ unit_of font l
     → counts_in (after_result state font other) (unit_of font l)
     ≡ slice_set (counts_in state (unit_of font l)) (place_among pages (line_code other)) (count_of state font other)

@@ -35,7 +35,7 @@ digit_below (suc n) e d h =
 pub all_digits : digits_below 16 ≡ true
 all_digits = refl
 
--- ---- what stands for a byte, or for a character
+-- ---- what means a byte, or a character
 
 plain : (b : ℕ) (rest : List ℕ) (name : List ℕ) → b ≢ 92 → name_behind nothing rest ≡ Some name → name_behind nothing (b ∷ rest) ≡ Some (b ∷ name)
 unfolding name_behind

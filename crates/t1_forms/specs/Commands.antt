@@ -9,7 +9,7 @@ use Rattle.t1_lines.specs.Lines.{of_fault, of_refusal}
 use Rattle.t1_forms.specs.Objects.{refusal_code_of, refusal_reason_of}
 use Rattle.t1_forms.specs.Tellings.{ToldValue, WhatValue, of_line, of_unchecked}
 
--- A byte of what a command shows. A line end would end the command, and `%` stands before the number of a byte.
+-- A byte of what a command shows. A line end would end the command, and `%` is before the number of a byte.
 abbrev pub message_byte : ℕ → List ℕ
 message_byte byte =
     if byte == 37 then codes "%25"
@@ -59,7 +59,7 @@ command kind font code text message =
     ++ (flat_map property_byte text
     ++ (codes "::" ++ (flat_map message_byte message ++ codes "\n")))))
 
--- What is told, with its line, as a command.
+-- What is reported, with its line, as a command.
 abbrev pub command_of : ToldValue → List ℕ → List ℕ
 command_of t line = command (command_kind t.what) t.font (title_code t.what) (title_text t.what) line
 

@@ -22,7 +22,7 @@ AreBytes name = AllByRecursion (λ byte. byte < 256) name
 abbrev pub ShownNamesAreWords : Type 0
 ShownNamesAreWords = (name : List ℕ) → AreBytes name → name_of_word (shown name) ≡ Some name
 
--- The names that are told are bytes.
+-- The names that are reported are bytes.
 abbrev pub IsPlaceOfBytes : PlaceValue → Type 0
 IsPlaceOfBytes (at_key key index) = Unit {0}
 IsPlaceOfBytes (at_step name path step) = AreBytes name
@@ -39,7 +39,7 @@ pub record IsOfBytes (t : ToldValue) : Type 0 where
   pub font : IfSome t.font AreBytes
   pub what : IsWhatOfBytes t.what
 
--- What is told differently has different objects.
+-- What is reported differently has different objects.
 abbrev pub DifferentTellingsHaveDifferentObjects : Type 0
 DifferentTellingsHaveDifferentObjects =
     (a b : ToldValue) → IsOfBytes a → IsOfBytes b → object_of a ≡ object_of b → a ≡ b

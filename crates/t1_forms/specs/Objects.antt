@@ -1,4 +1,4 @@
--- The object of JSON that a line stands for. `put` keeps the members in the order of their keys.
+-- The object of JSON that a line means. `put` keeps the members in the order of their keys.
 use Rattle.std.specs.Prelude.{ℕ, List, ◌++◌, codes, drop, take, map, Option, Some, None}
 use Rattle.serde_json.specs.Data.{Data, number, unsigned, string, array, object, Members, no_members, member, put}
 use Rattle.serde_json.specs.View.{items_of}
@@ -14,7 +14,7 @@ use Rattle.t1_lines.specs.RefusalTexts.{refusal_text_of}
 use Rattle.t1_forms.specs.Shown.{shown}
 use Rattle.t1_forms.specs.Tellings.{ToldValue, WhatValue, of_line, of_unchecked}
 
--- What is told of a refusal is its code, a blank and why.
+-- What is reported of a refusal is its code, a blank and why.
 abbrev pub refusal_code_of : RefusalCode → List ℕ
 refusal_code_of code = take 3 (refusal_text_of code)
 

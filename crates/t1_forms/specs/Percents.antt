@@ -1,16 +1,16 @@
--- Bytes that are written by their numbers behind a `%`, as commands and URIs write them: Uniform Resource Identifiers, RFC 3986, 2.1.
+-- Bytes that are written by their numbers after a `%`, as commands and URIs write them: Uniform Resource Identifiers, RFC 3986, 2.1.
 use Rattle.std.specs.Prelude.{ℕ, ◌+◌, ◌*◌, ◌==◌, if◌then◌else◌, List, [], ◌∷◌, Option, None, Some}
 use Rattle.std.specs.Option.{option_map_or}
 use Rattle.hex.specs.Hex.{hex_digit_value}
 use Rattle.t1_forms.specs.NameWords.{with_byte}
 
--- What is begun in front of a byte: nothing, `%`, or `%` and a digit of this value.
+-- What is begun before a byte: nothing, `%`, or `%` and a digit of this value.
 pub data Begun : Type 0 where
   nothing : Begun
   percent : Begun
   digit : ℕ → Begun
 
--- What bytes stand for behind what is begun; 37 is `%`.
+-- What bytes mean after what is begun; 37 is `%`.
 unfoldable pub decoded_behind : Begun → List ℕ → Option (List ℕ)
 decoded_behind nothing [] = Some []
 decoded_behind _ [] = None
@@ -20,6 +20,6 @@ decoded_behind percent (byte ∷ rest) = option_map_or (λ high. decoded_behind 
 decoded_behind (digit high) (byte ∷ rest) =
     option_map_or (λ low. with_byte (high * 16 + low) (decoded_behind nothing rest)) (hex_digit_value byte) None
 
--- What bytes stand for. `%` and two hexadecimal digits are the byte of that number; every other byte is itself.
+-- What bytes mean. `%` and two hexadecimal digits are the byte of that number; every other byte is itself.
 abbrev pub decoded : List ℕ → Option (List ℕ)
 decoded = decoded_behind nothing

@@ -1,4 +1,4 @@
--- A document of SARIF as it is written: what stands in front of all lines, what one line more adds, and what stands behind them all.
+-- A document of SARIF as it is written: what is before all lines, what one line more adds, and what is after them all.
 -- Static Analysis Results Interchange Format 2.1.0, 3.13, 3.14, 3.20.
 use Rattle.std.specs.Prelude.{ℕ, ◌+◌, ◌==◌, nat_lt, Bool, true, false, if◌then◌else◌, List, [], ◌∷◌, ◌++◌, codes, bytes_eq, replicate, slice_index, slice_set, Option, option_map, string_bytes}
 use Rattle.serde_json.specs.Written.{comma_if, compact_text}
@@ -36,15 +36,15 @@ sarif_state s = record {
 
 -- ---- runs
 
--- How many fonts that weren't checked a run tells of.
+-- How many fonts that weren't checked a run reports.
 abbrev pub most_failures : ℕ
 most_failures = 1000
 
--- What stands in front of the results of a run: the program and its rules.
+-- What is before the results of a run: the program and its rules.
 unfoldable pub run_begin : Option (List ℕ) → List ℕ
 run_begin docs = codes "{\"tool\":" ++ (compact_text (tool_object docs) ++ codes ",\"results\":[")
 
--- And behind them: whether each font was checked, and which were not.
+-- And after them: whether each font was checked, and which were not.
 abbrev pub truth : Bool → List ℕ
 truth is = if is then codes "true" else codes "false"
 
@@ -99,7 +99,7 @@ after_result state font l =
 
 -- ---- why a font wasn't checked
 
--- Where the run tells of as many fonts as it may, the next one begins.
+-- Where the run reports as many fonts as it may, the next one begins.
 abbrev pub with_room : SarifState → SarifState
 with_room state =
     if nat_lt state.failure_count most_failures then state
@@ -115,7 +115,7 @@ with_failure state text =
       failure_count = state.failure_count + 1;
     }
 
--- ---- what is told
+-- ---- what is reported
 
 -- What is written of it. Its line is spelled so.
 abbrev pub text_of_what : SarifState → Option (List ℕ) → WhatValue → List ℕ → List ℕ

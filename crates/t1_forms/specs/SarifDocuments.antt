@@ -38,11 +38,11 @@ separated_from later (d ∷ ds) = (comma_if later ++ compact_text d) ++ separate
 abbrev pub separated : List Data → List ℕ
 separated = separated_from false
 
--- A run behind its tool and its rules.
+-- A run after its tool and its rules.
 abbrev pub run_rest : Run → List ℕ
 run_rest run = separated run.results ++ run_end (length run.failures == 0) (separated run.failures)
 
--- Runs with commas between them, and what stands behind the last one.
+-- Runs with commas between them, and what is after the last one.
 abbrev pub runs_text : Bool → Option (List ℕ) → List Run → List ℕ
 runs_text later docs [] = codes "]}\n"
 runs_text later docs (run ∷ runs) = (comma_if later ++ run_begin docs) ++ (run_rest run ++ runs_text true docs runs)
@@ -59,7 +59,7 @@ result_of state font l = result_object font l (what_spelled (of_line l)) (finger
 abbrev pub notification_of : Option (List ℕ) → List ℕ → Data
 notification_of font reason = notification_object font (what_spelled (of_unchecked reason))
 
--- One telling more in the run that has these results and failures. A run tells of a thousand fonts that weren't checked, then the next one
+-- One telling more in the run that has these results and failures. A run reports a thousand fonts that weren't checked, then the next one
 -- begins.
 abbrev pub run_step : (SarifState → List Data → List Data → List Run) → SarifState → SarifState → List Data → List Data → Option (List ℕ) → WhatValue
     → List Run
@@ -68,12 +68,12 @@ run_step rest state after results failures font (of_unchecked reason) =
     if nat_lt (length failures) most_failures then rest after results (failures ++ notification_of font reason ∷ [])
     else record { results = results; failures = failures } ∷ rest after [] (notification_of font reason ∷ [])
 
--- The run that has these, and those behind it.
+-- The run that has these, and those after it.
 abbrev pub runs_from : List ToldValue → SarifState → List Data → List Data → List Run
 runs_from [] state results failures = record { results = results; failures = failures } ∷ []
 runs_from (t ∷ ts) state results failures = run_step (runs_from ts) state (after_one state t) results failures t.font t.what
 
--- The runs of a document that has told of these.
+-- The runs of a document that has reported these.
 abbrev pub runs_of : Option (List ℕ) → List ToldValue → List Run
 runs_of docs ts = runs_from ts (begun docs) [] []
 
@@ -91,7 +91,7 @@ abbrev pub unchecked_count : WhatValue → ℕ
 unchecked_count (of_line l) = 0
 unchecked_count (of_unchecked reason) = 1
 
--- All runs have as many results as there are lines of reports and refusals, and tell of as many fonts as weren't checked; each of a thousand
+-- All runs have as many results as there are lines of reports and refusals, and report as many fonts as weren't checked; each of a thousand
 -- at most.
 pub record IsCounted (runs : List Run) (ts : List ToldValue) : Type 0 where
   pub results : sum_by (λ run. length run.results) runs ≡ sum_by (λ t. line_count t.what) ts

@@ -1,5 +1,5 @@
 -- What a document of SARIF says of rules, of lines and of fonts that weren't checked, as objects of JSON: Static Analysis Results
--- Interchange Format 2.1.0, 3.49, 3.27 and 3.58. Members stand in the order of their keys.
+-- Interchange Format 2.1.0, 3.49, 3.27 and 3.58. Members are in the order of their keys.
 use Rattle.std.specs.Prelude.{ℕ, ◌/◌, ◌%◌, ◌==◌, ◌||◌, ◌&&◌, Bool, nat_lt, List, [], ◌∷◌, ◌++◌, codes, drop, map, Option, Some, None, if◌then◌else◌, unwrap_or}
 use Rattle.std.specs.Fmt.{decimal}
 use Rattle.std.specs.List.{flat_map}
@@ -68,7 +68,7 @@ tool_object docs =
 
 -- ---- places
 
--- A byte of a path in a URI: Uniform Resource Identifiers, RFC 3986, 2.1, 2.3 and 3.3. As it is stand letters, digits, `-`, `.`, `_`,
+-- A byte of a path in a URI: Uniform Resource Identifiers, RFC 3986, 2.1, 2.3 and 3.3. Written as they are: letters, digits, `-`, `.`, `_`,
 -- `~` and `/`; any other is `%NN`.
 abbrev pub is_letter_or_digit : ℕ → Bool
 is_letter_or_digit byte = nat_lt 47 byte && nat_lt byte 58 || (nat_lt 64 byte && nat_lt byte 91 || nat_lt 96 byte && nat_lt byte 123)
@@ -79,7 +79,7 @@ is_plain_in_uri byte = is_letter_or_digit byte || (byte == 45 || (byte == 46 || 
 abbrev pub uri_byte : ℕ → List ℕ
 uri_byte byte = if is_plain_in_uri byte then byte ∷ [] else 37 ∷ hexadecimal_digit (byte / 16) ∷ hexadecimal_digit (byte % 16) ∷ []
 
--- A font: its path, and line 1, since what shows results wants a line.
+-- A font: its path, and line 1, since what shows results needs a line.
 abbrev pub physical_location : List ℕ → Data
 physical_location font =
     object (member (codes "artifactLocation") (object (member (codes "uri") (string (flat_map uri_byte font)) no_members))
@@ -129,7 +129,7 @@ abbrev pub line_level : LineValue → List ℕ
 line_level (of_fault l) = sarif_level (level_of l.rule)
 line_level (of_refusal code) = codes "error"
 
--- What stands behind the first `: ` of a fault's line, which is its number's.
+-- What is after the first `: ` of a fault's line, which is its number's.
 abbrev pub behind_colon : List ℕ → List ℕ
 behind_colon [] = []
 behind_colon (byte ∷ rest) = if byte == 58 then drop 1 rest else behind_colon rest
@@ -139,7 +139,7 @@ abbrev pub line_message : LineValue → List ℕ → List ℕ
 line_message (of_fault l) line = shown (behind_colon line)
 line_message (of_refusal code) line = shown line
 
--- The unit that a line speaks of, behind the font's name.
+-- The unit that a line speaks of, after the font's name.
 abbrev pub place_unit : PlaceValue → List ℕ
 place_unit (at_key key index) = codes " font " ++ key_text_of key
 place_unit (at_step name path step) = codes " glyph " ++ shown name

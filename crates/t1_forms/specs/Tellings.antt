@@ -1,4 +1,4 @@
--- What is told of fonts in a line, and how it is spelled.
+-- What is reported of fonts in a line, and how it is spelled.
 use Rattle.std.specs.Prelude.{◌≡◌, ℕ, List, [], ◌∷◌, ◌++◌, codes, Option, Some, None, option_map}
 use Rattle.std.specs.List.{concat}
 use Rattle.t1_lines.specs.Lines.{LineValue, IsLine, line_value, spelled}
@@ -43,7 +43,7 @@ abbrev pub IsWhat : WhatValue → Type 0
 IsWhat (of_line l) = IsLine l
 IsWhat (of_unchecked reason) = Unit {0}
 
--- What was read of a text: a line that is spelled so, and where t1check's own line stands.
+-- What was read of a text: a line that is spelled so, and where t1check's own line is.
 pub record IsToldAs (whole : List ℕ) (t : Told) : Type 0 where
   pub what : IsWhat (what_value t.what)
   pub line : t.line.now ≡ what_spelled (what_value t.what)

@@ -19,7 +19,7 @@ pub fn shown_names_are_words()
     ensures { ShownNamesAreWords }
 {}
 
-/// What is told differently has different objects: an object tells again which font, which place and which rule it is of, or which
+/// What is reported differently has different objects: an object says again which font, which place and which rule it is of, or which
 /// refusal, or why the font wasn't checked.
 pub fn different_tellings_have_different_objects()
     ensures { DifferentTellingsHaveDifferentObjects }

@@ -1,5 +1,5 @@
 //! The lines of t1check and t1check-all in the forms that other programs read: lines of JSON, SARIF 2.1.0, and the commands
-//! by which a workflow of GitHub is told of a fault.
+//! by which a workflow of GitHub reports a fault.
 //!
 //! [`read_told`] reads a line: that of one font, or with the font's name in front, or why a font wasn't checked. [`write_object`]
 //! writes it as an object in a line of its own, [`Sarif`] as a result in a document, [`write_command`] as a command.
@@ -8,7 +8,7 @@
 //!
 //! - What is read is spelled as the line is, and a line that is spelled so is read. Whatever the font's name, a text is that of
 //!   one line at most.
-//! - The line of JSON is the compact text of the object that the line read stands for, and nothing else. What is told differently
+//! - The line of JSON is the compact text of the object that the line read means, and nothing else. What is reported differently
 //!   has different objects.
 //! - A command of GitHub is the text that its definition says. What it shows stays in its place, and is read back as it was.
 //! - A document of SARIF is the text that its definition says: runs, each with the rules, a result for each line, and the fonts that

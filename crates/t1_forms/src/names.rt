@@ -1,4 +1,4 @@
-//! Names as text: those of fonts and glyphs are bytes, and JSON wants UTF-8.
+//! Names as text: those of fonts and glyphs are bytes, and JSON needs UTF-8.
 
 ghost use Rattle.std.specs.Prelude.{◌≡◌, ◌<◌, ◌++◌, IfOk, OnOk, string_bytes};
 ghost use Rattle.std.specs.Str.{chars};

@@ -23,7 +23,7 @@ pub(crate) fn refusal_code(code: RefusalCode) -> &'static [u8]
     &refusal_text(code).as_bytes()[..3]
 }
 
-/// What is told of a refusal behind its code.
+/// What is reported of a refusal after its code.
 pub(crate) fn refusal_reason(code: RefusalCode) -> &'static [u8]
     ensures { result.now ≡ refusal_reason_of code }
 {
@@ -171,7 +171,7 @@ fn fault_members(alloc: Global, fault: &FaultLine<'_>) -> Result<Map<String, Val
     }
 }
 
-/// The members of what is told, without the font's name.
+/// The members of what is reported, without the font's name.
 fn what_members(alloc: Global, what: &What<'_>) -> Result<Map<String, Value>, AllocError>
     ensures { IfOk result (λ m. members_view m.entries ≡ what_members (what_value what.now)) }
 {
@@ -217,7 +217,7 @@ fn what_members(alloc: Global, what: &What<'_>) -> Result<Map<String, Value>, Al
     Ok(members)
 }
 
-/// The object that a line stands for.
+/// The object that a line means.
 ///
 /// Its members: `unit` (`font`, `glyph`, `waiver`, `refused`, `unchecked`) and `text`; `file`, the font's name, where there is
 /// one; of a fault `number`, `code` and `level`, of a refusal `code` and `level`; in the font `key` and `index`, in a glyph `name`,
@@ -241,7 +241,7 @@ fn object_line(alloc: Global, told: &Told<'_>) -> Result<String, AllocError>
     Ok(text)
 }
 
-/// Writes the object that a line stands for, without blanks, and byte 10.
+/// Writes the object that a line means, without blanks, and byte 10.
 pub fn write_object<W: Sink>(
     alloc: Global,
     sink: &mut W,

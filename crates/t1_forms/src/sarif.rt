@@ -17,15 +17,15 @@ use std::alloc::{AllocError, Global};
 use t1_io::{Sink, put_all};
 use t1_lines::Line;
 
-/// How many fonts that weren't checked one run of the document tells of. Behind them the next run begins.
+/// How many fonts that weren't checked one run of the document reports. After them the next run begins.
 const MOST_FAILURES: usize = 1000;
 
-/// The places of codes among the pages, and one behind them for a code that has none.
+/// The places of codes among the pages, and one after them for a code that has none.
 const PLACES: usize = COUNT + 1;
 
 /// A document that is being written.
 ///
-/// A result is written as soon as its line is read. What couldn't be checked stands behind the results in SARIF, so it is kept
+/// A result is written as soon as its line is read. What couldn't be checked is after the results in SARIF, so it is kept
 /// until there; after a thousand of these a run is closed and another one begun.
 #[derive(Drop)]
 pub struct Sarif<'a> {
@@ -42,7 +42,7 @@ pub struct Sarif<'a> {
     failure_count: usize,
 }
 
-/// What stands in front of the results of a run.
+/// What is before the results of a run.
 #[tactic(auto, unfolding(crate::specs::Sarif::run_begin))]
 fn run_begin(alloc: Global, docs: Option<&str>) -> Result<String, AllocError>
     ensures { IfOk result (λ s. string_bytes s ≡ run_begin (option_map (λ docs. docs.now) docs.entry)) }
@@ -54,7 +54,7 @@ fn run_begin(alloc: Global, docs: Option<&str>) -> Result<String, AllocError>
     Ok(text)
 }
 
-/// What stands behind the results of a run.
+/// What is after the results of a run.
 fn run_end(alloc: Global, successful: bool, failures: &str) -> Result<String, AllocError>
     ensures { IfOk result (λ s. string_bytes s ≡ run_end successful failures.now) }
 {
@@ -66,7 +66,7 @@ fn run_end(alloc: Global, successful: bool, failures: &str) -> Result<String, Al
     Ok(text)
 }
 
-/// What stands in front of all lines.
+/// What is before all lines.
 fn opening(alloc: Global, docs: Option<&str>) -> Result<String, AllocError>
     ensures { IfOk result (λ s. string_bytes s ≡ opening (option_map (λ docs. docs.now) docs.entry)) }
 {
@@ -79,7 +79,7 @@ fn opening(alloc: Global, docs: Option<&str>) -> Result<String, AllocError>
     Ok(text)
 }
 
-/// A text, with a comma in front where something stands before it.
+/// A text, with a comma before it where something precedes it.
 fn separated(alloc: Global, later: bool, text: &str) -> Result<String, AllocError>
     ensures { IfOk result (λ s. string_bytes s ≡ comma_if later ++ text.now) }
 {
@@ -146,7 +146,7 @@ impl<'a> Sarif<'a> {
         separated(alloc, later, result.as_str())
     }
 
-    /// Where the run tells of as many fonts as it may, the text that ends it and begins the next one.
+    /// Where the run reports as many fonts as it may, the text that ends it and begins the next one.
     fn make_room(&mut self, alloc: Global) -> Result<String, AllocError>
         ensures text { IfOk result (λ s. string_bytes s ≡ room_text (sarif_state self.old)) }
         ensures state { OnOk result (sarif_state self.new ≡ with_room (sarif_state self.old)) }
@@ -193,7 +193,7 @@ impl<'a> Sarif<'a> {
         Ok(text)
     }
 
-    /// The text that is written of what is told.
+    /// The text that is written of what is reported.
     fn telling(&mut self, alloc: Global, told: &Told<'_>) -> Result<String, AllocError>
         ensures text { IfOk result (λ s. string_bytes s ≡ telling_text (sarif_state self.old) (told_value told.now) told.now.line.now) }
         ensures state { OnOk result (sarif_state self.new ≡ after_telling (sarif_state self.old) (told_value told.now) told.now.line.now) }

@@ -8,7 +8,7 @@ pub fn documents_are_of_their_runs()
     ensures { DocumentsAreOfTheirRuns }
 {}
 
-/// All runs have as many results as lines were told, and tell of as many fonts as weren't checked; each run of a thousand at most.
+/// All runs have as many results as lines were reported, and report as many fonts as weren't checked; each run of a thousand at most.
 pub fn all_is_told_in_documents()
     ensures { AllIsTold }
 {}

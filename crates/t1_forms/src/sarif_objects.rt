@@ -159,7 +159,7 @@ pub(crate) fn tool_text(alloc: Global, docs: Option<&str>) -> Result<String, All
     Ok(text)
 }
 
-/// The place of a code among the pages; behind them all where it has none.
+/// The place of a code among the pages; after them all where it has none.
 pub(crate) fn place_of(code: &[u8]) -> usize
     ensures place { result ≡ place_among pages code.now }
     ensures bound { result ≤ COUNT }
@@ -181,14 +181,14 @@ fn place_among(pages: &[&'static Page], code: &[u8]) -> usize
     place
 }
 
-/// Whether a byte of a path stands in a URI as it is: Uniform Resource Identifiers, RFC 3986, 2.3 and 3.3.
+/// Whether a byte of a path is in a URI as it is: Uniform Resource Identifiers, RFC 3986, 2.3 and 3.3.
 fn is_plain_in_uri(byte: u8) -> bool
     ensures { result ≡ is_plain_in_uri byte }
 {
     byte.is_ascii_alphanumeric() || matches!(byte, b'-' | b'.' | b'_' | b'~' | b'/')
 }
 
-/// A byte of a path as it stands in a URI: Uniform Resource Identifiers, RFC 3986, 2.1.
+/// A byte of a path as it is in a URI: Uniform Resource Identifiers, RFC 3986, 2.1.
 fn push_uri_byte(uri: &mut String, byte: u8) -> Result<(), AllocError>
     ensures { OnOk result (string_bytes uri.new ≡ string_bytes uri.old ++ uri_byte byte) }
 {
@@ -211,7 +211,7 @@ fn uri(alloc: Global, path: &[u8]) -> Result<String, AllocError>
     Ok(uri)
 }
 
-/// Where a font stands: its path, and line 1, since what shows results wants a line.
+/// Where a font is: its path, and line 1, since what shows results needs a line.
 fn physical_location(alloc: Global, font: &[u8]) -> Result<Value, AllocError>
     ensures { IfOk result (λ v. view v ≡ physical_location font.now) }
 {
@@ -367,7 +367,7 @@ fn line_level(line: &Line<'_>) -> &'static str
     }
 }
 
-/// What stands behind the first colon and one byte more.
+/// What is after the first colon and one byte more.
 fn behind_colon(line: &[u8]) -> &[u8]
     ensures { result.now ≡ behind_colon line.now }
 {
@@ -394,7 +394,7 @@ fn line_message(alloc: Global, line: &Line<'_>, text: &[u8]) -> Result<String, A
     }
 }
 
-/// The unit of a fault, behind the font's name.
+/// The unit of a fault, after the font's name.
 fn place_unit(alloc: Global, place: &Place<'_>) -> Result<String, AllocError>
     ensures { IfOk result (λ s. string_bytes s ≡ place_unit (place_value place.now)) }
 {
@@ -411,7 +411,7 @@ fn place_unit(alloc: Global, place: &Place<'_>) -> Result<String, AllocError>
     }
 }
 
-/// The unit of a line, behind the font's name.
+/// The unit of a line, after the font's name.
 fn line_unit(alloc: Global, line: &Line<'_>) -> Result<String, AllocError>
     ensures { IfOk result (λ s. string_bytes s ≡ line_unit (line_value line.now)) }
 {

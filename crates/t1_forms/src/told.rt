@@ -1,4 +1,4 @@
-//! What is told of fonts, read line by line.
+//! What is reported of fonts, read line by line.
 
 ghost use Rattle.std.specs.Prelude.{◌≡◌, ℕ, List, ◌∷◌, ◌++◌, codes, IfSome, IfNone};
 ghost use Rattle.t1_io.specs.Devices.{Writes};
@@ -9,30 +9,30 @@ ghost use Rattle.t1_forms.specs.Private.Searches.{IsLineBehind, IsOfLine, NoLine
 use t1_io::{Broken, Sink, put_parts};
 use t1_lines::{Line, read};
 
-/// What stands in front of the reason why a font wasn't checked.
+/// The prefix of the reason why a font wasn't checked.
 const UNCHECKED: &[u8] = b"t1check: ";
 
-/// What is told in a line.
+/// What is reported in a line.
 #[derive(Debug, PartialEq, Eq, Drop)]
 pub struct Told<'a> {
-    /// The font's name, which stands in front of `: `; none where t1check's own line stands alone.
+    /// The font's name, which is before `: `; none where t1check's own line is alone.
     pub font: Option<&'a [u8]>,
-    /// What t1check tells of the font.
+    /// What t1check reports of the font.
     pub what: What<'a>,
-    /// The line of t1check, which stands behind the font's name.
+    /// The line of t1check, which is after the font's name.
     pub line: &'a [u8],
 }
 
-/// What t1check tells of a font.
+/// What t1check reports of a font.
 #[derive(Debug, PartialEq, Eq, Drop)]
 pub enum What<'a> {
     /// A fault, a waiver that isn't used, or a refusal.
     Line(Line<'a>),
-    /// Why the font wasn't checked, which stands behind `t1check: `.
+    /// Why the font wasn't checked, which is after `t1check: `.
     Unchecked(&'a [u8]),
 }
 
-/// What stands behind a colon and a blank.
+/// What is after a colon and a blank.
 fn behind_colon(text: &[u8]) -> Option<&[u8]>
     ensures some { IfSome result (λ line. text.now ≡ 58 ∷ 32 ∷ line.now) }
     ensures none { IfNone result ((line : List ℕ) → ¬ (58 ∷ 32 ∷ line ≡ text.now)) }
@@ -43,7 +43,7 @@ fn behind_colon(text: &[u8]) -> Option<&[u8]>
     }
 }
 
-/// A line of t1check behind a colon and a blank, as it is read and as it stands there.
+/// A line of t1check after a colon and a blank, as it is read and as it is written there.
 fn line_behind(text: &[u8]) -> Option<(Line<'_>, &[u8])>
     ensures some { IfSome result (λ p. IsLineBehind text.now (line_value p.0) p.1.now) }
     ensures none { IfNone result ((l : LineValue) → IsLine l → ¬ (58 ∷ 32 ∷ spelled l ≡ text.now)) }
@@ -53,7 +53,7 @@ fn line_behind(text: &[u8]) -> Option<(Line<'_>, &[u8])>
     Some((read, line))
 }
 
-/// The line of t1check behind the name of a font.
+/// The line of t1check after the name of a font.
 fn line_of_font(text: &[u8]) -> Option<Told<'_>>
     ensures some { IfSome result (λ t. IsToldAs text.now t × IsOfLine t) }
     ensures none { IfNone result (NoLine text.now) }
@@ -84,7 +84,7 @@ fn reason_in(line: &[u8]) -> Option<&[u8]>
     }
 }
 
-/// Such a line behind a colon and a blank, and its reason.
+/// Such a line after a colon and a blank, and its reason.
 fn reason_behind(text: &[u8]) -> Option<(&[u8], &[u8])>
     ensures some { IfSome result (λ p. (text.now ≡ 58 ∷ 32 ∷ p.0.now) × (p.0.now ≡ codes "t1check: " ++ p.1.now)) }
     ensures none { IfNone result ((reason : List ℕ) → ¬ (58 ∷ 32 ∷ (codes "t1check: " ++ reason) ≡ text.now)) }
@@ -94,7 +94,7 @@ fn reason_behind(text: &[u8]) -> Option<(&[u8], &[u8])>
     Some((line, reason))
 }
 
-/// The reason behind the name of a font. The name is as long as can be, since a reason names no font.
+/// The reason after the name of a font. The name is as long as can be, since a reason names no font.
 fn reason_of_font(text: &[u8]) -> Option<Told<'_>>
     ensures some { IfSome result (IsToldAs text.now) }
     ensures none { IfNone result (NoReason text.now) }
@@ -142,7 +142,7 @@ pub fn read_told(text: &[u8]) -> Option<Told<'_>>
     })
 }
 
-/// Tells that what has this name wasn't checked, as `NAME: t1check: REASON`.
+/// Prints that what has this name wasn't checked, as `NAME: t1check: REASON`.
 pub fn tell_unchecked<W: Sink>(sink: &mut W, name: &str, reason: &str) -> Result<(), Broken>
     ensures { Writes (W.state sink.old) (W.state sink.new) (unchecked_line name.now reason.now) result }
 {

@@ -35,7 +35,7 @@ KeepsLine old new groups None = IsSilent old new × (new.groups ≡ groups)
 KeepsLine old new groups (Some Device) = ⊥
 KeepsLine old new groups (Some Memory) = IsSilent old new
 
--- That a font wasn't checked was told on standard error, and then a text was put; or standard error failed.
+-- That a font wasn't checked was printed on standard error, and then a text was put; or standard error failed.
 pub data TellsUnchecked (writing : Writing) (old new : Grouping) (name reason : List ℕ) (lost : Option Lost) : Type 0 where
   told :
       Wrote old.errors new.errors (unchecked_line name reason) → IsTextPut old.out new.out (writing.unchecked name reason) lost

@@ -12,7 +12,7 @@ use Rattle.t1_rules.specs.declared.rule.Rule.{Rule}
 abbrev pub CountsSumToLines : Type 0
 CountsSumToLines = (held : List HeldLine) → sum_by (λ rule. length (units_of rule held)) rules ≡ length held
 
--- Each line is in the group of its rule, behind those before it.
+-- Each line is in the group of its rule, after those before it.
 abbrev pub LinesAreInTheirGroups : Type 0
 LinesAreInTheirGroups =
     (before after : List HeldLine) (l : HeldLine)

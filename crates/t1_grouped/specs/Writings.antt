@@ -55,13 +55,13 @@ abbrev pub text_after : Wording → List HeldLine → List Handed → List ℕ
 text_after wording held [] = []
 text_after wording held (handed ∷ more) = text_of_one wording held handed ++ text_after wording (held_after held handed) more
 
--- One text was written, and another told; or a prefix of each was, since memory ran out or a device failed.
+-- One text was written, and another reported; or a prefix of each was, since memory ran out or a device failed.
 abbrev pub IsWritten : Grouping → Grouping → List ℕ → List ℕ → Option Lost → Type 0
 IsWritten old new text told None = Appends old.out.written new.out.written text × Appends old.errors.written new.errors.written told
 IsWritten old new text told (Some lost) =
     AppendsFront old.out.written new.out.written text × AppendsFront old.errors.written new.errors.written told
     × ((lost ≡ Memory) ⊎ (new.out.failed ≡ true) ⊎ (new.errors.failed ≡ true))
 
--- All of these was written, and told as the plain form tells it.
+-- All of these was written, and reported as in the plain form.
 abbrev pub AreWritten : Wording → Grouping → Grouping → List Handed → Option Lost → Type 0
 AreWritten wording old new handed lost = IsWritten old new (text_after wording [] handed) (tellings handed) lost

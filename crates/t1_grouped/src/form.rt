@@ -45,7 +45,7 @@ pub trait GroupForm {
     ) -> Result<(), Lost>
         ensures { IsTextPut (W.state sink.old) (W.state sink.new) ((writing self.now).refusal name.now code) (lost_of result) };
 
-    /// Writes why the font of this name wasn't checked, which was told on standard error.
+    /// Writes why the font of this name wasn't checked, which was printed on standard error.
     fn put_unchecked<W: Sink>(
         &self,
         alloc: Global,

@@ -22,7 +22,7 @@ use t1_run::Failure;
 use t1_summary::Found;
 
 /// Keeps the lines of a font in groups, and writes these once the font is done. A refusal is written, and why a font wasn't checked is also
-/// told on standard error, first. After each font the output is flushed.
+/// printed on standard error, first. After each font the output is flushed.
 #[derive(Drop)]
 pub struct Grouped<T: GroupForm, W: Sink, E: Sink> {
     /// How groups are written.
@@ -61,7 +61,7 @@ impl<T: GroupForm, W: Sink, E: Sink> Grouped<T, W, E> {
         (self.form, self.out, self.errors)
     }
 
-    /// Tells on standard error that what has this name wasn't checked, as `NAME: t1check: REASON`, and then writes what the form writes of
+    /// Prints on standard error that what has this name wasn't checked, as `NAME: t1check: REASON`, and then writes what the form writes of
     /// it.
     pub fn unchecked(&mut self, name: &str, reason: &str) -> Result<(), Lost>
         ensures told { TellsUnchecked (T.writing self.old.form)

@@ -32,8 +32,8 @@ pub fn lines_fit_terminals()
     ensures most { NoMoreNamesFit }
 {}
 
-/// What is handed on is written on a terminal, a line for each font and rule, and told as the plain form tells it. Where a device fails, or
-/// memory runs out, a front of it was.
+/// What is handed on is written on a terminal, a line for each font and rule, and reported as in the plain form. Where a device fails, or
+/// memory runs out, a prefix of it was.
 pub fn terminal_lines_are_written<W: Sink, E: Sink>()
     ensures { (old new : GroupedValue TerminalValue W E) (handed : List Handed) (lost : Option LostValue) → old.groups ≡ None
         → HandsOn ⟦<Grouped<Terminal, W, E> as Form>⟧.takes old new handed lost
@@ -42,8 +42,8 @@ pub fn terminal_lines_are_written<W: Sink, E: Sink>()
         (record { out = W.state new.out; errors = E.state new.errors; groups = values_of old.form.width new.groups }) handed lost }
 {}
 
-/// What is handed on is written as commands of GitHub, one for each font and rule, and told as the plain form tells it. Where a device fails,
-/// or memory runs out, a front of it was.
+/// What is handed on is written as commands of GitHub, one for each font and rule, and reported as in the plain form. Where a device fails,
+/// or memory runs out, a prefix of it was.
 pub fn group_commands_are_written<W: Sink, E: Sink>()
     ensures { (old new : GroupedValue GitHubValue W E) (handed : List Handed) (lost : Option LostValue) → old.groups ≡ None
         → HandsOn ⟦<Grouped<GitHubGroups, W, E> as Form>⟧.takes old new handed lost

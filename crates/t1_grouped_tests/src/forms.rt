@@ -33,7 +33,7 @@ fn open_waivers<'a>(_name: &str) -> Option<io::Result<In<&'a [u8]>>> {
     None
 }
 
-/// Tells P01, P02, P03 and Z05 of fonts, one of each level and one of keys.
+/// Reports P01, P02, P03 and Z05 of fonts, one of each level and one of keys.
 fn tell<T: GroupForm + Drop, W: Sink + Drop, E: Sink + Drop>(
     alloc: Global,
     files: &[File<'_>],
@@ -186,7 +186,7 @@ f.pfb: P03 closepath without a path \xc3\x97 10: \\x1B1, \\xE9 \xe2\x80\xa6 and 
     Ok(())
 }
 
-/// A line is coloured by the level of its rule, a refusal as must; what is told on standard error isn't. Lines at one key are one run.
+/// A line is coloured by the level of its rule, a refusal as must; what is printed on standard error isn't. Lines at one key are one run.
 #[test]
 fn shows_levels_by_colours(rt: HostRuntime) -> Result<(), Fail> {
     let faulty = font(rt.alloc(), &[b"A"])?;
@@ -280,7 +280,7 @@ fn stops_where_the_output_fails(rt: HostRuntime) -> Result<(), Fail> {
     Ok(())
 }
 
-/// What isn't a font that was checked is told of too, as a folder that can't be searched: on a terminal on standard error alone.
+/// What isn't a font that was checked is reported too, as a folder that can't be searched: on a terminal on standard error alone.
 #[test]
 fn tells_what_was_not_checked(rt: HostRuntime) -> Result<(), Fail> {
     let mut text = Vec::new(rt.alloc());

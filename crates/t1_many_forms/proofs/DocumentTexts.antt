@@ -1,4 +1,4 @@
--- What is written as a document, and told, of things that are handed on.
+-- What is written as a document, and reported, of things that are handed on.
 use Rattle.std.proofs.Common.{◌≡◌, ◌⊎◌, ℕ, true, List, [], ◌∷◌, ◌++◌, Option, None, Some, inl, inr, refl, sym, ap, subst, ◌∙◌, append_assoc, append-nil}
 use Rattle.std.proofs.KnownBytes.{Appends-nil, Appends-trans}
 use Rattle.std.specs.Io.KnownBytes.{Appends}
@@ -37,7 +37,7 @@ parts state (t ∷ ts) us =
 
 -- ---- one thing
 
--- It was written, kept and told, or fronts of it were written and told where it stopped.
+-- It was written, kept and reported, or prefixes of it were written and reported where it stopped.
 abbrev IsOne : Formatting Sarif → Formatting Sarif → List ToldValue → List ℕ → Option Lost → Type 0
 IsOne old new values tells None =
     Appends old.out.written new.out.written (part_text (sarif_state old.formatter) values)

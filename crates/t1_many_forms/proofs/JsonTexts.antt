@@ -1,4 +1,4 @@
--- What is written as lines of JSON, and told, of things that are handed on.
+-- What is written as lines of JSON, and reported, of things that are handed on.
 use Rattle.std.proofs.Common.{◌≡◌, ◌⊎◌, ℕ, true, List, [], ◌∷◌, ◌++◌, Option, None, Some, inl, inr, refl, sym, ap, subst, ◌∙◌, append_assoc, append-nil}
 use Rattle.std.proofs.KnownBytes.{Appends-kept, Appends-nil, Appends-trans}
 use Rattle.std.proofs.lemmas.Option.{none-some}
@@ -59,7 +59,7 @@ out-given old new value lost (no_memory is formatter same) =
 
 -- ---- one thing
 
--- It was written and told, or fronts of it where it stopped.
+-- It was written and reported, or prefixes of it where it stopped.
 abbrev IsOne : Formatting JsonLines → Formatting JsonLines → Handed → Option Lost → Type 0
 IsOne old new handed None =
     Appends old.out.written new.out.written (object_text handed) × Appends old.errors.written new.errors.written (told_of handed)

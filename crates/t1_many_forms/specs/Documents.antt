@@ -21,7 +21,7 @@ abbrev pub IsKept : SarifState → SarifState → Option Lost → Type 0
 IsKept now state None = now ≡ state
 IsKept now state (Some lost) = Unit {0}
 
--- What a document has of what is told was put, and is kept.
+-- What a document has of what is reported was put, and is kept.
 abbrev pub telling_written : Sarif → Sarif → SinkState → SinkState → ToldValue → Option Lost → Type 0
 telling_written document after old new told lost =
     IsLinePut old new (telling_text (sarif_state document) told (what_spelled told.what)) lost
@@ -31,7 +31,7 @@ telling_written document after old new told lost =
 abbrev pub end_written : Sarif → SinkState → SinkState → Option Lost → Type 0
 end_written document old new lost = IsLinePut old new (closing (sarif_state document)) lost
 
--- What is told of a thing that is handed on; how a font was found is told of none.
+-- What is reported of a thing that is handed on; how a font was found is reported of none.
 abbrev pub failure_value : List ℕ → Failure → ToldValue
 failure_value name (failures.Refused code) = told_refusal name code
 failure_value name failures.Broken = told_unchecked name read_failed
@@ -45,8 +45,8 @@ values_of (done name found) = []
 abbrev pub all_values : List Handed → List ToldValue
 all_values handed = flat_map values_of handed
 
--- What was written of all of these, and then what ends the document, is the text of what they tell; and each was told as the plain form tells
--- it. Or a front of it was, since memory ran out or a device failed.
+-- What was written of all of these, and then what ends the document, is the text of what they report; and each was reported as in the plain
+-- form. Or a prefix of it was, since memory ran out or a device failed.
 abbrev pub IsDocumentOf : Formatting Sarif → Formatting Sarif → List Handed → Option Lost → Type 0
 IsDocumentOf old new handed None =
     ((text : List ℕ) × (text ++ closing (sarif_state new.formatter) ≡ tellings_text (sarif_state old.formatter) (all_values handed))

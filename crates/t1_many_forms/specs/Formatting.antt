@@ -1,4 +1,4 @@
--- What is given to a formatter of things that are handed on, and what is told on standard error.
+-- What is given to a formatter of things that are handed on, and what is printed on standard error.
 use Rattle.std.specs.Prelude.{◌≡◌, ℕ, List, codes, Option, Some}
 use Rattle.t1_font.specs.Fonts.{FontValue}
 use Rattle.t1_forms.specs.Tellings.{ToldValue, of_line, of_unchecked, unchecked_line, what_spelled, what_value}
@@ -15,11 +15,11 @@ use Rattle.t1_report.specs.Waivers.{Waiver}
 use Rattle.t1_run.specs.declared.failure.Failure.{Failure}
 use Rattle.t1_run.specs.declared.failure.Failure.TheVariants as failures
 
--- Beside what is told stands its line, as it is spelled.
+-- Beside what is reported is its line, as it is spelled.
 abbrev pub HasItsLine : Told → Type 0
 HasItsLine told = told.line.now ≡ what_spelled (what_value told.what)
 
--- What is told of the font of a name: the line of a fault, a refusal, or why it wasn't checked.
+-- What is reported of the font of a name: the line of a fault, a refusal, or why it wasn't checked.
 abbrev pub told_fault : List ℕ → FontValue → List Waiver → FaultValue → ToldValue
 told_fault name font waivers fault = record { font = Some name; what = of_line (of_fault (line_in font waivers fault)) }
 
@@ -50,7 +50,7 @@ pub data Gives {T : Type 0} (writes : T → T → SinkState → SinkState → To
   given : writes old.formatter new.formatter old.out new.out told lost → Gives writes old new told lost
   no_memory : lost ≡ Some Memory → new.formatter ≡ old.formatter → new.out ≡ old.out → Gives writes old new told lost
 
--- That a font wasn't checked was told on standard error, and then given; or standard error failed.
+-- That a font wasn't checked was printed on standard error, and then given; or standard error failed.
 pub data GivesUnchecked {T : Type 0} (writes : T → T → SinkState → SinkState → ToldValue → Option Lost → Type 0) (old new : Formatting T)
     (name reason : List ℕ) (lost : Option Lost) : Type 0 where
   told :

@@ -19,7 +19,7 @@ IsLinePut old new text None = Wrote old new text
 IsLinePut old new text (Some Device) = PutFailed old new text
 IsLinePut old new text (Some Memory) = new ≡ old
 
--- The object of what is told was put.
+-- The object of what is reported was put.
 abbrev pub object_written : {T : Type 0} → T → T → SinkState → SinkState → ToldValue → Option Lost → Type 0
 object_written formatter after old new told lost = IsLinePut old new (object_line told) lost
 
@@ -38,7 +38,7 @@ object_text (done name found) = []
 abbrev pub objects : List Handed → List ℕ
 objects handed = flat_map object_text handed
 
--- All of these was written, and told as the plain form tells it; or a front of it was, since memory ran out or a device failed.
+-- All of these was written, and reported as in the plain form; or a prefix of it was, since memory ran out or a device failed.
 abbrev pub AreObjects : {T : Type 0} → Formatting T → Formatting T → List Handed → Option Lost → Type 0
 AreObjects old new handed None =
     Appends old.out.written new.out.written (objects handed) × Appends old.errors.written new.errors.written (tellings handed)

@@ -7,7 +7,7 @@ use Rattle.t1_report.specs.Faults.{FaultValue}
 use Rattle.t1_report.specs.Lines.{IsInFont, line_of}
 use Rattle.t1_report.specs.Waivers.{Waiver}
 
--- What is told of a fault is spelled as its line of the report, without the line's end.
+-- What is reported of a fault is spelled as its line of the report, without the line's end.
 abbrev pub LinesAreThoseOfReports : Type 0
 LinesAreThoseOfReports =
     (name : List ℕ) (font : FontValue) (waivers : List Waiver) (fault : FaultValue) → IsInFont font waivers fault

@@ -27,7 +27,7 @@ pub(crate) fn fault_line<'a>(
     }
 }
 
-/// Where a fault stands.
+/// Where a fault is.
 fn place<'a>(font: &'a Font<'_>, waivers: &'a Waivers<'_>, fault: &Fault) -> Place<'a>
     requires { IsInFont font.now waivers.now (fault_value fault.now) }
     ensures { place_value result ≡ place_in font.now waivers.now (fault_value fault.now) }

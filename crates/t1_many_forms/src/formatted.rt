@@ -18,8 +18,8 @@ use t1_report::{Fault, Waivers};
 use t1_run::Failure;
 use t1_summary::Found;
 
-/// Lines, refusals and fonts that weren't checked are given to a formatter, which writes them on the output. A font that wasn't checked is told
-/// on standard error too, first. After each font the output is flushed.
+/// Lines, refusals and fonts that weren't checked are given to a formatter, which writes them on the output. A font that wasn't checked is
+/// printed on standard error too, first. After each font the output is flushed.
 #[derive(Drop)]
 pub struct Formatted<T: Formatter, W: Sink, E: Sink> {
     /// What writes them.
@@ -33,7 +33,7 @@ pub struct Formatted<T: Formatter, W: Sink, E: Sink> {
 }
 
 impl<T: Formatter, W: Sink, E: Sink> Formatted<T, W, E> {
-    /// A form that was given nothing yet. The formatter has written what stands before all else.
+    /// A form that was given nothing yet. The formatter has written what is before all else.
     pub fn new(alloc: Global, formatter: T, out: W, errors: E) -> Formatted<T, W, E>
         ensures formatter { result.formatter ≡ formatter }
         ensures out { result.out ≡ out }
@@ -48,7 +48,7 @@ impl<T: Formatter, W: Sink, E: Sink> Formatted<T, W, E> {
         }
     }
 
-    /// The formatter, the output and standard error, once all was handed on: the formatter can then write what stands after all else.
+    /// The formatter, the output and standard error, once all was handed on: the formatter can then write what is after all else.
     pub fn into_parts(self) -> (T, W, E)
         ensures formatter { result.0 ≡ self.formatter }
         ensures out { result.1 ≡ self.out }
@@ -57,7 +57,7 @@ impl<T: Formatter, W: Sink, E: Sink> Formatted<T, W, E> {
         (self.formatter, self.out, self.errors)
     }
 
-    /// Tells on standard error that what has this name wasn't checked, as `NAME: t1check: REASON`, and then gives it to the formatter.
+    /// Prints on standard error that what has this name wasn't checked, as `NAME: t1check: REASON`, and then gives it to the formatter.
     pub fn unchecked(&mut self, name: &str, reason: &str) -> Result<(), Lost>
         ensures { GivesUnchecked T.writes
             (record { formatter = self.old.formatter; out = W.state self.old.out; errors = E.state self.old.errors })

@@ -1,4 +1,4 @@
-//! What writes what is told of fonts.
+//! What writes what is reported of fonts.
 
 ghost use Rattle.std.specs.Prelude.{◌≡◌, Option, Result};
 ghost use Rattle.t1_forms.specs.Tellings.{ToldValue, told_value};
@@ -13,20 +13,20 @@ use t1_forms::{FormatError, Told};
 use t1_io::Sink;
 use t1_many::Lost;
 
-/// Writes what is told of fonts, one after another.
+/// Writes what is reported of fonts, one after another.
 pub trait Formatter {
-    // It wrote what is told on a device, or stopped for a reason.
+    // It wrote on a device what is reported, or stopped for a reason.
     ghost writes: { Self → Self → SinkState → SinkState → ToldValue → Option Lost → Type 0 };
 
-    // It wrote what stands after all else, or stopped.
+    // It wrote what is after all else, or stopped.
     ghost finishes: { Self → SinkState → SinkState → Option Lost → Type 0 };
 
-    /// Writes what is told of a font, in whose line stands what is told.
+    /// Writes what is reported of a font, in whose line is what is reported.
     fn write<W: Sink>(&mut self, alloc: Global, sink: &mut W, told: &Told<'_>) -> Result<(), Lost>
         requires { HasItsLine told.now }
         ensures { writes self.old self.new (W.state sink.old) (W.state sink.new) (told_value told.now) (lost_of result) };
 
-    /// Writes what stands after all else, as the end of a document.
+    /// Writes what is after all else, as the end of a document.
     fn finish<W: Sink>(self, alloc: Global, sink: &mut W) -> Result<(), Lost>
         ensures { finishes self (W.state sink.old) (W.state sink.new) (lost_of result) };
 }

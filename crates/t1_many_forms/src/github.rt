@@ -9,7 +9,7 @@ use t1_forms::{Told, write_command};
 use t1_io::Sink;
 use t1_many::Lost;
 
-/// Writes each as a command that shows it at the font. Nothing stands before or after all commands.
+/// Writes each as a command that shows it at the font. Nothing is before or after all commands.
 #[derive(Clone, Copy, Debug)]
 pub struct GitHubCommands;
 

@@ -9,7 +9,7 @@ use t1_forms::{Told, write_object};
 use t1_io::Sink;
 use t1_many::Lost;
 
-/// Writes each as an object in a line of its own. Nothing stands before or after all lines.
+/// Writes each as an object in a line of its own. Nothing is before or after all lines.
 #[derive(Clone, Copy, Debug)]
 pub struct JsonLines;
 

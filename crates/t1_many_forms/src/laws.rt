@@ -17,13 +17,13 @@ use t1_forms::Sarif;
 use t1_io::Sink;
 use t1_many::Form;
 
-/// The line beside what is told of a fault is its line of the report, without the line's end.
+/// The line beside what is reported of a fault is its line of the report, without the line's end.
 pub fn lines_are_those_of_reports()
     ensures { LinesAreThoseOfReports }
 {}
 
-/// What is handed on as lines of JSON is written, an object a line, one after another, and told as the plain form tells it; after the last font
-/// the output is flushed. Where a device fails, or memory runs out, a front of it was.
+/// What is handed on as lines of JSON is written, an object a line, one after another, and reported as in the plain form; after the last font
+/// the output is flushed. Where a device fails, or memory runs out, a prefix of it was.
 pub fn json_lines_are_written<W: Sink, E: Sink>()
     ensures written { (old new : FormattedValue JsonLinesValue W E) (handed : List Handed) (lost : Option LostValue)
         → HandsOn ⟦<Formatted<JsonLines, W, E> as Form>⟧.takes old new handed lost
@@ -34,8 +34,8 @@ pub fn json_lines_are_written<W: Sink, E: Sink>()
         → (W.state new.out).flushed ≡ true }
 {}
 
-/// What is handed on as a document of SARIF is written as the text of what it tells, up to the end of the document, and told as the plain form
-/// tells it. Where a device fails, or memory runs out, a front of it was.
+/// What is handed on as a document of SARIF is written as the text of what it reports, up to the end of the document, and reported as in the
+/// plain form. Where a device fails, or memory runs out, a prefix of it was.
 pub fn documents_are_written<'a, W: Sink, E: Sink>()
     ensures { (old new : FormattedValue SarifValue W E) (handed : List Handed) (lost : Option LostValue)
         → HandsOn ⟦<Formatted<Sarif<'a>, W, E> as Form>⟧.takes old new handed lost

@@ -1,7 +1,7 @@
 //! Lines of many fonts in the forms that other programs read: lines of JSON, SARIF 2.1.0, and commands of a workflow of GitHub.
 //!
 //! [`Formatted`] is a [`Form`](t1_many::Form) over a [`Formatter`]: each line, each refusal, and each font that wasn't checked is given to the
-//! formatter once, in order. A font that wasn't checked is also told on standard error. Nothing is read back from text.
+//! formatter once, in order. A font that wasn't checked is also printed on standard error. Nothing is read back from text.
 //!
 //! | formatter | writes |
 //! |---|---|
@@ -9,7 +9,7 @@
 //! | [`Sarif`](t1_forms::Sarif) | a result in a document, whose frame `Sarif::begin` and `finish` write |
 //! | [`GitHubCommands`] | a command |
 //!
-//! What is promised: each byte that is written, and what is told on standard error.
+//! What is promised: each byte that is written, and what is printed on standard error.
 #![tactic(auto)]
 
 mod fault_line;

@@ -34,7 +34,7 @@ fn open_waivers<'a>(_name: &str) -> Option<io::Result<In<&'a [u8]>>> {
     None
 }
 
-/// Tells the P03 of fonts in the form of a formatter, which wrote what stands before all else.
+/// Reports the P03 of fonts in the form of a formatter, which wrote what is before all else.
 fn tell<F: Formatter + Drop, W: Sink + Drop, E: Sink + Drop>(
     alloc: Global,
     files: &[File<'_>],
@@ -69,7 +69,7 @@ fn tell<F: Formatter + Drop, W: Sink + Drop, E: Sink + Drop>(
 /// The glyph of the number 32001, 0, hmoveto, closepath, endchar: step 4 is a closepath without a path, the fourth line of the report.
 const FOUR_FAULTS: &[u8] = b"\xff\x00\x00\x7d\x01\x8b\x16\x09\x0e";
 
-/// What is told on standard error, whatever the form is.
+/// What is printed on standard error, whatever the form is.
 const TOLD: &[u8] = b"absent.pfb: t1check: read failed\n";
 
 #[test]
@@ -186,7 +186,7 @@ fn stops_where_the_output_fails(rt: HostRuntime) -> Result<(), Fail> {
     Ok(())
 }
 
-/// What isn't a font that was checked is told of too, as a folder that can't be searched.
+/// What isn't a font that was checked is reported too, as a folder that can't be searched.
 #[test]
 fn tells_what_was_not_checked(rt: HostRuntime) -> Result<(), Fail> {
     let mut text = Vec::new(rt.alloc());

@@ -56,7 +56,7 @@ steps_rise font waivers unit mark fault at next = elim next.later [
   | inr same_unit ↦ elim same_unit.1 [ inl less ↦ omega (arith, less) | inr same ↦ omega (arith, same.0) ]
 ]
 
--- Where X05 is told a step stands.
+-- Where X05 is reported there is a step.
 told_is_broken : (font : CheckedFont) (waivers : List Waiver) (unit step n : ℕ) → unit ≤ length font.value.glyphs
     → is_told font waivers unit step n ≡ true → is_broken font unit step n ≡ true
 told_is_broken font waivers unit step n within told = by_test (is_broken font unit step n) refl
@@ -203,7 +203,7 @@ all_added s faults n mark marks lines has none = record {
   lines_are = sym (append-nil lines) ∙ ap (λ (fs : List FaultValue). lines ++ lines_of s fs) (sym none) ∙ has.lines_are;
 }
 
--- Why nothing is left: no fault comes, the next one stands behind the last step, or so many were added.
+-- Why nothing is left: no fault comes, the next one is after the last step, or so many were added.
 none_of_none : (k : ℕ) → take {A = FaultValue} k [] ≡ []
 none_of_none zero = refl
 none_of_none (suc k) = refl
@@ -277,7 +277,7 @@ all_counted s faults n mark count has none =
 
 -- ---- the point that the end of a flex names
 
--- Behind a step that was gone to, it is in hand.
+-- After a step that was gone to, it is in hand.
 pub named_there : (s : Subject) (m m' : MachineView) (number : ℕ) → IsRunFor s m' → IsStepOf s number → GoesTo m m' number → IsInHand m'
     → named_at s number ≡ named_by m'.step.step
 named_there s m m' number run stands goes hand = by_step (slice_get (glyph_steps s) (number - 1)) refl
@@ -328,7 +328,7 @@ none_is_waived s (f ∷ fs) none =
 pub none_waived : (s : Subject) (faults : List FaultValue) → s.waivers ≡ [] → 0 ≡ waived_of s faults
 none_waived s faults none = sym (ap (λ (k : ℕ). min k all_steps) (none_is_waived s (shown_of s faults) none))
 
--- The pen in front of a step.
+-- The pen before a step.
 pub pen_there : (s : Subject) (m m' : MachineView) (count number : ℕ) → IsRunFor s m' → GoesTo m m' count → count ≡ number - 1
     → current_point (seen_steps m') ≡ pen_at s number
 pen_there s m m' count number run goes is =

@@ -190,7 +190,7 @@ last_in_hand part m line run stop counted some hand is = by_step (slice_get (lim
         ∙ sym (ap (λ b. cond b None (option_map (line_of_step part.last) (slice_get (limited_steps part) (part.last - 1)))) some_last
         ∙ ap (λ (o : Option StepView). option_map (line_of_step part.last) o) there)
 
--- ---- by what a run told
+-- ---- by what a run reported
 
 pub still_of : (part : PartView) (m m' : MachineView) → IsRunOf part m → IsOfSameGlyph m m' → IsRunOf part m'
 still_of part m m' run same = record {

@@ -11,7 +11,7 @@ use Rattle.t1_outline.proofs.Outlining.{IsOver, IsTold, same_steps}
 use Rattle.t1_outline.specs.Private.Outlining.{steps_in}
 use Rattle.t1_picture.specs.Private.Runs.{AreAllSeen, IsInHand}
 
--- What is left of a list begins with what stands at its place.
+-- What is left of a list begins with what is at its place.
 pub at_drop : (n : ℕ) (xs : List StepView) (y : StepView) (ys : List StepView) → drop n xs ≡ y ∷ ys → slice_get xs n ≡ Some y
 at_drop zero xs y ys is = ap (λ (l : List StepView). slice_get l 0) is
 at_drop (suc n) [] y ys is = absurd (omega (arith, ap length is))
@@ -20,7 +20,7 @@ at_drop (suc n) (x ∷ xs) y ys is = at_drop n xs y ys is
 same_some : (x y : StepView) → Some x ≡ Some y → x ≡ y
 same_some x y is = cc
 
--- The step that was told is in hand.
+-- The step that was reported is in hand.
 pub in_hand_next : (old new : MachineView) → IsTold old new → IsInHand new
 in_hand_next old new is step some get =
     let place : new.counted - 1 ≡ old.counted = omega (arith, is.counted) in
@@ -64,7 +64,7 @@ all_seen old new answer is asked = record {
       (no_more (limit_of old.edition) (steps_of old.font old.glyph) old.counted);
 }
 
--- What the answer tells of the steps behind the limit.
+-- What the answer says of the steps after the limit.
 last_turn : (limit : ℕ) (steps : List StepView) (n : ℕ) → length (take limit steps) ≤ n
     → turn_at limit steps n ≡ limit_or_end limit (slice_get steps limit)
 last_turn limit steps n all = by_test (nat_lt n (answered limit steps)) refl

@@ -20,7 +20,7 @@ use Rattle.t1_picture.specs.Frames.{length_of}
 use Rattle.t1_rules.specs.declared.step_rules.stems.Stem.{Stem}
 use Rattle.t1_rules.specs.StepRules.Stems.{has_one_edge, lower, upper}
 
--- The edge that a stem of one edge stands for: of width -20 the one at its position, of width -21 the other one.
+-- The edge that a stem of one edge means: of width -20 the one at its position, of width -21 the other one.
 abbrev pub one_edge : Stem → ℤ
 one_edge stem = if int_eq stem.width (neg_ℤ (pos (20 * unit))) then upper stem else lower stem
 

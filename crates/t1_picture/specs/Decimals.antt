@@ -18,7 +18,7 @@ unfoldable pub places : ℕ → ℕ → ℕ → List ℕ
 places one zero rest = []
 places one (suc n) rest = if rest == 0 then [] else decimal (rest * 10 / one) ++ places one n (rest * 10 % one)
 
--- Behind a point; nothing where there is no part. 1/65536 has 16 places, 10^-9 has fewer.
+-- After a point; nothing where there is no part. 1/65536 has 16 places, 10^-9 has fewer.
 abbrev pub fraction : ℕ → ℕ → List ℕ
 fraction one rest = if rest == 0 then [] else codes "." ++ places one 16 rest
 

@@ -1,4 +1,4 @@
--- Where the drawing and the legend stand, in a unit that is 1 or a power of two.
+-- Where the drawing and the legend are, in a unit that is 1 or a power of two.
 use Rattle.std.specs.Prelude.{ℕ, zero, suc, ◌+◌, ◌-◌, ◌%◌, ◌^◌, min, ℤ, pos, ◌+ℤ◌, ◌-ℤ◌, ◌*ℤ◌, int_le, Bool, if◌then◌else◌}
 use Rattle.std.specs.Int.{int_max, int_shl, int_shr, int_wrapping_neg, w64}
 use Rattle.t1_picture.specs.declared.bounds.Bounds.{Bounds}
@@ -30,7 +30,7 @@ power_from (suc doublings) power extent =
 abbrev pub power_for : ℤ → ℕ
 power_for extent = power_from 40 16 extent
 
--- The frame stands 48 units around the drawing.
+-- The frame is 48 units around the drawing.
 unfoldable pub edge_below : ℤ → ℕ → ℤ
 edge_below number power = kept (count_below number power -ℤ pos 48)
 
@@ -58,17 +58,17 @@ length_of frame count = coordinate_of (units_of frame count)
 abbrev pub count_of : ℕ → ℤ
 count_of n = pos (min n (2 ^ 63 - 1))
 
--- A letter of the legend is 10 units wide, and 16 stand at both ends of its longest line.
+-- A letter of the legend is 10 units wide, and 16 are at both ends of its longest line.
 unfoldable pub width_of : Frame → ℕ → ℤ
 width_of frame columns =
     int_max (kept (frame.right -ℤ frame.left)) (kept (kept (count_of columns *ℤ pos 10) +ℤ pos 32))
 
--- A line is 24 units high, and 16 stand below the last.
+-- A line is 24 units high, and 16 are below the last.
 unfoldable pub height_of : Frame → ℕ → ℤ
 height_of frame lines =
     kept (kept (frame.top -ℤ frame.bottom) +ℤ kept (kept (count_of lines *ℤ pos 24) +ℤ pos 16))
 
--- Where the legend begins, and where a line of it stands, the first of which is 0: counted downwards.
+-- Where the legend begins, and where a line of it is, the first of which is 0: counted downwards.
 unfoldable pub legend_left_of : Frame → Exact
 legend_left_of frame = length_of frame (kept (frame.left +ℤ pos 16))
 

@@ -29,7 +29,7 @@ HasNoOtherPicture = (s : Subject) (a b : List ℕ) → IsPictureOf s a → IsPic
 
 -- ---- the outline
 
--- The outline of a part, as data of a path: the segments that its steps draw, where its origin stands.
+-- The outline of a part, as data of a path: the segments that its steps draw, where its origin is.
 abbrev pub part_outline : PartView → List ℕ
 part_outline part = flat_map (λ d. segment_text (placed part.origin d.segment)) (drawn_of (drawn_steps part))
 
@@ -64,11 +64,11 @@ PlacesAreExact =
 abbrev pub is_markup : ℕ → Bool
 is_markup byte = byte == 60 || (byte == 62 || byte == 34)
 
--- Whatever a text has, none of these stands in it as it is written in XML.
+-- Whatever a text has, none of these is in it as it is written in XML.
 abbrev pub TextsHaveNoMarkup : Type 0
 TextsHaveNoMarkup = (text : List ℕ) → list_any is_markup (xml_text text) ≡ false
 
--- The entities that stand for a character.
+-- The entities that mean a character.
 abbrev pub entities : List (List ℕ)
 entities = codes "&amp;" ∷ codes "&lt;" ∷ codes "&gt;" ∷ codes "&quot;" ∷ []
 

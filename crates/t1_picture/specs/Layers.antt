@@ -148,7 +148,7 @@ with_segment thick l segment =
       bands = l.bands;
     }
 
--- With segments of a glyph whose origin stands at a point.
+-- With segments of a glyph whose origin is at a point.
 abbrev pub with_segments : Point → Bool → LayersView → List Segment → LayersView
 with_segments start thick l [] = l
 with_segments start thick l (segment ∷ segments) =

@@ -1,4 +1,4 @@
--- The faults of the glyph: where their marks stand, and their lines. Type 1 Font Format 1.1, 8.3 (the end of a flex).
+-- The faults of the glyph: where their marks are, and their lines. Type 1 Font Format 1.1, 8.3 (the end of a flex).
 use Rattle.std.specs.Prelude.{◌≡◌, ℕ, ◌+◌, ◌-◌, ◌&&◌, min, nat_le, if◌then◌else◌, Bool, true, false, Option, None, Some, List, [], ◌∷◌, ◌++◌, codes, length, slice_get, take, unwrap_or}
 use Rattle.std.specs.List.{count_by, flat_map}
 use Rattle.std.specs.Option.{option_and_then}
@@ -43,7 +43,7 @@ shown_of s faults = take all_steps (up_to (last_of s) faults)
 
 -- ---- marks
 
--- The steps of the glyph, and the pen in front of one.
+-- The steps of the glyph, and the pen before one.
 abbrev pub glyph_steps : Subject → List StepView
 glyph_steps s = take (limit_of s.edition) (steps_of s.font s.glyph)
 
@@ -53,14 +53,14 @@ pen_at s number = current_point (take (number - 1) (glyph_steps s))
 abbrev pub same_point : Point → Point → Bool
 same_point p q = int_eq p.x q.x && int_eq p.y q.y
 
--- A mark has the numbers of faults that follow one another and stand at its point.
+-- A mark has the numbers of faults that follow one another and are at its point.
 abbrev pub mark_of_one : Point → ℕ → FaultMark
 mark_of_one point number = record { point = point; first = number; last = number }
 
 abbrev pub mark_with : FaultMark → ℕ → FaultMark
 mark_with mark number = record { point = mark.point; first = mark.first; last = number }
 
--- The marks of faults, behind one to which the next can still be added.
+-- The marks of faults, after one to which the next can still be added.
 abbrev pub marks_from : Subject → Option FaultMark → List FaultValue → List FaultMark
 marks_from s None [] = []
 marks_from s (Some mark) [] = mark ∷ []

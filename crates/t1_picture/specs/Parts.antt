@@ -24,8 +24,8 @@ use Rattle.t1_rules.specs.declared.step_rules.stems.Stem.{Stem}
 use Rattle.t1_rules.specs.StepRules.Paths.{in_flex, leaves_open}
 use Rattle.t1_rules.specs.StepRules.Stems.{hint_set, lies_across, stands_upright}
 
--- A part that is drawn: a glyph, by its place, where its origin stands, how many of its steps are drawn at most, the step whose
--- stretch is thick, and what stands in front of each note on it.
+-- A part that is drawn: a glyph, by its place, where its origin is, how many of its steps are drawn at most, the step whose
+-- stretch is thick, and what is before each note on it.
 pub record PartView : Type 0 where
   pub font : FontValue
   pub edition : Edition
@@ -57,7 +57,7 @@ abbrev pub with_step : PartView → ℕ → Bool → List Segment → LayersView
 with_step part number leaves_open segments l =
     with_segments part.origin (is_step part.thick number) (with_gap_if leaves_open l) segments
 
--- What steps draw behind others.
+-- What steps draw after others.
 abbrev pub with_steps : PartView → LayersView → List StepView → List StepView → LayersView
 with_steps part l before [] = l
 with_steps part l before (step ∷ steps) =
@@ -68,11 +68,11 @@ with_steps part l before (step ∷ steps) =
 abbrev pub bands_of : Direction → ℤ → Edition → List Stem → List Band
 bands_of direction start edition stems = map (band_of direction start edition) stems
 
--- Where the sidebearing point stands.
+-- Where the sidebearing point is.
 abbrev pub start_of : PartView → Point
 start_of part = behind part.origin (sidebearing_by (composition_of (drawn_steps part)).metrics)
 
--- The stems that are in force behind the last step drawn, those across and then those upright.
+-- The stems that are in force after the last step drawn, those across and then those upright.
 abbrev pub with_stems : PartView → LayersView → LayersView
 with_stems part l =
     with_bands
@@ -102,12 +102,12 @@ flex_notes label before [] = []
 flex_notes label before (step ∷ steps) =
     flex_note label (length before + 1) step (drawn before step) ++ flex_notes label (before ++ step ∷ []) steps
 
--- Steps stand behind the limit, and would be drawn.
+-- Steps are after the limit, and would be drawn.
 abbrev pub is_past_limit : PartView → Bool
 is_past_limit part =
     nat_lt (limit_of part.edition) (length (steps_of part.font part.glyph)) && nat_lt (length (limited_steps part)) part.last
 
--- What stands where the steps end that are drawn: a flex without an end, and the limit.
+-- What is where the steps end that are drawn: a flex without an end, and the limit.
 abbrev pub unended_note : List ℕ → List ℕ
 unended_note label = label ++ codes "flex without an end isn't drawn"
 

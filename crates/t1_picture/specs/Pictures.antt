@@ -42,7 +42,7 @@ abbrev pub bounds_of : DrawingView → FaultsView → Bounds
 bounds_of drawing faults =
     with_marks (with_metrics (with_all_bands drawing.layers.bounds drawing.layers.bands) drawing.composition.metrics) faults.marks
 
--- ---- in front of the drawing
+-- ---- before the drawing
 
 -- How many letters a line has, and the longest of some lines.
 abbrev pub letters_of : List ℕ → ℕ
@@ -157,7 +157,7 @@ lines_part frame metrics =
     lines_start
     ++ (base_line (length_of frame frame.left) (length_of frame frame.right) ++ (metrics_text frame metrics ++ codes "</g>\n"))
 
--- A path behind its start: its data, and the end.
+-- A path after its start: its data, and the end.
 abbrev pub path_text : List ℕ → List ℕ
 path_text text = text ++ codes "\"/>\n"
 

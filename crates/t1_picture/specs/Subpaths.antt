@@ -1,4 +1,4 @@
--- The subpath that is being drawn, and where the segments of a part stand.
+-- The subpath that is being drawn, and where the segments of a part are.
 use Rattle.std.specs.Prelude.{◌+ℤ◌, true, false}
 use Rattle.t1_outline.specs.declared.segment.Segment.{Segment}
 use Rattle.t1_outline.specs.declared.segment.Segment.TheVariants.{Move, Line, Curve, Close}
@@ -7,7 +7,7 @@ use Rattle.t1_picture.specs.Bounds.{kept}
 use Rattle.t1_rules.specs.declared.step_rules.flex.Point.{Point}
 use Rattle.t1_rules.specs.StepRules.Flex.{at, origin}
 
--- A point of a glyph whose origin stands at another one.
+-- A point of a glyph whose origin is at another one.
 abbrev pub behind : Point → Point → Point
 behind start point = at (kept (start.x +ℤ point.x)) (kept (start.y +ℤ point.y))
 

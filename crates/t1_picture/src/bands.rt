@@ -13,7 +13,7 @@ use t1_char::{Edition, UNIT};
 use t1_font::{Entry, Font, Key};
 use t1_rules::Stem;
 
-/// The width that stands for one edge, the upper or the right one.
+/// The width that means one edge, the upper or the right one.
 const TOP_EDGE: i64 = -20 * UNIT;
 
 /// How many zones BlueValues has at most.
@@ -100,7 +100,7 @@ fn upper_edge(stem: Stem, edition: Edition) -> i64
     }
 }
 
-/// The edge that a stem of one edge stands for: of width -20 the one at its position, of width -21 the other one.
+/// The edge that a stem of one edge means: of width -20 the one at its position, of width -21 the other one.
 fn one_edge(stem: Stem) -> i64
     ensures { result ≡ one_edge stem }
 {

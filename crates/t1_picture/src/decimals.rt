@@ -30,7 +30,7 @@ pub(crate) struct Exact {
 #[derive(Clone, Copy, Debug, PartialEq, Eq)]
 pub(crate) struct Coordinates(pub(crate) Point);
 
-/// A part of one, written behind a point; nothing where it is 0.
+/// A part of one, written after a point; nothing where it is 0.
 #[derive(Clone, Copy, Debug, PartialEq, Eq)]
 struct Fraction {
     rest: u64,

@@ -115,7 +115,7 @@ fn draw_component(
     }
 }
 
-/// What stands in front of the notes on a component.
+/// What is before the notes on a component.
 fn label_of(
     alloc: Global,
     font: &Font<'_>,

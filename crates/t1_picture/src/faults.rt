@@ -1,4 +1,4 @@
-//! The faults of the glyph: where their marks stand, and their lines.
+//! The faults of the glyph: where their marks are, and their lines.
 
 ghost use Rattle.std.specs.Prelude.{◌≡◌, ◌≤◌, ◌+◌, ◌++◌, IfOk, None, OnOk, List, [], nat_le, string_bytes};
 ghost use Rattle.t1_char.specs.StepValues.{step_view};
@@ -27,7 +27,7 @@ use t1_rules::{Point, Rule};
 #[derive(Drop)]
 pub(crate) struct Faults {
     pub(crate) marks: Vec<FaultMark>,
-    /// Their lines, as t1check writes them, without ends; behind that of an X05 the two points.
+    /// Their lines, as t1check writes them, without ends; after that of an X05 the two points.
     pub(crate) lines: Vec<String>,
     /// How many faults aren't marked, since they are waived.
     pub(crate) waived: u64,
@@ -97,7 +97,7 @@ fn is_x05(rule: Rule) -> bool
     matches!(rule, Rule::X05)
 }
 
-/// Adds the lines of a fault, given the pen in front of its step. A run that stands no further than its step is executed up to that.
+/// Adds the lines of a fault, given the pen before its step. A run that is no further than its step is executed up to that.
 fn add_lines(
     alloc: Global,
     view: &View<'_>,

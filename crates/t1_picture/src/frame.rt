@@ -1,4 +1,4 @@
-//! Where the drawing and the legend stand, and how large lines, points and letters are.
+//! Where the drawing and the legend are, and how large lines, points and letters are.
 
 ghost use Rattle.std.specs.Prelude.{◌≡◌, ◌-ℤ◌};
 ghost use Rattle.t1_picture.specs.Bounds.{kept};
@@ -16,16 +16,16 @@ const MOST_UNITS: i64 = 1_024;
 /// How often the unit is doubled at most: then it is past every drawing.
 const MOST_DOUBLINGS: u32 = 40;
 
-/// How far the frame stands from the drawing.
+/// The distance of the frame from the drawing.
 const MARGIN: i64 = 48;
 
-/// How far the legend stands from the left edge.
+/// The distance of the legend from the left edge.
 const INDENT: i64 = 16;
 
 /// How wide a letter is.
 const LETTER: i64 = 10;
 
-/// How far the lines of the legend stand apart, and the first one from the drawing.
+/// The distance between the lines of the legend, and of the first one from the drawing.
 const LINE: i64 = 24;
 
 /// The frame of the drawing and the size of the picture: counts of a unit, which is 1 or a power of two.
@@ -160,7 +160,7 @@ impl Frame {
         self.length(self.left.saturating_add(INDENT))
     }
 
-    /// Where a line of the legend stands, the first of which is 0: counted downwards.
+    /// Where a line of the legend is, the first of which is 0: counted downwards.
     #[tactic(auto, unfolding(crate::specs::Frames::legend_line_of))]
     pub(crate) fn legend_line(&self, place: usize) -> Exact
         ensures { result ≡ legend_line_of self.now place }

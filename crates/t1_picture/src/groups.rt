@@ -48,7 +48,7 @@ const POINTS: &str = r#"<g id="points" fill="black">
 const CONTROLS: &str = r#"<g id="controls" fill="white" stroke="black">
 "#;
 
-/// What stands behind the data of a path.
+/// What is after the data of a path.
 const END_OF_DATA: &str = r#""/>
 "#;
 
@@ -61,7 +61,7 @@ const BROAD: i64 = 3;
 /// The width of the stretch of a step.
 const THICK: i64 = 8;
 
-/// How long a dash is, and how far it stands from the next one.
+/// How long a dash is, and how far it is from the next one.
 const DASH: i64 = 12;
 
 /// Writes the drawing, from back to front, y upwards.

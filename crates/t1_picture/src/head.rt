@@ -1,4 +1,4 @@
-//! What stands in front of the drawing: the size, the title, the forms of points and marks, and the ground.
+//! What is before the drawing: the size, the title, the forms of points and marks, and the ground.
 
 ghost use Rattle.std.specs.Prelude.{◌≡◌, ◌++◌, OnOk, string_bytes};
 ghost use Rattle.t1_picture.specs.Drawings.{texts_of};
@@ -10,14 +10,14 @@ use crate::marks::MARK;
 use crate::texts::{push, push_escaped};
 use std::alloc::AllocError;
 
-/// What stands in front of the size.
+/// What is before the size.
 const HEAD: &str = r#"<?xml version="1.0" encoding="UTF-8"?>
 <svg xmlns="http://www.w3.org/2000/svg" xmlns:xlink="http://www.w3.org/1999/xlink" version="1.1""#;
 
 /// Half the side of the square of a point, and the radius of the circle of a control point, in units of the frame.
 const POINT: i64 = 4;
 
-/// Writes what stands in front of the drawing: the size, the title, and the forms of points and marks.
+/// Writes what is before the drawing: the size, the title, and the forms of points and marks.
 pub(crate) fn write_head(
     svg: &mut String,
     frame: &Frame,

@@ -21,7 +21,7 @@ pub fn outlines_are_drawn()
 {}
 
 /// Coordinates, in units of 1/65536, and numbers of a dictionary, in units of 10^-9, are written exactly: their decimal places
-/// are the part behind the point, neither rounded nor cut.
+/// are the part after the point, neither rounded nor cut.
 pub fn numbers_are_written_exactly()
     ensures { PlacesAreExact }
 {}

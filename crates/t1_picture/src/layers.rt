@@ -62,7 +62,7 @@ impl Layers {
         self.subpath = Subpath::new();
     }
 
-    /// Draws segments of a glyph whose origin stands at a point, each by itself too where it is thick.
+    /// Draws segments of a glyph whose origin is at a point, each by itself too where it is thick.
     pub(crate) fn draw_all(
         &mut self,
         origin: Point,

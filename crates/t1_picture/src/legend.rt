@@ -14,7 +14,7 @@ use crate::view::View;
 use std::alloc::{AllocError, Global};
 use t1_char::Edition;
 
-/// What stands above the lines of faults.
+/// What is above the lines of faults.
 const NUMBERS: &str = "faults, by numbers that count in this glyph:";
 
 /// The lines of the legend: what is drawn, what isn't, and the faults. Notes and faults give theirs away.

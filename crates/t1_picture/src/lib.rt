@@ -1,5 +1,5 @@
 //! A picture of one glyph of a Type 1 font, with its faults, as a text of SVG 1.1: its outline and its points, the stems that
-//! are in force behind the last step drawn, sidebearing, width and base line, the zones of BlueValues and OtherBlues, and for
+//! are in force after the last step drawn, sidebearing, width and base line, the zones of BlueValues and OtherBlues, and for
 //! each fault a numbered mark, with t1check's line in a legend. Adobe Type 1 Font Format 1.1, chapters 5, 6 and 8.
 //!
 //! [`picture`] makes it, up to a step or as a whole. What is drawn, and the form of the text, is said in docs/PICTURES.md.

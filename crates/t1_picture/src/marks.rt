@@ -8,10 +8,10 @@ ghost use Rattle.t1_picture.specs.Marks.{same_point};
 use std::alloc::{AllocError, Global};
 use t1_rules::Point;
 
-/// The radius of a mark; its number stands as far to the right of its middle, and as far above.
+/// The radius of a mark; its number is as far to the right of its middle, and as far above.
 pub(crate) const MARK: i64 = 9;
 
-/// A mark at a point: the numbers of faults that follow one another and stand there.
+/// A mark at a point: the numbers of faults that follow one another and are there.
 #[derive(Clone, Copy, Debug, PartialEq, Eq)]
 pub(crate) struct FaultMark {
     pub(crate) point: Point,
@@ -38,7 +38,7 @@ impl Marks {
         }
     }
 
-    /// Marks a fault, by its number: where the one before it stands at the same point, by the mark of that.
+    /// Marks a fault, by its number: where the one before it is at the same point, by the mark of that.
     pub(crate) fn mark(&mut self, point: Point, number: u64) -> Result<(), AllocError>
         ensures { OnOk result (IsMarked self.old self.new point number) }
     {

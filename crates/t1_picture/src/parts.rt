@@ -38,7 +38,7 @@ pub(crate) struct DrawnPart<'a> {
     pub(crate) last: u64,
     /// The step whose stretch is thick.
     pub(crate) thick: Option<u64>,
-    /// What stands in front of each note on it.
+    /// What is before each note on it.
     pub(crate) label: &'a str,
 }
 
@@ -89,7 +89,7 @@ impl<'a> DrawnPart<'a> {
         })
     }
 
-    /// Draws the steps of a run that stands before the first.
+    /// Draws the steps of a run that is before the first.
     fn draw_steps(
         &self,
         alloc: Global,
@@ -155,7 +155,7 @@ impl<'a> DrawnPart<'a> {
         Ok(())
     }
 
-    /// Notes what stands where the steps end that are drawn.
+    /// Notes what is where the steps end that are drawn.
     fn note_end(
         &self,
         alloc: Global,
@@ -171,7 +171,7 @@ impl<'a> DrawnPart<'a> {
         self.note_limit(alloc, stop, notes)
     }
 
-    /// Notes a flex without an end, where one stands in flex.
+    /// Notes a flex without an end, where the run is in flex.
     fn note_unended(
         &self,
         alloc: Global,
@@ -261,7 +261,7 @@ fn unended_note(alloc: Global, label: &str) -> Result<String, AllocError>
     format!(in alloc; "{label}flex without an end isn't drawn")
 }
 
-/// That nothing is drawn behind the limit.
+/// That nothing is drawn after the limit.
 fn limit_note(alloc: Global, label: &str, limit: u32) -> Result<String, AllocError>
     ensures { IfOk result (λ note. string_bytes note ≡ limit_note label.now limit) }
 {

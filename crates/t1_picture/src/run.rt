@@ -90,7 +90,7 @@ impl<'a> Run<'a> {
         self.machine.current()
     }
 
-    /// The current point, in front of the next step.
+    /// The current point, before the next step.
     pub(crate) fn point(&self) -> Point
         ensures { result ≡ current_point (seen_steps self.now) }
     {

@@ -51,7 +51,7 @@ impl Subpath {
     }
 }
 
-/// A point behind another one.
+/// A point relative to another one.
 pub(crate) fn behind(origin: Point, point: Point) -> Point
     ensures { result ≡ behind origin point }
 {
@@ -61,7 +61,7 @@ pub(crate) fn behind(origin: Point, point: Point) -> Point
     }
 }
 
-/// A segment of a glyph whose origin stands at a point.
+/// A segment of a glyph whose origin is at a point.
 pub(crate) fn placed(origin: Point, segment: Segment) -> Segment
     ensures { result ≡ placed origin segment }
 {

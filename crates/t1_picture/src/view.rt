@@ -16,7 +16,7 @@ pub struct View<'a> {
     pub font: &'a Font<'a>,
     /// Its components of accented characters, by the edition that counts.
     pub sidebearings: &'a Sidebearings,
-    /// What isn't told as a fault.
+    /// What isn't reported as a fault.
     pub waivers: &'a Waivers<'a>,
     /// The place of the glyph.
     pub glyph: usize,

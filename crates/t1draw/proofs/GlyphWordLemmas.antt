@@ -21,7 +21,7 @@ pub starts_plain : (bytes rest : List ℕ) (byte : ℕ) → bytes ≡ byte ∷ r
 unfolding name_behind
 starts_plain bytes rest byte at other = rw at (grind (arith, nat_tests))
 
--- ---- behind a backslash
+-- ---- after a backslash
 
 -- nothing, and so no name
 pub no_escape : (bytes : List ℕ) → length bytes ≡ 0 → name_behind backslash bytes ≡ None
@@ -43,7 +43,7 @@ pub other_escape : (bytes rest : List ℕ) (byte : ℕ) → bytes ≡ byte ∷ r
 unfolding name_behind
 other_escape bytes rest byte at no_backslash no_x = rw at (grind (arith, nat_tests))
 
--- ---- behind `\x`
+-- ---- after `\x`
 
 -- where no value gives a name, an optional one gives none
 none_by : (f : ℕ → Option (List ℕ)) (value : Option ℕ) → ((v : ℕ) → f v ≡ None) → option_map_or f value None ≡ None
@@ -69,7 +69,7 @@ of_values high low rest None l is_high is_low = rw is_high refl
 of_values high low rest (Some h) None is_high is_low = rw (is_high, is_low) refl
 of_values high low rest (Some h) (Some l) is_high is_low = rw (is_high, is_low) refl
 
--- a name's rest is what stands behind two bytes, cut off as digits
+-- a name's rest is what follows two bytes, cut off as digits
 by_digits : (bytes digits rest : List ℕ) → digits ≡ take 2 bytes → rest ≡ drop 2 bytes → length rest + 2 ≡ length bytes
     → name_behind backslash_x bytes ≡ decoded digits rest
 by_digits [] digits rest front back two = absurd (omega arith)
@@ -81,7 +81,7 @@ pub no_digits : (bytes digits rest : List ℕ) → digits ≡ take 2 bytes → r
     → None ≡ result_ok (decode_sized digits 1) → name_behind backslash_x bytes ≡ None
 no_digits bytes digits rest front back two undecoded = by_digits bytes digits rest front back two ∙ rw (← undecoded) refl
 
--- two that are stand for their byte
+-- two bytes that are digits mean their byte
 pub digits_decoded : (bytes digits rest byte : List ℕ) → digits ≡ take 2 bytes → rest ≡ drop 2 bytes → length rest + 2 ≡ length bytes
     → Some byte ≡ result_ok (decode_sized digits 1) → name_behind backslash_x bytes ≡ with_byte (slice_index byte 0) (name_of_word rest)
 digits_decoded bytes digits rest byte front back two is = by_digits bytes digits rest front back two ∙ rw (← is) refl

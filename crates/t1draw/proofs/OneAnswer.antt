@@ -56,7 +56,7 @@ one_some : {A : Type 0} (o : Option A) (x y : A) → o ≡ Some x → o ≡ Some
 unfolding some_or
 one_some o x y is is' = ap (some_or x) (sym is ∙ is')
 
--- whether there is a name is told by its bytes
+-- whether there is a name is determined by its bytes
 named : {S : Type 0} (bytes : S → List ℕ) (o : Option S) → is_some (option_map bytes o) ≡ is_some o
 named bytes None = refl
 named bytes (Some s) = refl

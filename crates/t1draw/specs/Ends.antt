@@ -18,11 +18,11 @@ use Rattle.t1draw.specs.declared.command_line.NoOptions.{NoOptions}
 use Rattle.t1draw.specs.declared.command_line.NoOptions.TheVariants.{Usage, BadName}
 use Rattle.t1draw.specs.declared.command_line.Options.{Options}
 
--- The program's name, in front of what it tells.
+-- The program's name, before what it prints.
 abbrev pub program : List ℕ
 program = codes "t1draw"
 
--- What is told of a GLYPH that is no name.
+-- What is printed for a GLYPH that is no name.
 abbrev pub bad_name_text : List ℕ
 bad_name_text =
     codes "error: in GLYPH a backslash stands in front of another one, or of x and two hexadecimal digits\n"
@@ -33,7 +33,7 @@ abbrev pub Explains : NoOptions → SinkState → SinkState → SinkState → Si
 Explains (Usage error) out out' errors errors' status = ExplainsUsage program error out out' errors errors' status
 Explains BadName out out' errors errors' status = (out' ≡ out) × Tells bad_name_text Failed errors errors' status
 
--- Waivers are asked for where their file is named.
+-- Waivers are requested where their file is named.
 abbrev pub asks_waivers : Options → Bool
 asks_waivers options = is_some options.waive
 
@@ -42,16 +42,16 @@ pub record IsPicture (options : Options) (font : FontValue) (waivers : List Waiv
   -- The font has a glyph of the name.
   pub glyph : ℕ
   pub named : glyph_named font options.glyph.items ≡ Some glyph
-  -- It shows that glyph, by the edition, the waivers and up to the step that are asked for.
+  -- It shows that glyph, by the edition, the waivers and up to the step that are requested.
   pub is :
       IsPictureOf (record { font = font; edition = options.edition; waivers = waivers; glyph = glyph; step = options.step }) picture
 
 -- How a run ends: these bytes were left in the font's file, and a read of it failed or didn't; and the source of waivers before
--- it and behind it.
+-- it and after it.
 pub data Draws (options : Options) (left : Option (List ℕ)) (failed : Bool) (waivers waivers' : SourceState)
     (out out' errors errors' : SinkState) (status : Status) : Type 0 where
-  -- A picture was written whole, and flushed once, and nothing was told: status 0; or a put or the flush failed, a beginning of it
-  -- went out, and that was told: status 3.
+  -- A picture was written whole, and flushed once, and nothing was reported: status 0; or a put or the flush failed, a beginning
+  -- of it went out, and that was reported: status 3.
   drawn :
       (font : FontValue) → AreRead left (Ok font) → failed ≡ false
       → (waived : List Waiver) → AreWaived (asks_waivers options) waivers.left (Ok waived)
@@ -81,7 +81,7 @@ pub data Draws (options : Options) (left : Option (List ℕ)) (failed : Bool) (w
   read_failed :
       failed ≡ true → waivers' ≡ waivers → out' ≡ out → Tells (read_failed_line program) Failed errors errors' status
       → Draws options left failed waivers waivers' out out' errors errors' status
-  -- A read of the waivers that are asked for failed, and nothing was put on the output: status 3.
+  -- A read of the waivers that are requested failed, and nothing was put on the output: status 3.
   waivers_unread :
       (font : FontValue) → AreRead left (Ok font) → failed ≡ false → asks_waivers options ≡ true → waivers'.failed ≡ true
       → out' ≡ out → Tells (read_failed_line program) Failed errors errors' status

@@ -43,7 +43,7 @@ IsAnswerTo wish (Err why) waived answer = answer ≡ Unread why
 IsAnswerTo wish (Ok font) (Err why) answer = answer ≡ Unread why
 IsAnswerTo wish (Ok font) (Ok waivers) answer = IsAnswerAt wish font waivers (glyph_named font wish.name) answer
 
--- The waivers of a text, where they are asked for; else there are none.
+-- The waivers of a text, where they are requested; else there are none.
 abbrev pub waived_by : Bool → List ℕ → Result (List Waiver) Reason
 waived_by asked text = if asked then waivers_in text else Ok []
 

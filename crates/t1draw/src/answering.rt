@@ -21,7 +21,7 @@ use t1_run::{Answered, Failure, Status, tell_failure};
 /// Answers the words of the command line, the program's name first: explains them, or runs on the file
 /// that they name, which `open_font` opens, or on `input` where they name none; with the waivers of the
 /// file that `open_waivers` opens, where they ask for these. A file is opened at most where they name it. The
-/// files are handed back, so that what is told of a read is tied to what was read.
+/// files are handed back, so that what is reported of a read is tied to what was read.
 pub fn answer<S, I, F, O, G, P, W, E>(
     alloc: Global,
     words: &[S],

@@ -7,7 +7,7 @@ use crate::command_line::NoOptions;
 use t1_io::Sink;
 use t1_run::{Status, tell};
 
-/// What is told of a glyph's name with a backslash that stands for nothing.
+/// What is printed for a glyph's name with a backslash that means nothing.
 const BAD_NAME: &str = "\
 error: in GLYPH a backslash stands in front of another one, or of x and two hexadecimal digits
 

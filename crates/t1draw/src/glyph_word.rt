@@ -8,7 +8,7 @@ ghost use Rattle.t1draw.specs.Private.FirstBytes.{IsFirstByte};
 use hex::FromHex;
 use std::alloc::{AllocError, Global};
 
-/// The name that a word is; none where a backslash stands in front of anything else.
+/// The name that a word is; none where a backslash is before anything else.
 pub fn name_in(alloc: Global, word: &str) -> Result<Option<Vec<u8>>, AllocError>
     ensures { IfOk result (λ name. option_map (λ v. v.items) name ≡ name_of_word word.now) }
 {
@@ -36,7 +36,7 @@ fn first_byte(word: &[u8]) -> Option<(u8, &[u8])>
     }
 }
 
-/// The byte that stands behind a backslash, and what follows it.
+/// The byte that is after a backslash, and what follows it.
 fn escaped_byte(bytes: &[u8]) -> Option<(u8, &[u8])>
     ensures value { IsFirstByte backslash bytes.now result }
     ensures shorter { IfSome result (λ first. length first.1.now < length bytes.now) }

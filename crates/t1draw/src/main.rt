@@ -7,8 +7,8 @@
 //!
 //! Promised, where memory is there and no device fails: the words give options or none, by clap's rules
 //! ([`command_line::read_words`]); where they do, the words, the font's bytes and the waivers' decide the picture, to its last
-//! byte, or what is told, and the status ([`answering::answer`], [`laws`]). Where the font, the waivers or the words are refused,
-//! nothing is put on the output; that a read failed is told only where one did.
+//! byte, or what is reported, and the status ([`answering::answer`], [`laws`]). Where the font, the waivers or the words are
+//! refused, nothing is put on the output; that a read failed is reported only where one did.
 #![tactic(auto)]
 
 mod answering;
@@ -27,10 +27,10 @@ use t1_forms::VERSION;
 use t1_io::{In, Out};
 use t1_run::{Failure, Status, give, tell_failure, words_given};
 
-/// The program's name, in front of what it tells.
+/// The program's name, before what it prints.
 const PROGRAM: &str = "t1draw";
 
-/// What serves instead of a word that isn't UTF-8, behind clap's sentence.
+/// What serves instead of a word that isn't UTF-8, after clap's sentence.
 const NOT_UTF8: &str = "
 A font whose name isn't UTF-8 can be given on standard input: t1draw GLYPH < FONT
 A byte of a glyph's name is written \\xNN

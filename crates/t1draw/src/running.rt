@@ -65,10 +65,10 @@ impl From<AllocError> for Undrawn {
 }
 
 /// Reads a font to its end, then the waivers that the options ask for, and writes the picture of the glyph that they name. Where
-/// there is none, it is told why, and nothing is put on the output.
+/// there is none, the reason is reported, and nothing is put on the output.
 ///
 /// Where memory is there and no device fails, the options, the font's bytes and the text of the waivers decide the picture, to its
-/// last byte, or what is told where there is none ([`a_file_has_one_answer`](crate::laws::a_file_has_one_answer)).
+/// last byte, or what is reported where there is none ([`a_file_has_one_answer`](crate::laws::a_file_has_one_answer)).
 pub fn draw<R: Source, V: Source, W: Sink, E: Sink>(
     alloc: Global,
     options: &Options,
@@ -139,7 +139,7 @@ fn drawn_of<V: Source>(
     Ok(picture(alloc, &view)?)
 }
 
-/// Tells why there is no picture.
+/// Reports why there is no picture.
 fn tell_undrawn<E: Sink>(alloc: Global, options: &Options, why: Undrawn, errors: &mut E) -> Status
     ensures { TellsWhy options.now.glyph.items why (E.state errors.old) (E.state errors.new) result }
 {

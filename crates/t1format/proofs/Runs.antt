@@ -87,7 +87,7 @@ both_none : (a b : List ℕ) → (length (a ++ b) == 0) ≡ ((length a == 0) && 
 both_none [] b = refl
 both_none (c ∷ a) b = rw (sym (some_byte c (a ++ b)), sym (some_byte c a)) refl
 
--- What is left behind a line is shorter.
+-- What is left after a line is shorter.
 pub shorter : (byte : ℕ) (text : List ℕ) → 0 < length text → length (drop_through byte text) + 1 ≤ length text
 shorter byte [] some = absurd (omega (arith, some))
 shorter byte (c ∷ []) some = elim (cases_Bool (c == byte)) [

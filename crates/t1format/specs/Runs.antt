@@ -1,4 +1,4 @@
--- What a run of t1format writes of a text and tells of it, line by line.
+-- What a run of t1format writes of a text and reports of it, line by line.
 use Rattle.std.specs.Prelude.{◌≡◌, ℕ, ◌+◌, ◌<◌, ◌==◌, List, [], ◌++◌, codes, length, Bool, Option, Some, None, option_map, string_bytes}
 use Rattle.std.specs.Fmt.{decimal}
 use Rattle.std.specs.Io.BufRead.{drop_through, first_piece}
@@ -32,7 +32,7 @@ writing_of writers.JsonLines = objects
 writing_of (writers.Sarif d) = document (sarif_state d)
 writing_of writers.GitHub = commands
 
--- In front of all lines: only a document has something there, and behind them.
+-- Before all lines: only a document has something there, and after them.
 abbrev pub begun_in : Form → Option (List ℕ) → Writing
 begun_in asked.JsonLines docs = objects
 begun_in asked.Sarif docs = document (begun docs)
@@ -48,7 +48,7 @@ end_text objects = []
 end_text commands = []
 end_text (document state) = closing state
 
--- What is written of what is told, in whose line it stands, and what is written then.
+-- What is written of what is reported, in whose line it is, and what is written then.
 abbrev pub text_in : Writing → ToldValue → List ℕ → List ℕ
 text_in objects t line = object_line t
 text_in commands t line = command_of t line
@@ -73,11 +73,11 @@ font_or None font = font
 abbrev pub of_font : Option (List ℕ) → ToldValue → ToldValue
 of_font font t = record { font = font_or t.font font; what = t.what }
 
--- What is told of a line that is none.
+-- What is reported of a line that is none.
 abbrev pub passed_line : ℕ → List ℕ
 passed_line number = codes "t1format: line " ++ (decimal number ++ codes ": no line of t1check\n")
 
--- What is written of a line, and what is told of it: its text, and nothing; or nothing, and its number.
+-- What is written of a line, and what is reported of it: its text, and nothing; or nothing, and its number.
 pub data IsOfLine (font : Option (List ℕ)) (writing next : Writing) (number : ℕ) (line written told : List ℕ) : Type 0 where
   read :
       (t : ToldValue) → IsReadAs line t → written ≡ text_in writing (of_font font t) (what_spelled t.what)
@@ -96,7 +96,7 @@ pub data AreOfLines (font : Option (List ℕ)) (last : Writing) : Writing → �
       → AreOfLines font last next (number + 1) (drop_through 10 text) more more_told
       → AreOfLines font last writing number text (written ++ more) (told ++ more_told)
 
--- Of all lines of a text this was written, and this told. It is answered whether each was one.
+-- Of all lines of a text this was written, and this reported. The run returns whether each was one.
 pub record AreWritten
     (font : Option (List ℕ)) (writing last : Writing) (text : List ℕ) (out out' errors errors' : SinkState) (are_lines : Bool) : Type 0 where
   pub texts : List ℕ
@@ -106,7 +106,7 @@ pub record AreWritten
   pub said : Wrote errors errors' told
   pub all : are_lines ≡ (length told == 0)
 
--- A run over a text: this went out, and was flushed once, and this was told.
+-- A run over a text: this went out, and was flushed once, and this was reported.
 pub record IsRunOver (form : Form) (docs font : Option (List ℕ)) (text : List ℕ) (out out' errors errors' : SinkState) (are_lines : Bool) : Type 0 where
   pub texts : List ℕ
   pub told : List ℕ

@@ -1,4 +1,4 @@
-//! `t1format` reads lines of t1check or t1check-all from standard input, and writes them as another program wants them: lines of
+//! `t1format` reads lines of t1check or t1check-all from standard input, and writes them as another program needs them: lines of
 //! JSON, SARIF 2.1.0, or commands of a workflow of GitHub.
 //!
 //! ```text
@@ -7,7 +7,7 @@
 //! ```
 //!
 //! Each line is written when it was read, and takes memory only for itself. A line that is none is named on standard error and
-//! passed over; then the status is 3, as where memory ran out or a device failed.
+//! skipped; then the status is 3, as where memory ran out or a device failed.
 #![tactic(auto)]
 
 mod command_line;
@@ -21,10 +21,10 @@ use t1_forms::VERSION;
 use t1_io::Out;
 use t1_run::{Failure, Status, explain, give, tell_failure, tell_write_failed, words_given};
 
-/// The program's name, in front of what it tells.
+/// The program's name, before what it prints.
 const PROGRAM: &str = "t1format";
 
-/// What serves instead of a word that isn't UTF-8, behind clap's sentence.
+/// What serves instead of a word that isn't UTF-8, after clap's sentence.
 const NOT_UTF8: &str = "
 The name of a font that isn't UTF-8 can stand in the lines that are read
 ";

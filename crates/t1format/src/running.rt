@@ -63,7 +63,7 @@ fn read_line<R: BufRead>(input: &mut R, line: &mut Vec<u8>) -> Result<bool, Stop
     }
 }
 
-/// Tells of a line that is none.
+/// Reports a line that is none.
 fn tell_of_line<E: Sink>(alloc: Global, errors: &mut E, number: u64) -> Result<(), Stop>
     ensures { IfOk result (λ _. Wrote (E.state errors.old) (E.state errors.new) (passed_line number)) }
 {
@@ -79,7 +79,7 @@ fn tell_of_line<E: Sink>(alloc: Global, errors: &mut E, number: u64) -> Result<(
     Ok(())
 }
 
-/// What is told, of the font of this name where no other is named.
+/// What is reported, of the font of this name where no other is named.
 fn of_font<'a>(told: Told<'a>, font: Option<&'a [u8]>) -> Told<'a>
     ensures told { told_value result ≡ of_font (option_map (λ name. name.now) font.entry) (told_value told.entry) }
     ensures line { result.line.now ≡ told.entry.line.now }
@@ -91,7 +91,7 @@ fn of_font<'a>(told: Told<'a>, font: Option<&'a [u8]>) -> Told<'a>
     }
 }
 
-/// Writes a line, and answers whether it is one: what is none is named by its number and passed over.
+/// Writes a line, and returns whether it is one: what is none is named by its number and skipped.
 fn write_line<W: Sink, E: Sink>(
     alloc: Global,
     writer: &mut Writer<'_>,
@@ -142,8 +142,8 @@ fn write_lines<R: BufRead, W: Sink, E: Sink>(
     Ok(are_lines)
 }
 
-/// Writes each line of the input in the form that is asked for. Answers whether each was one: those that are none are named by
-/// their numbers and passed over.
+/// Writes each line of the input in the form that is requested. Returns whether each was one: those that are none are named by
+/// their numbers and skipped.
 pub fn run<R: BufRead, W: Sink, E: Sink>(
     alloc: Global,
     options: &Options,

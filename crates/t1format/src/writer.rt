@@ -19,7 +19,7 @@ pub enum Writer<'a> {
 }
 
 impl<'a> Writer<'a> {
-    /// Writes what stands in front of all lines: only a document has something there.
+    /// Writes what is before all lines: only a document has something there.
     pub fn begin<W: Sink>(
         alloc: Global,
         sink: &mut W,
@@ -55,7 +55,7 @@ impl<'a> Writer<'a> {
         }
     }
 
-    /// Writes what stands behind all lines: only a document has something there.
+    /// Writes what is after all lines: only a document has something there.
     pub fn end<W: Sink>(self, alloc: Global, sink: &mut W) -> Result<(), FormatError>
         ensures { WritesLine (W.state sink.old) (W.state sink.new) (end_text (writing_of self.entry)) result }
     {

@@ -5,7 +5,7 @@ use Rattle.t1_picture.specs.declared.marks.Marks.{Marks}
 use Rattle.t1_picture.specs.Marks.{mark_of_one, mark_with, same_point}
 use Rattle.t1_rules.specs.declared.step_rules.flex.Point.{Point}
 
--- The last mark behind a fault, and those that are done with it.
+-- The last mark after a fault, and those that are done with it.
 abbrev pub last_with : Option FaultMark → Point → ℕ → FaultMark
 last_with None point number = mark_of_one point number
 last_with (Some mark) point number =

@@ -1,4 +1,4 @@
--- Why there is no picture, and what is told of it.
+-- Why there is no picture, and what is reported of it.
 use Rattle.std.specs.Prelude.{◌≡◌, ℕ, true, false, List, None, Result, Ok, Err}
 use Rattle.t1_font.specs.Fonts.{FontValue}
 use Rattle.t1_forms.specs.Shown.{shown}
@@ -82,9 +82,9 @@ abbrev pub DrawsFile : {X : Type 0} → (X → List ℕ) → Options → SourceS
 DrawsFile bytes options file file' waivers waivers' (Ok picture) = IsDrawn options file file' waivers waivers' (bytes picture)
 DrawsFile bytes options file file' waivers waivers' (Err why) = IsUndrawn options file file' waivers waivers' why
 
--- ---- what is told
+-- ---- what is reported
 
--- What is told of it, given the name of the glyph.
+-- What is reported of it, given the name of the glyph.
 abbrev pub told_of : List ℕ → Undrawn → List ℕ
 told_of name (Failed reason) = failure_line program reason
 told_of name NoGlyph = no_glyph_line program (shown name)
@@ -93,7 +93,7 @@ abbrev pub status_of : Undrawn → Status
 status_of (Failed reason) = failure_status reason
 status_of NoGlyph = status.Failed
 
--- It was told; or memory ran out in writing the name of a glyph that the font hasn't, and this was told.
+-- It was reported; or memory ran out in writing the name of a glyph that the font hasn't, and this was reported.
 pub data TellsWhy (name : List ℕ) (why : Undrawn) (errors errors' : SinkState) (result : Status) : Type 0 where
   told : Tells (told_of name why) (status_of why) errors errors' result → TellsWhy name why errors errors' result
   no_room :

@@ -9,7 +9,7 @@ pub data ReadsLine (text line : List ℕ) (left : Option (List ℕ)) (is : Bool)
   none : text ≡ [] → is ≡ false → ReadsLine text line left is
   some : 0 < length text → line ≡ first_piece 10 text → left ≡ Some (drop_through 10 text) → is ≡ true → ReadsLine text line left is
 
--- A line was written, or told to be none.
+-- A line was written, or reported to be none.
 pub record IsDone
     (font : Option (List ℕ)) (writing next : Writing) (number : ℕ) (line : List ℕ) (out out' errors errors' : SinkState) (is_line : Bool) : Type 0 where
   pub written : List ℕ
@@ -19,7 +19,7 @@ pub record IsDone
   pub said : Wrote errors errors' told
   pub is : is_line ≡ (length told == 0)
 
--- The same of the lines in front of one of a number, given what is left of the text.
+-- The same of the lines before one of a number, given what is left of the text.
 pub record IsSoFar
     (font : Option (List ℕ)) (writing now : Writing) (text : List ℕ) (number : ℕ) (left : Option (List ℕ)) (out out' errors errors' : SinkState)
     (are_lines : Bool) : Type 0 where

@@ -37,18 +37,18 @@ given_word : (m : ArgMatches) (rows : List Row) (found : Option (Bor Text)) (wor
     → option_map (λ s. s.now) found ≡ first_value (found_of m) (codes "glyph") → found ≡ Some word → first_of (codes "glyph") rows ≡ Some word.now
 given_word m rows found word same value is = sym (first_of-found m (codes "glyph") rows (Some word.now) same (rw is at value))
 
--- the name that was made of it is the one that it stands for
+-- the name that was made of it is the one that it means
 named : {X : Type 0} (bytes : X → List ℕ) (name : Option X) (x : X) (given : Option Text) (word : Text) → given ≡ Some word
     → option_map bytes name ≡ name_of_word word → name ≡ Some x → option_and_then name_of_word given ≡ Some (bytes x)
 named bytes name x given word at same is = rw at (sym same ∙ ap (option_map bytes) is)
 
--- and it stands for none where none was made
+-- and it means none where none was made
 unnamed : {X : Type 0} (bytes : X → List ℕ) (name : Option X) (word : Text) → ((x : X) → name ≡ Some x → ⊥)
     → option_map bytes name ≡ name_of_word word → name_of_word word ≡ None
 unnamed bytes None word none same = sym same
 unnamed bytes (Some x) word none same = absurd (none x refl)
 
--- a value that is there was lent
+-- a value that is there was borrowed
 is_there : (found : Option (Bor Text)) (value : Option Text) → option_map (λ s. s.now) found ≡ value → IsSome value → IsSome found
 is_there None value same some = subst IsSome (sym same) some
 is_there (Some word) value same some = refl
