@@ -64,7 +64,7 @@ named_by given options paths files excluded paths_are files_are excluded_are wor
       undecoded_is = are.undecoded_is ∙ ap (λ ps. undecoded_of ps are.texts) paths_are;
     }
 
--- what is told of the file of known faults, or of the fonts
+-- what is printed of the file of known faults, or of the fonts
 pub no_rows_told : (known : Texts) (given : ListsGiven) (options : Options) (text : List ℕ) → IsKnownText known options.known_faults text
     → (read : List ℕ) → read ≡ text → (error : UsageError) → IsToldSo (IsWrong read) error → IsToldSo (IsNotListed known given options) error
 no_rows_told known given options text is read read_is error wrong =

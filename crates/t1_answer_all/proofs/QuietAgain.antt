@@ -49,7 +49,7 @@ map_map : {X Y Z : Type 0} (f : Y → Z) (g : X → Y) (xs : List X) → map f (
 map_map f g [] = refl
 map_map f g (x ∷ xs) = ap (λ t. f (g x) ∷ t) (map_map f g xs)
 
--- Of all that are told, what a filter leaves none of.
+-- Of all that are reported, what a filter leaves none of.
 none_left : {X Y : Type 0} (p : Y → Bool) (g : X → Y) (told : X → Bool) (xs : List X) → filter p (map g (filter told xs)) ≡ []
     → AllByRecursion (λ x. told x ≡ true → p (g x) ≡ false) xs
 none_left p g told [] e = tt
@@ -65,7 +65,7 @@ none_left p g told (x ∷ xs) e = elim (cases_Bool (told x)) [
       ((λ t. absurd (true≢false (sym t ∙ other))), none_left p g told xs more)
 ]
 
--- What holds of all that are told.
+-- What holds of all that are reported.
 told_all : {X Y : Type 0} (P : Y → Type 0) (g : X → Y) (told : X → Bool) (xs : List X) → AllByRecursion P (map g (filter told xs))
     → AllByRecursion (λ x. told x ≡ true → P (g x)) xs
 told_all P g told [] all = tt

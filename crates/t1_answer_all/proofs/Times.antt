@@ -1,4 +1,4 @@
--- Lines that are told again and again.
+-- Lines that are printed again and again.
 use Rattle.std.proofs.Common.{◌≡◌, ◌+◌, ◌<◌, ℕ, List, [], ◌∷◌, ◌++◌, ap, append-nil, replicate, subst, sym, ◌∙◌}
 use Rattle.std.proofs.lemmas.List.Folds.{concat-append}
 use Rattle.std.specs.List.{concat}

@@ -1,4 +1,4 @@
--- What is told of the use of the program.
+-- What is printed of the use of the program.
 use Rattle.std.proofs.Common.{◌≡◌, ℕ, List, Result, Ok, Err, inl, inr, sym, subst}
 use Rattle.std.specs.Result.{IfErr, IsErrAnd}
 use Rattle.t1_answer_all.specs.Telling.{IsTold}
@@ -26,7 +26,7 @@ pub handed_on : {T : Type 0} (P : UsageError → Type 0) (result : Result T Usag
 handed_on P (Ok x) error is so = absurd is
 handed_on P (Err e) error is so = subst P (sym is) so
 
--- what was written or not was told as far as the device took it
+-- what was written or not was printed as far as the device took it
 pub told_either : {X E : Type 0} (text : List ℕ) (a b : SinkState) (result : Result X E) → Writes a b text result → IsTold text a b
 told_either text a b (Ok x) wrote = inl wrote
 told_either text a b (Err e) broke = inr broke

@@ -47,7 +47,7 @@ to_replace options left = record {
 
 -- ---- what is answered
 
--- Why words request nothing is told, or help is given.
+-- Why words request nothing is printed, or help is given.
 pub record StopsEarly (error : UsageError) (old new : Devices) (left : ReplacementsValue) : Type 0 where
   pub status : Status
   pub explains : Explains program error old.out new.out old.errors new.errors status
@@ -59,7 +59,7 @@ pub record GivesVersion (version : List ℕ) (old new : Devices) (left : Replace
   pub gives : Gives program version Clean old.out new.out old.errors new.errors status
   pub left_is : left ≡ nothing_to_replace status
 
--- The fonts that the options name are listed and checked, or why not is told.
+-- The fonts that the options name are listed and checked, or why not is printed.
 pub record Checks (known : Texts) (lists : ListsGiven) (files : Files) (options : Options) (old new : Devices) (left : ReplacementsValue) : Type 0 where
   pub run : LeftValue
   pub checks : ChecksBy known lists files options old new run

@@ -49,7 +49,7 @@ wanted_in options = record {
   failing = options.failing;
 }
 
--- No summary is told where there is no font, as in an empty part.
+-- No summary is printed where there is no font, as in an empty part.
 abbrev pub has_none : List (List ℕ) → Bool
 has_none [] = true
 has_none (name ∷ names) = false
@@ -64,7 +64,7 @@ pub record RunsOver (files : Files) (options : Options) (rows : List RowValue) (
       Runs (layout_of options) (unlisted_of fonts) (mode_by options.waivers options.known_faults rows) options.rules wanted (is_quiet options fonts) files
       options.edition fonts.names old new left
 
--- Nothing was checked: this is told, and nothing is left to do.
+-- Nothing was checked: this is printed, and nothing is left to do.
 pub record Stops (error : UsageError) (old new : Devices) (left : LeftValue) : Type 0 where
   pub status : Status
   pub explains : Explains program error old.out new.out old.errors new.errors status
@@ -75,7 +75,7 @@ pub data ChecksOver (files : Files) (options : Options) (rows : List RowValue) (
   ran : RunsOver files options rows fonts (wanted_in options) old new left → ChecksOver files options rows fonts old new left
   no_memory : Stops Memory old new left → ChecksOver files options rows fonts old new left
 
--- The fonts of a part of the list are checked: what is written and told of them, and what is found in them.
+-- The fonts of a part of the list are checked: what is written and printed of them, and what is found in them.
 pub record ChecksPart (files : Files) (options : Options) (rows : List RowValue) (fonts : FontsValue) (shard : Shard) (old new : Devices)
     (found : Part) (status : Result Status Lost) : Type 0 where
   pub writes :
@@ -83,7 +83,7 @@ pub record ChecksPart (files : Files) (options : Options) (rows : List RowValue)
       WritesIn (layout_of options) (unlisted_at (unlisted_of fonts) (shard.part - 1)) (judges_of mode options.rules) files options.edition
       (part_of shard.parts fonts.names (shard.part - 1)) old new (IsFound mode options.rules found) status)
 
--- What couldn't be listed is told first.
+-- What couldn't be listed is printed first.
 abbrev pub TellsAndChecks : Files → Options → List RowValue → FontsValue → Devices → Devices → LeftValue → Type 0
 TellsAndChecks files options rows fonts old new left =
     (behind : SinkState) × IsTold (unlisted_text fonts.undecoded fonts.passed_over fonts.unsearched) old.errors behind

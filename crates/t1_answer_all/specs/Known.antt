@@ -12,14 +12,14 @@ IsKnownText texts Unnamed text = text ≡ []
 IsKnownText texts (Beyond file) text = texts.Has (string_bytes file) text
 IsKnownText texts (Anew file) text = texts.Has (string_bytes file) text ⊎ (texts.HasNone (string_bytes file) × (text ≡ []))
 
--- It can't be read, and this is told.
+-- It can't be read, and this is printed.
 abbrev pub IsNotKnownText : Texts → KnownFaults → List ℕ → Type 0
 IsNotKnownText texts Unnamed told = ⊥
 IsNotKnownText texts (Beyond file) told =
     (texts.CannotRead (string_bytes file) ⊎ texts.HasNone (string_bytes file)) × (told ≡ unreadable_text (string_bytes file))
 IsNotKnownText texts (Anew file) told = texts.CannotRead (string_bytes file) × (told ≡ unreadable_text (string_bytes file))
 
--- A text has no known faults, and this is told of the first line that is wrong.
+-- A text has no known faults, and this is printed of the first line that is wrong.
 pub data IsWrong (text told : List ℕ) : Type 0 where
   no_row : (line : List ℕ) → HasNoRow text line → told ≡ no_row_text line → IsWrong text told
   two_rows : (line : List ℕ) → HasKeyTwice text line → told ≡ two_rows_text line → IsWrong text told

@@ -32,7 +32,7 @@ fonts_value fonts = record {
   passed_over = fonts.passed_over;
 }
 
--- What is told of it.
+-- What is reported of it.
 abbrev pub unlisted_of : FontsValue → List ToldValue
 unlisted_of fonts = unlisted_told fonts.undecoded fonts.passed_over fonts.unsearched
 
@@ -62,7 +62,7 @@ pub record AreFonts (given : ListsGiven) (options : Options) (fonts : FontsValue
   pub some : all ≢ []
   pub part : IsPartOf options.shard all fonts.names
 
--- The list has no font, and this is told.
+-- The list has no font, and this is printed.
 pub record NamesNone (given : ListsGiven) (options : Options) (told : List ℕ) : Type 0 where
   pub fonts : FontsValue
   pub named : AreNamedBy given options fonts
@@ -80,12 +80,12 @@ pub record IsListed (known : Texts) (given : ListsGiven) (options : Options) (te
   pub has_known : HasKnown known options text
   pub fonts_are : AreFonts given options fonts
 
--- A list can't be read, or there is no font, and this is told.
+-- A list can't be read, or there is no font, and this is printed.
 pub data HasNoFonts (given : ListsGiven) (options : Options) (told : List ℕ) : Type 0 where
   unread : CannotReadOne given.texts (map string_bytes options.files_from.items) told → HasNoFonts given options told
   none : NamesNone given options told → HasNoFonts given options told
 
--- Something is wrong, and this is told: of the file of known faults; else of the lists, or that there is no font.
+-- Something is wrong, and this is printed: of the file of known faults; else of the lists, or that there is no font.
 pub data IsNotListed (known : Texts) (given : ListsGiven) (options : Options) (told : List ℕ) : Type 0 where
   no_text : IsNotKnownText known options.known_faults told → IsNotListed known given options told
   no_rows :

@@ -1,4 +1,4 @@
--- Files that are replaced once all was told.
+-- Files that are replaced once all was printed.
 use Rattle.std.specs.Prelude.{◌≡◌, ◌⊎◌, ◌++◌, ◌&&◌, ℕ, Bool, true, false, List, [], ◌∷◌, codes, Option, None, Some, option_map, string_bytes, if◌then◌else◌}
 use Rattle.std.specs.List.{concat}
 use Rattle.t1_answer_all.specs.declared.replacing.NewFile.{NewFile}
@@ -34,7 +34,7 @@ replacements_value left = record {
   overwrites = left.overwrites;
 }
 
--- ---- what is told
+-- ---- what is printed
 
 abbrev pub unwritten_line : List ℕ → List ℕ
 unwritten_line name = concat (program ∷ codes ": " ∷ name ∷ codes " can't be written\n" ∷ [])
@@ -42,13 +42,13 @@ unwritten_line name = concat (program ∷ codes ": " ∷ name ∷ codes " can't 
 abbrev pub there_line : List ℕ → List ℕ
 there_line font = concat (font ∷ codes ": waivers are there already; --force overwrites them\n" ∷ [])
 
--- That something failed is told, as far as the device takes it.
+-- That something failed is printed, as far as the device takes it.
 abbrev pub TellsFailure : List ℕ → SinkState → SinkState → Type 0
 TellsFailure text errors errors' = (status : Status) × Tells text Failed errors errors' status
 
 -- ---- one file
 
--- A text was put in the place of a file; or that failed, which is told.
+-- A text was put in the place of a file; or that failed, which is printed.
 pub data PutsFile {F : Type 0} (Puts : F → F → List ℕ → List ℕ → Bool → Type 0) (name text : List ℕ) (old new : F) (errors errors' : SinkState)
     (done : Bool) : Type 0 where
   put : Puts old new name text true → errors' ≡ errors → done ≡ true → PutsFile Puts name text old new errors errors' done
@@ -73,7 +73,7 @@ abbrev pub IsKeptBack : {F : Type 0} → (F → List ℕ → Bool → Type 0) �
 IsKeptBack Has overwrites files name true = (overwrites ≡ false) × Has files name true
 IsKeptBack Has overwrites files name false = (overwrites ≡ true) ⊎ Has files name false
 
--- The waivers of a font are put into their file; or they are kept back, or memory runs out, and that is told.
+-- The waivers of a font are put into their file; or they are kept back, or memory runs out, and that is printed.
 pub data TriesToPut {F : Type 0} (Puts : F → F → List ℕ → List ℕ → Bool → Type 0) (Has : F → List ℕ → Bool → Type 0) (overwrites : Bool)
     (font text : List ℕ) (old new : F) (errors errors' : SinkState) (done : Bool) : Type 0 where
   tried :
@@ -115,7 +115,7 @@ abbrev pub status_if : Bool → Status → Status
 status_if done status = if done then status else Failed
 
 -- The file of known faults is replaced, if it is left to be, and the waivers are written that are left to be: no other file is touched. Where
--- something failed that is told, and the status is that of a failure.
+-- something failed, that is printed, and the status is that of a failure.
 pub record Replaces {F : Type 0} (Puts : F → F → List ℕ → List ℕ → Bool → Type 0) (Has : F → List ℕ → Bool → Type 0) (left : ReplacementsValue)
     (old new : F) (errors errors' : SinkState) (status : Status) : Type 0 where
   pub between : F

@@ -1,4 +1,4 @@
--- What is told on standard error besides what a run tells.
+-- What is printed on standard error besides what a run prints.
 use Rattle.std.specs.Prelude.{◌++◌, ◌⊎◌, ℕ, List, [], ◌∷◌, codes, replicate}
 use Rattle.std.specs.List.{concat, flat_map}
 use Rattle.t1_io.specs.Devices.{PutFailed, SinkState, Wrote}
@@ -21,6 +21,6 @@ unlisted_text undecoded passed_over unsearched =
 
 -- ---- where the status is that of a failure anyway
 
--- A text is told as far as the device takes it.
+-- A text is printed as far as the device takes it.
 abbrev pub IsTold : List ℕ → SinkState → SinkState → Type 0
 IsTold text old new = Wrote old new text ⊎ PutFailed old new text

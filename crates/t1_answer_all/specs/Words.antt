@@ -21,7 +21,7 @@ words_of paths texts = given_words paths ++ flat_map words_in texts
 abbrev pub undecoded_of : List (List ℕ) → List (List ℕ) → ℕ
 undecoded_of paths texts = min (undecoded_in paths + sum_by unreadable_in texts) (2 ^ 64 - 1)
 
--- A list can't be read, where those before it can, and this is told.
+-- A list can't be read, where those before it can, and this is printed.
 pub record CannotReadOne (lists : Texts) (files : List (List ℕ)) (told : List ℕ) : Type 0 where
   pub before : List (List ℕ)
   pub file : List ℕ

@@ -146,7 +146,7 @@ fn overwrites(waivers: Waivers) -> bool
     }
 }
 
-/// Tells why words request nothing, or gives help.
+/// Prints why words request nothing, or gives help.
 fn explained<W: Sink + Drop, E: Sink + Drop>(
     error: &UsageError,
     out: W,

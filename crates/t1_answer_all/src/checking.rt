@@ -26,7 +26,7 @@ use t1_names::Listing;
 use t1_options::{Options, Waivers};
 use t1_run::{UsageError, explain};
 
-/// Lists the fonts that the options name, tells what couldn't be listed, and checks the fonts; or tells why they can't be listed.
+/// Lists the fonts that the options name, prints what couldn't be listed, and checks the fonts; or prints why they can't be listed.
 pub(crate) fn check_by<T, K, D, L, R, V, O, P, W, E>(
     alloc: Global,
     options: &Options,
@@ -139,7 +139,7 @@ where
     }
 }
 
-/// Tells what couldn't be listed, and checks the fonts.
+/// Prints what couldn't be listed, and checks the fonts.
 fn tell_and_check<R, V, O, P, W, E>(
     alloc: Global,
     options: &Options,
@@ -335,7 +335,7 @@ where
     )
 }
 
-/// Whether the summary is left out: it is where there is no font, as in an empty part.
+/// Whether the summary is omitted: it is where there is no font, as in an empty part.
 fn is_quiet(options: &Options, fonts: &Fonts) -> bool
     ensures { result ≡ is_quiet options.now (fonts_value fonts.now) }
 {
@@ -352,7 +352,7 @@ fn has_none(names: &[String]) -> bool
     }
 }
 
-/// The output that the options ask for.
+/// The output that the options request.
 pub fn output_of<'a>(options: &'a Options, fonts: &'a Fonts) -> Output<'a>
     ensures layout { layout_value result.layout ≡ layout_of options.now }
     ensures unlisted { unlisted_in result.unlisted ≡ unlisted_of (fonts_value fonts.now) }
@@ -363,7 +363,7 @@ pub fn output_of<'a>(options: &'a Options, fonts: &'a Fonts) -> Output<'a>
     }
 }
 
-/// Nothing was checked; why is told.
+/// Prints why nothing was checked.
 pub(crate) fn stopped<W: Sink + Drop, E: Sink + Drop>(
     error: &UsageError,
     out: W,

@@ -28,7 +28,7 @@ pub struct Fonts {
     pub unsearched: Vec<String>,
     /// How many names aren't UTF-8; 2^64 - 1 where there are more.
     pub undecoded: usize,
-    /// How many names have a line end, and so can't stand in a line.
+    /// How many names have a line end, and so can't be in a line.
     pub passed_over: usize,
 }
 

@@ -118,7 +118,7 @@ where
     )
 }
 
-/// The output that the options ask for.
+/// The output that the options request.
 fn output_of_part<'a>(options: &'a Options, fonts: &'a Fonts, shard: Shard) -> Output<'a>
     requires { 1 ≤ shard.part }
     ensures layout { layout_value result.layout ≡ layout_of options.now }

@@ -1,4 +1,4 @@
-//! Files that are replaced once all was told.
+//! Files that are replaced once all was printed.
 
 ghost use Rattle.std.specs.Prelude.{◌≡◌, ℕ, IfOk, List, Bool, map, option_map, string_bytes};
 ghost use Rattle.std.specs.Result.{is_ok};
@@ -51,8 +51,8 @@ pub struct Replacements {
     pub overwrites: bool,
 }
 
-/// Replaces the files that are left to be replaced, and returns the status. Where a file can't be replaced, or waivers are there already; --force overwrites them, that
-/// is told, the status is that of a failure, and the rest is done all the same.
+/// Replaces the files that are left to be replaced, and returns the status. A file that can't be replaced is reported; so are waivers that are there
+/// already, unless they are overwritten. Then the status is that of a failure, and the rest is done all the same.
 pub fn replace_files<F: FileStore, E: Sink>(
     alloc: Global,
     left: &Replacements,
@@ -192,7 +192,7 @@ pub fn waivers_name(alloc: Global, font: &str) -> Result<String, AllocError>
     Ok(name)
 }
 
-/// Puts a text in the place of a file; where that fails it is told. Whether it succeeded.
+/// Puts a text in the place of a file, and prints a failure. Whether it succeeded.
 fn put_file<F: FileStore, E: Sink>(name: &str, text: &[u8], files: &mut F, errors: &mut E) -> bool
     ensures { PutsFile F.puts name.now text.now files.old files.new (E.state errors.old) (E.state errors.new) result }
 {

@@ -1,4 +1,4 @@
-//! Tells on standard error what couldn't be listed.
+//! Prints on standard error what couldn't be listed.
 
 ghost use Rattle.std.specs.Prelude.{map, replicate, string_bytes};
 ghost use Rattle.std.specs.List.{concat, flat_map};
@@ -8,7 +8,7 @@ ghost use Rattle.t1_io.specs.Devices.{Writes};
 use t1_batch::Unlisted;
 use t1_io::{Broken, Sink, put_all, put_parts};
 
-/// Tells what couldn't be listed: names that aren't UTF-8, names with a line end, then folders that weren't searched whole, a line each.
+/// Prints what couldn't be listed: names that aren't UTF-8, names with a line end, then folders that weren't searched whole, a line each.
 pub fn tell_unlisted<E: Sink>(unlisted: Unlisted<'_>, errors: &mut E) -> Result<(), Broken>
     ensures { Writes (E.state errors.old) (E.state errors.new)
         (unlisted_text unlisted.entry.undecoded unlisted.entry.passed_over (map string_bytes unlisted.entry.unsearched.now)) result }
@@ -26,7 +26,7 @@ pub fn tell_unlisted<E: Sink>(unlisted: Unlisted<'_>, errors: &mut E) -> Result<
     tell_unsearched(unlisted.unsearched, errors)
 }
 
-/// Tells a line so often.
+/// Prints a line so often.
 fn tell_times<E: Sink>(count: usize, line: &[u8], errors: &mut E) -> Result<(), Broken>
     ensures { Writes (E.state errors.old) (E.state errors.new) (concat (replicate count line.now)) result }
 {
@@ -36,7 +36,7 @@ fn tell_times<E: Sink>(count: usize, line: &[u8], errors: &mut E) -> Result<(), 
     Ok(())
 }
 
-/// Tells which folders weren't searched whole.
+/// Prints which folders weren't searched whole.
 fn tell_unsearched<E: Sink>(folders: &[String], errors: &mut E) -> Result<(), Broken>
     ensures { Writes (E.state errors.old) (E.state errors.new) (flat_map (λ folder. unsearched_line (string_bytes folder)) folders.now) result }
 {

@@ -1,4 +1,4 @@
-//! What is wrong with the use of the program, as it is told.
+//! What is wrong with the use of the program, as it is printed.
 
 ghost use Rattle.std.specs.Prelude.{◌≡◌, IfOk, string_bytes};
 ghost use Rattle.t1_answer_all.specs.Private.Usage.{IsToldOrMemory, IsUsageOf};
@@ -35,7 +35,7 @@ pub(crate) fn two_rows(alloc: Global, line: &[u8]) -> UsageError
     usage_of(two_rows_text(alloc, line))
 }
 
-/// A text that is told, if memory didn't run out.
+/// A text that is printed, if memory didn't run out.
 fn usage_of(text: Result<String, AllocError>) -> UsageError
     ensures { IsUsageOf text result }
 {

@@ -1,4 +1,4 @@
--- What is told once all fonts were checked, step by step.
+-- What is printed once all fonts were checked, step by step.
 use Rattle.std.proofs.Common.{◌≡◌, ℕ, Bool, true, false, List, [], ◌∷◌, Option, Result, Ok, Err, if◌then◌else◌, refl, sym, subst, ◌∙◌}
 use Rattle.std.specs.List.{AllZip}
 use Rattle.std.specs.Result.{IsErrAnd}
@@ -46,7 +46,7 @@ pub not_failed : (b : Bool) (status : Status) → status ≡ (if b then Failed e
 not_failed true status is other = absurd (other is)
 not_failed false status is other = refl
 
--- ---- what is told
+-- ---- what is printed
 
 module _ (mode : ModeValue) (wanted : WantedValue) (quiet : Bool) (tally : Tally) (all : List Reading) (waivers : List FontText) (rows : Option ℕ)
     (counts : CountsRows mode wanted.choice all rows) (a b c : SinkState) where

@@ -63,7 +63,7 @@ module _ {T F : Type 0} (takes : F → F → Handed → Option Lost → Type 0) 
     texts = tt;
   }
 
-  -- It stopped at a font, or behind it.
+  -- It stopped at a font, or after it.
   record HasStopped (judge : Report → FaultValue → Verdict) (a b : F) (name : List ℕ) (outcome : Outcome) (lost : Lost) : Type 0 where
     pub stop : Option Lost
     pub handed : HandsOn takes a b (handed_of judge name outcome) stop

@@ -51,7 +51,7 @@ pub record IsTextOf (kept : Kept) (reading : Reading) : Type 0 where
   pub font : string_bytes kept.font ≡ reading.font
   pub rows : kept.rows.items ≡ flat_map row_text (rows_of reading.font reading.kinds)
 
--- The rows and the waivers of fonts are kept, as the mode wants it.
+-- The rows and the waivers of fonts are kept, as the mode needs it.
 pub record IsKept (mode : ModeValue) (rules : Mask) (readings : List Kept) (waivers : List FontText) (entries : List Entry) : Type 0 where
   pub readings_are : AllZip IsTextOf readings (readings_of mode rules entries)
   pub waivers_are : waivers ≡ waivers_of mode rules entries

@@ -1,4 +1,4 @@
--- What is told once all fonts were checked, and what is left to do.
+-- What is printed once all fonts were checked, and what is left to do.
 use Rattle.std.specs.Prelude.{◌≡◌, ◌++◌, ℕ, ◌&&◌, nat_lt, Bool, true, false, List, [], codes, length, Option, None, Some, option_map, Result, Ok, Err, if◌then◌else◌}
 use Rattle.std.specs.List.{flat_map, list_any}
 use Rattle.t1_io.specs.Devices.{PutFailed, SinkState, Wrote}
@@ -26,7 +26,7 @@ use Rattle.t1_batch.specs.Modes.{ModeValue, anew, beyond, told, waived}
 use Rattle.t1_batch.specs.declared.ending.Wanted.{Wanted}
 use Rattle.t1_batch.specs.declared.ending.Ended.{Ended}
 
--- Which rules are told, and which make the status that of faults.
+-- Which rules are reported, and which make the status that of faults.
 pub record WantedValue : Type 0 where
   pub choice : Choice
   pub failing : Mask
@@ -38,7 +38,7 @@ wanted_value wanted = record { choice = choice_by wanted.only.now wanted.except.
 abbrev pub IsFoundIn : Kept → Reading → Type 0
 IsFoundIn kept reading = IsTextOf kept reading × IsReadable reading
 
--- ---- what is told
+-- ---- what is printed
 
 -- The rows of known faults that are no longer reached.
 abbrev pub shortfalls_text : ModeValue → Choice → List Reading → List ℕ
@@ -64,7 +64,7 @@ CountsRows waived choice readings count = count ≡ None
 abbrev pub summary_text : ModeValue → Bool → Tally → Option ℕ → List ℕ
 summary_text mode quiet tally rows = if quiet then [] else text_of_summary tally rows (has_known mode)
 
--- Where waivers are to be written, a line that is told is none of a glyph.
+-- Where waivers are to be written, a line that is reported is none of a glyph.
 abbrev pub unwaived_text : ModeValue → Tally → List ℕ
 unwaived_text told tally = []
 unwaived_text (beyond rows) tally = []
@@ -72,7 +72,7 @@ unwaived_text (anew rows) tally = []
 unwaived_text waived tally =
     if nat_lt 0 (fonts_in tally founds.Faulty) then codes "t1check-all: lines of a font itself can not be waived\n" else []
 
--- What is told after the shortfalls.
+-- What is printed after the shortfalls.
 abbrev pub rest_text : ModeValue → Bool → Tally → Option ℕ → List FontText → List ℕ
 rest_text mode quiet tally rows waivers =
     summary_text mode quiet tally rows ++ (unwaived_text mode tally ++ flat_map too_many_line waivers)
@@ -111,7 +111,7 @@ known_faults_in waived choice readings = None
 abbrev pub text_of : Ended → Option (List ℕ)
 text_of ended = option_map (λ text. text.items) ended.known_faults
 
--- All was told; or the device failed behind a front of it; or memory ran out, and nothing was told.
+-- All was printed; or the device failed after a prefix of it; or memory ran out, and nothing was printed.
 abbrev pub Ends : ModeValue → WantedValue → Bool → Tally → List Reading → List FontText → SinkState → SinkState → Result Ended Lost → Type 0
 Ends mode wanted quiet tally readings waivers old new (Ok ended) =
     (rows : Option ℕ) × CountsRows mode wanted.choice readings rows

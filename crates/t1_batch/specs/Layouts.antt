@@ -23,13 +23,13 @@ layout_value layouts.JsonLines = json_lines
 layout_value (layouts.Sarif docs) = sarif (option_map (λ s. s.now) docs)
 layout_value layouts.GitHub = commands
 
--- A line for each font and rule is written where it is to be cut to some columns, and not all lines are wanted.
+-- A line for each font and rule is written where it is to be cut to some columns, and not all lines are requested.
 abbrev pub lines_or_groups : Bool → Option ℕ → Bool → LayoutValue
 lines_or_groups true columns colour = lines
 lines_or_groups false (Some columns) colour = groups (record { width = columns; has_colours = colour })
 lines_or_groups false None colour = lines
 
--- In a form for another program where one is asked for.
+-- In a form for another program where one is requested.
 abbrev pub layout_by : Option Form → Option (List ℕ) → LayoutValue → LayoutValue
 layout_by None docs other = other
 layout_by (Some JsonLines) docs other = json_lines

@@ -41,7 +41,7 @@ judges_of (beyond rows) rules name = by_known (counts_in rows) rules name
 judges_of (anew rows) rules name = as_known rules
 judges_of waived rules name = outside_glyphs rules
 
--- What was found in a font whose report was made: the kinds of its lines whose rules are told.
+-- What was found in a font whose report was made: the kinds of its lines whose rules are reported.
 abbrev pub kinds_of : Mask → Report → List (List ℕ)
 kinds_of rules report = map (kind_in report.font report.waivers) (told_faults rules report.faults)
 

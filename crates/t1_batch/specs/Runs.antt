@@ -49,8 +49,8 @@ left_value left = record {
 abbrev pub nothing_left : Status → LeftValue
 nothing_left status = record { status = status; known_faults = None; waivers = None }
 
--- All that was found is told, and the files are left to be replaced, and where not all could be listed the status is that of a failure; or it
--- stopped, which is told, and nothing is left.
+-- All that was found is printed, and the files are left to be replaced. Where not all could be listed the status is that of a failure.
+-- Or it stopped, which is printed, and nothing is left.
 pub data Concludes (mode : ModeValue) (wanted : WantedValue) (quiet : Bool) (found : Part) (whole : Bool) (old new : SinkState)
     (left : LeftValue) : Type 0 where
   told :
@@ -72,7 +72,7 @@ ConcludesWritten mode wanted quiet found whole (Ok status) old new left = Conclu
 ConcludesWritten mode wanted quiet found whole (Err lost) old new left =
     (status : Status) × Tells (lost_line lost) Failed old new status × (left ≡ nothing_left status)
 
--- What is selected of the fonts was written, and all was told; or it stopped while that was written, which is told, and nothing is left.
+-- What is selected of the fonts was written, and all was printed; or it stopped while that was written, which is printed, and nothing is left.
 pub data Runs (layout : LayoutValue) (unlisted : List ToldValue) (mode : ModeValue) (rules : Mask) (wanted : WantedValue) (quiet : Bool) (files : Files)
     (edition : Edition) (names : List (List ℕ)) (old new : Devices) (left : LeftValue) : Type 0 where
   concluded :

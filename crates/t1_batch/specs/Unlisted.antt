@@ -17,7 +17,7 @@ GivesEach {T} writes old new out out' (told ∷ more) lost =
 abbrev pub undecoded : ToldValue
 undecoded = record { font = None; what = of_unchecked (codes "a name that is not UTF-8 is passed over") }
 
--- A name with a line end can't stand in a line, so none is given.
+-- A name with a line end can't be in a line, so none is given.
 abbrev pub passed_over : ToldValue
 passed_over = record { font = None; what = of_unchecked (codes "a name with a line end is passed over") }
 

@@ -37,7 +37,7 @@ abbrev pub WritesPlain : (List ℕ → Report → FaultValue → Verdict) → Fi
     → Result Status Lost → Type 0
 WritesPlain judges files edition names old new Keeps result = ChecksFonts PlainTakes judges files edition names old new Keeps result
 
--- What stands after all else was written, and all was flushed; or that failed.
+-- What comes after all else was written, and all was flushed; or that failed.
 pub data FinishesForm (Finishes : SinkState → SinkState → Option Lost → Type 0) (old new : SinkState) (lost : Option Lost) : Type 0 where
   flushed : (behind : SinkState) → Finishes old behind None → IsFlushed behind new lost → FinishesForm Finishes old new lost
   unfinished : (reason : Lost) → Finishes old new (Some reason) → lost ≡ Some reason → FinishesForm Finishes old new lost
@@ -71,7 +71,7 @@ pub data WritesFormatted {T : Type 0} (writes : T → T → SinkState → SinkSt
       (left : T) → (lost : Lost) → GivesEach writes formatter left old.out new.out unlisted (Some lost) → new.errors ≡ old.errors
       → result ≡ Err lost → WritesFormatted writes finishes unlisted judges files edition names formatter old new Keeps result
 
--- Nothing stands after all else.
+-- Nothing comes after all else.
 abbrev pub NoEnd : {T : Type 0} → T → SinkState → SinkState → Option Lost → Type 0
 NoEnd formatter old new lost = (new ≡ old) × (lost ≡ None)
 
@@ -117,7 +117,7 @@ pub data WritesCommands (unlisted : List ToldValue) (judges : List ℕ → Repor
       (formatter left : Commands) → (lost : Lost) → GivesEach command_written formatter left old.out new.out unlisted (Some lost)
       → new.errors ≡ old.errors → result ≡ Err lost → WritesCommands unlisted judges files edition names old new Keeps result
 
--- What is written in the layout that is asked for.
+-- What is written in the layout that is requested.
 abbrev pub WritesIn : LayoutValue → List ToldValue → (List ℕ → Report → FaultValue → Verdict) → Files → Edition → List (List ℕ) → Devices
     → Devices → (List Entry → Type 0) → Result Status Lost → Type 0
 WritesIn lines unlisted judges files edition names old new Keeps result = WritesPlain judges files edition names old new Keeps result

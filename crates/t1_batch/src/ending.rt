@@ -1,4 +1,4 @@
-//! What is told once all fonts were checked, and what is left to do.
+//! What is printed once all fonts were checked, and what is left to do.
 
 ghost use Rattle.std.specs.Prelude.{◌≡◌, IfOk, IfSome, List, option_map};
 ghost use Rattle.std.specs.List.{AllZip};
@@ -22,18 +22,18 @@ use t1_summary::{Found, Tally, summary};
 use t1_text::Text;
 use t1_waiving::{Kept as KeptWaivers, tell_too_many};
 
-/// Which rules are told, by their codes, and which make the status that of faults.
+/// Which rules are reported, by their codes, and which make the status that of faults.
 #[derive(Clone, Copy, Debug)]
 pub struct Wanted<'a> {
-    /// The codes of those that are told. Without any, all are.
+    /// The codes of those that are reported. Without any, all are.
     pub only: &'a [&'a [u8]],
-    /// The codes of those that aren't told all the same.
+    /// The codes of those that aren't reported all the same.
     pub except: &'a [&'a [u8]],
     /// The rules of which a line makes the status that of faults.
     pub failing: Mask,
 }
 
-/// What is left to do once all was told.
+/// What is left to do once all was printed.
 #[derive(Debug, Drop)]
 pub struct Ended {
     /// The status so far.
@@ -49,14 +49,14 @@ struct Remade {
     rows: u64,
 }
 
-/// Tells what is told once all fonts were checked, in this order:
+/// Prints what comes after all fonts, in this order:
 ///
 /// - the rows of known faults that are no longer reached;
 /// - unless `quiet`, the summary;
 /// - where waivers are to be written, that lines of a font itself can't be waived, if there are some;
 /// - which fonts have too many waivers.
 ///
-/// Where memory runs out nothing is told.
+/// Where memory runs out nothing is printed.
 pub fn end<E: Sink>(
     alloc: Global,
     mode: Mode<'_>,
@@ -125,7 +125,7 @@ fn borrowed(alloc: Global, kept: &[Kept]) -> Result<Vec<Reading<'_>>, AllocError
     Ok(texts)
 }
 
-/// The file of known faults from now on, where it is made anew. It is read back, which tells how many rows it has.
+/// The file of known faults from now on, where it is made anew. It is read back, which shows how many rows it has.
 fn known_faults_anew(
     alloc: Global,
     mode: Mode<'_>,
@@ -173,7 +173,7 @@ fn text_anew(
     }
 }
 
-/// Tells the rows of known faults that are no longer reached, where lines beyond them are told.
+/// Prints the rows of known faults that are no longer reached, where lines beyond them are reported.
 fn tell_shortfalls<E: Sink>(
     alloc: Global,
     mode: Mode<'_>,
@@ -192,7 +192,7 @@ fn tell_shortfalls<E: Sink>(
     }
 }
 
-/// Tells what comes after that, and returns the status.
+/// Prints what comes after that, and returns the status.
 fn tell_rest<E: Sink>(
     mode: Mode<'_>,
     failing: Mask,
@@ -213,7 +213,7 @@ fn tell_rest<E: Sink>(
     }
 }
 
-/// Tells the summary, unless none is asked for.
+/// Prints the summary, unless `quiet`.
 fn tell_summary<E: Sink>(
     mode: Mode<'_>,
     quiet: bool,
@@ -239,7 +239,7 @@ fn has_known(mode: Mode<'_>) -> bool
     }
 }
 
-/// Tells that lines of a font itself can't be waived, where waivers are to be written and a line was told.
+/// Prints that lines of a font itself can't be waived, where waivers are to be written and a line was reported.
 fn tell_unwaived<E: Sink>(mode: Mode<'_>, tally: &Tally, errors: &mut E) -> Result<(), Broken>
     ensures { Writes (E.state errors.old) (E.state errors.new) (unwaived_text (mode_value mode.entry) tally.now) result }
 {

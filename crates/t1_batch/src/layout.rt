@@ -21,7 +21,7 @@ pub enum Layout<'a> {
     GitHub,
 }
 
-/// The layout that options ask for.
+/// The layout that options request.
 pub fn layout_of(options: &Options) -> Layout<'_>
     ensures { layout_value result ≡ layout_of options.now }
 {
@@ -43,7 +43,7 @@ fn docs_of(options: &Options) -> Option<&str>
     }
 }
 
-/// The layout where no form is asked for.
+/// The layout where no form is requested.
 fn without_form<'a>(options: &Options) -> Layout<'a>
     ensures { layout_value result ≡ lines_or_groups options.now.long options.now.columns options.now.colour }
 {

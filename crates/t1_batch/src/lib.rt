@@ -1,7 +1,7 @@
 //! Many fonts, by the options of a command line: which of their lines are chosen, and how they are written.
 //!
-//! [`run`] is a whole run: [`write_fonts`] checks fonts and writes what is selected of them, and [`conclude`] tells what is told once all were
-//! checked. What is left to do then is replacing files.
+//! [`run`] is a whole run: [`write_fonts`] checks fonts and writes what is selected of them, and [`conclude`] prints what comes after all fonts.
+//! What is left to do then is replacing files.
 #![tactic(auto)]
 
 mod checking;

@@ -13,13 +13,13 @@ use t1_rules::Mask;
 pub struct Selection<'a> {
     /// The edition of the rule book by which fonts are checked.
     pub edition: Edition,
-    /// The rules whose lines are told.
+    /// The rules whose lines are reported.
     pub rules: Mask,
     /// Which of these lines are chosen.
     pub mode: Mode<'a>,
 }
 
-/// Which of the lines of fonts whose rules are told are chosen.
+/// Which of the lines of fonts whose rules are reported are chosen.
 #[derive(Clone, Copy)]
 pub enum Mode<'a> {
     /// All of them.

@@ -1,4 +1,4 @@
-//! A run over many fonts, from the first font to the last line that is told.
+//! A run over many fonts, from the first font to the last line that is printed.
 
 ghost use Rattle.std.specs.Prelude.{◌≡◌, false, if◌then◌else◌, map, string_bytes, Ok};
 ghost use Rattle.std.specs.Fn.{FnReturnsAt};
@@ -22,7 +22,7 @@ use t1_parts::Part;
 use t1_run::{Failure, Status, tell_failure, tell_write_failed};
 use t1_waiving::Kept;
 
-/// The program's name, in front of what it tells of itself.
+/// The program's name, before what it prints of itself.
 pub const PROGRAM: &str = "t1check-all";
 
 /// What is left to do after a run.
@@ -47,8 +47,8 @@ pub struct Ran<W: Sink + Drop, E: Sink + Drop> {
     pub errors: E,
 }
 
-/// Checks fonts in order, writes what is selected of them, and tells what is told once all were checked. Where the output fails, or memory runs
-/// out, that is told, and nothing is left to do.
+/// Checks fonts in order, writes what is selected of them, and prints what comes after all fonts. Where the output fails, or memory runs out,
+/// that is printed, and nothing is left to do.
 pub fn run<R, V, O, P, W, E>(
     alloc: Global,
     fonts: Fonts<'_, O, P>,
@@ -96,7 +96,7 @@ where
     Ran { left, out, errors }
 }
 
-/// Tells what is told once what is selected of the fonts was written, or why it wasn't.
+/// Prints what comes after what is selected of the fonts, or why that wasn't written.
 fn conclude_written<E: Sink>(
     alloc: Global,
     mode: Mode<'_>,
@@ -116,7 +116,7 @@ fn conclude_written<E: Sink>(
     }
 }
 
-/// Tells what is told once all fonts were checked.
+/// Prints what comes after all fonts.
 pub fn conclude<E: Sink>(
     alloc: Global,
     mode: Mode<'_>,
@@ -156,7 +156,7 @@ fn nothing_left(status: Status) -> Left
     }
 }
 
-/// Tells why a run stopped.
+/// Prints why a run stopped.
 pub fn tell_lost<E: Sink>(lost: Lost, errors: &mut E) -> Status
     ensures { Tells (lost_line lost) Status.Failed (E.state errors.old) (E.state errors.new) result }
 {

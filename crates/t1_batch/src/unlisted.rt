@@ -17,7 +17,7 @@ use t1_many_forms::Formatter;
 pub struct Unlisted<'a> {
     /// How many names aren't UTF-8, and so are no names of files here.
     pub undecoded: usize,
-    /// How many names have a line end, and so can't stand in a line.
+    /// How many names have a line end, and so can't be in a line.
     pub passed_over: usize,
     /// The folders that weren't searched whole.
     pub unsearched: &'a [String],
@@ -32,8 +32,7 @@ impl<'a> Unlisted<'a> {
     }
 }
 
-/// Gives a formatter what couldn't be listed: for each name that isn't UTF-8 that it was passed over, for each with a line end that it was, then
-/// the folders.
+/// Gives a formatter what couldn't be listed: that each name that isn't UTF-8 was skipped, that each with a line end was, then the folders.
 pub fn give_unlisted<T: Formatter, W: Sink>(
     alloc: Global,
     unlisted: Unlisted<'_>,

@@ -1,4 +1,4 @@
-//! Writes what is selected of fonts, in the layout that is asked for.
+//! Writes what is selected of fonts, in the layout that is requested.
 
 ghost use Rattle.std.specs.Prelude.{◌≡◌, false, map, string_bytes, Ok};
 ghost use Rattle.std.specs.Fn.{FnReturnsAt};
@@ -214,7 +214,7 @@ where
     }
 }
 
-/// The same in the form of a formatter, which has written what stands before all else.
+/// The same in the form of a formatter, which has written what comes before all else.
 fn write_formatted<R, V, O, P, T, W, E>(
     alloc: Global,
     fonts: Fonts<'_, O, P>,
@@ -273,7 +273,7 @@ fn finish_checked<T: Formatter + Drop, W: Sink>(
     Ok(status)
 }
 
-/// Writes what stands after all else, and flushes it.
+/// Writes what comes after all else, and flushes it.
 fn finish_form<T: Formatter, W: Sink>(alloc: Global, formatter: T, out: &mut W) -> Result<(), Lost>
     ensures { FinishesForm (T.finishes formatter) (W.state out.old) (W.state out.new) (lost_of result) }
 {

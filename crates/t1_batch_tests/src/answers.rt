@@ -149,7 +149,7 @@ a.pfb: 4: glyph A - 4 P03 closepath without a path
     Ok(())
 }
 
-/// What is wrong first is told: known faults, then a list that can't be read, then that there is no font.
+/// What is wrong first is printed: known faults, then a list that can't be read, then that there is no font.
 #[test]
 fn tells_what_is_wrong(rt: HostRuntime) -> Result<(), Fail> {
     let files = [
@@ -247,7 +247,7 @@ fn waivers_for(alloc: Global, names: &[&str]) -> Result<Kept, AllocError> {
     Ok(kept)
 }
 
-/// Waivers that are there already are kept, which is told, and those of the next font are written.
+/// Waivers that are there already are kept, which is printed, and those of the next font are written.
 #[test]
 fn keeps_waivers_that_are_there(rt: HostRuntime) -> Result<(), Fail> {
     let left = Replacements {
@@ -271,7 +271,7 @@ fn keeps_waivers_that_are_there(rt: HostRuntime) -> Result<(), Fail> {
     Ok(())
 }
 
-/// A file that can't be replaced is told, and the waivers are overwritten all the same.
+/// A file that can't be replaced is reported, and the waivers are overwritten all the same.
 #[test]
 fn tells_what_can_not_be_replaced(rt: HostRuntime) -> Result<(), Fail> {
     let left = Replacements {
@@ -296,7 +296,7 @@ fn tells_what_can_not_be_replaced(rt: HostRuntime) -> Result<(), Fail> {
     Ok(())
 }
 
-/// Where all is replaced the status stays, and nothing is told.
+/// Where all is replaced the status stays, and nothing is printed.
 #[test]
 fn replaces_what_is_left(rt: HostRuntime) -> Result<(), Fail> {
     let left = Replacements {

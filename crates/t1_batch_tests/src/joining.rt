@@ -1,4 +1,4 @@
-//! Parts of a run, joined: what is written and told of them, and what is left to do.
+//! Parts of a run, joined: what is written and printed of them, and what is left to do.
 
 use std::alloc::{AllocError, Global};
 use std::io;
@@ -49,7 +49,7 @@ fn output_of<'a>(processes: &[Process<'a>], number: u32) -> io::Result<In<&'a [u
     }
 }
 
-/// Opens what a part told.
+/// Opens what a part printed on standard error.
 fn errors_of<'a>(processes: &[Process<'a>], number: u32) -> io::Result<In<&'a [u8]>> {
     match process_of(processes, number) {
         Some(process) => Ok(In::new(process.errors)),
@@ -119,7 +119,7 @@ fn text_of(alloc: Global, numbers: &[u8]) -> Result<Vec<u8>, AllocError> {
     Ok(text)
 }
 
-/// What is told of the parts, whatever the form.
+/// What is printed of the parts, whatever the form.
 const TOLD: &[u8] = b"\
 b.pfb: t1check: read failed
 c.pfb: t1check: ended by signal 9
@@ -276,7 +276,7 @@ fn writes_a_document_anew(rt: HostRuntime) -> Result<(), Fail> {
     Ok(())
 }
 
-/// The output fails in the line of the part that died: this is told, and nothing is left to do.
+/// The output fails in the line of the part that died: this is printed, and nothing is left to do.
 #[test]
 fn leaves_nothing_where_the_output_fails(rt: HostRuntime) -> Result<(), Fail> {
     let first = text_of(rt.alloc(), FAULTY)?;

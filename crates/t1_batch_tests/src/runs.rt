@@ -194,7 +194,7 @@ fn status_failing(
     Ok(run_over(alloc, &["faulty.pfb"], files, asked, out, errors)?.status)
 }
 
-/// A line makes the status 1 where its rule does, and is told.
+/// A line makes the status 1 where its rule does, and is reported.
 #[test]
 fn some_rules_make_the_status(rt: HostRuntime) -> Result<(), Fail> {
     let faulty = Sample::new(rt.alloc())?.glyph(b"A", FOUR_FAULTS)?.pfb()?;

@@ -1,4 +1,4 @@
--- What is told of fonts whose process died.
+-- What is printed of fonts whose process died.
 use Rattle.std.proofs.Common.{◌≡◌, ◌+◌, ◌<◌, ℕ, List, [], ◌∷◌, ◌++◌, Global, Option, None, Some, String, drop, get_or, length, map, string_bytes, take, refl, sym, ap, subst}
 use Rattle.std.specs.List.{flat_map}
 use Rattle.t1_batch.proofs.GivenEach.{given-append, given-one, given-stopped, map-push, map-within}

@@ -144,7 +144,7 @@ same_texts (x ∷ xs) (y ∷ ys) (r ∷ all) same (first, rest) =
       same_texts xs ys all tail rest,
     )
 
--- What couldn't be listed stands before the fonts of the first part.
+-- What couldn't be listed comes before the fonts of the first part.
 abbrev unlisted_before : List ToldValue → ℕ → List ToldValue
 unlisted_before unlisted zero = []
 unlisted_before unlisted (suc n) = unlisted

@@ -1,4 +1,4 @@
--- What one process writes and tells of fonts, as texts.
+-- What one process writes and prints of fonts, as texts.
 use Rattle.std.proofs.Common.{◌≡◌, ℕ, List, [], ◌∷◌, ◌++◌, Option, None, Some, Ok, Err, inl, inr, refl, sym, subst, ◌∙◌}
 use Rattle.std.proofs.KnownBytes.{Appends-kept, Appends-nil, Appends-trans}
 use Rattle.std.proofs.lemmas.Option.{none-some}
@@ -54,7 +54,7 @@ ok-err x e same = cc
 pub none-same : (a b : SinkState) → b ≡ a → Appends a.written b.written []
 none-same a b same = subst (λ (s : SinkState). Appends a.written s.written []) (sym same) (Appends-nil a.written)
 
--- ---- what is told on standard error, in any form for another program
+-- ---- what is printed on standard error, in any form for another program
 
 module _ {T : Type 0} (writes : T → T → SinkState → SinkState → ToldValue → Option Lost → Type 0) where
   unchecked_told : (old new : Formatting T) (name reason : List ℕ) → GivesUnchecked writes old new name reason None

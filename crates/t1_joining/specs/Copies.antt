@@ -26,7 +26,7 @@ CopyEnds file read old new bytes copy (Some Device) =
     (Wrote old new copy × ((read.failed ≡ true) ⊎ (2 ^ 64 - 1 ≤ length bytes))) ⊎ PutFailed old new copy
 CopyEnds file read old new bytes copy (Some Memory) = Wrote old new copy
 
--- A file was copied, or a front of it was.
+-- A file was copied, or a prefix of it was.
 pub record Copies (extent : Extent) (file read : SourceState) (old new : SinkState) (lost : Option Lost) : Type 0 where
   pub bytes : List ℕ
   pub consumed : Consumes file.left read.left bytes

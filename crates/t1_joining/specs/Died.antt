@@ -1,4 +1,4 @@
--- What is told of fonts that weren't checked, since the process of their part died.
+-- What is printed of fonts that weren't checked, since the process of their part died.
 use Rattle.std.specs.Prelude.{◌≡◌, ◌++◌, ℕ, List, [], map, replicate, Option, None, Some}
 use Rattle.std.specs.List.{flat_map}
 use Rattle.t1_batch.specs.Layouts.{LayoutValue, commands, groups, json_lines, lines, sarif}
@@ -54,8 +54,8 @@ pub data WritesAnew (docs : Option (List ℕ)) (told : List ToldValue) (old new 
       → GivesDocument told document behind new lost → WritesAnew docs told old new lost
   not_begun : (reason : Lost) → IsLinePut old new (opening docs) (Some reason) → lost ≡ Some reason → WritesAnew docs told old new lost
 
--- The whole lines of the part's output were copied, and in a form for another program followed by what is told of each font. A document of SARIF
--- that was cut short isn't copied: one is written anew, which has what couldn't be listed too.
+-- The whole lines of the part's output were copied, and in a form for another program followed by what is reported of each font. A document of
+-- SARIF that was cut short isn't copied: one is written anew, which has what couldn't be listed too.
 abbrev pub WritesDied : LayoutValue → (SinkState → SinkState → Option Lost → Type 0) → List ToldValue → List ToldValue → SinkState → SinkState
     → Option Lost → Type 0
 WritesDied lines Copied unlisted died old new lost = Copied old new lost

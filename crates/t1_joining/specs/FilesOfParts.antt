@@ -16,7 +16,7 @@ pub record FilesOfParts : Type 1 where
   -- The file of a part's output was opened in this state, and left in that one.
   pub OpensOutput : ℕ → SourceState → SourceState → Type 0
   pub CannotOpenOutput : ℕ → Type 0
-  -- The same of what the part told on standard error.
+  -- The same of what the part printed on standard error.
   pub OpensErrors : ℕ → SourceState → SourceState → Type 0
   pub CannotOpenErrors : ℕ → Type 0
   -- Why its process died.

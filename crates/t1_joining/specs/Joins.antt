@@ -28,13 +28,13 @@ use Rattle.t1_summary.specs.declared.found.Found.{Found}
 
 -- ---- one part
 
--- A whole part: all of its output and of what it told was copied.
+-- A whole part: all of its output and of what it printed on standard error was copied.
 abbrev pub CopiesWhole : FilesOfParts → ℕ → Devices → Devices → Option Lost → Type 0
 CopiesWhole files number old new lost =
     Then (OnOutput (CopiesOutput files number All)) (OnErrors (CopiesErrors files number All)) old new lost
 
--- A part whose process died: the whole lines of what it told were copied, and each of its fonts was told as not checked; then the output was
--- written.
+-- A part whose process died: the whole lines of its standard error were copied, and each of its fonts was reported as not checked. Then the
+-- output was written.
 abbrev pub CopiesDied : FilesOfParts → LayoutValue → List ToldValue → List (List ℕ) → ℕ → List ℕ → Devices → Devices → Option Lost → Type 0
 CopiesDied files layout unlisted names number reason old new lost =
     Then (OnErrors (Then (CopiesErrors files number WholeLines) (λ a b l. IsPut a b (died_lines names reason) l)))
@@ -88,7 +88,7 @@ abbrev pub JoinsList : FilesOfParts → LayoutValue → List ToldValue → List 
 JoinsList files layout unlisted names count old new result =
     JoinsAll (λ number. JoinsPart files layout unlisted (part_of count names (number - 1)) number) count old new result
 
--- What the parts left was joined, and then told is what is told once all fonts were checked; or it stopped, which is told, and nothing is left.
+-- What the parts left was joined, and then what comes after all fonts is printed. Or it stopped, which is printed, and nothing is left.
 pub data Joins (files : FilesOfParts) (layout : LayoutValue) (unlisted : List ToldValue) (mode : ModeValue) (wanted : WantedValue) (quiet : Bool)
     (names : List (List ℕ)) (count : ℕ) (old new : Devices) (left : LeftValue) : Type 0 where
   concluded :

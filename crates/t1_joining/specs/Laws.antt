@@ -24,7 +24,7 @@ use Rattle.t1_parts.specs.declared.part.Part.{Part}
 use Rattle.t1_rules.specs.declared.mask.Mask.{Mask}
 use Rattle.t1_run.specs.declared.status.Status.{Status}
 
--- What one process writes and tells of fonts are such texts.
+-- What one process writes and prints of fonts are such texts.
 abbrev pub AProcessLeavesTexts : Files → Type 0
 AProcessLeavesTexts files =
     (layout : LayoutValue) (unlisted : List ToldValue) (mode : ModeValue) (rules : Mask) (edition : Edition) (names : List (List ℕ))
@@ -52,7 +52,7 @@ PartsGiveTheWhole files left =
     × Appends old.errors.written new.errors.written (joined errors_of count)
     × LeavesTexts layout unlisted mode rules files edition names (joined output_of count) (joined errors_of count) found
 
--- Whoever found it, what is told once all fonts were checked, the status and what is left are those of what was found in them.
+-- Whoever found it, what is printed once all fonts were checked, the status and what is left are those of what was found in them.
 abbrev pub TheFoundConcludes : Type 0
 TheFoundConcludes =
     (mode : ModeValue) (rules : Mask) (entries : List Entry) (a b : Part) → IsFound mode rules a entries → IsFound mode rules b entries

@@ -34,8 +34,8 @@ IsOutputOf json_lines unlisted handed output = output ≡ flat_map object_line u
 IsOutputOf commands unlisted handed output = output ≡ flat_map unlisted_command unlisted ++ text_after command_wording [] handed
 IsOutputOf (sarif docs) unlisted handed output = Unit {0}
 
--- What fonts of these names leave whose files were checked once each, in order: their output, what is told of them on standard error, and what was
--- found in them.
+-- What fonts of these names leave whose files were checked once each, in order: their output, what is printed of them on standard error, and what
+-- was found in them.
 pub record LeavesTexts (layout : LayoutValue) (unlisted : List ToldValue) (mode : ModeValue) (rules : Mask) (files : Files) (edition : Edition)
     (names : List (List ℕ)) (output errors : List ℕ) (found : Part) : Type 0 where
   pub entries : List Entry
@@ -52,7 +52,7 @@ WentOut json_lines old new output = Appends old.written new.written output
 WentOut commands old new output = Appends old.written new.written output
 WentOut (sarif docs) old new output = Unit {0}
 
--- Such texts were written and told.
+-- Such texts were written and printed.
 pub record HasLeft (layout : LayoutValue) (unlisted : List ToldValue) (mode : ModeValue) (rules : Mask) (files : Files) (edition : Edition)
     (names : List (List ℕ)) (old new : Devices) (found : Part) : Type 0 where
   pub output : List ℕ

@@ -26,7 +26,7 @@ use t1_many_forms::{Formatter, GitHubCommands, JsonLines};
 use t1_parts::Part;
 use t1_summary::Found;
 
-/// What stands before the reason why a font wasn't checked.
+/// What comes before the reason why a font wasn't checked.
 const UNCHECKED: &str = "t1check: ";
 
 /// Fonts that weren't checked, and why.
@@ -49,7 +49,7 @@ pub(crate) fn line_of(alloc: Global, reason: &str) -> Result<String, AllocError>
     Ok(line)
 }
 
-/// Tells on standard error that each of them wasn't checked.
+/// Prints on standard error that each of them wasn't checked.
 pub(crate) fn tell_died<E: Sink>(errors: &mut E, died: Died<'_>) -> Result<(), Broken>
     ensures { Writes (E.state errors.old) (E.state errors.new) (died_lines (map string_bytes died.entry.names.now) died.entry.reason.now) result }
 {

@@ -20,7 +20,7 @@ pub struct PartFiles<F, O, E, D> {
     pub found: F,
     /// Opens the file of a part's output.
     pub output: O,
-    /// Opens the file of what it told on standard error.
+    /// Opens the file of what it printed on standard error.
     pub errors: E,
     /// Why its process died.
     pub reason: D,

@@ -19,8 +19,8 @@ use t1_io::{Sink, Source};
 use t1_many::Lost;
 use t1_parts::Part;
 
-/// Writes what the parts left, in their order, and tells what is told once all fonts were checked. Where a read or a write fails, or memory runs
-/// out, that is told, and nothing is left to do.
+/// Writes what the parts left, in their order, and prints what comes after all fonts. Where a read or a write fails, or memory runs out, that
+/// is printed, and nothing is left to do.
 pub fn join<R, F, O, E, D, W, S>(
     alloc: Global,
     files: PartFiles<F, O, E, D>,
@@ -54,7 +54,7 @@ where
     conclude_joined(alloc, mode, wanted, quiet, joined, whole, errors)
 }
 
-/// Tells what is told once the parts were joined, or why they weren't.
+/// Prints what comes after the joined parts, or why they weren't joined.
 fn conclude_joined<S: Sink>(
     alloc: Global,
     mode: Mode<'_>,

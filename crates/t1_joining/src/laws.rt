@@ -10,10 +10,10 @@ use std::alloc::AllocError;
 use std::io;
 use t1_io::Source;
 
-/// What is joined of the parts of a list, from the files that their processes left, is what one process writes and tells of the whole list, in the
+/// What is joined of the parts of a list, from the files that their processes left, is what one process writes and prints of the whole list, in the
 /// plain form and as lines of JSON byte for byte. In each form it is the parts' bytes, one part after another.
 ///
-/// So what is told at the end, the status and what is left to do are those of one process, since they are those of what was found.
+/// So what is printed at the end, the status and what is left to do are those of one process, since they are those of what was found.
 pub fn parts_give_the_whole<R, V, A, B, S, F, O, E, D>(
     _open_font: &A,
     _open_waivers: &B,

@@ -188,7 +188,7 @@ where
     Ok(died_part(alloc, names.len()))
 }
 
-/// Copies what a part left whose process died, and tells each of its fonts as not checked.
+/// Copies what a part left whose process died, and reports each of its fonts as not checked.
 fn copy_died<R, F, O, E, D, W, S>(
     alloc: Global,
     files: &PartFiles<F, O, E, D>,
@@ -218,7 +218,7 @@ where
     write_died(alloc, &files.output, number, output, died, out)
 }
 
-/// Copies what it told, and tells each of its fonts as not checked.
+/// Copies what it printed on standard error, and reports each of its fonts as not checked.
 fn copy_errors<R, E, S>(
     alloc: Global,
     opens: &E,

@@ -13,7 +13,7 @@ use t1_io::Out;
 use t1_options::{Options, Request, options};
 use t1_run::{Failure, Status, UsageError, explain, give, tell_failure};
 
-/// A step of a run, with its folder. The words of the run stand behind it.
+/// A step of a run, with its folder. The words of the run come after it.
 #[derive(Clone, Copy)]
 pub(crate) enum Step<'a> {
     /// Lists the fonts, for so many processors.
@@ -21,7 +21,7 @@ pub(crate) enum Step<'a> {
         folder: &'a str,
         processors: &'a str,
     },
-    /// Checks the fonts of a part, whose number stands here.
+    /// Checks the fonts of a part, whose number is here.
     Part {
         folder: &'a str,
         number: &'a str,

@@ -124,7 +124,7 @@ impl<'a> FileStore for SystemFiles<'a> {
     }
 }
 
-/// How many names are tried of a file that is to stand beside another one.
+/// How many names are tried of a file that is to be beside another one.
 const MOST_TRIES: u32 = 100;
 
 /// Puts a text in the place of a file: it is written beside it first, into a file that wasn't there.

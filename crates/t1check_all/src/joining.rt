@@ -15,7 +15,7 @@ use t1_known::KnownFaults;
 use t1_options::Options;
 use t1_run::{Status, UsageError, explain};
 
-/// Writes what the parts left, tells what is told once all fonts were checked, and replaces files.
+/// Writes what the parts left, prints what comes after all fonts, and replaces files.
 pub(crate) fn join_parts<W: Write + Drop, E: Write + Drop>(
     rt: &HostRuntime,
     folder: &str,

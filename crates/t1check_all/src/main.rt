@@ -1,4 +1,4 @@
-//! `t1check-all` checks many fonts: it writes the lines of their reports with their names in front, and says how the fonts were found.
+//! `t1check-all` checks many fonts: it writes the lines of their reports, each after its font's name, and says how the fonts were found.
 //!
 //! ```text
 //! $ t1check-all fonts

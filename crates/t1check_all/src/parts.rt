@@ -36,7 +36,7 @@ pub(crate) fn check_listed<W: Write + Drop, E: Write + Drop>(
     }
 }
 
-/// Checks the fonts of a part, and leaves what was written and told of them, and what was found in them.
+/// Checks the fonts of a part, and leaves what was written and printed of them, and what was found in them.
 pub(crate) fn check_part<E: Write + Drop>(
     rt: &HostRuntime,
     folder: &str,
@@ -71,7 +71,7 @@ fn part_left(rt: &HostRuntime, folder: &str, number: &str, options: Options) -> 
     leave_part(rt, folder, part, written)
 }
 
-/// Checks the fonts of a part. What is written and told of them goes into files.
+/// Checks the fonts of a part. What is written and printed of them goes into files.
 fn written_part(
     rt: &HostRuntime,
     folder: &str,

@@ -11,7 +11,7 @@ use t1_io::Out;
 use t1_options::{Form, Options};
 use t1_run::{Status, UsageError, explain};
 
-/// Lists the fonts that the options name, tells what couldn't be listed, and leaves the list, the known faults and the number of parts in a
+/// Lists the fonts that the options name, prints what couldn't be listed, and leaves the list, the known faults and the number of parts in a
 /// folder.
 pub(crate) fn plan<W: Write + Drop, E: Write + Drop>(
     rt: &HostRuntime,
@@ -69,7 +69,7 @@ fn parts_of(fonts: &Fonts, processors: u32, options: &Options) -> u32 {
     }
 }
 
-/// Leaves what the next steps want.
+/// Leaves what the next steps need.
 fn leave(
     rt: &HostRuntime,
     folder: &str,

@@ -1,4 +1,4 @@
-//! Files that are replaced once all was told.
+//! Files that are replaced once all was printed.
 
 use crate::files::SystemFiles;
 use t1_answer_all::{replace_files, to_replace};

@@ -101,7 +101,7 @@ fn first_path(options: &Options) -> Option<&str> {
     None
 }
 
-/// The words of settings, unless one of their values means nothing, which is told with the file's name.
+/// The words of settings, unless one of their values means nothing, which is reported with the file's name.
 fn taken(alloc: Global, settled: Settled) -> Result<Vec<String>, UsageError> {
     let Settled { file, words } = settled;
     let Some(file) = file else {

@@ -5,7 +5,7 @@ use t1_batch::PROGRAM;
 use t1_forms::VERSION;
 use t1_run::UsageError;
 
-/// The version, as it is told.
+/// The version, as it is printed.
 pub(crate) fn version_line(alloc: Global) -> Result<String, AllocError> {
     format!(in alloc; "{PROGRAM} {VERSION}\n")
 }
@@ -18,7 +18,7 @@ pub(crate) fn said(alloc: Global, parts: &[&[u8]]) -> UsageError {
     }
 }
 
-/// A sentence of these parts, behind the program's name.
+/// A sentence of these parts, after the program's name.
 fn sentence(alloc: Global, parts: &[&[u8]]) -> Result<String, AllocError> {
     let mut text = String::from_str(alloc, "t1check-all: ")?;
     for part in parts {

@@ -3,8 +3,8 @@
 use std::alloc::{AllocError, Global};
 use std::env::{Env, FillError};
 
-/// The words that the program was started with, its name first. A word that isn't UTF-8 stands behind a NUL, by which [`is_marked`](t1_options::is_marked)
-/// knows it, with U+FFFD in the place of what isn't.
+/// The words that the program was started with, its name first. A word that isn't UTF-8 comes after a NUL, by which
+/// [`is_marked`](t1_options::is_marked) knows it, with U+FFFD in the place of what isn't.
 pub(crate) fn words_given(rt: &HostRuntime) -> Result<Vec<String>, AllocError> {
     let alloc = rt.alloc();
     let mut words = Vec::new(alloc);
@@ -18,7 +18,7 @@ pub(crate) fn words_given(rt: &HostRuntime) -> Result<Vec<String>, AllocError> {
     Ok(words)
 }
 
-/// The word at a place: None where there is no such word. The buffer grows to what the word wants.
+/// The word at a place: None where there is no such word. The buffer grows to what the word needs.
 fn word_at(
     rt: &HostRuntime,
     place: usize,

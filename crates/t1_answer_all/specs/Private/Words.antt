@@ -9,7 +9,7 @@ use Rattle.t1_answer_all.specs.Words.{undecoded_of, words_of}
 use Rattle.t1_answer_all.specs.declared.words.Words.{Words}
 use Rattle.t1_names.specs.Lists.{unreadable_in, words_in}
 
--- The lists have texts, and these are their words behind those of the command line.
+-- The lists have texts, and these are their words after those of the command line.
 pub record AreWordsOf (lists : Texts) (paths files : List (List ℕ)) (words : Words) : Type 0 where
   pub texts : List (List ℕ)
   pub read : AllZip lists.Has files texts

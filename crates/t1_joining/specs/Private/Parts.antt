@@ -56,7 +56,7 @@ abbrev pub Added : Part → Part → Part → Result (Unit {0}) Lost → Type 0
 Added all part after (Ok done) = AddsPart all part after
 Added all part after (Err lost) = lost ≡ Memory
 
--- What is told once parts were joined, or why they weren't.
+-- What is printed once parts were joined, or why they weren't.
 abbrev pub ConcludesJoined : ModeValue → WantedValue → Bool → Result Part Lost → Bool → SinkState → SinkState → LeftValue → Type 0
 ConcludesJoined mode wanted quiet (Ok found) whole old new left = Concludes mode wanted quiet found whole old new left
 ConcludesJoined mode wanted quiet (Err lost) whole old new left =
