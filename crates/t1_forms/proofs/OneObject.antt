@@ -124,7 +124,7 @@ file_of file (of_line (of_fault l)) = file_of_fault file l.number l.place l.rule
 file_of file (of_line (of_refusal code)) = refl
 file_of file (of_unchecked reason) = refl
 
--- ---- and they tell it again
+-- ---- and they report it again
 
 abbrev numbers_in : Items → List ℕ
 numbers_in no_items = []

@@ -1,4 +1,4 @@
--- All runs have as many results as there are lines, and tell of as many fonts as weren't checked.
+-- All runs have as many results as there are lines, and report as many fonts as weren't checked.
 use Rattle.std.proofs.Common.{◌≡◌, ◌≤◌, ◌<◌, ℕ, ◌+◌, nat_lt, List, [], ◌∷◌, ◌++◌, length, length-append, Option, inl, inr, arith}
 use Rattle.std.proofs.lemmas.Bool.{cases_Bool, ltb-true}
 use Rattle.std.proofs.lemmas.List.Sums.{sum_by-cons}

@@ -9,7 +9,7 @@ use Rattle.t1_forms.specs.Percents.{decoded}
 use Rattle.t1_forms.specs.Shown.{shown}
 use Rattle.t1_forms.specs.Tellings.{IsWhat, ToldValue, WhatValue, behind_name, of_line, of_unchecked}
 
--- A text is that of one line of a report or a refusal at most, with one font's name in front or with none, whatever the name is.
+-- A text is that of one line of a report or a refusal at most, with one font's name before it or with none, whatever the name is.
 abbrev pub ATextTellsOneLine : Type 0
 ATextTellsOneLine =
     (name other : Option (List ℕ)) (a b : LineValue) → IsLine a → IsLine b

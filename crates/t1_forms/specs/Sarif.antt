@@ -80,7 +80,7 @@ closing state = state_end state ++ codes "]}\n"
 abbrev pub counts_in : SarifState → List ℕ → List ℕ
 counts_in state unit = if bytes_eq unit state.unit then state.counts else no_counts
 
--- The how-manieth result of its unit and its code comes now.
+-- The ordinal of the next result among those of its unit and its code.
 abbrev pub count_of : SarifState → Option (List ℕ) → LineValue → ℕ
 count_of state font l = one_more (slice_index (counts_in state (unit_of font l)) (place_among pages (line_code l)))
 

@@ -152,7 +152,7 @@ line_unit (of_refusal code) = codes " refused"
 abbrev pub unit_of : Option (List ℕ) → LineValue → List ℕ
 unit_of font l = shown (unwrap_or font []) ++ line_unit l
 
--- A line is known by its unit, its code, and how many lines of both there were, this one too: this stays where lines of other units or rules
+-- A line is known by its unit, its code, and how many lines of both there were, this one too. This stays where lines of other units or rules
 -- come or go.
 abbrev pub fingerprint : List ℕ → LineValue → ℕ → List ℕ
 fingerprint unit l count = unit ++ (32 ∷ (line_id l ++ (32 ∷ decimal count)))

@@ -49,7 +49,7 @@ pub record IsToldAs (whole : List ℕ) (t : Told) : Type 0 where
   pub line : t.line.now ≡ what_spelled (what_value t.what)
   pub text : behind_name (option_map (λ name. name.now) t.font) t.line.now ≡ whole
 
--- The text is no line of t1check, with no name in front and with none.
+-- The text is no line of t1check, neither after a name nor alone.
 abbrev pub IsNoLine : List ℕ → Type 0
 IsNoLine text = (font : Option (List ℕ)) (l : LineValue) → IsLine l → ¬ (behind_name font (spelled l) ≡ text)
 

@@ -4,7 +4,7 @@ use Rattle.t1_io.specs.Devices.{SinkState, Wrote, PutFailed}
 use Rattle.t1_forms.specs.declared.error.FormatError.{FormatError}
 use Rattle.t1_forms.specs.declared.error.FormatError.TheVariants.{Memory, Broken}
 
--- The line was written; or memory ran out, and nothing was written; or a put failed, and a front of it went out.
+-- The line was written; or memory ran out, and nothing was written; or a put failed, and a prefix went out.
 abbrev pub WritesLine : {X : Type 0} → SinkState → SinkState → List ℕ → Result X FormatError → Type 0
 WritesLine old new line (Ok x) = Wrote old new line
 WritesLine old new line (Err Memory) = new ≡ old

@@ -140,7 +140,7 @@ fn put_command<W: Sink>(
 }
 
 /// Writes a command that shows a line of t1check at the font: an error, a warning or a notice of a fault, by its rule's level, an
-/// error where the font was refused or wasn't checked. A font has no lines of text, so line 1 is named. After a failure a front of
+/// error where the font was refused or wasn't checked. A font has no lines of text, so line 1 is named. After a failure a prefix of
 /// the command went out.
 pub fn write_command<W: Sink>(sink: &mut W, told: &Told<'_>) -> Result<(), Broken>
     ensures { Writes (W.state sink.old) (W.state sink.new) (command_of (told_value told.now) told.now.line.now) result }
@@ -154,7 +154,7 @@ pub fn write_command<W: Sink>(sink: &mut W, told: &Told<'_>) -> Result<(), Broke
 }
 
 /// Writes a command that shows a message of a rule at the font, by the rule's level and with its text as the title. After a
-/// failure a front of the command went out.
+/// failure a prefix of the command went out.
 pub fn write_rule_command<W: Sink>(
     sink: &mut W,
     font: Option<&[u8]>,

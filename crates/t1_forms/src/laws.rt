@@ -4,7 +4,7 @@ ghost use Rattle.t1_forms.specs.Laws.{ATextTellsOneLine, CommandsAreReadBack, Di
 
 use t1_lines::{a_text_is_one_line, no_line_stands_in_another};
 
-/// A text is that of one line of a report or a refusal at most, with one font's name in front or with none, whatever the name is.
+/// A text is that of one line of a report or a refusal at most, with one font's name before it or with none, whatever the name is.
 pub fn a_text_tells_one_line()
     ensures { ATextTellsOneLine }
 {
@@ -12,7 +12,7 @@ pub fn a_text_tells_one_line()
     no_line_stands_in_another();
 }
 
-/// A name, as it is shown, is a word for it, so that what a legend, an object or a line shows can be given to t1draw as GLYPH: no
+/// A name, as it is shown, is a word for it, so that what a legend, an object or a line shows can be given to t1draw as GLYPH. No
 /// two names are shown alike, and each name has a word.
 #[tactic(auto, using(crate::proofs::ShownWords::shown_words))]
 pub fn shown_names_are_words()

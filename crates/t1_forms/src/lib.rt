@@ -1,7 +1,7 @@
 //! The lines of t1check and t1check-all in the forms that other programs read: lines of JSON, SARIF 2.1.0, and the commands
 //! by which a workflow of GitHub reports a fault.
 //!
-//! [`read_told`] reads a line: that of one font, or with the font's name in front, or why a font wasn't checked. [`write_object`]
+//! [`read_told`] reads a line: that of one font, or with the font's name before it, or why a font wasn't checked. [`write_object`]
 //! writes it as an object in a line of its own, [`Sarif`] as a result in a document, [`write_command`] as a command.
 //!
 //! What is promised, for all bytes:

@@ -435,7 +435,7 @@ pub(crate) fn unit_of(
     Ok(unit)
 }
 
-/// What a line is known by when other lines come or go: the unit, the code, and the how-manieth of these it is.
+/// What a line is known by when other lines come or go: the unit, the code, and its ordinal among these.
 pub(crate) fn fingerprint(
     alloc: Global,
     unit: &str,

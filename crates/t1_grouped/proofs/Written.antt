@@ -50,7 +50,7 @@ commands_worded = record {
   unchecked = λ name reason. refl;
 }
 
--- ---- fronts
+-- ---- prefixes
 
 front-all : (a b : Option (List ℕ)) (x : List ℕ) → Appends a b x → AppendsFront a b x
 front-all a b x all = (x, ([], (sym (append-nil x), all)))

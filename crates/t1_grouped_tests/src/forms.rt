@@ -255,7 +255,7 @@ fn writes_commands(rt: HostRuntime) -> Result<(), Fail> {
     Ok(())
 }
 
-/// The output fails in its first line: the run stops there, and a front of the line went out.
+/// The output fails in its first line: the run stops there, and a prefix of the line went out.
 #[test]
 fn stops_where_the_output_fails(rt: HostRuntime) -> Result<(), Fail> {
     let faulty = font(rt.alloc(), &[b"A"])?;

@@ -17,7 +17,7 @@ use Rattle.t1_summary.specs.declared.found.Found.{Found}
 use Rattle.t1_run.specs.declared.failure.Failure.{Failure}
 use Rattle.t1_run.specs.declared.failure.Failure.TheVariants as failures
 
--- ---- fronts
+-- ---- prefixes
 
 pub front-all : (a b : Option (List ℕ)) (x : List ℕ) → Appends a b x → AppendsFront a b x
 front-all a b x all = (x, ([], (sym (append-nil x), all)))
@@ -40,7 +40,7 @@ none-same a b same = subst (λ (s : SinkState). Appends a.written s.written []) 
 
 -- ---- the output
 
--- A line was put, or a front of it where it stopped.
+-- A line was put, or a prefix of it where it stopped.
 abbrev IsOut : SinkState → SinkState → List ℕ → Option Lost → Type 0
 IsOut old new text None = Appends old.written new.written text
 IsOut old new text (Some lost) = AppendsFront old.written new.written text × ((lost ≡ Memory) ⊎ (new.failed ≡ true))

@@ -22,7 +22,7 @@ pub fn lines_are_those_of_reports()
     ensures { LinesAreThoseOfReports }
 {}
 
-/// What is handed on as lines of JSON is written, an object a line, one after another, and reported as in the plain form; after the last font
+/// What is handed on as lines of JSON is written, an object a line, one after another, and reported as in the plain form. After the last font
 /// the output is flushed. Where a device fails, or memory runs out, a prefix of it was.
 pub fn json_lines_are_written<W: Sink, E: Sink>()
     ensures written { (old new : FormattedValue JsonLinesValue W E) (handed : List Handed) (lost : Option LostValue)

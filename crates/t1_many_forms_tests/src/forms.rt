@@ -166,7 +166,7 @@ fn writes_a_document(rt: HostRuntime) -> Result<(), Fail> {
     Ok(())
 }
 
-/// The output fails in its first line: the run stops there, and a front of the line went out.
+/// The output fails in its first line: the run stops there, and a prefix of the line went out.
 #[test]
 fn stops_where_the_output_fails(rt: HostRuntime) -> Result<(), Fail> {
     let faulty = Sample::new(rt.alloc())?.glyph(b"A", FOUR_FAULTS)?.pfb()?;

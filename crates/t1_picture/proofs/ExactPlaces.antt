@@ -8,7 +8,7 @@ use Rattle.t1_picture.specs.declared.decimals.Unit.TheVariants.{Coordinate, Valu
 use Rattle.t1_picture.specs.Decimals.{places}
 use Rattle.t1_picture.specs.Laws.{PlacesAreExact, digits_value}
 
--- A digit more in front, which is a tenth part.
+-- One digit more before the others, which is a tenth part.
 digit_more : (digit left rest one power value : ℕ) → digit * one + left ≡ rest * 10 → value * one ≡ left * power
     → (digit * power + value) * one ≡ rest * (10 * power)
 digit_more digit left rest one power value division kept =

@@ -82,7 +82,7 @@ one_drawn part old l l' before ns ns' known known' n step has less within ahead 
       composition = composed ∙ ap composition_of (sym seen);
     }
 
--- So many are drawn as were asked for.
+-- So many are drawn as were requested.
 pub all_drawn : (part : PartView) (old l : LayersView) (before ns : List (List ℕ)) (known : Composition) (m : MachineView) (n : ℕ)
     → HasDrawn part old l before ns known n → IsRunOf part m → steps_in m ≡ limited_steps part → m.counted ≡ n → n ≡ part.last
     → DrawsSteps part old l before ns known m Reached
@@ -154,7 +154,7 @@ why_limited part long = by_test (nat_lt (limit_of part.edition) (length (steps_o
 pub steps_of_run : (part : PartView) (m : MachineView) → IsRunOf part m → steps_in m ≡ limited_steps part
 steps_of_run part m run = rw (run.font, run.glyph, run.edition) refl
 
--- Where so many are drawn as were asked for, the last one is in hand.
+-- Where so many are drawn as were requested, the last one is in hand.
 reached_within : (part : PartView) → stop_of part ≡ Reached → part.last ≤ length (limited_steps part)
 reached_within part is = by_test (nat_le part.last (length (limited_steps part))) refl is
   where

@@ -1,4 +1,4 @@
--- The glyphs that are drawn: the one that was asked for, and the components of its seac. Type 1 Font Format 1.1, chapter 6.
+-- The glyphs that are drawn: the one that was requested, and the components of its seac. Type 1 Font Format 1.1, chapter 6.
 use Rattle.std.specs.Prelude.{ℕ, ◌-◌, ◌^◌, Bool, Option, None, Some, is_some, unwrap_or, List, [], ◌∷◌, ◌++◌, codes, map, String, string_bytes}
 use Rattle.std.specs.declared.alloc.Global.{Global}
 use Rattle.std.specs.Fmt.{decimal}

@@ -18,7 +18,7 @@ abbrev pub title_line : Edition → List ℕ → List ℕ
 title_line One title = title
 title_line Two title = title ++ codes ", edition 2"
 
--- The last step that was asked for.
+-- The last step that was requested.
 abbrev pub step_line : ℕ → Option (List ℕ) → List ℕ
 step_line number (Some line) = codes "up to step " ++ line
 step_line number None = codes "up to step " ++ (decimal number ++ codes ", which isn't reached")

@@ -125,7 +125,7 @@ part_notes part = flex_notes part.label [] (drawn_steps part) ++ end_notes part
 
 -- ---- the last step
 
--- The last step that was asked for, as a trace has it, where it is there.
+-- The last step that was requested, as a trace has it, where it is there.
 abbrev pub line_of_step : ℕ → StepView → List ℕ
 line_of_step number step = legible_line (step_line (step_of_number number step))
 

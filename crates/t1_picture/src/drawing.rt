@@ -1,4 +1,4 @@
-//! The glyphs that are drawn: the one that was asked for, and the components of its seac.
+//! The glyphs that are drawn: the one that was requested, and the components of its seac.
 
 ghost use Rattle.std.specs.Prelude.{◌≡◌, ◌<◌, ◌++◌, IfOk, IfSome, OnOk, length, string_bytes};
 ghost use Rattle.t1_outline.specs.Parts.{IsIn};
@@ -26,7 +26,7 @@ pub(crate) struct Drawing {
     pub(crate) notes: Vec<String>,
     /// What the steps of the glyph itself say of its parts.
     pub(crate) composition: Composition,
-    /// The last step that was asked for, as a trace has it, without its end; none where it isn't there.
+    /// The last step that was requested, as a trace has it, without its end; none where it isn't there.
     pub(crate) last_step: Option<String>,
 }
 

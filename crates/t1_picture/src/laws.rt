@@ -4,8 +4,8 @@ ghost use Rattle.t1_picture.specs.Laws.{AmpersandsBeginEntities, HasNoOtherPictu
 
 use t1_report::faults_of_a_unit_are_the_reports;
 
-/// A font of at most 65,535 glyphs, a glyph of it, at most 1,048,576 waivers, an edition and a step have a picture, and no two:
-/// what [`picture`](crate::picture) gives is a function of these.
+/// A font of at most 65,535 glyphs, a glyph of it, at most 1,048,576 waivers, an edition and a step have a picture, and no two.
+/// What [`picture`](crate::picture) gives is a function of these.
 pub fn a_subject_has_one_picture()
     ensures some { HasPicture }
     ensures no_other { HasNoOtherPicture }

@@ -25,7 +25,7 @@ pub(crate) struct Layers {
     pub(crate) outline: String,
     /// The stretches that P02 speaks of.
     pub(crate) unclosed: String,
-    /// The stretch of the step that was asked for.
+    /// The stretch of the step that was requested.
     pub(crate) stretch: String,
     /// The lines from the ends of curves to their control points.
     pub(crate) handles: String,

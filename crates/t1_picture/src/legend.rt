@@ -52,7 +52,7 @@ fn title_line(alloc: Global, edition: Edition, title: &str) -> Result<String, Al
     }
 }
 
-/// Adds the last step that was asked for, if one was.
+/// Adds the last step that was requested, if one was.
 fn add_step(
     alloc: Global,
     step: Option<u64>,
@@ -68,7 +68,7 @@ fn add_step(
     Ok(())
 }
 
-/// The last step that was asked for, by its number.
+/// The last step that was requested, by its number.
 fn step_line(alloc: Global, step: u64, last_step: &Option<String>) -> Result<String, AllocError>
     ensures { IfOk result (λ line. string_bytes line ≡ step_line step (option_map string_bytes last_step.now)) }
 {

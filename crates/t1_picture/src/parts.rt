@@ -45,7 +45,7 @@ pub(crate) struct DrawnPart<'a> {
 /// Why no further step is drawn.
 #[derive(Clone, Copy, Debug, PartialEq, Eq)]
 pub(crate) enum Stop {
-    /// As many were drawn as were asked for.
+    /// As many were drawn as were requested.
     Reached,
     /// The glyph has no further step.
     Ended,
@@ -58,7 +58,7 @@ pub(crate) enum Stop {
 pub(crate) struct PartEnd {
     /// What its steps say of the parts of their glyph.
     pub(crate) composition: Composition,
-    /// The last step that was asked for, as a trace has it, without its end; none where it isn't there.
+    /// The last step that was requested, as a trace has it, without its end; none where it isn't there.
     pub(crate) last_step: Option<String>,
 }
 
@@ -222,7 +222,7 @@ impl<'a> DrawnPart<'a> {
         layers.add_stems(run.upright(), Direction::Upright, start.x, self.edition)
     }
 
-    /// The line of the last step that was asked for.
+    /// The line of the last step that was requested.
     fn last_step(
         &self,
         alloc: Global,

@@ -57,7 +57,7 @@ pub record NamesNothing (words : List Text) : Type 0 where
   pub given : glyph_word words ≡ Some word
   pub no_name : name_of_word word ≡ None
 
--- The words give no options: clap's rules refuse them, help was asked for, or memory ran out; or GLYPH is no name.
+-- The words give no options: clap's rules refuse them, help was requested, or memory ran out; or GLYPH is no name.
 abbrev pub AreUntaken : List Text → NoOptions → Type 0
 AreUntaken words (Usage error) = AreRefused t1draw words error
 AreUntaken words BadName = NamesNothing words

@@ -50,7 +50,7 @@ pub record IsPicture (options : Options) (font : FontValue) (waivers : List Waiv
 -- it and after it.
 pub data Draws (options : Options) (left : Option (List ℕ)) (failed : Bool) (waivers waivers' : SourceState)
     (out out' errors errors' : SinkState) (status : Status) : Type 0 where
-  -- A picture was written whole, and flushed once, and nothing was reported: status 0; or a put or the flush failed, a beginning
+  -- A picture was written whole, and flushed once, and nothing was reported: status 0. Or a put or the flush failed, a beginning
   -- of it went out, and that was reported: status 3.
   drawn :
       (font : FontValue) → AreRead left (Ok font) → failed ≡ false

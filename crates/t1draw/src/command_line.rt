@@ -48,7 +48,7 @@ pub struct Options {
 /// Why the words of the command line give no options.
 #[derive(Drop)]
 pub enum NoOptions {
-    /// Clap's rules refuse them, help was asked for, or memory ran out.
+    /// Clap's rules refuse them, help was requested, or memory ran out.
     Usage(UsageError),
     /// The words are taken, but GLYPH is no name, as in `\q`.
     BadName,

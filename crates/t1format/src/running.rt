@@ -116,7 +116,7 @@ fn write_line<W: Sink, E: Sink>(
     }
 }
 
-/// Writes each line of the input, up to its end, and answers whether each was one.
+/// Writes each line of the input, up to its end, and returns whether each was one.
 fn write_lines<R: BufRead, W: Sink, E: Sink>(
     alloc: Global,
     writer: &mut Writer<'_>,

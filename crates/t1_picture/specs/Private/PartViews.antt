@@ -44,7 +44,8 @@ abbrev pub is_reached : Stop → Bool
 is_reached Reached = true
 is_reached _ = false
 
--- The steps of a part were drawn: what layers and notes were and became, what is known of the composition, and where the run is.
+-- The steps of a part were drawn: what layers and notes were and became, what is known of the composition, and where
+-- the run is.
 pub record DrawsSteps (part : PartView) (old new : LayersView) (before behind : List (List ℕ)) (known : Composition)
     (m : MachineView) (stop : Stop) : Type 0 where
   pub layers : new ≡ with_steps part old [] (drawn_steps part)
