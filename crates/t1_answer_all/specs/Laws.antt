@@ -33,7 +33,7 @@ abbrev pub IsQuietFont : Outcome → Found → Type 0
 IsQuietFont (reported report) found = (found ≡ Clean) ⊎ (found ≡ Known)
 IsQuietFont (failed reason) found = found ≡ found_of_failure reason
 
--- No line of a report is handed on, no row is reported as one that is no longer reached, and no font is reported to have faults.
+-- No line of a report is handed on, no row is reported as no longer reached, and no font is reported as one with faults.
 pub record IsQuiet (choice : Choice) (rules : Mask) (known : List RowValue) (entries : List Entry) : Type 0 where
   pub lines : all_lines (all_handed (judges_of (beyond known) rules) entries) ≡ []
   pub rows : shortfalls_text (beyond known) choice (readings_of (beyond known) rules entries) ≡ []

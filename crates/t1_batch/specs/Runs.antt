@@ -72,7 +72,7 @@ ConcludesWritten mode wanted quiet found whole (Ok status) old new left = Conclu
 ConcludesWritten mode wanted quiet found whole (Err lost) old new left =
     (status : Status) × Tells (lost_line lost) Failed old new status × (left ≡ nothing_left status)
 
--- What is selected of the fonts was written, and all was printed; or it stopped while that was written, which is printed, and nothing is left.
+-- What is selected of the fonts was written, and all was printed. Or it stopped while that was written, which is printed, and nothing is left.
 pub data Runs (layout : LayoutValue) (unlisted : List ToldValue) (mode : ModeValue) (rules : Mask) (wanted : WantedValue) (quiet : Bool) (files : Files)
     (edition : Edition) (names : List (List ℕ)) (old new : Devices) (left : LeftValue) : Type 0 where
   concluded :

@@ -47,7 +47,7 @@ abbrev pub FinishesChecked : (SinkState → SinkState → Option Lost → Type 0
 FinishesChecked Finishes old new (Ok status) result = FinishesForm Finishes old new (lost_of result) × IfOk result (λ s. s ≡ status)
 FinishesChecked Finishes old new (Err lost) result = (new ≡ old) × (result ≡ Err lost)
 
--- A formatter was given what couldn't be listed, then what is selected of the fonts, and then it finished; or it stopped at one of these.
+-- A formatter was given what couldn't be listed, then what is selected of the fonts, and then it finished. Or it stopped at one of these.
 pub data WritesFormatted {T : Type 0} (writes : T → T → SinkState → SinkState → ToldValue → Option Lost → Type 0)
     (finishes : T → SinkState → SinkState → Option Lost → Type 0) (unlisted : List ToldValue) (judges : List ℕ → Report → FaultValue → Verdict)
     (files : Files) (edition : Edition) (names : List (List ℕ)) (formatter : T) (old new : Devices) (Keeps : List Entry → Type 0)

@@ -46,8 +46,8 @@ pub struct Written<W: Sink + Drop, E: Sink + Drop> {
     pub errors: E,
 }
 
-/// Checks fonts in order, and writes what is selected of them, why there is no report of a font, and in a form for another program what couldn't
-/// be listed.
+/// Checks fonts in order, and writes what is selected of them and why there is no report of a font. In a form for another program it also writes
+/// what couldn't be listed.
 pub fn write_fonts<R, V, O, P, W, E>(
     alloc: Global,
     fonts: Fonts<'_, O, P>,

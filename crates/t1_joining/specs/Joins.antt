@@ -71,7 +71,7 @@ pub record AreJoined (parts : List Part) (found : Part) : Type 0 where
   pub readings : found.readings.items ≡ flat_map (λ part. part.readings.items) parts
   pub kept : found.kept ≡ flat_map (λ part. part.kept) parts
 
--- All parts were joined, and the output was flushed; or it stopped at one of them, or memory ran out after it, or the flush failed.
+-- All parts were joined, and the output was flushed. Or it stopped at one of them, or memory ran out after it, or the flush failed.
 pub data JoinsAll (JoinsOne : ℕ → Devices → Devices → Result Part Lost → Type 0) (count : ℕ) (old new : Devices) (result : Result Part Lost)
     : Type 0 where
   joined :

@@ -10,10 +10,10 @@ use std::alloc::AllocError;
 use std::io;
 use t1_io::Source;
 
-/// What is joined of the parts of a list, from the files that their processes left, is what one process writes and prints of the whole list, in the
-/// plain form and as lines of JSON byte for byte. In each form it is the parts' bytes, one part after another.
+/// In the plain form and as lines of JSON, the joined parts of a list are byte for byte what one process writes and prints of it. They are joined
+/// from the files that the parts' processes left. In each form they are the parts' bytes, one part after another.
 ///
-/// So what is printed at the end, the status and what is left to do are those of one process, since they are those of what was found.
+/// What is printed at the end, the status and what is left to do are those of what was found. So they are those of one process.
 pub fn parts_give_the_whole<R, V, A, B, S, F, O, E, D>(
     _open_font: &A,
     _open_waivers: &B,

@@ -11,7 +11,7 @@ use t1_io::Out;
 use t1_options::{Form, Options};
 use t1_run::{Status, UsageError, explain};
 
-/// Lists the fonts that the options name, prints what couldn't be listed, and leaves the list, the known faults and the number of parts in a
+/// Lists the fonts that the options name, and prints what couldn't be listed. Leaves the list, the known faults and the number of parts in a
 /// folder.
 pub(crate) fn plan<W: Write + Drop, E: Write + Drop>(
     rt: &HostRuntime,
