@@ -66,11 +66,11 @@ impl GroupForm for Terminal {
     fn put_unchecked<W: Sink>(
         &self,
         _alloc: Global,
-        sink: &mut W,
+        _sink: &mut W,
         _name: &str,
         _reason: &str,
     ) -> Result<(), Lost> {
-        Ok(put_all(sink, b"")?)
+        Ok(())
     }
 }
 

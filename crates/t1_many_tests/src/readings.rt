@@ -2,7 +2,7 @@
 
 ghost use Rattle.std.specs.Prelude.{◌≡◌, false, IfOk};
 
-use std::alloc::Global;
+use std::alloc::{AllocError, Global};
 use std::io;
 use std::io::ErrorKind;
 use std::test::Fail;
@@ -74,14 +74,20 @@ fn are_read(readings: &[Reading]) -> bool {
     }
 }
 
-/// P03 goes beyond what is known in the first font; all else is known.
-#[test]
-fn tells_what_goes_beyond(rt: HostRuntime) -> Result<(), Fail> {
-    let alloc = rt.alloc();
-    let five = Sample::new(alloc)?.glyph(b"A", FIVE_FAULTS)?.pfb()?;
-    let four = Sample::new(alloc)?.glyph(b"A", FOUR_FAULTS)?.pfb()?;
+/// How the check of the fonts ended, what was found in them, and what was written and printed.
+#[derive(Drop)]
+struct Answer {
+    status: Result<Status, Lost>,
+    are_read: bool,
+    tally: Tally,
+    text: Vec<u8>,
+    errors: Vec<u8>,
+}
+
+/// Checks the fonts of these names by known faults: each kind is known once of each font.
+fn beyond(alloc: Global, names: &[String], five: &[u8], four: &[u8]) -> Answer {
     let mut text = Vec::new(alloc);
-    let mut told = Vec::new(alloc);
+    let mut errors = Vec::new(alloc);
     let mut beyond = Beyond {
         rules: told_rules(&[], &[b"C07"]),
         known: KnownEverywhere { count: 1 },
@@ -89,66 +95,121 @@ fn tells_what_goes_beyond(rt: HostRuntime) -> Result<(), Fail> {
             tally: Tally::new(),
             form: Plain {
                 out: Out::new(&mut text),
-                errors: Out::new(&mut told),
+                errors: Out::new(&mut errors),
             },
         },
         readings: Vec::new(alloc),
     };
     let status = check_all(
         alloc,
-        names(alloc)?.as_slice(),
-        |name| open(five.as_slice(), four.as_slice(), name),
+        names,
+        |name| open(five, four, name),
         |name| no_waivers(name),
         Edition::One,
         &mut beyond,
     );
-    assert_eq!(rt; status, Ok(Status::Failed));
-    assert!(rt; are_read(beyond.readings.as_slice()));
+    let are_read = are_read(beyond.readings.as_slice());
     let tally = beyond.form.tally;
-    assert_eq!(rt; tally.fonts_found(Found::Faulty), 1);
-    assert_eq!(rt; tally.fonts_found(Found::Known), 1);
-    assert_eq!(rt; tally.fonts_found(Found::Unchecked), 1);
-    assert_eq!(rt; tally.fonts(), 3);
-    assert_eq!(rt; tally.lines_of(Rule::P03), 2);
-    assert_eq!(rt; tally.lines_of(Rule::C05), 0);
     drop(beyond);
-    let lines = b"\
-five.pfb: 4: glyph A - 4 P03 closepath without a path
-five.pfb: 5: glyph A - 5 P03 closepath without a path
-";
-    assert!(rt; text.as_slice() == lines.as_slice());
-    assert!(rt; told.as_slice() == b"absent.pfb: t1check: read failed\n".as_slice());
-    Ok(())
+    Answer {
+        status,
+        are_read,
+        tally,
+        text,
+        errors,
+    }
 }
 
-/// What is found becomes known, and no line is told.
-#[test]
-fn tells_no_line_of_what_becomes_known(rt: HostRuntime) -> Result<(), Fail> {
-    let alloc = rt.alloc();
-    let five = Sample::new(alloc)?.glyph(b"A", FIVE_FAULTS)?.pfb()?;
-    let four = Sample::new(alloc)?.glyph(b"A", FOUR_FAULTS)?.pfb()?;
+/// Checks the fonts of these names, whose faults become known.
+fn anew(alloc: Global, names: &[String], five: &[u8], four: &[u8]) -> Answer {
     let mut text = Vec::new(alloc);
-    let mut told = Vec::new(alloc);
+    let mut errors = Vec::new(alloc);
     let mut anew = Anew {
         rules: told_rules(&[], &[b"C07"]),
-        form: Plain {
-            out: Out::new(&mut text),
-            errors: Out::new(&mut told),
+        form: Counted {
+            tally: Tally::new(),
+            form: Plain {
+                out: Out::new(&mut text),
+                errors: Out::new(&mut errors),
+            },
         },
         readings: Vec::new(alloc),
     };
-    let status: Result<Status, Lost> = check_all(
+    let status = check_all(
         alloc,
-        names(alloc)?.as_slice(),
-        |name| open(five.as_slice(), four.as_slice(), name),
+        names,
+        |name| open(five, four, name),
         |name| no_waivers(name),
         Edition::One,
         &mut anew,
     );
-    assert_eq!(rt; status, Ok(Status::Failed));
-    assert!(rt; are_read(anew.readings.as_slice()));
+    let are_read = are_read(anew.readings.as_slice());
+    let tally = anew.form.tally;
     drop(anew);
-    assert!(rt; text.is_empty());
-    assert!(rt; told.as_slice() == b"absent.pfb: t1check: read failed\n".as_slice());
+    Answer {
+        status,
+        are_read,
+        tally,
+        text,
+        errors,
+    }
+}
+
+/// The file of a font with this glyph A.
+fn font_with(alloc: Global, glyph: &[u8]) -> Result<Vec<u8>, AllocError> {
+    Sample::new(alloc)?.glyph(b"A", glyph)?.pfb()
+}
+
+/// Whether fonts were found, and lines handed on, as they should be: P03 goes beyond what is known in the first font, all else is known.
+fn is_counted(tally: &Tally) -> bool {
+    tally.fonts_found(Found::Faulty) == 1
+        && tally.fonts_found(Found::Known) == 1
+        && tally.fonts_found(Found::Unchecked) == 1
+        && tally.fonts() == 3
+        && tally.lines_of(Rule::P03) == 2
+        && tally.lines_of(Rule::C05) == 0
+}
+
+const BEYOND: &[u8] = b"\
+five.pfb: 4: glyph A - 4 P03 closepath without a path
+five.pfb: 5: glyph A - 5 P03 closepath without a path
+";
+
+/// Whether that is the answer: the third font can't be opened.
+fn is_answered(answer: &Answer, text: &[u8]) -> bool {
+    answer.status == Ok(Status::Failed)
+        && answer.are_read
+        && answer.text.as_slice() == text
+        && answer.errors.as_slice() == b"absent.pfb: t1check: read failed\n".as_slice()
+}
+
+#[test]
+fn tells_what_goes_beyond(rt: HostRuntime) -> Result<(), Fail> {
+    let names = names(rt.alloc())?;
+    let five = font_with(rt.alloc(), FIVE_FAULTS)?;
+    let four = font_with(rt.alloc(), FOUR_FAULTS)?;
+    let answer = beyond(
+        rt.alloc(),
+        names.as_slice(),
+        five.as_slice(),
+        four.as_slice(),
+    );
+    assert!(rt; is_answered(&answer, BEYOND) && is_counted(&answer.tally));
+    Ok(())
+}
+
+/// What is found becomes known, and no line is reported.
+#[test]
+fn tells_no_line_of_what_becomes_known(rt: HostRuntime) -> Result<(), Fail> {
+    let names = names(rt.alloc())?;
+    let five = font_with(rt.alloc(), FIVE_FAULTS)?;
+    let four = font_with(rt.alloc(), FOUR_FAULTS)?;
+    let answer = anew(
+        rt.alloc(),
+        names.as_slice(),
+        five.as_slice(),
+        four.as_slice(),
+    );
+    assert!(rt; is_answered(&answer, b"") && answer.tally.lines_of(Rule::P03) == 0);
     Ok(())
 }
