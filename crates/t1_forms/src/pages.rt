@@ -37,7 +37,7 @@ static PAGE_1: Page = Page {
     code: "F02",
     anchor: "f02-bytes-after-the-end-segment",
     title: "bytes after the end segment",
-    text: "Level *tidy*: nothing reads these bytes.\n\nNothing reads these bytes: two files were put together, or a transfer filled the file up. Example: one more byte `0A` behind `80 03`.\n\n    1: font file 0 F02 bytes after the end segment\n\nCure: cut the file behind `80 03`, after a look at what stands there.",
+    text: "Level *tidy*: nothing reads these bytes.\n\nNothing reads these bytes: two files were put together, or a transfer filled the file up. Example: one more byte `0A` after `80 03`.\n\n    1: font file 0 F02 bytes after the end segment\n\nCure: look at what is after `80 03`, then cut the file after these two bytes.",
 };
 
 #[tactic(auto, unfolding(crate::specs::Pages::page_1))]
@@ -121,7 +121,7 @@ static PAGE_7: Page = Page {
     code: "F08",
     anchor: "f08-minfeature-is-not-16-16",
     title: "MinFeature is not {16 16}",
-    text: "Level *tidy*: the entry has no effect on what is drawn.\n\nThis entry, too, is asked for so that early interpreters read the font; it has this value alone. An array, `[16 16]`, is taken as well.\n\n    /MinFeature {16} def\n    1: font MinFeature 0 F08 MinFeature is not {16 16}\n\nCure: `/MinFeature {16 16} def` in Private.",
+    text: "Level *tidy*: the entry has no effect on what is drawn.\n\nThis entry, too, is required so that early interpreters read the font; it has this value alone. An array, `[16 16]`, is taken as well.\n\n    /MinFeature {16} def\n    1: font MinFeature 0 F08 MinFeature is not {16 16}\n\nCure: `/MinFeature {16 16} def` in Private.",
 };
 
 #[tactic(auto, unfolding(crate::specs::Pages::page_7))]
@@ -149,7 +149,7 @@ static PAGE_9: Page = Page {
     code: "F10",
     anchor: "f10-glyph-given-twice",
     title: "glyph given twice",
-    text: "Level *must*: some interpreters draw the first of the two, others the last.\n\nPostScript keeps the later one, as t1check does; a reader that stops at the first match shows the earlier one. So the font can look\ndifferent on screen and on paper. The line's index counts names from 0 in the order in which they first appear.\n\n    /.notdef 9 RD … ND\n    /A 9 RD … ND\n    /A 43 RD … ND\n    1: font CharStrings 1 F10 glyph given twice\n\nCure: leave out the one that isn't wanted, and write the smaller number of glyphs in front of `dict`. This command prints the name at index 1 (with\n`3p` that at index 2, and so on):\n\n    t1disasm font.pfb | sed -n '/\\/CharStrings/,$ s/^\\/\\([^ ]*\\) {$/\\1/p' | awk '!seen[$0]++' | sed -n 2p",
+    text: "Level *must*: some interpreters draw the first of the two, others the last.\n\nPostScript keeps the later one, as t1check does; a reader that stops at the first match shows the earlier one. So the font can look\ndifferent on screen and on paper. The line's index counts names from 0 in the order in which they first appear.\n\n    /.notdef 9 RD … ND\n    /A 9 RD … ND\n    /A 43 RD … ND\n    1: font CharStrings 1 F10 glyph given twice\n\nCure: leave out the one that isn't wanted, and write the smaller number of glyphs before `dict`. This command prints the name at index 1 (with\n`3p` that at index 2, and so on):\n\n    t1disasm font.pfb | sed -n '/\\/CharStrings/,$ s/^\\/\\([^ ]*\\) {$/\\1/p' | awk '!seen[$0]++' | sed -n 2p",
 };
 
 #[tactic(auto, unfolding(crate::specs::Pages::page_9))]
@@ -177,7 +177,7 @@ static PAGE_11: Page = Page {
     code: "F12",
     anchor: "f12-code-past-255",
     title: "code past 255",
-    text: "Level *must*: an interpreter refuses the font, as Ghostscript does, or the code has no glyph.\n\nThe array has the codes 0 to 255. A row with another code stops an interpreter with `rangecheck` or `typecheck`: the font isn't loaded.\nt1check passes the row over. However many such rows there are, there is one line.\n\n    dup 256 /A put\n    1: font Encoding 0 F12 code past 255\n\nCure: mend the code, or leave the row out; a glyph without a code is still reached by its name.",
+    text: "Level *must*: an interpreter refuses the font, as Ghostscript does, or the code has no glyph.\n\nThe array has the codes 0 to 255. A row with another code stops an interpreter with `rangecheck` or `typecheck`: the font isn't loaded.\nt1check skips the row. However many such rows there are, there is one line.\n\n    dup 256 /A put\n    1: font Encoding 0 F12 code past 255\n\nCure: mend the code, or leave the row out; a glyph without a code is still reached by its name.",
 };
 
 #[tactic(auto, unfolding(crate::specs::Pages::page_11))]
@@ -205,7 +205,7 @@ static PAGE_13: Page = Page {
     code: "F14",
     anchor: "f14-subr-given-twice-or-past-the-array",
     title: "Subr given twice or past the array",
-    text: "Level *must*: an interpreter refuses the font, as Ghostscript does, or calls another Subr.\n\n`/Subrs 5 array` has the numbers 0 to 4. An entry past them stops an interpreter with `rangecheck`, so that the font isn't loaded; other readers\nleave it out, and glyphs that call it break. Of two entries with one number readers take one or the other.\n\n    /Subrs 5 array\n    dup 5 7 RD … NP\n    1: font Subrs 5 F14 Subr given twice or past the array\n\nCure: write the greatest number plus 1 in front of `array`; leave out, or number anew, the entry that stands twice.",
+    text: "Level *must*: an interpreter refuses the font, as Ghostscript does, or calls another Subr.\n\n`/Subrs 5 array` has the numbers 0 to 4. An entry past them stops an interpreter with `rangecheck`, so that the font isn't loaded; other readers\nleave it out, and glyphs that call it break. Of two entries with one number readers take one or the other.\n\n    /Subrs 5 array\n    dup 5 7 RD … NP\n    1: font Subrs 5 F14 Subr given twice or past the array\n\nCure: write the greatest number plus 1 before `array`; leave out, or number anew, the entry that is given twice.",
 };
 
 #[tactic(auto, unfolding(crate::specs::Pages::page_13))]
@@ -247,7 +247,7 @@ static PAGE_16: Page = Page {
     code: "Z03",
     anchor: "z03-odd-count-of-zone-numbers",
     title: "odd count of zone numbers",
-    text: "Level *must*: an interpreter may refuse the font, as Ghostscript does.\n\nA bottom or a top is missing, so that all pairs behind it may be shifted: each would then span from one zone's top to the next one's bottom.\n\n    /BlueValues [-15 0 700] def\n    1: font BlueValues 0 Z03 odd count of zone numbers\n\nCure: write the missing number; a zone without height has the same number twice.",
+    text: "Level *must*: an interpreter may refuse the font, as Ghostscript does.\n\nA bottom or a top is missing, so that all pairs after it may be shifted. Each would then span from one zone's top to the next one's bottom.\n\n    /BlueValues [-15 0 700] def\n    1: font BlueValues 0 Z03 odd count of zone numbers\n\nCure: write the missing number; a zone without height has the same number twice.",
 };
 
 #[tactic(auto, unfolding(crate::specs::Pages::page_16))]
@@ -289,7 +289,7 @@ static PAGE_19: Page = Page {
     code: "Z06",
     anchor: "z06-zones-of-two-lists-too-near",
     title: "zones of two lists too near",
-    text: "Level *should*: edges between the two zones may jump at small sizes.\n\nThe same between a zone of OtherBlues and one of BlueValues, and between a zone of FamilyOtherBlues and one of FamilyBlues. A zone from\na to b and one from c to d are too near where c − b < D and a − d < D, whichever lies below. The line stands at the zone of OtherBlues or\nFamilyOtherBlues, once for each such zone.\n\n    /BlueValues [-8 0] def\n    /OtherBlues [-20 -10] def\n    1: font OtherBlues 0 Z06 zones of two lists too near\n\nc − b = −8 + 10 = 2, and D is 3. Cure: as for Z05; with `/BlueFuzz 0 def` this font breaks no rule. A zone that stands in both lists is left out of\nOtherBlues, or FamilyOtherBlues.",
+    text: "Level *should*: edges between the two zones may jump at small sizes.\n\nThe same between a zone of OtherBlues and one of BlueValues, and between a zone of FamilyOtherBlues and one of FamilyBlues. A zone from\na to b and one from c to d are too near where c − b < D and a − d < D, whichever lies below. The line is at the zone of OtherBlues or\nFamilyOtherBlues, once for each such zone.\n\n    /BlueValues [-8 0] def\n    /OtherBlues [-20 -10] def\n    1: font OtherBlues 0 Z06 zones of two lists too near\n\nc − b = −8 + 10 = 2, and D is 3. Cure: as for Z05; with `/BlueFuzz 0 def` this font breaks no rule. A zone that is in both lists is left out of\nOtherBlues, or FamilyOtherBlues.",
 };
 
 #[tactic(auto, unfolding(crate::specs::Pages::page_19))]
@@ -303,7 +303,7 @@ static PAGE_20: Page = Page {
     code: "Z07",
     anchor: "z07-zone-too-high-for-bluescale",
     title: "zone too high for BlueScale",
-    text: "Level *should*: at some sizes round letters stand out where they shouldn't.\n\nBlueScale says, in pixels a unit, up to which size overshoots are suppressed: all edges of a zone are then put on one line. A zone that is a whole\npixel high at that size, or more, would lose a difference that could be shown, and heights jump where suppression ends.\n\n    /BlueValues [0 26] def\n    1: font BlueValues 1 Z07 zone too high for BlueScale\n\n26 × 0.039625 = 1.03025; a height of 25 gives 0.990625 and is right.\n\nHow much it matters: often only a digit was rounded. Of 147 such places in 1,454 real fonts, 109 had a height that times BlueScale gave at least 1\nand less than 1.001. There nothing is seen, and a BlueScale whose last digit is one lower ends the line.\n\nCure: make the zone lower, or BlueScale less than 1 divided by the\nheight of the highest zone, here `/BlueScale .038 def` (26 × .038 = 0.988). Digits behind the ninth decimal are cut: 24 × 0.0416666667 is\n24 × 0.041666666 here, 0.999999984, and below 1.",
+    text: "Level *should*: at some sizes round letters stand out where they shouldn't.\n\nBlueScale says, in pixels a unit, up to which size overshoots are suppressed: all edges of a zone are then put on one line. A zone that is a whole\npixel high at that size, or more, would lose a difference that could be shown, and heights jump where suppression ends.\n\n    /BlueValues [0 26] def\n    1: font BlueValues 1 Z07 zone too high for BlueScale\n\n26 × 0.039625 = 1.03025; a height of 25 gives 0.990625 and is right.\n\nHow much it matters: often only a digit was rounded. Of 147 such places in 1,454 real fonts, 109 had a height that times BlueScale gave at least 1\nand less than 1.001. There nothing is seen, and a BlueScale whose last digit is one lower ends the line.\n\nCure: make the zone lower, or BlueScale less than 1 divided by the\nheight of the highest zone, here `/BlueScale .038 def` (26 × .038 = 0.988). Digits after the ninth decimal are cut: 24 × 0.0416666667 is\n24 × 0.041666666 here, 0.999999984, and below 1.",
 };
 
 #[tactic(auto, unfolding(crate::specs::Pages::page_20))]
@@ -373,7 +373,7 @@ static PAGE_25: Page = Page {
     code: "C01",
     anchor: "c01-shorter-than-leniv",
     title: "shorter than lenIV",
-    text: "Level *must*: the glyph can't be decrypted.\n\nIn front of each charstring stand as many random bytes as lenIV says, 4 where nothing else is said. A charstring that hasn't even these has\nno command, and some interpreters read past its end. Example: lenIV is 4, and `A` has three bytes.\n\n    /A 3 RD … ND\n    1: glyph A - 1 C01 shorter than lenIV\n    2: glyph A - 2 GE01 no endchar\n\nCure: compile the glyph again; where all glyphs have this line, mend lenIV (`/lenIV -1 def` says that charstrings aren't encrypted).",
+    text: "Level *must*: the glyph can't be decrypted.\n\nlenIV says how many random bytes come before each charstring, 4 where nothing else is said. A charstring that hasn't even these has\nno command, and some interpreters read past its end. Example: lenIV is 4, and `A` has three bytes.\n\n    /A 3 RD … ND\n    1: glyph A - 1 C01 shorter than lenIV\n    2: glyph A - 2 GE01 no endchar\n\nCure: compile the glyph again; where all glyphs have this line, mend lenIV (`/lenIV -1 def` says that charstrings aren't encrypted).",
 };
 
 #[tactic(auto, unfolding(crate::specs::Pages::page_25))]
@@ -387,7 +387,7 @@ static PAGE_26: Page = Page {
     code: "C02",
     anchor: "c02-breaks-off-in-a-token",
     title: "breaks off in a token",
-    text: "Level *must*: the glyph breaks off, or isn't drawn.\n\nThe last number or command isn't whole: bytes are missing, or the length in front of `RD` is too small. Example: the last three bytes of `A`\nare 255, which begins a number of four more bytes, and two zeros.\n\n    A: 0 500 hsbw, and the bytes 255 0 0\n    1: glyph A - 4 C02 breaks off in a token\n    2: glyph A - 5 GE01 no endchar\n\nCure: compile the glyph again, or take the font from its source again.",
+    text: "Level *must*: the glyph breaks off, or isn't drawn.\n\nThe last number or command isn't whole: bytes are missing, or the length before `RD` is too small. Example: the last three bytes of `A`\nare 255, which begins a number of four more bytes, and two zeros.\n\n    A: 0 500 hsbw, and the bytes 255 0 0\n    1: glyph A - 4 C02 breaks off in a token\n    2: glyph A - 5 GE01 no endchar\n\nCure: compile the glyph again, or take the font from its source again.",
 };
 
 #[tactic(auto, unfolding(crate::specs::Pages::page_26))]
@@ -429,7 +429,7 @@ static PAGE_29: Page = Page {
     code: "C05",
     anchor: "c05-too-many-arguments",
     title: "too many arguments",
-    text: "Level *must*: some interpreters take the lowest numbers, others the topmost.\n\nNumbers are left over, so a number or a command was lost, or the wrong command stands there. Interpreters disagree on which numbers they\ntake. Here hmoveto takes one.\n\n    A: 0 500 hsbw 50 20 hmoveto 100 hlineto closepath endchar\n    1: glyph A - 6 C05 too many arguments\n\nCure: write the command that was meant, here rmoveto, or leave the number out. Numbers in front of the end of a Subr may be meant for its\ncaller and break no rule there.",
+    text: "Level *must*: some interpreters take the lowest numbers, others the topmost.\n\nNumbers are left over, so a number or a command was lost, or the wrong command is there. Interpreters disagree on which numbers they\ntake. Here hmoveto takes one.\n\n    A: 0 500 hsbw 50 20 hmoveto 100 hlineto closepath endchar\n    1: glyph A - 6 C05 too many arguments\n\nCure: write the command that was meant, here rmoveto, or leave the number out. Numbers before the end of a Subr may be meant for its\ncaller and break no rule there.",
 };
 
 #[tactic(auto, unfolding(crate::specs::Pages::page_29))]
@@ -513,7 +513,7 @@ static PAGE_35: Page = Page {
     code: "S02",
     anchor: "s02-calls-nested-too-deep",
     title: "calls nested too deep",
-    text: "Level *must*: interpreters stop at the call.\n\nTen calls may stand inside one another, and interpreters have room for no more. Mostly a Subr calls itself, straight or by way of others,\nwhich no glyph can want.\n\n    Subr 5: 5 callsubr return\n    A: 0 500 hsbw 5 callsubr endchar\n    1: glyph A 5>5>5>5>5>5>5>5>5>5 25 S02 calls nested too deep\n\nCure: mend the Subr's number; where chains of Subrs are really so long, put what the innermost ones do in their place.",
+    text: "Level *must*: interpreters stop at the call.\n\nTen calls may be inside one another, and interpreters have room for no more. Mostly a Subr calls itself, straight or by way of others,\nwhich no glyph can want.\n\n    Subr 5: 5 callsubr return\n    A: 0 500 hsbw 5 callsubr endchar\n    1: glyph A 5>5>5>5>5>5>5>5>5>5 25 S02 calls nested too deep\n\nCure: mend the Subr's number; where chains of Subrs are really so long, put what the innermost ones do in their place.",
 };
 
 #[tactic(auto, unfolding(crate::specs::Pages::page_35))]
@@ -541,7 +541,7 @@ static PAGE_37: Page = Page {
     code: "S04",
     anchor: "s04-subr-without-return",
     title: "Subr without return",
-    text: "Level *must*: interpreters stop at its end, or go on in the glyph.\n\nA Subr has to end with `return`, or end the glyph by endchar or seac. Without it an interpreter reads on behind the Subr's bytes. The line\nstands at the end of the bytes, which a trace writes as `end`; it stands once for each call.\n\n    Subr 5: 100 hlineto\n    A: 0 500 hsbw 50 hmoveto 5 callsubr closepath endchar\n    1: glyph A 5 10 S04 Subr without return\n\nCure: write `return` at the Subr's end; where its bytes were cut, take it from its source again.",
+    text: "Level *must*: interpreters stop at its end, or go on in the glyph.\n\nA Subr has to end with `return`, or end the glyph by endchar or seac. Without it an interpreter reads on after the Subr's bytes. The line\nis at the end of the bytes, which a trace writes as `end`; there is one for each call.\n\n    Subr 5: 100 hlineto\n    A: 0 500 hsbw 50 hmoveto 5 callsubr closepath endchar\n    1: glyph A 5 10 S04 Subr without return\n\nCure: write `return` at the Subr's end; where its bytes were cut, take it from its source again.",
 };
 
 #[tactic(auto, unfolding(crate::specs::Pages::page_37))]
@@ -555,7 +555,7 @@ static PAGE_38: Page = Page {
     code: "GE01",
     anchor: "ge01-no-endchar",
     title: "no endchar",
-    text: "Level *must*: interpreters refuse the glyph, or draw what they have.\n\nA glyph has to end with endchar, or with seac. Without it an interpreter reads on behind the glyph's bytes, or doesn't fill the outline. An\nempty charstring breaks this rule too.\n\n    A: 0 500 hsbw 50 hmoveto 100 hlineto closepath\n    1: glyph A - 9 GE01 no endchar\n\nCure: write endchar at the end; where the charstring was cut, take the font from its source again.",
+    text: "Level *must*: interpreters refuse the glyph, or draw what they have.\n\nA glyph has to end with endchar, or with seac. Without it an interpreter reads on after the glyph's bytes, or doesn't fill the outline. An\nempty charstring breaks this rule too.\n\n    A: 0 500 hsbw 50 hmoveto 100 hlineto closepath\n    1: glyph A - 9 GE01 no endchar\n\nCure: write endchar at the end; where the charstring was cut, take the font from its source again.",
 };
 
 #[tactic(auto, unfolding(crate::specs::Pages::page_38))]
@@ -569,7 +569,7 @@ static PAGE_39: Page = Page {
     code: "GE02",
     anchor: "ge02-tokens-after-the-end",
     title: "tokens after the end",
-    text: "Level *tidy*: an interpreter has ended the glyph before.\n\nWhat stands behind endchar or seac is never executed: either it is left over, or endchar stands too early and the rest of the outline is\nmissing. In a Subr one `return` may follow, since some tools end each Subr so.\n\n    A: 0 500 hsbw endchar 50 hmoveto 100 hlineto closepath endchar\n    1: glyph A - 4 GE02 tokens after the end\n\nHow much it matters: what is left over does no harm, and 19 of 1,454 real fonts have it in 690 places. An endchar that stands too early loses a part\nof the glyph: look at it once.\n\nCure: leave out what stands behind, as an endchar behind seac; or the endchar that stands too early.",
+    text: "Level *tidy*: an interpreter has ended the glyph before.\n\nWhat follows endchar or seac is never executed. Either it is left over, or endchar comes too early and the rest of the outline is\nmissing. In a Subr one `return` may follow, since some tools end each Subr so.\n\n    A: 0 500 hsbw endchar 50 hmoveto 100 hlineto closepath endchar\n    1: glyph A - 4 GE02 tokens after the end\n\nHow much it matters: what is left over does no harm, and 19 of 1,454 real fonts have it in 690 places. An endchar that comes too early loses a part\nof the glyph: look at it once.\n\nCure: leave out what follows, as an endchar after seac; or the endchar that comes too early.",
 };
 
 #[tactic(auto, unfolding(crate::specs::Pages::page_39))]
@@ -583,7 +583,7 @@ static PAGE_40: Page = Page {
     code: "W01",
     anchor: "w01-hsbw-or-sbw-not-first",
     title: "hsbw or sbw not first",
-    text: "Level *must*: interpreters refuse the glyph, or place it elsewhere.\n\nWithout a width in front an interpreter can't place the glyph: it stops with an error, or sets the glyph over the next one. Numbers, a call\nof a Subr and div may stand before hsbw; the first clearing command has to be hsbw or sbw.\n\n    A: 50 hmoveto 100 hlineto closepath endchar\n    1: glyph A - 2 W01 hsbw or sbw not first\n\nCure: write the sidebearing and the width in front, as `0 500 hsbw`; where they come later, move them there.",
+    text: "Level *must*: interpreters refuse the glyph, or place it elsewhere.\n\nWithout a width in front an interpreter can't place the glyph: it stops with an error, or sets the glyph over the next one. Numbers, a call\nof a Subr and div may come before hsbw; the first clearing command has to be hsbw or sbw.\n\n    A: 50 hmoveto 100 hlineto closepath endchar\n    1: glyph A - 2 W01 hsbw or sbw not first\n\nCure: write the sidebearing and the width in front, as `0 500 hsbw`; where they come later, move them there.",
 };
 
 #[tactic(auto, unfolding(crate::specs::Pages::page_40))]
@@ -597,7 +597,7 @@ static PAGE_41: Page = Page {
     code: "W02",
     anchor: "w02-hsbw-or-sbw-again",
     title: "hsbw or sbw again",
-    text: "Level *must*: interpreters draw the rest elsewhere, or refuse the glyph.\n\nA glyph has one width. A second hsbw sets the current point back as well, so that what is drawn behind it moves. Where another clearing\ncommand stands in front of the only hsbw, there are two lines: W01 at that command, and W02 at hsbw.\n\n    A: 0 500 hsbw 0 600 hsbw endchar\n    1: glyph A - 6 W02 hsbw or sbw again\n\nCure: keep the one that is right; a Subr that is called twice, or for several glyphs, shouldn't have it.",
+    text: "Level *must*: interpreters draw the rest elsewhere, or refuse the glyph.\n\nA glyph has one width. A second hsbw sets the current point back as well, so that what is drawn after it moves. Where another clearing\ncommand comes before the only hsbw, there are two lines: W01 at that command, and W02 at hsbw.\n\n    A: 0 500 hsbw 0 600 hsbw endchar\n    1: glyph A - 6 W02 hsbw or sbw again\n\nCure: keep the one that is right; a Subr that is called twice, or for several glyphs, shouldn't have it.",
 };
 
 #[tactic(auto, unfolding(crate::specs::Pages::page_41))]
@@ -611,7 +611,7 @@ static PAGE_42: Page = Page {
     code: "P01",
     anchor: "p01-drawing-without-a-move",
     title: "drawing without a move",
-    text: "Level *must*: interpreters begin the path at different points, or refuse the glyph.\n\nEach path begins with a move (rmoveto, hmoveto, vmoveto), the one behind a closepath as well. Without it interpreters stop with an error, or\njoin this path to the one before. Each line and curve of such a path has its line in the report.\n\n    A: 0 500 hsbw 100 hlineto closepath endchar\n    1: glyph A - 5 P01 drawing without a move\n\nCure: write a move in front; it may be `0 hmoveto`, which stays where it is. Flex counts as one curve: its seven moves begin no path.",
+    text: "Level *must*: interpreters begin the path at different points, or refuse the glyph.\n\nEach path begins with a move (rmoveto, hmoveto, vmoveto), the one after a closepath as well. Without it interpreters stop with an error, or\njoin this path to the one before. Each line and curve of such a path has its line in the report.\n\n    A: 0 500 hsbw 100 hlineto closepath endchar\n    1: glyph A - 5 P01 drawing without a move\n\nCure: write a move in front; it may be `0 hmoveto`, which stays where it is. Flex counts as one curve: its seven moves begin no path.",
 };
 
 #[tactic(auto, unfolding(crate::specs::Pages::page_42))]
@@ -625,7 +625,7 @@ static PAGE_43: Page = Page {
     code: "P02",
     anchor: "p02-path-not-closed",
     title: "path not closed",
-    text: "Level *should*: a filled path looks the same, and one that is stroked stays open.\n\nclosepath is missing. A path that is filled is closed all the same, but where outlines are stroked (PaintType 2) the corner at its beginning\nstays open. Behind the last path it has to stand as well, in front of endchar.\n\n    A: 0 500 hsbw 50 hmoveto 100 hlineto endchar\n    1: glyph A - 8 P02 path not closed\n\nCure: write closepath in front of the command that the line names.",
+    text: "Level *should*: a filled path looks the same, and one that is stroked stays open.\n\nclosepath is missing. A path that is filled is closed all the same, but where outlines are stroked (PaintType 2) the corner at its beginning\nstays open. After the last path it has to be there as well, before endchar.\n\n    A: 0 500 hsbw 50 hmoveto 100 hlineto endchar\n    1: glyph A - 8 P02 path not closed\n\nCure: write closepath before the command that the line names.",
 };
 
 #[tactic(auto, unfolding(crate::specs::Pages::page_43))]
@@ -639,7 +639,7 @@ static PAGE_44: Page = Page {
     code: "P03",
     anchor: "p03-closepath-without-a-path",
     title: "closepath without a path",
-    text: "Level *tidy*: no interpreter draws anything for it.\n\nThere is nothing to close: a closepath stands twice, or the lines and curves of the path are missing.\n\n    A: 0 500 hsbw 50 hmoveto closepath endchar\n    1: glyph A - 6 P03 closepath without a path\n\nHow much it matters: nothing different is drawn, unless lines are missing. No rule is broken more often: 13,842 times in 135 of 1,454 real fonts, and\n99 of these break no other rule, since some tools write each closepath twice.\n\nCure: leave the closepath out; or write what is missing. A move from which nothing is drawn can go as well, but the next one has to move as far as\nboth did: `50 hmoveto closepath 10 20 rmoveto` becomes `60 20 rmoveto`.",
+    text: "Level *tidy*: no interpreter draws anything for it.\n\nThere is nothing to close: a closepath occurs twice, or the lines and curves of the path are missing.\n\n    A: 0 500 hsbw 50 hmoveto closepath endchar\n    1: glyph A - 6 P03 closepath without a path\n\nHow much it matters: nothing different is drawn, unless lines are missing. No rule is broken more often: 13,842 times in 135 of 1,454 real fonts, and\n99 of these break no other rule, since some tools write each closepath twice.\n\nCure: leave the closepath out; or write what is missing. A move from which nothing is drawn can go as well, but the next one has to move as far as\nboth did: `50 hmoveto closepath 10 20 rmoveto` becomes `60 20 rmoveto`.",
 };
 
 #[tactic(auto, unfolding(crate::specs::Pages::page_44))]
@@ -653,7 +653,7 @@ static PAGE_45: Page = Page {
     code: "H01",
     anchor: "h01-stem-after-drawing",
     title: "stem after drawing",
-    text: "Level *should*: hints have no effect on what was drawn before.\n\nA stem holds for what is drawn behind it. Stems stand in front of the first path; what was drawn before they came has other hints than what\nfollows, and rasterisers either ignore such a stem or distort the outline. Here the stem stands behind the path that it was meant for.\n\n    A: 0 500 hsbw 50 hmoveto 100 hlineto closepath 0 20 hstem endchar\n    1: glyph A - 11 H01 stem after drawing\n\nCure: move the stem in front of the first path; where it is meant for later ones alone, put it in a Subr, and replace the hints by that.",
+    text: "Level *should*: hints have no effect on what was drawn before.\n\nA stem holds for what is drawn after it. Stems come before the first path. What was drawn before they came has other hints than what\nfollows, and rasterisers either ignore such a stem or distort the outline. Here the stem comes after the path that it was meant for.\n\n    A: 0 500 hsbw 50 hmoveto 100 hlineto closepath 0 20 hstem endchar\n    1: glyph A - 11 H01 stem after drawing\n\nCure: move the stem before the first path. Where it is meant for later paths alone, put it in a Subr, and replace the hints by that.",
 };
 
 #[tactic(auto, unfolding(crate::specs::Pages::page_45))]
@@ -709,7 +709,7 @@ static PAGE_49: Page = Page {
     code: "R01",
     anchor: "r01-no-pop-after-hint-replacement",
     title: "no pop after hint replacement",
-    text: "Level *must*: a number stays behind, which a later command takes.\n\nOtherSubr 3 takes a Subr's number and gives back the number to be called: that one, or 3, a Subr that does nothing, where an interpreter\ncan't replace hints. Without pop the answer isn't looked at. The line stands at the step behind callothersubr, whatever it is.\n\n    A: 0 500 hsbw 5 1 3 callothersubr endchar\n    1: glyph A - 8 R01 no pop after hint replacement\n\nCure: write `5 1 3 callothersubr pop callsubr`, with a Subr 5 that sets the stems.",
+    text: "Level *must*: a number is left over, which a later command takes.\n\nOtherSubr 3 takes a Subr's number and gives back the number to be called: that one, or 3, a Subr that does nothing, where an interpreter\ncan't replace hints. Without pop the answer isn't looked at. The line is at the step after callothersubr, whatever it is.\n\n    A: 0 500 hsbw 5 1 3 callothersubr endchar\n    1: glyph A - 8 R01 no pop after hint replacement\n\nCure: write `5 1 3 callothersubr pop callsubr`, with a Subr 5 that sets the stems.",
 };
 
 #[tactic(auto, unfolding(crate::specs::Pages::page_49))]
@@ -723,7 +723,7 @@ static PAGE_50: Page = Page {
     code: "R02",
     anchor: "r02-no-callsubr-after-hint-replacement",
     title: "no callsubr after hint replacement",
-    text: "Level *must*: hints of both parts apply at once, or a number stays behind.\n\npop has put the number of the Subr on the stack, and callsubr has to follow at once: some interpreters know a hint replacement by this row of\ncommands. Each step counts, so a `return` in between breaks this rule as well. Here a move takes the number.\n\n    A: 0 500 hsbw 5 1 3 callothersubr pop hmoveto endchar\n    1: glyph A - 9 R02 no callsubr after hint replacement\n\nCure: write callsubr right behind pop. Subr 4, which many fonts have for it, is `1 3 callothersubr pop callsubr return`.",
+    text: "Level *must*: hints of both parts apply at once, or a number is left over.\n\npop has put the number of the Subr on the stack, and callsubr has to follow at once: some interpreters know a hint replacement by this row of\ncommands. Each step counts, so a `return` in between breaks this rule as well. Here a move takes the number.\n\n    A: 0 500 hsbw 5 1 3 callothersubr pop hmoveto endchar\n    1: glyph A - 9 R02 no callsubr after hint replacement\n\nCure: write callsubr right after pop. Subr 4, which many fonts have for it, is `1 3 callothersubr pop callsubr return`.",
 };
 
 #[tactic(auto, unfolding(crate::specs::Pages::page_50))]
@@ -737,7 +737,7 @@ static PAGE_51: Page = Page {
     code: "X01",
     anchor: "x01-flex-inside-flex",
     title: "flex inside flex",
-    text: "Level *must*: interpreters lose points of the curves.\n\nA flex can't hold another one. Interpreters count its points anew, or from the first start on, or stop with an error. Here the start stands\ntwice.\n\n    A: 0 500 hsbw 0 hmoveto 0 1 callothersubr 0 1 callothersubr\n       1 hmoveto 0 2 callothersubr … (seven times) 50 7 0 3 0 callothersubr pop pop setcurrentpoint closepath endchar\n    1: glyph A - 11 X01 flex inside flex\n\nCure: leave one start out; where the end of the flex before it is missing, write that.",
+    text: "Level *must*: interpreters lose points of the curves.\n\nA flex can't hold another one. Interpreters count its points anew, or from the first start on, or stop with an error. Here the start occurs\ntwice.\n\n    A: 0 500 hsbw 0 hmoveto 0 1 callothersubr 0 1 callothersubr\n       1 hmoveto 0 2 callothersubr … (seven times) 50 7 0 3 0 callothersubr pop pop setcurrentpoint closepath endchar\n    1: glyph A - 11 X01 flex inside flex\n\nCure: leave one start out; where the end of the flex before it is missing, write that.",
 };
 
 #[tactic(auto, unfolding(crate::specs::Pages::page_51))]
@@ -751,7 +751,7 @@ static PAGE_52: Page = Page {
     code: "X02",
     anchor: "x02-flex-call-outside-flex",
     title: "flex call outside flex",
-    text: "Level *must*: interpreters refuse the glyph, or move the point.\n\nA point or an end belongs to no flex: the start is missing, or the end stands twice. Interpreters take points that were left in memory, or\nstop with an error.\n\n    A: 0 500 hsbw 0 2 callothersubr endchar\n    1: glyph A - 6 X02 flex call outside flex\n\nCure: write the start in front of the first of the seven moves; or leave the call out.",
+    text: "Level *must*: interpreters refuse the glyph, or move the point.\n\nA point or an end belongs to no flex: the start is missing, or the end occurs twice. Interpreters take points that were left in memory, or\nstop with an error.\n\n    A: 0 500 hsbw 0 2 callothersubr endchar\n    1: glyph A - 6 X02 flex call outside flex\n\nCure: write the start before the first of the seven moves; or leave the call out.",
 };
 
 #[tactic(auto, unfolding(crate::specs::Pages::page_52))]
@@ -765,7 +765,7 @@ static PAGE_53: Page = Page {
     code: "X03",
     anchor: "x03-command-inside-flex",
     title: "command inside flex",
-    text: "Level *must*: interpreters lose points of the curves, or draw lines between them.\n\nBetween start and end only moves may stand, with their points. What is drawn there is drawn before the flex, from wherever its moves have\nled, and a stem there is ignored or stops an interpreter. Behind a start whose end is missing each further clearing command but\na move has this line, endchar too. Here a line stands in front of the first move.\n\n    A: 0 500 hsbw 0 hmoveto 0 1 callothersubr 5 vlineto\n       1 hmoveto 0 2 callothersubr … (seven times) 50 7 5 3 0 callothersubr pop pop setcurrentpoint closepath endchar\n    1: glyph A - 10 X03 command inside flex\n\nCure: move the command in front of the start or behind the end; what belongs to the flex is written as moves.",
+    text: "Level *must*: interpreters lose points of the curves, or draw lines between them.\n\nBetween start and end only moves are allowed, with their points. What is drawn there is drawn before the flex, from wherever its moves have\nled, and a stem there is ignored or stops an interpreter. After a start whose end is missing each further clearing command but\na move has this line, endchar too. Here a line comes before the first move.\n\n    A: 0 500 hsbw 0 hmoveto 0 1 callothersubr 5 vlineto\n       1 hmoveto 0 2 callothersubr … (seven times) 50 7 5 3 0 callothersubr pop pop setcurrentpoint closepath endchar\n    1: glyph A - 10 X03 command inside flex\n\nCure: move the command before the start or after the end; what belongs to the flex is written as moves.",
 };
 
 #[tactic(auto, unfolding(crate::specs::Pages::page_53))]
@@ -779,7 +779,7 @@ static PAGE_54: Page = Page {
     code: "X04",
     anchor: "x04-flex-points-are-not-seven-pairs",
     title: "flex points are not seven pairs",
-    text: "Level *must*: interpreters draw other curves, or refuse the glyph.\n\nEach point stands behind one move, and there are seven of both: a reference point, and six points of two curves. Interpreters draw from what\nthey have counted, so one too many or too few spoils the rest of the glyph. A move without its point has a line at each later point and at\nthe end. Here there are six of both.\n\n    A: 0 500 hsbw 0 hmoveto 0 1 callothersubr\n       1 hmoveto 0 2 callothersubr … (six times) 50 6 0 3 0 callothersubr pop pop setcurrentpoint closepath endchar\n    1: glyph A - 44 X04 flex points are not seven pairs\n\nCure: write a point behind each move, and seven of both; a move that leads nowhere is `0 hmoveto`.",
+    text: "Level *must*: interpreters draw other curves, or refuse the glyph.\n\nEach point comes after one move, and there are seven of both: a reference point, and six points of two curves. Interpreters draw from what\nthey have counted, so one too many or too few spoils the rest of the glyph. A move without its point has a line at each later point and at\nthe end. Here there are six of both.\n\n    A: 0 500 hsbw 0 hmoveto 0 1 callothersubr\n       1 hmoveto 0 2 callothersubr … (six times) 50 6 0 3 0 callothersubr pop pop setcurrentpoint closepath endchar\n    1: glyph A - 44 X04 flex points are not seven pairs\n\nCure: write a point after each move, and seven of both; a move that leads nowhere is `0 hmoveto`.",
 };
 
 #[tactic(auto, unfolding(crate::specs::Pages::page_54))]
@@ -793,7 +793,7 @@ static PAGE_55: Page = Page {
     code: "X05",
     anchor: "x05-flex-ends-elsewhere",
     title: "flex ends elsewhere",
-    text: "Level *must*: what comes after the curves is drawn elsewhere by some interpreters.\n\nThe end names the point where the flex ends, in the glyph's own coordinates, as hsbw and all moves, lines and curves before have led there.\nAn interpreter that draws the flex as a line takes this point, another one adds up the moves: if they differ, what follows is shifted, on one\ndevice and not on another. Here the seven moves lead to 7 0, and the end says 8 0.\n\n    A: 0 500 hsbw 0 hmoveto 0 1 callothersubr\n       1 hmoveto 0 2 callothersubr … (seven times) 50 8 0 3 0 callothersubr pop pop setcurrentpoint closepath endchar\n    1: glyph A - 49 X05 flex ends elsewhere\n\nCure: write the point, here `50 7 0`. The picture of the glyph, `t1draw A font.pfb`, says so below the fault's line: `the pen is at 7 0, the end\nnames 8 0`. Later flexes of the glyph were mostly counted on from the wrong point: their ends have this line then, and are\nmended in the same way. Where the path doesn't end where it began with the points that you have counted, the point was right: mend a move of the flex.\n\nhsbw begins at the sidebearing and 0, and closepath leaves the current point where it is. Where moves have fractions, by div, the point has to be\ntheir exact sum. To find the point by hand, begin with hsbw's first number and 0 (sbw's first two), and go through the glyph's trace,\n`t1check --trace A font.pfb`: rmoveto and rlineto add both numbers, hmoveto and hlineto the first to x, vmoveto and vlineto the first to y, rrcurveto\nits three pairs; vhcurveto adds its second and fourth number to x and its first and third to y, hvcurveto its first and second to x and its third and\nfourth to y. Behind the end of a flex count on from the point that it names, which setcurrentpoint sets.",
+    text: "Level *must*: what comes after the curves is drawn elsewhere by some interpreters.\n\nThe end names the point where the flex ends, in the glyph's own coordinates, as hsbw and all moves, lines and curves before have led there.\nAn interpreter that draws the flex as a line takes this point, another one adds up the moves: if they differ, what follows is shifted, on one\ndevice and not on another. Here the seven moves lead to 7 0, and the end says 8 0.\n\n    A: 0 500 hsbw 0 hmoveto 0 1 callothersubr\n       1 hmoveto 0 2 callothersubr … (seven times) 50 8 0 3 0 callothersubr pop pop setcurrentpoint closepath endchar\n    1: glyph A - 49 X05 flex ends elsewhere\n\nCure: write the point, here `50 7 0`. The picture of the glyph, `t1draw A font.pfb`, says so below the fault's line: `the pen is at 7 0, the end\nnames 8 0`. Later flexes of the glyph were mostly counted on from the wrong point: their ends have this line then, and are\nmended in the same way. Where the path doesn't end where it began with the points that you have counted, the point was right: mend a move of the flex.\n\nhsbw begins at the sidebearing and 0, and closepath leaves the current point where it is. Where moves have fractions, by div, the point has to be\ntheir exact sum. To find the point by hand, begin with hsbw's first number and 0 (sbw's first two), and go through the glyph's trace,\n`t1check --trace A font.pfb`: rmoveto and rlineto add both numbers, hmoveto and hlineto the first to x, vmoveto and vlineto the first to y, rrcurveto\nits three pairs; vhcurveto adds its second and fourth number to x and its first and third to y, hvcurveto its first and second to x and its third and\nfourth to y. After the end of a flex count on from the point that it names, which setcurrentpoint sets.",
 };
 
 #[tactic(auto, unfolding(crate::specs::Pages::page_55))]
@@ -807,7 +807,7 @@ static PAGE_56: Page = Page {
     code: "X06",
     anchor: "x06-setcurrentpoint-outside-flex",
     title: "setcurrentpoint outside flex",
-    text: "Level *must*: what comes after the curves is drawn elsewhere.\n\nsetcurrentpoint tells an interpreter where an OtherSubr has led to; it moves nothing by itself. It has its place behind the end of a flex and\nthe two pops that fetch the point, and nowhere else.\n\n    A: 0 500 hsbw 50 0 setcurrentpoint endchar\n    1: glyph A - 6 X06 setcurrentpoint outside flex\n\nCure: write a move where one is meant. Behind the end of a flex write `pop pop setcurrentpoint`, with nothing between.",
+    text: "Level *must*: what comes after the curves is drawn elsewhere.\n\nsetcurrentpoint says where an OtherSubr has led to; it moves nothing by itself. It has its place after the end of a flex and\nthe two pops that fetch the point, and nowhere else.\n\n    A: 0 500 hsbw 50 0 setcurrentpoint endchar\n    1: glyph A - 6 X06 setcurrentpoint outside flex\n\nCure: write a move where one is meant. After the end of a flex write `pop pop setcurrentpoint`, with nothing between.",
 };
 
 #[tactic(auto, unfolding(crate::specs::Pages::page_56))]
@@ -835,7 +835,7 @@ static PAGE_58: Page = Page {
     code: "O02",
     anchor: "o02-bad-othersubr-count",
     title: "bad OtherSubr count",
-    text: "Level *must*: interpreters stop at the call.\n\nThe number below the OtherSubr's says how many arguments it takes. If there aren't so many, an interpreter takes what an earlier command left\nin memory, or fails. Here the Subr's number is missing in front of a hint replacement.\n\n    A: 0 500 hsbw 1 3 callothersubr endchar\n    1: glyph A - 6 O02 bad OtherSubr count\n\nCure: write the arguments, then their count, then the number of the OtherSubr.",
+    text: "Level *must*: interpreters stop at the call.\n\nThe number below the OtherSubr's says how many arguments it takes. If there aren't so many, an interpreter takes what an earlier command left\nin memory, or fails. Here the Subr's number is missing before a hint replacement.\n\n    A: 0 500 hsbw 1 3 callothersubr endchar\n    1: glyph A - 6 O02 bad OtherSubr count\n\nCure: write the arguments, then their count, then the number of the OtherSubr.",
 };
 
 #[tactic(auto, unfolding(crate::specs::Pages::page_58))]
@@ -863,7 +863,7 @@ static PAGE_60: Page = Page {
     code: "O04",
     anchor: "o04-pop-of-nothing",
     title: "pop of nothing",
-    text: "Level *must*: interpreters stop there, or go on with any number.\n\npop fetches a result of an OtherSubr. Where none waits, an interpreter fetches what was left there before, or fails. The end of a flex leaves\ntwo results, a hint replacement one, the start and the points none.\n\n    A: 0 500 hsbw pop endchar\n    1: glyph A - 4 O04 pop of nothing\n\nCure: leave the pop out, or write the callothersubr in front of it.",
+    text: "Level *must*: interpreters stop there, or go on with any number.\n\npop fetches a result of an OtherSubr. Where none waits, an interpreter fetches what was left there before, or fails. The end of a flex leaves\ntwo results, a hint replacement one, the start and the points none.\n\n    A: 0 500 hsbw pop endchar\n    1: glyph A - 4 O04 pop of nothing\n\nCure: leave the pop out, or write the callothersubr before it.",
 };
 
 #[tactic(auto, unfolding(crate::specs::Pages::page_60))]
@@ -877,7 +877,7 @@ static PAGE_61: Page = Page {
     code: "K01",
     anchor: "k01-seac-code-is-not-0-to-255",
     title: "seac code is not 0 to 255",
-    text: "Level *must*: interpreters refuse the glyph.\n\nAn interpreter looks a code up in a table of 256 names. Past its end it finds nothing, or whatever stands in memory. The code of a fraction is\nnone.\n\n    C: 0 500 hsbw 7 0 0 65 256 seac\n    1: glyph C - 9 K01 seac code is not 0 to 255\n\nCure: write the code that the component's name has in StandardEncoding.",
+    text: "Level *must*: interpreters refuse the glyph.\n\nAn interpreter looks a code up in a table of 256 names. Past its end it finds nothing, or whatever is in memory. The code of a fraction is\nnone.\n\n    C: 0 500 hsbw 7 0 0 65 256 seac\n    1: glyph C - 9 K01 seac code is not 0 to 255\n\nCure: write the code that the component's name has in StandardEncoding.",
 };
 
 #[tactic(auto, unfolding(crate::specs::Pages::page_61))]
@@ -919,7 +919,7 @@ static PAGE_64: Page = Page {
     code: "K04",
     anchor: "k04-seac-of-a-seac",
     title: "seac of a seac",
-    text: "Level *must*: interpreters refuse the glyph, or draw a part of it.\n\nA component must be drawn by commands of its own. Many interpreters can't execute a seac inside of another, and stop, or draw the wrong part.\nA glyph that names itself has this line too. A seac behind the step limit of the edition counts as none. Here the accent is an accented character\nitself.\n\n    C: 0 500 hsbw 7 0 0 65 66 seac\n    D: 0 500 hsbw 0 0 0 65 67 seac\n    1: glyph D - 9 K04 seac of a seac\n\nCure: name the parts that have an outline; if there are three, draw the character as one outline.",
+    text: "Level *must*: interpreters refuse the glyph, or draw a part of it.\n\nA component must be drawn by commands of its own. Many interpreters can't execute a seac inside of another, and stop, or draw the wrong part.\nA glyph that names itself has this line too. A seac after the step limit of the edition counts as none. Here the accent is an accented character\nitself.\n\n    C: 0 500 hsbw 7 0 0 65 66 seac\n    D: 0 500 hsbw 0 0 0 65 67 seac\n    1: glyph D - 9 K04 seac of a seac\n\nCure: name the parts that have an outline; if there are three, draw the character as one outline.",
 };
 
 #[tactic(auto, unfolding(crate::specs::Pages::page_64))]
@@ -933,7 +933,7 @@ static PAGE_65: Page = Page {
     code: "K05",
     anchor: "k05-accent-sidebearing-differs",
     title: "accent sidebearing differs",
-    text: "Level *must*: interpreters put the accent at different places.\n\nThe standard wants ASB to be the sidebearing that the accent's own hsbw or sbw says. Some interpreters place the accent by ASB and others by the\naccent's own: if they differ, it stands further left or right on one device than on another. The base's sidebearing is nothing to this rule, nor\nis one that the accent sets behind the step limit of the edition.\n\n    C: 0 500 hsbw 9 0 0 65 66 seac\n    1: glyph C - 9 K05 accent sidebearing differs\n\nCure: write the accent's sidebearing for ASB, here 7. If it was changed by editing the accent, mend each seac that names it, and ADX with it\nwhere the accent should stay in its place.",
+    text: "Level *must*: interpreters put the accent at different places.\n\nThe standard wants ASB to be the sidebearing that the accent's own hsbw or sbw says. Some interpreters place the accent by ASB and others by the\naccent's own. If they differ, the accent is further left or right on one device than on another. The base's sidebearing is nothing to this rule, nor\nis one that the accent sets after the step limit of the edition.\n\n    C: 0 500 hsbw 9 0 0 65 66 seac\n    1: glyph C - 9 K05 accent sidebearing differs\n\nCure: write the accent's sidebearing for ASB, here 7. If it was changed by editing the accent, mend each seac that names it, and ADX with it\nwhere the accent should stay in its place.",
 };
 
 #[tactic(auto, unfolding(crate::specs::Pages::page_65))]
@@ -947,7 +947,7 @@ static PAGE_66: Page = Page {
     code: "K06",
     anchor: "k06-seac-beside-other-commands",
     title: "seac beside other commands",
-    text: "Level *must*: interpreters draw the other commands, or leave them out.\n\nseac is the whole of its glyph: only the width stands in front of it, by hsbw or sbw. Outlines and stems come from the components; what the\nglyph draws besides is drawn or dropped, and a stem of it is a hint for an outline that isn't its own. A move counts, in a flex too.\n\n    C: 0 500 hsbw 10 20 hstem 7 0 0 65 66 seac\n    1: glyph C - 12 K06 seac beside other commands\n\nCure: leave the other commands out; or draw the character as one outline.",
+    text: "Level *must*: interpreters draw the other commands, or leave them out.\n\nseac is the whole of its glyph: only the width comes before it, by hsbw or sbw. Outlines and stems come from the components; what the\nglyph draws besides is drawn or dropped, and a stem of it is a hint for an outline that isn't its own. A move counts, in a flex too.\n\n    C: 0 500 hsbw 10 20 hstem 7 0 0 65 66 seac\n    1: glyph C - 12 K06 seac beside other commands\n\nCure: leave the other commands out; or draw the character as one outline.",
 };
 
 #[tactic(auto, unfolding(crate::specs::Pages::page_66))]
@@ -961,7 +961,7 @@ static PAGE_67: Page = Page {
     code: "K07",
     anchor: "k07-seac-component-without-sidebearing",
     title: "seac component without sidebearing",
-    text: "Level *must*: interpreters put the part at different places, or refuse the glyph.\n\nA component wants its hsbw or sbw like every glyph: seac places the accent by its sidebearing, and where none is set the place is open. The\ncomponent has a line as well, mostly W01. hsbw or sbw behind the step limit of the edition counts as none. Here `B` is `endchar` alone.\n\n    C: 0 500 hsbw 7 0 0 65 66 seac\n    1: glyph B - 1 W01 hsbw or sbw not first\n    2: glyph C - 9 K07 seac component without sidebearing\n\nCure: write hsbw or sbw first in the component.",
+    text: "Level *must*: interpreters put the part at different places, or refuse the glyph.\n\nA component wants its hsbw or sbw like every glyph: seac places the accent by its sidebearing, and where none is set the place is open. The\ncomponent has a line as well, mostly W01. hsbw or sbw after the step limit of the edition counts as none. Here `B` is `endchar` alone.\n\n    C: 0 500 hsbw 7 0 0 65 66 seac\n    1: glyph B - 1 W01 hsbw or sbw not first\n    2: glyph C - 9 K07 seac component without sidebearing\n\nCure: write hsbw or sbw first in the component.",
 };
 
 #[tactic(auto, unfolding(crate::specs::Pages::page_67))]
@@ -975,7 +975,7 @@ static PAGE_68: Page = Page {
     code: "L01",
     anchor: "l01-step-limit",
     title: "step limit",
-    text: "Level *must*: the glyph isn't checked further, and an interpreter may take as long.\n\nThe first 100,000 steps of a glyph are checked, or 1,000,000 in edition 2, and then it is left: what stands behind them\nisn't known. Real glyphs have some hundreds; but a few Subrs that call one another make a charstring that keeps a printer busy for a long\ntime. STEP and PATH are those of the first step that isn't checked. Here Subr 1 is ten times dotsection, and return; Subr 2 is ten times\n`1 callsubr`, and return; Subr 3 calls Subr 2 in this way, Subr 4 calls Subr 3, and Subr 5 calls Subr 4.\n\n    Subr 5: 4 callsubr … 4 callsubr return\n    A: 0 500 hsbw 5 callsubr endchar\n    1: glyph A 5>4>3>2>1 100001 L01 step limit\n\n`A` has 133,337 steps. In edition 2 it is clean; there the line of a glyph of more than 1,000,000 has the step 1000001.\n\nCure: `--trace A` shows which Subrs are executed again and again; mend their numbers. Where so many steps are meant, check by edition 2, or waive\nthe rule for this glyph.",
+    text: "Level *must*: the glyph isn't checked further, and an interpreter may take as long.\n\nThe first 100,000 steps of a glyph are checked, or 1,000,000 in edition 2, and then it is left: what comes after them\nisn't known. Real glyphs have some hundreds; but a few Subrs that call one another make a charstring that keeps a printer busy for a long\ntime. STEP and PATH are those of the first step that isn't checked. Here Subr 1 is ten times dotsection, and return; Subr 2 is ten times\n`1 callsubr`, and return; Subr 3 calls Subr 2 in this way, Subr 4 calls Subr 3, and Subr 5 calls Subr 4.\n\n    Subr 5: 4 callsubr … 4 callsubr return\n    A: 0 500 hsbw 5 callsubr endchar\n    1: glyph A 5>4>3>2>1 100001 L01 step limit\n\n`A` has 133,337 steps. In edition 2 it is clean; there the line of a glyph of more than 1,000,000 has the step 1000001.\n\nCure: `--trace A` shows which Subrs are executed again and again; mend their numbers. Where so many steps are meant, check by edition 2, or waive\nthe rule for this glyph.",
 };
 
 #[tactic(auto, unfolding(crate::specs::Pages::page_68))]
@@ -989,7 +989,7 @@ static PAGE_69: Page = Page {
     code: "U01",
     anchor: "u01-waiver-not-used",
     title: "waiver not used",
-    text: "Level *should*: a waiver says more than the font needs, so a fault that comes back is hidden.\n\nThe waiver leaves out nothing: the font has no glyph of that name, or the glyph doesn't break that rule. The fault was mended, or the glyph was\nrenamed or taken out; or the name or the code is misspelled, also by a byte order mark in front of the first name, which isn't\nseen; or the edition is the other one. So no waiver stays in the file that might later hide a fault that nobody means. The whole font decides, also\nwhere `--after` and `--max` leave lines out. A waiver that stands twice in the file has one line, by its first place. Here the file has the two lines\n`A GE01` and `A C05`.\n\n    A: 0 500 hsbw\n    1: waiver A C05 U01 waiver not used\n\nCure: take the line out of the file, each time that it stands there, or mend its name or its code.",
+    text: "Level *should*: a waiver says more than the font needs, so a fault that comes back is hidden.\n\nThe waiver matches nothing: the font has no glyph of that name, or the glyph doesn't break that rule. The fault was mended, or the glyph was\nrenamed or taken out. Or the name or the code is misspelled, also by a byte order mark before the first name, which isn't\nseen. Or the edition is the other one. So no waiver stays in the file that might later hide a fault that nobody means. The whole font decides, also\nwhere `--after` and `--max` leave lines out. A waiver that occurs twice in the file has one line, by its first place. Here the file has the two lines\n`A GE01` and `A C05`.\n\n    A: 0 500 hsbw\n    1: waiver A C05 U01 waiver not used\n\nCure: take the line out of the file, each time that it occurs there, or mend its name or its code.",
 };
 
 #[tactic(auto, unfolding(crate::specs::Pages::page_69))]
@@ -1003,7 +1003,7 @@ static PAGE_70: Page = Page {
     code: "E01",
     anchor: "e01-not-a-pfa-or-pfb",
     title: "not a PFA or PFB",
-    text: "The file begins neither with byte 128 nor with `%!`; an empty file too.\n\nPrinters and installers won't take the file as a Type 1 font either.\n\nExample: a font in another format, as TrueType or OpenType, or Type1C, which PDFs have. OpenType fonts with cubic outlines (CFF) and Type1C have\nmuch in common with Type 1, and aren't Type 1 fonts.\n\nCure: convert the font to Type 1, or name the right file. `cfftot1`, of Debian's lcdf-typetools, converts CFF. Recipes say how\nto check the fonts of a PDF.",
+    text: "The file begins neither with byte 128 nor with `%!`; an empty file too.\n\nPrinters and installers won't take the file as a Type 1 font either.\n\nExample: a font in another format, as TrueType or OpenType, or Type1C, which PDFs have. OpenType fonts with cubic outlines (CFF) and Type1C have\nmuch in common with Type 1, and aren't Type 1 fonts.\n\nCure: convert the font to Type 1, or name the right file. `cfftot1`, of Debian's lcdf-typetools, converts CFF. Recipes\nsay how to check the fonts of a PDF.",
 };
 
 #[tactic(auto, unfolding(crate::specs::Pages::page_70))]
@@ -1017,7 +1017,7 @@ static PAGE_71: Page = Page {
     code: "E02",
     anchor: "e02-bad-segment-header",
     title: "bad segment header",
-    text: "Where a segment should begin stands another byte than 128, or 128 and a type that is none of 1, 2, 3.\n\nThe file is damaged, often by a transfer that changed line ends, or it was cut.\n\nExample: `80 04`; `80 01 00 00 00 00 41`.\n\nCure: take it from its source again, by a binary transfer.",
+    text: "Where a segment should begin there is another byte than 128, or 128 and a type that is none of 1, 2, 3.\n\nThe file is damaged, often by a transfer that changed line ends, or it was cut.\n\nExample: `80 04`; `80 01 00 00 00 00 41`.\n\nCure: take it from its source again, by a binary transfer.",
 };
 
 #[tactic(auto, unfolding(crate::specs::Pages::page_71))]
@@ -1031,7 +1031,7 @@ static PAGE_72: Page = Page {
     code: "E03",
     anchor: "e03-segment-cut-short",
     title: "segment cut short",
-    text: "The file ends behind a 128, inside a segment's length, or before the end of its bytes.\n\nThe file is damaged, often by a transfer that changed line ends, or it was cut.\n\nExample: `80 01 05 00 00 00 25 21 0A 0A`.\n\nCure: take it from its source again, by a binary transfer.",
+    text: "The file ends after a 128, inside a segment's length, or before the end of its bytes.\n\nThe file is damaged, often by a transfer that changed line ends, or it was cut.\n\nExample: `80 01 05 00 00 00 25 21 0A 0A`.\n\nCure: take it from its source again, by a binary transfer.",
 };
 
 #[tactic(auto, unfolding(crate::specs::Pages::page_72))]
@@ -1101,7 +1101,7 @@ static PAGE_77: Page = Page {
     code: "E08",
     anchor: "e08-subrs-malformed",
     title: "Subrs malformed",
-    text: "Behind `/Subrs` stands neither an empty array nor a whole number of 0 or more and `array`; or an entry isn't `dup`, number, length, a word,\nand the bytes; or the text ends inside.\n\nGlyphs call Subrs for flex and hint replacement. A length that isn't that of the bytes makes all that follows unreadable.\n\nExample: `/Subrs 4 def`; `dup -1 9 RD`.\n\nCure: write the number of Subrs and `array`, and each entry's true length and one blank behind `RD`; let an assembler write these.",
+    text: "After `/Subrs` there is neither an empty array nor a whole number of 0 or more and `array`. Or an entry isn't `dup`, number, length, a word,\nand the bytes. Or the text ends inside.\n\nGlyphs call Subrs for flex and hint replacement. A length that isn't that of the bytes makes all that follows unreadable.\n\nExample: `/Subrs 4 def`; `dup -1 9 RD`.\n\nCure: write the number of Subrs and `array`, and each entry's true length and one blank after `RD`; let an assembler write these.",
 };
 
 #[tactic(auto, unfolding(crate::specs::Pages::page_77))]
@@ -1115,7 +1115,7 @@ static PAGE_78: Page = Page {
     code: "E09",
     anchor: "e09-charstrings-malformed-or-absent",
     title: "CharStrings malformed or absent",
-    text: "Behind `/CharStrings` stands no whole number of 0 or more with `dict dup begin`; or an entry isn't a name, length, a word, and the bytes; or\nthe text ends before the `end` of the glyphs.\n\nNo glyph can be drawn, or not all.\n\nExample: `/CharStrings 4 array`; a file cut between two glyphs.\n\nCure: write the number of glyphs and `dict dup begin`, and each entry's true length and one blank behind `RD`; let an assembler write these.\nWhere the file was cut, take it from its source again.",
+    text: "After `/CharStrings` there is no whole number of 0 or more with `dict dup begin`. Or an entry isn't a name, length, a word, and the bytes. Or\nthe text ends before the `end` of the glyphs.\n\nNo glyph can be drawn, or not all.\n\nExample: `/CharStrings 4 array`; a file cut between two glyphs.\n\nCure: write the number of glyphs and `dict dup begin`, and each entry's true length and one blank after `RD`; let an assembler write these.\nWhere the file was cut, take it from its source again.",
 };
 
 #[tactic(auto, unfolding(crate::specs::Pages::page_78))]
@@ -1129,7 +1129,7 @@ static PAGE_79: Page = Page {
     code: "E10",
     anchor: "e10-leniv-out-of-range",
     title: "lenIV out of range",
-    text: "A value of `/lenIV` is no whole number from -1 to 64, or the text ends behind the key.\n\nlenIV says how many random bytes stand in front of each charstring; if it is wrong, each glyph is noise. 4 is the usual value, -1 says that\ncharstrings aren't encrypted.\n\nExample: `/lenIV 65 def`; `/lenIV [4] def`.\n\nCure: `/lenIV 4 def`, or no such entry, with four such bytes in front of each charstring.",
+    text: "A value of `/lenIV` is no whole number from -1 to 64, or the text ends after the key.\n\nlenIV says how many random bytes come before each charstring; if it is wrong, each glyph is noise. 4 is the usual value, -1 says that\ncharstrings aren't encrypted.\n\nExample: `/lenIV 65 def`; `/lenIV [4] def`.\n\nCure: `/lenIV 4 def`, or no such entry, with four such bytes before each charstring.",
 };
 
 #[tactic(auto, unfolding(crate::specs::Pages::page_79))]
@@ -1143,7 +1143,7 @@ static PAGE_80: Page = Page {
     code: "E11",
     anchor: "e11-count-past-its-limit",
     title: "count past its limit",
-    text: "The number behind `/Subrs` or `/CharStrings`, a charstring's length, or the number of different glyphs is past 65,535; or a Subr's number is\npast 65,534.\n\nNo real font comes near; mostly a number was damaged.\n\nExample: `/Subrs 65536 array`.\n\nCure: mend the number, or split the font.",
+    text: "The number after `/Subrs` or `/CharStrings`, a charstring's length, or the number of different glyphs is past 65,535; or a Subr's number is\npast 65,534.\n\nNo real font comes near; mostly a number was damaged.\n\nExample: `/Subrs 65536 array`.\n\nCure: mend the number, or split the font.",
 };
 
 #[tactic(auto, unfolding(crate::specs::Pages::page_80))]
@@ -1157,7 +1157,7 @@ static PAGE_81: Page = Page {
     code: "E12",
     anchor: "e12-second-subrs",
     title: "second Subrs",
-    text: "The name `/Subrs` stands a second time in front of the glyphs, other than as a key's value.\n\nA hybrid font has Subrs for low and for high resolution, so each charstring has two meanings.\n\nExample: `/Subrs 6 array … ND` and later `/Subrs 0 array ND`.\n\nCure: check each of both as a font of its own, with one set of Subrs.",
+    text: "The name `/Subrs` occurs a second time before the glyphs, other than as a key's value.\n\nA hybrid font has Subrs for low and for high resolution, so each charstring has two meanings.\n\nExample: `/Subrs 6 array … ND` and later `/Subrs 0 array ND`.\n\nCure: check each of both as a font of its own, with one set of Subrs.",
 };
 
 #[tactic(auto, unfolding(crate::specs::Pages::page_81))]
@@ -1171,7 +1171,7 @@ static PAGE_82: Page = Page {
     code: "E13",
     anchor: "e13-multiple-master-font",
     title: "multiple master font",
-    text: "The name `/WeightVector` stands in the clear text, outside a custom Encoding and other than as a key's value.\n\nA multiple master font has several designs in one; its charstrings mix their numbers.\n\nExample: `/WeightVector [0.5 0.5] def`.\n\nCure: make a font of one instance, and check that.",
+    text: "The name `/WeightVector` is in the clear text, outside a custom Encoding and other than as a key's value.\n\nA multiple master font has several designs in one; its charstrings mix their numbers.\n\nExample: `/WeightVector [0.5 0.5] def`.\n\nCure: make a font of one instance, and check that.",
 };
 
 #[tactic(auto, unfolding(crate::specs::Pages::page_82))]
@@ -1185,7 +1185,7 @@ static PAGE_83: Page = Page {
     code: "E14",
     anchor: "e14-waivers-malformed",
     title: "waivers malformed",
-    text: "A line of the file of waivers isn't what a waiver has to be. It has to be a name, one blank (byte 32) and a code, and nothing else. The\nname has the bytes that a name in a font can have: all but zero, tab, line feed, form feed, carriage return, the blank, and `( ) < > [ ] { } / %`.\nThe code is that of a rule from C01 to L01, in capital letters. Each of these lines is malformed:\n\n    A                    no code\n    A C05 H02            two codes\n    A  C05               two blanks; so is a blank at the end, or a tab\n    /A C05               a slash\n    A F01                a rule on the font\n    A U01                the rule on waivers\n    A C10                no rule\n    % meant so           a comment\n\nThe one line on standard error is `refused: E14 waivers malformed`. This command prints the malformed lines of the file `font.waivers`, and nothing\nelse:\n\n    LC_ALL=C awk '{ line = $0; sub(/\\r$/, \"\", line) }\n        line != \"\" && line !~ (\"^[\\001-\\010\\013\\016-\\037!-$&-\\047*-.0-;=?-Z\\\\\\\\^-z|~-\\377]* \" \\\n            \"(C0[1-9]|GE0[12]|[RW]0[12]|P0[1-3]|[HOS]0[1-4]|X0[1-6]|K0[1-7]|L01)$\")' <font.waivers\n\nWith `{ print NR \": \" $0 }` in front of the last `'` it tells their numbers as well. Some awks, as busybox's, end a line at a zero byte. For these\nwrite `LC_ALL=C tr '\\000' '(' <font.waivers |` at the beginning and nothing behind the last `'`; then such a byte is shown as `(`.\n\nOne such line is enough, since it can't be said what it was to waive.\n\nCure: mend these lines, or take them out.",
+    text: "A line of the file of waivers isn't what a waiver has to be. It has to be a name, one blank (byte 32) and a code, and nothing else. The\nname has the bytes that a name in a font can have: all but zero, tab, line feed, form feed, carriage return, the blank, and `( ) < > [ ] { } / %`.\nThe code is that of a rule from C01 to L01, in capital letters. Each of these lines is malformed:\n\n    A                    no code\n    A C05 H02            two codes\n    A  C05               two blanks; so is a blank at the end, or a tab\n    /A C05               a slash\n    A F01                a rule on the font\n    A U01                the rule on waivers\n    A C10                no rule\n    % meant so           a comment\n\nThe one line on standard error is `refused: E14 waivers malformed`. This command prints the malformed lines of the file `font.waivers`, and nothing\nelse:\n\n    LC_ALL=C awk '{ line = $0; sub(/\\r$/, \"\", line) }\n        line != \"\" && line !~ (\"^[\\001-\\010\\013\\016-\\037!-$&-\\047*-.0-;=?-Z\\\\\\\\^-z|~-\\377]* \" \\\n            \"(C0[1-9]|GE0[12]|[RW]0[12]|P0[1-3]|[HOS]0[1-4]|X0[1-6]|K0[1-7]|L01)$\")' <font.waivers\n\nWith `{ print NR \": \" $0 }` before the last `'` it prints their numbers as well. Some awks, as busybox's, end a line at a zero byte. For these\nwrite `LC_ALL=C tr '\\000' '(' <font.waivers |` at the beginning and nothing after the last `'`; then such a byte is shown as `(`.\n\nOne such line is enough, since it can't be said what it was to waive.\n\nCure: mend these lines, or take them out.",
 };
 
 #[tactic(auto, unfolding(crate::specs::Pages::page_83))]
@@ -1199,7 +1199,7 @@ static PAGE_84: Page = Page {
     code: "E15",
     anchor: "e15-waivers-past-their-limit",
     title: "waivers past their limit",
-    text: "The file of waivers has more than 1,048,576 bytes, so no line of it is looked at. No font needs so many waivers; mostly another file was named. The one line on standard error is `refused: E15 waivers past their\nlimit`. Example: a file of 1,048,577 line feeds; with 1,048,576 of them it is read, and waives nothing.\n\nCure: name the right file. A waiver that stands more than once can be left out but for one; `LC_ALL=C sort -u` does that.",
+    text: "The file of waivers has more than 1,048,576 bytes, so no line of it is looked at. No font needs so many waivers; mostly another file was\nnamed. The one line on standard error is `refused: E15 waivers past their limit`. Example: a file of 1,048,577 line feeds; with 1,048,576 of them it\nis read, and waives nothing.\n\nCure: name the right file. A waiver that occurs more than once can be left out but for one; `LC_ALL=C sort -u` does that.",
 };
 
 #[tactic(auto, unfolding(crate::specs::Pages::page_84))]
