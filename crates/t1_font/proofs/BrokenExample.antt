@@ -19,7 +19,7 @@ use Rattle.t1_font.proofs.BrokenRead.{ends_too_soon, subr_too_long, glyph_too_lo
 use Rattle.t1_font.proofs.UsualExample.{text_with, are_apart, is_written}
 use Rattle.t1_font.proofs.WrittenRead.{last_token}
 
--- Nothing is stated before, and nothing stands in front.
+-- Nothing is stated or written before.
 nothing_before : StatesNoCharstring []
 nothing_before = record { no_size = refl; no_glyph = refl }
 
@@ -29,7 +29,7 @@ nothing = record { front = []; subrs = no_subrs; back = [] }
 is_nothing : IsOpening nothing
 is_nothing = record { front = All-nil IsPrivateItem; subrs = tt; back = All-nil IsPrivateItem; no_dup = All-nil IsNoDup }
 
--- A space, in front of a token and behind the last one.
+-- A space, before a token and after the last one.
 abbrev space : List ℕ
 space = codes " "
 

@@ -34,7 +34,7 @@ use Rattle.t1_font.proofs.Steps.{refused}
 use Rattle.t1_font.proofs.SubrsRead as subrs_read
 use Rattle.t1_font.proofs.WrittenRead.{wanted_is, ahead_is, last_token, parts, whole_is, natural_is, past_word_is, is_other}
 
--- No token is left: where one is wanted, the refusal is f of the one for the end.
+-- No token is left: where one is needed, the refusal is f of the one for the end.
 record Lacks (f : Refusal → Refusal) (s : List ℕ) : Type 0 where
   wants : (ended : Refusal) → wanted ended s ≡ Err (f ended)
   ahead : token_ahead s ≡ None
@@ -185,7 +185,7 @@ module _ (f : Refusal → Refusal) (left : List ℕ) (lacks : Lacks f left) wher
     ) refl,
   )
 
--- A name where a key may stand: among the Subrs it is read as outside.
+-- A name where a key may be: among the Subrs it is read as outside.
 name_is : (still : Bool) (v : FontValue) (s run left : List ℕ) → BeginsWith s (name run) left → private_turn v (mode_of still) s
     ≡ private_outside v Name (47 ∷ run) left
 name_is true v s run left h = keys_read.name_among v s run left h
@@ -202,7 +202,7 @@ module _ (marks : Marks) where
       → read marks before mode s ≡ Err e
   fails before mode s e h = refused private_turn BadCharStrings private_shortens marks before mode s e h
 
-  -- What stands in front of the CharStrings was read.
+  -- What is before the CharStrings was read.
   record Opened (before : List Stated) (s left : List ℕ) : Type 0 where
     still : Bool
     after : List Stated

@@ -80,7 +80,7 @@ encoding_name : (v : FontValue) (s left : List ℕ) → BeginsWith s (name (code
 unfolding clear_outside
 encoding_name v s left h = outside v s (name (codes "Encoding")) left h
 
--- What was found behind /Encoding, or another form.
+-- What was found after /Encoding, or another form.
 abbrev found_or : List ℕ → Option (TextTurn ClearMode) → TextTurn ClearMode
 found_or s r = elim r [ Some t ↦ t | None ↦ begins Other Outside s ]
 

@@ -1,4 +1,4 @@
--- What stands in a custom encoding is read as what it states.
+-- What is in a custom encoding is read as what it states.
 use Rattle.std.proofs.Common.{◌≡◌, ◌≤◌, ℕ, true, false, Option, Some, None, Result, Ok, List, [], ◌∷◌, ◌++◌, flat_map, refl, ap, sym, ◌∙◌, append_assoc, append-nil, codes, inl, inr}
 use Rattle.std.proofs.lemmas.Bool.{cases_Bool}
 use Rattle.t1_scan.specs.Spelling.{Plain, name, word, spelled, meant}
@@ -34,11 +34,11 @@ def_turn : (v : FontValue) (s left : List ℕ) → BeginsWith s (word (codes "de
 unfolding code_token
 def_turn v s left h = inside v s (word (codes "def")) left h
 
--- What was found behind a dup, or the dup alone.
+-- What was found after a dup, or the dup alone.
 abbrev found_or : List ℕ → Option (TextTurn ClearMode) → TextTurn ClearMode
 found_or s r = elim r [ Some t ↦ t | None ↦ goes None Codes s ]
 
--- A group behind its dup.
+-- A group after its dup.
 code_statement_is : (n : ℕ) (number : Plain) (run : List ℕ) → IsWhole number n → n ≤ 255 → code_statement (meant number) (47 ∷ run) ≡ code n run
 unfolding code_statement
 code_statement_is n number run h le = ap (λ (r : Option ℕ). elim r [ Some m ↦ code m run | None ↦ bad_code ]) (whole_up_to_is 255 n number h le)
@@ -135,7 +135,7 @@ module _ (marks : Marks) where
       ≡ Ok (goes e next left) → read before Codes s ≡ read (with_one before e) next left
   on before s e next left h = goes_on clear_turn NoEexec clear_shortens marks before Codes s e next left h
 
-  -- A custom encoding is read behind its array, to its def.
+  -- A custom encoding is read after its array, to its def.
   pub codes_read : (items : List CodeItem) (before : List Stated) (s left : List ℕ) → AreCodeItems items → IsWritten s (to_def items) left
       → read before Codes s ≡ read (before ++ flat_map code_states items) Outside left
   codes_read [] before s left are h =

@@ -38,7 +38,7 @@ pub which : {A : Type 0} (Q : A → Type 0) (b : Bool) (x y : Option A) → IfSo
 which Q true x y h k = h
 which Q false x y h k = k
 
--- A look ahead that finds nothing leaves another answer.
+-- A look ahead that finds nothing leaves the other result.
 pub found_or : {A : Type 0} (Q : A → Type 0) (r : Option A) (y : A) → IfSome r Q → Q y → Q (elim r [ Some x ↦ x | None ↦ y ])
 found_or Q (Some x) y h k = h
 found_or Q None y h k = k

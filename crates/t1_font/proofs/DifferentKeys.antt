@@ -1,4 +1,4 @@
--- A table of different keys is the pairs as they stand.
+-- A table of different keys is the pairs as they are.
 use Rattle.std.proofs.Common.{◌≡◌, Bool, true, false, not, cond, inl, inr, Option, Some, None, List, [], ◌∷◌, map, filter, flat_map, nat_eq, refl, ap, sym, subst, ◌∙◌}
 use Rattle.std.specs.Option.{option_or, unwrap_or}
 use Rattle.std.specs.List.{AllByRecursion, IsDistinct}

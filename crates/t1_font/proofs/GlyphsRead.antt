@@ -70,7 +70,7 @@ pub name_among_glyphs : (v : FontValue) (s run left : List ℕ) → BeginsWith s
 unfolding glyphs_token
 name_among_glyphs v s run left h = among v s (name run) left h
 
--- A glyph behind its name, where there is room for it.
+-- A glyph after its name, where there is room for it.
 glyph_is : (v : FontValue) (run : List ℕ) (c : Charstring) (s left : List ℕ) → (nat_le 65535 (length v.glyphs) && not (has_key same_name v.glyphs run)) ≡ false
     → IsCharstring c → IsWritten s (charstring_pieces c) left → glyph_turn v run s ≡ Ok (goes (Some (glyph run c.bytes)) Glyphs left)
 unfolding glyph_turn

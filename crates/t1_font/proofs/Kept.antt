@@ -1,4 +1,5 @@
--- What holds of the value of nothing, and goes on holding by each statement that fits, holds of the value of all that a text states.
+-- What holds of the value of nothing, and goes on holding by each statement that fits, holds of the value of a whole
+-- text.
 use Rattle.std.proofs.Common.{◌≡◌, ℕ, zero, suc, Option, Some, None, Result, Ok, Err, IfOk, List, [], length, sym, subst}
 use Rattle.t1_font.specs.declared.mode.ClearMode.{ClearMode}
 use Rattle.t1_font.specs.declared.mode.ClearMode.TheVariants as clear_modes
@@ -73,7 +74,7 @@ module _ (holds : FontValue → Type 0) (fits : FontValue → Stated → Type 0)
     value_holds marks (Ok read) w = w
     value_holds marks (Err e) w = tt
 
-    -- Of the two texts of a font, as they are read one behind the other.
+    -- Of the two texts of a font, as they are read one after the other.
     pub read_holds : (marks : Marks) (text private_text : List ℕ) (clear read : TextRead) → clear_of marks text ≡ Ok clear
         → private_of marks clear.stated private_text ≡ Ok read → HoldsOf holds marks read
     read_holds marks text private_text clear read first second =

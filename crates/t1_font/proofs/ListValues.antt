@@ -41,7 +41,7 @@ within_zero : (s : List ℕ) → numbers_within zero s ≡ None
 unfolding numbers_within
 within_zero s = refl
 
--- Numbers alone give their values.
+-- Numbers alone have their values.
 gives_values : (n : ℕ) (s : List ℕ) (ts : List Lexeme) (values : List ℤ) → length s < n → IsReadAs s ts → kinds_of ts ≡ map Number values
     → numbers_within n s ≡ Some values
 gives_values zero s ts values less read same = absurd (omega arith)
@@ -58,7 +58,7 @@ gives_values (suc n) s (t ∷ ts) (z ∷ values) less read same =
     ∙ ap (numbers_from (numbers_within n)) (item_token s found read.1 ∙ ap (λ k. item_of k read.0) kind)
     ∙ ap (number_first z) later
 
--- Behind another token there is no value.
+-- After another token there is no value.
 of_kind : (k : Kind) (rest : List ℕ) (n : ℕ) → (not (is_number_kind k) ≡ true) ⊎ (numbers_within n rest ≡ None)
     → numbers_from (numbers_within n) (item_of k rest) ≡ None
 of_kind (Number z) rest n (inl h) = cc
@@ -173,7 +173,7 @@ other_else s = (no_numbers s, is_else s)
 pub other_token : OtherToken
 other_token s ts read one = value_of_none s (gives_none (suc (length s)) s ts read one)
 
--- What stands between the brackets.
+-- What is between the brackets.
 inside_is : (front back : ℕ) (s : List ℕ) → inside_of (front ∷ (s ++ (back ∷ []))) ≡ s
 inside_is front back s =
     let n : suc (length (s ++ back ∷ [])) - 2 ≡ length s = omega (arith, length-append s (back ∷ [])) in

@@ -82,7 +82,7 @@ list_after_end count first s h e =
     let same : count + 0 ≡ count = omega arith in
     rw (numbers_step s, ← e) (rw (same, take_all 16 first h) refl)
 
--- Something else stands here.
+-- Something else is here.
 pub list_after_other : (count : ℕ) (first : List ℤ) (s : List ℕ) → is_other ≡ item_at s → list_after count first (numbers_of s) ≡ other
 list_after_other count first s e = rw (numbers_step s, ← e) refl
 

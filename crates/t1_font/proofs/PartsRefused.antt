@@ -53,7 +53,7 @@ in_file bytes = joined_refused (joined_of bytes) (joined_of-refused bytes)
 pub refused_by_part : RefusedByPart
 refused_by_part bytes unread known = IfErr-at_err (IsOfJoined (joined_of bytes)) known (in_file bytes)
 
--- Want of memory is of no part.
+-- Running out of memory is of no part.
 no_segments : (e : SealError) → IsSegmentFault e → Memory ≡ of_seal_error e → ⊥
 no_segments seal.NotAFont h named = cc
 no_segments seal.BadHeader h named = cc

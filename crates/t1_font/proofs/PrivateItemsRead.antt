@@ -1,4 +1,4 @@
--- What stands before and behind the Subrs of a private text is read as what it states.
+-- What is before and after the Subrs of a private text is read as what it states.
 use Rattle.std.proofs.Common.{◌≡◌, ◌&&◌, ℕ, Bool, true, false, not, if◌then◌else◌, Option, Some, None, Result, Ok, is_some, pos, ◌*◌, List, [], ◌∷◌, ◌++◌, flat_map, refl, ap, sym, ◌∙◌, append_assoc, append-nil, codes, inl, inr}
 use Rattle.std.proofs.lemmas.Bool.{cases_Bool}
 use Rattle.std.proofs.lemmas.List.Elements.{All-head, All-tail}
@@ -141,7 +141,7 @@ module _ (marks : Marks) where
       ∙ front_read items (before ++ private_states item) p.left left (All-tail IsPrivateItem item items are) p.back
       ∙ ap (λ es. read es Outside left) (append_assoc before (private_states item) (flat_map private_states items))
 
-  -- What stands behind the Subrs is read, and then reading goes on outside or still among them.
+  -- What is after the Subrs is read, and then reading goes on outside or still among them.
   pub record Behind (before : List Stated) (s : List ℕ) (after : List Stated) (left : List ℕ) : Type 0 where
     pub still : Bool
     pub is : read before Subrs s ≡ read after (mode_of still) left

@@ -53,7 +53,7 @@ module _ (marks : Marks) (p : PrivateParts) where
   abbrev glyphs : List Stated
   glyphs = flat_map glyph_states p.glyphs
 
-  -- From behind the Subrs on.
+  -- From the end of the Subrs on.
   from_back : (still : Bool) (before : List Stated) (s rest : List ℕ) → IsUsualParts p → flat_map glyph_of before ≡ []
       → IsWritten s (flat_map private_pieces p.back ++ glyphs_pieces p.count p.glyphs) rest → read marks before (mode_of still) s
       ≡ Ok (record { stated = before ++ (others ++ glyphs); rest = rest })

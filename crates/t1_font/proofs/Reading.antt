@@ -1,4 +1,4 @@
--- What the two calls that read a font are owed, from what their loops give.
+-- What the two calls that read a font are owed, from what holds of their loops.
 use Rattle.std.proofs.Common.{◌≡◌, ◌≤◌, ◌-◌, ℕ, suc, true, false, Result, Ok, Err, List, [], length, drop, refl, ap, sym, ◌∙◌, arith, ◌++◌, length-append}
 use Rattle.std.proofs.Math.Seq.{drop-append_seam}
 use Rattle.t1_font.specs.declared.mode.ClearMode.TheVariants as clear_modes
@@ -21,7 +21,7 @@ use Rattle.t1_font.proofs.Stating.{value_step}
 pub read_as_stated : {M : Type 0} → ReadAsStated M
 read_as_stated turn ended marks before mode s = run_is_read turn ended marks (value_step marks) (suc (length s)) before mode s
 
--- What follows the clear text stands at the text's end.
+-- What follows the clear text is at the text's end.
 pub clear_ends : (text rest : List ℕ) (old v : FontValue) → run_of clear_turn NoEexec old clear_modes.Outside text ≡ Ok (record { value = v; rest = rest })
     → IsEndOf text rest
 clear_ends text rest old v given = rw given at (run_ends clear_turn NoEexec clear_shortens (suc (length text)) old clear_modes.Outside text)
@@ -29,7 +29,7 @@ clear_ends text rest old v given = rw given at (run_ends clear_turn NoEexec clea
 pub is_no_longer : (s rest : List ℕ) → IsEndOf s rest → length rest ≤ length s
 is_no_longer s rest h = let e : length s ≡ length (h.front ++ rest) = ap length h.whole in omega (arith, e, length-append h.front rest)
 
--- The length of what is left tells the place.
+-- The length of what is left determines the place.
 rest_by_place : (s rest : List ℕ) → IsEndOf s rest → rest ≡ drop (length s - length rest) s
 rest_by_place s rest h =
     let e : length s ≡ length (h.front ++ rest) = ap length h.whole in
@@ -44,7 +44,7 @@ clear_by_rest : (marks : Marks) (s : List ℕ) (read : Result TextRead Refusal) 
 clear_by_rest marks s (Err e) v rest given = cc
 clear_by_rest marks s (Ok read) v rest given = ap (λ (r : FontRead). Ok (record { font = r.value; after = length s - length r.rest })) (ok_value _ _ given)
 
--- What the fold over a text gives, by what is stated in it.
+-- What the fold over a text yields, by what is stated in it.
 alone_read : (marks : Marks) (read : Result TextRead Refusal) → value_alone (value_read marks read) ≡ font_value_of marks read
 alone_read marks (Ok read) = refl
 alone_read marks (Err e) = refl
@@ -78,7 +78,7 @@ clear_is_read marks text s rest old v same start begins given =
     let run = rw (start, read_as_stated clear_turn NoEexec marks [] clear_modes.Outside text) at given in
     rw (← same, begins) (clear_by_rest marks text (stated_in clear_turn NoEexec marks [] clear_modes.Outside text) v rest run)
 
--- What follows the word eexec stands behind the place that is told.
+-- What follows the word eexec follows the place that is returned.
 clear_rest : (marks : Marks) (read : Result TextRead Refusal) (v : FontValue) (rest : List ℕ) → value_read marks read ≡ Ok (record { value = v; rest = rest })
     → (found : TextRead) → read ≡ Ok found → found.rest ≡ rest
 clear_rest marks read v rest given found is =

@@ -33,7 +33,7 @@ either_refused : {A : Type 0} (P : Refusal → Type 0) (b : Bool) (x y : Result 
 either_refused P true x y h k = h
 either_refused P false x y h k = k
 
--- Tokens are refused as unclosed, or as told.
+-- Tokens are refused as unclosed, or as `bad` says.
 module _ (P : Refusal → Type 0) (bad : Refusal) (unclosed : P Unclosed) (told : P bad) where
   wanted_refused : (s : List ℕ) → IfErr (wanted bad s) P
   unfolding wanted

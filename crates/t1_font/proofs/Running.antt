@@ -1,4 +1,4 @@
--- A text is read turn by turn, whatever its turns are, as long as each takes a byte.
+-- A text is read turn by turn, whatever its turns are, if each takes a byte.
 use Rattle.std.proofs.Common.{◌≡◌, ◌<◌, ℕ, zero, suc, Option, Some, None, Result, Ok, Err, IfOk, List, [], ◌∷◌, ◌++◌, length, refl, ap, sym, ◌∙◌, arith, append_assoc, length-append}
 use Rattle.t1_font.specs.declared.refusal.Refusal.{Refusal}
 use Rattle.t1_font.specs.declared.refusal.Refusal.TheVariants.{NoEexec, Unclosed, BadSubrs, BadCharStrings, BadLenIv, PastLimit, SecondSubrs, MultipleMaster, Memory}
@@ -9,7 +9,7 @@ use Rattle.t1_font.specs.Puts.{put, put_one}
 use Rattle.t1_font.specs.TextTurns.{TextTurn, over, goes, TextRead, Reader, with_one, stated_within}
 use Rattle.t1_font.specs.Runs.{go_on, run_within, run_of, value_read}
 
--- A rest stands at the end of a text, behind a byte or more.
+-- A rest is at the end of a text, after a byte or more.
 pub record IsBehind (s rest : List ℕ) : Type 0 where
   pub front : List ℕ
   pub whole : s ≡ front ++ rest
@@ -18,7 +18,7 @@ pub record IsBehind (s rest : List ℕ) : Type 0 where
 pub is_shorter : (s rest : List ℕ) → IsBehind s rest → length rest < length s
 is_shorter s rest h = let e : length s ≡ length (h.front ++ rest) = ap length h.whole in omega (arith, e, h.some, length-append h.front rest)
 
--- What follows a rest, a byte or none, is behind as well.
+-- What follows a rest, a byte or none, is after it as well.
 pub is_behind_rest : (s rest front left : List ℕ) → IsBehind s rest → rest ≡ front ++ left → IsBehind s left
 is_behind_rest s rest front left h e = record {
   front = h.front ++ front;
@@ -26,7 +26,7 @@ is_behind_rest s rest front left h e = record {
   some = omega (arith, h.some, length-append h.front front);
 }
 
--- What a turn leaves stands behind a byte or more.
+-- What a turn leaves is after a byte or more.
 abbrev pub Leaves : {M : Type 0} → List ℕ → TextTurn M → Type 0
 Leaves s (over rest) = IsBehind s rest
 Leaves s (goes e mode left) = IsBehind s left
@@ -35,7 +35,7 @@ Leaves s (goes e mode left) = IsBehind s left
 pub record Shortens {M : Type 0} (turn : Reader M) : Type 0 where
   pub less : (v : FontValue) (mode : M) (s : List ℕ) → IfOk (turn v mode s) (Leaves s)
 
--- A rest stands at the end of a text.
+-- A rest is at the end of a text.
 pub record IsEndOf (s rest : List ℕ) : Type 0 where
   pub front : List ℕ
   pub whole : s ≡ front ++ rest
@@ -91,7 +91,7 @@ module _ {M : Type 0} (turn : Reader M) (ended : Refusal) (shortens : Shortens t
       → length left < length s
   shorter v mode s e next left h = let behind : IsBehind s left = rw h at (shortens.less v mode s) in is_shorter s left behind
 
-  -- What follows a text stands at its end.
+  -- What follows a text is at its end.
   pub run_ends : (n : ℕ) (v : FontValue) (mode : M) (s : List ℕ) → IfOk (run_within turn ended n v mode s) (λ read. IsEndOf s read.rest)
   unfolding run_within
   run_ends zero v mode s = tt
@@ -134,7 +134,7 @@ module _ {M : Type 0} (turn : Reader M) (ended : Refusal) (marks : Marks)
             ]
       ]
 
--- A refusal that was read is the one that is given.
+-- A refusal that was read is the one that is returned.
 pub fails : {Y : Type 0} (e : Refusal) (read : Result Y Refusal) → read ≡ Err e → RefusesBy is_memory e read
 fails NoEexec read h = h
 fails Unclosed read h = h

@@ -1,4 +1,4 @@
--- What a new scanner over a text tells of the text's first token.
+-- What a new scanner over a text returns of the text's first token.
 use Rattle.std.proofs.Common.{◌≡◌, ℕ, Bool, false, Option, Some, None, Result, Ok, Err, List, drop}
 use Rattle.t1_scan.specs.declared.error.ScanError.{ScanError}
 use Rattle.t1_scan.specs.declared.token.Token.{Token}

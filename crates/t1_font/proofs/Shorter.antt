@@ -24,7 +24,7 @@ use Rattle.t1_font.specs.PrivateText.{private_value, subrs_at, subrs_turn, glyph
 use Rattle.t1_font.proofs.Compose.{bind, either, choose, look, which, found_or, ok_is}
 use Rattle.t1_font.proofs.Running.{IsBehind, is_behind_rest, Leaves, Shortens}
 
--- What is left behind a token, behind bytes, at a place.
+-- What is left after a token, after bytes, at a place.
 abbrev pub RestBehind : List ℕ → Found → Type 0
 RestBehind whole t = IsBehind whole t.rest
 

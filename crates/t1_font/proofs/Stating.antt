@@ -27,7 +27,7 @@ last_more : {A : Type 0} (xs : List A) (x : A) → last_of (xs ++ x ∷ []) ≡ 
 last_more [] x = refl
 last_more (y ∷ ys) x = rw (last_more ys x) refl
 
--- What is behind the last such, with one more.
+-- What is after the last such, with one more.
 pub after_one : {A : Type 0} (a : A → Bool) (xs : List A) (x : A) → after_last a (xs ++ x ∷ []) ≡ cond (a x) [] (after_last a xs ++ x ∷ [])
 after_one a [] x = refl
 after_one a (y ∷ ys) x =

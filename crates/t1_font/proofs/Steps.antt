@@ -76,7 +76,7 @@ found ended s t h =
       | Ok some ↦ elim some [ None ↦ Err ended | Some x ↦ Ok x ]
     ]) h
 
--- Blanks and comments in front of what is due.
+-- Blanks and comments before what is due.
 wanted_behind : (ended : Refusal) (gap s : List ℕ) → is_gap false gap ≡ true → wanted ended (gap ++ s) ≡ wanted ended s
 unfolding wanted token_at
 wanted_behind ended gap s h =

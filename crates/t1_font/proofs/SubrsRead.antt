@@ -65,13 +65,13 @@ empty_is body s left blanks h =
     let inside : is_blank_text (inside_of (spelled (bracketed body))) ≡ true = ap is_blank_text (inside_is body) ∙ blank_is (body_text body) blanks in
     rw (wanted_is BadSubrs s (bracketed body) left h, inside) refl
 
--- A Subr behind its dup.
+-- A Subr after its dup.
 subr_is : (n : ℕ) (number : Plain) (c : Charstring) (s left : List ℕ) → IsWhole number n → n ≤ 65534 → IsCharstring c → IsWritten s (charstring_pieces c) left
     → subr_at (meant number) s ≡ Ok (goes (Some (subr n c.bytes)) Subrs left)
 unfolding subr_at
 subr_is n number c s left is small good h = rw (natural_is BadSubrs 65534 n number is small, charstring_is BadSubrs c s left good h) refl
 
--- A number behind a dup begins a Subr.
+-- A number after a dup begins a Subr.
 abbrev pub behind_dup : List ℕ → Option Found → Result (TextTurn PrivateMode) Refusal
 behind_dup rest r = elim r [
   | None ↦ Ok (goes None Outside rest)

@@ -9,7 +9,7 @@ use Rattle.t1_font.specs.Keys.{same_name}
 use Rattle.t1_font.specs.Puts.{put_pair}
 use Rattle.t1_font.specs.Fonts.{firsts}
 
--- A comparison that tells equal from different.
+-- A comparison that holds of equals, and of them alone.
 pub record IsExact {K : Type 0} (eq : K → K → Bool) : Type 0 where
   pub same : (a : K) → eq a a ≡ true
   pub exact : (a b : K) → eq a b ≡ true → a ≡ b

@@ -12,7 +12,7 @@ use Rattle.t1_font.specs.Laws.UsualClearText as clear
 use Rattle.t1_font.specs.Laws.UsualPrivateText as private
 use Rattle.t1_font.specs.Laws.Example.{digits, clear_text, clear_items, private_text, subr_items, private_parts, SmallFontIsUsual}
 
--- The text that pieces make, each token behind its gap.
+-- The text that pieces make, each token after its gap.
 abbrev pub text_with : List (List ℕ) → List Piece → List ℕ → List ℕ
 text_with gaps [] rest = rest
 text_with gaps (raw b bytes ∷ pieces) rest = b ∷ (bytes ++ text_with gaps pieces rest)
@@ -46,7 +46,7 @@ is_written (gap ∷ gaps) (token t ∷ pieces) rest h =
     record { gap = gap; blanks = a.0; readable = record { plain = b.0; shallow = is_small (depth_of t) c.0 }; ends = d.0; whole = refl } in
     (left, begins, is_written gaps pieces rest d.1)
 
--- The blanks and comments in front of each token.
+-- The blanks and comments before each token.
 abbrev space : List ℕ
 space = codes " "
 

@@ -36,7 +36,7 @@ ahead_is s t left h = ap (λ (r : Result (Option Found) ScanError). elim r [ Err
 pub last_token : (s : List ℕ) (t : Plain) (left : List ℕ) → IsWritten s (token t ∷ []) left → BeginsWith s t left
 last_token s t left h = subst (BeginsWith s t) h.2 h.1
 
--- Pieces that are written stand in front of those behind them.
+-- Pieces that are written, and then those after them.
 pub record Parts (s : List ℕ) (pieces more : List Piece) (rest : List ℕ) : Type 0 where
   pub left : List ℕ
   pub front : IsWritten s pieces left
@@ -80,7 +80,7 @@ whole_is_number t n h = rw h refl
 pub whole_is_no_word : (t : Plain) (n : ℕ) → IsWhole t n → is_word_kind (meant t) ≡ false
 whole_is_no_word t n h = rw h refl
 
--- A word that has to stand here.
+-- A word that has to be here.
 pub past_word_is : (bad : Refusal) (bytes s left : List ℕ) → BeginsWith s (word bytes) left → past_word bad bytes s ≡ Ok left
 unfolding past_word
 past_word_is bad bytes s left h = rw (wanted_is bad s (word bytes) left h, name_exact.same bytes) refl

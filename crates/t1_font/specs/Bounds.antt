@@ -1,5 +1,5 @@
 -- How many codes an Encoding has (Type 1 Font Format 1.1, chapter 2), and this project's own limits: how many Subrs and
--- glyphs a font states at most, how many bytes a charstring has, how many numbers of a list are kept, and the greatest lenIV.
+-- glyphs a font states at most; how long a charstring is; how many numbers of a list are kept; the greatest lenIV.
 use Rattle.std.specs.Prelude.{ℕ}
 
 abbrev pub code_count : ℕ

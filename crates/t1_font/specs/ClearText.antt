@@ -74,7 +74,7 @@ code_at s =
     if spells (codes "put") last.kind last.text
     then Some (goes (Some (code_statement number.kind name.text)) Codes last.rest) else None
 
--- A dup that begins no group is passed over alone.
+-- A dup that begins no group is skipped alone.
 unfoldable pub code_turn : List ℕ → TextTurn ClearMode
 code_turn s = elim (code_at s) [ Some t ↦ t | None ↦ pass Codes s ]
 

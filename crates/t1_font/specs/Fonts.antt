@@ -21,13 +21,13 @@ pub data Stated : Type 0 where
   subr : ℕ → List ℕ → Stated
   glyph : List ℕ → List ℕ → Stated
 
--- Of a PFB file: it has no end segment; bytes stand behind that segment.
+-- Of a PFB file: it has no end segment; bytes follow that segment.
 pub record Marks : Type 0 where
   pub no_end : Bool
   pub extra : Bool
 
--- The keys have their places, each with its value; codes, Subrs and glyphs stand in the order of their
--- first appearance, each with what was stated last; the numbers and names that were stated again stand in
+-- The keys have their places, each with its value. Codes, Subrs and glyphs are in the order of their
+-- first appearance, each with what was stated last. The numbers and names that were stated again are in
 -- the order in which they first were.
 pub record FontValue : Type 0 where
   pub plain : List Value
@@ -80,7 +80,7 @@ abbrev pub last_of : {A : Type 0} → List A → Option A
 last_of [] = None
 last_of (x ∷ xs) = option_or (last_of xs) (Some x)
 
--- What stands behind the last such, or all where there is none.
+-- What is after the last such, or all where there is none.
 abbrev pub after_last : {A : Type 0} → (A → Bool) → List A → List A
 after_last a [] = []
 after_last a (x ∷ xs) = if list_any a xs then after_last a xs else (if a x then xs else x ∷ xs)
@@ -102,7 +102,7 @@ keys_of ps = map (λ p. p.0) ps
 abbrev pub table_of : {K V : Type 0} → (K → K → Bool) → V → List (K × V) → List (K × V)
 table_of eq v ps = map (λ k. (k, unwrap_or (last_under eq k ps) v)) (firsts eq (keys_of ps))
 
--- Of these keys, each that stands among those before it, as often as it does.
+-- Of these keys, each that is among those before it, once for each time it is stated again.
 abbrev pub repeats : {K : Type 0} → (K → K → Bool) → List K → List K → List K
 repeats eq before [] = []
 repeats eq before (k ∷ ks) =

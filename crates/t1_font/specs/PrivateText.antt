@@ -30,7 +30,7 @@ abbrev pub is_len_iv_key : Key → Bool
 is_len_iv_key LenIv = true
 is_len_iv_key _ = false
 
--- A plain key takes the next token as its value; the end of the text is told by the key.
+-- A plain key takes the next token as its value; the refusal at the end of the text depends on the key.
 unfoldable pub private_value : Option Key → List ℕ → Result (TextTurn PrivateMode) Refusal
 private_value None rest = Ok (pass Outside rest)
 private_value (Some k) rest =
@@ -88,7 +88,7 @@ dup_turn rest = elim (token_ahead rest) [
   | Some t ↦ if is_number_kind t.kind then subr_at t.kind t.rest else Ok (pass Outside rest)
 ]
 
--- A token among the Subrs: a word other than dup is passed over, and no word ends them.
+-- A token among the Subrs: a word other than dup is skipped, and no word ends them.
 unfoldable pub subrs_token : FontValue → Kind → List ℕ → List ℕ → Result (TextTurn PrivateMode) Refusal
 subrs_token v kind text rest =
     if spells (codes "dup") kind text then dup_turn rest

@@ -1,10 +1,10 @@
--- What an answer says of what a definition reads: the same value, or the same refusal.
+-- How a result agrees with what a definition reads: the same value, or the same refusal.
 use Rattle.std.specs.Prelude.{Bool, true, false, Result, Ok, Err}
 use Rattle.t1_font.specs.declared.refusal.Refusal.{Refusal}
 use Rattle.t1_font.specs.declared.refusal.Refusal.TheVariants.{Memory}
 use Rattle.t1_seal.specs.Readings.{ReadsBy}
 
--- What is read next from what was read first; the first refusal stands.
+-- What is read next from what was read first; the first refusal stays.
 infixl 10 ◌>>=◌
 abbrev pub ◌>>=◌ : {X Y : Type 0} → Result X Refusal → (X → Result Y Refusal) → Result Y Refusal
 (Ok x) >>= f = f x

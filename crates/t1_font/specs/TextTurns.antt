@@ -10,7 +10,7 @@ pub data TextTurn (M : Type 0) : Type 0 where
   over : List ℕ → TextTurn M
   goes : Option Stated → M → List ℕ → TextTurn M
 
--- Reading goes on behind a token that states nothing.
+-- Reading goes on after a token that states nothing.
 abbrev pub pass : {M : Type 0} → M → List ℕ → TextTurn M
 pass mode rest = goes None mode rest
 
@@ -28,8 +28,8 @@ with_one before (Some e) = before ++ e ∷ []
 abbrev pub Reader : Type 0 → Type 0
 Reader M = FontValue → M → List ℕ → Result (TextTurn M) Refusal
 
--- The statements of a text, those before it given, by at most n turns. Where a turn goes on, what it states
--- comes behind those before, and the rest is read with one turn less.
+-- The statements of a text, of which those before are known, by at most n turns. Where a turn goes on, what
+-- it states comes after those before, and the rest is read with one turn less.
 unfoldable pub stated_within : {M : Type 0} → Reader M → Refusal → Marks → ℕ → List Stated → M → List ℕ →
     Result TextRead Refusal
 stated_within turn ended marks zero before mode s = Err ended
@@ -38,7 +38,7 @@ stated_within turn ended marks (suc n) before mode s = turn (value_of marks befo
   | goes e next left ↦ stated_within turn ended marks n (with_one before e) next left
 ])
 
--- A turn takes a byte or more, or it tells the end.
+-- A turn takes a byte or more, or reaches the end.
 abbrev pub stated_in : {M : Type 0} → Reader M → Refusal → Marks → List Stated → M → List ℕ →
     Result TextRead Refusal
 stated_in turn ended marks before mode s = stated_within turn ended marks (suc (length s)) before mode s

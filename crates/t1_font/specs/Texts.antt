@@ -9,7 +9,7 @@ use Rattle.t1_font.specs.Runs.{FontRead, run_of}
 use Rattle.t1_font.specs.ClearText.{clear_of}
 use Rattle.t1_font.specs.PrivateText.{private_turn, private_of}
 
--- What was read of a clear text: the font so far, and the place behind the word eexec.
+-- What was read of a clear text: the font so far, and the place after the word eexec.
 pub record ClearValue : Type 0 where
   pub font : FontValue
   pub after : ℕ

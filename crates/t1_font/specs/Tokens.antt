@@ -15,7 +15,7 @@ use Rattle.t1_scan.specs.Numbers.{billion}
 unfoldable pub token_at : List ℕ → Result (Option Found) ScanError
 token_at s = token_of s
 
--- A token that is wanted: one that isn't closed is refused as such, the end of the text as told.
+-- A token that is needed. One that isn't closed is refused as such, the end of the text as `ended` says.
 unfoldable pub wanted : Refusal → List ℕ → Result Found Refusal
 wanted ended s = elim (token_at s) [
   | Err _ ↦ Err Unclosed
@@ -62,7 +62,7 @@ None >? f = None
 unfoldable pub whole_up_to : ℕ → Kind → Option ℕ
 whole_up_to limit kind = whole kind >? λ n. if nat_lt limit n then None else Some n
 
--- A whole number of 0 or more that is wanted, at most this limit.
+-- A whole number of 0 or more that is needed, at most this limit.
 unfoldable pub natural : Refusal → ℕ → Kind → Result ℕ Refusal
 natural bad limit kind = elim (whole kind) [
   | None ↦ Err bad
@@ -81,7 +81,7 @@ some_raw bad (Some p) = Ok p
 abbrev pub spells : List ℕ → Kind → List ℕ → Bool
 spells word kind text = is_word_kind kind && same_name text word
 
--- What follows a word that has to stand here.
+-- What follows a word that has to be here.
 unfoldable pub past_word : Refusal → List ℕ → List ℕ → Result (List ℕ) Refusal
 past_word bad word s = wanted bad s >>= λ t. if spells word t.kind t.text then Ok t.rest else Err bad
 
@@ -92,7 +92,7 @@ charstring_at bad s =
     wanted bad count.rest >>= λ word.
     if is_word_kind word.kind then some_raw bad (raw_of len word.rest) else Err bad
 
--- What stands between the brackets of an array or a procedure.
+-- What is between the brackets of an array or a procedure.
 abbrev pub inside_of : List ℕ → List ℕ
 inside_of text = take (length text - 2) (drop 1 text)
 

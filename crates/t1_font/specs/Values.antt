@@ -30,7 +30,7 @@ item_at s = elim (token_at s) [
   | Ok found ↦ elim found [ None ↦ ends | Some t ↦ item_of t.kind t.rest ]
 ]
 
--- A number in front of numbers.
+-- A number before numbers.
 abbrev pub number_first : ℤ → Option (List ℤ) → Option (List ℤ)
 number_first z None = None
 number_first z (Some zs) = Some (z ∷ zs)

@@ -32,14 +32,14 @@ impl<'a> Model for Clear<'a> {
 }
 
 impl<'a> Clear<'a> {
-    /// The place behind the word `eexec`, where the encrypted section begins.
+    /// The place after the word `eexec`, where the encrypted section begins.
     pub fn after(&self) -> usize
         ensures { result ≡ self.now.after }
     {
         self.after
     }
 
-    /// Lets go of what is stated, in a function of its own: one that drops it beside other ends takes long to prove.
+    /// Drops what is stated, in a function of its own: one that drops it beside other ends takes long to prove.
     pub fn let_go(self) {}
 
     fn into_font(self) -> Font<'a>

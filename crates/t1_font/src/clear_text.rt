@@ -38,7 +38,7 @@ fn is_code_count(kind: Kind) -> bool
     }
 }
 
-/// What is left behind the word `array`, if it stands here.
+/// What is left after the word `array`, if it is here.
 #[tactic(auto, unfolding(crate::specs::ClearText::array_at))]
 fn past_array(text: &[u8]) -> Option<&[u8]>
     ensures { Sees (λ rest. rest.now) result (array_at text.now) }
@@ -51,7 +51,7 @@ fn past_array(text: &[u8]) -> Option<&[u8]>
     }
 }
 
-/// A standard or a custom encoding, if one stands here.
+/// A standard or a custom encoding, if one is here.
 #[tactic(auto, unfolding(crate::specs::ClearText::encoding_at))]
 fn encoding_at<'a>(text: &'a [u8]) -> Option<Turn<'a, ClearMode>>
     ensures { Sees turn_view result (encoding_at text.now) }
@@ -125,7 +125,7 @@ fn code_statement<'a>(kind: Kind, text: &'a [u8]) -> Statement<'a>
     }
 }
 
-/// A group of a custom encoding behind its `dup`, if one stands here.
+/// A group of a custom encoding after its `dup`, if one is here.
 #[tactic(auto, unfolding(crate::specs::ClearText::code_at))]
 fn code_at<'a>(text: &'a [u8]) -> Option<Turn<'a, ClearMode>>
     ensures { Sees turn_view result (code_at text.now) }
@@ -146,7 +146,7 @@ fn code_at<'a>(text: &'a [u8]) -> Option<Turn<'a, ClearMode>>
     Some(Turn::Goes(Some(code), ClearMode::Codes, rest))
 }
 
-/// What follows a `dup` of a custom encoding; one that begins no group is passed over alone.
+/// What follows a `dup` of a custom encoding; one that begins no group is skipped alone.
 #[tactic(auto, unfolding(crate::specs::ClearText::code_turn))]
 fn code_turn<'a>(text: &'a [u8]) -> Turn<'a, ClearMode>
     ensures { turn_view result ≡ code_turn text.now }

@@ -13,7 +13,7 @@ use crate::tokens::{BILLION, first, inside};
 use arrayvec::ArrayVec;
 use t1_scan::Kind;
 
-/// How many random bytes stand in front of each charstring, unless the font says so.
+/// How many random bytes are before each charstring, unless the font says so.
 const DEFAULT_LEN_IV: i8 = 4;
 
 /// What a plain key has. Numbers are in units of 10^-9.
@@ -106,7 +106,7 @@ fn keep(first: &mut ArrayVec<i64, KEPT_NUMBERS>, number: i64)
     }
 }
 
-/// The value of an array or a procedure, by what stands between its brackets.
+/// The value of an array or a procedure, by what is between its brackets.
 #[tactic(auto, unfolding(crate::specs::Values::list_value))]
 fn list(text: &[u8]) -> Entry
     ensures { entry_view result ≡ list_value text.now }

@@ -115,7 +115,7 @@ impl<'a> Font<'a> {
         &self.subrs
     }
 
-    /// The charstring of a Subr. Most fonts give their Subrs in the order of their numbers, from 0 on.
+    /// The charstring of a Subr. Most fonts state their Subrs in the order of their numbers, from 0 on.
     #[inline(always)]
     pub fn subr(&self, number: u32) -> Option<&'a [u8]>
         ensures { bytes_of result ≡ lookup (nat_eq number) self.now.subrs }
@@ -126,7 +126,7 @@ impl<'a> Font<'a> {
         }
     }
 
-    /// The same of a font that gives them in another order.
+    /// The same of a font that states them in another order.
     #[inline(never)]
     fn subr_elsewhere(&self, number: u32) -> Option<&'a [u8]>
         ensures { bytes_of result ≡ lookup (nat_eq number) self.now.subrs }
@@ -148,14 +148,14 @@ impl<'a> Font<'a> {
         self.value(key).copied()
     }
 
-    /// What a plain key has, lent: nothing is copied.
+    /// A reference to the value of a plain key: nothing is copied.
     pub fn value(&self, key: Key) -> &Entry
         ensures { entry_view result.now ≡ slice_index_or self.now.plain (index_of key) absent }
     {
         self.plain.entry(key)
     }
 
-    /// How many random bytes stand in front of each charstring; -1 where charstrings aren't encrypted.
+    /// How many random bytes are before each charstring; -1 where charstrings aren't encrypted.
     pub fn len_iv(&self) -> i8
         ensures { result ≡ len_iv_of (slice_index_or self.now.plain (index_of LenIv) absent) }
     {
@@ -169,7 +169,7 @@ impl<'a> Font<'a> {
         self.encoding
     }
 
-    /// The name that a custom encoding gives a code; none past 255.
+    /// The name that a custom encoding has for a code; none past 255.
     pub fn encoded(&self, code: u32) -> Option<&'a [u8]>
         ensures { bytes_of result ≡ lookup (nat_eq code) self.now.codes }
     {
@@ -183,7 +183,7 @@ impl<'a> Font<'a> {
         self.bad_code
     }
 
-    /// Whether a glyph, by its place, is given twice.
+    /// Whether a glyph, by its place, is stated twice.
     pub fn glyph_twice(&self, glyph: usize) -> bool
         ensures { result ≡ is_glyph_twice self.now glyph }
     {
@@ -193,7 +193,7 @@ impl<'a> Font<'a> {
         }
     }
 
-    /// Whether a Subr, by its number, is given twice.
+    /// Whether a Subr, by its number, is stated twice.
     pub fn subr_twice(&self, number: u32) -> bool
         ensures { result ≡ is_subr_twice self.now number }
     {
@@ -207,14 +207,14 @@ impl<'a> Font<'a> {
         self.no_end
     }
 
-    /// Whether bytes stand behind the file's end segment.
+    /// Whether bytes follow the file's end segment.
     pub fn extra(&self) -> bool
         ensures { result ≡ self.now.extra }
     {
         self.extra
     }
 
-    /// Lets the font go, in a function of its own: one that drops a font beside other ends takes long to prove.
+    /// Drops the font, in a function of its own: one that drops a font beside other ends takes long to prove.
     pub fn let_go(self) {}
 
     /// Whether the size of the Subrs is stated.

@@ -28,13 +28,14 @@ pub fn different_keys()
     ensures { DifferentStay }
 {}
 
-/// No Subr's number, no glyph's name and no code stands twice in the value of what is stated, and so in no font that is read.
+/// No Subr's number, no glyph's name and no code occurs twice in the value of what is stated, nor in a font that is
+/// read.
 pub fn keys_stand_once()
     ensures stated { NoneStandsTwice }
     ensures read { FontsHaveDistinctKeys }
 {}
 
-/// The Subrs and the glyphs that a font has as given twice are those that were stated twice or more.
+/// The Subrs and the glyphs that a font has as stated twice are those that were stated twice or more.
 pub fn repeated_keys()
     ensures { TwiceIsAgain }
 {}
@@ -67,8 +68,8 @@ pub fn small_usual_font()
     ensures { SmallFontIsUsual }
 {}
 
-/// Texts in the usual form with the same entries leave the same value: blanks, comments with the end of
-/// their line, and tokens that state nothing, wherever they stand between, change nothing.
+/// Texts in the usual form with the same entries leave the same value: blanks, comments with the end of their line, and
+/// tokens that state nothing, wherever they are between, change nothing.
 pub fn idle_additions()
     ensures clear { AdditionsInClear }
     ensures private { AdditionsInPrivate }
@@ -82,9 +83,9 @@ pub fn blanks_between_entries()
     ensures private { BlanksPassInPrivate }
 {}
 
-/// In any text, words between entries, with the blanks and comments in front of them, change nothing of
-/// what is stated: all but `eexec` in the clear text; but `eexec`, `def` and a `dup` that begins a group
-/// in a custom encoding; any in the private text, but `dup` among the Subrs and `end` among the glyphs.
+/// In any text, words between entries, with the blanks and comments before them, change nothing of what is stated: all
+/// but `eexec` in the clear text; but `eexec`, `def` and a `dup` that begins a group in a custom encoding; any in the
+/// private text, but `dup` among the Subrs and `end` among the glyphs.
 pub fn words_between_entries()
     ensures clear { WordsPass }
     ensures codes { WordsPassInCodes }
@@ -94,7 +95,7 @@ pub fn words_between_entries()
     ensures glyphs { WordsPassInGlyphs }
 {}
 
-/// The bytes that may stand between hexadecimal digits of an encrypted section are the blanks between tokens.
+/// The bytes that may be between hexadecimal digits of an encrypted section are the blanks between tokens.
 pub fn blanks_of_sections_and_tokens()
     ensures { BlanksAgree }
 {}

@@ -1,18 +1,17 @@
 //! Reads a Type 1 font: what its clear text and its private text state, or the one reason why they
 //! can't be read. Adobe Type 1 Font Format 1.1, chapters 2, 5, 6 and 7.
 //!
-//! [`OpenFont`] is the way in: `open` joins the bytes of a file, and `font` gives the [`Font`], which lends
-//! from it. Below it stand [`read_clear`], which reads joined bytes up to the word `eexec`, and
-//! [`read_font`], which reads the decrypted private text over that. A charstring is a slice of the private
-//! text: none is copied. Which tokens are read, the limits and the refusals are this program's own.
+//! [`OpenFont`] is the way in: `open` joins the bytes of a file, and `font` returns the [`Font`], which
+//! borrows from it. Below it, [`read_clear`] reads joined bytes up to the word `eexec`, and [`read_font`]
+//! reads the decrypted private text over that. A charstring is a slice of the private text: none is copied.
+//! Which tokens are read, the limits and the refusals are this program's own.
 //!
 //! What is promised, for all bytes:
 //!
-//! - A text is read exactly where the definitions in `specs/` read it, and else refused for the first
-//!   thing that they name. Want of memory alone says nothing of the bytes.
-//! - Each reader of [`Font`] gives what was stated last: the last value of a key, the last charstring
-//!   of a glyph or a Subr, the codes of the last Encoding. Glyphs stand in the order of their first
-//!   appearance.
+//! - A text is read exactly where the definitions in `specs/` read it, and else refused for the first thing
+//!   that they name. Running out of memory alone says nothing of the bytes.
+//! - Each reader of [`Font`] returns what was stated last: the last value of a key, the last charstring of
+//!   a glyph or a Subr, the codes of the last Encoding. Glyphs are in the order of their first appearance.
 //! - No index, sum or cast goes wrong, and each call returns.
 //!
 //! ```

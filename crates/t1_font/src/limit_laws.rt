@@ -2,8 +2,8 @@
 
 ghost use Rattle.t1_font.specs.Laws.Limits.{FontsWithinLimits, NothingPastTheEnd, ReadWithinLimits};
 
-/// A font that was read has names at codes from 0 to 255 alone, Subrs at numbers from 0 to 65,534 alone,
-/// at most 65,535 glyphs, and a stated size of at most 65,535; so its readers give nothing past these.
+/// A font that was read has names at codes from 0 to 255 alone and Subrs at numbers from 0 to 65,534 alone. It
+/// has at most 65,535 glyphs, and its stated size is at most 65,535. So its readers return nothing past these.
 pub fn limits_of_fonts()
     ensures kept { ReadWithinLimits }
     ensures fonts { FontsWithinLimits }

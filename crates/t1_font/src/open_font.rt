@@ -1,4 +1,4 @@
-//! The front door: from the bytes of a file to its font. Type 1 Font Format 1.1, chapters 2 and 7; Technical Note 5040.
+//! From the bytes of a file to its font. Type 1 Font Format 1.1, chapters 2 and 7; Technical Note 5040.
 
 ghost use Rattle.std.specs.Prelude.{◌≡◌, ◌≤◌, IfOk, MatchResult, Ok, length};
 ghost use Rattle.t1_font.specs.FontFiles.{IsUnread, font_in, text_in};
@@ -12,8 +12,8 @@ use std::alloc::Global;
 use std::marker::Model;
 use t1_seal::{Joined, join, open_eexec};
 
-/// A file whose segments are joined. Its font lends from it, names and values from the joined bytes, charstrings
-/// from the private text; the bytes of the file are no longer needed. It stands for what it will be read as.
+/// A file whose segments are joined. Its font borrows from it: names and values from the joined bytes, charstrings from
+/// the private text. The bytes of the file are no longer needed. Its model is what it will be read as.
 #[derive(Drop)]
 pub struct OpenFont {
     joined: Joined,
@@ -45,10 +45,10 @@ impl OpenFont {
         })
     }
 
-    /// Reads the font: the clear text, the encrypted section behind it, the private text in that. Fails for the
-    /// first reason of these (E04, E06 to E13), or where memory runs out.
+    /// Reads the font: the clear text, the encrypted section after it, the private text in that. Fails for the first
+    /// reason of these (E04, E06 to E13), or where memory runs out.
     ///
-    /// It's to be asked once: what it lends for the font, nobody knows the value of behind the call.
+    /// Call it once: the contract says nothing about a second call.
     pub fn font(&mut self, alloc: Global) -> Result<Font<'_>, Unread>
         ensures gives { MatchResult result (λ font. self.old ≡ Ok font) (λ e. IsUnread e self.old) }
         ensures few { IfOk result (λ font. length font.glyphs ≤ most_glyphs) }
@@ -57,7 +57,7 @@ impl OpenFont {
     }
 }
 
-/// Reads the clear text of joined bytes, and their private text, which is kept for the font to lend from.
+/// Reads the clear text of joined bytes, and their private text, which is kept for the font to borrow from.
 fn read_texts<'a>(
     alloc: Global,
     joined: &'a Joined,

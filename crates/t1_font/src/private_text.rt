@@ -69,7 +69,7 @@ fn private_value<'a>(key: Option<Key>, text: &'a [u8]) -> Result<Turn<'a, Privat
     ))
 }
 
-/// Whether blanks and comments alone stand in a text.
+/// Whether a text is blanks and comments alone.
 #[tactic(auto, unfolding(crate::specs::PrivateText::is_blank_text))]
 fn is_blank_text(text: &[u8]) -> bool
     ensures { result ≡ is_blank_text text.now }
@@ -98,7 +98,7 @@ fn subrs_at<'a>(text: &'a [u8]) -> Result<Turn<'a, PrivateMode>, Refusal>
     Ok(Turn::Goes(Some(Statement::Size(size)), PrivateMode::Subrs, rest))
 }
 
-/// What follows `/Subrs`, which may stand once.
+/// What follows `/Subrs`, which may be there once.
 #[tactic(auto, unfolding(crate::specs::PrivateText::subrs_turn))]
 fn subrs_turn<'a>(font: &Font<'a>, text: &'a [u8]) -> Result<Turn<'a, PrivateMode>, Refusal>
     ensures { Is turn_view result (subrs_turn font.now text.now) }
@@ -145,7 +145,7 @@ fn private_outside<'a>(
     private_value(private_key(text), rest)
 }
 
-/// A Subr, behind its `dup` and its number.
+/// A Subr, after its `dup` and its number.
 #[tactic(auto, unfolding(crate::specs::PrivateText::subr_at))]
 fn subr_at<'a>(kind: Kind, text: &'a [u8]) -> Result<Turn<'a, PrivateMode>, Refusal>
     ensures { Is turn_view result (subr_at kind text.now) }
@@ -192,7 +192,7 @@ fn subrs_token<'a>(
     private_outside(font, kind, text, rest)
 }
 
-/// A glyph, behind its name.
+/// A glyph, after its name.
 #[tactic(auto, unfolding(crate::specs::PrivateText::glyph_turn))]
 fn glyph_turn<'a>(
     font: &Font<'a>,

@@ -6,7 +6,7 @@ ghost use Rattle.t1_font.specs.declared.refusal.Refusal.TheVariants.{Memory};
 use std::alloc::{AllocError, AllocFailed};
 use thiserror::Error;
 
-/// Why a font's texts aren't read. Only want of memory depends on more than the bytes.
+/// Why a font's texts aren't read. `Memory` alone depends on more than the bytes.
 #[derive(Clone, Copy, Debug, PartialEq, Eq, Error)]
 pub enum Refusal {
     /// E04: the bytes don't begin with `%!`, or the word `eexec` is missing.

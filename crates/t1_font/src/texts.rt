@@ -17,7 +17,7 @@ use crate::private_text::private_turn;
 use crate::refusal::Refusal;
 use crate::statement::Turn;
 
-/// Takes what the clear text states, and gives what follows its word `eexec`.
+/// Takes what the clear text states, and returns what follows its word `eexec`.
 pub(crate) fn take_clear<'a>(font: &mut Font<'a>, text: &'a [u8]) -> Result<&'a [u8], Refusal>
     ensures { Reads (λ rest. record { value = font.new; rest = rest.now }) result
         (run_of clear_turn NoEexec font.old clear_modes.Outside text.now) }

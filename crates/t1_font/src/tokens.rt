@@ -1,5 +1,5 @@
 //! Tokens and raw bytes, as the texts of a font are read by them: Type 1 Font Format 1.1, chapter 2. Each
-//! reader takes what is left of a text, and gives what it reads and what is left behind that.
+//! reader takes what is left of a text, and returns what it reads and what is left after that.
 
 ghost use Rattle.std.specs.Prelude.{◌≡◌};
 ghost use Rattle.t1_font.specs.Private.Readings.{Is};
@@ -29,7 +29,7 @@ pub(crate) fn first<'a>(text: &'a [u8]) -> Result<Option<(Token<'a>, &'a [u8])>,
     }
 }
 
-/// The token that has to follow; where the text is over the answer is `ended`.
+/// The token that has to follow; where the text is over, the refusal is `ended`.
 #[tactic(auto, unfolding(crate::specs::Tokens::wanted))]
 #[inline(always)]
 pub(crate) fn wanted<'a>(text: &'a [u8], ended: Refusal) -> Result<(Token<'a>, &'a [u8]), Refusal>
@@ -115,7 +115,7 @@ pub(crate) fn whole_up_to(limit: u32, kind: Kind) -> Option<u32>
     Some(whole as u32)
 }
 
-/// The whole number of 0 or more, at most the limit, that has to stand here.
+/// The whole number of 0 or more, at most the limit, that must be here.
 #[tactic(auto, unfolding(crate::specs::Tokens::natural))]
 pub(crate) fn natural(bad: Refusal, limit: u32, kind: Kind) -> Result<u32, Refusal>
     ensures { Is (λ n. n) result (natural bad limit kind) }
@@ -129,7 +129,7 @@ pub(crate) fn natural(bad: Refusal, limit: u32, kind: Kind) -> Result<u32, Refus
     Ok(whole as u32)
 }
 
-/// Passes one byte of any value, and gives so many that follow it, and what is left.
+/// Skips one byte of any value, and returns so many that follow it, and what is left.
 #[tactic(auto, unfolding(crate::specs::Tokens::raw_of))]
 fn raw<'a>(text: &'a [u8], bad: Refusal, len: u32) -> Result<(&'a [u8], &'a [u8]), Refusal>
     ensures { Is (λ p. (p.0.now, p.1.now)) result (some_raw bad (raw_of len text.now)) }
@@ -141,7 +141,7 @@ fn raw<'a>(text: &'a [u8], bad: Refusal, len: u32) -> Result<(&'a [u8], &'a [u8]
     Ok(text[1..].split_at(len))
 }
 
-/// What is left behind a word that has to stand here.
+/// Returns what is left after a word that must be here.
 #[tactic(auto, unfolding(crate::specs::Tokens::past_word))]
 pub(crate) fn past_word<'a>(text: &'a [u8], bad: Refusal, word: &[u8]) -> Result<&'a [u8], Refusal>
     ensures { Is (λ rest. rest.now) result (past_word bad word.now text.now) }
@@ -154,7 +154,7 @@ pub(crate) fn past_word<'a>(text: &'a [u8], bad: Refusal, word: &[u8]) -> Result
     }
 }
 
-/// The bytes of a charstring, behind their count, any word and one byte; and what is left.
+/// The bytes of a charstring, after their count, any word and one byte; and what is left.
 #[tactic(auto, unfolding(crate::specs::Tokens::charstring_at))]
 pub(crate) fn charstring<'a>(text: &'a [u8], bad: Refusal) -> Result<(&'a [u8], &'a [u8]), Refusal>
     ensures { Is (λ p. (p.0.now, p.1.now)) result (charstring_at bad text.now) }
@@ -169,7 +169,7 @@ pub(crate) fn charstring<'a>(text: &'a [u8], bad: Refusal) -> Result<(&'a [u8], 
     }
 }
 
-/// What stands between the brackets of an array or a procedure.
+/// What is between the brackets of an array or a procedure.
 pub(crate) fn inside(text: &[u8]) -> &[u8]
     ensures { result.now ≡ inside_of text.now }
 {

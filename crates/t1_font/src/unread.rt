@@ -10,13 +10,13 @@ use t1_seal::SealError;
 use thiserror::Error;
 
 /// Why a file isn't read as a font, in the order of the numbers E01 to E13. E05, a file that is too large, is
-/// its reader's, who knows how much he takes. Only want of memory depends on more than the bytes.
+/// the caller's to find. `Memory` alone depends on more than the bytes.
 #[derive(Clone, Copy, Debug, PartialEq, Eq, Error)]
 pub enum Unread {
     /// The bytes begin neither with 128, as a PFB file does, nor with `%!`, as a PFA file does.
     #[error("E01 not a PFA or PFB")]
     NotAFont,
-    /// Where a segment should begin stands another byte, or an unknown type: `80 04`.
+    /// A segment should begin, but another byte is there, or an unknown type: `80 04`.
     #[error("E02 bad segment header")]
     BadHeader,
     /// The bytes end inside a segment.

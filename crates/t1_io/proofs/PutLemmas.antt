@@ -7,7 +7,7 @@ use Rattle.std.proofs.KnownBytes.{Appends-kept}
 use Rattle.std.specs.Io.KnownBytes.{Appends, Keeps}
 use Rattle.t1_io.specs.Devices.{AppendsFront}
 
--- what went out before a failure is a front
+-- what went out before a failure is a prefix
 pub AppendsFront-take : (a b c : Option (List ℕ)) (bytes : List ℕ) (at : ℕ) → Appends a b (take at bytes) → Keeps b c → AppendsFront a c bytes
 AppendsFront-take a b c bytes at before kept =
     (take at bytes, (drop at bytes, (sym (take-append-drop at bytes), Appends-kept a b c (take at bytes) before kept)))
@@ -19,7 +19,7 @@ flat_map-split f xs i d lt =
     ap (flat_map f) (sym (take-append-drop i xs) ∙ ap (λ l. take i xs ++ l) (drop-cons xs i d lt))
     ∙ flat_map-append f (take i xs) (get_or xs i d ∷ drop (suc i) xs)
 
--- a front of a list, and the element behind it
+-- a prefix of a list, and the element after it
 pub flat_map-part : {X : Type 0} (f : X → List ℕ) (xs : List X) (i : ℕ) (d : X) → i < length xs
     → flat_map f (take i xs) ++ f (get_or xs i d) ≡ flat_map f (take (i + 1) xs)
 flat_map-part f xs i d lt =

@@ -1,4 +1,4 @@
--- Texts that go out one after another, and what stands where a call failed.
+-- Texts that go out one after another, and what holds where a call failed.
 use Rattle.std.proofs.Common.{refl, inl, inr, append-nil, ◌≡◌, ℕ, ◌+◌, ◌-◌, ◌==◌, ◌&&◌, ◌<◌, arith, Bool, true, false, List, ◌++◌, [], length, take, drop, suc, get_or, Result, Ok, Err, ap, sym, subst, ◌∙◌, append_assoc, length-append}
 use Rattle.std.proofs.lemmas.Bool.Decides.{nat_tests}
 use Rattle.std.proofs.lemmas.List.{take_rest}
@@ -83,7 +83,7 @@ PutFailed-part f xs i d a b c lt before broke =
     subst (PutFailed a c) (sym (flat_map-split f xs i d lt))
     (PutFailed-second a b c (flat_map f (take i xs)) (part ++ left) before (PutFailed-first b c part left broke))
 
--- a put failed behind a front of a text
+-- a put failed after a prefix of a text
 pub PutFailed-behind : (a b c : SinkState) (bytes : List ℕ) (at : ℕ) → Wrote a b (take at bytes)
     → CallFailed b c × (c.failed_puts ≡ one_more b.failed_puts) → PutFailed a c bytes
 PutFailed-behind a b c bytes at before (failed, counted) = record {

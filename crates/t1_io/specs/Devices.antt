@@ -14,16 +14,16 @@ pub record SourceState : Type 0 where
   pub left : Option (List ℕ)
   -- How many calls of take there were.
   pub takes : ℕ
-  -- How many of them came behind a call that failed.
+  -- How many of them came after a call that failed.
   pub late_takes : ℕ
   -- Whether a call has failed.
   pub failed : Bool
 
--- The calls of take behind a failed one, after one call more.
+-- The calls of take after a failed one, with one call more.
 abbrev pub late_takes_behind : SourceState → ℕ
 late_takes_behind old = if old.failed then one_more old.late_takes else old.late_takes
 
--- A read gave so many bytes, at the front of the buffer: none only at the end or without room.
+-- A read put so many bytes at the beginning of the buffer: none only at the end or without room.
 pub record Took (old new : SourceState) (buffer : List ℕ) (count : ℕ) : Type 0 where
   pub bound : count ≤ length buffer
   pub bytes : Consumes old.left new.left (take count buffer)
@@ -65,12 +65,12 @@ pub record Wrote (old new : SinkState) (text : List ℕ) : Type 0 where
   pub failed_puts : new.failed_puts ≡ old.failed_puts
   pub failed : new.failed ≡ old.failed
 
--- Known bytes grow by a front of these.
+-- Known bytes grow by a prefix of these.
 abbrev pub AppendsFront : Option (List ℕ) → Option (List ℕ) → List ℕ → Type 0
 AppendsFront old new bytes =
     (front : List ℕ) × ((rest : List ℕ) × ((bytes ≡ front ++ rest) × Appends old new front))
 
--- A call of put failed where the text was to be written: a front of it went out, and nothing was flushed.
+-- A call of put failed where the text was to be written: a prefix of it went out, and nothing was flushed.
 pub record PutFailed (old new : SinkState) (text : List ℕ) : Type 0 where
   pub front : AppendsFront old.written new.written text
   pub flushes : new.flushes ≡ old.flushes
@@ -82,7 +82,7 @@ abbrev pub Writes : {X E : Type 0} → SinkState → SinkState → List ℕ → 
 Writes old new text (Ok x) = Wrote old new text
 Writes old new text (Err e) = PutFailed old new text
 
--- A put took so many bytes off the front of these: a byte at least, unless there is none.
+-- A put took the first so many of these bytes: one at least, unless there is none.
 pub record TookFront (old new : SinkState) (bytes : List ℕ) (count : ℕ) : Type 0 where
   pub bound : count ≤ length bytes
   pub some : 0 < length bytes → 0 < count
@@ -121,12 +121,12 @@ pub record Delivered (old new : SinkState) (text : List ℕ) : Type 0 where
   pub failed_puts : new.failed_puts ≡ old.failed_puts
   pub failed : new.failed ≡ old.failed
 
--- A put failed where the text was to be written, or the flush behind the whole text: no flush succeeded.
+-- A put failed where the text was to be written, or the flush after the whole text: no flush succeeded.
 pub record DeliveryFailed (old new : SinkState) (text : List ℕ) : Type 0 where
   pub front : AppendsFront old.written new.written text
   pub flushes : new.flushes ≡ old.flushes
   pub failed : new.failed ≡ true
-  -- A put failed; or none did, and so the flush failed, behind the whole text.
+  -- A put failed; or none did, and so the flush failed, after the whole text.
   pub call : (new.failed_puts ≡ one_more old.failed_puts)
       ⊎ ((new.failed_puts ≡ old.failed_puts) × Appends old.written new.written text)
 

@@ -32,9 +32,10 @@ abbrev pub count_of : {E : Type 0} → Result ℕ E → ℕ
 count_of (Ok n) = n
 count_of (Err e) = 0
 
--- What a call of a fuse does to its limit and its device, of which a call had failed before and behind or hadn't, where
--- so many bytes were moved. One that has blown fails the call and leaves the device alone; a call fails only where the
--- fuse has blown or the device has failed, and wherever the device fails that hadn't; and the fuse burns by what was moved.
+-- What a call of a fuse that moves so many bytes does to its limit and its device. A blown fuse fails the call and
+-- leaves the device alone. A call fails only where the fuse has blown or the device has failed, and wherever the device
+-- fails for the first time. The fuse burns by what was moved. `failed` and `fails_now`: whether the device has failed
+-- before and after.
 pub record Burns {D A E : Type 0} (old new : Limit) (device left : D) (failed fails_now : Bool) (count : ℕ) (result : Result A E)
     : Type 0 where
   pub blown : has_blown old ≡ true → IsErr result

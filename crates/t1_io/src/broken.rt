@@ -5,8 +5,8 @@ ghost use Rattle.std.specs.Prelude.{Some, codes};
 use std::error::Error;
 use std::fmt;
 
-/// A read, a write or a flush failed. The device tells which by its own `has_failed`; why it failed
-/// isn't kept, since every failure ends the work.
+/// A read, a write or a flush failed; the device's `has_failed` says so too. Why it failed isn't
+/// kept, since every failure ends the work.
 #[derive(Clone, Copy, Debug, PartialEq, Eq)]
 pub struct Broken;
 

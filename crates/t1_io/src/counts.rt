@@ -8,7 +8,7 @@ ghost use Rattle.t1_io.specs.Private.Counts.{take_counted};
 #[derive(Clone, Copy)]
 pub(crate) struct TakeCounts {
     pub(crate) takes: u64,
-    /// Those behind a failed one.
+    /// Those after a failed one.
     pub(crate) late_takes: u64,
     pub(crate) failed: bool,
 }

@@ -22,7 +22,7 @@ pub struct Fuse<D> {
 }
 
 impl<D: Source> Fuse<D> {
-    /// A source that gives the bytes of `device` until the fuse has blown.
+    /// A source of the bytes of `device`, until the fuse has blown.
     pub fn source(device: D, limit: Limit) -> Fuse<D>
         requires { lets_some_through limit ≡ true }
         ensures device { result.device ≡ device }

@@ -1,19 +1,19 @@
-//! Devices that may fail: a [`Source`] gives bytes, a [`Sink`] takes them, and both tell whether
-//! a call of theirs has failed.
+//! Devices that may fail: a [`Source`] to read bytes from and a [`Sink`] to write them to. Both
+//! know whether a call of theirs has failed.
 //!
-//! [`In`] and [`Out`] wrap std's readers and writers, [`Fuse`] makes a device of tests fail at a
-//! chosen place or move a few bytes a call, and [`put_all`] is the loop that writes a whole slice.
+//! [`In`] and [`Out`] wrap std's readers and writers. [`Fuse`] makes a device of tests fail at a
+//! chosen place or move a few bytes a call. [`put_all`] is the loop that writes a whole slice.
 //!
 //! Promised of every device:
 //!
-//! - a call that fails moves no byte and is remembered by `has_failed`;
-//! - a call that succeeds leaves `has_failed` as it was, and moves a byte or more, unless there is
-//!   no room or no byte for it, or the source is at its end;
-//! - the bytes left in a source and written to a sink are told where the device knows them, and so
-//!   are the number of takes, of takes behind a failed one, and whether all that was put has been
-//!   flushed.
+//! - A call that fails moves no byte, and `has_failed` remembers it.
+//! - A call that succeeds leaves `has_failed` as it was. It moves a byte or more, unless there is
+//!   no room or no byte for it, or the source is at its end.
+//! - Contracts say which bytes are left in a source or were written to a sink, where the device knows them.
+//! - They also say how many takes there were, how many after a failed one, and whether all that was
+//!   put has been flushed.
 //!
-//! Nothing here takes memory.
+//! Nothing here allocates.
 //!
 //! ```text
 //! let mut text = Vec::new(alloc);

@@ -12,11 +12,11 @@ pub trait Sink {
     // What is known of the sink.
     ghost state: { Self → SinkState };
 
-    /// Writes a front of `bytes` and says how long it is: a byte at least, unless `bytes` is empty.
+    /// Writes a prefix of `bytes` and returns its length: a byte at least, unless `bytes` is empty.
     fn put(&mut self, bytes: &[u8]) -> Result<usize, Broken>
         ensures puts { Puts (state self.old) (state self.new) bytes.now result };
 
-    /// Hands on all that was put.
+    /// Flushes all that was put.
     fn flush(&mut self) -> Result<(), Broken>
         ensures flushes { Flushes (state self.old) (state self.new) result };
 

@@ -1,4 +1,4 @@
-//! Devices that give bytes, over std's readers.
+//! Devices that bytes are read from, over std's readers.
 
 ghost use Rattle.std.specs.Prelude.{◌≡◌, false};
 ghost use Rattle.t1_io.specs.Devices.{SourceState, Takes};
@@ -7,13 +7,13 @@ use crate::Broken;
 use crate::counts::TakeCounts;
 use std::io::Read;
 
-/// A device that gives bytes until its end.
+/// A device that bytes are read from, until its end.
 pub trait Source {
     // What is known of the source.
     ghost state: { Self → SourceState };
 
-    /// Puts the next bytes at the front of `buffer` and says how many: 0 only at the end, or where
-    /// `buffer` is empty. The bytes of `buffer` behind them mean nothing.
+    /// Puts the next bytes at the beginning of `buffer` and returns how many: 0 only at the end, or
+    /// where `buffer` is empty. The bytes of `buffer` after them mean nothing.
     fn take(&mut self, buffer: &mut [u8]) -> Result<usize, Broken>
         ensures takes { Takes (state self.old) (state self.new) buffer.new result };
 

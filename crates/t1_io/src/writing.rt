@@ -4,8 +4,7 @@ ghost use Rattle.t1_io.specs.Devices.{Delivers, Writes, whole_of};
 
 use crate::{Broken, Sink};
 
-/// Writes all of `bytes`, in as many calls of `put` as the sink wants. After a failure a front of
-/// `bytes` went out.
+/// Writes all of `bytes`, in one call of `put` or more. After a failure, a prefix of `bytes` was written.
 pub fn put_all<W: Sink>(sink: &mut W, bytes: &[u8]) -> Result<(), Broken>
     ensures { Writes (W.state sink.old) (W.state sink.new) bytes.now result }
 {
@@ -16,8 +15,8 @@ pub fn put_all<W: Sink>(sink: &mut W, bytes: &[u8]) -> Result<(), Broken>
     Ok(())
 }
 
-/// Writes the parts of a text one after another, as [`put_all`] writes each. After a failure a front
-/// of the text went out.
+/// Writes the parts of a text one after another, as [`put_all`] writes each. After a failure, a
+/// prefix of the text was written.
 pub fn put_parts<W: Sink>(sink: &mut W, parts: &[&[u8]]) -> Result<(), Broken>
     ensures { Writes (W.state sink.old) (W.state sink.new) (whole_of parts.now) result }
 {

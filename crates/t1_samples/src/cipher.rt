@@ -16,7 +16,7 @@ pub fn eexec(alloc: Global, discarded: [u8; 4], text: &[u8]) -> Result<Vec<u8>, 
     encrypt(alloc, Cipher::eexec(), plain.as_slice())
 }
 
-/// The cipher bytes of a charstring: of zero bytes, as many as `/lenIV` says, and its plain bytes.
+/// The cipher bytes of a charstring: of so many zero bytes, the number in `/lenIV`, and its plain bytes.
 pub fn charstring(alloc: Global, zeros: u8, bytes: &[u8]) -> Result<Vec<u8>, AllocError>
     ensures { IfOk result (λ cipher. cipher.items ≡ encrypted charstring_start (replicate zeros 0
         ++ bytes.now)) }

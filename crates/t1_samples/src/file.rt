@@ -22,7 +22,7 @@ pub const TRAILER: &[u8] = b"\
 0000000000000000000000000000000000000000000000000000000000000000\n\
 cleartomark\n";
 
-/// What stands inside pairs of hexadecimal digits: before the second digit of every third byte.
+/// What is inside pairs of hexadecimal digits: before the second digit of every third byte.
 const BREAKS: [&[u8]; 5] = [b"\r", b"\n", b" ", b"\r\n", b"\t "];
 
 const TEXT: u8 = 1;
@@ -32,15 +32,15 @@ const BINARY: u8 = 2;
 /// What a font's file is made of.
 #[derive(Clone, Copy)]
 pub struct FontFile<'a> {
-    /// The clear text, up to the white space behind `eexec`.
+    /// The clear text, up to the white space after `eexec`.
     pub clear: &'a [u8],
     /// The private text, plain.
     pub private: &'a [u8],
-    /// The four plain bytes in front of the private text, which a reader discards.
+    /// The four plain bytes before the private text, which a reader discards.
     pub discarded: [u8; 4],
-    /// The text behind the encrypted section; a segment of its own in a PFB file, where it isn't empty.
+    /// The text after the encrypted section; a segment of its own in a PFB file, where it isn't empty.
     pub trailer: &'a [u8],
-    /// What a PFB file has behind its last segment.
+    /// What a PFB file has after its last segment.
     pub end: &'a [u8],
 }
 
@@ -104,7 +104,7 @@ fn add_segment(file: &mut Vec<u8>, kind: u8, payload: &[u8]) -> Result<(), Alloc
     file.extend_from_slice(payload)
 }
 
-/// Adds the digits of cipher bytes, with the breaks inside pairs behind the fourth digit.
+/// Adds the digits of cipher bytes, with the breaks inside pairs after the fourth digit.
 fn add_digits(alloc: Global, file: &mut Vec<u8>, section: &[u8]) -> Result<(), AllocError> {
     let digits = hex::encode(alloc, section)?;
     for (pair, place) in digits.as_bytes().chunks(2).zip(0u64..) {

@@ -8,9 +8,9 @@
 //! - [`opened`] and [`font_of`] read a font back; [`long_glyph`] has one of many steps.
 //! - [`add_fault`] lists the rules that a font breaks, as the tables of all tests do.
 //!
-//! What is promised: what is encrypted is what the standard's formula gives, so that deciphering it gives
-//! the bytes back. Each call returns, and fails for want of memory alone, but `opened` and `font_of` also where
-//! t1_font refuses the bytes.
+//! What is promised: what is encrypted is what the standard's formula says, and deciphering it yields the bytes
+//! again. Each call returns, and fails only when out of memory. `opened` and `font_of` also fail where t1_font
+//! refuses the bytes.
 //!
 //! ```
 //! let file = Sample::new(alloc)?

@@ -4,25 +4,25 @@ use crate::cipher::charstring;
 use crate::file::FontFile;
 use std::alloc::{AllocError, Global};
 
-/// The clear text of the sample with its standard Encoding, up to the line end behind `eexec`.
+/// The clear text of the sample with its standard Encoding, up to the line end after `eexec`.
 pub const CLEAR: &[u8] = b"%!PS-AdobeFont-1.0: T\n/FontType 1 def\n/PaintType 0 def\n\
 /Encoding StandardEncoding def\ncurrentfile eexec\n";
 
 /// The plain charstring of `.notdef`: `0 500 hsbw endchar`.
 pub const NOTDEF: &[u8] = b"\x8b\xf8\x88\x0d\x0e";
 
-/// How charstrings stand in the private text.
+/// How charstrings are written in the private text.
 #[derive(Clone, Copy, Debug, PartialEq, Eq)]
 pub enum Charstrings {
     /// As they are, under `/lenIV -1`.
     Plain,
-    /// Encrypted behind so many zero bytes, under that number as `/lenIV`.
+    /// Encrypted after so many zero bytes, under that number as `/lenIV`.
     Encrypted(u8),
-    /// Encrypted behind four zero bytes, without a `/lenIV`.
+    /// Encrypted after four zero bytes, without a `/lenIV`.
     WithoutLenIv,
 }
 
-/// A small font while it is put together. What a call adds stands behind what was added before.
+/// A small font while it is put together. What a call adds comes after what was added before.
 #[derive(Drop)]
 pub struct Sample {
     alloc: Global,
@@ -68,7 +68,7 @@ impl Sample {
         Ok(self)
     }
 
-    /// Adds a line, given without its line end, behind that of `/lenIV`.
+    /// Adds a line, given without its line end, after that of `/lenIV`.
     pub fn key(mut self, line: &[u8]) -> Result<Sample, AllocError> {
         self.keys.extend_from_slice(line)?;
         self.keys.extend_from_slice(b"\n")?;
@@ -100,7 +100,7 @@ impl Sample {
         Ok(self)
     }
 
-    /// The clear text, up to the line end behind `eexec`.
+    /// The clear text, up to the line end after `eexec`.
     pub fn clear(&self) -> Result<Vec<u8>, AllocError> {
         let mut text = Vec::from_slice(
             self.alloc,
@@ -111,7 +111,7 @@ impl Sample {
         Ok(text)
     }
 
-    /// The private text, up to the line end behind the `end` of the CharStrings.
+    /// The private text, up to the line end after the `end` of the CharStrings.
     pub fn private(&self) -> Result<Vec<u8>, AllocError> {
         let mut text = Vec::from_slice(
             self.alloc,

@@ -32,7 +32,7 @@ body_tail a p s = if a + p == 0 then Some 0 else inside_len 0 a p s
 tail_open : (a p : ℕ) (s : List ℕ) → 1 ≤ a + p → body_tail a p s ≡ inside_len 0 a p s
 tail_open a p s some = let nonzero : (a + p == 0) ≡ false = grind (arith, nat_tests) in rw nonzero refl
 
--- a body, the bracket behind it, and what is left then
+-- a body, the bracket after it, and what is left then
 pub record HasBody (f : Bool) (a p : ℕ) (s : List ℕ) (n : ℕ) : Type 0 where
   pub body : Body
   pub rest : List ℕ

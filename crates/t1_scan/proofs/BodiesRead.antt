@@ -48,7 +48,7 @@ braces_ignored p b h k =
     let none : p ≡ 0 = grind (arith, nat_tests) in
     rw (h, none) (elim (b == 125) as (λ c. 0 ≡ (if c then 0 - 1 else 0)) [ true ↦ refl | false ↦ refl ])
 
--- a byte that is passed over alone
+-- a byte that is skipped alone
 single_part : (b : ℕ) (s : List ℕ) → (b == 37) ≡ false → (b == 40) ≡ false → (b == 60) ≡ false → part_len b s ≡ Some 1
 unfolding part_len
 single_part b s h k l = rw (h, k, l) refl
@@ -196,7 +196,7 @@ closes_array a p s e some = record {
   within = omega arith;
 }
 
--- brackets, with so many bytes between them and so many behind
+-- brackets, with so many bytes between them and so many after
 bracketed_len : (before after : ℕ) (x y : List ℕ) → length (before ∷ (x ++ (after ∷ y))) ≡ 1 + (length x + (1 + length y))
 bracketed_len before after x y = omega (arith, length-append x (after ∷ y))
 
@@ -281,7 +281,7 @@ pub inside_last_array : (s : List ℕ) → inside_len 0 1 0 (93 ∷ s) ≡ Some 
 unfolding inside_len
 inside_last_array s = refl
 
--- a procedure, behind its first brace
+-- a procedure, after its first brace
 pub procedure_read : (x : Body) (s : List ℕ) → is_body true x ≡ true → 1 + body_depth x ≤ 32 → inside_len 0 0 1 ((body_text x ++ (125 ∷ [])) ++ s)
     ≡ Some (length (body_text x ++ (125 ∷ [])))
 procedure_read x s h shallow =
@@ -290,7 +290,7 @@ procedure_read x s h shallow =
     ∙ ap (further (length (body_text x))) (inside_last s)
     ∙ ap Some (sym (length-append (body_text x) (125 ∷ [])))
 
--- an array, behind its first bracket
+-- an array, after its first bracket
 pub array_read : (x : Body) (s : List ℕ) → is_body false x ≡ true → 1 + body_depth x ≤ 32 → inside_len 0 1 0 ((body_text x ++ (93 ∷ [])) ++ s)
     ≡ Some (length (body_text x ++ (93 ∷ [])))
 array_read x s h shallow =

@@ -52,7 +52,7 @@ first_is : (s : List ℕ) (found : Found) → first_of s ≡ Ok (Some found) →
 first_is [] found h = cc
 first_is (b ∷ s) found h = cut_is b s (token_len b s) found (token_some b s) h
 
--- what was read is what stands there
+-- what was read is what is there
 joined : (s : List ℕ) (found : Found) (n : ℕ) → IsCutOff s found n → s ≡ found.text ++ found.rest
 joined s found n h = let e = take-append-drop n s in cc
 
@@ -68,7 +68,7 @@ blanks_front c (b ∷ s) =
       | false ↦ λ e. refl
     ] refl
 
--- where blanks and comments end in front of a byte
+-- where blanks and comments end before a byte
 pub record EndsBefore (c : Bool) (s : List ℕ) (b : ℕ) : Type 0 where
   pub gap : is_gap c (take (blank_len c s) s) ≡ true
   pub starts : not (is_blank b || b == 37) ≡ true

@@ -13,7 +13,7 @@ use Rattle.t1_scan.specs.Texts.{ends_run, can_end}
 use Rattle.t1_scan.proofs.Prefixes.{prefix_all}
 use Rattle.t1_scan.proofs.StringsFound.{is_byte}
 
--- where a test lets something through
+-- where a test passes something
 if_some : {A : Type 0} {x : A} (b : Bool) (o : Option A) → (if b then o else None) ≡ Some x → (b ≡ true) × (o ≡ Some x)
 if_some true o h = (refl, h)
 if_some false o h = cc

@@ -29,7 +29,7 @@ prefix_is p (b ∷ run) s h e =
     let parts = and_parts (p b) (list_all p run) h in
     rw (parts.0, prefix_is p run s parts.1 e) (omega arith)
 
--- the digits before a point, and what stands behind them
+-- the digits before a point, and what follows them
 whole_is : (whole s : List ℕ) → list_all is_decimal_digit whole ≡ true → ends_test is_decimal_digit s ≡ true → whole_part (whole ++ s) ≡ whole
 whole_is whole s h e = rw (prefix_is is_decimal_digit whole s h e) (take-append_seam whole s)
 

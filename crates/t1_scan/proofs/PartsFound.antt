@@ -23,7 +23,7 @@ not_angle c t [] rest e h = refl
 not_angle c t (b ∷ bytes) rest e h =
     let same : c ≡ b = cc in subst (λ x. not (x == 60) ≡ true) same (rw h refl)
 
--- a part in front of what is left
+-- a part before what is left
 pub record HasPart (f : Bool) (s : List ℕ) : Type 0 where
   pub part : Part
   pub rest : List ℕ

@@ -1,4 +1,4 @@
--- Names, words and digits in front of a text.
+-- Names, words and digits before a text.
 use Rattle.std.proofs.Common.{◌≡◌, ◌+◌, ◌-◌, ◌*◌, ◌<◌, ◌≤◌, ◌==◌, ℕ, ℤ, pos, zero, suc, true, false, nat_lt, Some, None, List, [], ◌∷◌, length, drop, take, get_or, refl, subst, ap, ◌∙◌, arith}
 use Rattle.std.proofs.Math.Seq.{take-nil}
 use Rattle.std.proofs.lemmas.Bool.{or_parts}
@@ -55,7 +55,7 @@ run_begun b s regular none =
 pub word_begun : (b : ℕ) (s : List ℕ) → is_regular b ≡ true → begins_number b ≡ false → first_of (b ∷ s) ≡ begun (b ∷ s) (Some (1 + run_len s, Word))
 word_begun b s regular none = run_begun b s regular (no_number (b ∷ take (run_len s) s) (omega arith) none)
 
--- behind a sign, what doesn't begin with a digit or a point is no number
+-- after a sign, what doesn't begin with a digit or a point is no number
 dash_number : (s : List ℕ) → begins_digits s ≡ false → number_of (45 ∷ s) ≡ None
 unfolding decimal_of magnitude_of radix_of
 dash_number [] h = refl
@@ -71,7 +71,7 @@ front_begins (suc n) (c ∷ s) h = h
 pub dash_begun : (s : List ℕ) → begins_digits s ≡ false → first_of (45 ∷ s) ≡ begun (45 ∷ s) (Some (1 + run_len s, Word))
 dash_begun s h = run_begun 45 s refl (dash_number (take (run_len s) s) (front_begins (run_len s) s h))
 
--- a text is its first byte and what stands behind it
+-- a text is its first byte and what follows it
 first_and_rest : (text : List ℕ) → 1 ≤ length text → slice_index_or text 0 0 ∷ take (length text - 1) (drop 1 text) ≡ text
 first_and_rest [] some = absurd (omega (arith, some))
 first_and_rest (b ∷ s) some = ap (λ t. b ∷ t) (take_all (length (b ∷ s) - 1) s (omega arith))

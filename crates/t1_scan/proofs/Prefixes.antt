@@ -1,4 +1,4 @@
--- The longest front of a list whose bytes pass a test.
+-- The longest prefix of a list whose bytes pass a test.
 use Rattle.std.proofs.Common.{◌≡◌, ◌+◌, ℕ, suc, Bool, true, false, if◌then◌else◌, List, [], ◌∷◌, drop, take, refl, subst, inl, inr, arith}
 use Rattle.std.proofs.lemmas.Bool.{cases_Bool}
 use Rattle.std.specs.List.{list_all, prefix_len}

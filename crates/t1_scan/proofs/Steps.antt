@@ -56,7 +56,7 @@ pub close_end : (s : List ℕ) (at : ℕ) → length s ≤ at → further at (cl
 unfolding close_len
 close_end s at h = ap (further at) (at_drop_all close_len s at h)
 
--- the bytes that are passed over
+-- the bytes that are skipped
 pub passed_over : (n a p : ℕ) (s : List ℕ) → n ≤ length s → inside_len n a p s ≡ further n (inside_len 0 a p (drop n s))
 unfolding inside_len
 passed_over zero a p s h = sym (further_zero (inside_len 0 a p s))
@@ -93,7 +93,7 @@ inside_unclosed {s} {at} {a} {p} {a'} {p'} h is some =
     let nonzero : (a' + p' == 0) ≡ false = grind (arith, nat_tests) in
     rw (inside_step h, nonzero, is) (elim (nat_lt 32 (a' + p')) as (λ b. further at (if b then None else None) ≡ None) [ true ↦ refl | false ↦ refl ])
 
--- an array or a procedure goes on behind a part
+-- an array or a procedure goes on after a part
 pub inside_more : {s : List ℕ} {at a p a' p' : ℕ} → IsOpenAfter s at a p a' p' → (n : ℕ) → part_len (get_or s at 0) (drop (at + 1) s) ≡ Some n → 0 < a' + p'
     → a' + p' ≤ 32 → 1 ≤ n → at + n ≤ length s →
     further at (inside_len 0 a p (drop at s)) ≡ further (at + n) (inside_len 0 a' p' (drop (at + n) s))

@@ -20,7 +20,7 @@ abbrev pub string_tail : ℕ → List ℕ → Option ℕ
 string_tail zero s = Some 0
 string_tail (suc d) s = string_len false (suc d) s
 
--- letters, the parenthesis behind them, and what is left then
+-- letters, the parenthesis after them, and what is left then
 pub record HasLetters (d : ℕ) (s : List ℕ) (n : ℕ) : Type 0 where
   pub letters : Letters
   pub rest : List ℕ
@@ -30,7 +30,7 @@ pub record HasLetters (d : ℕ) (s : List ℕ) (n : ℕ) : Type 0 where
   pub len : n ≡ length (letters_text letters) + (1 + left)
   pub tail : string_tail d rest ≡ Some left
 
--- one letter more in front
+-- one letter more at the beginning
 with_letter : (d b : ℕ) (s : List ℕ) (m : ℕ) → not (b == 40 || b == 41 || b == 92) ≡ true → HasLetters d s m → HasLetters d (b ∷ s) (1 + m)
 with_letter d b s m h l = record {
   letters = letter b l.letters;
@@ -123,7 +123,7 @@ has_letters (suc fuel) d (b ∷ s) n room e =
       ]
     ]
 
--- a hexadecimal string, behind its `<`
+-- a hexadecimal string, after its `<`
 pub record HasHexadecimal (s : List ℕ) (n : ℕ) : Type 0 where
   pub bytes : List ℕ
   pub rest : List ℕ

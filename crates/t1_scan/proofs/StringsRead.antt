@@ -68,7 +68,7 @@ pub string_last : (s : List ℕ) → string_len false 1 (41 ∷ s) ≡ Some 1
 unfolding string_len
 string_last s = refl
 
--- a string, behind its first parenthesis
+-- a string, after its first parenthesis
 pub string_read : (l : Letters) (s : List ℕ) → are_letters l ≡ true → string_len false 1 ((letters_text l ++ (41 ∷ [])) ++ s)
     ≡ Some (length (letters_text l ++ (41 ∷ [])))
 string_read l s h =
@@ -85,7 +85,7 @@ close_read (b ∷ bytes) s h =
     let other : (b == 62) ≡ false = grind (arith, nat_tests) in
     rw (other, close_read bytes s p.1) (ap Some (omega arith))
 
--- a hexadecimal string, behind its `<`
+-- a hexadecimal string, after its `<`
 pub angle_read : (bytes s : List ℕ) → are_hexadecimal bytes ≡ true → angle_len ((bytes ++ (62 ∷ [])) ++ s) ≡ Some (length (bytes ++ (62 ∷ [])))
 unfolding angle_len
 angle_read [] s h = close_read [] s refl

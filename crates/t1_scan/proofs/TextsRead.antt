@@ -12,7 +12,7 @@ use Rattle.t1_scan.specs.Laws.{ReadsToken, RoundTrip}
 use Rattle.t1_scan.specs.Texts.{IsReadAs, is_gap, ends_run, can_end, continued, lexeme_of, AreReadable}
 use Rattle.t1_scan.proofs.TokensRead.{plain_read}
 
--- blanks and comments in front are skipped
+-- leading blanks and comments are skipped
 gap_len : (c : Bool) (gap s : List ℕ) → is_gap c gap ≡ true → blank_len c (gap ++ s) ≡ length gap + blank_len false s
 unfolding blank_len
 gap_len false [] s h = omega arith

@@ -1,4 +1,4 @@
--- What is read is a token in its plain form, and a text with no such token in front is refused.
+-- What is read is a token in its plain form, and a text that doesn't begin with such a token is refused.
 use Rattle.std.proofs.Common.{◌≡◌, ◌==◌, ℕ, ℤ, suc, Bool, true, false, ◌||◌, not, Option, Some, None, Result, Ok, Err, List, [], ◌∷◌, ◌++◌, length, drop, take, is_none, refl, sym, ap, subst, ◌∙◌, ◌⊎◌, inl, inr, arith}
 use Rattle.std.proofs.Math.Seq.{drop-length}
 use Rattle.std.proofs.lemmas.Bool.{and_from, and_parts, cases_Bool, false≢true}
@@ -23,7 +23,7 @@ use Rattle.t1_scan.proofs.TextsRead.{reads_token}
 use Rattle.t1_scan.proofs.TokensRead.{answer}
 use Rattle.t1_scan.proofs.Cover.{gap_front, all_blanks}
 
--- a token in front of a text
+-- a token before a text
 record HasToken (s : List ℕ) : Type 0 where
   token : Plain
   rest : List ℕ
@@ -31,7 +31,7 @@ record HasToken (s : List ℕ) : Type 0 where
   ends : can_end token rest ≡ true
   whole : s ≡ spelled token ++ rest
 
--- the longest run in front
+-- the longest leading run
 run_stops : (s : List ℕ) → ends_run (drop (run_len s) s) ≡ true
 run_stops s =
     elim (list_cases (drop (run_len s) s)) [

@@ -38,7 +38,7 @@ no_blanks b s h = rw (not_true (is_blank b || b == 37) h) refl
 pub starts_here : (b : ℕ) (s : List ℕ) → starts b ≡ true → token_of (b ∷ s) ≡ cut (b ∷ s) (token_len b s)
 starts_here b s h = rw (no_blanks b s h) refl
 
--- the answer that a token of this kind and text is
+-- what is read where a token of this kind and text is
 abbrev pub answer : Kind → List ℕ → List ℕ → Result (Option Found) ScanError
 answer kind text rest = Ok (Some (record { kind = kind; text = text; rest = rest }))
 
@@ -91,7 +91,7 @@ run_read (b ∷ u) after k h some e kind =
     begins b u after k o.starts (regular_len b (u ++ after) parts.0 o ∙ ap (λ n. Some (1 + n)) (run_is u after parts.1 e)
     ∙ ap Some (omega arith)) (regular_kind b u o ∙ kind)
 
--- one test gives another at each element
+-- one test implies another at each element
 all_by : (p q : ℕ → Bool) → ((b : ℕ) → p b ≡ true → q b ≡ true) → (run : List ℕ) → list_all p run ≡ true → list_all q run ≡ true
 all_by p q h [] e = refl
 all_by p q h (b ∷ run) e =
@@ -111,7 +111,7 @@ digits_some whole fraction h = grind (arith, nat_tests)
 small_base : (base digits : List ℕ) → IsRadix base digits → digits_value 10 base ≤ 36
 small_base base digits h = let high = h.high in grind (arith, nat_tests)
 
--- digits of a base are regular: each delimiter and blank stands for 36
+-- digits of a base are regular: each delimiter and blank has the value 36
 digit_regular : (b base : ℕ) → base ≤ 36 → nat_lt (digit_value b) base ≡ true → is_regular b ≡ true
 digit_regular b base h e = grind (arith, nat_tests)
 

@@ -1,4 +1,4 @@
--- The value of digits: of some in front of others, and of decimals in billionths.
+-- The value of digits: of some before others, and of decimals in billionths.
 use Rattle.std.proofs.Common.{◌≡◌, ◌+◌, ◌*◌, ◌/◌, ◌^◌, ◌<◌, ◌≤◌, ◌==◌, ℕ, zero, suc, true, false, nat_lt, None, List, [], ◌∷◌, ◌++◌, length, drop, take, get_or, refl, sym, ap, ◌∙◌, inl, inr, arith}
 use Rattle.std.proofs.Math.Bool.{and-false}
 use Rattle.std.proofs.Math.Nat.{pow-succ', pow-zero, add-mul, mul_assoc, zero-div, mul-div-mul_right, mul-add-div, mul-le-mul_right, div-eq_of_lt, pow-le-pow_right}
@@ -18,7 +18,7 @@ use Rattle.t1_scan.specs.Laws.{NineDigits}
 spread : (n base d t v : ℕ) → (n * base + d) * t + v ≡ n * (base * t) + ((0 * base + d) * t + v)
 spread n base d t v = omega (arith, add-mul (n * base) d t, mul_assoc n base t)
 
--- digits behind others: each place counts the base times the next
+-- digits after others: each place counts the base times the next
 pub digits_value_after_is : (base n : ℕ) (ds : List ℕ) → digits_value_after base n ds ≡ n * base ^ length ds + digits_value base ds
 digits_value_after_is base n [] = rw (pow-zero base) (omega arith)
 digits_value_after_is base n (d ∷ ds) =
@@ -84,7 +84,7 @@ ten_pos : (n : ℕ) → 0 < 10 ^ n
 ten_pos zero = omega arith
 ten_pos (suc n) = let h = ten_pos n in let e = pow-succ' 10 n in omega (arith, h, e)
 
--- one decimal in front of others, each in units of a tenth
+-- one decimal before others, each in units of a tenth
 tenth : (d t v u : ℕ) → 0 < t → (d * t + v) * (10 * u) / (10 * t) ≡ d * u + v * u / t
 tenth d t v u some =
     let above : (d * t + v) * (10 * u) ≡ (t * (d * u) + v * u) * 10 = omega arith in
@@ -115,7 +115,7 @@ billionths_are (suc k) (b ∷ s) h =
 pub billionths-value : (s : List ℕ) → list_all is_decimal_digit s ≡ true → billionths 100000000 s ≡ digits_value 10 s * 1000000000 / 10 ^ length s
 billionths-value s h = billionths_are 8 s h
 
--- the digits before a point and those behind it
+-- the digits before a point and those after it
 pub scaled_parts : (whole decimals : List ℕ) → scaled whole decimals ≡ digits_value 10 whole * 1000000000 + digits_value 10 decimals *
     1000000000 / 10 ^ length decimals
 unfolding scaled

@@ -1,6 +1,6 @@
--- How many bytes of a text belong together: blanks and comments, runs, strings, procedures, arrays,
--- tokens. The forms are PostScript's, as Type 1 Font Format uses it (chapters 2 and 10). That a
--- procedure or an array is one token, and how deep they nest, is this product's own choice.
+-- How many bytes of a text belong together: blanks and comments, runs, strings, procedures, arrays, tokens. The
+-- forms are PostScript's, as Type 1 Font Format uses it (chapters 2 and 10). The standard is silent on what is one
+-- token: that a procedure or an array is, and how deep they nest, is our choice.
 use Rattle.std.specs.Prelude.{ℕ, zero, suc, Bool, true, false, Option, Some, None, List, [], ◌∷◌, ◌+◌, ◌-◌, ◌==◌, ◌||◌, ◌&&◌, not, if◌then◌else◌, nat_lt, option_and_then}
 use Rattle.std.specs.List.{prefix_len}
 use Rattle.t1_scan.specs.Bytes.{is_line_end, is_blank, is_regular}
@@ -10,11 +10,11 @@ abbrev pub further : ℕ → Option ℕ → Option ℕ
 further n None = None
 further n (Some k) = Some (n + k)
 
--- whether a comment goes on behind a byte: it runs from `%` to before the end of the line
+-- whether a comment goes on after a byte: it runs from `%` to before the end of the line
 abbrev pub is_comment_after : Bool → ℕ → Bool
 is_comment_after in_comment b = if in_comment then not (is_line_end b) else b == 37
 
--- the blanks and comments in front
+-- the leading blanks and comments
 unfoldable pub blank_len : Bool → List ℕ → ℕ
 blank_len in_comment [] = 0
 blank_len in_comment (b ∷ s) =
@@ -26,11 +26,11 @@ blank_len in_comment (b ∷ s) =
 abbrev pub run_len : List ℕ → ℕ
 run_len s = prefix_len is_regular s
 
--- a comment, behind its `%`, to before the end of the line
+-- a comment, after its `%`, to before the end of the line
 abbrev pub comment_len : List ℕ → ℕ
 comment_len s = prefix_len (λ c. not (is_line_end c)) s
 
--- how many parentheses are open behind a byte; one that a backslash took with it counts for nothing
+-- how many parentheses are open after a byte; one that a backslash took with it counts for nothing
 abbrev pub depth_after : Bool → ℕ → ℕ → ℕ
 depth_after true b depth = depth
 depth_after false b depth = if b == 40 then depth + 1 else (if b == 41 then depth - 1 else depth)
@@ -52,7 +52,7 @@ unfoldable pub angle_len : List ℕ → Option ℕ
 angle_len [] = None
 angle_len (b ∷ s) = if b == 60 then Some 1 else close_len (b ∷ s)
 
--- what is passed over whole: a comment, a string, `<<`, or else one byte
+-- what is skipped whole: a comment, a string, `<<`, or else one byte
 unfoldable pub part_len : ℕ → List ℕ → Option ℕ
 part_len b s =
     if b == 37 then Some (1 + comment_len s)
@@ -74,9 +74,8 @@ braces_after b braces = if b == 123 then braces + 1 else (if b == 125 then brace
 abbrev pub most_nested : ℕ
 most_nested = 32
 
--- an array or a procedure, behind its first bracket, to its last, while so many arrays, and in them
--- procedures, are open: at most that many together. So many bytes as are still to `skip`, of a string or a comment,
--- open and close nothing
+-- an array or a procedure, after its first bracket, to its last, while so many arrays, and in them procedures, are
+-- open: at most 32 together. So many bytes as are still to `skip`, of a string or a comment, open and close nothing
 unfoldable pub inside_len : ℕ → ℕ → ℕ → List ℕ → Option ℕ
 inside_len skip arrays braces [] = None
 inside_len (suc n) arrays braces (b ∷ s) = further 1 (inside_len n arrays braces s)

@@ -30,7 +30,7 @@ is_fraction (b ∷ s) = b == 46 && list_all is_decimal_digit s
 unfoldable pub scaled : List ℕ → List ℕ → ℕ
 scaled whole decimals = digits_value 10 (whole ++ decimals) * billion / 10 ^ length decimals
 
--- that number, if what stands before the point is below a billion
+-- that number, if what is before the point is below a billion
 unfoldable pub value_of : List ℕ → List ℕ → Option ℕ
 value_of whole decimals =
     if nat_lt (digits_value 10 whole) billion then Some (scaled whole decimals) else None

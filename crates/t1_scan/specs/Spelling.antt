@@ -28,8 +28,8 @@ are_letters (letter b more) = not (b == 40 || b == 41 || b == 92) && are_letters
 are_letters (escaped b more) = are_letters more
 are_letters (parentheses inner more) = are_letters inner && are_letters more
 
--- what stands in an array or a procedure and isn't one: a byte; a comment, with the byte that ends
--- its line; a string; a hexadecimal string; `<<`
+-- what is in an array or a procedure and isn't one: a byte; a comment, with the byte that ends its
+-- line; a string; a hexadecimal string; `<<`
 pub data Part : Type 0 where
   byte : ℕ → Part
   comment : List ℕ → ℕ → Part
@@ -79,7 +79,7 @@ body_text (part p more) = part_text p ++ body_text more
 body_text (procedure inner more) = 123 ∷ (body_text inner ++ (125 ∷ body_text more))
 body_text (array inner more) = 91 ∷ (body_text inner ++ (93 ∷ body_text more))
 
--- no array stands in a procedure: there a bracket is a byte like others
+-- no array is in a procedure: there a bracket is a byte like others
 abbrev pub is_body : Bool → Body → Bool
 is_body in_procedure nothing = true
 is_body in_procedure (part p more) = is_part in_procedure p && is_body in_procedure more
@@ -108,7 +108,7 @@ abbrev pub signed : Sign → ℕ → ℤ
 signed minus n = neg_ℤ (pos n)
 signed _ n = pos n
 
--- the decimals, behind a point if there is one
+-- the decimals, after a point if there is one
 abbrev pub fraction_text : Option (List ℕ) → List ℕ
 fraction_text None = []
 fraction_text (Some decimals) = 46 ∷ decimals

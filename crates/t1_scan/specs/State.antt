@@ -1,4 +1,4 @@
--- What a scanner stands for: its text, how far it has come, and whether it has failed.
+-- The state of a scanner: its text, how far it has come, and whether it has failed.
 use Rattle.std.specs.Prelude.{ℕ, Bool, List, drop}
 use Rattle.t1_scan.specs.declared.scanner.Scanner.{Scanner}
 
@@ -14,6 +14,6 @@ place_of s = s.place
 abbrev pub left_of : Scanner → List ℕ
 left_of s = drop s.place s.text.now
 
--- whether it has answered that a token isn't closed
+-- whether it has refused a token that isn't closed
 abbrev pub has_failed : Scanner → Bool
 has_failed s = s.failed

@@ -1,4 +1,4 @@
--- Where tokens stand in a text: behind which bytes, in front of which, and one after another.
+-- Where tokens are in a text: after which bytes, before which, and one after another.
 use Rattle.std.specs.Prelude.{◌≡◌, ◌≤◌, ℕ, Bool, true, false, Some, None, Ok, List, [], ◌∷◌, ◌++◌, ◌&&◌, ◌||◌, ◌==◌, not, length}
 use Rattle.t1_scan.specs.declared.token.Kind.{Kind}
 use Rattle.t1_scan.specs.Bytes.{is_blank, is_regular}
@@ -18,7 +18,7 @@ is_gap in_comment [] = not in_comment
 is_gap in_comment (b ∷ s) =
     (in_comment || (is_blank b || b == 37)) && is_gap (is_comment_after in_comment b) s
 
--- a run goes as far as it can, and `>` stands alone only where no other follows
+-- a run goes as far as it can, and `>` is alone only where no other follows
 abbrev pub ends_run : List ℕ → Bool
 ends_run [] = true
 ends_run (b ∷ s) = not (is_regular b)
@@ -55,7 +55,7 @@ pub record IsReading (s : List ℕ) (found : Found) : Type 0 where
   pub text : spelled token ≡ found.text
   pub kind : meant token ≡ found.kind
 
--- a token as it stands in a text
+-- a token as it is in a text
 pub record Lexeme : Type 0 where
   pub kind : Kind
   pub text : List ℕ
@@ -69,8 +69,7 @@ IsReadAs s (t ∷ ts) =
     × (token_of s ≡ Ok (Some (record { kind = t.kind; text = t.text; rest = rest })))
     × IsReadAs rest ts
 
--- the tokens stand in the text in this order, with blanks and comments alone before, between and
--- behind them
+-- the tokens are in the text in this order, with blanks and comments alone before, between and after them
 abbrev pub IsCoveredBy : List ℕ → List Lexeme → Type 0
 IsCoveredBy s [] = are_blanks false s ≡ true
 IsCoveredBy s (t ∷ ts) =

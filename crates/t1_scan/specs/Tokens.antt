@@ -1,5 +1,5 @@
--- The first token of a text (Type 1 Font Format, chapters 2 and 10; what is one token is this
--- product's own choice).
+-- The first token of a text (Type 1 Font Format, chapters 2 and 10). What is one token is our
+-- choice where the standard is silent.
 use Rattle.std.specs.Prelude.{ℕ, ℤ, false, Option, Some, None, Result, Ok, Err, List, [], ◌∷◌, ◌==◌, if◌then◌else◌, take, drop, slice_index}
 use Rattle.t1_scan.specs.declared.error.ScanError.{ScanError}
 use Rattle.t1_scan.specs.declared.error.ScanError.TheVariants.{Unclosed}
@@ -30,7 +30,7 @@ kind_of (b ∷ s) =
     else (if b == 91 then Array
     else number_or_word (number_of (b ∷ s))))))
 
--- a token of so many bytes in front
+-- a token of the first so many bytes
 abbrev pub cut : List ℕ → Option ℕ → Result (Option Found) ScanError
 cut s None = Err Unclosed
 cut s (Some n) = Ok (Some (record { kind = kind_of (take n s); text = take n s; rest = drop n s }))
@@ -40,6 +40,6 @@ abbrev pub first_of : List ℕ → Result (Option Found) ScanError
 first_of [] = Ok None
 first_of (b ∷ s) = cut (b ∷ s) (token_len b s)
 
--- the first token, behind blanks and comments
+-- the first token, after blanks and comments
 abbrev pub token_of : List ℕ → Result (Option Found) ScanError
 token_of s = first_of (drop (blank_len false s) s)

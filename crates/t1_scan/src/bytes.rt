@@ -17,7 +17,7 @@ pub fn is_blank(b: u8) -> bool
     matches!(b, 0 | b'\t' | b'\n' | 12 | b'\r' | b' ')
 }
 
-/// Whether a byte is neither a blank nor a delimiter. Most are letters, and then digits: these are asked for first.
+/// Whether a byte is neither a blank nor a delimiter. Most are letters, and then digits: these are tested first.
 #[inline(always)]
 pub fn is_regular(b: u8) -> bool
     ensures { result ≡ is_regular b }

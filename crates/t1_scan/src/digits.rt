@@ -16,7 +16,7 @@ pub const BILLION: u64 = 1_000_000_000;
 /// The greatest base: its digits are all digits and all letters.
 pub const GREATEST_BASE: u64 = 36;
 
-/// What a digit of any base stands for, letters in either case, or the greatest base.
+/// The value of a digit of any base, letters in either case, or the greatest base.
 fn digit_value(b: u8) -> u64
     ensures value { result ≡ digit_value b }
     ensures bound { result ≤ greatest_base }
@@ -86,7 +86,7 @@ pub fn billionths_in(whole: u64) -> i64
     (whole * BILLION) as i64
 }
 
-/// How many digits the run in front has, and what they spell, if it has nothing but digits and is below a billion.
+/// How many digits the leading run has, and what they spell, if it has nothing but digits and is below a billion.
 #[inline(always)]
 #[tactic(auto, using(std::proofs::lemmas::Int::Digits::digits_value_more, crate::proofs::PlainTokens::run_more, crate::proofs::PlainTokens::digits_more))]
 pub fn digits_alone(text: &[u8]) -> Option<(usize, u64)>

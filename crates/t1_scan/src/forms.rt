@@ -45,7 +45,7 @@ fn plain_token(text: &[u8]) -> Option<(usize, Kind)>
     Some((1 + run_len(rest), kind))
 }
 
-/// What a run is that begins with these, if its first bytes tell: a name or a word.
+/// What a run is that begins with these, if its first bytes decide: a name or a word.
 #[inline(always)]
 #[tactic(auto, using(crate::proofs::PlainTokens::name_begun, crate::proofs::PlainTokens::word_begun, crate::proofs::PlainTokens::dash_begun))]
 fn run_kind(first: u8, rest: &[u8]) -> Option<Kind>

@@ -14,8 +14,7 @@ ghost use Rattle.t1_scan.specs.Laws.{
   TakesBytes,
 };
 
-/// A text that begins with blanks and comments and then a token in its plain form, nested at most
-/// 32 deep, is read as this token.
+/// A token in its plain form, nested at most 32 deep, is read at the start of a text, after any blanks and comments.
 pub fn plain_tokens_are_read()
     ensures { ReadsToken }
 {}
@@ -29,8 +28,8 @@ pub fn nothing_else_is_read()
     ensures refuses { RefusesTheRest }
 {}
 
-/// Tokens of any kinds, nested at most 32 deep, written one after another with a blank between, are
-/// read as just these, a number with its value.
+/// Tokens of any kinds that nest at most 32 deep, written one after another with a blank between,
+/// are read as just these. A number is read with its value.
 #[tactic(auto, using(crate::proofs::TextsRead::round_trip))]
 pub fn written_tokens_are_read()
     ensures { RoundTrip }

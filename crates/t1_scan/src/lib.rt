@@ -10,12 +10,10 @@
 //! Promised for any bytes:
 //!
 //! - Each call returns, and none reads past the text.
-//! - `next` gives a token in its plain form, which stands behind blanks and comments alone; None
-//!   exactly where blanks and comments alone are left; and [`ScanError`] exactly where more is left
-//!   and no such token stands there.
-//! - After a [`ScanError`] each later `next` gives it again, `raw` gives None, and the place stays.
-//! - Tokens follow one another: each begins where the one before it ends, or behind, and takes a
-//!   byte or more.
+//! - `next` returns a token in its plain form, after blanks and comments alone; None exactly where blanks
+//!   and comments alone are left; and [`ScanError`] exactly where more is left and no such token follows.
+//! - After a [`ScanError`] each later `next` returns it again, `raw` returns None, and the place stays.
+//! - Tokens follow one another: each begins at or after the end of the one before, and takes a byte or more.
 //!
 //! ```
 //! let mut scanner = Scanner::new(b"/BlueScale .0375 def");

@@ -8,7 +8,7 @@ use crate::strings::part_len;
 /// How deep procedures and arrays nest at most. The limit is this project's own.
 const MOST_NESTED: usize = 32;
 
-/// How many arrays are open behind a byte. Brackets count where no brace is open.
+/// How many arrays are open after a byte. Brackets count where no brace is open.
 fn arrays_after(b: u8, arrays: usize, braces: usize) -> usize
     requires low { 1 ≤ arrays + braces }
     requires high { arrays < 2 ^ 63 }
@@ -21,7 +21,7 @@ fn arrays_after(b: u8, arrays: usize, braces: usize) -> usize
     }
 }
 
-/// How many procedures are open behind a byte. A brace that closes nothing is ignored.
+/// How many procedures are open after a byte. A brace that closes nothing is ignored.
 fn braces_after(b: u8, braces: usize) -> usize
     requires { braces < 2 ^ 63 }
     ensures { result ≡ braces_after b braces }
@@ -33,8 +33,7 @@ fn braces_after(b: u8, braces: usize) -> usize
     }
 }
 
-/// An array or a procedure, behind its first bracket, to its last: of so many arrays and procedures
-/// one is open.
+/// An array or a procedure, after its first bracket, to its last: of so many arrays and procedures one is open.
 pub fn inside_len(text: &[u8], mut arrays: usize, mut braces: usize) -> Option<usize>
     requires { arrays + braces ≡ 1 }
     ensures value { result ≡ inside_len 0 arrays braces text.now }

@@ -10,7 +10,7 @@ use crate::bytes::is_decimal_digit;
 use crate::digits::{BILLION, GREATEST_BASE, are_digits, are_in_base, billionths, small_value};
 use crate::runs::digits_len;
 
-/// The number with these digits before and behind its point, if it is below a billion.
+/// The number with these digits before and after its point, if it is below a billion.
 #[tactic(auto, using(crate::proofs::Values::scaled_parts), unfolding(crate::specs::Numbers::value_of))]
 fn value(whole: &[u8], decimals: &[u8]) -> Option<u64>
     requires { IsTrue (list_all is_decimal_digit decimals.now) }
@@ -84,7 +84,7 @@ pub fn begins_number(b: u8) -> bool
     is_decimal_digit(b) || matches!(b, b'+' | b'-' | b'.')
 }
 
-/// Whether digits with a point may begin here: behind a sign nothing else is a number.
+/// Whether digits with a point may begin here: after a sign nothing else is a number.
 #[inline(always)]
 pub fn begins_digits(text: &[u8]) -> bool
     ensures { result ≡ begins_digits text.now }
@@ -92,7 +92,7 @@ pub fn begins_digits(text: &[u8]) -> bool
     matches!(text, [b'0'..=b'9' | b'.', ..])
 }
 
-/// The number that a run of regular bytes spells, in billionths. Most words are told by their first byte.
+/// The number that a run of regular bytes spells, in billionths. The first byte rules most words out.
 pub fn number(run: &[u8]) -> Option<i64>
     ensures { result ≡ number_of run.now }
 {

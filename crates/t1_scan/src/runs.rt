@@ -7,7 +7,7 @@ ghost use Rattle.t1_scan.specs.Lengths.{blank_len, run_len, comment_len};
 
 use crate::bytes::{is_blank, is_decimal_digit, is_line_end, is_regular};
 
-/// The blanks and comments in front. Most tokens begin with a byte above `%`, which no blank is.
+/// The length of the leading blanks and comments. Most tokens begin with a byte above `%`, which no blank is.
 #[inline(always)]
 #[tactic(auto, using(crate::proofs::Steps::blank_more))]
 pub fn blank_len(text: &[u8]) -> usize
@@ -43,7 +43,7 @@ pub fn run_len(text: &[u8]) -> usize
     text.len()
 }
 
-/// A comment, behind its `%`, to before the end of the line.
+/// A comment, after its `%`, to before the end of the line.
 pub fn comment_len(text: &[u8]) -> usize
     ensures value { result ≡ comment_len text.now }
     ensures bound { result ≤ length text.now }

@@ -8,7 +8,7 @@ use crate::forms::token_at;
 use crate::runs::blank_len;
 use crate::token::Token;
 
-/// Reads a text's tokens, one after another. After a token that isn't closed it gives no other.
+/// Reads a text's tokens, one after another. After a token that isn't closed it returns no other.
 #[derive(Clone, Copy, Debug)]
 pub struct Scanner<'a> {
     text: &'a [u8],
@@ -20,7 +20,7 @@ pub struct Scanner<'a> {
 impl<'a> Scanner<'a> {
     ghost use Rattle.t1_scan.specs.State.{text_of, place_of, left_of, has_failed};
 
-    /// A scanner that stands in front of a text.
+    /// A scanner at the beginning of a text.
     pub fn new(text: &'a [u8]) -> Scanner<'a>
         ensures text { text_of result ≡ text.now }
         ensures place { place_of result ≡ 0 }
@@ -73,7 +73,7 @@ impl<'a> Scanner<'a> {
         }))
     }
 
-    /// Passes one byte, of any value, and gives so many that follow it; None where they aren't
+    /// Skips one byte, of any value, and returns so many that follow it; None where they aren't
     /// there, or after a token that isn't closed.
     pub fn raw(&mut self, len: usize) -> Option<&'a [u8]>
         ensures text { text_of self.new ≡ text_of self.old }

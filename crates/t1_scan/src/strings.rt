@@ -5,7 +5,7 @@ ghost use Rattle.t1_scan.specs.Lengths.{depth_after, string_len, close_len, angl
 
 use crate::runs::comment_len;
 
-/// How many parentheses are open behind a byte.
+/// How many parentheses are open after a byte.
 fn depth_after(escaped: bool, b: u8, depth: usize) -> usize
     requires low { 1 ≤ depth }
     requires high { depth < 2 ^ 63 }
@@ -18,7 +18,7 @@ fn depth_after(escaped: bool, b: u8, depth: usize) -> usize
     }
 }
 
-/// A string, behind its first parenthesis, to its last.
+/// A string, after its first parenthesis, to its last.
 #[tactic(auto, using(crate::proofs::Steps::string_more, crate::proofs::Steps::string_end))]
 fn string_len(text: &[u8]) -> Option<usize>
     ensures value { result ≡ string_len false 1 text.now }
@@ -63,7 +63,7 @@ fn angle_len(text: &[u8]) -> Option<usize>
     }
 }
 
-/// What is passed over whole: a comment, a string, `<<`, or else one byte, which begins here.
+/// What is skipped whole: a comment, a string, `<<`, or else one byte, which begins here.
 #[tactic(auto, unfolding(crate::specs::Lengths::part_len))]
 pub fn part_len(first: u8, rest: &[u8]) -> Option<usize>
     ensures value { result ≡ part_len first rest.now }

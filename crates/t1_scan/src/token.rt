@@ -5,7 +5,7 @@
 pub enum Kind {
     /// A number, in units of 10^-9, further decimals cut: `-.5` is -500000000.
     Number(i64),
-    /// `/` and the regular bytes behind it, as `/FontName`; there may be none.
+    /// `/` and the regular bytes after it, as `/FontName`; there may be none.
     Name,
     /// A run of regular bytes that is no number, as `def`; `<<`, `>>`, or one of `> ) ] }` that
     /// closes nothing.
@@ -26,6 +26,6 @@ pub struct Token<'a> {
     pub text: &'a [u8],
     /// The place of its first byte, from 0.
     pub from: usize,
-    /// The place behind its last byte.
+    /// The place after its last byte.
     pub to: usize,
 }

@@ -9,7 +9,7 @@ use Rattle.t1_seal.specs.Segments.{JoinedText, Row, as_pfa, as_pfb, begins_pfa, 
 use Rattle.t1_seal.specs.Laws.Segments.{CutFilesTellOfLoss, TellsOfLoss}
 use Rattle.t1_seal.proofs.Rows.{row_step}
 
--- A row is read, and nothing stands behind its end segment.
+-- A row is read, and nothing follows its end segment.
 abbrev IsClosed : Result Row SealError → Type 0
 IsClosed (Ok row) = row.trailing ≡ false
 IsClosed (Err e) = ⊥

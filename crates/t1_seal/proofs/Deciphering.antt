@@ -15,7 +15,7 @@ map_same n f g same =
     fill_by_all g (map f (range_with_len 0 n)) n 0 (length-map-range_with_len f 0 n)
     (λ k h. get_or-map-range_with_len f 0 n k k 0 h (omega arith) ∙ same k h)
 
--- One more cipher byte gives one more plain byte.
+-- One more cipher byte makes one more plain byte.
 pub decrypted-push : (start : ℕ) (front : List ℕ) (c : ℕ) → decrypted start (front ++ c ∷ []) ≡ decrypted start front ++ plain_byte start front c ∷ []
 unfolding decrypted
 decrypted-push start front c =
@@ -39,7 +39,7 @@ length-decrypted start cipher = length-map-range_with_len (λ i. plain_byte star
 xor_twice : (p k : ℕ) → bit_xor (bit_xor p k) k ≡ p
 xor_twice p k = xor_assoc p k k ∙ ap (bit_xor p) (xor_self k) ∙ xor_zero_r p
 
--- The rest of a text, enciphered from the state after a front, deciphers after that front.
+-- The rest of a text, enciphered from the state after a prefix, deciphers after that prefix.
 deciphers_after : (start : ℕ) (front plain : List ℕ) → decrypted start (front ++ encrypted (state_after start front) plain) ≡ decrypted start front ++ plain
 deciphers_after start front [] = rw (append-nil front, append-nil (decrypted start front)) refl
 deciphers_after start front (p ∷ plain) =

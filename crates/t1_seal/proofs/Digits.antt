@@ -38,7 +38,7 @@ pub digits_decoded : (high low : ℕ) → is_digit high ≡ true → is_digit lo
 unfolding is_digit digit_value
 digits_decoded high low h k = decoded_pair high low (hex_digit_value high) (hex_digit_value low) h k refl refl
 
--- The digits, a byte at a time: a digit is one of them, a blank is passed over, another byte ends them.
+-- The digits, a byte at a time: a digit is one of them, a blank is skipped, another byte ends them.
 pub digits-cons : (c : ℕ) (rest : List ℕ) → is_digit c ≡ true → digits_of (c ∷ rest) ≡ c ∷ digits_of rest
 digits-cons c rest h = rw (h, one-add (prefix_len is_digit_or_blank rest), h) refl
 
@@ -61,8 +61,8 @@ abbrev pub count_of : Option ℕ → ℕ
 count_of None = 0
 count_of (Some high) = 1
 
--- The bytes of a section below i were read: the opening took what their pairs of digits write, high is
--- a digit that has no second one yet, and the rest writes what is left.
+-- The bytes of a section below i were read. The opening took what their pairs of digits write; high is
+-- a digit without a second one yet; the rest writes what is left.
 pub record HasRead (section : List ℕ) (i : ℕ) (high : Option ℕ) (opening : Opening) : Type 0 where
   pub front : List ℕ
   pub taken : HasTaken opening front
@@ -119,7 +119,7 @@ pair_taken section i high old new h digit r taken room =
       rest = append_assoc r.front (byte ∷ []) (bytes_of_digits later) ∙ ap (λ ds. r.front ++ bytes_of_digits (high ∷ ds)) (sym digits) ∙ r.rest;
     }
 
--- A blank is passed over.
+-- A blank is skipped.
 pub blank_passed : (section : List ℕ) (i : ℕ) (high : Option ℕ) (opening : Opening) → i < length section → is_digit (get_or section i 0) ≡ false
     → is_blank (get_or section i 0) ≡ true → HasRead section i high opening → HasRead section (i + 1) high opening
 blank_passed section i high opening h digit blank r =
@@ -135,7 +135,7 @@ blank_passed section i high opening h digit blank r =
       rest = ap (λ ds. r.front ++ bytes_after high ds) (sym digits) ∙ r.rest;
     }
 
--- A pair has room, since its two digits stand in the section.
+-- A pair has room, since its two digits are in the section.
 pub pair_has_room : (section : List ℕ) (i high : ℕ) (opening : Opening) → i < length section → HasRead section i (Some high) opening → HasRoom opening
 pair_has_room section i high opening h r =
     let below : length r.front < length section / 2 = omega (arith, r.short) in

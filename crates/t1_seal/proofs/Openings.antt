@@ -13,7 +13,7 @@ use Rattle.t1_seal.specs.Eexec.{opened}
 use Rattle.t1_seal.specs.Private.Opening.{HasRoom, HasTaken, IsFor}
 use Rattle.t1_seal.proofs.Deciphering.{decrypted-push, length-decrypted}
 
--- Fewer than four cipher bytes open to nothing, and others to what stands after four.
+-- Fewer than four cipher bytes open to nothing, and others to what follows the first four.
 pub opened-short : (front : List ℕ) → length front < 4 → opened front ≡ Err TooShort
 unfolding opened
 opened-short front h = rw (lt-ltb (length front) 4 h) refl

@@ -147,7 +147,7 @@ segment_means (x ∷ b) part fit e =
     subst P (sym (eqb-true x 128 test)) (typed_means b part (All-tail IsByte x b fit) same))
     (λ _ same. absurd (cc same)) e
 
--- A row with a front before it was read, so the row after the front was.
+-- A row with bytes before it was read, so the row itself was.
 record HasRest (front : List ℕ) (read : Result Row SealError) (row : Row) : Type 0 where
   inner : Row
   read_is : read ≡ Ok inner

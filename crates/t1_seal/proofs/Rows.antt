@@ -40,7 +40,7 @@ segment_of-shorter (x ∷ b) front rest e =
     (λ same. let shorter : length front + length rest ≤ length b = segment_of_type-shorter b front rest same in omega arith)
     (λ same. absurd (cc same)) e
 
--- Two readers of what follows a payload give the same where they agree on it.
+-- Two readers of what follows a payload read the same where they agree on it.
 follow_same : (f g : List ℕ → Result Row SealError) (part : Result Part SealError) → ((front rest : List ℕ) → part ≡ Ok (payload front rest) → f rest ≡ g rest)
     → follow f part ≡ follow g part
 follow_same f g (Err e) same = refl
@@ -67,7 +67,7 @@ row_step (x ∷ t) = follow_same (row_within (length t)) row_of (segment_of (x �
     (λ front rest e. let s : length front + length rest < length (x ∷ t) = segment_of-shorter (x ∷ t) front rest e in enough (length t) (length rest)
     rest (omega arith) (omega arith))
 
--- One front before another is their sum.
+-- Two parts put before a row are their sum put before it.
 pub fronts : (a b : List ℕ) (row : Result Row SealError) → with_front a (with_front b row) ≡ with_front (a ++ b) row
 fronts a b (Ok row) = rw (append_assoc a b row.bytes) refl
 fronts a b (Err e) = refl

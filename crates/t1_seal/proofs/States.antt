@@ -65,7 +65,7 @@ pub starts_at_the_start : StartsAtTheStart
 unfolding state_after
 starts_at_the_start start small = omega arith
 
--- The sum over a front and one more byte is the state that runs along.
+-- The sum over the bytes before and one more byte is the state that runs along.
 pub state_runs_along : StateRunsAlong
 unfolding state_after
 state_runs_along start front c =

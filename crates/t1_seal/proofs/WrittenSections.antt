@@ -1,4 +1,4 @@
--- Cipher bytes that were written behind the word `eexec` open.
+-- Cipher bytes that were written after the word `eexec` open.
 use Rattle.std.proofs.Common.{◌≡◌, ℕ, ◌/◌, ◌%◌, ◌≤◌, ◌++◌, Bool, true, false, ◌||◌, List, [], ◌∷◌, length, take, drop, Some, refl, ap, sym, ◌∙◌, one-add, append_assoc, subst, ◌==◌, arith}
 use Rattle.std.proofs.lemmas.List.{take-append-drop}
 use Rattle.std.proofs.lemmas.Bool.{eqb-true}
@@ -59,7 +59,7 @@ written_digits _ _ (two_digits byte high low bytes digits h l rest) =
     All-cons P high (low ∷ digits) (digit_of_value high (byte / 16) h)
     (All-cons P low digits (digit_of_value low (byte % 16) l) (written_digits bytes digits rest))
 
--- Blanks and the bytes in front of a section are no digits.
+-- Blanks and the bytes before a section are no digits.
 either_holds : (a b : Bool) (P : Type 0) → (a ≡ true → P) → (b ≡ true → P) → (a || b) ≡ true → P
 either_holds true b P first second h = first refl
 either_holds false b P first second h = second h
@@ -105,7 +105,7 @@ digits_in_front : (front digits text : List ℕ) → AreSpaced digits text → A
 digits_in_front [] digits text h = h
 digits_in_front (c ∷ front) digits text h = digit c (front ++ digits) (front ++ text) (digits_in_front front digits text h)
 
--- Four digits in front make a section hexadecimal.
+-- Four leading digits make a section hexadecimal.
 four_digits : (digits rest : List ℕ) → 4 ≤ length digits → AllPass is_digit digits → (is_hexadecimal (take 4 digits ++ rest) ≡ true)
     × BeginsSection (take 4 digits ++ rest)
 four_digits [] rest h pass = absurd (omega arith)

@@ -1,6 +1,6 @@
 -- The cipher of eexec sections and charstrings. Type 1 Font Format 1.1, chapter 7 (Encryption).
--- There a state r of 16 bits runs along: a cipher byte c gives the plain byte c xor (r / 256), and then
--- r becomes (c + r) * 52845 + 22719 modulo 65536. Here stands the sum that this comes to.
+-- There a state r of 16 bits is kept. A cipher byte c has the plain byte c xor (r / 256), and then r is
+-- (c + r) * 52845 + 22719 modulo 65536. Here is the sum that this comes to.
 use Rattle.std.specs.Prelude.{ℕ, zero, suc, ◌+◌, ◌-◌, ◌*◌, ◌/◌, ◌%◌, ◌^◌, bit_xor, List, length, map, take, slice_index}
 use Rattle.std.specs.List.{range_with_len}
 
@@ -22,19 +22,19 @@ abbrev pub sum_below : ℕ → (ℕ → ℕ) → ℕ
 sum_below zero f = 0
 sum_below (suc n) f = sum_below n f + f n
 
--- With a the multiplier and b the addend: a ^ i * start, and for each byte c at j below i, the front's
--- length, c * a ^ (i - j) + b * a ^ (i - 1 - j).
+-- With a the multiplier, b the addend and i the length of front:
+-- a ^ i * start, and for each byte c at j below i, c * a ^ (i - j) + b * a ^ (i - 1 - j).
 abbrev pub closed_sum : ℕ → ℕ → ℕ → List ℕ → ℕ
 closed_sum a b start front =
     a ^ length front * start
     + sum_below (length front)
     (λ j. slice_index front j * a ^ (length front - j) + b * a ^ (length front - 1 - j))
 
--- The state after a front of cipher bytes.
+-- The state after the cipher bytes of front.
 unfoldable pub state_after : ℕ → List ℕ → ℕ
 state_after start front = closed_sum multiplier addend start front % 65536
 
--- The plain byte of a cipher byte that stands after a front.
+-- The plain byte of a cipher byte after those of front.
 abbrev pub plain_byte : ℕ → List ℕ → ℕ → ℕ
 plain_byte start front byte = bit_xor byte (state_after start front / 256)
 

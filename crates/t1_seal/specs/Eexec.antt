@@ -1,4 +1,4 @@
--- The encrypted section of a font program, which stands behind the word `eexec`. Type 1 Font Format 1.1,
+-- The encrypted section of a font program, which follows the word `eexec`. Type 1 Font Format 1.1,
 -- chapter 7 (Encryption), eexec encryption.
 use Rattle.std.specs.Prelude.{ℕ, ◌+◌, ◌*◌, ◌==◌, ◌&&◌, ◌||◌, nat_lt, if◌then◌else◌, Bool, false, List, [], ◌∷◌, length, drop, unwrap_or, Result, Ok, Err}
 use Rattle.std.specs.List.{filter, prefix_len, take_while}
@@ -7,16 +7,16 @@ use Rattle.t1_seal.specs.declared.errors.SealError.{SealError}
 use Rattle.t1_seal.specs.declared.errors.SealError.TheVariants.{TooShort}
 use Rattle.t1_seal.specs.Cipher.{eexec_start, decrypted}
 
--- What may stand between the word and the section: blank, tab, carriage return, line feed.
+-- What may be between the word and the section: blank, tab, carriage return, line feed.
 unfoldable pub is_leading : ℕ → Bool
 is_leading c = c == 32 || c == 9 || c == 13 || c == 10
 
--- What may stand among the digits of a hexadecimal section: the blanks of font text, which are 0, tab,
+-- The blanks that may be among the digits of a hexadecimal section. They are those of font text: 0, tab,
 -- line feed, form feed, carriage return and blank.
 unfoldable pub is_blank : ℕ → Bool
 is_blank c = c == 0 || c == 9 || c == 10 || c == 12 || c == 13 || c == 32
 
--- The section, without what stands between it and the word.
+-- The section, without what is between it and the word.
 abbrev pub section_of : List ℕ → List ℕ
 section_of bytes = drop (prefix_len is_leading bytes) bytes
 
@@ -35,11 +35,11 @@ is_hexadecimal _ = false
 abbrev pub is_digit_or_blank : ℕ → Bool
 is_digit_or_blank c = is_digit c || is_blank c
 
--- The digits of the longest front of digits and blanks.
+-- The digits of the longest prefix of digits and blanks.
 abbrev pub digits_of : List ℕ → List ℕ
 digits_of section = filter is_digit (take_while is_digit_or_blank section)
 
--- The bytes that pairs of digits write; an odd last digit is left out.
+-- The bytes that pairs of digits write; an odd last digit is omitted.
 abbrev pub bytes_of_digits : List ℕ → List ℕ
 bytes_of_digits (high ∷ low ∷ rest) = (digit_value high * 16 + digit_value low) ∷ bytes_of_digits rest
 bytes_of_digits _ = []
@@ -52,6 +52,6 @@ cipher_bytes section = if is_hexadecimal section then bytes_of_digits (digits_of
 unfoldable pub opened : List ℕ → Result (List ℕ) SealError
 opened cipher = if nat_lt (length cipher) 4 then Err TooShort else Ok (drop 4 (decrypted eexec_start cipher))
 
--- The private text, from the bytes behind the word `eexec`.
+-- The private text, from the bytes after the word `eexec`.
 unfoldable pub private_text_of : List ℕ → Result (List ℕ) SealError
 private_text_of bytes = opened (cipher_bytes (section_of bytes))

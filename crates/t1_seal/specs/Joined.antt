@@ -1,4 +1,4 @@
--- What a `Joined` says, as the definition of joining gives it; and what a `Segment` says.
+-- What a `Joined` says, by the definition of joining; and what a `Segment` says.
 use Rattle.t1_seal.specs.declared.joined.Joined.{Joined}
 use Rattle.t1_seal.specs.Segments.{JoinedText}
 

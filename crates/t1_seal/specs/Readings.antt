@@ -1,5 +1,5 @@
--- What an answer says of what a definition reads: the same value, or the same refusal. Want of memory alone is free: it
--- says nothing of the bytes. The errors are any, of which `free` tells those that say nothing.
+-- How the result of a call agrees with what a definition reads: the same value, or the same refusal. Errors that say
+-- nothing of the bytes are free, as running out of memory is; `free` says which.
 use Rattle.std.specs.Prelude.{◌≡◌, Bool, true, false, Result, Ok, Err}
 
 -- Where it isn't free.

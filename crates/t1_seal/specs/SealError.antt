@@ -1,4 +1,4 @@
--- The refusals of this crate, and what its answers say of what a definition reads.
+-- The refusals of this crate, and how its results agree with what a definition reads.
 use Rattle.std.specs.Prelude.{Bool, true, false, Result}
 use Rattle.t1_seal.specs.declared.errors.SealError.{SealError}
 use Rattle.t1_seal.specs.declared.errors.SealError.TheVariants.{NotAFont, BadHeader, CutShort, Memory}

@@ -1,5 +1,5 @@
 -- How a PFB file is read: a row of segments. Adobe Technical Note 5040, the IBM PC format.
--- A segment is the byte 128 and a type: 1 text, 2 binary, 3 end. After types 1 and 2 stand a length of
+-- A segment is the byte 128 and a type: 1 text, 2 binary, 3 end. Types 1 and 2 are followed by a length of
 -- four bytes, the least significant first, and that many bytes, the payload.
 use Rattle.std.specs.Prelude.{ℕ, zero, suc, ◌==◌, ◌++◌, nat_lt, if◌then◌else◌, ◌||◌, ◌&&◌, not, Bool, true, false, List, [], ◌∷◌, length, take, drop, Result, Ok, Err}
 use Rattle.std.specs.Int.{from_le_bytes, w32}
@@ -35,7 +35,7 @@ segment_of [] = Ok nothing
 segment_of (x ∷ rest) = if x == 128 then segment_of_type rest else Err BadHeader
 
 -- What a whole row holds: its payloads in order, whether an end segment closes it, and whether bytes
--- stand after that segment.
+-- follow that segment.
 pub record Row : Type 0 where
   pub bytes : List ℕ
   pub end_segment : Bool

@@ -38,11 +38,10 @@ impl Cipher {
         }
     }
 
-    /// The plain byte of the next cipher byte c, c xor (r / 256), after which the state is
-    /// (c + r) * 52845 + 22719 modulo 65536.
+    /// Returns the plain byte of the next cipher byte c, c xor (r / 256).
+    /// The state becomes (c + r) * 52845 + 22719 modulo 65536.
     ///
-    /// `plain` and `state` say the same for whatever start and front of cipher bytes lead to the state
-    /// before.
+    /// `plain` and `state` hold for any start and any cipher bytes before that lead to the state r.
     pub fn next(&mut self, byte: u8) -> u8
         ensures byte { result ≡ bit_xor byte (self.old.r / 256) }
         ensures next { self.new.r ≡ next_state self.old.r byte }

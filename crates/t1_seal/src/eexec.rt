@@ -1,4 +1,4 @@
-//! The encrypted section behind the word `eexec`: Type 1 Font Format 1.1, chapter 7.
+//! The encrypted section after the word `eexec`: Type 1 Font Format 1.1, chapter 7.
 
 ghost use Rattle.std.specs.Prelude.{◌≡◌, ◌+◌, ◌*◌, true};
 ghost use Rattle.std.specs.Vec.{vec_items};
@@ -12,11 +12,11 @@ use std::alloc::Global;
 
 const FORM_FEED: u8 = 12;
 
-/// The private text of a font program, from the bytes behind its word `eexec`.
+/// Returns the private text of a font program, from the bytes after its word `eexec`.
 ///
-/// Blanks, tabs and line ends in front are skipped. A section whose first four bytes are hexadecimal
-/// digits is read as digits with blanks among them, up to the first other byte, and any other is binary
-/// to its end. The first four plain bytes are discarded; where there are fewer the answer is `TooShort`.
+/// Blanks, tabs and line ends at its start are skipped. If its first four bytes are hexadecimal digits,
+/// the section is digits with blanks among them, up to the first other byte. Any other section is binary,
+/// to its end. The first four plain bytes are discarded; if there are fewer, the error is `TooShort`.
 pub fn open_eexec(alloc: Global, bytes: &[u8]) -> Result<Vec<u8>, SealError>
     ensures { Reads vec_items result (private_text_of bytes.now) }
 {
@@ -94,7 +94,7 @@ fn open_hexadecimal(alloc: Global, section: &[u8]) -> Result<Vec<u8>, SealError>
     opening.finish()
 }
 
-/// Whether a byte may stand between the word and the section.
+/// Whether a byte may be between the word and the section.
 #[tactic(auto, unfolding(crate::specs::Eexec::is_leading))]
 fn is_leading_byte(byte: u8) -> bool
     ensures { result ≡ is_leading byte }

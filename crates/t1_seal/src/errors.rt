@@ -6,13 +6,13 @@ ghost use Rattle.t1_seal.specs.declared.errors.SealError.TheVariants.{Memory};
 use std::alloc::AllocError;
 use thiserror::Error;
 
-/// Why `join` or `open_eexec` gives nothing. Only want of memory depends on more than the bytes.
+/// Why `join` or `open_eexec` fails. `Memory` alone depends on more than the bytes.
 #[derive(Clone, Copy, Debug, PartialEq, Eq, Error)]
 pub enum SealError {
     /// The bytes begin neither with 128, as a PFB file does, nor with `%!`, as a PFA file does.
     #[error("not a PFA or PFB")]
     NotAFont,
-    /// Where a segment should begin stands another byte than 128, or 128 and an unknown type: `80 04`.
+    /// A segment should begin, but another byte than 128 is there, or 128 and an unknown type: `80 04`.
     #[error("bad segment header")]
     BadHeader,
     /// The bytes end inside a segment: `80 01 05 00 00 00 25 21`.

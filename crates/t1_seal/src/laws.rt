@@ -16,8 +16,8 @@ pub fn rows_of_segments()
     ensures written { ReadRowsAreWritten }
 {}
 
-/// A file written as segments, or one that begins with `%!`, is joined to what it says, and a file that
-/// is joined is so written.
+/// A file written as segments, or one that begins with `%!`, is joined to what it says. A file that is
+/// joined is so written.
 pub fn font_files()
     ensures pfb_read { JoinsWrittenPfb }
     ensures pfb_written { JoinedPfbIsWritten }
@@ -25,7 +25,7 @@ pub fn font_files()
     ensures pfa_written { JoinedPfaIsWritten }
 {}
 
-/// A PFB file with nothing behind its end segment that lost bytes at its end tells so: nothing is left, a
+/// A PFB file with nothing after its end segment that lost bytes at its end shows it: nothing is left, a
 /// segment is cut short, or it is joined without an end segment.
 pub fn cut_files_tell_of_loss()
     ensures { CutFilesTellOfLoss }

@@ -8,7 +8,7 @@ use crate::cipher::Cipher;
 use crate::errors::SealError;
 use std::alloc::{AllocError, Global};
 
-/// How many plain bytes stand in front of the private text.
+/// How many plain bytes are before the private text.
 pub(crate) const DISCARDED: usize = 4;
 
 /// The private text as far as its cipher bytes have come.

@@ -1,5 +1,5 @@
 -- Where a private text in the usual form (Type 1 Font Format, chapters 2, 5 and 6) breaks off, or goes
--- wrong: what stands in front of that place, all of it as it should be, and what is due there.
+-- wrong: what is before that place, all of it as it should be, and what is due there.
 use Rattle.std.specs.Prelude.{◌≡◌, ◌≤◌, ℕ, false, Some, List, [], ◌∷◌, ◌++◌, codes, flat_map, length, ◌-◌}
 use Rattle.std.specs.List.{All}
 use Rattle.t1_scan.specs.Spelling.{Plain, name, word}
@@ -20,7 +20,7 @@ pub record IsUnclosed (s : List ℕ) : Type 0 where
   pub more : are_blanks false s ≡ false
   pub none : (t : Plain) (rest : List ℕ) → BeginsWith s t rest → ⊥
 
--- What stands in front of the CharStrings.
+-- What is before the CharStrings.
 pub record Opening : Type 0 where
   pub front : List PrivateItem
   pub subrs : SubrsPart
@@ -137,8 +137,8 @@ head_pieces count =
     token (name (codes "CharStrings")) ∷ token count ∷ token (word (codes "dict"))
     ∷ token (word (codes "dup")) ∷ token (word (codes "begin")) ∷ []
 
--- What stands in front of the place: among the keys; in the head of the Subrs; among n Subrs or as many as
--- there are; in the head of the CharStrings; among the glyphs.
+-- What is before the place: among the keys; in the head of the Subrs; among n Subrs or all of them; in the
+-- head of the CharStrings; among the glyphs.
 pub data Begun : Type 0 where
   in_keys : Opening → KeyStart → Begun
   in_subrs : List PrivateItem → SubrsStart → Begun
@@ -173,7 +173,7 @@ pub record IsBegun (b : Begun) (s left : List ℕ) : Type 0 where
   pub parts : AreBegun b
   pub written : IsWritten s (begun_pieces b) left
 
--- The refusal where nothing is left. Behind a lone dup, which begins no Subr, the CharStrings are missing.
+-- The refusal where nothing is left. After a lone dup, which begins no Subr, the CharStrings are missing.
 abbrev pub missing_value : KeyStart → Refusal
 missing_value (key_name LenIv run) = BadLenIv
 missing_value _ = BadCharStrings

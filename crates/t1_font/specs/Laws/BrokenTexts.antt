@@ -23,7 +23,7 @@ abbrev pub UnclosedToken : Type 0
 UnclosedToken = (marks : Marks) (before : List Stated) (b : Begun) (s left : List ℕ) →
     StatesNoCharstring before → IsBegun b s left → IsUnclosed left → private_of marks before s ≡ Err Unclosed
 
--- Where fewer bytes are left than a charstring's count and the byte in front of them, the entry is broken.
+-- Where fewer bytes are left than a charstring's count and the byte before them, the entry is broken.
 abbrev pub SubrCutOff : Type 0
 SubrCutOff = (marks : Marks) (before : List Stated) (front : List PrivateItem) (n : ℕ) (count : Plain)
     (items : List SubrItem) (i len : ℕ) (number bytes read_word : Plain) (s mid left : List ℕ) →

@@ -14,7 +14,7 @@ abbrev pub flat : List ℕ → Body
 flat [] = nothing
 flat (b ∷ s) = part (byte b) (flat s)
 
--- A charstring behind its count, the word RD and a space.
+-- A charstring after its count, the word RD and a space.
 abbrev pub charstring : List ℕ → List ℕ → Charstring
 charstring count bytes =
     record { count = digits count; read_word = word (codes "RD"); separator = 32; bytes = bytes }

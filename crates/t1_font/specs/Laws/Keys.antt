@@ -24,7 +24,7 @@ TwiceIsAgain = (marks : Marks) (es : List Stated) →
     list_any (same_name name) (value_of marks es).glyphs_twice
     ≡ nat_lt 1 (count_by (same_name name) (keys_of (flat_map glyph_of es))))
 
--- No Subr's number, no glyph's name and no code stands twice.
+-- No Subr's number, no glyph's name and no code occurs twice.
 pub record HasDistinctKeys (v : FontValue) : Type 0 where
   pub subrs : IsDistinct nat_eq (keys_of v.subrs)
   pub glyphs : IsDistinct same_name (keys_of v.glyphs)

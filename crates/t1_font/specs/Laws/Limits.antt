@@ -23,7 +23,7 @@ ReadWithinLimits = (marks : Marks) (text private_text : List ℕ) (clear read : 
     clear_of marks text ≡ Ok clear → private_of marks clear.stated private_text ≡ Ok read →
     IsWithinLimits (value_of marks read.stated)
 
--- So is the font that the reader of a private text gives.
+-- So is the font that the reader of a private text returns.
 abbrev pub FontsWithinLimits : Type 0
 FontsWithinLimits = (marks : Marks) (text private_text : List ℕ) (clear : TextRead) (v : FontValue) →
     clear_of marks text ≡ Ok clear → font_read marks clear.stated private_text ≡ Ok v → IsWithinLimits v

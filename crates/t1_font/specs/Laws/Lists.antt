@@ -43,21 +43,21 @@ abbrev pub NumbersAlone : Type 0
 NumbersAlone = (s : List ℕ) (count : ℕ) (first : List ℤ) → list_value s ≡ numbers count first →
     (values : List ℤ) × IsReadAsNumbers s values × (count ≡ length values) × (first ≡ take kept_numbers values)
 
--- Another kind is exactly what isn't numbers alone: another token stands there, or one isn't closed.
+-- Another kind is exactly what isn't numbers alone: another token is there, or one isn't closed.
 abbrev pub OtherElse : Type 0
 OtherElse = (s : List ℕ) → (list_value s ≡ other) ↔ ((values : List ℤ) → IsReadAsNumbers s values → ⊥)
 
--- A token that is no number, wherever it stands among others, makes it another kind.
+-- A token that is no number, wherever it is among others, makes it another kind.
 abbrev pub OtherToken : Type 0
 OtherToken = (s : List ℕ) (ts : List Lexeme) → IsReadAs s ts → has_other_kind (kinds_of ts) ≡ true →
     list_value s ≡ other
 
--- What stands between the brackets decides.
+-- What is between the brackets decides.
 abbrev pub InsideDecides : Type 0
 InsideDecides = (body : Body) → BothAre body (list_value (body_text body))
 
--- A body is written with these tokens: blanks and comments may stand before, between and behind them,
--- and have to stand only where two tokens would run together.
+-- A body is written with these tokens. Blanks and comments may be before, between and after them, and
+-- must be only where two tokens would run together.
 pub record IsWrittenWith (body : Body) (ts : List Plain) : Type 0 where
   pub rest : List ℕ
   pub tokens : IsWritten (body_text body) (map token ts) rest

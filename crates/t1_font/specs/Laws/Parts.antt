@@ -1,4 +1,4 @@
--- The refusals of a font's file, by the first part that has one. Want of memory is none of them.
+-- The refusals of a font's file, by the first part that has one. Running out of memory is none of them.
 use Rattle.std.specs.Prelude.{◌≡◌, ℕ, List, Result, Ok, Err}
 use Rattle.t1_seal.specs.Segments.{JoinedText, joined_of}
 use Rattle.t1_seal.specs.Eexec.{private_text_of}
@@ -20,13 +20,13 @@ IsOfSegments unread = (e : SealError) × (IsSegmentFault e × (unread ≡ of_sea
 abbrev pub IsOfText : (Refusal → Type 0) → Unread → Type 0
 IsOfText kind unread = (e : Refusal) × (kind e × (unread ≡ of_refusal e))
 
--- Behind a clear text that was read: E06 where the encrypted section isn't opened, else of the private text:
+-- After a clear text that was read: E06 where the encrypted section isn't opened, else of the private text:
 -- E07, E08, E09, E10, E11 or E12.
 abbrev pub IsOfSection : Result (List ℕ) SealError → Unread → Type 0
 IsOfSection (Err e) unread = unread ≡ TooShort
 IsOfSection (Ok text) unread = IsOfText IsPrivateRefusal unread
 
--- Of the clear text: E04, E07 or E13; else of what is behind it.
+-- Of the clear text: E04, E07 or E13; else of what is after it.
 abbrev pub IsOfTexts : Result TextRead Refusal → Unread → Type 0
 IsOfTexts (Err e) unread = IsOfText IsClearRefusal unread
 IsOfTexts (Ok clear) unread = IsOfSection (private_text_of clear.rest) unread
@@ -39,6 +39,6 @@ IsOfJoined (Ok joined) unread = IsOfTexts (clear_of (marks_in joined) joined.byt
 abbrev pub RefusedByPart : Type 0
 RefusedByPart = (bytes : List ℕ) (unread : Unread) → font_in bytes ≡ Err unread → IsOfJoined (joined_of bytes) unread
 
--- No bytes are refused for want of memory.
+-- No bytes are refused as out of memory.
 abbrev pub NeverForMemory : Type 0
 NeverForMemory = (bytes : List ℕ) → font_in bytes ≡ Err Memory → ⊥

@@ -1,4 +1,4 @@
--- The refusals that the texts of a font can have, whatever their bytes. Want of memory is none of them.
+-- The refusals that the texts of a font can have, whatever their bytes. Running out of memory is none of them.
 use Rattle.std.specs.Prelude.{◌≡◌, ℕ, Err, List}
 use Rattle.t1_font.specs.declared.refusal.Refusal.{Refusal}
 use Rattle.t1_font.specs.declared.refusal.Refusal.TheVariants.{NoEexec, Unclosed, BadSubrs, BadCharStrings, BadLenIv, PastLimit, SecondSubrs, MultipleMaster}

@@ -13,7 +13,7 @@ use Rattle.t1_font.specs.ClearText.{begins_as_font}
 use Rattle.t1_font.specs.Laws.Written.{Piece, token, IsWritten, IsWhole, is_word_of}
 use Rattle.t1_font.specs.Bounds.{code_count}
 
--- What stands in a custom encoding: a group of dup, the code n as a number, a name and put; a token that
+-- What is in a custom encoding: a group of dup, the code n as a number, a name and put; a token that
 -- states nothing; the word dup alone. Names are given without their slash.
 pub data CodeItem : Type 0 where
   group : ℕ → Plain → List ℕ → CodeItem
@@ -37,22 +37,21 @@ pub record PassesInCodes (t : Plain) : Type 0 where
   pub not_dup : is_word_of (codes "dup") t ≡ false
   pub not_eexec : is_word_of (codes "eexec") t ≡ false
 
--- A number, a name and put, which a dup in front would make a group.
+-- A number, a name and put, which a dup before would make a group.
 abbrev pub ends_group : List CodeItem → Bool
 ends_group (between_groups a ∷ between_groups b ∷ between_groups c ∷ items) =
     is_number_kind (meant a) && (is_name_kind (meant b) && is_word_of (codes "put") c)
 ends_group _ = false
 
--- A group's code is whole, from 0 to 255; a lone dup stands in front of no such three tokens.
+-- A group's code is whole, from 0 to 255; a lone dup is before no such three tokens.
 abbrev pub AreCodeItems : List CodeItem → Type 0
 AreCodeItems [] = Unit {0}
 AreCodeItems (group n number run ∷ items) = IsWhole number n × (n ≤ code_count - 1) × AreCodeItems items
 AreCodeItems (between_groups t ∷ items) = PassesInCodes t × AreCodeItems items
 AreCodeItems (lone_dup ∷ items) = (ends_group items ≡ false) × AreCodeItems items
 
--- What stands in a clear text: a plain key k, by its name, with its value of one token; /Encoding
--- StandardEncoding; /Encoding, the number 256, array, what stands in the encoding, and def; another name;
--- another token.
+-- What is in a clear text: a plain key k, by its name, with its value of one token; /Encoding StandardEncoding;
+-- /Encoding, the number 256, array, what is in the encoding, and def; another name; another token.
 pub data ClearItem : Type 0 where
   key : Key → List ℕ → Plain → ClearItem
   standard : ClearItem

@@ -15,8 +15,8 @@ use Rattle.t1_font.specs.Laws.Written.{Piece, token, IsWritten, IsWhole, is_word
 use Rattle.t1_font.specs.Bounds.{most_glyphs, most_subrs, greatest_len_iv}
 use Rattle.t1_scan.specs.Numbers.{billion}
 
--- What stands before and behind the Subrs: a plain key k, by its name without the slash, with its value
--- of one token; another name; another token.
+-- What is before and after the Subrs: a plain key k, by its name without the slash, with its value of
+-- one token; another name; another token.
 pub data PrivateItem : Type 0 where
   key : Key → List ℕ → Plain → PrivateItem
   other_name : List ℕ → PrivateItem
@@ -53,13 +53,13 @@ IsPrivateItem (key k run value) = (private_key (47 ∷ run) ≡ Some k) × FitsK
 IsPrivateItem (other_name run) = IsOtherPrivateName run
 IsPrivateItem (other_token t) = is_name_kind (meant t) ≡ false
 
--- Behind the Subrs the word dup would begin one more.
+-- After the Subrs the word dup would begin one more.
 abbrev pub IsNoDup : PrivateItem → Type 0
 IsNoDup (key k run value) = Unit {0}
 IsNoDup (other_name run) = Unit {0}
 IsNoDup (other_token t) = is_word_of (codes "dup") t ≡ false
 
--- What stands among the Subrs: dup, the Subr's number n and its charstring; a word.
+-- What is among the Subrs: dup, the Subr's number n and its charstring; a word.
 pub data SubrItem : Type 0 where
   subr_entry : ℕ → Plain → Charstring → SubrItem
   between_subrs : Plain → SubrItem
@@ -78,7 +78,7 @@ IsSubrItem (subr_entry n number c) = IsWhole number n × (n ≤ most_subrs - 1) 
 IsSubrItem (between_subrs t) = (meant t ≡ Word) × (is_word_of (codes "dup") t ≡ false)
 
 -- The Subrs: none; /Subrs and an array with nothing but blanks and comments in it; /Subrs, the count n,
--- the word array, and what stands among them.
+-- the word array, and what is among them.
 pub data SubrsPart : Type 0 where
   no_subrs : SubrsPart
   empty_subrs : Body → SubrsPart
@@ -101,7 +101,7 @@ IsSubrsPart no_subrs = Unit {0}
 IsSubrsPart (empty_subrs body) = are_blanks false (body_text body) ≡ true
 IsSubrsPart (some_subrs n count items) = IsWhole count n × (n ≤ most_subrs) × All IsSubrItem items
 
--- What stands among the glyphs: a name and a charstring; a word.
+-- What is among the glyphs: a name and a charstring; a word.
 pub data GlyphItem : Type 0 where
   glyph_entry : List ℕ → Charstring → GlyphItem
   between_glyphs : Plain → GlyphItem
@@ -123,8 +123,8 @@ abbrev pub IsGlyphItem : GlyphItem → Type 0
 IsGlyphItem (glyph_entry run c) = IsCharstring c
 IsGlyphItem (between_glyphs t) = (meant t ≡ Word) × (is_word_of (codes "end") t ≡ false)
 
--- A private text: what stands before the Subrs, the Subrs, what stands behind them, the count of the
--- CharStrings, and what stands among the glyphs.
+-- A private text: what is before the Subrs, the Subrs, what is after them, the count of the
+-- CharStrings, and what is among the glyphs.
 pub record PrivateParts : Type 0 where
   pub front : List PrivateItem
   pub subrs : SubrsPart
@@ -172,7 +172,7 @@ pub record IsUsualPrivate (p : PrivateParts) (s rest : List ℕ) : Type 0 where
   pub parts : IsUsualParts p
   pub written : IsWritten s (all_private_pieces p) rest
 
--- What was stated before has no Subrs and no glyph, as it is behind a clear text.
+-- What was stated before has no Subrs and no glyph, as it is after a clear text.
 pub record StatesNoCharstring (before : List Stated) : Type 0 where
   pub no_size : flat_map size_of before ≡ []
   pub no_glyph : flat_map glyph_of before ≡ []

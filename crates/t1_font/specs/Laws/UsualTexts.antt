@@ -1,4 +1,4 @@
--- Texts in the usual form are read as what they state, and what stands between entries changes nothing.
+-- Texts in the usual form are read as what they state, and what is between entries changes nothing.
 use Rattle.std.specs.Prelude.{◌≡◌, ℕ, false, true, Some, None, Ok, List, ◌++◌, codes}
 use Rattle.t1_scan.specs.declared.token.Kind.TheVariants.{Word}
 use Rattle.t1_scan.specs.Texts.{is_gap}
@@ -36,7 +36,7 @@ ReadsUsualFonts = (marks : Marks) (items : List ClearItem) (p : PrivateParts) (s
     ≡ Ok (value_of marks (all_clear_states items ++ all_private_states p))
 
 -- Clear texts in the usual form with the same entries leave the same value, whatever blanks, comments
--- and tokens stand between.
+-- and tokens are between.
 abbrev pub AdditionsInClear : Type 0
 AdditionsInClear = (marks : Marks) (items more : List ClearItem) (s rest text end : List ℕ) →
     IsUsualClear items s rest → IsUsualClear more text end → clear_entries items ≡ clear_entries more →
@@ -48,8 +48,8 @@ AdditionsInPrivate = (marks : Marks) (before : List Stated) (p q : PrivateParts)
     StatesNoCharstring before → IsUsualPrivate p s rest → IsUsualPrivate q text end →
     private_entries p ≡ private_entries q → font_read marks before s ≡ font_read marks before text
 
--- Blanks, and comments with the end of their line, in front of the rest of any text, in the clear text
--- and in the private text.
+-- Blanks, and comments with the end of their line, before the rest of any text: in the clear text and
+-- in the private one.
 abbrev pub BlanksPass : Type 0
 BlanksPass = (marks : Marks) (before : List Stated) (mode : ClearMode) (gap s : List ℕ) →
     is_gap false gap ≡ true →
@@ -62,7 +62,7 @@ BlanksPassInPrivate = (marks : Marks) (before : List Stated) (mode : PrivateMode
     stated_in private_turn BadCharStrings marks before mode (gap ++ s)
     ≡ stated_in private_turn BadCharStrings marks before mode s
 
--- A word other than eexec, with the blanks and comments in front of it, in the clear text.
+-- A word other than eexec, with the blanks and comments before it, in the clear text.
 abbrev pub WordsPass : Type 0
 WordsPass = (marks : Marks) (before : List Stated) (s : List ℕ) (t : Found) →
     token_of s ≡ Ok (Some t) → t.kind ≡ Word → same_name t.text (codes "eexec") ≡ false →

@@ -7,14 +7,13 @@ use Rattle.t1_font.specs.Tokens.{spells}
 use Rattle.t1_font.specs.Bounds.{longest_charstring}
 use Rattle.t1_scan.specs.Numbers.{billion}
 
--- A piece of a text: a token, behind any blanks and comments; or one byte and then these bytes,
--- whatever they are.
+-- A piece of a text: a token, after any blanks and comments; or one byte and then these bytes, whatever they are.
 pub data Piece : Type 0 where
   token : Plain → Piece
   raw : ℕ → List ℕ → Piece
 
 -- A text is written with these pieces, one after another, and then the rest follows. Each token is in
--- its plain form and ends where the next piece begins, by the rules of tokens: a blank has to stand
+-- its plain form and ends where the next piece begins, by the rules of tokens: a blank must be
 -- between only where two would run together.
 abbrev pub IsWritten : List ℕ → List Piece → List ℕ → Type 0
 IsWritten s [] rest = s ≡ rest
@@ -40,7 +39,7 @@ pub record Charstring : Type 0 where
 abbrev pub charstring_pieces : Charstring → List Piece
 charstring_pieces c = token c.count ∷ token c.read_word ∷ raw c.separator c.bytes ∷ []
 
--- The count is right and at most 65,535, and any word reads the bytes. The byte behind it is any that
+-- The count is right and at most 65,535, and any word reads the bytes. The byte after it is any that
 -- isn't regular, since a word of regular bytes ends only there.
 pub record IsCharstring (c : Charstring) : Type 0 where
   pub counted : IsWhole c.count (length c.bytes)

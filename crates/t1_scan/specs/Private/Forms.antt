@@ -9,12 +9,12 @@ use Rattle.t1_scan.specs.Bytes.{is_decimal_digit}
 use Rattle.t1_scan.specs.Lengths.{run_len}
 use Rattle.t1_scan.specs.Tokens.{Found}
 
--- how many bytes a token in front takes and what it is, as what was read; None where it isn't closed
+-- how many bytes the first token takes and what it is, as what was read; None where it isn't closed
 abbrev pub begun : List ℕ → Option (ℕ × Kind) → Result (Option Found) ScanError
 begun s None = Err Unclosed
 begun s (Some p) = Ok (Some (record { kind = p.1; text = take p.0 s; rest = drop p.0 s }))
 
--- a run in front of so many decimal digits and of nothing else, which spell this
+-- a text begins with a run of so many decimal digits and nothing else, which spell this
 pub record AreDigits (s : List ℕ) (n value : ℕ) : Type 0 where
   pub run : n ≡ run_len s
   pub digits : list_all is_decimal_digit (take n s) ≡ true

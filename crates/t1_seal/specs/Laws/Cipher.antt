@@ -6,7 +6,7 @@ use Rattle.t1_seal.specs.Cipher.{multiplier, addend, state_after, decrypted}
 abbrev pub next_state : ℕ → ℕ → ℕ
 next_state r c = ((c + r) * multiplier + addend) % 65536
 
--- Enciphering: a plain byte p gives the cipher byte p xor (r / 256), and the state runs on by that byte.
+-- Enciphering: a plain byte p has the cipher byte p xor (r / 256), and the state runs on by that byte.
 abbrev pub encrypted : ℕ → List ℕ → List ℕ
 encrypted r [] = []
 encrypted r (p ∷ rest) = bit_xor p (r / 256) ∷ encrypted (next_state r (bit_xor p (r / 256))) rest
@@ -15,7 +15,7 @@ encrypted r (p ∷ rest) = bit_xor p (r / 256) ∷ encrypted (next_state r (bit_
 abbrev pub StartsAtTheStart : Type 0
 StartsAtTheStart = (start : ℕ) → start < 65536 → state_after start [] ≡ start
 
--- The sum over a front and one more byte is the state that runs along.
+-- The sum over the bytes before and one more byte is the state that runs along.
 abbrev pub StateRunsAlong : Type 0
 StateRunsAlong =
     (start : ℕ) (front : List ℕ) (c : ℕ)

@@ -1,4 +1,4 @@
--- Laws of the encrypted section's definition: how cipher bytes are written behind the word `eexec`, in
+-- Laws of the encrypted section's definition: how cipher bytes are written after the word `eexec`, in
 -- hexadecimal or as they are, and that they open. Type 1 Font Format 1.1, chapter 7 (Encryption).
 use Rattle.std.specs.Prelude.{◌≡◌, ℕ, ◌/◌, ◌%◌, ◌<◌, ◌≤◌, ◌++◌, true, false, List, [], ◌∷◌, length, drop, take, Some, Ok, Err}
 use Rattle.std.specs.List.{AllPass}
@@ -7,8 +7,7 @@ use Rattle.t1_seal.specs.declared.errors.SealError.TheVariants.{TooShort}
 use Rattle.t1_seal.specs.Cipher.{eexec_start, decrypted}
 use Rattle.t1_seal.specs.Eexec.{is_leading, is_blank, is_digit, is_hexadecimal, private_text_of}
 
--- The digits write the bytes: two digits a byte, the high one first, in either case; an odd digit may
--- stand at the end.
+-- The digits write the bytes: two digits a byte, the high one first, in either case. An odd digit may be at the end.
 pub data AreWritten : List ℕ → List ℕ → Type 0 where
   no_digits : AreWritten [] []
   odd_digit : (digit : ℕ) → is_digit digit ≡ true → AreWritten [] (digit ∷ [])
@@ -23,7 +22,7 @@ pub data AreSpaced : List ℕ → List ℕ → Type 0 where
   blank : (c : ℕ) (digits text : List ℕ) → is_blank c ≡ true → AreSpaced digits text
       → AreSpaced digits (c ∷ text)
 
--- The digits have ended here: nothing stands here, or a byte that is neither a digit nor a blank.
+-- The digits have ended here: nothing follows, or a byte that is neither a digit nor a blank.
 abbrev pub EndsDigits : List ℕ → Type 0
 EndsDigits [] = Unit {0}
 EndsDigits (c ∷ rest) = (is_digit c ≡ false) × (is_blank c ≡ false)
@@ -42,12 +41,12 @@ pub record IsHexadecimal (bytes cipher : List ℕ) : Type 0 where
   pub ends : EndsDigits tail
   pub is : bytes ≡ leading ++ (take 4 digits ++ (spaced ++ tail))
 
--- The first byte is none that may stand between the word and the section.
+-- The first byte is none that may be between the word and the section.
 abbrev pub BeginsSection : List ℕ → Type 0
 BeginsSection [] = Unit {0}
 BeginsSection (c ∷ rest) = is_leading c ≡ false
 
--- Cipher bytes that stand as they are.
+-- Cipher bytes as they are.
 pub record IsBinary (bytes cipher : List ℕ) : Type 0 where
   pub leading : List ℕ
   pub leads : AllPass is_leading leading

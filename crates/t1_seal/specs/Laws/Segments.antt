@@ -26,7 +26,7 @@ pub record Piece : Type 0 where
   pub kind : Kind
   pub payload : List ℕ
 
--- How a row closes: where the file ends, or by an end segment, after which these bytes stand.
+-- How a row closes: where the file ends, or by an end segment, which these bytes follow.
 pub data Closing : Type 0 where
   by_file_end : Closing
   by_end_segment : List ℕ → Closing
@@ -68,7 +68,7 @@ IsByte n = n < 256
 abbrev pub AreBytes : List ℕ → Type 0
 AreBytes bytes = All IsByte bytes
 
--- At least one segment stands there.
+-- There is at least one segment.
 abbrev pub HasSegment : List Piece → Closing → Type 0
 HasSegment [] by_file_end = ⊥
 HasSegment [] (by_end_segment rest) = Unit {0}
@@ -134,14 +134,14 @@ JoinedPfaIsWritten =
     (bytes : List ℕ) (joined : JoinedText) → joined_of bytes ≡ Ok joined → joined.pfb ≡ false
     → IsPfa bytes joined
 
--- What is left of a PFB file tells that bytes were lost: nothing is left, a segment is cut short, or no
+-- What is left of a PFB file shows that bytes were lost: nothing is left, a segment is cut short, or no
 -- end segment closes the row.
 abbrev pub TellsOfLoss : List ℕ → Result JoinedText SealError → Type 0
 TellsOfLoss [] joined = joined ≡ Err NotAFont
 TellsOfLoss (x ∷ left) (Err e) = e ≡ CutShort
 TellsOfLoss (x ∷ left) (Ok joined) = (joined.pfb ≡ true) × (joined.end_segment ≡ false)
 
--- A PFB file with nothing behind its end segment tells of any bytes that are lost at its end.
+-- A PFB file with nothing after its end segment shows if bytes are lost at its end.
 abbrev pub CutFilesTellOfLoss : Type 0
 CutFilesTellOfLoss =
     (left lost : List ℕ) (whole : JoinedText) → 0 < length lost → joined_of (left ++ lost) ≡ Ok whole

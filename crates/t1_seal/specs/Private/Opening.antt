@@ -3,8 +3,8 @@ use Rattle.std.specs.Prelude.{◌≡◌, ◌<◌, ◌≤◌, ◌-◌, ℕ, List,
 use Rattle.t1_seal.specs.declared.opening.Opening.{Opening}
 use Rattle.t1_seal.specs.Cipher.{eexec_start, decrypted, state_after}
 
--- The cipher bytes of front were taken: the cipher stands after them, up to four of them were discarded,
--- and the text is what the others open to.
+-- The cipher bytes of front were taken: the cipher's state is the one after them, up to four of them
+-- were discarded, and the text is what the others open to.
 pub record HasTaken (opening : Opening) (front : List ℕ) : Type 0 where
   pub cipher : opening.cipher.r ≡ state_after eexec_start front
   pub discarded : opening.discarded ≡ min 4 (length front)
