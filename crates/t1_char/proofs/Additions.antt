@@ -29,7 +29,7 @@ goes_out most front run steps step finished s room h =
 take_short : (most : ℕ) (xs : List StepView) → length (take most xs) < most → take most xs ≡ xs
 take_short most xs short = take_all most xs (omega (arith, length-take most xs))
 
--- What follows a run stands behind its steps.
+-- What follows a run is after its steps.
 pub and_then_front : (run : Run) (next : State → Run) → (more : List StepView) × ((and_then run next).steps ≡ run.steps ++ more)
 and_then_front run next = by_finished run.finished run.steps next run.state
   where

@@ -129,7 +129,7 @@ all_numbers limit steps n (suc taken) way passes =
               subst (IsPassed limit steps) same number.0
         ]
 
--- How a machine was asked where no line is passed.
+-- How a machine was called where no line is passed.
 pub asked_numbers : (numbers : Numbers) (what : Passing) (limit : ℕ) (steps : List StepView) (n calls : ℕ) (answer : TurnValue) (way : Way) → is_lines what ≡ false
     → (numbers ≡ numbers_of.Told → what ≡ passing.Told)
     → IsAskedFarBehind what limit steps n calls answer way → IsAskedBehind numbers limit steps n calls answer

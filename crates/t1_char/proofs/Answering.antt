@@ -1,4 +1,4 @@
--- What a machine answers, call by call.
+-- What a machine returns, call by call.
 use Rattle.std.proofs.Common.{◌≡◌, ℕ, ◌+◌, ◌<◌, ◌≤◌, true, true≢false, inl, inr, List, length, length-take, take, ap, sym, ◌∙◌, arith}
 use Rattle.std.proofs.lemmas.Bool.{cases_lt}
 use Rattle.std.proofs.lemmas.Option.{slice_get_cases, slice_get_within}
@@ -19,7 +19,7 @@ ends_are_told limit steps few = turn_past limit steps (length steps) few (omega 
 pub limits_are_told : LimitsAreTold
 limits_are_told limit steps step is = turn_above limit steps limit (omega arith) ∙ ap (limit_or_end limit) is
 
--- Past what is told the count stays, and so does the answer.
+-- After the first end or limit the count stays, and so does the result.
 stays : (limit : ℕ) (steps : List StepView) (n : ℕ) → length (take limit steps) < n
     → (turn_at limit steps (counted_after limit steps n) ≡ turn_at limit steps n)
     × (counted_after limit steps (counted_after limit steps n) ≡ counted_after limit steps n)
@@ -27,7 +27,7 @@ stays limit steps n past =
     let count = count_stays limit steps n past in
     (ap (turn_at limit steps) count, ap (counted_after limit steps) count)
 
--- At the first end or limit all steps up to the limit were told.
+-- At the first end or limit all steps up to the limit were returned.
 at_last : (limit : ℕ) (steps : List StepView) (n : ℕ) → n ≤ length (take limit steps) → is_last_answer (turn_at limit steps n) ≡ true
     → n ≡ length (take limit steps)
 at_last limit steps n near last =
@@ -41,7 +41,7 @@ at_last limit steps n near last =
       ]
     ]
 
--- One call further on the answer is the same.
+-- The next call returns the same.
 same_behind : (limit : ℕ) (steps : List StepView) (n : ℕ) → n ≡ length (take limit steps) → turn_at limit steps (n + 1) ≡ turn_at limit steps n
 same_behind limit steps n at =
     elim (cases_lt limit (length steps)) [

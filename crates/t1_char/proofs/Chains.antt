@@ -1,4 +1,4 @@
--- Each step stands where the effect of the one before has led.
+-- The path and the state of each step are those that the effect of the one before leads to.
 use Rattle.std.proofs.Common.{◌≡◌, ℕ, zero, suc, ◌+◌, ◌-◌, ◌<◌, nat_lt, Bool, true, false, cond, Option, Some, None, List, [], ◌∷◌, ◌++◌, length, length-append, take, drop, refl, ap, sym, subst, ◌∙◌, arith}
 use Rattle.std.proofs.Math.Seq.{take-append_seam}
 use Rattle.std.proofs.lemmas.Bool.{ltb-true}
@@ -71,7 +71,7 @@ called_below _ named depth s k code e = cc
 
 -- ---- chains of steps
 
--- Each stands where the one before has led, and the last leads to this path and state.
+-- The same, and the last leads to this path and state.
 abbrev Chain : FontValue → List ℕ → State → List StepView → List ℕ → State → Type 0
 Chain font path s [] last left = (path ≡ last) × (s ≡ left)
 Chain font path s (step ∷ steps) last left =

@@ -1,4 +1,4 @@
--- Charstrings that are too short, for the random bytes in front or for their last token.
+-- Charstrings that are too short, for the leading random bytes or for their last token.
 use Rattle.std.proofs.Common.{◌≡◌, ◌≢◌, ℕ, ℤ, ◌/◌, zero, suc, pos, neg_ℤ, ◌-ℤ◌, ◌+◌, ◌-◌, ◌*◌, ◌<◌, ◌≤◌, ◌++◌, ◌==◌, inl, inr, Bool, true, false, cond, nat_lt, eqb, Option, Some, None, List, [], ◌∷◌, append-nil, length, length-append, length-drop, drop, refl, ap, sym, subst, ◌∙◌, lt-ltb, le-ltb, arith}
 use Rattle.std.proofs.lemmas.List.{append_assoc}
 use Rattle.t1_seal.specs.Cipher.{charstring_start, decrypted}

@@ -21,7 +21,7 @@ unfolding decrypted
 decrypted_is start code small =
     deciphered_behind start [] code ∙ ap (λ r. deciphered (Some r) code) (starts_at_the_start start small)
 
--- Without a cipher the bytes stand as they are.
+-- Without a cipher the bytes stay as they are.
 pub deciphered_plain : (code : List ℕ) → deciphered None code ≡ code
 unfolding deciphered
 deciphered_plain [] = refl

@@ -1,4 +1,4 @@
--- What was enciphered behind random bytes is read as what stands behind these.
+-- What was enciphered after random bytes is read as what follows these.
 use Rattle.std.proofs.Common.{◌≡◌, ℕ, ◌≤◌, cond, ◌++◌, List, [], ◌∷◌, length, drop, length-append, ap, sym, ◌∙◌, lit<, le-ltb, arith}
 use Rattle.std.proofs.Math.Seq.{drop-append_seam}
 use Rattle.t1_seal.specs.Cipher.{charstring_start, decrypted}

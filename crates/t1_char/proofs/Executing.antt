@@ -34,7 +34,7 @@ pub effect_at_depth : (f : Frames) (depth : ℕ) → depth ≡ length f.step.pat
     f.step.token (named_of f.named) (length f.step.path.items) (state_in f)
 effect_at_depth f depth is = ap (λ d. effect_of f.step.token (named_of f.named) d (state_in f)) is
 
--- What stands behind a token that goes on or calls.
+-- What follows a token that goes on or calls.
 left_open : (f : Frames) (x : State) (action : Action) → IsInner action → effect x action ≡ effect_of f.step.token (named_of f.named) (length f.step.path.items)
     (state_in f) → left_behind f ≡ tokens_left f.current
 left_open f x action inner is =
@@ -106,7 +106,7 @@ executed_finishes font f x ready is =
     ap (λ run. run.steps) (rest_finishes font f.step.path.items f.step.token (left_behind f) (callers_of f.step.path.items 0 f.callers.items) (state_in f) x
     (ready_effect font f x finishes ready is))
 
--- A machine starts before a step that does nothing, and behind it are all steps of the glyph.
+-- A machine starts before a step that does nothing, and after it are all steps of the glyph.
 abbrev StandsBefore : FontValue → List StepView → List ℕ → List Cursor → List ℤ → List ℤ → List CharToken → Type 0
 StandsBefore font steps path callers stack waiting left =
     (rest_of font (frame path (Cut ∷ left) ∷ callers_of path 0 callers) (state_of stack waiting)).steps ≡ step_at font path Cut left
@@ -130,13 +130,13 @@ stands_before font glyph path callers stack waiting left no_path no_callers no_s
     (subst (λ zs. StandsBefore font all [] [] [] zs left) (sym no_waiting)
     (subst (λ ts. StandsBefore font all [] [] [] [] ts) (sym code) (before_all font glyph)))))
 
--- The step was executed, and the run goes on with what stands behind it.
+-- The step was executed, and the run goes on with what follows it.
 pub executed_plain : (font : FontValue) (f : Frames) (stack : List ℤ) → IsReady font f → IsPlainEffect f.step.token f.step.stack stack
     → steps_from font f ≡ of_left font f (state_of stack f.waiting.items) (tokens_left f.current)
 executed_plain font f stack ready plain =
     executed_goes font f (state_of stack f.waiting.items) ready (plain (named_of f.named) (length f.step.path.items) f.waiting.items)
 
--- A number stood behind it, and was executed.
+-- A number followed it, and was executed.
 pub goes_over_one : (font : FontValue) (f new : Frames) → PassesNumber f.current new.current f.step.stack new.step.stack →
     new.step.path.items ≡ f.step.path.items → new.callers.items ≡ f.callers.items → new.waiting.items ≡ f.waiting.items →
     GoesOverOne font f new

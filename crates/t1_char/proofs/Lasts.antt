@@ -1,4 +1,4 @@
--- What follows a token, told from the first two tokens behind it.
+-- Whether a token is its charstring's last, from the first two tokens after it.
 use Rattle.std.proofs.Common.{◌≡◌, ℕ, ◌<◌, nat_lt, Bool, true, false, ◌&&◌, List, [], ◌∷◌, refl, ap, ◌∙◌, cond, lt-ltb}
 use Rattle.t1_char.specs.declared.token.CharToken.{CharToken}
 use Rattle.t1_char.specs.Steps.{is_end, is_return, is_last}
@@ -14,7 +14,7 @@ no_more depth t [] goes_on no_return = goes_on
 no_more depth t (u ∷ []) goes_on no_return = ap (λ b. b && is_end u) no_return
 no_more depth t (u ∷ v ∷ rest) goes_on no_return = refl
 
--- The token behind: it is the end; it isn't, in the glyph itself; it is neither the end nor a return.
+-- The next token: it is the end; it isn't, in the glyph itself; it is neither the end nor a return.
 pub last_at_end : (depth : ℕ) (token t : CharToken) (left rest : List CharToken) → is_end token ≡ false → left ≡ t ∷ behind_token t rest → is_end t ≡ true
     → is_last depth (behind_token token left) ≡ true
 last_at_end depth token t left rest goes_on is ends =
@@ -32,7 +32,7 @@ last_before_other depth token t left rest goes_on is more no_return =
     ap (λ b. is_last depth (cond b [] left)) goes_on ∙ ap (is_last depth) is
     ∙ no_more depth t (behind_token t rest) more (and_false (nat_lt 0 depth) (is_return t) no_return)
 
--- A return in a Subr, and what stands behind it.
+-- A return in a Subr, and what follows it.
 two_tokens : (depth : ℕ) (t u : CharToken) (rest : List CharToken) → is_end t ≡ false → (nat_lt 0 depth && is_return t) ≡ true
     → is_last depth (t ∷ u ∷ behind_token u rest) ≡ is_end u
 two_tokens depth t u rest more returns = two_by (is_end u) refl rest

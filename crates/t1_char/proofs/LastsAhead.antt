@@ -48,7 +48,7 @@ form_opens v =
     (either_opens (nat_lt v 251) _ _ (λ w. refl)
     (either_opens (nat_lt v 255) _ _ (λ w. refl) tt)))
 
--- Some token stands behind bytes.
+-- Some token follows bytes.
 abbrev IsMore : List CharToken → Type 0
 IsMore [] = ⊥
 IsMore (t ∷ ts) = Unit {0}

@@ -124,7 +124,7 @@ listing_calls begun from old left token number code behind new start path steps 
           (subst (λ r. IsExpanded new.most (steps_in new) r steps finished s) same added);
     }
 
--- What is told of a step that was taken, where its action is known.
+-- What holds of a step that was taken, where its action is known.
 pub takes_as : (old : Listing) (left : Cursor) (token : CharToken) (a b : Action) (behind : Cursor) (new : Listing) → a ≡ b →
     tokens_left left ≡ token ∷ behind_token token (tokens_left behind) →
     steps_in new ≡ steps_in old ++ step_taken old token behind ∷ [] →
@@ -160,7 +160,7 @@ call_finishes begun from old behind new most short called =
     let count : length (steps_in new) ≡ length new.steps.items = length-map new.steps.items step_view in
     called_finished begun.most (steps_in begun) (run_from begun from) (steps_in new) (state_in new) (behind_call old behind) (omega arith) called
 
--- A call left room, and the run goes on behind it.
+-- A call left room, and the run goes on after it.
 pub call_goes_on : (begun : Listing) (from : Cursor) (old : Listing) (behind : Cursor) (new : Listing) → new.most ≡ begun.most
     → length new.steps.items < new.most → AreNumbered new.steps.items →
     new.path.items ≡ old.path.items → new.font.now ≡ old.font.now → old.path.items ≡ begun.path.items → old.font.now ≡ begun.font.now →

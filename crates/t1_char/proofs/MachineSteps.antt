@@ -1,4 +1,4 @@
--- What a call of a machine answers, over its count and the steps of its glyph.
+-- What a call of a machine returns, over its count and the steps of its glyph.
 use Rattle.std.proofs.Common.{◌≡◌, ℕ, zero, suc, ◌+◌, ◌-◌, ◌<◌, ◌≤◌, Bool, true, false, cond, nat_lt, None, Some, List, [], ◌∷◌, ◌++◌, length, take, drop, slice_get, length-take, refl, ap, sym, subst, ◌∙◌, lt-ltb, le-ltb, arith}
 use Rattle.t1_font.specs.Fonts.{FontValue}
 use Rattle.t1_char.specs.declared.frames.Frames.{Frames}
@@ -26,7 +26,7 @@ use Rattle.t1_char.specs.Private.Plain.{GoesOverOne}
 use Rattle.t1_char.proofs.Additions.{and_then_front}
 use Rattle.t1_char.proofs.TurnTests.{turn_by_limit}
 
--- The step of the first token stands first, whatever it does.
+-- The step of the first token is first, whatever it does.
 led_by : (step : StepView) (s : State) (action : Action) (behind : State → Run) (called : ℕ → List ℕ → State → Run) → (rest : List StepView)
     × ((led_to step s action behind called).steps ≡ step ∷ rest)
 led_by step s goes behind called = ((behind s).steps, refl)
@@ -92,7 +92,7 @@ is_within zero (_ ∷ steps) rest step is = omega arith
 is_within (suc n) [] rest step is = absurd (empty_is step rest is)
 is_within (suc n) (_ ∷ steps) rest step is = omega (arith, is_within n steps rest step is)
 
--- Answers and counts.
+-- Results and counts.
 pub turn_below : (limit : ℕ) (steps : List StepView) (n : ℕ) → n < limit → turn_at limit steps n ≡ step_or_end n (slice_get steps n)
 turn_below limit steps n below = turn_by_limit limit steps n
     ∙ ap (λ b. cond b (step_or_end n (slice_get steps n)) (limit_or_end limit (slice_get steps limit))) (lt-ltb n limit below)
@@ -101,7 +101,7 @@ pub turn_above : (limit : ℕ) (steps : List StepView) (n : ℕ) → limit ≤ n
 turn_above limit steps n above = turn_by_limit limit steps n
     ∙ ap (λ b. cond b (step_or_end n (slice_get steps n)) (limit_or_end limit (slice_get steps limit))) (le-ltb n limit above)
 
--- Past all steps the end is answered.
+-- After all steps the end is returned.
 pub turn_past : (limit : ℕ) (steps : List StepView) (n : ℕ) → length steps ≤ limit → length steps ≤ n → turn_at limit steps n ≡ ended
 turn_past limit steps n few past = turn_by_limit limit steps n ∙ by_place (nat_lt n limit)
   where
@@ -115,7 +115,7 @@ count_on limit steps n near = sym (ap (λ b. cond b n (n + 1)) (le-ltb (length (
 pub count_stays : (limit : ℕ) (steps : List StepView) (n : ℕ) → length (take limit steps) < n → counted_after limit steps n ≡ n
 count_stays limit steps n past = ap (λ b. cond b n (n + 1)) (lt-ltb (length (take limit steps)) n past)
 
--- What a call leaves of a machine that stood behind n steps.
+-- What a call leaves of a machine that was after n steps.
 pub record Answers (limit : ℕ) (steps : List StepView) (font : FontValue) (n : ℕ) (answer : Answer) (f : Frames) : Type 0 where
   pub stands : IsAt limit steps font (n + 1) answer f
   pub turn : answer_view answer (step_value f.step) ≡ turn_at limit steps n
@@ -140,7 +140,7 @@ answers_end limit steps font n f new h over =
       count = count_on limit steps n (omega (arith, few, h.near, h.within, length-take limit steps));
     }
 
--- The step in hand was executed.
+-- The current step was executed.
 pub behind_executed : (limit : ℕ) (steps : List StepView) (font : FontValue) (n : ℕ) (f new : Frames) → GoesOnFrom limit steps font n f
     → steps_from font f ≡ step_here font f ∷ steps_behind font new → length new.step.path.items ≡ length new.callers.items
     → IsBehind limit steps font n new
@@ -193,7 +193,7 @@ answers_limit limit steps font n f new h next past =
       count = count_on limit steps n (omega (arith, at, h.within, length-take limit steps));
     }
 
--- A number was gone over.
+-- A number was passed.
 pub record GoneOver (limit : ℕ) (steps : List StepView) (font : FontValue) (n : ℕ) (new : Frames) : Type 0 where
   pub passed : IsPassed limit steps n
   pub behind : IsBehind limit steps font (n + 1) new
@@ -220,7 +220,7 @@ gone_over limit steps font n f new h over near =
       };
     }
 
--- What was asked, by what the answer leaves.
+-- How a machine was called, by what the result leaves.
 pub asked_far_none : (what : Passing) (limit : ℕ) (steps : List StepView) (font : FontValue) (n : ℕ) (answer : Answer) (f : Frames)
     → Answers limit steps font n answer f → IsAskedFarBehind what limit steps n (n + 1) (answer_view answer (step_value f.step)) no_way
 asked_far_none what limit steps font n answer f answers =
@@ -246,7 +246,7 @@ asked_far what limit steps font n before taken way f answer new is over told ans
       counted = answers.count ∙ ap (counted_after limit steps) is;
     }
 
--- The step in hand was executed, steps were gone over, and the next was read.
+-- The current step was executed, steps were passed, and the next was read.
 pub record HasRead (lines : Bool) (limit : ℕ) (steps : List StepView) (font : FontValue) (n before : ℕ) (way : Way) (new : Frames) : Type 0 where
   pub taken : ℕ
   pub taken_is : before ≡ n + taken

@@ -1,4 +1,4 @@
--- Where 12 and 6 stand side by side.
+-- Where 12 and 6 are side by side.
 use Rattle.std.proofs.Common.{◌≡◌, ◌==◌, ◌&&◌, ◌||◌, ◌∙◌, Bool, true, false, ℕ, List, [], ◌∷◌, ap, sym, refl}
 use Rattle.t1_char.specs.Private.Seacs.{begins_with_6, has_pair}
 

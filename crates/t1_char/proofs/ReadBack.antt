@@ -9,7 +9,7 @@ use Rattle.t1_char.specs.Commands.{row_of, command_of, escaped_of}
 use Rattle.t1_char.specs.Tokens.{plain_code, escaped_code, signed_of}
 use Rattle.t1_char.specs.Laws.Written.{IsWritten, small, positive, negative, long, command, unknown, unknown_escape}
 
--- A token with the bytes that write it, and those behind it.
+-- A token with the bytes that write it, and those after it.
 pub record IsSpelled (v : ℕ) (rest : List ℕ) (token : CharToken) (left : List ℕ) : Type 0 where
   pub front : List ℕ
   pub written : IsWritten token front

@@ -49,7 +49,7 @@ then_again run f next = by_finished run.finished run.steps run.state
     by_finished true steps s = refl
     by_finished false steps s = joined steps (f s).finished (f s).steps (f s).state
 
--- The glyph's own frame stands for the whole expansion.
+-- The glyph's own frame is the whole expansion.
 pub rest_of_one : (font : FontValue) (path : List ℕ) (ts : List CharToken) (s : State) → rest_of font (frame path ts ∷ []) s ≡ expansion font
     (most_calls - length path) path ts s
 unfolding rest_of

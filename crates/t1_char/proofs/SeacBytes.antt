@@ -1,4 +1,4 @@
--- Where no 12 stands in front of a 6, no token is seac.
+-- Where no 12 is directly before a 6, no token is seac.
 use Rattle.std.proofs.Common.{◌≡◌, ℕ, zero, suc, ◌==◌, ◌&&◌, ◌||◌, ◌+◌, ◌-◌, ◌*◌, pos, neg_ℤ, ◌-ℤ◌, Bool, true, false, cond, Option, Some, None, nat_lt, List, [], ◌∷◌, refl, sym, ap, ◌∙◌}
 use Rattle.std.specs.List.{list_any}
 use Rattle.std.proofs.lemmas.Bool.{or_parts}

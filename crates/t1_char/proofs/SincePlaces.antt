@@ -1,10 +1,10 @@
--- What came since, told by places.
+-- What came since, by places.
 use Rattle.std.proofs.Common.{◌≡◌, ℕ, zero, suc, ◌<◌, ◌&&◌, ◌||◌, not, Bool, true, false, Some, List, [], ◌∷◌, ◌++◌, slice_get, take, refl, ap, sym, ◌∙◌, append_assoc, append-nil, arith}
 use Rattle.t1_char.specs.Steps.{StepView}
 use Rattle.t1_char.specs.Since.{Test, any_from, since_from}
 use Rattle.t1_char.specs.Laws.Since.{SinceIsByPlaces}
 
--- At this place of the steps that follow the front stands such a step.
+-- At this place of the steps that follow those of front is such a step.
 record IsBehind (e : Test) (front ss : List StepView) (place : ℕ) : Type 0 where
   step : StepView
   there : slice_get ss place ≡ Some step
@@ -69,7 +69,7 @@ none_later e front ss none = by_any (any_from e front ss) refl
     by_any true is = let told = any_told e front ss is in absurd (none told.0 told.1)
     by_any false is = is
 
--- In both directions, behind a front.
+-- In both directions, after some steps.
 after_rest : (a b : Test) (front ss : List StepView) (s : StepView) (rest : IsSinceBehind a b (front ++ s ∷ []) ss) (k : ℕ) → suc rest.place < k
     → IsBehind b front (s ∷ ss) k → ⊥
 after_rest a b front ss s rest zero lt at = absurd (omega arith)

@@ -1,4 +1,4 @@
--- The tokens behind some bytes are the tokens of what follows these.
+-- The tokens after some bytes are the tokens of what follows these.
 use Rattle.std.proofs.Common.{◌≡◌, ℕ, zero, suc, List, [], ◌∷◌, drop, refl}
 use Rattle.t1_char.specs.Tokens.{tokens_behind, tokens_of}
 

@@ -1,4 +1,4 @@
--- What a step tells: that it finds its Subr, and that it is the last of its charstring.
+-- What a step says: that it finds its Subr, and that it is the last of its charstring.
 use Rattle.std.proofs.Common.{◌≡◌, ◌≢◌, ◌⊎◌, inl, inr, ℕ, ℤ, suc, pos, ◌-◌, ◌<◌, ◌&&◌, nat_lt, Bool, true, false, cond, Option, Some, None, is_some, List, [], ◌∷◌, ◌++◌, length, length-append, take, slice_index_or, refl, ap, sym, ◌∙◌, lt-ltb, arith}
 use Rattle.std.proofs.lemmas.Bool.{ltb-true}
 use Rattle.std.proofs.lemmas.Grind.{common_steps}

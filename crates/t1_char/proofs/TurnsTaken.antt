@@ -1,4 +1,4 @@
--- What the answers of a machine tell of the steps up to the limit.
+-- What the results of a machine say of the steps up to the limit.
 use Rattle.std.proofs.Common.{◌≡◌, ℕ, zero, suc, ◌+◌, ◌-◌, ◌<◌, ◌≤◌, Bool, true, false, true≢false, cond, nat_lt, Option, None, Some, is_some, List, [], ◌∷◌, ◌++◌, length, take, slice_get, length-take, refl, ap, sym, ◌∙◌, lt-ltb, le-ltb, arith}
 use Rattle.std.proofs.lemmas.Bool.{ltb-true, ltb-false}
 use Rattle.std.proofs.lemmas.List.{take_all, take_more, get_or-take}
@@ -13,7 +13,7 @@ use Rattle.t1_char.specs.AnswerViews.{answer_view}
 use Rattle.t1_char.specs.Turns.{MachineView, TurnValue, stepped, ended, limited, step_of_number, step_or_end, limit_or_end, turn_at, counted_after}
 use Rattle.t1_char.proofs.TurnTests.{turn_by_limit}
 
--- The next step was answered.
+-- The next step was returned.
 pub record IsStepped (limit : ℕ) (steps : List StepView) (n : ℕ) (answer : NumberedStep) : Type 0 where
   pub within : n < length (take limit steps)
   pub there : slice_get steps n ≡ Some answer.step
@@ -69,7 +69,7 @@ stepped_there limit steps n below there =
     ∙ ap (λ b. is_step (cond b (step_or_end n (slice_get steps n)) (limit_or_end limit (slice_get steps limit)))) (lt-ltb n limit below)
     ∙ some_there n steps n there
 
--- No step was answered: all up to the limit were.
+-- No step was returned, since all up to the limit were before.
 pub turns_over : (limit : ℕ) (steps : List StepView) (n : ℕ) → is_step (turn_at limit steps n) ≡ false → length (take limit steps) ≤ n
 turns_over limit steps n no_step = by_place (nat_lt n (length (take limit steps))) refl
   where
@@ -111,7 +111,7 @@ pub machine_counted : (edition : Edition) (m : MachineView) (font : FontValue) (
     → counted ≡ m.counted + 1
 machine_counted edition m font glyph answer counted same stepped_to is = is ∙ same_count edition m font glyph same ∙ stepped_to.counted
 
--- An answer that isn't a step: all steps were taken.
+-- A result that isn't a step: all steps were taken.
 no_step : (answer : Answer) (step : NumberedStep) → (answer ≡ answers.Step → ⊥) → is_step (answer_view answer step) ≡ false
 no_step answers.Step step other = absurd (other refl)
 no_step answers.Ended step other = refl
@@ -122,7 +122,7 @@ pub answered_over : (limit : ℕ) (steps : List StepView) (n : ℕ) (answer : An
 answered_over limit steps n answer step other is =
     take_all n (take limit steps) (turns_over limit steps n (ap is_step (sym is) ∙ no_step answer step other))
 
--- The machine behind so many calls.
+-- The machine after so many calls.
 abbrev pub behind : MachineView → ℕ → MachineView
 behind m calls = record { font = m.font; glyph = m.glyph; edition = m.edition; counted = calls; step = m.step }
 
@@ -134,7 +134,7 @@ executes_behind edition m font glyph calls same = record { edition_is = same.edi
 pub fewer_left : (limit : ℕ) (steps : List StepView) (n counted : ℕ) → counted ≡ n + 1 → n < length (take limit steps) → limit + 1 - counted < limit + 1 - n
 fewer_left limit steps n counted is within = omega (arith, is, within, length-take limit steps)
 
--- The end was answered: there are no steps past the limit, and all were answered.
+-- The end was returned: there are no steps past the limit, and all were returned.
 pub record IsOver (limit : ℕ) (steps : List StepView) (n : ℕ) : Type 0 where
   pub few : length steps ≤ limit
   pub all : length steps ≤ n
@@ -169,7 +169,7 @@ ended_is limit steps n is = by_place (nat_lt n limit) (slice_get steps n) (slice
         record { few = few; all = omega (arith, few, ltb-false n limit above) }
     by_place false o (Some step) above get past is = absurd (true≢false (ap is_end is))
 
--- The limit was answered: it is the first step past it.
+-- The limit was returned: it is the first step past it.
 pub record IsLimited (limit : ℕ) (steps : List StepView) (n : ℕ) (answer : NumberedStep) : Type 0 where
   pub past : limit ≤ n
   pub within : limit < length steps

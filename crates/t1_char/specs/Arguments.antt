@@ -1,4 +1,4 @@
--- What commands and OtherSubrs are given: Type 1 Font Format 1.1, chapters 6 and 8.
+-- What commands and OtherSubrs take: Type 1 Font Format 1.1, chapters 6 and 8.
 use Rattle.std.specs.Prelude.{ℕ, ℤ, pos, ◌+◌, ◌*◌, ◌&&◌, nat_le, if◌then◌else◌, Bool, true, false, List, length, slice_index_or}
 use Rattle.std.specs.Ordering.{int_eq}
 use Rattle.t1_char.specs.declared.argument.OthersubrCall.{OthersubrCall}
@@ -29,7 +29,7 @@ calls_othersubr number count step =
     is_callothersubr step.token && nat_le (count + 2) (length step.stack)
     && is_whole number (from_top step.stack 0) && is_whole count (from_top step.stack 1)
 
--- The OtherSubrs of flex and hint replacement, each with its own count: 1 starts a flex, 2 gives it a
+-- The OtherSubrs of flex and hint replacement, each with its own count: 1 starts a flex, 2 adds a
 -- point, 0 ends it, 3 replaces hints.
 abbrev pub is_flex_start : StepView → Bool
 is_flex_start step = calls_othersubr 1 0 step

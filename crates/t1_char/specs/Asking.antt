@@ -1,4 +1,4 @@
--- A machine that is asked for a step, and may go over the numbers that come next.
+-- A call of a machine for a step, which may pass the numbers that come next.
 use Rattle.std.specs.Prelude.{◌≡◌, ℕ, ◌≤◌, List}
 use Rattle.t1_char.specs.declared.machine.Numbers.{Numbers}
 use Rattle.t1_char.specs.declared.machine.Numbers.TheVariants.{Told}
@@ -7,8 +7,8 @@ use Rattle.t1_char.specs.Passing.{ArePassed}
 use Rattle.t1_char.specs.Steps.{StepView, steps_of}
 use Rattle.t1_char.specs.Turns.{MachineView, TurnValue, counted_after, turn_at}
 
--- Asked behind n calls, it went over numbers until it stood behind some steps, over none where each is told; the answer
--- is that to the call behind so many calls, and the calls are then one more than these.
+-- Called after n calls, it passed numbers until it was after some steps, and none where each number is returned. It
+-- then returns what the call after so many calls returns, and the calls are one more than these.
 pub record IsAskedBehind (numbers : Numbers) (limit : ℕ) (steps : List StepView) (n calls : ℕ) (answer : TurnValue) : Type 0 where
   pub before : ℕ
   pub least : n ≤ before

@@ -85,8 +85,8 @@ call_of (Some subr) depth = if nat_lt depth most_calls then calls subr.number su
 abbrev pub back_or : Action → ℕ → Action
 back_or otherwise depth = if nat_lt 0 depth then returns else otherwise
 
--- The results of an OtherSubr: 12 and 13 have none; 0, the end of a flex, gives the end point of its
--- three arguments; every other gives its arguments.
+-- The results of an OtherSubr: 12 and 13 have none; 0, the end of a flex, has the end point of its
+-- three arguments; every other has its arguments.
 abbrev pub results : Option ℕ → List ℤ → List ℤ
 results None arguments = arguments
 results (Some other) arguments =

@@ -104,7 +104,8 @@ abbrev pub is_lines : Passing → Bool
 is_lines passing.Lines = true
 is_lines _ = false
 
--- After n calls a machine passes some steps. Its answer is that to the call after these, and counts as one call more.
+-- After n calls a machine passes some steps. It returns what the call after these returns, and this counts as one
+-- call more.
 pub record IsAskedFarBehind (what : Passing) (limit : ℕ) (steps : List StepView) (n calls : ℕ) (answer : TurnValue) (way : Way) : Type 0 where
   pub taken : ℕ
   pub passed : PassesSteps (is_lines what) limit steps n taken way
@@ -116,7 +117,7 @@ abbrev pub IsAskedFar : Passing → MachineView → MachineView → TurnValue �
 IsAskedFar what old new answer way =
     IsAskedFarBehind what (limit_of old.edition) (steps_of old.font old.glyph) old.counted new.counted answer way
 
--- An argument is at most so long; and the way is at most as long as so many steps can lead.
+-- How long an argument is at most, and by how much one step moves a way at most.
 abbrev pub argument_reach : ℕ
 argument_reach = 2 ^ 31
 

@@ -1,4 +1,4 @@
--- What holds of a machine when the step that it lends is given back: how the logic of loans says it.
+-- What holds of a machine when the reference to its step is dropped, in the logic of loans.
 use Rattle.std.specs.Prelude.{[], ⊤}
 use Rattle.std.specs.Borrow.{follows_so, Fml, MutBor}
 use mathlib.Core.Option.{none}

@@ -1,4 +1,4 @@
--- What came before a step. A test is asked of the steps before, and the step.
+-- What came before a step. A test takes the steps before, and the step.
 use Rattle.std.specs.Prelude.{ℕ, ◌&&◌, ◌||◌, not, if◌then◌else◌, Bool, false, Option, Some, None, List, [], ◌∷◌, ◌++◌, reverse, slice_get}
 use Rattle.std.specs.List.{list_any}
 use Rattle.t1_char.specs.Steps.{StepView}
@@ -6,7 +6,7 @@ use Rattle.t1_char.specs.Steps.{StepView}
 abbrev pub Test : Type 0
 Test = List StepView → StepView → Bool
 
--- One of the steps is such a step; the front are the steps in front of them.
+-- One of the steps is such a step; front has the steps before them.
 abbrev pub any_from : Test → List StepView → List StepView → Bool
 any_from e front [] = false
 any_from e front (s ∷ ss) = e front s || any_from e (front ++ s ∷ []) ss
@@ -15,7 +15,7 @@ any_from e front (s ∷ ss) = e front s || any_from e (front ++ s ∷ []) ss
 abbrev pub any_so_far : Test → List StepView → Bool
 any_so_far e steps = any_from e [] steps
 
--- There is an a among the steps, and no b after it; the front are the steps in front of them.
+-- There is an a among the steps, and no b after it; front has the steps before them.
 abbrev pub since_from : Test → Test → List StepView → List StepView → Bool
 since_from a b front [] = false
 since_from a b front (s ∷ ss) =

@@ -1,5 +1,5 @@
--- The steps of a glyph: its tokens one after another, as they are executed, with those of a Subr behind
--- the step that calls it. Type 1 Font Format 1.1, chapters 6 and 8.
+-- The steps of a glyph: its tokens one after another, as they are executed, with those of a Subr after the step that
+-- calls it. Type 1 Font Format 1.1, chapters 6 and 8.
 use Rattle.std.specs.Prelude.{ℕ, zero, suc, ℤ, ◌+◌, ◌&&◌, nat_lt, if◌then◌else◌, Bool, true, false, Option, Some, None, is_some, List, [], ◌∷◌, ◌++◌, length, take}
 use Rattle.t1_font.specs.Fonts.{FontValue}
 use Rattle.t1_char.specs.declared.command.Command.TheVariants.{Callsubr, Return}
@@ -93,7 +93,7 @@ after front run = record { steps = front ++ run.steps; finished = run.finished; 
 abbrev pub and_then : Run → (State → Run) → Run
 and_then run next = if run.finished then run else after run.steps (next run.state)
 
--- A step and what its effect leads to: the tokens behind it, or a Subr.
+-- A step and what its effect leads to: the tokens after it, or a Subr.
 abbrev pub led_to : StepView → State → Action → (State → Run) → (ℕ → List ℕ → State → Run) → Run
 led_to step s goes behind called = first step (behind s)
 led_to step s (calls number code) behind called = first step (called number code s)

@@ -1,6 +1,6 @@
--- The tokens of a charstring. Type 1 Font Format 1.1, chapter 6 (Charstring Number Encoding, Charstring
--- Command Encoding); in front of them stand random bytes, as many as lenIV says, and all is enciphered,
--- unless lenIV is -1: chapter 7 (Charstring Encryption).
+-- The tokens of a charstring. Type 1 Font Format 1.1, chapter 6 (Charstring Number Encoding, Charstring Command
+-- Encoding). Before them come as many random bytes as lenIV says, and all is enciphered, unless lenIV is -1: chapter 7
+-- (Charstring Encryption).
 use Rattle.std.specs.Prelude.{ℕ, zero, suc, ℤ, pos, negsuc, neg_ℤ, ◌+◌, ◌-◌, ◌*◌, ◌^◌, ◌-ℤ◌, ◌==◌, nat_lt, if◌then◌else◌, Option, Some, None, List, [], ◌∷◌, length, drop}
 use Rattle.t1_seal.specs.Cipher.{charstring_start, decrypted}
 use Rattle.t1_char.specs.declared.command.Command.{Command as Commands}
@@ -17,8 +17,7 @@ abbrev pub escaped_code : ℕ → Option Commands → CharToken
 escaped_code w None = Unknown12 w
 escaped_code w (Some command) = Command command
 
--- How a token goes on behind its first byte: it is whole; one byte more makes it; it is a number of
--- four bytes more.
+-- How a token goes on after its first byte: it is whole; one byte more makes it; it is a number of four bytes more.
 pub data Form : Type 0 where
   whole : CharToken → Form
   two : (ℕ → CharToken) → Form
@@ -37,7 +36,7 @@ form_of v =
 abbrev pub signed_of : ℕ → ℤ
 signed_of n = if nat_lt n (2 ^ 31) then pos n else pos n -ℤ pos (2 ^ 32)
 
--- What the bytes behind the first make of a token; it is cut where they break off.
+-- What the bytes after the first make of a token; it is cut where they break off.
 abbrev pub with_second : (ℕ → CharToken) → List ℕ → CharToken
 with_second token [] = Cut
 with_second token (w ∷ _) = token w
@@ -63,7 +62,7 @@ token_at v rest = completed (form_of v) rest
 abbrev pub more_of : ℕ → ℕ
 more_of v = more_in (form_of v)
 
--- The tokens behind so many bytes; End stands behind the last.
+-- The tokens after so many bytes; End follows the last.
 unfoldable pub tokens_behind : ℕ → List ℕ → List CharToken
 tokens_behind n [] = End ∷ []
 tokens_behind (suc n) (b ∷ rest) = tokens_behind n rest
@@ -83,6 +82,6 @@ tokens_by (Some random) code =
     if nat_lt (length code) random then Short ∷ End ∷ []
     else tokens_of (drop random (decrypted charstring_start code))
 
--- The tokens of a charstring as it stands in the font, by lenIV.
+-- The tokens of a charstring as it is in the font, by lenIV.
 unfoldable pub charstring_tokens : ℤ → List ℕ → List CharToken
 charstring_tokens len_iv code = tokens_by (random_of len_iv) code

@@ -7,7 +7,7 @@ ghost use Rattle.t1_char.specs.Private.Actions.{work_view};
 use crate::command::Command;
 use crate::subr::Subr;
 
-/// How the run goes on behind a token.
+/// How the run goes on after a token.
 #[derive(Clone, Copy)]
 pub(crate) enum Action<'a> {
     /// With the next token.

@@ -1,4 +1,4 @@
-//! What commands and OtherSubrs are given: Type 1 Font Format 1.1, chapters 6 and 8.
+//! What commands and OtherSubrs take: Type 1 Font Format 1.1, chapters 6 and 8.
 
 ghost use Rattle.std.specs.Prelude.{◌≡◌};
 ghost use Rattle.t1_char.specs.Arguments.{argument, calls_othersubr, is_flex_end, is_flex_point, is_flex_start, is_hint_replacement, is_whole, othersubr_call};
@@ -9,14 +9,14 @@ use crate::numbers::{GREATEST, UNIT};
 use crate::step::Step;
 use crate::token::is_callothersubr;
 
-/// Which of the OtherSubrs of flex and hint replacement a step calls, with the count that it wants.
+/// Which of the OtherSubrs of flex and hint replacement a step calls, with the count that it needs.
 #[derive(Clone, Copy, Debug, PartialEq, Eq)]
 pub enum OthersubrCall {
     /// 0 with three arguments: a flex ends.
     FlexEnd,
     /// 1 with none: a flex starts.
     FlexStart,
-    /// 2 with none: a flex is given its next point.
+    /// 2 with none: a flex gets its next point.
     FlexPoint,
     /// 3 with one: the hints are replaced.
     HintReplacement,
@@ -53,7 +53,7 @@ impl Step {
         self.calls_othersubr(1, 0)
     }
 
-    /// Whether the step gives a flex its next point.
+    /// Whether the step adds the next point to a flex.
     pub fn gives_flex_point(&self) -> bool
         ensures { result ≡ is_flex_point (step_view self.now) }
     {

@@ -17,7 +17,7 @@ pub(crate) fn code_at<'a>(font: &'a Font<'a>, glyph: usize) -> &'a [u8]
     }
 }
 
-/// A cursor at the start of one of the font's charstrings, behind its random bytes.
+/// A cursor at the start of one of the font's charstrings, after its random bytes.
 pub(crate) fn cursor_at<'a>(font: &'a Font<'a>, code: &'a [u8]) -> Cursor<'a>
     ensures { tokens_left result ≡ tokens_in font.now code.entry.now }
 {

@@ -17,8 +17,8 @@ ghost use Rattle.t1_char.specs.declared.token.CharToken.TheVariants.{Cut, End, N
 use crate::token::{CharToken, escaped_token, joined, pair, plain_token, signed};
 use t1_seal::Cipher;
 
-/// What is left of a charstring: bytes of its slice, the cipher's state, and whether it is shorter than
-/// lenIV, which is told first.
+/// What is left of a charstring: bytes of its slice, the cipher's state, and whether it is shorter than lenIV, which is
+/// the first token.
 #[derive(Clone, Copy, Default)]
 pub(crate) struct Cursor<'a> {
     pub(crate) left: &'a [u8],
@@ -90,7 +90,7 @@ impl<'a> Ahead<'a> {
         }
     }
 
-    /// The number of its first byte and the byte behind it.
+    /// The number of its first byte and the byte after it.
     #[inline(always)]
     pub(crate) fn number_behind(&mut self, first: u8) -> Option<i64>
         ensures token { IfSome result (λ number. token_at first (bytes_left (cursor_of self.old)) ≡ Number number) }
@@ -153,7 +153,7 @@ impl<'a> Cursor<'a> {
         }
     }
 
-    /// A cursor at the start of a charstring, behind its random bytes.
+    /// A cursor at the start of a charstring, after its random bytes.
     #[tactic(auto, using(crate::proofs::Deciphering::deciphered_plain), unfolding(crate::specs::Tokens::charstring_tokens, crate::specs::Tokens::tokens_behind))]
     pub(crate) fn start(code: &'a [u8], len_iv: i8) -> Cursor<'a>
         ensures { tokens_left result ≡ charstring_tokens len_iv code.entry.now }
@@ -173,7 +173,7 @@ impl<'a> Cursor<'a> {
         }
     }
 
-    /// A cursor of an encrypted charstring, behind so many bytes.
+    /// A cursor of an encrypted charstring, after so many bytes.
     fn behind(code: &'a [u8], random: usize) -> Cursor<'a>
         ensures bytes { bytes_left result ≡ drop random (decrypted charstring_start code.entry.now) }
         ensures short { result.short ≡ false }
@@ -221,7 +221,7 @@ impl<'a> Cursor<'a> {
         }
     }
 
-    /// The token of its first byte and the bytes behind it.
+    /// The token of its first byte and the bytes after it.
     #[inline(always)]
     fn token_behind(&mut self, first: u8) -> CharToken
         ensures token { result ≡ token_at first (bytes_left self.old) }
@@ -277,7 +277,7 @@ impl<'a> Cursor<'a> {
         self.has_pair()
     }
 
-    /// Whether 12 and 6 stand side by side in what is left.
+    /// Whether 12 and 6 are side by side in what is left.
     #[inline(always)]
     fn has_pair(&self) -> bool
         ensures { result ≡ has_pair 0 (bytes_left self.now) }
@@ -339,7 +339,7 @@ impl<'a> Cursor<'a> {
     }
 }
 
-/// How many random bytes stand in front; none where charstrings aren't encrypted.
+/// How many random bytes come first; none where charstrings aren't encrypted.
 fn random_bytes(len_iv: i8) -> Option<usize>
     ensures { result ≡ random_of len_iv }
 {

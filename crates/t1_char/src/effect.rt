@@ -56,7 +56,7 @@ pub(crate) fn apply<'a>(
     }
 }
 
-/// Executes a number or a command that empties the stack and does no more; tells whether it did.
+/// Executes a number or a command that empties the stack and does no more; returns whether it did.
 #[inline(always)]
 pub(crate) fn apply_plain(stack: &mut Stack, token: CharToken) -> bool
     ensures plain { result ≡ true → IsPlainEffect token stack.old stack.new }
@@ -174,7 +174,7 @@ fn call_othersubr(stack: &mut Stack, waiting: &mut Waiting)
     }
 }
 
-/// Gives an OtherSubr its arguments, so many, and keeps its results.
+/// Passes so many arguments to an OtherSubr, and keeps its results.
 fn hand_over(stack: &mut Stack, waiting: &mut Waiting, number: Option<u32>, count: usize)
     requires there { count ≤ length stack.old }
     requires room { length stack.old ≤ most_results }

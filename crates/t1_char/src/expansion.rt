@@ -59,7 +59,7 @@ fn expand_to<'a>(
     Ok(listing.steps)
 }
 
-/// The steps that were listed, and the state behind them.
+/// The steps that were listed, and the state after them.
 #[derive(Drop)]
 struct Listing<'a> {
     font: &'a Font<'a>,
@@ -71,7 +71,7 @@ struct Listing<'a> {
     waiting: Waiting,
 }
 
-/// What a step did, and the tokens behind it.
+/// What a step did, and the tokens after it.
 #[derive(Clone, Copy)]
 struct Taken<'a> {
     token: CharToken,
@@ -80,7 +80,7 @@ struct Taken<'a> {
 }
 
 impl<'a> Listing<'a> {
-    /// Lists the steps of these tokens, and tells whether they finish the glyph.
+    /// Lists the steps of these tokens, and returns whether they finish the glyph.
     fn list(&mut self, cursor: Cursor<'a>) -> Result<bool, AllocError>
         requires room { length self.old.steps.items ≤ self.old.most }
         requires numbered { AreNumbered self.old.steps.items }

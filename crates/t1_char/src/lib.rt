@@ -1,10 +1,10 @@
 //! Charstrings of Type 1 fonts: their tokens, and their steps, one for each token that is executed.
 //!
-//! - [`tokens`] turns a charstring, as it stands in the font, into its tokens: numbers, commands, bytes
-//!   that are no command, and how it ends. Adobe Type 1 Font Format 1.1, chapter 6, and chapter 7 for
-//!   the cipher and the random bytes in front.
-//! - [`expand`] executes a glyph and lists its steps, those of the Subrs that it calls among them, each
-//!   with its number, its path of Subrs, and the stack before it: the same, chapters 6 and 8.
+//! - [`tokens`] turns a charstring, as it is in the font, into its tokens: numbers, commands, bytes that
+//!   are no command, and how it ends. Adobe Type 1 Font Format 1.1, chapter 6; and chapter 7 for the
+//!   cipher and the leading random bytes.
+//! - [`expand`] executes a glyph and lists its steps, also those of the Subrs that it calls. Each has its
+//!   number, its path of Subrs, and the stack before it: the same, chapters 6 and 8.
 //! - [`Machine`] executes a glyph one step a call: the same steps, without a list, and without memory.
 //! - [`command_name`] is what the standard calls a command; [`Command::arguments`] counts what it takes.
 //!
@@ -12,13 +12,12 @@
 //!
 //! What is promised, for all bytes and all fonts:
 //!
-//! - the tokens are those that the definitions in `specs/` read, and the steps those of the expansion,
-//!   up to the first past the limit of the [`Edition`], numbered from 1; want of memory alone says
-//!   nothing of them;
-//! - a machine answers just these, each at its call, then the end or the limit, however often it is asked;
-//! - a faulty charstring is executed too: a 25th number is dropped, an eleventh call isn't made, a
-//!   division by zero gives 0, a command that isn't known empties the stack;
-//! - no index, sum, cast or divisor goes wrong, calls nest ten deep at most, and each call returns.
+//! - The tokens are those that the definitions in `specs/` read. The steps are those of the expansion, up to the
+//!   first past the limit of the [`Edition`], numbered from 1. Running out of memory alone says nothing of them.
+//! - A machine returns just these, one a call, then the end or the limit, however often it is called.
+//! - A faulty charstring is executed too: a 25th number is dropped, an eleventh call isn't made, a
+//!   division by zero results in 0, a command that isn't known empties the stack.
+//! - No index, sum, cast or divisor goes wrong, calls nest ten deep at most, and each call returns.
 //!
 //! Charstrings are deciphered as they are read; no plain copy is made.
 //!

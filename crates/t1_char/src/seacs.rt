@@ -1,4 +1,4 @@
-//! Whether charstrings of a font have a seac, told by their bytes: Type 1 Font Format 1.1, chapter 6.
+//! Whether charstrings of a font have a seac, by their bytes: Type 1 Font Format 1.1, chapter 6.
 
 ghost use Rattle.std.specs.List.{list_any};
 ghost use Rattle.std.specs.Prelude.{◌≡◌, true, false};

@@ -100,8 +100,8 @@ impl Stack {
         }
     }
 
-    /// Takes the numbers that come next, as long as there is room, and with `lines` the lines and curves after them: `room`
-    /// steps at most.
+    /// Takes the numbers that come next while there is room, and with `lines` also the lines and curves after them:
+    /// `room` steps at most.
     #[inline(always)]
     pub(crate) fn take_lines<'a>(&mut self, ahead: Ahead<'a>, room: u32, lines: bool) -> Lines<'a>
         requires room { most_numbers ≤ room }

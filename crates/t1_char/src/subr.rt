@@ -4,6 +4,6 @@
 #[derive(Clone, Copy)]
 pub(crate) struct Subr<'a> {
     pub(crate) number: u32,
-    /// Its charstring, as it stands in the font.
+    /// Its charstring, as it is in the font.
     pub(crate) code: &'a [u8],
 }

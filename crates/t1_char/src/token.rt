@@ -20,7 +20,7 @@ pub enum CharToken {
     Unknown(u8),
     /// 12 and a byte that make no command.
     Unknown12(u8),
-    /// The bytes break off inside a number or behind 12.
+    /// The bytes break off inside a number or after 12.
     Cut,
     /// The charstring has fewer bytes than lenIV says.
     Short,

@@ -8,8 +8,8 @@ use crate::cursor::Cursor;
 use crate::token::CharToken;
 use std::alloc::{AllocError, Global};
 
-/// The tokens of a charstring as it stands in the font, where lenIV is that: -1 for charstrings that
-/// aren't encrypted, else how many random bytes stand in front, at most 64.
+/// The tokens of a charstring as it is in the font, by lenIV: -1 for charstrings that aren't
+/// encrypted, else how many random bytes come first, at most 64.
 pub fn tokens(alloc: Global, code: &[u8], len_iv: i8) -> Result<Vec<CharToken>, AllocError>
     requires least { negsuc 0 ≤ℤ len_iv }
     requires greatest { len_iv ≤ℤ pos greatest_len_iv }

@@ -7,7 +7,7 @@ use Rattle.t1_rules.specs.declared.rule.Rule.{Rule}
 use Rattle.t1_rules.specs.declared.rule.Rule.TheVariants.{F01, F02, F03, F04, F05, F06, F07, F08, F09, F10, F11, F12, F13, F14, Z01, Z02, Z03, Z04, Z05, Z06, Z07, Z08, Z09, Z10, Z11, C01, C02, C03, C04, C05, C06, C07, C08, C09, S01, S02, S03, S04, GE01, GE02, W01, W02, P01, P02, P03, H01, H02, H03, H04, R01, R02, X01, X02, X03, X04, X05, X06, O01, O02, O03, O04, K01, K02, K03, K04, K05, K06, K07, L01, U01}
 
 -- An entry of the book: a rule's number, which is its place there, from 1 on; how much a violation matters; the
--- rule's code, as it stands in a line of the report; and what is told of a violation.
+-- rule's code, as it is in a line of the report; and what is reported of a violation.
 pub record Entry : Type 0 where
   pub number : ℕ
   pub level : Level

@@ -38,7 +38,7 @@ component_in steps = component true (first_sidebearing steps) (list_any is_seac_
 abbrev pub glyph_named : FontValue → List ℕ → Option ℕ
 glyph_named font name = position (same_name name) (map (λ glyph. glyph.0) font.glyphs)
 
--- What is told by the steps up to the limit of a glyph.
+-- What the steps up to the limit say of a glyph.
 abbrev pub component_of_glyph : ℕ → FontValue → Option ℕ → Component
 component_of_glyph limit font None = missing
 component_of_glyph limit font (Some glyph) = component_in (take limit (steps_of font glyph))

@@ -43,7 +43,7 @@ font_row rule tests = record { rule = rule; tests = tests }
 abbrev pub each : ℕ → (FontValue → ℕ → Bool) → List KeyTest
 each key test = record { key = key; is_broken = test } ∷ []
 
--- Of a key as a whole, which stands at index 0.
+-- Of a key as a whole, which has index 0.
 abbrev pub once : ℕ → (FontValue → Bool) → List KeyTest
 once key test = each key (λ font index. index == 0 && test font)
 

@@ -1,6 +1,6 @@
--- The keys that a font's faults stand at: their numbers, what they are called, and how many indexes each has.
--- Key 0 is the file, 4, 20 and 21 are entries of a form of their own, and the others are plain keys (Type 1
--- Font Format, chapters 2 and 5).
+-- The keys that a font's faults are at: their numbers, what they are called, and how many indexes each has. Key 0
+-- is the file. Keys 4, 20 and 21 are entries of a form of their own. The others are plain keys (Type 1 Font
+-- Format, chapters 2 and 5).
 use Rattle.std.specs.Prelude.{ℕ, ◌+◌, min, max, List, [], ◌∷◌, codes, length, map, slice_index_or}
 use Rattle.t1_font.specs.declared.key.Key.{Key}
 use Rattle.t1_font.specs.declared.key.Key.TheVariants.{FontType, PaintType, UniqueId, PrivateUniqueId, Password, MinFeature, LenIv, BlueValues, OtherBlues, FamilyBlues, FamilyOtherBlues, BlueScale, BlueShift, BlueFuzz, StdHw, StdVw, StemSnapH, StemSnapV}

@@ -10,7 +10,7 @@ level_text Must = codes "must"
 level_text Should = codes "should"
 level_text Tidy = codes "tidy"
 
--- The level that a word stands for.
+-- The level that a word names.
 abbrev pub level_named : List ℕ → Option Level
 level_named word =
     if same_name (level_text Must) word then Some Must

@@ -1,5 +1,5 @@
--- Words that private contracts alone cite, and the relations of watchers (Standing): what clauses of public functions say by
--- these is that there is such a relation.
+-- Words that private contracts alone cite, and the relations of watchers (Standing). Clauses of public functions say by
+-- these only that there is such a relation.
 pub mod BookRows
 pub mod Edges
 pub mod KeyKinds

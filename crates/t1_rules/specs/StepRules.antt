@@ -47,7 +47,7 @@ argument_rules =
     ∷ of_step C02 (λ step. is_cut step.token)
     -- The command isn't known. Type 1 Font Format, chapter 6.
     ∷ of_step C03 (λ step. is_unknown step.token)
-    -- The command wants more numbers than there are. Type 1 Font Format, chapter 6.
+    -- The command needs more numbers than there are. Type 1 Font Format, chapter 6.
     ∷ of_step C04 (λ step. has_too_few_arguments step.token step.stack)
     -- There are more numbers than the command's arguments. Type 1 Font Format, chapter 6.
     ∷ of_step C05 (λ step. has_too_many_arguments step.token step.stack)
@@ -74,7 +74,7 @@ call_rules =
     ∷ of_step S04 ends_in_subr
     -- The glyph ends without endchar or seac. Type 1 Font Format, chapter 6.
     ∷ of_step GE01 ends_in_glyph
-    -- Tokens stand behind endchar or seac. Type 1 Font Format, chapter 6.
+    -- Tokens follow endchar or seac. Type 1 Font Format, chapter 6.
     ∷ of_step GE02 goes_on_past_end
     ∷ []
 
@@ -83,7 +83,7 @@ unfoldable pub path_rules : List StepRule
 path_rules =
     -- The first command isn't hsbw or sbw. Type 1 Font Format, chapter 6.
     row W01 starts_without_width
-    -- hsbw or sbw stands behind another command. Type 1 Font Format, chapter 6.
+    -- hsbw or sbw follows another command. Type 1 Font Format, chapter 6.
     ∷ row W02 sets_width_later
     -- Something is drawn with no move before it in its path. Type 1 Font Format, chapter 6.
     ∷ row P01 draws_unmoved
@@ -96,7 +96,7 @@ path_rules =
 -- Stem hints and their replacement.
 unfoldable pub stem_rules : Edition → List StepRule
 stem_rules edition =
-    -- A stem behind what it is a hint for. Type 1 Font Format, chapter 6.
+    -- A stem after what it is a hint for. Type 1 Font Format, chapter 6.
     row H01 sets_stem_late
     -- Two stems of a hint set overlap. Type 1 Font Format, chapter 6.
     ∷ row H02 (sets_overlapping (overlap_by edition))
@@ -117,9 +117,9 @@ flex_rules =
     row X01 starts_in_flex
     -- A point or an end without a start. Type 1 Font Format, chapter 8.
     ∷ row X02 goes_on_outside
-    -- A command other than a move stands inside. Type 1 Font Format, chapter 8.
+    -- A command other than a move is inside. Type 1 Font Format, chapter 8.
     ∷ row X03 commands_in_flex
-    -- The points aren't seven, each behind its move. Type 1 Font Format, chapter 8.
+    -- The points aren't seven, each after its move. Type 1 Font Format, chapter 8.
     ∷ row X04 counts_no_pairs
     -- The end isn't at the current point. Type 1 Font Format, chapter 8.
     ∷ row X05 ends_elsewhere
@@ -134,7 +134,7 @@ othersubr_rules =
     of_step O01 calls_unknown
     -- The count isn't that of arguments on the stack. Type 1 Font Format, chapter 6.
     ∷ of_step O02 has_bad_count
-    -- The OtherSubr wants another count. Type 1 Font Format, chapter 8.
+    -- The OtherSubr needs another count. Type 1 Font Format, chapter 8.
     ∷ of_step O03 has_wrong_count
     -- pop, and no result waits. Type 1 Font Format, chapter 6.
     ∷ of_step O04 pops_nothing

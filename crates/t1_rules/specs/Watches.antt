@@ -21,7 +21,7 @@ pub record IsNear (n : ℕ) (point : Point) : Type 0 where
   pub x : IsWithin (n * reach) point.x
   pub y : IsWithin (n * reach) point.y
 
--- The last steps neither replaced the hints nor ended a flex, and no pop stands behind such a step.
+-- The last steps neither replaced the hints nor ended a flex, and no pop follows such a step.
 pub record IsCalm (watches : Watches) : Type 0 where
   pub replaced : watches.stems.replaced ≡ false
   pub hints_popped : watches.stems.popped ≡ false

@@ -162,14 +162,14 @@ pub fn rule_level(rule: Rule) -> Level
     row_of(rule).1
 }
 
-/// The code of a rule, as it stands in a line of the report.
+/// The code of a rule, as it is in a line of the report.
 pub fn rule_code(rule: Rule) -> &'static str
     ensures { result.now ≡ code_of rule }
 {
     row_of(rule).2
 }
 
-/// What is told of a violation of a rule.
+/// What is reported of a violation of a rule.
 pub fn rule_text(rule: Rule) -> &'static str
     ensures { result.now ≡ text_of rule }
 {

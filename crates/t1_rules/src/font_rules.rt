@@ -30,9 +30,9 @@ use subrs::subr_faults;
 use t1_font::{Font, Key};
 use zones::{high_zone_faults, low_zone_faults};
 
-/// The font rules that are broken at a key and an index: 0 for what is said of the key as a whole, and
-/// else a place in its list of numbers, a code, a Subr's number or a glyph's. There is none past the last
-/// key or index.
+/// Returns the font rules that are broken at a key and an index. Index 0 is for what is said of the key as a whole.
+/// Else it is a place in its list of numbers, a code, a Subr's number or a glyph's. There is none past the last key or
+/// index.
 pub fn font_faults(font: &Font<'_>, key: u8, index: u32) -> Mask
     ensures { (n : ℕ) → has result n ≡ violated font_rules n font.now key index }
 {
@@ -42,7 +42,7 @@ pub fn font_faults(font: &Font<'_>, key: u8, index: u32) -> Mask
     }
 }
 
-/// The same at what stands at a key.
+/// The same by the kind of a key.
 fn faults_at(font: &Font<'_>, kind: KeyKind, index: u32) -> Mask
     ensures { (n : ℕ) → has result n ≡ violated font_rules n font.now (kind_number kind) index }
 {

@@ -1,5 +1,5 @@
-//! The keys that a font's faults stand at: what they are called, what stands there, and how many indexes each has. Type 1 Font
-//! Format 1.1, chapters 2 and 5.
+//! The keys that a font's faults are at: what they are called, what is there, and how many indexes each has. Type 1
+//! Font Format 1.1, chapters 2 and 5.
 
 ghost use Rattle.std.specs.Prelude.{◌≡◌, ◌≤◌, ◌+◌, IfNone, IfSome, map};
 ghost use Rattle.std.specs.List.{range_with_len};
@@ -16,7 +16,7 @@ pub const KEYS: u8 = 22;
 /// How many indexes a key has at most.
 pub const INDEXES: u32 = 65_536;
 
-/// What stands at a key.
+/// What is at a key.
 #[derive(Clone, Copy)]
 pub(crate) enum KeyKind {
     /// The file as a whole.
@@ -31,7 +31,7 @@ pub(crate) enum KeyKind {
     CharStrings,
 }
 
-/// A key: what it is called in a line of the report, and what stands there.
+/// A key: what it is called in a line of the report, and what is there.
 type Row = (&'static str, KeyKind);
 
 /// The keys, in the order of their numbers, of which the first is 0.
@@ -79,7 +79,7 @@ pub fn key_text(key: u8) -> &'static str
     }
 }
 
-/// What stands at a key, if there is one of this number.
+/// What is at a key, if there is one of this number.
 pub(crate) fn kind_of(key: u8) -> Option<KeyKind>
     ensures some { IfSome result (λ kind. kind_number kind ≡ key) }
     ensures none { IfNone result (key_count ≤ key) }

@@ -57,14 +57,13 @@ pub fn zones_come_near_both_ways()
     ensures both { ZonesAreNearBothWays }
 {}
 
-/// A list in which no number falls behind the one before it rises from its first number to its last.
+/// A list in which no number is less than the one before it rises from its first number to its last.
 #[tactic(auto, using(crate::proofs::Lemmas::Zones::rising_where_none_falls, crate::proofs::Lemmas::Zones::falls_nowhere))]
 pub fn numbers_rise_where_none_falls()
     ensures { ListsRiseWhereNoneFalls }
 {}
 
-/// The rules on steps of a glyph have the numbers from 26 to 68, and what its own steps break is one of
-/// 26 to 67.
+/// The rules on steps of a glyph have the numbers from 26 to 68. What its own steps break is one of 26 to 67.
 #[tactic(auto, using(crate::proofs::Lemmas::StepRules::numbers_in_order, crate::proofs::Lemmas::StepRules::component_numbers_in_order, crate::proofs::Lemmas::StepRules::broken_have_these_numbers))]
 pub fn step_rules_have_their_numbers()
     ensures order { StepRuleNumbersAreInOrder }
@@ -98,8 +97,8 @@ pub fn one_step_starts_without_width()
     ensures { OneStepStartsWithoutWidth }
 {}
 
-/// In flex, moved, and with the path open is told by the places of the steps before: one that begins it,
-/// and none after it that ends it.
+/// In flex, moved, and with the path open is decided by the places of the steps before: one that begins it, and none
+/// after it that ends it.
 #[tactic(auto, using(crate::proofs::Lemmas::StepRules::flex_is_by_places, crate::proofs::Lemmas::StepRules::moved_is_by_places, crate::proofs::Lemmas::StepRules::open_is_by_places))]
 pub fn paths_are_by_places()
     ensures flex { FlexIsByPlaces }
@@ -129,8 +128,8 @@ pub fn editions_differ_in_stems_of_one_edge()
     ensures no_more { SecondTellsNoMore }
 {}
 
-/// Both editions say the same of a step but by H02, K04, K05 and K07; where no component has more than
-/// 100,000 steps, but by H02 alone, which the second tells only where the first does.
+/// Both editions say the same of a step but by H02, K04, K05 and K07. Where no component has more than 100,000 steps,
+/// they differ by H02 alone, which the second reports only where the first does.
 #[tactic(auto, using(crate::proofs::Lemmas::Editions::agree_on_other_rules, crate::proofs::Lemmas::Editions::agree_on_short_components, crate::proofs::Lemmas::Editions::agree_on_usual_steps, crate::proofs::Lemmas::Editions::second_tells_no_more_in_fonts))]
 pub fn editions_agree_on_other_rules()
     ensures others { EditionsAgreeOnOtherRules }
@@ -146,8 +145,8 @@ pub fn hint_sets_begin_anew()
     ensures most { HintSetsAreBounded }
 {}
 
-/// A call of an OtherSubr with two numbers does what the standard says of 0 to 3, controls counters, or
-/// breaks one of O01, O02 and O03; and never two of these.
+/// Of a call of an OtherSubr with two numbers exactly one holds. It does what the standard says of 0 to 3; it controls
+/// counters; or it breaks one of O01, O02 and O03.
 #[tactic(auto, using(crate::proofs::Lemmas::OthersubrCalls::calls_are_one_of_five))]
 pub fn othersubr_calls_are_one_of_five()
     ensures { CallsAreOneOfFive }
@@ -170,7 +169,7 @@ pub fn flex_goes_from_its_start_to_its_end()
     ensures pairs { SevenPairsAreAFlex }
 {}
 
-/// StandardEncoding gives 149 of its 256 codes a name, and no name to two codes.
+/// StandardEncoding has names for 149 of its 256 codes, and no name for two codes.
 #[tactic(auto, using(crate::proofs::Lemmas::ComponentLaws::codes_are_counted, crate::proofs::Lemmas::ComponentLaws::names_are_counted, crate::proofs::Lemmas::ComponentLaws::no_name_stands_twice))]
 pub fn standard_encoding_names_149_codes()
     ensures codes { CodesAreCounted }
@@ -178,17 +177,15 @@ pub fn standard_encoding_names_149_codes()
     ensures once { NoNameStandsTwice }
 {}
 
-/// What a component is, its charstring tells, with the font's Subrs and lenIV: the font's own Encoding has no say, nor
-/// has its place among the glyphs, where no other of its name stands in front, so that it may stand before the
-/// accented character or behind it.
+/// A component depends on its charstring and the font's Subrs and lenIV alone. The font's own Encoding has no say. Nor
+/// has its place among the glyphs, if it is the first of its name: it may be before the accented character or after it.
 #[tactic(auto, using(crate::proofs::Lemmas::ComponentLaws::own_encoding_has_no_say, crate::proofs::Lemmas::ComponentLaws::places_have_no_say))]
 pub fn components_are_found_by_their_names()
     ensures encoding { OwnEncodingHasNoSay }
     ensures places { PlacesHaveNoSay }
 {}
 
-/// Behind another number of pairs than seven, or with a move whose point hasn't come, the end of a flex breaks
-/// X04.
+/// After another number of pairs than seven, or with a move whose point hasn't come, the end of a flex breaks X04.
 #[tactic(auto, using(crate::proofs::Lemmas::FlexCounts::other_counts_are_no_flex))]
 pub fn other_counts_are_no_flex()
     ensures { OtherCountsAreNoFlex }
@@ -249,8 +246,8 @@ pub fn codes_are_whole_to_255()
     ensures three { CodesAreOneOfThree }
 {}
 
-/// A command breaks C04 where fewer numbers are on the stack than it wants, C05 where more are there than its
-/// arguments; and a number that comes to 24 breaks C06.
+/// A command breaks C04 where fewer numbers are on the stack than it needs, and C05 where more are there than its
+/// arguments. A number that comes to 24 breaks C06.
 #[tactic(auto, using(crate::proofs::Lemmas::ArgumentLaws::too_few_are_fewer, crate::proofs::Lemmas::ArgumentLaws::too_many_are_more, crate::proofs::Lemmas::ArgumentLaws::none_are_too_many))]
 pub fn numbers_are_counted()
     ensures few { TooFewAreFewerThanWanted }
@@ -267,15 +264,15 @@ pub fn stems_are_late_behind_drawing()
     ensures others { StemsAloneAreLate }
 {}
 
-/// What follows a hint replacement breaks R01 unless it is pop; what follows that pop breaks R02 unless it is
-/// callsubr; and nothing else breaks them.
+/// What follows a hint replacement breaks R01 unless it is pop. What follows that pop breaks R02 unless it is
+/// callsubr. Nothing else breaks them.
 #[tactic(auto, using(crate::proofs::Lemmas::Behind::replacements_want_pop, crate::proofs::Lemmas::Behind::replacements_want_callsubr))]
 pub fn replacements_are_followed()
     ensures pop { ReplacementsWantPop }
     ensures call { ReplacementsWantCallsubr }
 {}
 
-/// setcurrentpoint breaks X06 unless the end of a flex and two pops stand just before it.
+/// setcurrentpoint breaks X06 unless the end of a flex and two pops are just before it.
 #[tactic(auto, using(crate::proofs::Lemmas::Behind::setcurrentpoint_follows_flex, crate::proofs::Lemmas::Behind::setcurrentpoint_alone_follows))]
 pub fn setcurrentpoint_follows_flex()
     ensures follows { SetcurrentpointFollowsFlex }
@@ -288,8 +285,8 @@ pub fn pops_of_nothing_change_nothing()
     ensures others { PopsAlonePopNothing }
 {}
 
-/// seac breaks K03 where the font lacks a glyph that it names, K04 where such a glyph has a seac of its own, K05
-/// where the accent's first sidebearing is another than seac's, and K07 where such a glyph has none.
+/// seac breaks K03 where the font lacks a glyph that it names, and K04 where such a glyph has a seac of its own. It
+/// breaks K05 where the accent's first sidebearing is another than seac's, and K07 where such a glyph has none.
 #[tactic(auto, using(crate::proofs::Lemmas::SeacComponents::missing_glyphs_are_told, crate::proofs::Lemmas::SeacComponents::nested_seacs_are_told, crate::proofs::Lemmas::SeacComponents::other_sidebearings_are_told, crate::proofs::Lemmas::SeacComponents::missing_sidebearings_are_told, crate::proofs::Lemmas::SeacComponents::seac_alone_has_components))]
 pub fn components_are_judged_by_their_steps()
     ensures missing { MissingGlyphsAreTold }
@@ -315,7 +312,7 @@ pub fn rules_are_in_the_book()
     ensures codes { CodesAreOfTheirRules }
 {}
 
-/// A word stands for a level exactly where it is that level's.
+/// A word names a level exactly where it is that level's.
 #[tactic(auto, using(crate::proofs::Lemmas::Levels::levels_have_their_words))]
 pub fn levels_have_their_words()
     ensures { LevelsHaveTheirWords }

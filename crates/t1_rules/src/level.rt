@@ -26,7 +26,7 @@ impl Level {
         }
     }
 
-    /// The level that a word stands for, if there is one.
+    /// The level that a word names, if there is one.
     pub fn from_text(word: &[u8]) -> Option<Level>
         ensures { result ≡ level_named word.now }
     {

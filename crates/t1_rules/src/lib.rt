@@ -1,29 +1,28 @@
 //! The rule book of Type 1 fonts: what may be wrong with a font, and where it is. Adobe Type 1 Font
 //! Format 1.1, chapters 2 and 5 to 8, and Technical Note 5040.
 //!
-//! [`Rule`] has all rules, with their numbers, codes and texts, and [`rule_level`] how much each matters. [`font_faults`] answers, as a [`Mask`],
-//! which rules a font breaks at a key and an index: a key is the file or an entry of a dictionary
-//! ([`key_text`] names it), an index is 0 for what is said of the entry as a whole, and else the place
-//! of a number in a list, a code, a Subr's number or a glyph's. [`places`] says how many indexes of a
-//! key have to be asked.
+//! [`Rule`] has all rules, with their numbers, codes and texts. [`rule_level`] says how much each matters.
+//! [`font_faults`] returns, as a [`Mask`], which rules a font breaks at a key and an index. A key is the file or an
+//! entry of a dictionary ([`key_text`] names it). An index is 0 for what is said of the entry as a whole. Else it is
+//! the place of a number in a list, a code, a Subr's number or a glyph's. [`places`] says how many indexes of a key
+//! have to be tested.
 //!
-//! [`Watches`] sees the steps of a glyph one after another, and answers of each which rules on
-//! charstrings it breaks, as far as the glyph's own steps decide. It is seven watchers as one:
-//! [`ArgumentWatcher`], [`CallWatcher`], [`PathWatcher`], [`StemWatcher`], [`FlexWatcher`],
-//! [`OthersubrWatcher`] and [`SeacWatcher`]. [`Watch`] is what watchers have in common. [`Sidebearings`]
-//! has the components of accented characters, and answers of each step which of K03 to K05 and K07 it
-//! breaks.
+//! [`Watches`] sees the steps of a glyph one after another. It returns of each which rules on charstrings it breaks, as
+//! far as the glyph's own steps decide. It is seven watchers as one: [`ArgumentWatcher`], [`CallWatcher`],
+//! [`PathWatcher`], [`StemWatcher`], [`FlexWatcher`], [`OthersubrWatcher`] and [`SeacWatcher`]. [`Watch`] is what
+//! watchers have in common. [`Sidebearings`] has the components of accented characters. It returns of each step which
+//! of K03 to K05 and K07 it breaks.
 //!
 //! What is promised, for all fonts:
 //!
-//! - `font_faults` answers exactly the rules that the table in `specs/FontRules.antt` says are broken at
-//!   that key and index. Numbers are compared exactly, in units of 10^-9 and their products.
-//! - Of each step, given those before it, a watcher answers exactly those of its rules that the table in
+//! - `font_faults` returns exactly the rules that the table in `specs/FontRules.antt` says are broken at that key and
+//!   index. Numbers are compared exactly, in units of 10^-9 and their products.
+//! - Of each step, given those before it, a watcher returns exactly those of its rules that the table in
 //!   `specs/StepRules.antt` says are broken there. What it keeps is of a fixed size, and no list of steps.
 //! - The same of `Sidebearings` and the four rules on components, where [`Sidebearings::prepare`] was given
 //!   the same font.
 //! - Nothing is broken past the places of a key, past the last key or past index 65,535.
-//! - No call but `Sidebearings::prepare` takes memory; no index, sum, product or cast goes wrong.
+//! - No call but `Sidebearings::prepare` allocates; no index, sum, product or cast goes wrong.
 //!
 //! ```
 //! for index in 0..places(&font, 9) {

@@ -24,8 +24,8 @@ impl Mask {
         Mask { bits: 0 }
     }
 
-    /// This set, with one rule more where that is broken. A set is written from its last rule to its
-    /// first, so that it reads as the rows of the rule book, each in front of those behind it.
+    /// This set, with one rule more where that is broken. A set is built from its last rule to its
+    /// first. So the code reads as the rows of the rule book, in their order.
     pub fn with(self, rule: Rule, broken: bool) -> Mask
         ensures { (n : ℕ) → has result n ≡ (broken && number_of rule == n || has self n) }
     {

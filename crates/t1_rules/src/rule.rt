@@ -15,7 +15,7 @@ use std::hash::{Hash, Hasher};
 pub enum Rule {
     /// A PFB file ends with an end segment. Technical Note 5040, section 3.3.
     F01 = 1,
-    /// Nothing stands after the end segment. Technical Note 5040, section 3.3.
+    /// Nothing follows the end segment. Technical Note 5040, section 3.3.
     F02,
     /// `/FontType` is 1. Type 1 Font Format, chapter 2.
     F03,
@@ -45,7 +45,7 @@ pub enum Rule {
     Z01,
     /// A list of zones has at most 14 numbers, or 10. Type 1 Font Format, chapter 5.
     Z02,
-    /// The numbers of a list of zones stand in pairs. Type 1 Font Format, chapter 5.
+    /// The numbers of a list of zones come in pairs. Type 1 Font Format, chapter 5.
     Z03,
     /// The numbers of a list of zones don't fall. Type 1 Font Format, chapter 5.
     Z04,
@@ -85,17 +85,17 @@ pub enum Rule {
     S01,
     /// At most ten calls are nested. Type 1 Font Format, chapter 6.
     S02,
-    /// A `return` stands in a Subr. Type 1 Font Format, chapter 6.
+    /// A `return` is in a Subr. Type 1 Font Format, chapter 6.
     S03,
     /// A Subr ends with `return`. Type 1 Font Format, chapter 6.
     S04,
     /// A glyph ends with `endchar` or `seac`. Type 1 Font Format, chapter 6.
     GE01,
-    /// Nothing stands after `endchar` or `seac`. Type 1 Font Format, chapter 6.
+    /// Nothing follows `endchar` or `seac`. Type 1 Font Format, chapter 6.
     GE02,
     /// `hsbw` or `sbw` is the first command. Type 1 Font Format, chapter 6.
     W01,
-    /// `hsbw` or `sbw` stands once. Type 1 Font Format, chapter 6.
+    /// `hsbw` or `sbw` is there once. Type 1 Font Format, chapter 6.
     W02,
     /// A path begins with a move. Type 1 Font Format, chapter 6.
     P01,
@@ -118,7 +118,7 @@ pub enum Rule {
     R02,
     /// Flex doesn't begin inside flex. Type 1 Font Format, chapter 8.
     X01,
-    /// A point or the end of flex stands in flex. Type 1 Font Format, chapter 8.
+    /// A point or the end of flex is in flex. Type 1 Font Format, chapter 8.
     X02,
     /// Moves are the only path commands in flex. Type 1 Font Format, chapter 8.
     X03,
@@ -144,9 +144,9 @@ pub enum Rule {
     K03,
     /// A component of `seac` is no `seac`. Type 1 Font Format, chapter 6.
     K04,
-    /// `seac` gives the sidebearing of its accent. Type 1 Font Format, chapter 6.
+    /// `seac` has the sidebearing of its accent. Type 1 Font Format, chapter 6.
     K05,
-    /// `seac` stands alone beside `hsbw` or `sbw`. Type 1 Font Format, chapter 6.
+    /// `seac` is alone beside `hsbw` or `sbw`. Type 1 Font Format, chapter 6.
     K06,
     /// A component of `seac` has a sidebearing. Type 1 Font Format, chapter 6.
     K07,

@@ -52,8 +52,8 @@ impl Model for Sidebearings {
 }
 
 impl Sidebearings {
-    /// The components of a font: each glyph that StandardEncoding names and the font has is executed up to the
-    /// limit of steps, or up to its first sidebearing where surely no step of it is a seac.
+    /// The components of a font. Each glyph that StandardEncoding names and the font has is executed up to the
+    /// limit of steps. If surely no step of it is a seac, it is executed up to its first sidebearing.
     pub fn prepare(
         alloc: Global,
         font: &Font<'_>,
@@ -91,7 +91,7 @@ impl Sidebearings {
         self.see_as(step.token, step)
     }
 
-    /// The same as [`Sidebearings::see`], where the step's token is told.
+    /// The same as [`Sidebearings::see`], where the step's token is known.
     #[inline(always)]
     #[tactic(auto, unfolding(crate::specs::StepRules::component_rules))]
     pub fn see_as(&self, token: CharToken, step: &Step) -> Mask

@@ -1,4 +1,4 @@
-//! Watchers: each sees the steps of a glyph one after another, and tells which of its rules a step breaks.
+//! Watchers: each sees the steps of a glyph one after another, and returns which of its rules a step breaks.
 
 ghost use Rattle.std.specs.Prelude.{◌≡◌, ℕ, ◌<◌, List, [], ◌∷◌, ◌++◌, length};
 ghost use Rattle.t1_char.specs.declared.edition.Edition.{Edition as Editions};
@@ -12,13 +12,13 @@ ghost use Rattle.t1_rules.specs.Watches.{most_steps};
 use crate::mask::Mask;
 use t1_char::{CharToken, Edition, OthersubrCall, Step};
 
-/// Sees the steps of a glyph in their order, from the first on, and answers of each which of its rules the
+/// Sees the steps of a glyph in their order, from the first on, and returns of each which of its rules the
 /// step breaks. What it keeps of the steps before is of a fixed size.
 pub trait Watch {
     // In an edition: the watcher has seen these steps, and no others.
     ghost stands_for: { Editions → Self → List StepView → Type 0 };
 
-    // The rules that it tells in an edition.
+    // The rules that it reports in an edition.
     ghost rules: { Editions → List StepRule };
 
     /// A watcher that has seen no step.

@@ -123,7 +123,7 @@ impl Watches {
         self.seac = SeacWatcher::start(edition);
     }
 
-    /// Whether no rule speaks of a number behind the last steps, unless the stack is full.
+    /// Whether no rule speaks of a number after the last steps, unless the stack is full.
     #[inline(always)]
     pub fn is_calm(&self) -> bool
         ensures { result ≡ true → IsCalm self.now }
@@ -131,8 +131,8 @@ impl Watches {
         self.stems.is_calm() & self.flex.is_calm()
     }
 
-    /// Whether the steps so far are such that no rule is broken by lines and curves with exactly their arguments, none past
-    /// 32000, and a closepath right after these.
+    /// Whether lines and curves after the steps so far break no rule, if they have exactly their arguments, none past
+    /// 32000. Nor does a closepath right after these.
     #[inline(always)]
     pub fn is_steady(&self) -> bool
         ensures { result ≡ true → IsSteady self.now }
@@ -293,8 +293,8 @@ impl Watches {
         self.see_rare(step)
     }
 
-    /// Whether a move, a line, a curve or a stem is as most are. That is asked first, so that in the copy of the watchers for
-    /// such a step hardly a test is left.
+    /// Whether a move, a line, a curve or a stem is as most are. That is tested first, so that in the copy of the
+    /// watchers for such a step hardly a test is left.
     #[inline(always)]
     fn is_usual(&self, command: Command, step: &Step) -> bool {
         self.is_calm() && has_its_arguments(command, step.stack.as_slice())

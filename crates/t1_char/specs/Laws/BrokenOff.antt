@@ -1,4 +1,4 @@
--- Laws of charstrings that are too short: for the random bytes in front, or for their last token. Type 1 Font Format
+-- Laws of charstrings that are too short: for the leading random bytes, or for their last token. Type 1 Font Format
 -- 1.1, chapter 6 (Charstring Number Encoding, Charstring Command Encoding) and chapter 7 (Charstring Encryption).
 use Rattle.std.specs.Prelude.{◌≡◌, ◌≢◌, ℕ, pos, negsuc, ◌<◌, ◌≤◌, ◌++◌, List, [], ◌∷◌, length}
 use Rattle.std.specs.List.{All}
@@ -7,7 +7,7 @@ use Rattle.t1_char.specs.declared.token.CharToken.TheVariants.{Cut, Short, End}
 use Rattle.t1_char.specs.Tokens.{charstring_tokens}
 use Rattle.t1_char.specs.Laws.Written.{AreBytes, AreWhole, AreWritten, IsWritten}
 
--- A charstring that is shorter than the random bytes that lenIV says has two tokens, which tell just this.
+-- A charstring that is shorter than the random bytes that lenIV says has two tokens, which say just this.
 abbrev pub TooFewAreShort : Type 0
 TooFewAreShort = (len_iv : ℕ) (code : List ℕ) → length code < len_iv →
     charstring_tokens (pos len_iv) code ≡ Short ∷ End ∷ []
@@ -30,12 +30,12 @@ pub record BreaksOff (bytes : List ℕ) : Type 0 where
   pub lacking : missing ≢ []
   pub written : IsWritten token (bytes ++ missing)
 
--- Where such bytes stand behind bytes that write tokens, these tokens are read, then Cut, then the end.
+-- Where such bytes follow bytes that write tokens, these tokens are read, then Cut, then the end.
 abbrev pub BrokenOffAreCut : Type 0
 BrokenOffAreCut = (n : ℕ) (ts : List CharToken) (front bytes : List ℕ) → AreWritten ts front → BreaksOff bytes →
     charstring_tokens (negsuc n) (front ++ bytes) ≡ ts ++ Cut ∷ End ∷ []
 
--- And where Cut is read, behind tokens that are whole, the charstring is such a one; only the end follows.
+-- And where Cut is read, after tokens that are whole, the charstring is such a one; only the end follows.
 pub record IsBrokenOff (ts : List CharToken) (code : List ℕ) (rest : List CharToken) : Type 0 where
   pub front : List ℕ
   pub bytes : List ℕ

@@ -13,7 +13,7 @@ abbrev pub GlyphsBegin : Type 0
 GlyphsBegin = (font : FontValue) (glyph : ℕ) →
     steps_of font glyph ≡ steps_left font (frame [] (tokens_in font (code_at font glyph)) ∷ []) at_start
 
--- The next token is a step. Where its effect lets the run go on, the token behind it comes next.
+-- The next token is a step. Where its effect lets the run go on, the token after it comes next.
 abbrev pub TokensGoOn : Type 0
 TokensGoOn =
     (font : FontValue) (path : List ℕ) (t : CharToken) (ts : List CharToken) (callers : List Frame) (s x : State) →
@@ -21,7 +21,7 @@ TokensGoOn =
     steps_left font (frame path (t ∷ ts) ∷ callers) s
     ≡ step_at font path t ts s ∷ steps_left font (frame path ts ∷ callers) x
 
--- Where it calls a Subr, the Subr's tokens come next, and then those behind the call.
+-- Where it calls a Subr, the Subr's tokens come next, and then those after the call.
 abbrev pub CallsGoIn : Type 0
 CallsGoIn =
     (font : FontValue) (path : List ℕ) (t : CharToken) (ts : List CharToken) (callers : List Frame) (s x : State)

@@ -2,8 +2,8 @@
 use Rattle.std.specs.Prelude.{◌≡◌, ◌≢◌, ℤ, pos, neg_ℤ, ◌+ℤ◌, ◌*ℤ◌, ◌≤ℤ◌, ◌<ℤ◌, ◌<◌, unsigned_abs}
 use Rattle.t1_char.specs.Numbers.{units, cut_quotient, quotient}
 
--- A quotient, cut towards zero: what its product with the divisor leaves of the dividend is smaller than the
--- divisor, and isn't on the other side of zero than the dividend.
+-- A quotient, cut towards zero. What its product with the divisor leaves of the dividend is smaller than the
+-- divisor. It isn't on the other side of zero than the dividend.
 pub record IsCutQuotient (dividend divisor q : ℤ) : Type 0 where
   pub rest : ℤ
   pub whole : q *ℤ divisor +ℤ rest ≡ dividend
@@ -15,7 +15,7 @@ pub record IsCutQuotient (dividend divisor q : ℤ) : Type 0 where
 abbrev pub QuotientsAreCut : Type 0
 QuotientsAreCut = (a b : ℤ) → b ≢ pos 0 → IsCutQuotient (units a) b (cut_quotient a b)
 
--- div keeps it where it lies within -32000 to 32000, and else gives the nearer end of that range.
+-- div keeps it where it lies within -32000 to 32000, and else returns the nearer end of that range.
 pub record IsKept (q kept : ℤ) : Type 0 where
   pub within : units (neg_ℤ (pos 32000)) ≤ℤ q → q ≤ℤ units (pos 32000) → kept ≡ q
   pub above : units (pos 32000) <ℤ q → kept ≡ units (pos 32000)

@@ -60,7 +60,7 @@ pub record IsBounded (step : StepView) : Type 0 where
 abbrev pub StepsAreBounded : Type 0
 StepsAreBounded = (font : FontValue) (glyph : ℕ) → All IsBounded (steps_of font glyph)
 
--- The path behind a step: a call adds its Subr, and a return takes the last one off.
+-- The path after a step: a call adds its Subr, and a return takes the last one off.
 abbrev pub path_behind : List ℕ → Action → List ℕ
 path_behind path goes = path
 path_behind path (calls number code) = path ++ number ∷ []
@@ -73,7 +73,7 @@ pub record StandsIn (step : StepView) (path : List ℕ) (s : State) : Type 0 whe
   pub stack_is : step.stack ≡ s.stack
   pub waiting_is : step.waiting ≡ length s.waiting
 
--- Each of the steps stands where the effect of the one before has led, and the first one here.
+-- Each of the steps has the path and the state that the effect of the one before leads to, and the first one has these.
 abbrev pub GoOnFrom : FontValue → List ℕ → State → List StepView → Type 0
 GoOnFrom font path s [] = Unit {0}
 GoOnFrom font path s (step ∷ steps) =
@@ -81,12 +81,12 @@ GoOnFrom font path s (step ∷ steps) =
     × GoOnFrom font (path_behind path (effect_at font path step.token s).action)
     (effect_at font path step.token s).state steps
 
--- A glyph starts with no Subr, no number and no result; each further step stands where the effects of those
--- before it have led, through calls and back.
+-- A glyph starts with no Subr, no number and no result. Each further step has the path and the state that the
+-- effects before it lead to, through calls and back.
 abbrev pub StepsGoOn : Type 0
 StepsGoOn = (font : FontValue) (glyph : ℕ) → GoOnFrom font [] at_start (steps_of font glyph)
 
--- A step tells that it is its charstring's last where nothing follows it there but the end, or, in a Subr, return
+-- A step says that it is its charstring's last where nothing follows it there but the end, or, in a Subr, return
 -- and the end.
 abbrev pub LastsAreByWhatFollows : Type 0
 LastsAreByWhatFollows = (font : FontValue) (path : List ℕ) (t : CharToken) (behind : List CharToken) (s : State) →
@@ -101,7 +101,7 @@ pub record CallsASubr (font : FontValue) (t : CharToken) (stack : List ℤ) (num
   pub stack_is : stack ≡ below ++ units (pos number) ∷ []
   pub there : subr_in font number ≡ Some code
 
--- A step that tells that it finds its Subr calls one, and one that calls a Subr tells it. (Numbers of 32 bits are
+-- A step that says that it finds its Subr calls one, and one that calls a Subr says so. (Numbers of 32 bits are
 -- more than the stack can hold.)
 abbrev pub FoundSubrsAreCalled : Type 0
 FoundSubrsAreCalled = (font : FontValue) (path : List ℕ) (t : CharToken) (behind : List CharToken) (s : State) →

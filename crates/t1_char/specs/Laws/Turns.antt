@@ -1,30 +1,30 @@
--- Laws of what a machine answers, call by call.
+-- Laws of what a machine returns, call by call.
 use Rattle.std.specs.Prelude.{◌≡◌, ℕ, ◌+◌, ◌<◌, ◌≤◌, Bool, true, false, Some, List, length, slice_get}
 use Rattle.t1_char.specs.Steps.{StepView}
 use Rattle.t1_char.specs.Turns.{TurnValue, stepped, ended, limited, step_of_number, turn_at, counted_after}
 
--- The calls up to the limit answer the steps, one after another, each with its number, and are counted.
+-- The calls up to the limit return the steps, one after another, each with its number, and are counted.
 abbrev pub StepsAreTold : Type 0
 StepsAreTold = (limit : ℕ) (steps : List StepView) (n : ℕ) (step : StepView) → n < limit → slice_get steps n ≡ Some step →
     (turn_at limit steps n ≡ stepped (step_of_number (n + 1) step)) × (counted_after limit steps n ≡ n + 1)
 
--- Behind the last of them the end is answered, where there is no step past the limit.
+-- After the last of them the end is returned, where there is no step past the limit.
 abbrev pub EndsAreTold : Type 0
 EndsAreTold = (limit : ℕ) (steps : List StepView) → length steps ≤ limit →
     turn_at limit steps (length steps) ≡ ended
 
--- Where there is one, that step is answered as the limit.
+-- Where there is one, that step is returned as the limit.
 abbrev pub LimitsAreTold : Type 0
 LimitsAreTold = (limit : ℕ) (steps : List StepView) (step : StepView) → slice_get steps limit ≡ Some step →
     turn_at limit steps limit ≡ limited (step_of_number (limit + 1) step)
 
--- An answer behind which there is no other.
+-- A result after which there is no other.
 abbrev pub is_last_answer : TurnValue → Bool
 is_last_answer (stepped _) = false
 is_last_answer ended = true
 is_last_answer (limited _) = true
 
--- Behind an end or a limit the next call answers the same again, and the count of calls stays.
+-- After an end or a limit the next call returns the same again, and the count of calls stays.
 abbrev pub LastAnswersAreToldAgain : Type 0
 LastAnswersAreToldAgain = (limit : ℕ) (steps : List StepView) (n : ℕ) → is_last_answer (turn_at limit steps n) ≡ true →
     (turn_at limit steps (counted_after limit steps n) ≡ turn_at limit steps n)

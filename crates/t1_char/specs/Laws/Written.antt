@@ -10,8 +10,8 @@ use Rattle.t1_char.specs.declared.token.CharToken.TheVariants.{Number, Command, 
 use Rattle.t1_char.specs.Commands.{row_of, command_of, escaped_of}
 use Rattle.t1_char.specs.Tokens.{signed_of, charstring_tokens}
 
--- The bytes write the token: a number from -107 to 107 in one byte, one from 108 to 1131 or from -1131
--- to -108 in two, any of 32 bits in five; a command; a byte, or 12 and a byte, that is no command.
+-- The bytes write the token. It is a number: from -107 to 107 in one byte, from 108 to 1131 or from -1131 to
+-- -108 in two, any of 32 bits in five. Or it is a command; or a byte, or 12 and a byte, that is no command.
 pub data IsWritten : CharToken → List ℕ → Type 0 where
   small : (n : ℕ) → n ≤ 214 → IsWritten (Number (pos n -ℤ pos 107)) ((n + 32) ∷ [])
   positive : (n : ℕ) → n < 1024 → IsWritten (Number (pos (n + 108))) ((n / 256 + 247) ∷ (n % 256) ∷ [])
@@ -23,7 +23,7 @@ pub data IsWritten : CharToken → List ℕ → Type 0 where
   unknown : (v : ℕ) → v < 32 → v ≢ 12 → command_of v ≡ None → IsWritten (Unknown v) (v ∷ [])
   unknown_escape : (w : ℕ) → escaped_of w ≡ None → IsWritten (Unknown12 w) (12 ∷ w ∷ [])
 
--- The bytes write the tokens, one behind another.
+-- The bytes write the tokens, one after another.
 pub data AreWritten : List CharToken → List ℕ → Type 0 where
   nothing_left : AreWritten [] []
   then : (t : CharToken) (front : List ℕ) (ts : List CharToken) (rest : List ℕ) →
@@ -34,8 +34,8 @@ abbrev pub EachNumberIsWritten : Type 0
 EachNumberIsWritten = (z : ℤ) → negsuc 2147483647 ≤ℤ z → z ≤ℤ pos 2147483647 →
     (bytes : List ℕ) × IsWritten (Number z) bytes
 
--- A charstring that isn't encrypted is read as it is written; so is one that was enciphered behind
--- random bytes, as many as lenIV says.
+-- A charstring that isn't encrypted is read as it is written. So is one that was enciphered after so
+-- many random bytes as lenIV says.
 abbrev pub WrittenIsRead : Type 0
 WrittenIsRead = (n : ℕ) (ts : List CharToken) (bytes : List ℕ) → AreWritten ts bytes →
     charstring_tokens (negsuc n) bytes ≡ ts ++ End ∷ []

@@ -10,7 +10,7 @@ use Rattle.t1_char.specs.Private.Cursors.{behind_token, tokens_left}
 use Rattle.t1_char.specs.Private.Frames.{IsReady, step_here, steps_behind, steps_from}
 use Rattle.t1_char.specs.Private.Machines.{IsBehind}
 
--- So many steps after the first n were passed: executed, and not told.
+-- So many steps after the first n were passed: executed, and not returned.
 pub record HasGoneFar (lines : Bool) (limit : ℕ) (steps : List StepView) (font : FontValue) (n taken : ℕ) (way : Way) (new : Frames) : Type 0 where
   pub passed : PassesSteps lines limit steps n taken way
   pub behind : IsBehind limit steps font (n + taken) new

@@ -15,7 +15,7 @@ abbrev pub key_of : Option Cipher → Option ℕ
 key_of None = None
 key_of (Some cipher) = Some cipher.r
 
--- The plain byte of a byte, and the key behind it.
+-- The plain byte of a byte, and the key after it.
 abbrev pub plain_by : Option ℕ → ℕ → ℕ
 plain_by None c = c
 plain_by (Some r) c = bit_xor c (r / 256)
@@ -36,7 +36,7 @@ abbrev pub tokens_left : Cursor → List CharToken
 tokens_left cursor =
     if cursor.short then Short ∷ tokens_of (bytes_left cursor) else tokens_of (bytes_left cursor)
 
--- What stands behind a token: nothing behind End.
+-- What follows a token: nothing after End.
 abbrev pub behind_token : CharToken → List CharToken → List CharToken
 behind_token token rest = if is_end token then [] else rest
 

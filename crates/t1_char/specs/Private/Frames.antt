@@ -1,4 +1,4 @@
--- The frames that the code's own stand for.
+-- How the code's frames agree with those of the definitions.
 use Rattle.std.specs.Prelude.{◌≡◌, ℕ, ◌+◌, true, List, [], ◌∷◌, ◌++◌, length, take}
 use Rattle.t1_font.specs.Fonts.{FontValue}
 use Rattle.t1_char.specs.declared.cursor.Cursor.{Cursor}
@@ -10,8 +10,8 @@ use Rattle.t1_char.specs.Steps.{StepView, step_at, is_callsubr, named_at}
 use Rattle.t1_char.specs.Private.Actions.{named_of}
 use Rattle.t1_char.specs.Private.Cursors.{tokens_left, behind_token}
 
--- The frames of callers, the innermost first, where n frames lie below; the path of each is the front of
--- the path as long as there are frames below it.
+-- The frames of callers, the innermost first, where n frames lie below. The path of each is a prefix of
+-- the path, with one Subr for each frame below it.
 unfoldable pub callers_of : List ℕ → ℕ → List Cursor → List Frame
 callers_of path n [] = []
 callers_of path n (caller ∷ callers) =
@@ -23,11 +23,11 @@ frames_with f left = frame f.step.path.items left ∷ callers_of f.step.path.ite
 abbrev pub state_in : Frames → State
 state_in f = state_of f.step.stack f.waiting.items
 
--- What stands behind the step's token.
+-- What follows the step's token.
 abbrev pub left_behind : Frames → List CharToken
 left_behind f = behind_token f.step.token (tokens_left f.current)
 
--- The step, the steps from it on, and those of the tokens behind it.
+-- The step, the steps from it on, and those of the tokens after it.
 abbrev pub step_here : FontValue → Frames → StepView
 step_here font f = step_at font f.step.path.items f.step.token (left_behind f) (state_in f)
 

@@ -1,4 +1,4 @@
--- What a listing holds: the steps that were listed, the state behind them, and the run of the tokens
+-- What a listing holds: the steps that were listed, the state after them, and the run of the tokens
 -- that a cursor has left.
 use Rattle.std.specs.Prelude.{◌≡◌, ◌≤◌, ◌-◌, List, [], ◌∷◌, ◌++◌, length, map}
 use Rattle.t1_char.specs.declared.cursor.Cursor.{Cursor}
@@ -21,7 +21,7 @@ run_from listing cursor =
     expansion listing.font.now (most_calls - length listing.path.items) listing.path.items
     (tokens_left cursor) (state_in listing)
 
--- The step and the effect of a token, which the listing stands before.
+-- The step and the effect of a token, which comes next.
 abbrev pub step_taken : Listing → CharToken → Cursor → StepView
 step_taken listing token behind =
     step_at listing.font.now listing.path.items token (behind_token token (tokens_left behind)) (state_in listing)

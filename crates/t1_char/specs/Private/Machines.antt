@@ -1,4 +1,4 @@
--- How a machine stands.
+-- The state of a machine.
 use Rattle.std.specs.Prelude.{◌≡◌, ℕ, ◌≤◌, ◌+◌, List, ◌∷◌, length, drop}
 use Rattle.t1_font.specs.Fonts.{FontValue}
 use Rattle.t1_char.specs.declared.frames.Frames.{Frames}
@@ -9,21 +9,21 @@ use Rattle.t1_char.specs.StepValues.{step_value}
 use Rattle.t1_char.specs.Turns.{TurnValue, ended, limited, turn_at, counted_after}
 use Rattle.t1_char.specs.Private.Frames.{IsReady, steps_from, steps_behind, step_here}
 
--- Behind n steps the run goes on with the others.
+-- After n steps the run goes on with the others.
 pub record GoesOnFrom (limit : ℕ) (steps : List StepView) (font : FontValue) (n : ℕ) (f : Frames) : Type 0 where
   pub ready : IsReady font f
   pub steps_are : steps_from font f ≡ step_here font f ∷ drop n steps
   pub near : n ≤ limit
   pub within : n ≤ length steps
 
--- The same where the step in hand was executed, and the next isn't read yet.
+-- The same where the current step was executed, and the next isn't read yet.
 pub record IsBehind (limit : ℕ) (steps : List StepView) (font : FontValue) (n : ℕ) (f : Frames) : Type 0 where
   pub even : length f.step.path.items ≡ length f.callers.items
   pub steps_are : steps_behind font f ≡ drop n steps
   pub near : n ≤ limit
   pub within : n ≤ length steps
 
--- The answer of the last call is that of the next, and the count stays.
+-- The result of the last call is that of the next, and the count stays.
 pub record Repeats (limit : ℕ) (steps : List StepView) (n : ℕ) (turn : TurnValue) : Type 0 where
   pub again : turn_at limit steps n ≡ turn
   pub stays : counted_after limit steps n ≡ n

@@ -1,7 +1,7 @@
 -- A seac by its two bytes.
 use Rattle.std.specs.Prelude.{ℕ, ◌==◌, ◌&&◌, ◌||◌, Bool, false, List, [], ◌∷◌}
 
--- Somewhere 12 and 6 stand side by side, where this byte stands in front.
+-- Somewhere 12 and 6 are side by side, where this byte comes before.
 abbrev pub has_pair : ℕ → List ℕ → Bool
 has_pair before [] = false
 has_pair before (byte ∷ rest) = (byte == 6 && before == 12) || has_pair byte rest

@@ -1,4 +1,4 @@
--- The steps that were listed so far, of those that were asked for.
+-- The steps that were listed so far, of those that were requested.
 use Rattle.std.specs.Prelude.{◌≡◌, ℕ, ◌<◌, ◌++◌, Bool, List, length, map, take}
 use Rattle.t1_char.specs.declared.step.Step.{Step}
 use Rattle.t1_char.specs.Effects.{State}
@@ -9,7 +9,7 @@ use Rattle.t1_char.specs.StepValues.{step_view, step_value}
 abbrev pub AreNumbered : List Step → Type 0
 AreNumbered steps = map step_value steps ≡ numbered 1 (map step_view steps)
 
--- To the steps in front those of a run were added, until there were so many.
+-- To the steps of front those of a run were added, until there were so many.
 pub record IsExpanded (most : ℕ) (front : List StepView) (run : Run) (steps : List StepView) (finished : Bool) (state : State)
     : Type 0 where
   pub steps_are : steps ≡ take most (front ++ run.steps)

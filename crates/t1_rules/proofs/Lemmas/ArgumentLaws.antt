@@ -1,4 +1,4 @@
--- Which numbers are kept, and how many commands want.
+-- Which numbers are kept, and how many commands need.
 use Rattle.std.proofs.Common.{◌≡◌, ℕ, ℤ, ◌&&◌, ◌||◌, nat_lt, true, false, List, length, refl, sym, ap, ◌∙◌, arith}
 use Rattle.std.proofs.lemmas.Bool.{ltb-true, lt-ltb, eqb-true}
 use Rattle.std.proofs.lemmas.Int.{ints, clamps}

@@ -39,7 +39,7 @@ take_more zero xs ys = refl
 take_more (suc n) [] ys = refl
 take_more (suc n) (x ∷ xs) ys = ap (λ zs. x ∷ zs) (take_more n xs ys)
 
--- What fits behind a list, where there is so much room.
+-- What fits after a list, where there is so much room.
 pub take_room : {A : Type 0} (n room : ℕ) (xs ys : List A) → room + length xs ≡ n → take n (xs ++ ys) ≡ xs ++ take room ys
 take_room n room xs ys is =
     let whole : n ≡ length xs + room = omega arith in

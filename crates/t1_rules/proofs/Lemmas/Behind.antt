@@ -212,7 +212,7 @@ pops_alone_pop_nothing edition before step other = o04_row edition before step �
     other_pop (Command Pop) other = absurd (other refl)
     other_pop _ other = refl
 
--- ---- stems behind what was drawn
+-- ---- stems after what was drawn
 
 is_stem_of : (token : CharToken) (command : Commands) → token ≡ Command command → IsStem command → is_stem token ≡ true
 is_stem_of token _ is hstem = ap is_stem is

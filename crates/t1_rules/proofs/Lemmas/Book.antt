@@ -36,7 +36,7 @@ row_found : (rule : Rule) (d : Rule × Level × List ℕ × List ℕ) → slice_
 row_found F01 d = refl
 row_found _ d = refl
 
--- The row of a rule stands behind those of lesser numbers.
+-- The row of a rule comes after those of lesser numbers.
 pub row_at : (table : List (Rule × Level × Bor (List ℕ) × Bor (List ℕ))) → map row_view table ≡ rows → (rule : Rule) (i : ℕ) → i ≡ number_of rule - 1 →
     (d : Rule × Level × Bor (List ℕ) × Bor (List ℕ)) → row_view (slice_index_or table i d) ≡ (rule, level_of rule, code_of rule, text_of rule)
 row_at table told rule i at d =
@@ -92,6 +92,6 @@ pub no_row : (code : List ℕ) (table : List (Rule × Level × Bor (List ℕ) ×
 unfolding row_coded
 no_row code table i past = ap (λ (t : List (Rule × Level × Bor (List ℕ) × Bor (List ℕ))). row_coded code (map row_view t)) (drop_all i table past)
 
--- What stands for a row where there is none.
+-- In place of a row where there is none.
 abbrev pub empty_row : Rule × Level × Bor (List ℕ) × Bor (List ℕ)
 empty_row = (F01, Must, record { ref_ptr = (0, 0); now = [] }, record { ref_ptr = (0, 0); now = [] })

@@ -24,7 +24,7 @@ names_are_counted = refl
 
 -- ---- no name twice
 
--- Each name that has letters is another than those behind it.
+-- Each name that has letters is another than those after it.
 abbrev are_apart : List (List ℕ) → Bool
 are_apart [] = true
 are_apart (name ∷ names) = (length name == 0 || not (list_any (same_name name) names)) && are_apart names
@@ -135,7 +135,7 @@ own_encoding_has_no_say limit font encoding codes bad_code =
 
 -- ---- a component by its charstring
 
--- The first of a name stands behind those of other names.
+-- The first of a name comes after those of other names.
 first_place : (front rest : List (List ℕ × List ℕ)) (name code : List ℕ) → AllPass (λ glyph. not (same_name name glyph.0)) front
     → position_or_len (same_name name) (map (λ glyph. glyph.0) (front ++ (name, code) ∷ rest)) ≡ length front
 first_place [] rest name code others = rw (same_self name) refl

@@ -182,7 +182,7 @@ agree_without_one_edge n before step none_before none_here = go (47 == n) refl
         subst (λ k. breaks (step_rules Two) k before step ≡ breaks (step_rules One) k before step) (eqb-true 47 n same)
         (stem_row Two before step ∙ (overlapping_same before step none_before none_here ∙ sym (stem_row One before step)))
 
--- ---- what the second edition tells, the first does
+-- ---- what the second edition reports, the first does
 
 or_more : (a b c d : Bool) → (a ≡ true → b ≡ true) → (c ≡ true → d ≡ true) → (a || c) ≡ true → (b || d) ≡ true
 or_more true b c d f g h = rw (f refl) refl
@@ -275,7 +275,7 @@ lacks_same limit other font step =
     ∙ ap (λ accent. is_seac step.token && (is_lacking (base_code step) (component_of_code b (base_code step)) || accent))
     (lacking_same limit other font (accent_code step))
 
--- The rows behind the first are those on what components have.
+-- The rows after the first are those on what components have.
 component_rows : (limit other : ℕ) (font : FontValue) (n : ℕ) (before : List StepView) (step : StepView) → (65 == n) ≡ false → (66 == n) ≡ false
     → (68 == n) ≡ false
     → breaks (component_rules (components_of limit font)) n before step ≡ breaks (component_rules (components_of other font)) n before step

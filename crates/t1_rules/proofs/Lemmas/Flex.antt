@@ -97,7 +97,7 @@ one_more_in_flex old new before t st in_flex moves points point ended popped pop
     turned false true = refl
     turned false false = refl
 
--- A point stays as near behind one step more.
+-- A point stays as near after one step more.
 pub near_on : (n : ℕ) (p : Point) → IsNear n p → IsNear (n + 1) p
 near_on n p near = record {
   x = record { low = omega (arith, ints, near.x.low); high = omega (arith, ints, near.x.high) };

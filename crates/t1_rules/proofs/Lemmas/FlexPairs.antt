@@ -1,4 +1,4 @@
--- The current point behind a step, and the pairs of a flex.
+-- The current point after a step, and the pairs of a flex.
 use Rattle.std.proofs.Common.{◌≡◌, ℕ, suc, ◌+◌, ◌<◌, ◌==◌, ◌&&◌, if◌then◌else◌, Bool, true, false, nat_le, nat_lt, ℤ, Some, List, [], ◌∷◌, ◌++◌, length, length-append, slice_get, refl, sym, ◌∙◌, append_assoc, append-nil, arith}
 use Rattle.std.proofs.Math.Bool.{and-false}
 use Rattle.std.proofs.Math.Seq.{take-append_seam}
@@ -95,7 +95,7 @@ no_call_no_flex t e = (rw e refl, (rw e refl, rw e refl))
 call_of : (number count : ℕ) (t : StepView) → calls_othersubr number count t ≡ true → is_callothersubr t.token ≡ true
 call_of number count t e = (and_both _ _ (and_both _ _ (and_both _ _ e).0).0).0
 
--- Behind a start and pairs one is in flex, with so many moves and points since.
+-- After a start and pairs one is in flex, with so many moves and points since.
 pub counts_of : (before : List StepView) (start : StepView) → is_flex_start start ≡ true → (n : ℕ) (is_half : Bool) (steps : List StepView)
     → ArePairs n is_half steps → Counts ((before ++ start ∷ []) ++ steps) (n + half is_half) n
 counts_of before start starts _ _ _ nothing = rw (append-nil (before ++ start ∷ [])) (record {
@@ -116,7 +116,7 @@ counts_of before start starts _ _ _ (and_point n steps t pairs point) =
     (counts_on _ t _ _ _ _ false true (counts_of before start starts n true steps pairs) (point_is_no_start t point) (point_is_no_end t point)
     (call_is_no_move t.token (call_of 2 0 t point)) point (omega arith) (omega arith))
 
--- No step behind the start breaks X04.
+-- No step after the start breaks X04.
 abbrev AreFine : Edition → List StepView → List StepView → Type 0
 AreFine edition front steps = (place : ℕ) → length front < place → place < length steps → breaks_at (step_rules edition) 55 steps place ≡ false
 

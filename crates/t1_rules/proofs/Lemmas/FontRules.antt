@@ -49,7 +49,7 @@ keys_within : keys_below 22 font_rules ≡ true
 unfolding font_rules
 keys_within = refl
 
--- No font rule stands past the last key.
+-- No font rule is past the last key.
 pub past_last : (key : ℕ) → 22 ≤ key → (font : FontValue) (index n : ℕ) → violated font_rules n font key index ≡ false
 past_last key past font index n = none_at 22 font_rules keys_within n font key index past
 

@@ -67,7 +67,7 @@ glyph_twice_past font index past = go (nat_lt index 65536) refl
         rw (le-ltb index (length font.glyphs) (omega arith), and-false (nat_lt index 65536)) refl
     go false e = rw e refl
 
--- The rules that are said of an entry as a whole stand at index 0.
+-- The rules that are said of an entry as a whole are at index 0.
 pub past_places : (font : FontValue) (key index : ℕ) → places_of font key ≤ index → (n : ℕ) → violated font_rules n font key index ≡ false
 unfolding font_rules
 past_places font zero index past n = rw (differs index 0 past) refl

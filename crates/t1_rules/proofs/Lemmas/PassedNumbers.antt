@@ -1,4 +1,4 @@
--- Numbers that a machine goes over: what watchers and components keep of them.
+-- Numbers that a machine passes: what watchers and components keep of them.
 use Rattle.std.proofs.Common.{◌≡◌, ℕ, ℤ, zero, suc, ◌+◌, ◌-◌, ◌<◌, ◌≤◌, true, false, Option, Some, None, List, [], ◌∷◌, ◌++◌, length, length-take, nat_lt, take, refl, sym, ap, subst, ◌∙◌, arith}
 use Rattle.std.proofs.Math.Bool.{or-false}
 use Rattle.std.proofs.lemmas.Bool.{and_parts, ltb-true}
@@ -95,7 +95,7 @@ component_stays edition m font glyph counted same_run more passed =
     sym (stays_at_all limit all m.counted d (subst (λ k. ArePassed limit all m.counted k) (sym same) (of_machine edition m font glyph counted same_run passed)))
     ∙ ap (λ k. component_in (take k (take limit all))) same
 
--- A machine told a step behind the numbers that it went over: what a component is up to there.
+-- A machine returned a step after the numbers that it passed: what a component is up to there.
 pub record HasTold (edition : Edition) (font : FontValue) (glyph n counted : ℕ) (step : Step) : Type 0 where
   pub before : ℕ
   pub least : n ≤ before
@@ -129,7 +129,7 @@ known_with edition font glyph n counted step old new told is more =
     ∙ ap component_in (sym told.told.more)
     ∙ ap (λ k. component_in (take k steps)) (sym told.counted_is)
 
--- Behind the last step.
+-- After the last step.
 pub known_over : (numbers : Numbers) (edition : Edition) (font : FontValue) (glyph : ℕ) (m new : MachineView) (answer : Answer) → Executes edition font glyph m
     → IsAsked numbers m new (answer_view answer new.step) → (answer ≡ answers.Step → ⊥)
     → component_in (take m.counted (take (limit_of edition) (steps_of font glyph))) ≡ component_in (take (limit_of edition) (steps_of font glyph))
@@ -139,7 +139,7 @@ known_over numbers edition font glyph m new answer same asked other =
     ∙ ap component_in (answered_over (limit_of edition) (steps_of font glyph) asked.before answer new.step other
     (asked.turn ∙ same_turn edition at font glyph (executes_behind edition m font glyph asked.before same)))
 
--- How many calls are left behind the step.
+-- How many calls are left after the step.
 pub fewer_left_behind : (edition : Edition) (font : FontValue) (glyph n counted : ℕ) (step : Step) → HasTold edition font glyph n counted step
     → limit_of edition + 1 - counted < limit_of edition + 1 - n
 fewer_left_behind edition font glyph n counted step told =

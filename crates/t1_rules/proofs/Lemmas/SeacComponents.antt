@@ -57,7 +57,7 @@ code_at step place = seac_code (argument step.stack place)
 abbrev part : ℕ → FontValue → StepView → ℕ → Component
 part limit font step place = component_of_code (components_of limit font) (code_at step place)
 
--- No code that has a name stands there; or its name is no glyph's; or it is a glyph's.
+-- No code that has a name is there; or its name is no glyph's; or it is a glyph's.
 data IsPart (limit : ℕ) (font : FontValue) (step : StepView) (place : ℕ) : Type 0 where
   nameless : is_named (code_at step place) ≡ false → part limit font step place ≡ missing → IsPart limit font step place
   lacking : (name : List ℕ) → Names step place name → glyph_named font name ≡ None → part limit font step place ≡ missing → IsPart limit font step place
@@ -72,7 +72,7 @@ at_code limit font code below = get_or-map-range_with_len (component_at limit fo
 has_no_letters : (name : List ℕ) → 0 < length name → (length name == 0) ≡ false
 has_no_letters name letters = grind (arith, letters)
 
--- By the name that stands there.
+-- By the name that is there.
 by_name : (limit : ℕ) (font : FontValue) (step : StepView) (place : ℕ) (name : List ℕ) → Names step place name → part limit font step place ≡ component_of_glyph
     limit font (glyph_named font name)
 by_name limit font step place name names =

@@ -107,7 +107,7 @@ glyph_row edition before step = row_decides 39 (step_rules edition) 13 _ refl re
 pub ends_break_one_rule : EndsBreakOneRule
 ends_break_one_rule edition before step ends = rw (subr_row edition before step, glyph_row edition before step, ends) refl
 
--- What stands in front of more.
+-- A prefix of a list with more after it.
 take_front : {A : Type 0} (xs more : List A) (n : ℕ) → n ≤ length xs → take n (xs ++ more) ≡ take n xs
 take_front xs more zero less = refl
 take_front [] more (suc n) less = absurd (omega arith)
@@ -142,7 +142,7 @@ moved_is_by_places steps = since_is_by_places outer_move closing_step steps
 pub open_is_by_places : OpenIsByPlaces
 open_is_by_places steps = since_is_by_places drawing closing_step steps
 
--- A command that clears the stack came, whatever stood in front of the steps.
+-- A command that clears the stack came, whatever was before the steps.
 begun : (front steps : List StepView) → any_from clearing_step front steps ≡ list_any (λ s. clears s.token) steps
 begun front [] = refl
 begun front (s ∷ ss) = ap (λ b. clears s.token || b) (begun (front ++ s ∷ []) ss)

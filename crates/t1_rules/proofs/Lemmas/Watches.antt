@@ -21,7 +21,7 @@ pub joined : (one other : List StepRule) (n : ℕ) (before : List StepView) (t :
 joined one other n before t both left right is by_left by_right =
     is ∙ rw (by_left, by_right) (sym (list_any-append _ one other))
 
--- What is kept stays behind a number, where the last steps leave it so.
+-- What is kept stays after a number, where the last steps leave it so.
 pub stays_at_number : (edition : Edition) (w : Watches) (before : List StepView) (t : StepView) (z : ℤ) → t.token ≡ Number z → IsCalm w
     → WatchesStandFor edition w before → WatchesStandFor edition w (before ++ t ∷ [])
 unfolding WatchesStandFor

@@ -27,7 +27,7 @@ abbrev pub is_missing : FontValue → Option (List ℕ) → Bool
 is_missing font None = false
 is_missing font (Some name) = not (same_name name not_defined) && not (has_glyph font name)
 
--- A custom Encoding gives the code a name that no glyph has; codes are below 256.
+-- A custom Encoding has a name for the code that no glyph has; codes are below 256.
 abbrev pub encodes_missing : FontValue → ℕ → Bool
 encodes_missing font code =
     nat_lt code code_count && is_custom font.encoding && is_missing font (lookup (nat_eq code) font.codes)

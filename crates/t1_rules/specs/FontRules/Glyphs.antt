@@ -5,7 +5,7 @@ use Rattle.t1_font.specs.Fonts.{FontValue, is_glyph_twice}
 use Rattle.t1_font.specs.Keys.{same_name}
 use Rattle.t1_rules.specs.Keys.{index_count}
 
--- The glyph that stands for all that are missing.
+-- The glyph that is drawn for all that are missing.
 abbrev pub not_defined : List ℕ
 not_defined = codes ".notdef"
 
@@ -13,7 +13,7 @@ not_defined = codes ".notdef"
 abbrev pub has_glyph : FontValue → List ℕ → Bool
 has_glyph font name = list_any (λ glyph. same_name name glyph.0) font.glyphs
 
--- The font states the glyph of a number twice; a number that a fault can stand at is below 65,536.
+-- The font states the glyph of a number twice; a number that a fault can be at is below 65,536.
 abbrev pub is_glyph_given_twice : FontValue → ℕ → Bool
 is_glyph_given_twice font glyph =
     nat_lt glyph index_count && nat_lt glyph (length font.glyphs) && is_glyph_twice font glyph

@@ -7,7 +7,7 @@ use Rattle.t1_font.specs.Values.{Value}
 use Rattle.t1_rules.specs.Keys.{list_limit_of, value_at}
 use Rattle.t1_rules.specs.FontRules.Values.{is_absent, is_one_number, is_numbers, count_in, first_in}
 
--- All entries whose kind is asked.
+-- All entries whose kind is tested.
 abbrev pub hint_keys : List Key
 hint_keys =
     BlueValues ∷ OtherBlues ∷ FamilyBlues ∷ FamilyOtherBlues ∷ BlueScale ∷ BlueShift ∷ BlueFuzz
@@ -24,11 +24,11 @@ is_of_kind _ value = is_numbers value
 abbrev pub is_of_another_kind : Key → Value → ℕ → Bool
 is_of_another_kind k value index = index == 0 && not (is_absent value) && not (is_of_kind k value)
 
--- There are more numbers than the limit; this stands at the first place that is too much.
+-- There are more numbers than the limit; this is the first place that is too much.
 abbrev pub has_too_many : Key → Value → ℕ → Bool
 has_too_many k value index = index == list_limit_of k && nat_lt (list_limit_of k) (count_in value)
 
--- The numbers of a list that are looked at: its first ones, as many as its limit.
+-- The numbers of a list that are looked at: the first ones, up to its limit.
 abbrev pub numbers_at : FontValue → Key → List ℤ
 numbers_at font k = first_in (list_limit_of k) (value_at font k)
 

@@ -45,7 +45,7 @@ abbrev pub is_sixteen_twice : Value → Bool
 is_sixteen_twice (numbers count (a ∷ (b ∷ first))) = count == 2 && int_eq a (whole 16) && int_eq b (whole 16)
 is_sixteen_twice _ = false
 
--- The number, or one that stands in its place.
+-- The number, or this one where there is none.
 abbrev pub number_or : ℤ → Value → ℤ
 number_or z absent = z
 number_or z (number own) = own
@@ -59,7 +59,7 @@ count_in (number z) = 0
 count_in (numbers count first) = count
 count_in other = 0
 
--- The first numbers of a list, at most as many as its limit.
+-- The first numbers of a list, up to its limit.
 abbrev pub first_in : ℕ → Value → List ℤ
 first_in limit absent = []
 first_in limit (number z) = []

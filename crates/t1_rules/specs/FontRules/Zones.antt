@@ -45,7 +45,7 @@ distance font = (pos 2 *ℤ number_or (whole 1) (value_at font BlueFuzz)) +ℤ w
 abbrev pub scale : FontValue → ℤ
 scale font = number_or (pos 39625000) (value_at font BlueScale)
 
--- A zone's first number stands here.
+-- A zone's first number is here.
 abbrev pub begins_zone : List ℤ → ℕ → Bool
 begins_zone v index = index % 2 == 0 && nat_lt (index + 1) (length v)
 

@@ -1,4 +1,4 @@
--- Laws of the numbers that commands want and take. Type 1 Font Format, chapter 6.
+-- Laws of the numbers that commands need and take. Type 1 Font Format, chapter 6.
 use Rattle.std.specs.Prelude.{◌≡◌, ℕ, ℤ, ◌<◌, ◌↔◌, true, false, Some, None, List, length}
 use Rattle.t1_char.specs.declared.command.Command.{Command as Commands}
 use Rattle.t1_char.specs.declared.command.Command.TheVariants.{Callothersubr, Callsubr, Div, Pop, Return}
@@ -17,8 +17,8 @@ use Rattle.t1_char.specs.Stacks.{most_numbers}
 abbrev pub KeptIsNotPast : Type 0
 KeptIsNotPast = (z : ℤ) → (clamped z ≡ z) ↔ (is_past z ≡ false)
 
--- How many numbers a command wants on the stack: as many as it has arguments; those that take theirs from the
--- top want two, one or none.
+-- How many numbers a command needs on the stack: one per argument. Those that take theirs from the top need
+-- two, one or none.
 pub data Wants : Commands → ℕ → Type 0 where
   arguments : (command : Commands) (count : ℕ) → arguments_of command ≡ Some count → Wants command count
   div : Wants Div 2

@@ -3,7 +3,7 @@ use Rattle.std.specs.Prelude.{◌≡◌, ◌↔◌, ℕ, ◌-◌, List, Some, le
 use Rattle.t1_rules.specs.declared.rule.Rule.{Rule}
 use Rattle.t1_rules.specs.Book.{code_of, last_number, number_of, rule_coded, rules}
 
--- Each rule stands in the list of all at its number, of which the first is 1.
+-- Each rule is in the list of all at its number, of which the first is 1.
 abbrev pub EachRuleStands : Type 0
 EachRuleStands = (rule : Rule) → slice_get rules (number_of rule - 1) ≡ Some rule
 

@@ -21,8 +21,8 @@ goes_in finishes = false
 abbrev pub callsubr_at : FontValue → List ℕ → List CharToken → State → StepView
 callsubr_at font path behind state = step_at font path (Command Callsubr) behind state
 
--- callsubr with a number on the stack, where at most ten calls are open, goes into a Subr exactly where it
--- breaks neither S01 nor S02.
+-- callsubr with a number on the stack goes into a Subr exactly where it breaks neither S01 nor S02. At
+-- most ten calls are open.
 abbrev pub SoundCallsGoIn : Type 0
 SoundCallsGoIn =
     (edition : Edition) (font : FontValue) (path : List ℕ) (behind : List CharToken) (state : State)

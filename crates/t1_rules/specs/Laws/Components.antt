@@ -11,7 +11,7 @@ use Rattle.t1_rules.specs.Components.{component_in, component_named, components_
 use Rattle.t1_rules.specs.StandardEncoding.{standard_encoding, standard_name}
 use Rattle.t1_font.specs.Bounds.{code_count}
 
--- StandardEncoding has 256 codes, of which 149 have a name, and no name stands at two codes.
+-- StandardEncoding has 256 codes, of which 149 have a name, and no name is at two codes.
 abbrev pub has_letters : List ℕ → Bool
 has_letters name = not (length name == 0)
 
@@ -46,11 +46,11 @@ OwnEncodingHasNoSay =
     (limit : ℕ) (font : FontValue) (encoding : Encoding) (codes : List (ℕ × List ℕ)) (bad_code : Bool) →
     components_of limit (encoded_anew font encoding codes bad_code) ≡ components_of limit font
 
--- The steps of a glyph with this charstring, wherever it stands among the glyphs.
+-- The steps of a glyph with this charstring, wherever it is among the glyphs.
 abbrev pub steps_by_code : FontValue → List ℕ → List StepView
 steps_by_code font code = (expansion font most_calls [] (tokens_in font code) at_start).steps
 
--- A component is what its charstring is: which glyphs stand before it and behind it has no say.
+-- A component is what its charstring is: which glyphs are before it and after it has no say.
 abbrev pub PlacesHaveNoSay : Type 0
 PlacesHaveNoSay =
     (limit : ℕ) (font : FontValue) (front rest : List (List ℕ × List ℕ)) (name code : List ℕ) →

@@ -23,7 +23,7 @@ EndsLeadOutOfFlex =
     (before : List StepView) (step : StepView) →
     is_flex_end step ≡ true → in_flex (before ++ step ∷ []) ≡ false
 
--- The current point behind a step: where hsbw puts it; a step that doesn't set it moves it on by its
+-- The current point after a step: where hsbw puts it; a step that doesn't set it moves it on by its
 -- displacement, and closepath leaves it.
 abbrev pub WidthsSetThePoint : Type 0
 WidthsSetThePoint =
@@ -45,8 +45,8 @@ pub record IsBeside (step : StepView) : Type 0 where
   pub no_move : is_move step.token ≡ false
   pub no_call : is_callothersubr step.token ≡ false
 
--- So many pairs of a move and a point of a flex, with other steps between, and whether a move more has
--- come, whose point hasn't.
+-- So many pairs of a move and a point of a flex, with other steps between; and whether a move more has
+-- come, without its point.
 pub data ArePairs : ℕ → Bool → List StepView → Type 0 where
   nothing : ArePairs 0 false []
   and_beside : (n : ℕ) (is_half : Bool) (steps : List StepView) (step : StepView) →
@@ -56,7 +56,7 @@ pub data ArePairs : ℕ → Bool → List StepView → Type 0 where
   and_point : (n : ℕ) (steps : List StepView) (step : StepView) →
       ArePairs n true steps → is_flex_point step ≡ true → ArePairs (n + 1) false (steps ++ step ∷ [])
 
--- Seven pairs behind a start, and then an end, break no X04, whatever came before.
+-- Seven pairs after a start, and then an end, break no X04, whatever came before.
 abbrev pub SevenPairsAreAFlex : Type 0
 SevenPairsAreAFlex =
     (edition : Edition) (before pairs : List StepView) (start end : StepView) →
@@ -64,7 +64,7 @@ SevenPairsAreAFlex =
     (place : ℕ) → length before < place → place < length before + length pairs + 2 →
     breaks_at (step_rules edition) (number_of X04) (((before ++ start ∷ []) ++ pairs) ++ end ∷ []) place ≡ false
 
--- Behind another number of pairs, or with a move whose point hasn't come, the end breaks it.
+-- After another number of pairs, or with a move whose point hasn't come, the end breaks it.
 abbrev pub OtherCountsAreNoFlex : Type 0
 OtherCountsAreNoFlex =
     (edition : Edition) (before pairs : List StepView) (start end : StepView) (n : ℕ) (is_half : Bool) →
@@ -85,7 +85,7 @@ SetcurrentpointPutsThePoint =
     (before : List StepView) (step : StepView) → IsCommand step Setcurrentpoint →
     current_point (before ++ step ∷ []) ≡ at (argument step.stack 0) (argument step.stack 1)
 
--- Each short form leads as far as the full one that the standard gives for it. Type 1 Font Format, 6.4.
+-- Each short form leads as far as its full form in the standard. Type 1 Font Format, 6.4.
 pub record LeadAsFar (a b c d : ℤ) : Type 0 where
   pub hmoveto : moved_by Hmoveto (a ∷ []) ≡ moved_by Rmoveto (a ∷ pos 0 ∷ [])
   pub vmoveto : moved_by Vmoveto (a ∷ []) ≡ moved_by Rmoveto (pos 0 ∷ a ∷ [])

@@ -23,7 +23,7 @@ abbrev pub controls_counters : StepView → Bool
 controls_counters step =
     calls_by_numbers step && has_good_count step && is_counter_control (from_top step.stack 0)
 
--- Of callothersubr with two numbers exactly one is so: it calls 0 to 3 with the count that is wanted; it
+-- Of callothersubr with two numbers exactly one is so: it calls 0 to 3 with the count that is needed; it
 -- controls counters; or it breaks O01, O02 or O03.
 abbrev pub CallsAreOneOfFive : Type 0
 CallsAreOneOfFive =

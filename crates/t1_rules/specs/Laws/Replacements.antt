@@ -1,4 +1,4 @@
--- Laws of stems behind what was drawn, and of hint replacement. Type 1 Font Format, chapters 6 and 8.
+-- Laws of stems after what was drawn, and of hint replacement. Type 1 Font Format, chapters 6 and 8.
 use Rattle.std.specs.Prelude.{◌≡◌, ℕ, ◌<◌, ◌↔◌, true, false, Some, List, [], ◌∷◌, ◌++◌, slice_get, take}
 use Rattle.t1_char.specs.declared.command.Command.{Command as Commands}
 use Rattle.t1_char.specs.declared.command.Command.TheVariants.{Callsubr, Hlineto, Hstem, Hstem3, Hvcurveto, Pop, Rlineto, Rrcurveto, Vhcurveto, Vlineto, Vstem, Vstem3}
@@ -10,7 +10,7 @@ use Rattle.t1_rules.specs.Laws.StepRules.{violates}
 use Rattle.t1_rules.specs.StepRules.Paths.{in_flex}
 use Rattle.t1_rules.specs.StepRules.Tokens.{IsCommand}
 
--- ---- stems behind what was drawn
+-- ---- stems after what was drawn
 
 pub data IsStem : Commands → Type 0 where
   hstem : IsStem Hstem
@@ -31,7 +31,7 @@ pub data Draws (before : List StepView) (step : StepView) : Type 0 where
   by_line : (command : Commands) → IsCommand step command → IsLine command → Draws before step
   by_flex : is_flex_end step ≡ true → in_flex before ≡ true → Draws before step
 
--- At some place stands a step that draws, and at no later one a hint replacement.
+-- At some place is a step that draws, and at no later one a hint replacement.
 pub record IsDrawn (steps : List StepView) : Type 0 where
   pub place : ℕ
   pub step : StepView
@@ -40,7 +40,7 @@ pub record IsDrawn (steps : List StepView) : Type 0 where
   pub lasts : (later : ℕ) (other : StepView) → place < later → slice_get steps later ≡ Some other →
       is_hint_replacement other ≡ false
 
--- A stem breaks H01 exactly behind such steps; another command, and what is no command, never does.
+-- A stem breaks H01 exactly after such steps; another command, and what is no command, never does.
 abbrev pub StemsAreLateBehindDrawing : Type 0
 StemsAreLateBehindDrawing =
     (edition : Edition) (before : List StepView) (step : StepView) (command : Commands) →
@@ -53,7 +53,7 @@ StemsAloneAreLate =
 
 -- ---- hint replacement
 
--- The last step replaces hints, and the step behind it isn't pop.
+-- The last step replaces hints, and the step after it isn't pop.
 pub record LacksPop (before : List StepView) (step : StepView) : Type 0 where
   pub front : List StepView
   pub replacement : StepView
@@ -61,7 +61,7 @@ pub record LacksPop (before : List StepView) (step : StepView) : Type 0 where
   pub replaces : is_hint_replacement replacement ≡ true
   pub no_pop : IsCommand step Pop → ⊥
 
--- The last steps are a hint replacement and pop, and the step behind them isn't callsubr.
+-- The last steps are a hint replacement and pop, and the step after them isn't callsubr.
 pub record LacksCallsubr (before : List StepView) (step : StepView) : Type 0 where
   pub front : List StepView
   pub replacement : StepView

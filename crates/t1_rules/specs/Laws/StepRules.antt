@@ -69,8 +69,7 @@ OneStepStartsWithoutWidth =
     (edition : Edition) (steps : List StepView) (one other : ℕ) →
     starts_at edition steps one ≡ true → starts_at edition steps other ≡ true → one ≡ other
 
--- In flex: a start stands at some place, and no end at a later one; moved, and the path open, the same
--- with a closepath.
+-- In flex: a start is at some place, and no end at a later one. Moved, and the path open: the same with a closepath.
 abbrev pub FlexIsByPlaces : Type 0
 FlexIsByPlaces = (steps : List StepView) → (in_flex steps ≡ true) ↔ IsSince flex_start flex_end steps
 

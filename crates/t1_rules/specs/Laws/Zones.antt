@@ -5,7 +5,7 @@ use Rattle.t1_rules.specs.FontRules.Values.{product_one}
 use Rattle.t1_rules.specs.FontRules.Hints.{number_at, falls_at}
 use Rattle.t1_rules.specs.FontRules.Zones.{Zone, zones, come_near, is_too_near, meets, is_too_high}
 
--- Where no number falls behind the one before it, none is less than any before it; and only there.
+-- Where no number is less than the one before it, none is less than any before it; and only there.
 abbrev pub ListsRiseWhereNoneFalls : Type 0
 ListsRiseWhereNoneFalls = (v : List ℤ) → ((index : ℕ) → falls_at v index ≡ false) ↔ AllPairs ◌≤ℤ◌ v
 

@@ -1,4 +1,4 @@
--- What stands at a key, as the code has it.
+-- What is at a key, as the code has it.
 use Rattle.std.specs.Prelude.{ℕ}
 use Rattle.t1_rules.specs.declared.keys.KeyKind.{KeyKind}
 use Rattle.t1_rules.specs.declared.keys.KeyKind.TheVariants.{File, Value, Encoding, Subrs, CharStrings}

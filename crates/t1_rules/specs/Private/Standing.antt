@@ -15,7 +15,7 @@ use Rattle.t1_rules.specs.StepRules.Seac.{makes_outline}
 use Rattle.t1_rules.specs.StepRules.Stems.{lies_across, stands_upright, hint_set, is_drawn, is_replaced, is_replaced_and_popped, popping}
 use Rattle.t1_rules.specs.Watches.{IsNear}
 
--- A watcher that keeps nothing stands for any steps.
+-- A watcher that keeps nothing matches any steps.
 abbrev pub StandsForAny : {W : Type 0} → W → List StepView → Type 0
 StandsForAny watcher before = ⊤
 
@@ -50,7 +50,7 @@ pub record SeacStandsFor (watcher : SeacWatcher) (before : List StepView) : Type
   pub in_flex : watcher.in_flex ≡ in_flex before
   pub outlined : watcher.outlined ≡ any_so_far makes_outline before
 
--- All watchers stand for the same steps; those of arguments, calls and OtherSubrs keep nothing.
+-- All watchers match the same steps; those of arguments, calls and OtherSubrs keep nothing.
 unfoldable pub WatchesStandFor : Edition → Watches → List StepView → Type 0
 WatchesStandFor edition watches before =
     PathsStandFor watches.paths before × (StemsStandFor edition watches.stems before

@@ -19,12 +19,12 @@ taken_from_top Callothersubr = 2
 taken_from_top Callsubr = 1
 taken_from_top _ = 0
 
--- How many numbers a command wants on the stack: its arguments, or those that it takes from the top.
+-- How many numbers a command needs on the stack: its arguments, or those that it takes from the top.
 abbrev pub wanted_by : Commands → Option ℕ → ℕ
 wanted_by command (Some count) = count
 wanted_by command None = taken_from_top command
 
--- There are fewer numbers than the command wants.
+-- There are fewer numbers than the command needs.
 abbrev pub has_too_few_arguments : CharToken → List ℤ → Bool
 has_too_few_arguments (Command command) stack = nat_lt (length stack) (wanted_by command (arguments_of command))
 has_too_few_arguments _ stack = false

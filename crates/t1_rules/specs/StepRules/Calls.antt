@@ -9,7 +9,7 @@ use Rattle.t1_char.specs.Steps.{StepView, is_callsubr, is_end, is_return}
 abbrev pub calls_by_number : StepView → Bool
 calls_by_number step = is_callsubr step.token && nat_lt 0 (length step.stack)
 
--- The step stands in the glyph's own charstring, and not in a Subr.
+-- The step is in the glyph's own charstring, and not in a Subr.
 abbrev pub is_in_glyph : StepView → Bool
 is_in_glyph step = length step.path == 0
 
@@ -29,6 +29,6 @@ ends_in_subr step = is_end step.token && not (is_in_glyph step)
 abbrev pub ends_in_glyph : StepView → Bool
 ends_in_glyph step = is_end step.token && is_in_glyph step
 
--- Something stands in the charstring behind the command that finishes the glyph.
+-- Something follows the command that finishes the glyph in its charstring.
 abbrev pub goes_on_past_end : StepView → Bool
 goes_on_past_end step = is_finishing step.token && not step.last

@@ -85,7 +85,7 @@ goes_on_outside before step = (is_flex_point step || is_flex_end step) && not (i
 abbrev pub commands_in_flex : List StepView → StepView → Bool
 commands_in_flex before step = clears step.token && not (is_move step.token) && in_flex before
 
--- A point comes behind its move, and the end behind seven of each.
+-- A point comes after its move, and the end after seven of each.
 abbrev pub miscounts : ℕ → ℕ → StepView → Bool
 miscounts moves points step =
     (is_flex_point step && not (moves == points + 1)) || (is_flex_end step && not (moves == 7 && points == 7))

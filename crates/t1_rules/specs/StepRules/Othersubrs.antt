@@ -31,7 +31,7 @@ is_counter_control number = is_whole 12 number || is_whole 13 number
 abbrev pub is_known : ℤ → Bool
 is_known number = is_flex_or_hints number || is_counter_control number
 
--- One of 0 to 3 is called with the count that it wants.
+-- One of 0 to 3 is called with the count that it needs.
 abbrev pub is_effective : StepView → Bool
 is_effective step = is_flex_end step || (is_flex_start step || (is_flex_point step || is_hint_replacement step))
 

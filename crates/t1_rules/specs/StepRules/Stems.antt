@@ -18,7 +18,7 @@ use Rattle.t1_rules.specs.StepRules.Tokens.{is_command, is_pop}
 use Rattle.t1_char.specs.Numbers.{unit}
 use Rattle.t1_font.specs.Fonts.{after_last}
 
--- The two directions: hstem and hstem3 lie across the glyph, vstem and vstem3 stand upright.
+-- The two directions: hstem and hstem3 lie across the glyph, vstem and vstem3 are upright.
 abbrev pub lies_across : Commands → Bool
 lies_across Hstem = true
 lies_across Hstem3 = true
@@ -80,8 +80,8 @@ abbrev pub overlap_by : Edition → Stem → Stem → Bool
 overlap_by One one other = overlap one other
 overlap_by Two one other = not (has_one_edge one || has_one_edge other) && overlap one other
 
--- Which two stems clash is given, since each edition has its own word on it: one of the stems clashes with one
--- that is kept; two of the stems clash.
+-- Which two stems clash is a parameter, since each edition has its own definition: one of the stems clashes
+-- with one that is kept; two of the stems clash.
 abbrev pub one_overlaps : (Stem → Stem → Bool) → List Stem → List Stem → Bool
 one_overlaps clash stems kept = list_any (λ stem. list_any (clash stem) kept) stems
 

@@ -13,7 +13,7 @@ is_unknown (Unknown _) = true
 is_unknown (Unknown12 _) = true
 is_unknown _ = false
 
--- The bytes break off inside a number or behind 12.
+-- The bytes break off inside a number or after 12.
 abbrev pub is_cut : CharToken → Bool
 is_cut Cut = true
 is_cut _ = false

@@ -11,7 +11,7 @@ use crate::mask::Mask;
 use crate::rule::Rule;
 use t1_font::Font;
 
-/// The glyph that stands for all that are missing.
+/// The glyph that is drawn for all that are missing.
 pub(crate) const NOT_DEFINED: &[u8] = b".notdef";
 
 /// Whether a glyph has this name.

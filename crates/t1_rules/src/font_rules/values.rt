@@ -50,7 +50,7 @@ pub(crate) fn count_in(value: &Entry) -> usize
     }
 }
 
-/// The first numbers of a value, at most as many as its limit.
+/// The first numbers of a value, up to its limit.
 pub(crate) fn first_in(limit: usize, value: &Entry) -> &[i64]
     ensures { result.now ≡ first_in limit (entry_view value.now) }
 {

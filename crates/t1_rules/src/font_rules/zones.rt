@@ -19,7 +19,7 @@ use t1_font::{BILLION, Entry, Font, Key};
 /// One, in the unit of a product of two numbers.
 const PRODUCT_ONE: i128 = BILLION as i128 * BILLION as i128;
 
-/// BlueScale where the font doesn't give it: 0.039625.
+/// BlueScale where the font doesn't state it: 0.039625.
 const USUAL_SCALE: i64 = 39_625_000;
 
 /// The edges of a zone.
@@ -50,7 +50,7 @@ fn difference(above: i64, below: i64) -> i128
     i128::from(above) - i128::from(below)
 }
 
-/// Whether a zone's first number stands here.
+/// Whether a zone's first number is here.
 fn begins_zone(numbers: &[i64], index: usize) -> bool
     ensures { result ≡ begins_zone numbers.now index }
 {

@@ -45,7 +45,7 @@ impl Watch for ArgumentWatcher {
     }
 }
 
-/// What a step breaks. Numbers, which most steps are, are asked one test.
+/// What a step breaks. Numbers, which most steps are, need one test.
 #[inline(always)]
 #[tactic(auto, unfolding(crate::specs::StepRules::argument_rules))]
 fn faults(token: CharToken, step: &Step) -> Mask
@@ -152,7 +152,7 @@ fn one_is_past(count: usize, numbers: &[i64]) -> bool
     }
 }
 
-/// Whether the numbers are as many as a command takes, and none is past 32000.
+/// Whether these are exactly the numbers that a command takes, and none is past 32000.
 #[inline(always)]
 pub(crate) fn has_its_arguments(command: Command, numbers: &[i64]) -> bool {
     match command.arguments() {

@@ -85,7 +85,7 @@ fn calls_by_number(token: CharToken, step: &Step) -> bool
     is_callsubr(token) & (0 < step.stack.len())
 }
 
-/// Whether the step stands in the glyph's own charstring.
+/// Whether the step is in the glyph's own charstring.
 pub(crate) fn is_in_glyph(step: &Step) -> bool
     ensures { result ≡ is_in_glyph (step_view step.now) }
 {

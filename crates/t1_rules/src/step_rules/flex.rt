@@ -84,7 +84,7 @@ impl Watch for FlexWatcher {
 }
 
 impl FlexWatcher {
-    /// The current point behind the steps that were seen: where X05 wants a flex to end.
+    /// The current point after the steps that were seen: where X05 requires a flex to end.
     #[inline(always)]
     pub fn point(&self) -> Point
         ensures value { (before : List StepView) → FlexStandsFor self.now before → result ≡ current_point before }
@@ -101,7 +101,7 @@ impl FlexWatcher {
         self.in_flex
     }
 
-    /// Whether since the last start of a flex there were seven moves and seven points, as X04 wants at its end.
+    /// Whether since the last start of a flex there were seven moves and seven points, as X04 requires at its end.
     #[inline(always)]
     pub fn has_seven_pairs(&self) -> bool
         ensures { (before : List StepView) → FlexStandsFor self.now before →
@@ -110,7 +110,7 @@ impl FlexWatcher {
         (self.moves == 7) & (self.points == 7)
     }
 
-    /// Whether the last steps neither ended a flex nor took a pop behind that.
+    /// Whether the last steps neither ended a flex nor took a pop after that.
     #[inline(always)]
     pub(crate) fn is_calm(&self) -> bool
         ensures ended { result ≡ true → self.now.ended ≡ false }
@@ -222,7 +222,7 @@ fn counted(call: OthersubrCall, step: &Step, count: u32, is_one: bool) -> u32
     }
 }
 
-/// Whether a point doesn't come behind its move, or the end behind seven of each.
+/// Whether a point doesn't come after its move, or the end after seven of each.
 #[inline(always)]
 fn miscounts(moves: u32, points: u32, call: OthersubrCall, step: &Step) -> bool
     requires call { call ≡ othersubr_call (step_view step.now) }
@@ -254,7 +254,7 @@ fn is_elsewhere(one: Point, other: Point) -> bool
     (one.x != other.x) | (one.y != other.y)
 }
 
-/// The current point behind a step.
+/// The current point after a step.
 #[inline(always)]
 fn next_point(point: Point, token: CharToken, step: &Step) -> Point
     requires token { step.now.token ≡ token }

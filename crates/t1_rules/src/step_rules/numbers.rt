@@ -1,5 +1,5 @@
-//! Sums and comparisons of numbers in units of 1/65536, each with what the prover is told of it.
-//! Type 1 Font Format 1.1, chapter 6.
+//! Sums and comparisons of numbers in units of 1/65536, each with what the prover needs to know of
+//! it. Type 1 Font Format 1.1, chapter 6.
 
 ghost use Rattle.std.specs.Prelude.{◌≡◌, ◌+ℤ◌, ◌*ℤ◌, not, pos};
 ghost use Rattle.std.specs.Ordering.{int_eq};

@@ -107,7 +107,7 @@ fn is_good_count(most: usize, count: i64) -> bool
     }
 }
 
-/// Whether the step calls an OtherSubr of flex or hint replacement with the count that it wants.
+/// Whether the step calls an OtherSubr of flex or hint replacement with the count that it needs.
 fn is_effective(call: OthersubrCall, step: &Step) -> bool
     requires call { call ≡ othersubr_call (step_view step.now) }
     ensures { result ≡ is_effective (step_view step.now) }

@@ -32,7 +32,7 @@ use t1_char::{
 /// How many stems a hint set has at most, in each direction.
 const MOST_STEMS: usize = 96;
 
-/// The widths that stand for one edge, in units of 1/65536.
+/// The widths that mean one edge, in units of 1/65536.
 const TOP_EDGE: i64 = -20 * UNIT;
 
 const BOTTOM_EDGE: i64 = -21 * UNIT;
@@ -99,7 +99,7 @@ impl Watch for StemWatcher {
 }
 
 impl StemWatcher {
-    /// The hint set of hstem and hstem3 behind the steps that were seen: the first 96 since the last hint replacement.
+    /// The hint set of hstem and hstem3 after the steps that were seen: the first 96 since the last hint replacement.
     #[inline(always)]
     pub fn across(&self) -> &[Stem]
         ensures { (edition : Editions) (before : List StepView) → StemsStandFor edition self.now before →
@@ -130,7 +130,7 @@ impl StemWatcher {
         self.popped = false;
     }
 
-    /// Whether the last steps neither replaced the hints nor took a pop behind that.
+    /// Whether the last steps neither replaced the hints nor took a pop after that.
     #[inline(always)]
     pub(crate) fn is_calm(&self) -> bool
         ensures replaced { result ≡ true → self.now.replaced ≡ false }
@@ -272,7 +272,7 @@ impl Stem {
         spans_meet(self.lower(), self.upper(), other.lower(), other.upper())
     }
 
-    /// Whether its width is exactly -20 or -21, which stands for one edge in the second edition.
+    /// Whether its width is exactly -20 or -21, which means one edge in the second edition.
     pub fn has_one_edge(self) -> bool
         ensures { result ≡ has_one_edge self }
     {
@@ -367,7 +367,7 @@ fn own_stems_meet(edition: Edition, token: CharToken, step: &Step, kept: &[Stem]
     }
 }
 
-/// Keeps the stems of the step, as long as there are fewer than 96.
+/// Keeps the stems of the step, while there are fewer than 96.
 #[inline(always)]
 fn keep_own(kept: &mut Stems, token: CharToken, step: &Step)
     requires token { step.now.token ≡ token }
@@ -380,7 +380,7 @@ fn keep_own(kept: &mut Stems, token: CharToken, step: &Step)
     }
 }
 
-/// Keeps a stem, as long as there are fewer than 96.
+/// Keeps a stem, while there are fewer than 96.
 #[inline(always)]
 fn keep_one(kept: &mut Stems, stem: Stem)
     ensures { kept.new.items ≡ take most_stems (kept.old.items ++ stem ∷ []) }
@@ -390,7 +390,7 @@ fn keep_one(kept: &mut Stems, stem: Stem)
     }
 }
 
-/// Keeps stems, as long as there are fewer than 96.
+/// Keeps stems, while there are fewer than 96.
 #[inline(never)]
 fn keep(kept: &mut Stems, stems: &[Stem])
     ensures { kept.new.items ≡ take most_stems (kept.old.items ++ stems.now) }

@@ -130,7 +130,7 @@ pub(crate) fn starts_flex(call: OthersubrCall, _step: &Step) -> bool
     matches!(call, OthersubrCall::FlexStart)
 }
 
-/// Whether the step of this call gives a flex its next point.
+/// Whether the step of this call adds the next point to a flex.
 #[inline(always)]
 #[tactic(auto, using(crate::proofs::Lemmas::KnownCalls::gives_point, crate::proofs::Lemmas::KnownCalls::gives_no_point))]
 pub(crate) fn gives_flex_point(call: OthersubrCall, _step: &Step) -> bool

@@ -6,7 +6,7 @@ use Rattle.t1_rules.proofs.Lemmas.Components.{component_known}
 use Rattle.t1_rules.proofs.Lemmas.PassedNumbers.{HasTold, fewer_left_behind, has_told, known_over, known_with}
 use Rattle.t1_rules.proofs.sidebearings.component_of_glyph.Goals as goal
 
--- The step behind the numbers.
+-- The step after the numbers.
 abbrev told : (c : goal.Joined-else-lacks_seac) → HasTold c.args.edition c.args.font.now c.args.glyph c.loop-component.machine.counted
     c.go_on.new.self.counted c.current.result.now
 told c =
@@ -32,7 +32,7 @@ loop-component-preserved c =
           c.loop-component.invariant.component c.take_in.ensures;
     }
 
--- No step behind the first sidebearing changes a component that has no seac.
+-- No step after the first sidebearing changes a component that has no seac.
 pub returns-then-is_some : goal.returns-then-is_some
 returns-then-is_some c =
     component_known (limit_of c.args.edition) (steps_of c.args.font.now c.args.glyph) c.go_on.new.self.counted c.take_in.new.self
