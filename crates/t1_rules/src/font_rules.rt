@@ -6,7 +6,7 @@ ghost use Rattle.t1_rules.specs.Keys.{key_number};
 ghost use Rattle.t1_rules.specs.Mask.{has};
 ghost use Rattle.t1_rules.specs.Private.KeyKinds.{kind_number};
 
-mod encoding;
+pub(crate) mod encoding;
 mod entries;
 mod file;
 mod glyphs;
@@ -15,7 +15,7 @@ mod ids;
 mod stems;
 mod subrs;
 mod values;
-mod zones;
+pub(crate) mod zones;
 
 use crate::keys::{KeyKind, kind_of};
 use crate::mask::Mask;

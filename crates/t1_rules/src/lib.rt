@@ -56,7 +56,10 @@ mod watch;
 mod watches;
 
 pub use book::{rule_code, rule_level, rule_text};
+pub use font_rules::encoding::encodes_missing;
 pub use font_rules::font_faults;
+pub use font_rules::hints::numbers_at;
+pub use font_rules::zones::{distance, scale};
 pub use glyph_names::glyph_named;
 pub use keys::{INDEXES, KEYS, key_text, places};
 pub use laws::{
@@ -86,7 +89,7 @@ pub use step_rules::flex::{FlexWatcher, Point};
 pub use step_rules::othersubrs::OthersubrWatcher;
 pub use step_rules::paths::PathWatcher;
 pub use step_rules::seac::{SeacWatcher, accent_code, base_code};
-pub use step_rules::stems::{Stem, StemWatcher};
+pub use step_rules::stems::{Stem, StemWatcher, are_unequal};
 pub use step_rules::tokens::{closes, is_line, is_move, is_seac, sets_width};
 pub use watch::Watch;
 pub use watches::Watches;

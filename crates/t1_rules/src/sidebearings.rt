@@ -152,6 +152,14 @@ impl Sidebearings {
                 || self.accent(step).is_without_sidebearing())
     }
 
+    /// Returns the sidebearing of the accent that a step names, in units of 1/65536: what K05 compares. It is None where no glyph
+    /// has the accent's name, or that glyph has neither hsbw nor sbw.
+    pub fn accent_sidebearing(&self, step: &Step) -> Option<i32>
+        ensures { result ≡ (accent self.now.components (step_view step.now)).sidebearing }
+    {
+        self.accent(step).sidebearing
+    }
+
     fn base(&self, step: &Step) -> Component
         ensures { result ≡ base self.now.components (step_view step.now) }
     {

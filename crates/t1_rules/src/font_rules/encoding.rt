@@ -43,7 +43,7 @@ fn is_missing(font: &Font<'_>, name: Option<&[u8]>) -> bool
 }
 
 /// Whether a custom encoding names a glyph for this code that isn't there.
-fn encodes_missing(font: &Font<'_>, code: u32) -> bool
+pub fn encodes_missing(font: &Font<'_>, code: u32) -> bool
     ensures { result ≡ encodes_missing font.now code }
 {
     code < CODES && is_custom(font.encoding()) && is_missing(font, font.encoded(code))

@@ -2,12 +2,12 @@
 
 ghost use Rattle.std.specs.Prelude.{◌≡◌, ℕ};
 ghost use Rattle.t1_font.specs.Entries.{entry_view};
-ghost use Rattle.t1_rules.specs.FontRules.Hints.{falls_at, has_too_many, is_of_another_kind, is_of_kind};
+ghost use Rattle.t1_rules.specs.FontRules.Hints.{falls_at, has_too_many, is_of_another_kind, is_of_kind, numbers_at};
 ghost use Rattle.t1_rules.specs.Keys.{list_limit_of};
 ghost use Rattle.t1_rules.specs.Mask.{has};
 ghost use Rattle.t1_rules.specs.Private.KeyTests.{broken_among, number_tests};
 
-use crate::font_rules::values::count_in;
+use crate::font_rules::values::{count_in, first_in};
 use crate::mask::Mask;
 use crate::rule::Rule;
 use t1_font::{Entry, Font, Key};
@@ -22,6 +22,14 @@ pub(crate) fn list_limit_of(key: Key) -> usize
         Key::StemSnapH | Key::StemSnapV => 12,
         _ => 0,
     }
+}
+
+/// Returns the numbers of a list of zones or stem snaps that the rules look at, in units of 10^-9: as many as the list's limit at
+/// most. There are none at other keys.
+pub fn numbers_at<'f>(font: &'f Font<'_>, key: Key) -> &'f [i64]
+    ensures { result.now ≡ numbers_at font.now key }
+{
+    first_in(list_limit_of(key), font.value(key))
 }
 
 /// Whether a value is of the kind that a hint entry has.

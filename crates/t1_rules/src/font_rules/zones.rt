@@ -29,15 +29,15 @@ pub(crate) struct Edges {
     upper: i64,
 }
 
-/// The distance that zones keep: twice BlueFuzz and one.
-fn distance(font: &Font<'_>) -> i128
+/// The distance that zones keep: twice BlueFuzz and one, in units of 10^-9. BlueFuzz is 1 where it isn't a number.
+pub fn distance(font: &Font<'_>) -> i128
     ensures { result ≡ distance font.now }
 {
     2 * i128::from(number_or(BILLION, font.value(Key::BlueFuzz))) + i128::from(BILLION)
 }
 
-/// BlueScale.
-fn scale(font: &Font<'_>) -> i64
+/// BlueScale, in units of 10^-9. It is 0.039625 where it isn't a number.
+pub fn scale(font: &Font<'_>) -> i64
     ensures { result ≡ scale font.now }
 {
     number_or(USUAL_SCALE, font.value(Key::BlueScale))

@@ -255,7 +255,7 @@ impl Stem {
     }
 
     /// Whether two stems share more than an edge; in the second edition one of one edge shares nothing.
-    fn overlaps(self, other: Stem, edition: Edition) -> bool
+    pub fn overlaps(self, other: Stem, edition: Edition) -> bool
         ensures { result ≡ overlap_by edition self other }
     {
         match edition {
@@ -475,7 +475,7 @@ fn is_unequal(token: CharToken, step: &Step) -> bool
 
 /// Whether the outer two stems aren't equally wide, or the middles not equally far apart.
 #[inline(never)]
-fn are_unequal(one: Stem, two: Stem, three: Stem) -> bool
+pub fn are_unequal(one: Stem, two: Stem, three: Stem) -> bool
     ensures { result ≡ are_unequal one two three }
 {
     (one.width != three.width) | is_off_middle(one, two, three)
