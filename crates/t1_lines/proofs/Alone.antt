@@ -1,4 +1,5 @@
--- No line stands in another one behind a colon and a blank: of the words of a line, no two that follow one another have a colon.
+-- No line is in another one after a colon and a blank: of the words of a line, no two that follow one another have a
+-- colon.
 use Rattle.std.proofs.Common.{◌≡◌, ◌≤◌, ◌<◌, ◌^◌, ℕ, Bool, true, false, true≢false, ◌==◌, ◌&&◌, ◌||◌, if◌then◌else◌, List, [], ◌∷◌, ◌++◌, codes, refl, sym, ◌∙◌, subst, inl, inr, arith, decimal}
 use Rattle.std.proofs.lemmas.Bool.{cases_Bool}
 use Rattle.std.proofs.Math.Pow.{pow_mono}
@@ -15,7 +16,7 @@ use Rattle.t1_lines.specs.declared.refusal.RefusalCode.TheVariants.{E01}
 use Rattle.t1_lines.proofs.Cuts.{lacks}
 use Rattle.t1_lines.proofs.Lacking.{colonless-code, colonless-key, colonless-text, lacks-append, lacks-decimal, lacks-name, lacks-path}
 
--- Two words that follow one another have a colon, given whether the word in front has one, and the word so far.
+-- Two words that follow one another have a colon, given whether the word before has one, and the word so far.
 abbrev doubles : Bool → Bool → List ℕ → Bool
 doubles before has [] = before && has
 doubles before has (c ∷ text) =
@@ -29,7 +30,7 @@ and-false : (b : Bool) → (b && false) ≡ false
 and-false true = refl
 and-false false = refl
 
--- A word with a colon behind one with a colon.
+-- A word with a colon after one with a colon.
 second : (word rest : List ℕ) (has : Bool) → lacks 32 word ≡ true → doubles true has (word ++ (58 ∷ 32 ∷ rest)) ≡ true
 second [] rest has none = let more : (has || true) ≡ true = or-true has in rw more refl
 second (c ∷ word) rest has none =
@@ -38,7 +39,7 @@ second (c ∷ word) rest has none =
       | inr e ↦ (let later : lacks 32 word ≡ true = rw e at none in rw e (second word rest (has || (c == 58)) later))
     ]
 
--- Such a word stands behind a front that ends with a colon and a blank.
+-- Such a word follows bytes that end with a colon and a blank.
 behind : (front line : List ℕ) (before has : Bool) → doubles true false line ≡ true → doubles before has (front ++ (58 ∷ 32 ∷ line)) ≡ true
 behind [] line before has is = let more : (has || true) ≡ true = or-true has in rw (more, is) (or-true (before && true))
 behind (c ∷ front) line before has is =
@@ -97,7 +98,7 @@ with_decimal n rest small none =
 with_rule : (rule : Rule) → lacks 58 (code_of rule ++ (32 ∷ text_of rule)) ≡ true
 with_rule rule = lacks-append 58 (code_of rule) (32 ∷ text_of rule) (colonless-code rule) (colonless-text rule)
 
--- Behind a line's number no two words that follow one another have a colon.
+-- After a line's number no two words that follow one another have a colon.
 place-calm : (place : PlaceValue) (rule : Rule) → IsPlace place rule → (before : Bool) →
     doubles before false (spaced (place_words place (code_of rule)) (text_of rule)) ≡ false
 place-calm (at_key key index) rule is before =
@@ -132,7 +133,7 @@ line-calm (of_fault l) is =
     (lacks-decimal 32 l.number is.number (λ c low high same. omega (arith, low, high, same))) (place-calm l.place l.rule is.place)
 line-calm (of_refusal code) is = calm (refusal_text_of code) true (colonless-refusal code)
 
--- Behind a word with a colon a line begins with another one.
+-- After a word with a colon a line begins with another one.
 line-doubles : (l : LineValue) → IsLine l → doubles true false (spelled l) ≡ true
 line-doubles (of_fault l) is =
     second (decimal l.number) (spaced (place_words l.place (code_of l.rule)) (text_of l.rule)) false

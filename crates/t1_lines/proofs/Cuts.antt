@@ -5,11 +5,11 @@ use Rattle.std.specs.List.{list_all, prefix_len}
 use Rattle.t1_lines.specs.Cutting.{cut}
 use Rattle.t1_lines.specs.Private.Reading.{differs}
 
--- No such byte stands in the text.
+-- No such byte is in the text.
 abbrev pub lacks : ℕ → List ℕ → Bool
 lacks byte text = list_all (differs byte) text
 
--- What stands before it, and behind it, by what stands from it on.
+-- What is before it, and after it, by what there is from it on.
 abbrev pub parts : List ℕ → List ℕ → Option (List ℕ × List ℕ)
 parts front [] = None
 parts front (c ∷ rest) = Some (front, rest)

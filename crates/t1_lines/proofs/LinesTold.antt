@@ -93,7 +93,7 @@ path-told word path e =
       | inr is ↦ (let here : numbers_read 10 word ≡ Some path = rw is at e in let told = numbers-told 10 word path here in (told.is, told.few, told.small))
     ]
 
--- What is told of a line by what stands behind its number.
+-- What a line says by what follows its number.
 record IsTold (count : ℕ) (words : List ℕ) (l : FaultLineValue) : Type 0 where
   pub number : l.number ≡ count
   pub place : IsPlace l.place l.rule
@@ -205,7 +205,7 @@ blank-told (c ∷ text) rest e =
       | inr is ↦ (let never : None ≡ Some rest = rw is at e in cc)
     ]
 
--- What stands behind the first word and `: `.
+-- What follows the first word and `: `.
 told-told : (word text : List ℕ) (l : LineValue) → told_line word text ≡ Some l → IsLine l × (spelled l ≡ word ++ (58 ∷ 32 ∷ text))
 unfolding told_line
 told-told word text l e =

@@ -3,7 +3,7 @@ use Rattle.std.proofs.Common.{◌≡◌, ◌+◌, ◌-◌, ◌<◌, ℕ, suc, Li
 use Rattle.t1_lines.specs.Cutting.{cut}
 use Rattle.t1_lines.specs.Private.Reading.{number_of, numbers_read}
 
--- What stands already, and these numbers.
+-- What is there already, and these numbers.
 abbrev pub behind : List ℕ → Option (List ℕ) → Option (List ℕ)
 behind items o = option_map (λ ns. items ++ ns) o
 

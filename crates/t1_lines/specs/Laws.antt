@@ -27,7 +27,7 @@ FaultsAreWrittenAsLines = (font : FontValue) (waivers : List Waiver) (fault : Fa
 abbrev pub ATextIsOneLine : Type 0
 ATextIsOneLine = (a b : LineValue) → IsLine a → IsLine b → spelled a ≡ spelled b → a ≡ b
 
--- No line stands in another one behind a colon and a blank.
+-- No line is in another one after a colon and a blank.
 abbrev pub NoLineStandsInAnother : Type 0
 NoLineStandsInAnother =
     (a b : LineValue) (front : List ℕ) → IsLine a → IsLine b → ¬ (front ++ (58 ∷ 32 ∷ spelled b) ≡ spelled a)
@@ -50,7 +50,7 @@ abbrev pub NoCodeIsOfTwo : Type 0
 NoCodeIsOfTwo =
     (a b : Reason) (code : RefusalCode) → refusal_code_of a ≡ Some code → refusal_code_of b ≡ Some code → a ≡ b
 
--- A reason without a number is want of memory, in reading a font or waivers.
+-- A reason without a number is running out of memory, in reading a font or waivers.
 abbrev pub MemoryAloneRefusesNone : Type 0
 MemoryAloneRefusesNone =
     (reason : Reason) → refusal_code_of reason ≡ None → (reason ≡ Font unread.Memory) ⊎ (reason ≡ Waivers waivers.Memory)

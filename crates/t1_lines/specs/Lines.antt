@@ -55,7 +55,7 @@ place_words (at_key key index) code = codes "font" ∷ key_text_of key ∷ decim
 place_words (at_step name path step) code = codes "glyph" ∷ name ∷ path_text path ∷ decimal step ∷ code ∷ []
 place_words (at_waiver name rule) code = codes "waiver" ∷ name ∷ code_of rule ∷ code ∷ []
 
--- Words, each with a blank behind it, and a text.
+-- Words, each with a blank after it, and a text.
 abbrev pub spaced : List (List ℕ) → List ℕ → List ℕ
 spaced [] text = text
 spaced (word ∷ words) text = word ++ (32 ∷ spaced words text)
@@ -85,7 +85,7 @@ abbrev pub IsLine : LineValue → Type 0
 IsLine (of_fault l) = IsFaultLine l
 IsLine (of_refusal code) = Unit {0}
 
--- Where a fault stands; a waiver that isn't there has no name.
+-- Where a fault is; a waiver that isn't there has no name.
 abbrev pub waiver_in : Option Waiver → PlaceValue
 waiver_in None = at_waiver [] U01
 waiver_in (Some w) = at_waiver w.0 w.1

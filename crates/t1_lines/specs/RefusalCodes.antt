@@ -7,7 +7,7 @@ use Rattle.t1_lines.specs.declared.refusal.Reason.TheVariants.{Font, FontTooLarg
 use Rattle.t1_lines.specs.declared.refusal.RefusalCode.{RefusalCode}
 use Rattle.t1_lines.specs.declared.refusal.RefusalCode.TheVariants.{E01, E02, E03, E04, E05, E06, E07, E08, E09, E10, E11, E12, E13, E14, E15}
 
--- Want of memory refuses none.
+-- Running out of memory refuses none.
 abbrev pub refusal_code_of : Reason → Option RefusalCode
 refusal_code_of (Font NotAFont) = Some E01
 refusal_code_of (Font BadHeader) = Some E02

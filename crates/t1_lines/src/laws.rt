@@ -17,7 +17,7 @@ pub fn a_text_is_one_line()
     ensures { ATextIsOneLine }
 {}
 
-/// No line stands in another one behind a colon and a blank: so behind a font's name it is known where a line begins.
+/// No line is in another one after a colon and a blank. So after a font's name it is known where a line begins.
 #[tactic(auto, using(crate::proofs::Alone::no_line_stands_in_another))]
 pub fn no_line_stands_in_another()
     ensures { NoLineStandsInAnother }
@@ -48,7 +48,7 @@ pub fn waivers_have_names()
     ensures { WaiversHaveNames }
 {}
 
-/// Each of the fifteen numbers is that of one reason, and every reason but want of memory has one.
+/// Each of the fifteen numbers is that of one reason, and every reason but running out of memory has one.
 #[tactic(auto, using(crate::proofs::ReasonsOfCodes::each, crate::proofs::ReasonsOfCodes::no_other, crate::proofs::ReasonsOfCodes::memory_alone))]
 pub fn each_refusal_has_a_code()
     ensures each { EachCodeIsOfAReason }

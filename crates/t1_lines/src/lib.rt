@@ -1,8 +1,8 @@
 //! The lines that t1check writes, read back: a fault, a waiver that isn't used, a refusal.
 //!
-//! [`read`] takes a line without its end, and gives what it says, as a [`Line`]: its number in the report, the
-//! rule, and the place, which is a key of the font and an index, or a glyph's name, the Subrs that are being
-//! executed and the step, or a waiver; or the code of a refusal. Nothing is allocated: names are slices of the line.
+//! [`read`] takes a line without its end, and returns what it says, as a [`Line`]. A fault has its number in the
+//! report, its rule and its place: a key of the font and an index; a glyph's name, the Subrs that are being executed
+//! and the step; or a waiver. A refusal has its code. Nothing is allocated: names are slices of the line.
 //!
 //! What is promised, for all bytes:
 //!

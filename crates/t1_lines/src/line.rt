@@ -24,7 +24,7 @@ pub struct FaultLine<'a> {
     pub rule: Rule,
 }
 
-/// Where a fault stands.
+/// Where a fault is.
 #[derive(Debug, PartialEq, Eq, Drop)]
 pub enum Place<'a> {
     /// A key of the font, by its number, which `t1_rules::key_text` names, and an index.

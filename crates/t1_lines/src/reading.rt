@@ -42,7 +42,7 @@ fn path(word: &[u8]) -> Option<Path>
     numbers(word)
 }
 
-/// `KEY INDEX RULE TEXT`, behind `NUMBER: font `.
+/// `KEY INDEX RULE TEXT`, after `NUMBER: font `.
 #[tactic(auto, unfolding(crate::specs::Private::Reading::font_line))]
 fn font_line<'a>(line_number: u64, text: &'a [u8]) -> Option<FaultLine<'a>>
     ensures { option_map fault_line_value result ≡ font_line line_number text.now }
@@ -59,7 +59,7 @@ fn font_line<'a>(line_number: u64, text: &'a [u8]) -> Option<FaultLine<'a>>
     })
 }
 
-/// `NAME PATH STEP RULE TEXT`, behind `NUMBER: glyph `.
+/// `NAME PATH STEP RULE TEXT`, after `NUMBER: glyph `.
 #[tactic(auto, unfolding(crate::specs::Private::Reading::glyph_line))]
 fn glyph_line<'a>(line_number: u64, text: &'a [u8]) -> Option<FaultLine<'a>>
     ensures { option_map fault_line_value result ≡ glyph_line line_number text.now }
@@ -80,7 +80,7 @@ fn glyph_line<'a>(line_number: u64, text: &'a [u8]) -> Option<FaultLine<'a>>
     })
 }
 
-/// `NAME RULE U01 TEXT`, behind `NUMBER: waiver `.
+/// `NAME RULE U01 TEXT`, after `NUMBER: waiver `.
 #[tactic(auto, unfolding(crate::specs::Private::Reading::waiver_line))]
 fn waiver_line<'a>(line_number: u64, text: &'a [u8]) -> Option<FaultLine<'a>>
     ensures { option_map fault_line_value result ≡ waiver_line line_number text.now }
@@ -103,7 +103,7 @@ fn waiver_line<'a>(line_number: u64, text: &'a [u8]) -> Option<FaultLine<'a>>
     }
 }
 
-/// `PLACE RULE TEXT`, behind `NUMBER: `.
+/// `PLACE RULE TEXT`, after `NUMBER: `.
 #[tactic(auto, unfolding(crate::specs::Private::Reading::place_line))]
 fn place_line<'a>(line_number: u64, text: &'a [u8]) -> Option<FaultLine<'a>>
     ensures { option_map fault_line_value result ≡ place_line line_number text.now }
@@ -120,7 +120,7 @@ fn place_line<'a>(line_number: u64, text: &'a [u8]) -> Option<FaultLine<'a>>
     }
 }
 
-/// What stands behind `NUMBER: ` or `refused: `.
+/// What follows `NUMBER: ` or `refused: `.
 #[tactic(auto, unfolding(crate::specs::Private::Reading::told_line))]
 fn told_line<'a>(word: &[u8], text: &'a [u8]) -> Option<Line<'a>>
     ensures { option_map line_value result ≡ told_line word.now text.now }

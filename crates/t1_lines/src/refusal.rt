@@ -13,7 +13,7 @@ use t1_report::WaiverError;
 pub enum RefusalCode {
     /// The bytes begin neither as a PFB file nor as a PFA file.
     E01,
-    /// Where a segment should begin stands something else.
+    /// A segment should begin, but something else is there.
     E02,
     /// The bytes end inside a segment.
     E03,
@@ -57,7 +57,7 @@ pub enum Reason {
 }
 
 impl RefusalCode {
-    /// The number by which bytes are refused for a reason. Want of memory refuses none.
+    /// The number by which bytes are refused for a reason. Running out of memory refuses none.
     pub fn of(reason: Reason) -> Option<RefusalCode>
         ensures { result ≡ refusal_code_of reason }
     {
@@ -101,7 +101,7 @@ static REFUSALS: [RefusalCode; 15] = [
     RefusalCode::E15,
 ];
 
-/// What is told of a refusal: its code and why.
+/// What is printed of a refusal: its code and why.
 pub fn refusal_text(code: RefusalCode) -> &'static str
     ensures { result.now ≡ refusal_text_of code }
 {
@@ -131,7 +131,7 @@ fn refusals() -> &'static [RefusalCode]
     &REFUSALS
 }
 
-/// The refusal of which this is told.
+/// The refusal of this text.
 pub(crate) fn refusal_told(text: &[u8]) -> Option<RefusalCode>
     ensures { result ≡ refusal_of text.now }
 {

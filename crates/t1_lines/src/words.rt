@@ -5,7 +5,7 @@ ghost use Rattle.std.specs.List.{prefix_len};
 ghost use Rattle.t1_lines.specs.Cutting.{cut};
 ghost use Rattle.t1_lines.specs.Private.Reading.{begins_plainly, differs, number_of};
 
-/// How many bytes stand before the first such byte, all where there is none.
+/// How many bytes are before the first such byte, all where there is none.
 fn front_len(byte: u8, text: &[u8]) -> usize
     ensures value { result ≡ prefix_len (differs byte) text.now }
     ensures bound { result ≤ length text.now }
@@ -18,7 +18,7 @@ fn front_len(byte: u8, text: &[u8]) -> usize
     text.len()
 }
 
-/// What stands before the first such byte, and behind it.
+/// What is before the first such byte, and after it.
 pub fn cut(byte: u8, text: &[u8]) -> Option<(&[u8], &[u8])>
     ensures { option_map (λ p. (p.0.now, p.1.now)) result ≡ cut byte text.now }
 {
@@ -29,7 +29,7 @@ pub fn cut(byte: u8, text: &[u8]) -> Option<(&[u8], &[u8])>
     }
 }
 
-/// Whether neither a plus nor a needless zero stands in front.
+/// Whether neither a plus nor a needless zero comes first.
 fn begins_plainly(text: &[u8]) -> bool
     ensures { result ≡ begins_plainly text.now }
 {

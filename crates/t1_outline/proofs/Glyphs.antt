@@ -115,7 +115,7 @@ closed_from edition before (t ∷ ts) fine end =
     (λ front rest u e. subst (λ b. violates edition P02 b u ≡ false) (sym (append_assoc before (t ∷ []) front)) (fine (t ∷ front) rest u (ap (λ l. t ∷ l) e)))
     (subst (λ s. is_left_open false (drawn_of s) ≡ false) (sym (append_assoc before (t ∷ []) ts)) end)
 
--- ---- the last step of a glyph wants all closed, and draws nothing
+-- ---- the last step of a glyph requires all to be closed, and draws nothing
 
 ends_or : (a b : Bool) → (a || b) ≡ true → (a || (b && true)) ≡ true
 ends_or true b is = refl

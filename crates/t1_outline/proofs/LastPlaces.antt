@@ -18,7 +18,7 @@ use Rattle.t1_rules.proofs.Lemmas.Before.{counted_on}
 use Rattle.t1_rules.proofs.Lemmas.Flex.{plus_origin, point_goes_on}
 use Rattle.t1_rules.proofs.Lemmas.OthersubrCalls.{and_both}
 
--- The last of some places, or the one that is given.
+-- The last of some places, or this one.
 abbrev pub last_place : Point → List Point → Point
 last_place p [] = p
 last_place p (q ∷ qs) = last_place q qs

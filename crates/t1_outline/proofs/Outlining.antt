@@ -1,4 +1,4 @@
--- What an outline has still to give, one segment and one step further.
+-- What an outline has still to return, one segment and one step further.
 use Rattle.std.proofs.Common.{◌≡◌, ℕ, ◌+◌, ◌<◌, ◌≤◌, if◌then◌else◌, Bool, true, false, get_or, slice_index_or, List, [], ◌∷◌, ◌++◌, length, length-take, map, take, drop, take_all, refl, sym, ap, ◌∙◌, arith}
 use Rattle.std.proofs.lemmas.List.{drop_all, drop_more, get_or-take}
 use Rattle.std.proofs.lemmas.Option.{get_or_from_slice_get}
@@ -36,7 +36,7 @@ pub record IsSame (old new : MachineView) : Type 0 where
 pub same_steps : (old new : MachineView) → IsSame old new → steps_in new ≡ steps_in old
 same_steps old new same = rw (same.font_is, same.glyph_is, same.edition_is) refl
 
--- It told the next step.
+-- It returned the next step.
 pub record IsTold (old new : MachineView) : Type 0 where
   pub same : IsSame old new
   pub within : old.counted < length (steps_in old)
@@ -65,7 +65,7 @@ told old new same asked =
           (drop_more (steps_in old) old.counted new.step.step next.within ∙ ap (λ x. x ∷ drop (old.counted + 1) (steps_in old)) step);
     }
 
--- All segments of the step in hand were given, and the next step draws these.
+-- All segments of the current step were returned, and the next step draws these.
 pub next_drawn : (old new : MachineView) (segments more : List Segment) (given : ℕ) → IsTold old new → length segments ≤ given
     → more ≡ drawn (take old.counted (steps_in old)) new.step.step
     → left_in new more 0 ≡ left_in old segments given

@@ -17,7 +17,7 @@ use Rattle.t1_rules.specs.StepRules.Flex.{current_point}
 use Rattle.t1_rules.specs.StepRules.Paths.{closing_step, in_flex, outer_move}
 use Rattle.t1_rules.specs.StepRules.Tokens.{closes}
 
--- What a flex keeps behind a step.
+-- What a flex keeps after a step.
 pub record KeepsFlex (old new : FlexRun) (before : List StepView) (t : StepView) (broken : Mask) : Type 0 where
   pub places : new.places.items ≡ places_kept old.places.items (current_point before) t
   pub spoiled : new.spoiled ≡ (spoils broken || (old.spoiled && not (is_flex_start t && not (in_flex before))))

@@ -20,7 +20,7 @@ use Rattle.t1_rules.proofs.Lemmas.Flex.{point_goes_on}
 same_point : (a b c d : ℤ) → a ≡ c → b ≡ d → at a b ≡ at c d
 same_point a b c d x y = rw (x, y) refl
 
--- Three ways one behind another, and their sum; where one has no part in it too.
+-- Three ways one after another, and their sum; where one has no part in it too.
 three : (s a b c : ℤ) → (((s +ℤ a) +ℤ b) +ℤ c) ≡ (s +ℤ ((a +ℤ b) +ℤ c))
 three s a b c = omega (arith, ints)
 

@@ -35,7 +35,7 @@ p03_row : (edition : Edition) (before : List StepView) (t : StepView) → breaks
 unfolding step_rules argument_rules call_rules path_rules stem_rules flex_rules othersubr_rules seac_rules
 p03_row edition before t = row_decides 45 (step_rules edition) 19 _ refl refl refl refl before t
 
--- A watcher of paths tells P02 just where a step leaves something open.
+-- A watcher of paths reports P02 just where a step leaves something open.
 p02_watched : (before : List StepView) (t : StepView) → breaks path_rules 44 before t ≡ leaves_open before t
 unfolding path_rules
 p02_watched before t = row_decides 44 path_rules 3 _ refl refl refl refl before t

@@ -72,7 +72,7 @@ in_on steps t moves points more_moves more_points move point is no_start no_end 
   pointed = counted_on is_flex_point is_flex_start steps t ∙ rw (no_start, a_point, is.pointed) more_pointed;
 }
 
--- Behind a start outside flex.
+-- After a start outside flex.
 in_begun : (front : List StepView) (start : StepView) → in_flex front ≡ false → is_flex_start start ≡ true → IsIn (front ++ start ∷ []) 0 0
 in_begun front start outside starts =
     record {
@@ -125,7 +125,7 @@ drawn_if_whole before end w =
     ∙ rw (no_start, end_is_no_point end w.ends, w.ends, called_clears_none 0 3 end w.ends, old.moved, old.pointed, old.sound) refl in
     rw (w.ends, old.inside, fine) refl
 
--- What stands behind the start is pairs, or has a move too many, which the next point or the end tells.
+-- What follows the start is pairs, or has a move too many, which the next point or the end shows.
 data Pairing (pairs : List StepView) (moves points : ℕ) : Type 0 where
   paired : (n : ℕ) (is_half : Bool) → ArePairs n is_half pairs → moves ≡ n + half is_half → points ≡ n → Pairing pairs moves points
   surplus : points + 1 < moves → Pairing pairs moves points

@@ -26,7 +26,7 @@ abbrev pub curve : Point → Point → Point → Point → Segment
 curve start one two three =
     Curve (plus start one) (plus (plus start one) two) (plus (plus (plus start one) two) three)
 
--- The line or the curve of a command, from a point on, given the stack.
+-- The line or the curve of a command, from a point on, by the stack.
 abbrev pub stroke_by : Point → List ℤ → Commands → Option Segment
 stroke_by start v Rlineto = Some (line start (at (argument v 0) (argument v 1)))
 stroke_by start v Hlineto = Some (line start (at (argument v 0) (pos 0)))
@@ -46,8 +46,8 @@ stroke_at start v _ = None
 abbrev pub stroke : Point → StepView → Option Segment
 stroke start step = stroke_at start step.stack step.token
 
--- A flex is spoiled by a further start (X01), by a command in it that is no move (X03), by a point that doesn't stand behind its
--- move, and by an end behind other than seven of each (X04).
+-- A flex is spoiled by a further start (X01); by a command in it that is no move (X03); by a point that isn't after its
+-- move, or an end that isn't after seven of each (X04).
 abbrev pub spoils_flex : Test
 spoils_flex before step =
     starts_in_flex before step || (commands_in_flex before step || counts_no_pairs before step)
@@ -98,7 +98,8 @@ abbrev pub drawn_by : Bool → Point → Bool → Option Segment → List Segmen
 drawn_by there start closing (Some s) = with_opening there start (s ∷ [])
 drawn_by there start closing None = if closing && there then Close ∷ [] else []
 
--- What a step draws behind others: a move outside flex leads to the current point behind it; a flex draws its curves at its end.
+-- What a step draws after others: a move outside flex leads to the current point after it; a flex draws its curves at
+-- its end.
 abbrev pub drawn : List StepView → StepView → List Segment
 drawn before step =
     if outer_move before step then Move (current_point (before ++ step ∷ [])) ∷ []
@@ -114,7 +115,7 @@ pub record DrawnView : Type 0 where
 abbrev pub placed : ℕ → List ℕ → Segment → DrawnView
 placed number path segment = record { segment = segment; step = number; path = path }
 
--- What steps draw behind others.
+-- What steps draw after others.
 abbrev pub drawn_from : List StepView → List StepView → List DrawnView
 drawn_from before [] = []
 drawn_from before (step ∷ steps) =

@@ -1,6 +1,7 @@
--- The parts of the picture of a glyph: the glyph itself, and base and accent of its seac, each with where its origin stands.
--- Type 1 Font Format 1.1, chapter 6 (seac, hsbw, sbw). That what isn't there draws nothing, and that ASB and the sidebearing have a
--- say in where the accent stands, is this project's own.
+-- The parts of the picture of a glyph: the glyph itself, and base and accent of its seac, each with where its origin
+-- is.
+-- Type 1 Font Format 1.1, chapter 6 (seac, hsbw, sbw). That a component that isn't there draws nothing, and that ASB and
+-- the sidebearing have a say in where the accent is, is our choice where the standard is silent.
 use Rattle.std.specs.Prelude.{◌≡◌, ℕ, ◌+ℤ◌, ◌-ℤ◌, ◌<◌, if◌then◌else◌, Bool, Option, Some, None, List, [], ◌∷◌, ◌++◌, length}
 use Rattle.std.specs.List.{find}
 use Rattle.std.specs.Option.{option_map}
@@ -23,8 +24,8 @@ use Rattle.t1_rules.specs.StepRules.Flex.{at, origin, point_set}
 use Rattle.t1_rules.specs.StepRules.Seac.{accent_code, accent_sidebearing, base_code}
 use Rattle.t1_rules.specs.StepRules.Tokens.{is_hsbw, sets_width}
 
--- What hsbw and sbw set: the left sidebearing point, which is the current point behind them, and the width. The arguments are
--- SBX WX, or SBX SBY WX WY.
+-- What hsbw and sbw set: the left sidebearing point, which is the current point after them, and the width. The
+-- arguments are SBX WX, or SBX SBY WX WY.
 abbrev pub metrics_in : StepView → Metrics
 metrics_in step =
     record {
@@ -82,11 +83,11 @@ abbrev pub seac_part_at : FontValue → Option ℕ → Point → SeacPart
 seac_part_at font None point = NoCode
 seac_part_at font (Some code) point = seac_part_named font code point (standard_name code)
 
--- The accent's origin is ADX less ASB behind the left sidebearing point, and at the height ADY.
+-- The accent's origin is ADX less ASB to the right of the left sidebearing point, and at the height ADY.
 abbrev pub accent_origin : Point → Seac → Point
 accent_origin start seac = at (start.x +ℤ (seac.x -ℤ seac.sidebearing)) seac.y
 
--- The base stands at the origin of the glyph.
+-- The base is at the origin of the glyph.
 abbrev pub seac_parts_by : FontValue → Point → Option Seac → Option SeacParts
 seac_parts_by font start None = None
 seac_parts_by font start (Some seac) =

@@ -1,5 +1,5 @@
--- Words that private contracts alone cite, and the relation of a pen (Standing): what clauses of public functions say by it is
--- that there is such a relation.
+-- Words that private contracts alone cite, and the relation of a pen (Standing). Clauses of public functions say by it
+-- only that there is such a relation.
 pub mod Composing
 pub mod Drawing
 pub mod Outlining

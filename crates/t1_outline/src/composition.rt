@@ -24,18 +24,18 @@ pub struct Metrics {
     pub width: i32,
 }
 
-/// A seac, by what it is given, in units of 1/65536.
+/// A seac, by its arguments, in units of 1/65536.
 #[derive(Clone, Copy, Debug, PartialEq, Eq)]
 pub struct Seac {
     /// The code of the base in StandardEncoding.
     pub base: Option<u8>,
     /// The code of the accent.
     pub accent: Option<u8>,
-    /// What is told to be the accent's sidebearing: ASB.
+    /// What the seac says of the accent's sidebearing: ASB.
     pub sidebearing: i32,
-    /// How far the accent stands to the right: ADX.
+    /// How far the accent is to the right: ADX.
     pub x: i32,
-    /// How high it stands: ADY.
+    /// How high it is: ADY.
     pub y: i32,
 }
 
@@ -78,8 +78,8 @@ impl Composition {
         }
     }
 
-    /// Base and accent of the seac, and where their origins stand; none without seac. Those that are there make a picture with
-    /// the glyph itself.
+    /// Base and accent of the seac, and where their origins are; none without seac. Those that are there make a picture
+    /// with the glyph itself.
     pub fn seac_parts(&self, font: &Font<'_>) -> Option<SeacParts>
         ensures value { result ≡ seac_parts_in font.now self.now }
         ensures parts { (glyph : ℕ) (steps : List StepView) → self.now ≡ composition_of steps →
@@ -96,7 +96,7 @@ impl Composition {
         })
     }
 
-    /// Where the origin of the accent stands.
+    /// Where the origin of the accent is.
     fn accent_origin(&self, seac: Seac) -> Point
         ensures { result ≡ accent_origin (sidebearing_by self.now.metrics) seac }
     {
@@ -138,7 +138,7 @@ impl Metrics {
 }
 
 impl Seac {
-    /// What a step is given that is seac.
+    /// The arguments of a step that is seac.
     fn of(step: &Step) -> Seac
         ensures { result ≡ seac_in (step_view step.now) }
     {
@@ -152,7 +152,7 @@ impl Seac {
     }
 }
 
-/// The metrics of a glyph behind a further step: the first ones stay.
+/// The metrics of a glyph after a further step: the first ones stay.
 fn metrics_with(metrics: Option<Metrics>, step: &Step) -> Option<Metrics>
     ensures { result ≡ metrics_with metrics (step_view step.now) }
 {
@@ -163,7 +163,7 @@ fn metrics_with(metrics: Option<Metrics>, step: &Step) -> Option<Metrics>
     }
 }
 
-/// The seac of a glyph behind a further step.
+/// The seac of a glyph after a further step.
 fn seac_with(seac: Option<Seac>, step: &Step) -> Option<Seac>
     ensures { result ≡ seac_with seac (step_view step.now) }
 {
@@ -174,7 +174,7 @@ fn seac_with(seac: Option<Seac>, step: &Step) -> Option<Seac>
     }
 }
 
-/// Where the origin of an accent stands, given where the left sidebearing point is from left to right.
+/// Where the origin of an accent is, given where the left sidebearing point is from left to right.
 fn accent_behind(start: i32, seac: Seac) -> Point
     ensures x { result.x ≡ start +ℤ (seac.x -ℤ seac.sidebearing) }
     ensures y { result.y ≡ seac.y }
@@ -185,7 +185,7 @@ fn accent_behind(start: i32, seac: Seac) -> Point
     }
 }
 
-/// A place that is so far from the origin, by where the origin stands.
+/// A place that is so far from the origin, by where the origin is.
 fn moved(place: i64, origin: i32) -> i64
     requires { IsWithin reach place }
     ensures { result ≡ origin +ℤ place }

@@ -14,7 +14,7 @@ use t1_rules::{Mask, Point, Rule};
 /// How many places a flex has: that of its start, and those of its seven points.
 const PLACES: usize = 8;
 
-/// The flex that was started last: where it started and was given its points, and whether it is spoiled.
+/// The flex that was started last: where it started and got its points, and whether it is spoiled.
 #[derive(Drop)]
 pub(crate) struct FlexRun {
     places: ArrayVec<Point, PLACES>,
@@ -33,7 +33,7 @@ impl FlexRun {
         }
     }
 
-    /// Sees a step: where the current point is in front of it, whether it stands in flex, and which rules it breaks.
+    /// Sees a step: where the current point is before it, whether it is in flex, and which rules it breaks.
     pub(crate) fn see(&mut self, step: &Step, point: Point, in_flex: bool, broken: Mask)
         ensures places { self.new.places.items ≡ places_kept self.old.places.items point (step_view step.now) }
         ensures spoiled { self.new.spoiled
@@ -70,7 +70,7 @@ impl FlexRun {
     }
 }
 
-/// Keeps a place, as long as there are fewer than eight: a flex of more isn't drawn.
+/// Keeps a place, while there are fewer than eight: a flex of more isn't drawn.
 fn keep(places: &mut ArrayVec<Point, PLACES>, point: Point)
     ensures { places.new.items ≡ take 8 (places.old.items ++ point ∷ []) }
 {

@@ -8,14 +8,14 @@ ghost use Rattle.t1_outline.specs.Laws.Paths.{DrawnSubpathsAreClosed, RulesAskIs
 ghost use Rattle.t1_outline.specs.Laws.Points.{StepsEndAtTheCurrentPoint};
 ghost use Rattle.t1_outline.specs.Laws.ShortForms.{ShortFormsDrawAlike, ShortStepsDrawAlike};
 
-/// Each short form of a line or a curve draws from any point what the full one draws; and a step that has a short form, of a move
-/// too, draws behind any steps what it draws with the full one.
+/// Each short form of a line or a curve draws from any point what the full one draws. A step that has a short form, of
+/// a move too, draws after any steps what it draws with the full one.
 pub fn short_forms_draw_alike()
     ensures strokes { ShortFormsDrawAlike }
     ensures steps { ShortStepsDrawAlike }
 {}
 
-/// A front of the steps draws a front of what they draw.
+/// A prefix of the steps draws a prefix of what they draw.
 #[tactic(auto, using(crate::proofs::Fronts::fronts_draw_fronts))]
 pub fn fronts_draw_fronts()
     ensures { FrontsDrawFronts }
@@ -64,8 +64,8 @@ pub fn whole_flexes_are_drawn()
     ensures others { OtherFlexesDrawNothing }
 {}
 
-/// A glyph without seac is its picture's only part; behind a seac whose codes name glyphs there are three, and the accent's left
-/// sidebearing point stands by that of the glyph.
+/// A glyph without seac is its picture's only part. After a seac whose codes name glyphs there are three. The accent's
+/// left sidebearing point is by that of the glyph.
 #[tactic(auto, using(crate::proofs::PictureParts::accents_stand_by_their_sidebearings))]
 pub fn seacs_draw_their_components()
     ensures none { GlyphsWithoutSeacAreOnePart }

@@ -1,24 +1,24 @@
 //! The outlines of glyphs, as the steps of their charstrings draw them: moves, lines, curves, and where a subpath is closed.
 //! Adobe Type 1 Font Format 1.1, chapters 6 and 8.
 //!
-//! [`Pen`] sees the steps of a glyph one after another, and answers of each what it draws, at most three segments. It knows where
-//! the current point is, whether something was drawn and not closed, and which stems are in force: all by the rules' own
-//! watchers. [`Outline`] executes a glyph and gives its segments one at a time, each with its step and the Subrs that were being
-//! executed, without a list and without memory.
+//! [`Pen`] sees the steps of a glyph one after another, and returns what each draws, at most three segments. It knows
+//! where the current point is, whether something was drawn and not closed, and which stems are in force: all by the
+//! rules' own watchers. [`Outline`] executes a glyph and returns its segments one at a time, without a list and without
+//! memory. Each has its step and the Subrs that were being executed.
 //!
 //! Points are in units of 1/65536, exactly. What no rule speaks of is read so:
 //!
-//! - A line or a curve where no subpath is there, since no move came or the last one was closed, begins one at the current point.
+//! - Where no move came or the last subpath was closed, a line or a curve begins one at the current point.
 //! - A flex draws its two curves where the rules find no fault in it but its end's arguments (X05), and else nothing.
-//! - A seac draws no segments of its own: its components are glyphs, each with an outline of its own. [`Composition`] sees the
-//!   steps of a glyph too, and tells which glyphs these are, and where their origins stand.
+//! - A seac draws no segments of its own: its components are glyphs, each with an outline of its own. [`Composition`]
+//!   sees the steps of a glyph too, and says which glyphs these are, and where their origins are.
 //!
 //! What is promised, for all fonts:
 //!
-//! - the segments are those of the definitions in `specs/`, of the steps up to the limit of the edition;
-//! - the components of a seac are those of the definition, and their origins stand where it says;
-//! - but for closepath the last segment that a step draws ends where the rules' current point stands behind that step;
-//! - no call takes memory, no sum goes wrong, and each call returns.
+//! - The segments are those of the definitions in `specs/`, of the steps up to the limit of the edition.
+//! - The components of a seac are those of the definition, and their origins are where it says.
+//! - But for closepath the last segment that a step draws ends at the rules' current point after that step.
+//! - No call allocates, no sum goes wrong, and each call returns.
 //!
 //! ```
 //! let mut outline = Outline::start(font, 0, Edition::One);

@@ -21,13 +21,13 @@ pub struct Drawn {
     pub path: Path,
 }
 
-/// A glyph that is executed step by step, up to the limit of the edition: what its steps draw. It stands for what it has still to
-/// give.
+/// A glyph that is executed step by step, up to the limit of the edition: what its steps draw. Its model is what it has
+/// still to return.
 #[derive(Drop)]
 pub struct Outline<'a> {
     machine: Machine<'a>,
     pen: Pen,
-    /// What the step that was executed last draws, and how much of that was given.
+    /// What the step that was executed last draws, and how much of that was returned.
     drawn: Segments,
     given: usize,
 }

@@ -1,4 +1,4 @@
-//! Which glyphs a picture is made of, and where they stand: Type 1 Font Format 1.1, chapter 6 (seac).
+//! Which glyphs a picture is made of, and where they are: Type 1 Font Format 1.1, chapter 6 (seac).
 
 ghost use Rattle.std.specs.Prelude.{◌≡◌};
 ghost use Rattle.t1_outline.specs.Parts.{IsIn, seac_part_at, seac_part_named};
@@ -6,7 +6,7 @@ ghost use Rattle.t1_outline.specs.Parts.{IsIn, seac_part_at, seac_part_named};
 use t1_font::Font;
 use t1_rules::{Point, glyph_named, standard_name};
 
-/// Where a glyph's own origin stands.
+/// Where a glyph's own origin is.
 pub const ORIGIN: Point = Point { x: 0, y: 0 };
 
 /// A part of a picture.
@@ -14,7 +14,7 @@ pub const ORIGIN: Point = Point { x: 0, y: 0 };
 pub struct Part {
     /// The place of the glyph that is drawn, by its own steps.
     pub glyph: usize,
-    /// Where its origin stands.
+    /// Where its origin is.
     pub origin: Point,
 }
 
@@ -49,7 +49,7 @@ pub(crate) fn seac_part_at(font: &Font<'_>, code: Option<u8>, origin: Point) -> 
     }
 }
 
-/// What a name names, given its code; nothing without letters.
+/// What a name names, by its code; nothing without letters.
 fn seac_part_named(font: &Font<'_>, code: u8, name: &str, origin: Point) -> SeacPart
     ensures value { result ≡ seac_part_named font.now code origin name.now }
     ensures within { IsIn font.now result }

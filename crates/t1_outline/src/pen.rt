@@ -27,11 +27,11 @@ use t1_rules::{
 pub struct DrawnStep {
     /// Its segments, in their order.
     pub segments: Segments,
-    /// Whether it breaks P02: it wants all closed, and something isn't.
+    /// Whether it breaks P02: it requires all to be closed, and something isn't.
     pub leaves_open: bool,
 }
 
-/// Sees the steps of a glyph one after another, from the first on, and tells what each draws.
+/// Sees the steps of a glyph one after another, from the first on, and returns what each draws.
 #[derive(Drop)]
 pub struct Pen {
     paths: PathWatcher,
@@ -86,7 +86,7 @@ impl Pen {
         }
     }
 
-    /// The current point behind the steps that were seen.
+    /// The current point after the steps that were seen.
     pub fn point(&self) -> Point
         ensures { (edition : Editions) (before : List StepView) →
             PenStandsFor edition self.now before → result ≡ current_point before }
@@ -127,7 +127,8 @@ impl Pen {
     }
 }
 
-/// What a step draws: the current points in front of it and behind it, whether it stands in flex, and whether there is a subpath.
+/// What a step draws: by the current points before it and after it, whether it is in flex, and whether there is a
+/// subpath.
 fn segments(
     step: &Step,
     start: Point,
@@ -175,7 +176,7 @@ fn ends_whole(step: &Step, in_flex: bool, run: &FlexRun) -> bool
     step.ends_flex() & in_flex & !run.is_spoiled()
 }
 
-/// Whether there is a subpath behind the step, if it doesn't close it.
+/// Whether there is a subpath after the step, if it doesn't close it.
 fn makes_subpath(step: &Step, in_flex: bool, run: &FlexRun) -> bool
     ensures { result ≡ makes_subpath_in (step_view step.now) in_flex run.now.spoiled }
 {

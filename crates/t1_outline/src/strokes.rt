@@ -50,7 +50,7 @@ fn upwards(step: &Step, y: usize) -> Way
     }
 }
 
-/// The point behind another one.
+/// The point after another one.
 fn behind(point: Point, way: Way) -> Point
     requires { (n : ℕ) × (IsNear n point × (n < most_steps + 2)) }
     ensures value { result ≡ plus point (at way.x way.y) }

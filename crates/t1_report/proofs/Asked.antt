@@ -1,4 +1,4 @@
--- How often machines are asked for a glyph, and for waivers.
+-- How many steps are requested for a glyph, and for waivers.
 use Rattle.std.proofs.Common.{◌≡◌, ℕ, zero, suc, ◌+◌, ◌-◌, ◌*◌, ◌<◌, ◌≤◌, inl, inr, Bool, true, false, true≢false, if◌then◌else◌, Option, None, Some, List, [], ◌∷◌, length, length-take, length-drop, drop, take, slice_get, slice_range, get_or, refl, sym, ap, ◌∙◌, arith}
 use Rattle.std.specs.List.{sum_by, range_with_len}
 use Rattle.std.proofs.lemmas.Bool.{cases_lt, eq-eqb, le-ltb, lt-ltb, ne_eqb}
@@ -57,7 +57,7 @@ one_turn_more font unit n turns =
     places_more (λ (turn : ℕ). if is_broken_below font unit turn n then 0 else 1) 1 turns
     ∙ ap (λ (turn : ℕ). turns_up_to font unit n turns + (if is_broken_below font unit turn n then 0 else 1)) place
 
--- Where no step below breaks the rule, all turns are asked for.
+-- Where no step below breaks the rule, all turns are requested.
 pub all_turns : (font : CheckedFont) (unit n turns : ℕ) → ((s : ℕ) → s < turns → is_broken font unit s n ≡ false) → turns_up_to font unit n turns ≡ turns
 all_turns font unit n zero quiet = no_turn font unit n
 all_turns font unit n (suc turns) quiet =

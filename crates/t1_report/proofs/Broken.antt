@@ -86,7 +86,7 @@ unfolding path_in
 no_path_past font glyph zero past = refl
 no_path_past font glyph (suc i) past = rw (not_less glyph (length font.glyphs) past) refl
 
--- there is none behind the glyphs
+-- there is none after the glyphs
 pub no_path_behind : (font : FontValue) (unit step : ℕ) → length font.glyphs < unit → path_in font unit step ≡ []
 no_path_behind font zero step past = absurd (omega (arith, past))
 no_path_behind font (suc glyph) step past = no_path_past font glyph step (omega (arith, past))
@@ -163,7 +163,7 @@ pub at_limit : (limit : ℕ) (table : List StepRule) (n : ℕ) (steps : List Ste
     ≡ (nat_lt limit (length steps) && number_of L01 == n)
 at_limit limit table n steps i at = ap (step_breaks limit table n steps) at ∙ rw (not_less limit limit (omega arith), eq-eqb limit limit refl) refl
 
--- What the last of some steps breaks is what it breaks among all of them: those behind it have no say.
+-- What the last of some steps breaks is what it breaks among all of them: those after it have no say.
 last_there : (before : List StepView) (step : StepView) → slice_get (before ++ step ∷ []) (length before) ≡ Some step
 last_there [] step = refl
 last_there (s ∷ before) step = last_there before step

@@ -5,7 +5,7 @@ use Rattle.std.proofs.lemmas.Bool.Decides.{nat_tests}
 use Rattle.std.proofs.lemmas.List.{drop-set}
 use Rattle.std.proofs.Math.Nat.{pow-suc}
 
--- the digits of what is left of a number, in front of those that stand
+-- the digits of what is left of a number, before those that are there
 abbrev pub digits_before : ℕ → ℕ → List ℕ → List ℕ
 digits_before k rest acc = if rest == 0 then acc else digits_onto k 10 false rest acc
 

@@ -99,7 +99,7 @@ broken_same font usual (suc glyph) (suc i) n = go (nat_lt glyph (length font.gly
 
 -- ---- a waiver
 
--- Behind a glyph's last step nothing is broken.
+-- After a glyph's last step nothing is broken.
 past_steps : (font : CheckedFont) (glyph i n : ℕ) → length (steps_of font.value glyph) ≤ i → is_broken font (suc glyph) (suc i) n ≡ false
 unfolding is_broken
 past_steps font glyph i n past =
@@ -169,7 +169,7 @@ told_same font usual waivers (suc glyph) step n = go (glyph == length font.glyph
     go true = unused_same font usual waivers step n
     go false = ap (λ b. b && told) (broken_same font usual (suc glyph) step n)
 
--- What is told alike is reported alike.
+-- What is reported alike makes the same reports.
 pub reported_alike : (font other : CheckedFont) (waivers others : List Waiver) (faults : List FaultValue) → font.value ≡ other.value
     → ((unit step n : ℕ) → is_told font waivers unit step n ≡ is_told other others unit step n) → IsReport font waivers faults → IsReport other others faults
 reported_alike font other waivers others faults value same r = record {
@@ -193,7 +193,7 @@ usual_fonts_have_one_report font usual waivers faults = (
 none_told : (font : CheckedFont) → IsReport font [] [] → (p : Place) → IsTold font [] p → ⊥
 none_told font report p told = omega (arith, (report.complete p told).2)
 
--- Of a glyph, where nothing is waived, what is broken is told.
+-- Of a glyph, where nothing is waived, what is broken is reported.
 told_of_glyph : (font : CheckedFont) (glyph step n : ℕ) → glyph < length font.value.glyphs → is_broken font (suc glyph) step n ≡ true
     → is_told font [] (suc glyph) step n ≡ true
 unfolding is_told

@@ -1,4 +1,4 @@
--- How the front of a report grows, whatever its violations are: by a fault, and over places without one.
+-- How a prefix of a report grows, whatever its violations are: by a fault, and over places without one.
 use Rattle.std.proofs.Common.{◌≡◌, ℕ, ◌+◌, ◌≤◌, ◌⊎◌, inl, inr, List, [], ◌∷◌, ◌++◌, length, slice_index_or, refl, sym, ap, subst, ◌∙◌, arith}
 use Rattle.std.proofs.lemmas.Bool.{cases_order}
 use Rattle.std.specs.List.{All, Any}
@@ -24,7 +24,7 @@ comes_on u s r u' s' r' u'' s'' r'' (inr (a, inl c)) (inr (b, inr (d, e))) = inr
 comes_on u s r u' s' r' u'' s'' r'' (inr (a, inr (c, e))) (inr (b, inl d)) = inr (omega arith, inl (omega arith))
 comes_on u s r u' s' r' u'' s'' r'' (inr (a, inr (c, e))) (inr (b, inr (d, f))) = inr (omega arith, inr (omega arith, omega arith))
 
--- what comes before the next rule number of a step comes before the rule, or stands there
+-- what comes before the next rule number of a step comes before the rule, or is there
 comes_next : (u s r u' s' r' : ℕ) → Comes (spot u s r) (spot u' s' (r' + 1)) → Comes (spot u s r) (spot u' s' r') ⊎ ((u ≡ u') × ((s ≡ s') × (r ≡ r')))
 comes_next u s r u' s' r' (inl a) = inl (inl a)
 comes_next u s r u' s' r' (inr (a, inl b)) = inl (inr (a, inl b))
@@ -101,7 +101,7 @@ numbered_last xs f numbered is = numbered_by_places 1 (xs ++ f ∷ []) (λ i d l
       | inr (inr more) ↦ absurd (omega (arith, l))
     ])
 
--- ---- fronts
+-- ---- prefixes
 
 -- the fault at a place
 abbrev pub fault_at : ℕ → Place → List ℕ → FaultValue
@@ -118,7 +118,7 @@ module _ (Violated : Place → Type 0) (path_of : Place → List ℕ) where
     numbered = refl;
   }
 
-  -- a front reaches as far as no violation stands between
+  -- a prefix reaches up to a place if no violation is between
   pub front_on : (u s r u' s' r' : ℕ) (faults : List FaultValue) → IsFrontOf Violated path_of u s r faults
       → ((u0 s0 r0 : ℕ) → Comes (spot u0 s0 r0) (spot u s r) → Comes (spot u0 s0 r0) (spot u' s' r'))
       → ((p : Place) → Violated p → Comes (spot_of p) (spot u' s' r') → Comes (spot_of p) (spot u s r))
@@ -132,7 +132,7 @@ module _ (Violated : Place → Type 0) (path_of : Place → List ℕ) where
     numbered = front.numbered;
   }
 
-  -- a front up to a violation, and then this violation
+  -- a prefix up to a violation, and then this violation
   pub front_with : (p : Place) (faults : List FaultValue) → IsFrontOf Violated path_of p.unit p.step (number_of p.rule) faults → Violated p
       → IsFrontOf Violated path_of p.unit p.step (number_of p.rule + 1) (faults ++ fault_at (length faults + 1) p (path_of p) ∷ [])
   front_with p faults front is =
@@ -152,7 +152,7 @@ module _ (Violated : Place → Type 0) (path_of : Place → List ℕ) where
         numbered = numbered_last faults f front.numbered refl;
       }
 
-  -- a front that no violation stands behind is the report
+  -- a prefix that no violation follows is the report
   pub front_ends : (u s r : ℕ) (faults : List FaultValue) → IsFrontOf Violated path_of u s r faults
       → ((p : Place) → Violated p → Comes (spot_of p) (spot u s r)) → IsReportOf Violated path_of faults
   front_ends u s r faults front all = record {

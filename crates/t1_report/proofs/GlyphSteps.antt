@@ -75,7 +75,7 @@ take_next all i s at =
 pub length-before : (all : List StepView) (i : ℕ) (s : StepView) → slice_get all i ≡ Some s → length (take i all) ≡ i
 length-before all i s at = let within = slice_get_within all i s at in length-take-le i all (omega arith)
 
--- Behind the listed steps nothing is broken.
+-- After the listed steps nothing is broken.
 pub none_behind : (font : CheckedFont) (unit glyph : ℕ) (steps : List Step) → unit ≡ glyph + 1
     → map step_value steps ≡ first_steps (step_limit font) font.value glyph
     → (step n : ℕ) → length steps + 1 ≤ step → is_broken font unit step n ≡ false

@@ -1,4 +1,4 @@
--- Each font has a report: a front is carried over one rule, over a step, over a unit, and over all units.
+-- Each font has a report: a prefix is carried over one rule, over a step, over a unit, and over all units.
 use Rattle.std.proofs.Common.{◌≡◌, ℕ, zero, suc, ◌+◌, ◌*◌, ◌<◌, ◌≤◌, ◌==◌, ◌&&◌, inl, inr, Bool, true, false, List, [], ◌∷◌, ◌++◌, length, take, refl, sym, subst, arith, ◌∙◌}
 use Rattle.std.proofs.lemmas.Bool.{cases_Bool, eqb-true, cases_order}
 use Rattle.std.proofs.lemmas.List.{length-take}
@@ -31,12 +31,12 @@ rise_parts n rule rest order =
     let parts = both (number_of rule == n) (rise_from (suc n) rest) order in
     (eqb-true (number_of rule) n parts.0, parts.1)
 
--- Over any violations that a Bool tells by unit, step and the number of the rule.
+-- Over any violations that a Bool decides by unit, step and the number of the rule.
 module _ (broken : ℕ → ℕ → ℕ → Bool) (path_of : Place → List ℕ) where
   abbrev IsBroken : Place → Type 0
   IsBroken p = broken p.unit p.step (number_of p.rule) ≡ true
 
-  -- there is a front up to a place
+  -- there is a prefix up to a place
   abbrev HasFront : ℕ → ℕ → ℕ → Type 0
   HasFront unit step rule = (faults : List FaultValue) × IsFrontOf IsBroken path_of unit step rule faults
 
@@ -103,7 +103,7 @@ module _ (broken : ℕ → ℕ → ℕ → Bool) (path_of : Place → List ℕ) 
 few_steps : (limit step : ℕ) (steps : List StepView) → limit + 2 ≤ step → length (take (limit + 1) steps) < step
 few_steps limit step steps past = let count = length-take (limit + 1) steps in omega (arith, count)
 
--- Behind the first step past the limit a glyph breaks nothing.
+-- After the first step past the limit a glyph breaks nothing.
 pub quiet_behind : (font : CheckedFont) (glyph s : ℕ) (rule : Rule) → step_limit font + 2 ≤ s → is_broken font (suc glyph) s (number_of rule) ≡ false
 quiet_behind font glyph s rule past = past_steps font (suc glyph) glyph s (number_of rule) (omega arith)
     (few_steps (step_limit font) s (steps_of font.value glyph) past)

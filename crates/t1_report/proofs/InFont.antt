@@ -1,4 +1,4 @@
--- The faults of a report stand in the font.
+-- The faults of a report are in the font.
 use Rattle.std.proofs.Common.{◌≡◌, ◌≤◌, IfSome, MatchOption, Option, None, Some, ℕ, ◌*◌, ◌/◌, ◌∙◌, zero, suc, inl, inr, true, true≢false, List, [], ◌∷◌, map, length, slice_index_or, refl, sym, ap, subst, arith, ◌==◌, slice_get}
 use Rattle.std.proofs.lemmas.Bool.{cases_lt, eqb-true}
 use Rattle.std.proofs.lemmas.List.{length-map}
@@ -50,7 +50,7 @@ waiver_told font waivers step rule is =
       | inr within ↦ within
     ]
 
--- A violation stands in its font.
+-- A violation is in its font.
 pub in_font : (font : CheckedFont) (waivers : List Waiver) (fault : FaultValue) → IsViolationOf (IsTold font waivers) (path_at font) fault
     → IsInFont font.value waivers fault
 in_font font waivers fault is = record {

@@ -44,7 +44,7 @@ rising_head : (x : FaultValue) (xs : List FaultValue) → IsRising (x ∷ xs) �
     → IsBefore (place_of x) (place_of (slice_index_or xs i d))
 rising_head x xs rising i d lt = rising 0 (suc i) d (omega arith) (omega arith)
 
--- where a fault stands: first, or further on and so later
+-- where a fault is: first, or further on and so later
 first_or_later : (p : Place) (y : FaultValue) (ys : List FaultValue) → IsRising (y ∷ ys) → Any (StandsAt p) (y ∷ ys) → (place_of y ≡ p)
     ⊎ IsBefore (place_of y) p
 first_or_later p y ys rising (zero, z, lt, at, same) = inl (subst (StandsAt p) (sym at) same)
@@ -62,7 +62,7 @@ heads_same x y xs ys rise rise' among among' =
       ]
     ]
 
--- what comes after the first stands after the other's first
+-- what comes after the first is after the other's first
 pub among_tail : (x y : FaultValue) (xs ys : List FaultValue) → place_of x ≡ place_of y → IsRising (x ∷ xs) → AreAmong (x ∷ xs) (y ∷ ys) → AreAmong xs ys
 among_tail x y xs ys same rising among i d lt = later (among (suc i) d (omega arith))
   where

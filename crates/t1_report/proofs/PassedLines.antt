@@ -146,7 +146,7 @@ none_at_close edition before w n step token alone calm steady drawn st =
     no_fault_at_close edition n before step token alone behind_none.0 behind_none.1
     (sym st.0.begun ∙ steady.begun) (sym st.0.in_flex ∙ steady.path_flex) (sym st.0.drawn ∙ drawn.path)
 
--- What watchers stand for after the passed steps, and that no rule is broken at these.
+-- Which steps watchers match after the passed ones, and that no rule is broken at these.
 pub record PassedOver (font : CheckedFont) (glyph n taken : ℕ) (w : Watches) (way : Way) : Type 0 where
   pub stands : WatchesStandFor font.edition (moved_on w way) (take (n + taken) (steps_of font.value glyph))
   pub quiet : (k r : ℕ) → n ≤ k → k < n + taken → is_broken font (glyph + 1) (k + 1) r ≡ false
@@ -280,7 +280,7 @@ fit_steady passing.Told w fit is = let no : false ≡ true = is in cc
 fit_steady passing.Numbers w fit is = let no : false ≡ true = is in cc
 fit_steady passing.Lines w fit is = fit.1
 
--- Behind the steps that a machine went over.
+-- After the steps that a machine passed.
 pub record GoneFar (font : CheckedFont) (glyph unit from before : ℕ) (w : Watches) : Type 0 where
   pub stands : StandsBehind font glyph unit from before w
   pub near : before ≤ step_limit font
@@ -345,7 +345,7 @@ pub watchers_move_on : WatchersMoveOnByLines
 watchers_move_on font glyph from count w way is =
     (passes_over font glyph from count w true way is.there (λ any. is.calm) (λ on. is.steady) is.seen is.passed).stands
 
--- What the machine told after them: a step, or the first past the limit.
+-- What the machine returned after them: a step, or the first past the limit.
 told_far : (what : Passing) (m new : MachineView) (answer : Answer) (way : Way) (step : Step) (font : CheckedFont) (glyph : ℕ) → executed m ≡ font
     → m.glyph ≡ glyph → is_over answer ≡ false → step_value step ≡ new.step
     → (asked : IsAskedFar what m new (answer_view answer new.step) way) → m.counted + asked.taken ≤ step_limit font

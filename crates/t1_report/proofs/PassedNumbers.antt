@@ -1,4 +1,4 @@
--- Numbers that a machine goes over, while the watchers are calm.
+-- Numbers that a machine passes, while the watchers are calm.
 use Rattle.std.proofs.Common.{◌≡◌, ℕ, ℤ, zero, suc, ◌+◌, ◌-◌, ◌<◌, ◌≤◌, ◌&&◌, inl, inr, true, false, List, [], ◌∷◌, ◌++◌, length, take, refl, sym, ap, subst, ◌∙◌, arith}
 use Rattle.std.proofs.Math.Bool.{and-false}
 use Rattle.std.proofs.lemmas.Bool.{cases_lt}
@@ -35,7 +35,7 @@ use Rattle.t1_report.proofs.Broken.{at_step, both_kinds, rules_by, within_limit}
 use Rattle.t1_report.proofs.GlyphSteps.{take_next}
 use Rattle.t1_report.proofs.RunSteps.{IsRunAt, IsTold}
 
--- Calm watchers stand for what is behind such numbers.
+-- Calm watchers also match the steps with such numbers after them.
 pub stands_more : (edition : Edition) (w : Watches) (limit : ℕ) (all : List StepView) (k : ℕ) → IsCalm w → IsPassed limit all k
     → WatchesStandFor edition w (take k all) → WatchesStandFor edition w (take (k + 1) all)
 stands_more edition w limit all k calm passed st =
@@ -83,7 +83,7 @@ none_at font unit glyph k n at there passed none =
     (sym (no_fault_at_number font.edition n (take k all) passed.step is.number is.token is.room none.0 none.1))
     (sym (no_component_fault components n (take k all) passed.step is.number is.token)))
 
--- Behind a number stands none that speaks of it.
+-- After a number, no rule speaks of the last steps.
 behind_number : (before : List StepView) (t : StepView) (z : ℤ) → t.token ≡ Number z → IsBehindNoReplacement (before ++ t ∷ [])
 behind_number before t z is = (
   was_last is_hint_replacement before t ∙ rw is refl,
@@ -123,12 +123,12 @@ pub calm_stand_behind : CalmWatchersStandBehindNumbers
 calm_stand_behind font glyph from to w more passed calm st = stands_at font.edition w (step_limit font) (steps_of font.value glyph) from to to
     calm passed more (omega arith) st
 
--- Behind the numbers that a machine went over, none where a rule may speak of them.
+-- After the numbers that a machine passed, none where a rule may speak of them.
 pub record StandsBehind (font : CheckedFont) (glyph unit from before : ℕ) (w : Watches) : Type 0 where
   pub run : IsRunAt font glyph before w
   pub quiet : IsQuiet font unit from (before + 1)
 
--- The same with all that is known in front of the step.
+-- The same with all that is known before the step.
 pub record IsTurn (font : CheckedFont) (glyph unit from n counted : ℕ) (w : Watches) (step : Step) : Type 0 where
   pub before : ℕ
   pub least : n ≤ before
@@ -145,7 +145,7 @@ pub record EndsBehind (font : CheckedFont) (glyph before counted : ℕ) : Type 0
   pub over : IsOver (step_limit font) (steps_of font.value glyph) before
   pub counted_is : counted ≡ turns_of_glyph font glyph
 
--- How many more times the machine can be asked then.
+-- How many more steps can be requested then.
 pub fewer_turns_left : (font : CheckedFont) (glyph unit from n counted : ℕ) (w : Watches) (step : Step) → IsTurn font glyph unit from n counted w step
     → n ≤ step_limit font → step_limit font + 1 - counted < step_limit font + 1 - n
 fewer_turns_left font glyph unit from n counted w step turn near = omega (arith, turn.least, turn.told.counted_is, near)

@@ -15,7 +15,7 @@ use Rattle.t1_report.specs.Reports.{is_broken}
 use Rattle.t1_report.specs.Private.Units.{IsFirst, IsFontPlaces, IsQuiet, IsQuietFrom, font_step}
 use Rattle.t1_report.proofs.Broken.{in_font, no_path, past_key, past_keys}
 
--- An index that is asked is below 65,536.
+-- An index that is tested is below 65,536.
 pub few_index : (font : FontValue) (p : FontPlaces) → IsFontPlaces font p → p.index < p.places → p.index < 65536
 few_index font p is less = let few = few_places font p.key in omega (arith, few, is.places, less)
 
@@ -37,7 +37,7 @@ first_place font from p found is less behind quiet unit step path answers =
       path = path ∙ sym (no_path font.value found.step);
     }
 
--- A place where nothing is broken, and the place behind it.
+-- A place where nothing is broken, and the place after it.
 pub place_passed : (font : CheckedFont) (from : ℕ) (p next : FontPlaces) (mask : Mask) → IsFontPlaces font.value p → p.index < p.places
     → IsQuiet font 0 from (font_step p)
     → ((n : ℕ) → has mask n ≡ violated font_rules n font.value p.key p.index) → HasNoneAbove mask 0 → font_step next ≡ font_step p + 1

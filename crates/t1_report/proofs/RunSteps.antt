@@ -1,4 +1,4 @@
--- A glyph whose steps a machine tells: what is broken at each, and that nothing is behind the last.
+-- A glyph whose steps a machine returns: what is broken at each, and that nothing is after the last.
 use Rattle.std.proofs.Common.{◌≡◌, ◌⊎◌, ℕ, ◌+◌, ◌<◌, ◌≤◌, inl, inr, if◌then◌else◌, nat_lt, Bool, true, false, Some, List, [], ◌∷◌, ◌++◌, slice_get, length, length-take, take, refl, sym, ap, subst, ◌∙◌, le-ltb, arith}
 use Rattle.std.proofs.lemmas.Bool.{cases_lt, ltb-true, ltb-false}
 use Rattle.std.proofs.lemmas.List.{take_all}
@@ -25,7 +25,7 @@ use Rattle.t1_report.specs.Walks.{turns_of_glyph}
 use Rattle.t1_report.proofs.Broken.{at_step, past_steps, path_at_step, rules_by, so_far_decides}
 use Rattle.t1_report.proofs.GlyphSteps.{IsListed, take_next}
 
--- The step that a machine told is that of the list, up to the limit and just past it.
+-- The step that a machine returned is that of the list, up to the limit and just past it.
 pub listed_stepped : (limit : ℕ) (all : List StepView) (n : ℕ) (step : Step) → IsStepped limit all n (step_value step) → IsListed limit all n step
 listed_stepped limit all n step is =
     record { number = is.number; there = is.there; few = omega (arith, is.within, length-take limit all) }
@@ -53,7 +53,7 @@ pub turns_limited : (font : CheckedFont) (glyph n : ℕ) (step : Step) → n ≤
 unfolding turns_of_glyph
 turns_limited font glyph n step near is = turns_past (step_limit font) (steps_of font.value glyph) n near is.within
 
--- What watchers and components answer at a listed step is what is broken there.
+-- What watchers and components say at a listed step is what is broken there.
 pub step_agrees : (font : CheckedFont) (unit glyph place : ℕ) (step : Step) (components : ComponentsView) (mask : Mask) → unit ≡ glyph + 1
     → glyph < length font.value.glyphs → IsListed (step_limit font) (steps_of font.value glyph) place step → AreOf font.value components
     → components.edition ≡ font.edition
@@ -96,7 +96,7 @@ found_at font unit glyph from n step found there at is past so_far unit_is step_
       path = path ∙ sym (ap (path_in font.value unit) step_is ∙ path_at_step font.value unit step.number glyph n at is.number there ∙ ap path_of_step is.there);
     }
 
--- Behind the end, and behind the limit, nothing is broken, and all turns were taken.
+-- After the end, and after the limit, nothing is broken, and all turns were taken.
 quiet_past : (font : CheckedFont) (unit glyph from n : ℕ) → unit ≡ glyph + 1 → length (take (step_limit font + 1) (steps_of font.value glyph)) ≤ n
     → ((s : ℕ) (r : Rule) → from ≤ s → s < n + 1 → is_broken font unit s (number_of r) ≡ false)
     → (s : ℕ) (r : Rule) → from ≤ s → is_broken font unit s (number_of r) ≡ false
@@ -138,7 +138,7 @@ pub turns_at_limit : (font : CheckedFont) (glyph n : ℕ) → step_limit font < 
 unfolding turns_of_glyph
 turns_at_limit font glyph n past few = limit_turns (step_limit font) (steps_of font.value glyph) n past few
 
--- The machine told a step, or the limit: the step is that of the list, and it was asked once more.
+-- The machine returned a step, or the limit: the step is that of the list, and one step more was requested.
 pub record IsTold (font : CheckedFont) (glyph n counted : ℕ) (step : Step) : Type 0 where
   pub listed : IsListed (step_limit font) (steps_of font.value glyph) n step
   pub counted_is : counted ≡ n + 1
@@ -159,7 +159,7 @@ count_near limit all n near = ap (λ b. if b then n else n + 1) (le-ltb (length 
 count_limited : (limit : ℕ) (all : List StepView) (n : ℕ) → n ≤ limit → limit < length all → counted_after limit all n ≡ n + 1
 count_limited limit all n near within = count_near limit all n (omega (arith, near, within, length-take limit all))
 
--- A step or the limit that was told behind n others.
+-- A step or the limit that was returned after n others.
 told_by : (font : CheckedFont) (glyph n : ℕ) (step : Step) → n ≤ step_limit font
     → IsStepped (step_limit font) (steps_of font.value glyph) n (step_value step) ⊎ IsLimited (step_limit font) (steps_of font.value glyph) n (step_value step)
     → IsTold font glyph n (counted_after (step_limit font) (steps_of font.value glyph) n) step
@@ -177,7 +177,7 @@ told_by font glyph n step near (inr is) =
       turns = subst (λ k. k ≤ turns_of_glyph font glyph) (sym once) (turns_limited font glyph n step near is);
     }
 
--- A machine that was asked at most as often as the limit, and answered a step or the limit.
+-- A machine of which no more steps were requested than the limit, and which returned a step or the limit.
 pub told_at : (m : MachineView) (font : CheckedFont) (glyph counted : ℕ) (step : Step) → executed m ≡ font → m.glyph ≡ glyph → m.counted ≤ step_limit font
     → counted ≡ counted_after (limit_of m.edition) (steps_of m.font m.glyph) m.counted
     → (stepped (step_value step) ≡ turn_at (limit_of m.edition) (steps_of m.font m.glyph) m.counted)
@@ -237,7 +237,7 @@ run_more font glyph n counted step watches told seen =
           seen;
     }
 
--- Behind the end no step was seen more.
+-- After the end no step was seen more.
 pub run_over : (font : CheckedFont) (glyph n counted : ℕ) (watches : Watches) → IsOver (step_limit font) (steps_of font.value glyph) n
     → counted ≡ turns_of_glyph font glyph → IsRunAt font glyph n watches → IsRunAt font glyph counted watches
 unfolding turns_of_glyph

@@ -59,7 +59,7 @@ use_none font run name glyph old rule named same quiet so_far =
       | inl behind ↦ subst (λ f. is_broken f (glyph + 1) s (number_of rule) ≡ false) same (quiet s rule (omega (arith, behind)))
     ]))
 
--- ---- how often its machine is asked
+-- ---- how many steps are requested of its machine
 
 turns_by : (font : CheckedFont) (name : List ℕ) (rule : Rule) (glyph : ℕ) → Some glyph ≡ glyph_named font.value name → turns_of_waiver font (name, rule)
     ≡ turns_for font (number_of rule) (Some glyph)

@@ -1,4 +1,4 @@
--- How far a report was given: the next fault, the mark behind it, and the end.
+-- How far a report was returned: the next fault, the mark after it, and the end.
 use Rattle.t1_io.specs.Devices.{one_more}
 use Rattle.std.proofs.Common.{◌≡◌, ℕ, ◌+◌, ◌-◌, ◌^◌, length-take, length-drop, ◌<◌, ◌≤◌, ◌⊎◌, inl, inr, List, length, slice_get, slice_index_or, Some, refl, sym, ap, subst, ◌∙◌, arith}
 use Rattle.std.proofs.lemmas.Bool.{cases_lt, cases_order}
@@ -106,7 +106,7 @@ so_far_at faults k fault rising numbered is =
 number_next : (number mark k count : ℕ) → number ≡ one_more mark → mark ≡ k → k < count → count < 2 ^ 64 → number ≡ k + 1
 number_next number mark k count is at less few = is ∙ ap one_more at ∙ min-eq_left (omega arith)
 
--- what comes after the mark isn't among the given
+-- what comes after the mark isn't among those returned
 not_given : (faults : List FaultValue) (k : ℕ) (mark : Mark) → IsSoFar faults k mark → (j : ℕ) (x : FaultValue) → slice_index_or faults j x ≡ x
     → IsLater mark (place_of x) → k ≤ j
 not_given faults k mark so_far j x at later =
@@ -116,7 +116,7 @@ not_given faults k mark so_far j x at later =
     ]
 
 module _ (Violated : Place → Type 0) (path_of : Place → List ℕ) where
-  -- the next fault stands no further on than the first that is to come
+  -- the next fault is no further on than the first that is to come
   not_further : (faults : List FaultValue) (k : ℕ) (mark : Mark) (fault : FaultValue) → IsReportOf Violated path_of faults → IsSoFar faults k mark
       → IsNextOf Violated path_of mark fault → (j : ℕ) (x : FaultValue) → j < length faults → slice_index_or faults j x ≡ x → place_of x ≡ place_of fault
       → k < j → ⊥
@@ -130,7 +130,7 @@ module _ (Violated : Place → Type 0) (path_of : Place → List ℕ) where
         | inr earlier ↦ both (place_of fault) (place_of first) earlier before
       ]
 
-  -- a fault of the report that stands where the next one does is that fault
+  -- a fault of the report that is where the next one does is that fault
   same_next : (faults : List FaultValue) (k : ℕ) (mark : Mark) (fault : FaultValue) → IsReportOf Violated path_of faults → IsSoFar faults k mark
       → IsNextOf Violated path_of mark fault → length faults < 2 ^ 64 → (x : FaultValue) → k < length faults → slice_index_or faults k x ≡ x
       → place_of x ≡ place_of fault → x ≡ fault
@@ -155,7 +155,7 @@ module _ (Violated : Place → Type 0) (path_of : Place → List ℕ) where
             (less, slice_get_read faults (length faults) k x refl less (sym place) ∙ ap (λ (f : FaultValue). Some f) is)
       ]
 
-  -- the next fault is the one behind the first k
+  -- the next fault is the one after the first k
   pub next_is : (faults : List FaultValue) (k : ℕ) (mark : Mark) (fault : FaultValue) → length faults < 2 ^ 64 → IsReportOf Violated path_of faults
       → IsSoFar faults k mark → IsNextOf Violated path_of mark fault → (k < length faults) × (slice_get faults k ≡ Some fault)
   next_is faults k mark fault few report so_far next =
@@ -166,7 +166,7 @@ module _ (Violated : Place → Type 0) (path_of : Place → List ℕ) where
   one_fault_more faults k mark fault few report so_far next =
       so_far_at faults k fault report.rising report.numbered (next_is faults k mark fault few report so_far next).1
 
-  -- the fault behind the first k is the next one
+  -- the fault after the first k is the next one
   next_at : (faults : List FaultValue) (k : ℕ) (mark : Mark) (fault : FaultValue) → IsReportOf Violated path_of faults → IsSoFar faults k mark
       → slice_get faults k ≡ Some fault → (p : Place) → IsLater mark p → Any (StandsAt p) faults → (place_of fault ≡ p) ⊎ IsBefore (place_of fault) p
   next_at faults k mark fault report so_far is p later (j, x, within, at, same) =
@@ -200,12 +200,12 @@ module _ (Violated : Place → Type 0) (path_of : Place → List ℕ) where
       let past : k ≤ j = not_given faults k mark so_far j x at (subst (IsLater mark) (sym same) later) in
       omega (arith, past, all, within)
 
-  -- once all were given no violation comes after the mark
+  -- once all were returned no violation comes after the mark
   pub has_none_later : (faults : List FaultValue) (k : ℕ) (mark : Mark) → IsReportOf Violated path_of faults → IsSoFar faults k mark
       → length faults ≤ k → HasNoneLaterOf Violated mark
   has_none_later faults k mark report so_far all p violated later = none_later faults k mark so_far all p later (report.complete p violated)
 
-  -- where no violation comes after the mark all were given
+  -- where no violation comes after the mark all were returned
   pub none_left : (faults : List FaultValue) (k : ℕ) (mark : Mark) → IsReportOf Violated path_of faults → IsSoFar faults k mark
       → HasNoneLaterOf Violated mark → k ≡ length faults
   none_left faults k mark report so_far none =

@@ -1,4 +1,4 @@
--- Which steps of a glyph the rules are asked of.
+-- Which steps of a glyph the rules apply to.
 use Rattle.std.proofs.Common.{suc, ◌+◌, length-take, refl, sym, ap, ◌∙◌, arith}
 use Rattle.t1_char.specs.declared.edition.Edition.{Edition}
 use Rattle.t1_char.specs.Editions.{limit_of}

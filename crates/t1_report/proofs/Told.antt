@@ -1,4 +1,4 @@
--- What is told at a unit and a step, given waivers: in the font, of a glyph, of the waivers, and where nothing is.
+-- What is reported at a unit and a step, given waivers: in the font, of a glyph, of the waivers, and where nothing is.
 use Rattle.std.proofs.Common.{◌≡◌, ℕ, zero, suc, ◌+◌, ◌<◌, ◌≤◌, ◌==◌, ◌&&◌, ◌||◌, not, Bool, true, false, List, [], length, inl, inr, refl, sym, ap, ◌∙◌, arith}
 use Rattle.std.proofs.Math.Bool.{and-false, and-true}
 use Rattle.std.proofs.lemmas.Bool.{cases_lt, cases_order, eq-eqb, ne_eqb, true≢false}
@@ -40,7 +40,7 @@ told_of_waiver font waivers unit step n at =
     let is : unit ≡ suc (length font.value.glyphs) = omega (arith, at) in
     ap (λ u. is_told font waivers u step n) is ∙ behind_glyphs font waivers step n
 
--- ---- where nothing is told
+-- ---- where nothing is reported
 
 pub quiet_told : (font : CheckedFont) (waivers : List Waiver) (unit step n : ℕ) → unit ≤ length font.value.glyphs → is_broken font unit step n ≡ false
     → is_told font waivers unit step n ≡ false
@@ -68,7 +68,7 @@ pub first_waiver : (font : CheckedFont) (waivers : List Waiver) (step n : ℕ) �
 first_waiver font waivers zero n none = refl
 first_waiver font waivers (suc i) n none = absurd (omega (arith, none))
 
--- Nothing is told at step 0 but of the font.
+-- Nothing is reported at step 0 but of the font.
 pub told_no_step : (font : CheckedFont) (waivers : List Waiver) (unit step n : ℕ) → 0 < unit → step < 1 → is_told font waivers unit step n ≡ false
 told_no_step font waivers unit step n first none =
     elim (cases_order unit (length font.value.glyphs + 1)) [
@@ -77,7 +77,7 @@ told_no_step font waivers unit step n first none =
       | inr (inr more) ↦ past_waivers font waivers unit step n more
     ]
 
--- What is told stands in a unit that there is.
+-- What is reported is in a unit that there is.
 pub told_within : (font : CheckedFont) (waivers : List Waiver) (unit step n : ℕ) → is_told font waivers unit step n ≡ true → unit ≤ length font.value.glyphs + 1
 told_within font waivers unit step n is =
     elim (cases_lt (length font.value.glyphs + 1) unit) [
@@ -118,7 +118,7 @@ glyph_without : (font : CheckedFont) (unit step n : ℕ) → unit ≤ length fon
 glyph_without font zero step n within = told_in_font font [] step n
 glyph_without font (suc glyph) step n within = in_glyph font [] glyph step n (omega (arith, within)) ∙ and-true (is_broken font (suc glyph) step n)
 
--- What is told is what is broken.
+-- What is reported is what is broken.
 pub told_without : (font : CheckedFont) (unit step n : ℕ) → is_told font [] unit step n ≡ is_broken font unit step n
 told_without font unit step n = elim (cases_lt (length font.value.glyphs) unit) [
   | inr within ↦ glyph_without font unit step n within

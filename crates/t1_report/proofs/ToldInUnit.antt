@@ -1,4 +1,4 @@
--- What a search tells of a unit, given waivers, from what is broken there.
+-- What a search returns of a unit, given waivers, from what is broken there.
 use Rattle.std.proofs.Common.{◌≡◌, ℕ, ◌+◌, ◌-◌, ◌<◌, ◌≤◌, ◌&&◌, inl, inr, not, false, List, [], length, slice_get, sym, ap, subst, ◌∙◌, arith, Option, None, Some, MatchOption}
 use Rattle.t1_font.specs.Fonts.{glyph_name}
 use Rattle.t1_report.specs.Checked.{CheckedFont}
@@ -125,7 +125,7 @@ none_of_waivers s next is search past =
     (λ t rule behind. told_of_waiver (checked_in s) s.waivers.now s.unit t (number_of rule) at.unit_is ∙ no_waiver (checked_in s) s.waivers.now t
     (number_of rule) (omega (arith, past, behind)))
 
--- One more was asked.
+-- One more was tested.
 pub one_more_asked : (font : CheckedFont) (waivers : List Waiver) (from first unit passed checked next turns : ℕ) → IsWaiverPart font waivers from first unit
     passed checked next → next ≤ length waivers
     → turns ≡ turns_if_any font (slice_get waivers (next - 1)) → IsWaiverPart font waivers from first unit passed (checked + turns) (next + 1)

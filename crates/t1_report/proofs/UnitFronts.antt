@@ -1,4 +1,4 @@
--- The front of a report within a unit: from rule to rule of a step, from step to step, and on to the next unit.
+-- A prefix of a report within a unit: from rule to rule of a step, from step to step, and on to the next unit.
 use Rattle.std.proofs.Common.{◌≡◌, ℕ, ◌+◌, ◌<◌, ◌≤◌, inl, inr, Bool, true, false, true≢false, List, [], ◌∷◌, ◌++◌, length, refl, sym, ap, ◌∙◌, arith}
 use Rattle.std.proofs.lemmas.Bool.{cases_lt}
 use Rattle.t1_rules.specs.declared.rule.Rule.{Rule}
@@ -25,7 +25,7 @@ comes_far u s r unit step step' more (inl c) = inl c
 comes_far u s r unit step step' more (inr (c, inl d)) = inr (c, inl (omega arith))
 comes_far u s r unit step step' more (inr (c, inr (d, e))) = absurd (omega arith)
 
--- before a number of a rule that is less, unless it stands between both
+-- before a number of a rule that is less, unless it is between both
 comes_back : (u s r unit step a b : ℕ) → (u ≡ unit → s ≡ step → a ≤ r → r < b → ⊥) → Comes (spot u s r) (spot unit step b)
     → Comes (spot u s r) (spot unit step a)
 comes_back u s r unit step a b none (inl c) = inl c
@@ -36,7 +36,7 @@ comes_back u s r unit step a b none (inr (c, inr (d, e))) =
       | inr past ↦ absurd (none c d past e)
     ]
 
--- before a step that is less, unless it stands between both
+-- before a step that is less, unless it is between both
 comes_near : (u s r unit step step' : ℕ) → (u ≡ unit → step ≤ s → s < step' → ⊥) → Comes (spot u s r) (spot unit step' 0)
     → Comes (spot u s r) (spot unit step 0)
 comes_near u s r unit step step' none (inl c) = inl c
@@ -57,7 +57,7 @@ comes_last u s r unit step few (inr (c, inl d)) =
     ]
 comes_last u s r unit step few (inr (c, inr (d, e))) = absurd (omega arith)
 
--- before the next unit, unless it stands behind the step
+-- before the next unit, unless it is after the step
 comes_within : (u s r unit step : ℕ) → (u ≡ unit → step ≤ s → ⊥) → Comes (spot u s r) (spot (unit + 1) 0 0) → Comes (spot u s r) (spot unit step 0)
 comes_within u s r unit step none (inl c) =
     elim (cases_lt u unit) [
@@ -70,9 +70,9 @@ comes_within u s r unit step none (inl c) =
 comes_within u s r unit step none (inr (c, inl d)) = absurd (omega arith)
 comes_within u s r unit step none (inr (c, inr (d, e))) = absurd (omega arith)
 
--- ---- fronts
+-- ---- prefixes
 
--- Over any violations that a Bool tells by unit, step and the number of the rule.
+-- Over any violations that a Bool decides by unit, step and the number of the rule.
 module _ (broken : ℕ → ℕ → ℕ → Bool) (path_of : Place → List ℕ) where
   abbrev IsBroken : Place → Type 0
   IsBroken p = broken p.unit p.step (number_of p.rule) ≡ true
@@ -151,7 +151,7 @@ module _ (broken : ℕ → ℕ → ℕ → Bool) (path_of : Place → List ℕ) 
       (λ p is before. comes_near p.unit p.step (number_of p.rule) unit step step'
       (λ at past less. never p.unit p.step unit p.step (number_of p.rule) at refl is (none p.step p.rule past less)) before)
 
-  -- to the next unit, where nothing is broken behind the step
+  -- to the next unit, where nothing is broken after the step
   pub unit_ends : (unit step : ℕ) (faults : List FaultValue) → Front unit step 0 faults
       → ((s : ℕ) (rule : Rule) → step ≤ s → broken unit s (number_of rule) ≡ false) → Front (unit + 1) 0 0 faults
   unit_ends unit step faults front none =

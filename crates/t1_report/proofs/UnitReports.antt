@@ -80,7 +80,7 @@ few_kept test (fault ∷ rest) = by_test (test fault) (few_kept test rest)
     by_test true few = omega (arith, few)
     by_test false few = omega (arith, few)
 
--- The first mark of a unit stands before each place of it.
+-- The first mark of a unit is before each place of it.
 later_in_unit : (unit : ℕ) (p : Place) → p.unit ≡ unit → IsLater (first_mark_of unit) p
 later_in_unit unit p at =
     elim (cases_lt 0 p.step) [

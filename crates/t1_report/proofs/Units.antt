@@ -32,7 +32,7 @@ few_in_unit : (font : CheckedFont) (unit : ℕ) → turns_of_unit font unit ≤ 
 few_in_unit font zero = omega arith
 few_in_unit font (suc glyph) = few_turns font glyph
 
--- The first unit's, and then those of the units behind it.
+-- The first unit's, and then those of the units after it.
 turns_first : (font : CheckedFont) (from n : ℕ) → turns_of font from (suc n) ≡ turns_of_unit font from + turns_of font (suc from) n
 unfolding turns_of
 turns_first font from n = places_first (turns_of_unit font) from n
@@ -139,7 +139,7 @@ first_found font waivers unit step u s found so_far within is =
           | inr later ↦ inr (is.unit_is ∙ same, later)
         ]
 
--- The same in the unit where the search stands.
+-- The same in the unit of the search.
 pub first_in_unit : (font : CheckedFont) (waivers : List Waiver) (unit step : ℕ) (found : Found) → unit ≤ length font.value.glyphs + 1
     → IsFirstTold font waivers unit step found → IsFirstPlace font waivers unit step found
 first_in_unit font waivers unit step found within is = first_found font waivers unit step unit step found (passed_none font waivers unit step) within is
@@ -195,7 +195,7 @@ open_part font waivers from first unit passed checked Over is still = absurd (tr
 abbrev pub IsStart : ℕ → ℕ → ℕ → ℕ → Type 0
 IsStart from first unit step = ((from < unit) × (step ≡ 0)) ⊎ ((from ≡ unit) × (step ≡ first))
 
--- No waiver was asked before those that are begun.
+-- No waiver was tested before those that are begun.
 waivers_begun : (font : CheckedFont) (waivers : List Waiver) (from first glyph step next : ℕ) → AreBegun font waivers glyph step next
     → IsStart from first (glyph + 1) step
     → ((first_asked font waivers from first < next) ⊎ (length waivers < next)) × (next - 1 ≤ first_asked font waivers from first)
@@ -211,7 +211,7 @@ waivers_begun font waivers from first glyph step next is (inr (here, same)) =
       elim is.near [ inl low ↦ omega (arith, low) | inr less ↦ omega (arith, less, same, at) ],
     )
 
--- A unit that is begun, behind the font or a glyph.
+-- A unit that is begun, after the font or a glyph.
 begun_part : (font : CheckedFont) (waivers : List Waiver) (from first glyph step passed checked : ℕ) (part : Part) → IsPartBegun font waivers glyph step part
     → length font.value.glyphs ≤ 65535 → length waivers ≤ 1048576 → from ≤ glyph + 1 → IsStart from first (glyph + 1) step
     → passed ≡ turns_before font from (glyph + 1) → (length font.value.glyphs < glyph → (passed ≡ turns_before font from (length font.value.glyphs + 1))
@@ -302,7 +302,7 @@ starts_low font waivers glyph (Glyph run) is = omega (arith, is.counted)
 starts_low font waivers glyph (Waivers next) is = elim is.near [ inl low ↦ low | inr less ↦ omega (arith, less) ]
 starts_low font waivers glyph Over is = omega arith
 
--- It begins no later than the first told step from a step on.
+-- It begins no later than the first reported step from a step on.
 pub starts_near : (font : CheckedFont) (waivers : List Waiver) (glyph step s : ℕ) (part : Part) → IsPartBegun font waivers glyph step part → step ≤ s → 1 ≤ s
     → step_of_part part ≤ s
 starts_near font waivers glyph step s (Font places) is past some = absurd is
@@ -385,7 +385,7 @@ over_past font waivers from first unit passed checked (Glyph run) is over = absu
 over_past font waivers from first unit passed checked (Waivers next) is over = absurd (true≢false (sym over))
 over_past font waivers from first unit passed checked Over is over = is.0.past
 
--- A search that isn't over stands in a unit that there is; one that is has nothing more.
+-- A search that isn't over is in a unit that there is; one that is has nothing more.
 pub under_way : (s : Search) → IsSearch s → is_over s.part ≡ false → s.unit ≤ length s.font.now.glyphs + 1
 under_way s is still = (open_part (checked_in s) s.waivers.now s.from s.first s.unit s.passed s.checked s.part is.part_is still).within
 

@@ -44,7 +44,7 @@ bare_lists path_of (x ∷ xs) (y ∷ ys) rise rise' among among' paths paths' =
     (among_tail y x ys xs (sym same) rise' among') (λ i d lt. paths (suc i) d (omega arith)) (λ i d lt. paths' (suc i) d (omega arith)) in
     ap (λ (z : FaultValue). z ∷ map bare xs) first ∙ ap (λ (zs : List FaultValue). bare y ∷ zs) rest
 
--- What stands in a list stands in what a test leaves of it, where it passes.
+-- What is in a list is in what a test leaves of it, if it passes.
 later : (b : Bool) (P : FaultValue → Type 0) (y : FaultValue) (ys : List FaultValue) → Any P ys → Any P (cond b (y ∷ ys) ys)
 later true P y ys (k, x, less, at, is) = (suc k, x, omega (arith, less), at, is)
 later false P y ys found = found
@@ -92,7 +92,7 @@ same_left One Other path_of one other xs ys of_one of_other there back =
     (among Other One path_of other one ys xs of_other of_one back)
     (paths One Other path_of one other xs of_one) (paths Other One path_of other one ys of_other)
 
--- ---- what is told of the font and its glyphs
+-- ---- what is reported of the font and its glyphs
 
 told_left : (font : CheckedFont) (waivers : List Waiver) (unit step n : ℕ) → unit ≤ length font.value.glyphs
     → is_told font waivers unit step n ≡ (is_broken font unit step n && is_left_in font waivers unit n)
@@ -108,7 +108,7 @@ both true true is = (refl, refl)
 both true false is = let no : false ≡ true = is in cc
 both false b is = let no : false ≡ true = is in cc
 
--- What is broken stands in the font or in a glyph.
+-- What is broken is in the font or in a glyph.
 broken_within : (font : CheckedFont) (unit step n : ℕ) → is_broken font unit step n ≡ true → unit ≤ length font.value.glyphs
 broken_within font unit step n is =
     elim (cases_lt (length font.value.glyphs) unit) [
@@ -132,7 +132,7 @@ waived_faults_are_left_out font waivers told broken with_waivers without =
         let within : p.unit ≤ length font.value.glyphs = broken_within font p.unit p.step (number_of p.rule) broken_there in
         (told_left font waivers p.unit p.step (number_of p.rule) within ∙ rw (broken_there, left) refl, le-leb p.unit (length font.value.glyphs) within)
 
--- Where the same is told of the font and its glyphs, their faults are the same.
+-- Where the same is reported of the font and its glyphs, their faults are the same.
 same_in_font : (font : CheckedFont) (waivers others : List Waiver) (xs ys : List FaultValue) → IsReport font waivers xs → IsReport font others ys
     → ((unit step n : ℕ) → unit ≤ length font.value.glyphs → is_told font waivers unit step n ≡ is_told font others unit step n)
     → faults_at (is_in_font font) xs ≡ faults_at (is_in_font font) ys
@@ -167,7 +167,7 @@ told_at font waivers w i n there =
 pub order_leaves_uses : OrderLeavesUses
 order_leaves_uses font waivers others w i j n there there' = told_at font waivers w i n there ∙ sym (told_at font others w j n there')
 
--- ---- a waiver that is left out
+-- ---- a waiver that is omitted
 
 -- It waives what it says, and the others what they said.
 one_more : (front back : List Waiver) (w : Waiver) (name : List ℕ) (n : ℕ)
@@ -202,7 +202,7 @@ name_at [] place d less = absurd (omega (arith, less))
 name_at (g ∷ gs) zero d less = refl
 name_at (g ∷ gs) (suc place) d less = name_at gs place d (omega (arith, less))
 
--- The first of a name stands no later than one that has it.
+-- The first of a name is no later than one that has it.
 first_by : (glyphs : List (List ℕ × List ℕ)) (name : List ℕ) (place : ℕ) → place < length glyphs → name ≡ name_in (slice_get glyphs place)
     → position_or_len (same_name name) (names glyphs) ≤ place
 first_by [] name place less is = absurd (omega (arith, less))
@@ -266,7 +266,7 @@ never_broken font w once unused glyph there is s =
     go false e none less = e
     go true e none less = absurd (true≢false (sym (some_below font (suc glyph) (step_limit font + 2) (number_of w.1) s less e) ∙ none))
 
--- So the same is told without it.
+-- So the same is reported without it.
 same_without : (font : CheckedFont) (front back : List Waiver) (w : Waiver) → HasNoNameTwice font.value → is_used font w ≡ false
     → (unit step n : ℕ) → unit ≤ length font.value.glyphs → is_told font (front ++ w ∷ back) unit step n ≡ is_told font (front ++ back) unit step n
 same_without font front back w once unused zero step n within =
@@ -309,14 +309,14 @@ any_numbered p (y ∷ ys) (suc k, x, less, at, is) = next (any_numbered p ys (k,
     next : Any (StandsAt p) ys → Any (StandsAt p) (y ∷ ys)
     next (j, z, less, at, is) = (suc j, z, omega (arith, less), at, is)
 
--- What stands among the faults of the font and its glyphs is told.
+-- What is among the faults of the font and its glyphs is reported.
 told_there : (font : CheckedFont) (waivers : List Waiver) (xs : List FaultValue) (p : Place) → IsReport font waivers xs
     → Any (StandsAt p) (filter (λ f. is_in_font font (place_of f)) xs) → IsTold font waivers p
 told_there font waivers xs p of_xs (k, x, less, at, is) =
     subst (IsTold font waivers) is (subst (λ f. IsTold font waivers (place_of f)) at
     (All-filter (λ f. is_in_font font (place_of f)) (IsViolationOf (IsTold font waivers) (path_at font)) xs of_xs.violations k x less).violated)
 
--- A used waiver changes the faults: one that it waives is told without it.
+-- A used waiver changes the faults: one that it waives is reported without it.
 used_changes : (font : CheckedFont) (front back : List Waiver) (w : Waiver) (told without : List FaultValue)
     → is_waived (front ++ back) w.0 (number_of w.1) ≡ false
     → IsReport font (front ++ w ∷ back) told → IsReport font (front ++ back) without → faults_at (is_in_font font) told ≡ faults_at (is_in_font font) without
@@ -374,7 +374,7 @@ unused_waivers_change_nothing font front back w told without once alone of_told 
         (length front + 1) (number_of U01) ≡ true
     is_unused_so same = go (is_used font w) refl same
 
--- ---- lines that stood before
+-- ---- lines that were there before
 
 -- The waivers have what a line's text says.
 is_said_by : List Waiver → Option Waiver → Bool
@@ -442,7 +442,7 @@ said_still waivers more (b ∷ text) other said read = go (waiver_of (b ∷ text
     go None said = said
     go (Some w) said = still other read w.0 (number_of w.1) said
 
--- What is behind the first line of lines, read or not.
+-- What is after the first line of lines, read or not.
 then_alike : (one other : List Waiver → Option (List Waiver)) (found : Option (List Waiver))
     → ((more : List Waiver) → found ≡ Some more → one more ≡ other more) → option_and_then one found ≡ option_and_then other found
 then_alike one other None same = refl

@@ -26,7 +26,7 @@ none_left_out waivers name has_it n = elim (cases_lt 0 n) [
   | inr none ↦ rw (waived_in_book waivers name n (inl (omega (arith, none))), and-false (nat_le n 0), and-true (has_it n)) refl
 ]
 
--- One rule more is asked.
+-- One rule more is tested.
 pub left_more : (waivers : List Waiver) (name : List ℕ) (rules : Mask) (floor : ℕ) (rule : Rule) → IsLeastAbove rules floor rule → (has_left : ℕ → Bool)
     → ((n : ℕ) → has_left n ≡ (has rules n && not (nat_le n floor && is_waived waivers name n)))
     → (n : ℕ) → (has_left n && not (is_waived waivers name (number_of rule) && number_of rule == n))
@@ -66,7 +66,7 @@ left_more waivers name rules floor rule least has_left left n =
       ) (and-true (has rules n))
     ]
 
--- All are asked.
+-- All are tested.
 pub all_left : (waivers : List Waiver) (name : List ℕ) (rules : Mask) (floor : ℕ) → HasNoneAbove rules floor → (n : ℕ)
     → (has rules n && not (nat_le n floor && is_waived waivers name n)) ≡ (has rules n && not (is_waived waivers name n))
 all_left waivers name rules floor none n =

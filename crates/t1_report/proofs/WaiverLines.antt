@@ -8,7 +8,7 @@ use Rattle.t1_report.specs.declared.waivers.WaiverError.TheVariants.{Malformed, 
 use Rattle.t1_report.specs.WaiverViews.{IsReadAs}
 use Rattle.t1_report.specs.Waivers.{Waiver, line_read, lines_from, lines_read}
 
--- The line in hand, one byte on.
+-- The current line, one byte on.
 front_more : (text : List ℕ) (start at d : ℕ) → start ≤ at → at < length text
     → slice_range text start (at + 1) ≡ slice_range text start at ++ slice_index_or text at d ∷ []
 front_more text start at d behind within =

@@ -7,7 +7,7 @@ use Rattle.t1_report.specs.Checked.{CheckedFont}
 use Rattle.t1_report.specs.Walks.{mark_of, turns_at, turns_in_all}
 use Rattle.t1_report.specs.Waivers.{Waiver}
 
--- What an answer leaves: the mark of the fault, and how often machines were asked.
+-- What a call leaves: the mark of the fault, and how many steps were requested of machines.
 abbrev pub mark_after : Mark → Option Fault → Mark
 mark_after mark None = mark
 mark_after mark (Some fault) = mark_of (fault_value fault)

@@ -50,7 +50,7 @@ abbrev pub line_of : FontValue → List Waiver → FaultValue → List ℕ
 line_of font waivers fault =
     concat (decimal fault.number ∷ codes ": " ∷ []) ++ (place_text font waivers fault ++ rule_part fault)
 
--- The fault stands in the font at one of its keys, in one of its glyphs, or it is a waiver that isn't used.
+-- The fault is in the font at one of its keys, in one of its glyphs, or it is a waiver that isn't used.
 pub record IsInFont (font : FontValue) (waivers : List Waiver) (fault : FaultValue) : Type 0 where
   pub unit : fault.unit ≤ length font.glyphs + 1
   pub key : fault.unit ≡ 0 → fault.step / index_count < key_count

@@ -86,8 +86,8 @@ tells_unused font waivers zero n = false
 tells_unused font waivers (suc i) n =
     number_of U01 == n && is_unused font (slice_get waivers i)
 
--- What is told, given these waivers: of the font what is broken, of a glyph what is broken and not waived, and
--- in the unit behind the last glyph's the waivers that aren't used.
+-- What is reported, given these waivers: of the font what is broken; of a glyph what is broken and not waived; in
+-- the unit after the last glyph's the waivers that aren't used.
 unfoldable pub is_told : CheckedFont → List Waiver → ℕ → ℕ → ℕ → Bool
 is_told font waivers zero step n = is_broken font zero step n
 is_told font waivers (suc glyph) step n =
@@ -98,7 +98,7 @@ is_told font waivers (suc glyph) step n =
 abbrev pub IsTold : CheckedFont → List Waiver → Place → Type 0
 IsTold font waivers p = is_told font waivers p.unit p.step (number_of p.rule) ≡ true
 
--- Where a fault stands.
+-- Where a fault is.
 abbrev pub place_of : FaultValue → Place
 place_of fault = record { unit = fault.unit; step = fault.step; rule = fault.rule }
 
@@ -117,7 +117,7 @@ path_in font (suc glyph) (suc i) =
 abbrev pub path_at : CheckedFont → Place → List ℕ
 path_at font p = path_in font.value p.unit p.step
 
--- The fault stands at this place.
+-- The fault is at this place.
 abbrev pub StandsAt : Place → FaultValue → Type 0
 StandsAt p fault = place_of fault ≡ p
 

@@ -1,4 +1,4 @@
--- The faults of one unit, given one at a time.
+-- The faults of one unit, returned one at a time.
 use Rattle.std.specs.Prelude.{◌≡◌, ℕ, List, length, Option, Some, None, nat_le, if◌then◌else◌}
 use Rattle.t1_report.specs.declared.faults.Fault.{Fault}
 use Rattle.t1_report.specs.declared.marks.Mark.{Mark}
@@ -9,11 +9,12 @@ use Rattle.t1_report.specs.Reports.{IsTold, Place, path_at}
 use Rattle.t1_report.specs.Waivers.{Waiver}
 use Rattle.t1_report.specs.Walks.{AreLaterOf, HasNoneLaterOf, IsNextOf, turns_asked, turns_at, turns_of_unit}
 
--- What is told of a unit: 0 is the font, g + 1 is glyph g, and behind the last glyph's stand the waivers.
+-- What is reported of a unit: 0 is the font, g + 1 is glyph g, and the unit after the last glyph's is that of the
+-- waivers.
 abbrev pub IsToldOf : CheckedFont → List Waiver → ℕ → Place → Type 0
 IsToldOf font waivers unit p = (p.unit ≡ unit) × IsTold font waivers p
 
--- The mark that stands before all faults of a unit.
+-- The mark that is before all faults of a unit.
 abbrev pub first_mark_of : ℕ → Mark
 first_mark_of unit = record { number = 0; unit = unit; step = 0; rule = 0 }
 
@@ -29,20 +30,20 @@ abbrev pub AreOfUnit : CheckedFont → List Waiver → ℕ → List FaultValue �
 AreOfUnit font waivers unit faults =
     AreLaterOf (IsToldOf font waivers unit) (path_at font) (first_mark_of unit) faults
 
--- How often machines are asked for a whole unit: never for the font; for a glyph those of its steps, and never for those of
--- another; for the waivers' unit as often as all of them want, and never behind it.
+-- How many steps are requested for a whole unit: for the font none; for a glyph its own, and none of another; for the
+-- waivers' unit those of all waivers; after it none.
 abbrev pub turns_of_whole : CheckedFont → List Waiver → ℕ → ℕ
 turns_of_whole font waivers unit =
     if nat_le unit (length font.value.glyphs) then turns_of_unit font unit
     else turns_asked font waivers unit 0 (length waivers)
 
--- What an answer leaves of them: those up to the fault, or those of the whole unit.
+-- What a call leaves of them: those up to the fault, or those of the whole unit.
 abbrev pub turns_after_in : CheckedFont → List Waiver → ℕ → Option Fault → ℕ
 turns_after_in font waivers unit None = turns_of_whole font waivers unit
 turns_after_in font waivers unit (Some fault) = turns_at font waivers unit 0 fault.unit fault.step
 
--- What gives them: the font and its edition, the waivers, the unit, the mark of the last, and how often it has asked a
--- machine for a step.
+-- Their state: the font and its edition, the waivers, the unit, the mark of the last fault, and how many steps were
+-- requested of machines.
 pub record UnitView : Type 0 where
   pub font : CheckedFont
   pub waivers : List Waiver

@@ -21,7 +21,7 @@ abbrev pub kept_waivers : {S : Type 0} → Option (IndexSet (Bor (List ℕ) × R
 kept_waivers None = []
 kept_waivers (Some set) = waivers_now set.keys
 
--- What was read: these waivers, or that a line is malformed; want of memory says nothing of the text.
+-- What was read: these waivers, or that a line is malformed. Running out of memory says nothing of the text.
 abbrev pub IsReadAs : {W : Type 0} → (W → List Waiver) → Option (List Waiver) → Result W WaiverError → Type 0
 IsReadAs value read (Ok waivers) = read ≡ Some (value waivers)
 IsReadAs value read (Err Malformed) = read ≡ None

@@ -1,4 +1,4 @@
--- Waivers: a glyph's name and a rule that isn't told of that glyph; and the text that they are read from.
+-- Waivers: a glyph's name and a rule that isn't reported of that glyph; and the text that they are read from.
 use Rattle.std.specs.Prelude.{ℕ, ◌-◌, ◌==◌, ◌&&◌, nat_le, if◌then◌else◌, Bool, Option, None, Some, List, [], ◌∷◌, ◌++◌, drop, length, option_and_then, option_map, take}
 use Rattle.std.specs.List.{list_any}
 use Rattle.t1_font.specs.Keys.{same_name}
@@ -24,7 +24,7 @@ with_waiver waivers w = if is_waived waivers w.0 (number_of w.1) then waivers el
 
 -- ---- the text
 
--- The lines of a text, of which this is the front of the first: each is ended by byte 10, or by the end.
+-- The lines of a text, of which front begins the first: each is ended by byte 10, or by the end.
 unfoldable pub lines_from : List ℕ → List ℕ → List (List ℕ)
 lines_from front [] = front ∷ []
 lines_from front (b ∷ bytes) = if b == 10 then front ∷ lines_from [] bytes else lines_from (front ++ b ∷ []) bytes
@@ -50,7 +50,7 @@ waiver_at name (b ∷ code) = if b == 32 then waiver_by name (rule_coded code) e
 abbrev pub waiver_of : List ℕ → Option Waiver
 waiver_of text = waiver_at (take (run_len text) text) (drop (run_len text) text)
 
--- The waivers behind a line, without byte 13 at its end; an empty one says nothing.
+-- The waivers after a line, without byte 13 at its end; an empty one says nothing.
 abbrev pub text_read : List Waiver → List ℕ → Option (List Waiver)
 text_read waivers [] = Some waivers
 text_read waivers (b ∷ text) = option_map (with_waiver waivers) (waiver_of (b ∷ text))
@@ -62,6 +62,6 @@ unfoldable pub lines_read : List Waiver → List (List ℕ) → Option (List Wai
 lines_read waivers [] = Some waivers
 lines_read waivers (line ∷ lines) = option_and_then (λ more. lines_read more lines) (line_read waivers line)
 
--- The waivers of a text, each once, where it first stands; none where a line is malformed.
+-- The waivers of a text, each once, at its first place; none where a line is malformed.
 abbrev pub waivers_of : List ℕ → Option (List Waiver)
 waivers_of text = lines_read [] (lines_from [] text)

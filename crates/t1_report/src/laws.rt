@@ -28,14 +28,14 @@ pub fn faults_after_the_first_mark_are_the_report()
     ensures { AreTheReport }
 {}
 
-/// After the mark of a fault they are those behind it in the report, with the numbers they have there.
+/// After the mark of a fault they are those after it in the report, with the numbers they have there.
 pub fn faults_after_a_mark_are_the_rest()
     ensures { AreTheRest }
 {}
 
-/// Where a mark's number counts the faults of the report up to it, as that of four zeros does, the next fault is the
-/// one behind them, and its mark counts on; where there is none, all were given. So what was given since the mark of
-/// four zeros is the front of the report, as long as the mark's number says, and what is to come is the rest.
+/// A mark whose number n counts the report's faults up to it goes on counting: the next fault is number n + 1 of the
+/// report, and its mark is such a one too. If there is none, all were returned. The mark of four zeros is such a one.
+/// So what was returned since then is the first n faults of the report, and the others are to come.
 pub fn marks_count_the_faults_given()
     ensures start { NoneIsGivenAtFirst }
     ensures next { MarksGoOnCounting }
@@ -44,10 +44,10 @@ pub fn marks_count_the_faults_given()
     ensures rest { AreBehindTheCount }
 {}
 
-/// The faults of a unit, each the next one from the unit's first mark on until there is none, are exactly the report's
-/// faults of that unit in their order, but for their numbers, which count from 1 in the unit; so each unit has such faults, or
-/// none. Where so many of these were given, as a mark's number says, the next fault of the unit is the one behind them; where
-/// there is none, all were given.
+/// The faults of a unit, each the next one from the unit's first mark on, are exactly the report's of that unit, in
+/// their order. Only their numbers differ, which count from 1 in the unit. Each unit has such faults, or none. Where n
+/// of them were returned, and n is the mark's number, the next one is the one after these. If there is none, all were
+/// returned.
 pub fn faults_of_a_unit_are_the_reports()
     ensures given { GivenAreTheReports }
     ensures some { UnitsHaveFaults }
@@ -56,16 +56,16 @@ pub fn faults_of_a_unit_are_the_reports()
     ensures end { AllOfUnitAreGivenAtLast }
 {}
 
-/// The first edition asks the table of rules of each of a glyph's first 100,000 steps, the second of the first
-/// 1,000,000; at the step behind these L01 alone is broken, exactly where there is one; further on nothing is.
+/// The first edition applies the table of rules to each of a glyph's first 100,000 steps, the second to the first
+/// 1,000,000. At the step after these, if there is one, L01 alone is broken. Further on nothing is.
 pub fn the_limit_is_one_step()
     ensures first { AreCheckedTo 100000 One }
     ensures second { AreCheckedTo 1000000 Two }
 {}
 
-/// Numbers that a machine passes break no rule, unless the first of them stands directly behind a hint replacement or
-/// the pop of one. Calm watchers have seen no such step last; and what they keep is the same behind the numbers, which
-/// they don't see.
+/// Numbers that a machine passes break no rule, unless the first of them is directly after a hint replacement or the
+/// pop of one. Calm watchers have seen no such step last. What they keep is the same after the numbers, which they
+/// don't see.
 pub fn passed_numbers_break_no_rule()
     ensures rules { PassedNumbersBreakNoRule }
     ensures calm { CalmIsBehindNoReplacement }
@@ -79,8 +79,7 @@ pub fn passed_lines_break_no_rule()
     ensures kept { WatchersMoveOnByLines }
 {}
 
-/// A font has the same report in both editions where no glyph has more than 100,000 steps, and none of its
-/// steps sets a stem of width -20 or -21.
+/// Both editions report the same of a font without glyphs of over 100,000 steps and stems of width -20 or -21.
 pub fn usual_fonts_have_one_report()
     ensures { UsualFontsHaveOneReport }
 {}
@@ -90,7 +89,7 @@ pub fn clean_fonts_stay_clean()
     ensures { CleanFontsStayClean }
 {}
 
-/// Without waivers what is told is what is broken, and no machine is asked for one.
+/// Without waivers what is reported is what is broken, and no step is requested for one.
 pub fn no_waivers_change_nothing()
     ensures told { ToldIsBroken }
     ensures turns { NoneIsAsked }
@@ -103,24 +102,24 @@ pub fn waiver_lines_are_waivers()
     ensures lines { LinesMakeTheText }
 {}
 
-/// For a waiver a machine is asked up to the first step of its glyph that breaks its rule, or for the whole
-/// glyph where none does.
+/// For a waiver, steps are requested up to the first of its glyph that breaks its rule, or for the whole glyph if none
+/// does.
 pub fn waivers_are_asked_to_the_first_use()
     ensures used { AskedToTheFirst }
     ensures unused { AskedToTheEnd }
 {}
 
-/// The faults of the font and its glyphs with waivers are those without, in order, less those that are waived;
-/// a waiver is told unused exactly where they are the same without it, if no two glyphs have one name, as in each font
-/// that is read.
+/// The faults of the font and its glyphs with waivers are those without, in order, less those that are waived. A waiver
+/// is reported as unused exactly where they are the same without it. This needs that no two glyphs have one name, as in
+/// each font that is read.
 pub fn waivers_leave_out_what_they_say()
     ensures left { WaivedFaultsAreLeftOut }
     ensures unused { UnusedWaiversChangeNothing }
     ensures once { FontsHaveNoNameTwice }
 {}
 
-/// The order of waivers decides only the order and the places of those that aren't used, and a line that stood
-/// before says nothing more.
+/// The order of waivers decides only the order and the places of those that aren't used. A line that was there before
+/// says nothing more.
 pub fn order_and_repetition_have_no_say()
     ensures faults { OrderLeavesFaults }
     ensures uses { OrderLeavesUses }

@@ -1,21 +1,21 @@
-//! The report of a Type 1 font: which rules of the book the font and its glyphs break, in order, each
-//! with its place and its number, and the line that is written of it. All rules are asked. [`Waivers`]
-//! say of which glyphs a rule isn't told; one that leaves nothing out is told behind the glyphs.
+//! The report of a Type 1 font: the rules of the book that the font and its glyphs break, in order, each
+//! with its place, its number and its line. All rules are tested. [`Waivers`] say of which glyphs a rule
+//! isn't reported. One that suppresses nothing is reported after the glyphs.
 //!
 //! A place is a unit and a step. Unit 0 is the font; its step is 65,536 times the number of a key, plus
-//! an index. Unit g + 1 is glyph g; its steps are the tokens that it executes, from 1 on, of which the
-//! first 100,000 are checked, or 1,000,000 by the second edition. The unit behind the last glyph's is the
+//! an index. Unit g + 1 is glyph g; its steps are the tokens that it executes, from 1 on. The first
+//! 100,000 are checked, or 1,000,000 by the second edition. The unit after the last glyph's is the
 //! waivers'; its steps are their places, from 1 on.
 //!
 //! What is promised, for all fonts:
 //!
-//! - The report rises strictly by unit, step and rule; its members are exactly the violations that aren't
+//! - The report rises strictly by unit, step and rule. Its members are exactly the violations that aren't
 //!   waived, then the waivers that aren't used, numbered from 1. A font has one such report and no other.
-//! - A line is written whole, or the device failed and a front of the line went out.
-//! - A [`Walk`] gives the same faults one at a time, from any [`Mark`] on; it can't fail.
-//! - [`UnitFaults`] gives those of one unit, one at a time, numbered from 1 in the unit; it can't fail.
-//! - Want of memory is told, and says nothing of the font. Nothing but [`report`] and
-//!   [`Waivers::read`] takes memory.
+//! - A line is written whole, or a write failed and a prefix of the line was written.
+//! - A [`Walk`] returns the same faults one at a time, from any [`Mark`] on; it can't fail.
+//! - [`UnitFaults`] returns those of one unit, one at a time, numbered from 1 in the unit; it can't fail.
+//! - Running out of memory is an error of its own, and says nothing of the font. Only [`report`] and
+//!   [`Waivers::read`] allocate.
 //!
 //! ```
 //! let waivers = Waivers::none();

@@ -17,7 +17,7 @@ use t1_rules::{INDEXES, key_text, rule_code, rule_text};
 
 /// Writes the line of a fault: `1: font file 0 F01 no end segment`, or of a glyph
 /// `2: glyph A 5>6 8 P01 drawing without a move`, or of a waiver `3: waiver A P01 U01 waiver not used`. The fault
-/// stands at a key of the font, in one of its glyphs, or in the unit behind them at the place of a waiver.
+/// is at a key of the font, in one of its glyphs, or in the unit after them at the place of a waiver.
 pub fn write_fault<W: Sink>(
     sink: &mut W,
     font: &Font<'_>,
@@ -42,7 +42,7 @@ pub fn write_fault<W: Sink>(
     )
 }
 
-/// Writes where a fault stands.
+/// Writes where a fault is.
 fn write_place<W: Sink>(
     sink: &mut W,
     font: &Font<'_>,

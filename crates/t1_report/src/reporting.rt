@@ -29,7 +29,7 @@ use t1_char::{Edition, Path, expand};
 use t1_font::{Font, copy_of};
 use t1_rules::{INDEXES, KEYS, Mask, Sidebearings, Watch, Watches, font_faults, places};
 
-/// Where faults stand: a unit, a step, and the Subrs that are being executed there.
+/// Where faults are: a unit, a step, and the Subrs that are being executed there.
 #[derive(Clone, Copy)]
 struct FaultPlace<'a> {
     unit: u32,
@@ -37,7 +37,7 @@ struct FaultPlace<'a> {
     path: &'a Path,
 }
 
-/// All violations in a font and its glyphs that aren't waived, in the order of their places, and behind them the
+/// All violations in a font and its glyphs that aren't waived, in the order of their places, and after them the
 /// waivers that aren't used.
 pub fn report(
     alloc: Global,

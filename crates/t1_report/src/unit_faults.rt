@@ -15,9 +15,10 @@ use std::marker::Model;
 use t1_font::Font;
 use t1_rules::Sidebearings;
 
-/// The faults of one unit, one at a time, numbered from 1 in the unit: 0 is the font, g + 1 is glyph g, and the unit
-/// behind the last glyph's is the waivers'; further units have none. It ends with its unit and executes no other glyph
-/// than the unit's, or those of the waivers; [`UnitFaults::turns`] counts it. It takes no memory and can't fail.
+/// The faults of one unit, one at a time, numbered from 1 in the unit. Unit 0 is the font, g + 1 is glyph g, and the
+/// unit after the last glyph's is the waivers'; further units have none. It ends with its unit and executes no other
+/// glyph than the unit's, or those of the waivers; [`UnitFaults::turns`] counts their steps. It doesn't allocate and
+/// can't fail.
 ///
 /// ```
 /// let sidebearings = Sidebearings::prepare(alloc, &font, Edition::One)?;
@@ -48,7 +49,7 @@ impl<'a> Model for UnitFaults<'a> {
 }
 
 impl<'a> UnitFaults<'a> {
-    /// From before the unit's first fault on; the font's `Sidebearings` are asked for.
+    /// Starts before the unit's first fault; the `Sidebearings` are those of the font.
     pub fn of(
         font: &'a Font<'a>,
         sidebearings: &'a Sidebearings,
@@ -73,8 +74,8 @@ impl<'a> UnitFaults<'a> {
         }
     }
 
-    /// The least fault of the unit behind the mark, with the number behind the mark's; then it is the mark. It stands in
-    /// the font, as [`write_fault`](crate::write_fault) wants.
+    /// Returns the least fault of the unit after the mark, numbered one more than the mark; then the fault is the mark.
+    /// It is in the font, as [`write_fault`](crate::write_fault) requires.
     pub fn next(&mut self) -> Option<Fault>
         ensures next { MatchOption result (HasNoneLaterInUnit self.old.font self.old.waivers self.old.unit self.old.mark)
             (λ fault. IsNextInUnit self.old.font self.old.waivers self.old.unit self.old.mark (fault_value fault)) }
@@ -85,8 +86,8 @@ impl<'a> UnitFaults<'a> {
         self.course.next_in_unit()
     }
 
-    /// How often it has asked a machine for a step: for none of the font, for those of the glyph of its unit and of no
-    /// other, and for the waivers as a [`Walk`](crate::Walk) does.
+    /// Returns how many steps it has requested of machines: none for the font, those of the glyph of its unit and of no
+    /// other, and for the waivers those of a [`Walk`](crate::Walk).
     pub fn turns(&self) -> u64
         ensures { result ≡ self.now.turns }
     {

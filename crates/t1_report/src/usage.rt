@@ -17,21 +17,21 @@ use crate::walk::glyph_run::GlyphRun;
 use t1_font::Font;
 use t1_rules::{Mask, Rule, Sidebearings, glyph_named};
 
-/// What is told of a waiver, and how often a machine was asked for that.
+/// What is reported of a waiver, and how many steps were requested for that.
 #[derive(Clone, Copy)]
 pub(crate) struct Check {
     pub(crate) rules: Mask,
     pub(crate) turns: u32,
 }
 
-/// Whether a waiver is used, and how often a machine was asked for that.
+/// Whether a waiver is used, and how many steps were requested for that.
 #[derive(Clone, Copy)]
 pub(crate) struct Use {
     pub(crate) used: bool,
     pub(crate) turns: u32,
 }
 
-/// What is told of the waiver of a place: that it isn't used, or nothing.
+/// What is reported of the waiver of a place: that it isn't used, or nothing.
 pub(crate) fn check_waiver<'a>(
     font: &'a Font<'a>,
     sidebearings: &'a Sidebearings,

@@ -1,4 +1,4 @@
-//! Waivers: which rules aren't told of which glyphs.
+//! Waivers: which rules aren't reported of which glyphs.
 
 ghost use Rattle.std.specs.Prelude.{◌≡◌, ◌≤◌, ◌+◌, ℕ, [], ◌&&◌, not, length, slice_get};
 ghost use Rattle.indexmap.specs.IndexSet.{index_set_len};
@@ -34,7 +34,7 @@ impl<T: Drop> From<AllocFailed<T>> for WaiverError {
     }
 }
 
-/// A glyph's name, and a rule that isn't told of that glyph.
+/// A glyph's name, and a rule that isn't reported of that glyph.
 type Pair<'a> = (&'a [u8], Rule);
 
 /// Waivers, each once, in the order of their first places.
@@ -57,7 +57,7 @@ impl<'a> Model for Waivers<'a> {
 }
 
 impl<'a> Waivers<'a> {
-    /// No waivers: all is told.
+    /// No waivers: all is reported.
     pub fn none() -> Waivers<'a>
         ensures { result ≡ [] }
     {

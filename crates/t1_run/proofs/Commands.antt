@@ -114,7 +114,7 @@ any_of_map P f (x ∷ xs) (suc k, y, lt, at, holds) =
 abbrev IsNumberRule : ℕ → ℕ → Text → Rule → Type 0
 IsNumberRule low high id r = (r.id ≡ id) × (r.parser ≡ Some (parser.Unsigned low high))
 
--- the value that a parse gives to a number's argument is a number between two others
+-- the value that a parse has for a number's argument is a number between two others
 number_at : (app : App) (c : Command) → IsOurs app c → (m : ArgMatches) → IsParsedFrom c m → (low high : ℕ) (id text : Text)
     → Any (λ a. IsNumberRule low high id (rule_of a)) (args_of c)
     → first_value (found_of m) id ≡ Some text → IsUnsignedIn low high text
@@ -142,7 +142,7 @@ is_number {app} {c} our m p low high id number =
 abbrev IsRequiredRule : Text → Rule → Type 0
 IsRequiredRule id r = (r.id ≡ id) × (r.required ≡ true) × (r.action ≡ Some Set) × (r.range ≡ None)
 
--- a parse gives a value to such an argument
+-- a parse has a value for such an argument
 required_at : (app : App) (c : Command) → IsOurs app c → (m : ArgMatches) → IsParsedFrom c m → (id : Text)
     → Any (λ a. IsRequiredRule id (rule_of a)) (args_of c) → is_some (first_value (found_of m) id) ≡ true
 required_at app c our m p id (k, a, lt, at, is) =
@@ -164,7 +164,7 @@ has_value {app} {c} our m p id required =
 pub by_rules : (program : App) {app : App} {words : List Text} {m : ArgMatches} → app ≡ program → IsParsedBy app words m → IsParsedBy program words m
 by_rules program {app} {words} {m} same parsed = subst (λ (a : App). IsParsedBy a words m) same parsed
 
--- The first value of an id is that of the rows that the words give.
+-- The first value of an id is that of the rows that the words yield.
 pub first_of-found : (m : ArgMatches) (id : List ℕ) (rows : List Row) (value : Option (List ℕ)) → rows_of (found_of m) ≡ rows
     → value ≡ first_value (found_of m) id → value ≡ first_of id rows
 first_of-found m id rows value same found = found ∙ first_value-rows (found_of m) id ∙ ap (first_of id) same

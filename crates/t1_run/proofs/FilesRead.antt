@@ -80,7 +80,7 @@ pub no_text : Ok [] ≡ as_waivers (waivers_of [])
 unfolding lines_from lines_read
 no_text = refl
 
--- A source that is asked.
+-- A source that is read.
 pub was_asked : (old new : SourceState) → new.failed ≡ old.failed → StopsAt 1048576 old new ⊥ → IsHeard true old new
 was_asked old new kept whole = record { unasked = λ unasked. absurd (true≢false unasked); failed = kept; whole = λ asked. whole }
 
@@ -108,7 +108,7 @@ waived-weaker P Q true (Some text) on holds = on (waivers_in text) holds
 
 -- ---- the text that was had
 
--- What reading it gives is the text, or why there is none.
+-- What reading it returns is the text, or why there is none.
 pub had : (old new : SourceState) (bytes : List ℕ) → AreAll 1048576 old new bytes → IsWaiverText true old new bytes
 had old new bytes all = record {
   few = all.few;
@@ -122,7 +122,7 @@ had_none old new failure (past bytes consumed many kept is) =
 had_none old new failure (broken failed is) = read_failed refl failed is
 had_none old new failure (unroomed kept is) = no_memory (record { unasked = λ unasked. absurd (true≢false unasked); failed = kept }) is
 
--- Where it isn't asked for nothing is read.
+-- Where it isn't requested nothing is read.
 pub unasked : (old : SourceState) (bytes : List ℕ) → bytes ≡ [] → IsWaiverText false old old bytes
 unasked old bytes none = subst (IsWaiverText false old old) (sym none)
     (record { few = omega arith; read = no_text; heard = not_asked old })

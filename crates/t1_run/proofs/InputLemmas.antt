@@ -1,4 +1,4 @@
--- Bytes that a source gave one part after another.
+-- Bytes that were read one part after another.
 use Rattle.std.proofs.Common.{◌≡◌, Bool, ℕ, ◌+◌, ◌≤◌, List, ◌++◌, Option, Result, Ok, Err, false, if◌then◌else◌, length, take, ap, ◌∙◌, subst, sym, arith, length-append}
 use Rattle.std.proofs.lemmas.List.{take-append-le}
 use Rattle.std.specs.Result.{is_ok, is_err}
@@ -15,13 +15,13 @@ TakesAtMost-more n a b c bytes more first second few =
 pub Consumes-more : (a b c : Option (List ℕ)) (bytes more all : List ℕ) → Consumes a b bytes → Consumes b c more → all ≡ bytes ++ more → Consumes a c all
 Consumes-more a b c bytes more all first second e = subst (Consumes a c) (sym e) (Consumes-trans a b c bytes more first second)
 
--- a call of take that no failed one stands before isn't late
+-- a call of take with no failed one before isn't late
 pub not_late : (old new : SourceState) → new.late_takes ≡ late_takes_behind old → old.failed ≡ false
     → new.late_takes ≡ old.late_takes
 not_late old new is sound =
     is ∙ ap (λ (failed : Bool). if failed then one_more old.late_takes else old.late_takes) sound
 
--- a vector that took the first bytes of a buffer, whose front was written
+-- a vector that took the first bytes of a buffer, whose beginning was written
 pub items-extended : {E : Type 0} (r : Result (Unit {0}) E) (old new front rest : List ℕ) (count : ℕ) → false ≡ is_err r
     → new ≡ (if is_ok r then old ++ take count (front ++ rest) else old) → count ≤ length front → new ≡ old ++ take count front
 items-extended (Ok u) old new front rest count went items within = items ∙ ap (λ l. old ++ l) (take-append-le count front rest within)

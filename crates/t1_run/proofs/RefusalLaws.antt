@@ -25,7 +25,7 @@ pub refused_by_part : parts.RefusedByPart → RefusedByPart
 unfolding font_of
 refused_by_part by_part bytes reason known = IfErr-at_err (IsOfFile bytes) known (sized by_part (nat_lt 16777216 (length bytes)) bytes)
 
--- want of memory is no reason of a file
+-- running out of memory is no reason of a file
 is_font : (read : Result FontValue Unread) (unread : Unread) → with_reason read ≡ Err (Font unread) → read ≡ Err unread
 is_font (Ok font) unread h = cc
 is_font (Err e) unread h = cc

@@ -1,4 +1,4 @@
--- A value that a parse gives to an argument passed that argument's parser.
+-- A value that a parse has for an argument passed that argument's parser.
 use Rattle.std.proofs.Common.{◌≡◌, ℕ, ◌<◌, Bool, true, false, List, [], ◌∷◌, Option, None, Some, length, option_map, subst, sym, ap, ◌∙◌, refl, inl, inr, arith}
 use Rattle.std.specs.Prelude.{slice_get, option_and_then}
 use Rattle.std.specs.Borrow.{Bor}

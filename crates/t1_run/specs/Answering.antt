@@ -1,4 +1,4 @@
--- How a program answers the words of its command line: it explains them, or runs on the files that they name.
+-- What a program does with the words of its command line: it explains them, or runs on the files that they name.
 use Rattle.std.specs.Prelude.{◌≡◌, ℕ, false, List, Option, None, Some}
 use Rattle.clap.specs.Words.{Text}
 use Rattle.t1_io.specs.Devices.{SourceState}
@@ -12,17 +12,17 @@ use Rattle.t1_run.specs.declared.status.Status.TheVariants.{Failed}
 pub record Program (Options : Type 0) : Type 1 where
   -- Its name.
   pub name : List ℕ
-  -- The words give these options, or give none, and this is answered to them.
+  -- The words yield these options; or they yield none, and are explained so.
   pub Gives : Options → Type 0
   pub Explains : Sinks → Sinks → Status → Type 0
   -- The name of the font's file, without which standard input is read, and of the file of waivers that is to be read.
   pub font : Options → Option Text
   pub waivers : Options → Option Text
-  -- How a run ends: the source of the font before it and behind it, and that of the waivers.
+  -- How a run ends: the source of the font before it and after it, and that of the waivers.
   pub Ends : Options → SourceState → SourceState → SourceState → SourceState → Sinks → Sinks → Status → Type 0
 
--- The source of waivers, before a run and behind it: of the file that is to be read, which is handed back; without one no
--- file is opened.
+-- The source of waivers, before a run and after it. It is of the file that is to be read, which is returned; without
+-- one no file is opened.
 pub data IsOpened (opening : Opening) (named : Option Text) (waivers waivers' : SourceState) (file : Option SourceState) : Type 0 where
   opened :
       (name : Text) → named ≡ Some name → opening.Opens name waivers.left → waivers.failed ≡ false → file ≡ Some waivers'
@@ -41,10 +41,10 @@ pub data RunsOn {Options : Type 0} (program : Program Options) (options : Option
       → sinks'.out ≡ sinks.out → Tells (read_failed_line program.name) Failed sinks.errors sinks'.errors result
       → RunsOn program options opening source source' file sinks sinks' result
 
--- The words are answered: explained, or by a run on standard input or on the file that they name, where that can be opened.
--- What is told of a read is tied to the source that was read: standard input before and behind, and the files as they are
--- left. Standard input is left alone but where no file is named, and no file is handed back of what wasn't opened: of a font
--- where none is named, of waivers where none are to be read, none at all where the words give no options. The font's file is
+-- The words are explained, or lead to a run on standard input or on the file that they name, if that can be opened.
+-- What is said of a read is tied to the source that was read: standard input before and after, and the files as they
+-- are left. Standard input is left alone unless no file is named. No file is returned that wasn't opened: no font where
+-- none is named, no waivers where none are to be read, none at all where the words yield no options. The font's file is
 -- opened before that of the waivers, and both before any is read.
 pub data Answers {Options : Type 0} (program : Program Options) (fonts waivers : Opening) (input input' : SourceState)
     (files : Files) (sinks sinks' : Sinks) (result : Status) : Type 0 where

@@ -1,4 +1,4 @@
--- Why a run has nothing to give, what is told of it under a program's name, and its status.
+-- Why a run has no result, what is printed of it under a program's name, and its status.
 use Rattle.std.specs.Prelude.{ℕ, List, [], ◌∷◌, Option, None, Some, codes}
 use Rattle.std.specs.List.{concat}
 use Rattle.t1_lines.specs.RefusalCodes.{refusal_code_of}
@@ -10,7 +10,7 @@ use Rattle.t1_run.specs.declared.failure.Failure.TheVariants.{Refused, Broken, M
 use Rattle.t1_run.specs.declared.status.Status.{Status}
 use Rattle.t1_run.specs.declared.status.Status.TheVariants as status
 
--- A reason refuses by its number; want of memory, which has none, stays what it is.
+-- A reason refuses by its number. Running out of memory, which has none, stays what it is.
 abbrev pub refused_by : Option RefusalCode → Failure
 refused_by (Some code) = Refused code
 refused_by None = Memory
@@ -36,7 +36,7 @@ write_failed_line program = concat (program ∷ codes ": write failed\n" ∷ [])
 abbrev pub no_glyph_line : List ℕ → List ℕ → List ℕ
 no_glyph_line program name = concat (program ∷ codes ": no glyph " ∷ name ∷ codes "\n" ∷ [])
 
--- What is told of a failure.
+-- What is printed of a failure.
 abbrev pub failure_line : List ℕ → Failure → List ℕ
 failure_line program (Refused code) = refusal_line code
 failure_line program Broken = read_failed_line program

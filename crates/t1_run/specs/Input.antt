@@ -1,4 +1,4 @@
--- What reading a source to its end gives, and where it stops.
+-- What reading a source to its end returns, and where it stops.
 use Rattle.std.specs.Prelude.{◌≡◌, true, ℕ, ◌<◌, ◌≤◌, ◌+◌, List, length, Option, false}
 use Rattle.std.specs.Io.KnownBytes.{Consumes, IsAtEnd}
 use Rattle.t1_io.specs.Devices.{SourceState}
@@ -7,11 +7,11 @@ use Rattle.t1_run.specs.Failures.{failure_of}
 use Rattle.t1_run.specs.declared.failure.Failure.{Failure}
 use Rattle.t1_run.specs.declared.failure.Failure.TheVariants.{Broken, Memory}
 
--- Known bytes lose at most n at their front.
+-- Known bytes lose at most n at their beginning.
 abbrev pub TakesAtMost : ℕ → Option (List ℕ) → Option (List ℕ) → Type 0
 TakesAtMost n old new = (bytes : List ℕ) × Consumes old new bytes × (length bytes ≤ n)
 
--- At most so many reads were made and as many bytes taken, and no read behind one that failed.
+-- At most so many reads were made and so many bytes taken, and no read came after one that failed.
 pub record ReadsAtMost (most : ℕ) (old new : SourceState) : Type 0 where
   pub reads : new.takes ≤ old.takes + most
   pub taken : TakesAtMost most old.left new.left

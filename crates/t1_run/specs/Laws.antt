@@ -20,6 +20,6 @@ IsOfFile bytes reason = IsOfSized (nat_lt largest_file (length bytes)) bytes rea
 abbrev pub RefusedByPart : Type 0
 RefusedByPart = (bytes : List ℕ) (reason : Reason) → font_of bytes ≡ Err reason → IsOfFile bytes reason
 
--- No bytes are refused for want of memory.
+-- No bytes are refused as out of memory.
 abbrev pub NeverForMemory : Type 0
 NeverForMemory = (bytes : List ℕ) → font_of bytes ≡ Err (Font Memory) → ⊥

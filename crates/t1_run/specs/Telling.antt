@@ -7,20 +7,20 @@ use Rattle.t1_run.specs.declared.status.Status.TheVariants.{Clean, Failed}
 use Rattle.t1_run.specs.declared.usage.UsageError.{UsageError}
 use Rattle.t1_run.specs.declared.usage.UsageError.TheVariants.{Help, Usage, Memory}
 
--- A text was to be told on standard error, and then a status to be answered; where that can't be told, Failed.
+-- A text was to be printed on standard error, and then a status to be returned; if printing fails, that is Failed.
 pub data Tells (text : List ℕ) (status : Status) (errors errors' : SinkState) (result : Status) : Type 0 where
   told : Wrote errors errors' text → result ≡ status → Tells text status errors errors' result
   untold : PutFailed errors errors' text → result ≡ Failed → Tells text status errors errors' result
 
--- A text was to be given on the output and flushed once, and then a status to be answered; where that fails, this is told
--- under the program's name.
+-- A text was to be printed on the output and flushed once, and then a status to be returned. If that fails, this is
+-- printed under the program's name.
 pub data Gives (program text : List ℕ) (status : Status) (out out' errors errors' : SinkState) (result : Status) : Type 0 where
   given : Delivered out out' text → errors' ≡ errors → result ≡ status → Gives program text status out out' errors errors' result
   ungiven :
       DeliveryFailed out out' text → Tells (write_failed_line program) Failed errors errors' result
       → Gives program text status out out' errors errors' result
 
--- What is answered to words of the command line that give no options: help on the output, all else on standard error.
+-- What is printed for words of the command line that yield no options: help on the output, all else on standard error.
 abbrev pub Explains : List ℕ → UsageError → SinkState → SinkState → SinkState → SinkState → Status → Type 0
 Explains program (Help text) out out' errors errors' result =
     Gives program (string_bytes text) Clean out out' errors errors' result

@@ -1,4 +1,4 @@
--- A text of waivers, which may be too large, and what is done to its source where it is asked for.
+-- A text of waivers, which may be too large, and what is done to its source where it is requested.
 use Rattle.std.specs.Prelude.{◌≡◌, ◌≤◌, ℕ, Bool, true, false, nat_lt, if◌then◌else◌, List, [], length, Option, None, Some, Result, Ok, Err}
 use Rattle.t1_io.specs.Devices.{SourceState}
 use Rattle.t1_lines.specs.declared.refusal.Reason.{Reason}
@@ -18,7 +18,8 @@ as_waivers (Some waivers) = Ok waivers
 unfoldable pub waivers_in : List ℕ → Result (List Waiver) Reason
 waivers_in text = if nat_lt largest_waivers (length text) then Err WaiversTooLarge else as_waivers (waivers_of text)
 
--- It is so of what the waivers are read as: of none where they aren't asked for, else of those of the text, where it is known.
+-- It is so of what the waivers are read as: of none where they aren't requested, else of those of the text, where it is
+-- known.
 abbrev pub IfWaived : Bool → Option (List ℕ) → (Result (List Waiver) Reason → Type 0) → Type 0
 IfWaived false text P = P (Ok [])
 IfWaived true None P = Unit {0}
@@ -28,18 +29,18 @@ IfWaived true (Some text) P = P (waivers_in text)
 abbrev pub AreWaived : Bool → Option (List ℕ) → Result (List Waiver) Reason → Type 0
 AreWaived asked text waived = IfWaived asked text (λ read. read ≡ waived)
 
--- No read of the source of waivers failed, and it is as it was unless they are asked for.
+-- No read of the source of waivers failed, and it is as it was unless they are requested.
 pub record IsUnbroken (asked : Bool) (old new : SourceState) : Type 0 where
   pub unasked : asked ≡ false → new ≡ old
   pub failed : new.failed ≡ old.failed
 
--- And where they are asked for it was read to its end, or past the limit of their text.
+-- And where they are requested it was read to its end, or past the limit of their text.
 pub record IsHeard (asked : Bool) (old new : SourceState) : Type 0 where
   pub unasked : asked ≡ false → new ≡ old
   pub failed : new.failed ≡ old.failed
   pub whole : asked ≡ true → StopsAt largest_waivers old new ⊥
 
--- The text of waivers, few enough bytes, or none where none are asked for.
+-- The text of waivers, few enough bytes, or none where none are requested.
 pub record IsWaiverText (asked : Bool) (old new : SourceState) (text : List ℕ) : Type 0 where
   pub few : length text ≤ largest_waivers
   pub read : AreWaived asked old.left (as_waivers (waivers_of text))

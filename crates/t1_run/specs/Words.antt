@@ -91,7 +91,7 @@ abbrev pub IsEditionOrFirst : Option Text → Edition → Type 0
 IsEditionOrFirst None edition = edition ≡ One
 IsEditionOrFirst (Some text) edition = IsNumber text (number_of_edition edition)
 
--- ---- words that give no options
+-- ---- words that yield no options
 
 -- The first fault that clap finds in the words is the request for help.
 abbrev pub AsksHelp : App → List Text → Type 0
@@ -107,13 +107,13 @@ IsHelpOrMemory (Help text) = Unit {0}
 IsHelpOrMemory (Usage text) = ⊥
 IsHelpOrMemory Memory = Unit {0}
 
--- What is told says something: text is never empty.
+-- What is printed says something: text is never empty.
 abbrev pub HasText : UsageError → Type 0
 HasText (Help text) = 0 < length (string_bytes text)
 HasText (Usage text) = 0 < length (string_bytes text)
 HasText Memory = Unit {0}
 
--- The words give no options: help was asked for, clap's rules find a fault, or memory ran out.
+-- The words yield no options: help was requested, clap's rules find a fault, or memory ran out.
 pub record AreRefused (app : App) (words : List Text) (error : UsageError) : Type 0 where
   pub taken : takes app words ≡ true → error ≡ Memory
   pub faultless : fault_of app words ≡ [] → error ≡ Memory
@@ -121,7 +121,7 @@ pub record AreRefused (app : App) (words : List Text) (error : UsageError) : Typ
   pub help : AsksHelp app words → IsHelpOrMemory error
   pub only_help : IsHelp error → AsksHelp app words
 
--- What is told where a word isn't UTF-8: clap's sentence, and what serves instead; or memory ran out.
+-- What is printed where a word isn't UTF-8: clap's sentence, and what serves instead; or memory ran out.
 abbrev pub IsNotUtf8OrMemory : List ℕ → UsageError → Type 0
 IsNotUtf8OrMemory cure (Help text) = ⊥
 IsNotUtf8OrMemory cure (Usage text) =

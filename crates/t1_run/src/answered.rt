@@ -1,10 +1,11 @@
-//! What a program answered.
+//! What a program returned.
 
 use crate::status::Status;
 use std::io::Read;
 use t1_io::In;
 
-/// What was answered to the words of a command line: the status, and the files that were opened, as they were left.
+/// What a program returns for the words of a command line: the status, and the files that were opened, as they were
+/// left.
 #[derive(Drop)]
 pub struct Answered<F: Read + Drop, G: Read + Drop> {
     /// How the run ended.

@@ -1,4 +1,4 @@
-//! Why a run has nothing to give.
+//! Why a run has no result.
 
 ghost use Rattle.std.specs.Prelude.{◌≡◌};
 ghost use Rattle.t1_lines.specs.declared.refusal.Reason.TheVariants as reason;
@@ -10,7 +10,7 @@ use t1_font::Unread;
 use t1_lines::{Reason, RefusalCode};
 use t1_report::WaiverError;
 
-/// Why a run has nothing to give.
+/// Why a run has no result.
 #[derive(Clone, Copy, Debug, PartialEq, Eq)]
 pub enum Failure {
     /// The font or the waivers are refused, by this number.

@@ -16,10 +16,10 @@ use t1_report::LARGEST_WAIVERS;
 /// The greatest size of a font's file, in bytes.
 pub const LARGEST_FILE: usize = 16_777_216;
 
-/// How many bytes are asked for at once.
+/// How many bytes are requested at once.
 const ROOM: usize = 16_384;
 
-/// Reads the bytes of a font's file: all that a source gives until its end. More than 16,777,216 are refused, by E05.
+/// Reads the bytes of a font's file: all of a source until its end. More than 16,777,216 are refused, by E05.
 pub fn read_font_file<R: Source>(alloc: Global, source: &mut R) -> Result<Vec<u8>, Failure>
     ensures gathers { MatchResult result (λ bytes. AreAll largest_file (R.state source.old) (R.state source.new) bytes.items)
         (AreUnread largest_file reason.FontTooLarge (R.state source.old) (R.state source.new)) }
@@ -31,8 +31,8 @@ pub fn read_font_file<R: Source>(alloc: Global, source: &mut R) -> Result<Vec<u8
     read_all(alloc, source, LARGEST_FILE, Reason::FontTooLarge)
 }
 
-/// Reads a text of waivers, where they are asked for; else the source is left alone, and the text is empty. More than 1,048,576
-/// bytes are refused, by E15.
+/// Reads a text of waivers if they are requested. Else the source is left alone, and the text is empty. More than
+/// 1,048,576 bytes are refused, by E15.
 pub fn read_waivers<R: Source>(
     alloc: Global,
     source: &mut R,
@@ -49,8 +49,8 @@ pub fn read_waivers<R: Source>(
     }
 }
 
-/// Reads to the end of a source, in as few calls as it allows, and no further than one byte past the most that it may have,
-/// which is the reason why it is refused then.
+/// Reads to the end of a source, in as few calls as it allows. It reads no further than one byte past `most`, and fails
+/// by `past` then.
 fn read_all<R: Source>(
     alloc: Global,
     source: &mut R,

@@ -1,15 +1,15 @@
-//! The front room of the programs: what each of them does with words, files and devices before and behind its own work.
+//! What the programs have in common: the words, files and devices before and after each one's own work.
 //!
-//! [`words_given`] has the words of the command line, and [`parse`] reads them by clap's rules, or gives a [`UsageError`], which
-//! [`explain`] answers. [`read_font_file`] and [`read_waivers`] read a file to its end, within its limit. Where a run has nothing
-//! to give, a [`Failure`] says why, and [`tell_failure`] tells it under the program's own name; [`give`] gives what it has. Each
-//! of these ends with a [`Status`].
+//! [`words_given`] has the words of the command line. [`parse`] reads them by clap's rules, or fails with a
+//! [`UsageError`], which [`explain`] prints. [`read_font_file`] and [`read_waivers`] read a file to its end, within its
+//! limit. Where a run has no result, a [`Failure`] says why, and [`tell_failure`] prints it under the program's own
+//! name; [`give`] prints a result. [`explain`], [`tell_failure`] and [`give`] return a [`Status`].
 //!
 //! Promised, of any program without subcommands whose arguments exclude nothing (`IsPlainApp`):
 //!
-//! - words are taken or refused by clap's rules, and help is answered exactly where it is what clap finds first;
-//! - a file is read to its end and no further than one byte past its limit, and no read follows one that failed;
-//! - what is told, and the status, are decided by what is to be told and by whether the device took it.
+//! - Words are taken or refused by clap's rules, and help is printed exactly where it is what clap finds first.
+//! - A file is read to its end and no further than one byte past its limit, and no read follows one that failed.
+//! - What is printed, and the status, depend only on what is to be printed and on whether the write succeeds.
 #![tactic(auto)]
 
 mod answered;

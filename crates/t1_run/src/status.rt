@@ -1,4 +1,4 @@
-//! How a run ends, as its exit status tells.
+//! How a run ends, as its exit status says.
 
 ghost use Rattle.std.specs.Prelude.{◌≡◌};
 ghost use Rattle.std.specs.Process.{exit_status};
@@ -9,13 +9,13 @@ use std::process::{ExitCode, Termination};
 /// How a run ended. Its number is the exit status.
 #[derive(Clone, Copy, Debug, PartialEq, Eq)]
 pub enum Status {
-    /// What was asked for was given, and no line of a report was among it.
+    /// What was requested was printed, and no line of a report was among it.
     Clean = 0,
     /// At least one line of a report was written.
     Faults = 1,
     /// A font or waivers were refused, by a number.
     Refused = 2,
-    /// A device failed, memory ran out, the font has no glyph of the name, or the words weren't taken.
+    /// A read or write failed, memory ran out, the font has no glyph of the name, or the words weren't taken.
     Failed = 3,
 }
 

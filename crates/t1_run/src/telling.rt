@@ -11,7 +11,7 @@ use crate::status::Status;
 use t1_io::{Sink, deliver, put_all, put_parts};
 use t1_lines::refusal_text;
 
-/// Tells one text on standard error and answers the status, or `Failed` where that can't be told.
+/// Prints one text on standard error and returns the status, or `Failed` if printing fails.
 pub fn tell<E: Sink>(errors: &mut E, text: &str, status: Status) -> Status
     ensures { Tells text.now status (E.state errors.old) (E.state errors.new) result }
 {
@@ -21,7 +21,7 @@ pub fn tell<E: Sink>(errors: &mut E, text: &str, status: Status) -> Status
     }
 }
 
-/// Tells the parts of a text one after another, as [`tell`] tells one.
+/// Prints the parts of a text one after another, as [`tell`] prints one.
 pub fn tell_parts<E: Sink>(errors: &mut E, parts: &[&[u8]], status: Status) -> Status
     ensures { Tells (whole_of parts.now) status (E.state errors.old) (E.state errors.new) result }
 {
@@ -31,7 +31,7 @@ pub fn tell_parts<E: Sink>(errors: &mut E, parts: &[&[u8]], status: Status) -> S
     }
 }
 
-/// Tells why the program of this name has nothing to give: a refusal by its number and text, all else behind the name.
+/// Prints why the program of this name has no result: a refusal by its number and text, all else after the name.
 pub fn tell_failure<E: Sink>(program: &str, failure: Failure, errors: &mut E) -> Status
     ensures { Tells (failure_line program.now failure) (failure_status failure) (E.state errors.old) (E.state errors.new) result }
 {
@@ -49,14 +49,14 @@ pub fn tell_failure<E: Sink>(program: &str, failure: Failure, errors: &mut E) ->
     }
 }
 
-/// Tells that a write or a flush of the program's output failed.
+/// Prints that a write or a flush of the program's output failed.
 pub fn tell_write_failed<E: Sink>(program: &str, errors: &mut E) -> Status
     ensures { Tells (write_failed_line program.now) Status.Failed (E.state errors.old) (E.state errors.new) result }
 {
     tell_of(program, b": write failed\n", errors)
 }
 
-/// Tells that a font has no glyph of this name.
+/// Prints that a font has no glyph of this name.
 pub fn tell_no_glyph<E: Sink>(program: &str, name: &str, errors: &mut E) -> Status
     ensures { Tells (no_glyph_line program.now name.now) Status.Failed (E.state errors.old) (E.state errors.new) result }
 {
@@ -64,14 +64,14 @@ pub fn tell_no_glyph<E: Sink>(program: &str, name: &str, errors: &mut E) -> Stat
     tell_parts(errors, &parts, Status::Failed)
 }
 
-/// Tells what has failed, behind the program's name.
+/// Prints what has failed, after the program's name.
 fn tell_of<E: Sink>(program: &str, what: &[u8], errors: &mut E) -> Status
     ensures { Tells (concat (program.now ∷ what.now ∷ [])) Status.Failed (E.state errors.old) (E.state errors.new) result }
 {
     tell_parts(errors, &[program.as_bytes(), what], Status::Failed)
 }
 
-/// Gives a text on the output, and flushes it; where that fails it is told.
+/// Prints a text on the output and flushes it. If that fails, this is printed on standard error.
 pub fn give<W: Sink, E: Sink>(program: &str, text: &[u8], out: &mut W, errors: &mut E) -> Status
     ensures { Gives program.now text.now Status.Clean (W.state out.old) (W.state out.new) (E.state errors.old)
         (E.state errors.new) result }

@@ -1,4 +1,4 @@
-//! Why the words of a command line give no options, and what is answered to them.
+//! Why the words of a command line yield no options, and what is printed then.
 
 ghost use Rattle.std.specs.Prelude.{◌≡◌};
 ghost use Rattle.t1_run.specs.Telling.{Explains};
@@ -11,13 +11,13 @@ use std::alloc::AllocError;
 use t1_io::Sink;
 use thiserror::Error;
 
-/// Why the words of a command line give no options.
+/// Why the words of a command line yield no options.
 #[derive(Debug, Drop, Error)]
 pub enum UsageError {
-    /// Help was asked for; this is its text.
+    /// Help was requested; this is its text.
     #[error("{0}")]
     Help(String),
-    /// The words aren't taken, as in `--edition x`; this is what is told.
+    /// The words aren't taken, as in `--edition x`; this is what is printed.
     #[error("{0}")]
     Usage(String),
     /// An allocation was refused.
@@ -33,8 +33,8 @@ impl From<AllocError> for UsageError {
     }
 }
 
-/// Answers words that gave the program of this name no options: the text of help on the output, which is flushed, and everything
-/// else on standard error.
+/// Prints why words yield no options: the text of help on the output, which is flushed, and everything else on standard
+/// error.
 pub fn explain<W: Sink, E: Sink>(
     program: &str,
     error: &UsageError,

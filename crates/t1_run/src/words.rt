@@ -15,10 +15,11 @@ use std::env;
 use std::io::ErrorKind;
 use t1_char::Edition;
 
-/// What is told where a word isn't UTF-8: clap's sentence.
+/// What is printed where a word isn't UTF-8: clap's sentence.
 const NOT_UTF8: &str = "error: invalid UTF-8 was detected in one or more arguments\n";
 
-/// The words that the program was started with, its name first. Where one isn't UTF-8, `cure` is told behind clap's sentence.
+/// Returns the words that the program was started with, its name first. Where one isn't UTF-8, `cure` is printed after
+/// clap's sentence.
 pub fn words_given(rt: &HostRuntime, cure: &str) -> Result<Vec<String>, UsageError>
     ensures { IfErr result (IsNotUtf8OrMemory cure.now) }
 {
@@ -49,7 +50,7 @@ pub fn parse<'a, S: AsStr>(
     }
 }
 
-/// What is told of clap's error; where its text can't be had memory ran out.
+/// What is printed of clap's error. If its text can't be had, memory ran out.
 pub fn usage_error(alloc: Global, error: &clap::Error) -> UsageError
     ensures memory { kind_of error.now ≡ OutOfMemory → result ≡ UsageError.Memory }
     ensures help { kind_of error.now ≡ DisplayHelp → IsHelpOrMemory result }

@@ -1,4 +1,4 @@
--- The order in which the rules are told: it is there, and is one.
+-- The order in which the rules are printed: it is there, and is one.
 use Rattle.std.proofs.Common.{◌≡◌, ◌+◌, ◌<◌, ℕ, suc, zero, nat_eq, Bool, true, false, true≢false, cond, List, [], ◌∷◌, get_or, length, Some, inl, inr, refl, sym, subst, ap, ap₂, ◌∙◌, arith}
 use Rattle.std.proofs.lemmas.Bool.{cases_Bool, eqb-true}
 use Rattle.std.proofs.lemmas.Bool.Decides.{nat_tests}
@@ -100,14 +100,14 @@ sorted lt (x ∷ y ∷ xs) up (suc k) d low less =
 abbrev is_it : Rule → Rule → ℕ
 is_it rule other = cond (nat_eq (number_of rule) (number_of other)) 1 0
 
--- How often a rule stands in a list.
+-- How often a rule is in a list.
 abbrev times : Rule → List Rule → ℕ
 times rule order = sum_by (is_it rule) order
 
 itself : (rule : Rule) → is_it rule rule ≡ 1
 itself rule = let same : nat_eq (number_of rule) (number_of rule) ≡ true = grind (arith, nat_tests) in rw same refl
 
--- what holds of each rule of a list holds of a rule that stands there
+-- what holds of each rule of a list holds of a rule that is there
 of_each : (P : Rule → Type 0) (rule : Rule) (order : List Rule) → 0 < times rule order → AllByRecursion P order → P rule
 of_each P rule [] some each = absurd (omega (arith, some))
 of_each P rule (other ∷ order) some each = elim (cases_Bool (nat_eq (number_of rule) (number_of other))) [
@@ -228,7 +228,7 @@ one_ranking tally order other a b =
 pub rankings_are_one : RankingsAreOne
 rankings_are_one tally order is = one_ranking tally order (ranking tally) is (rankings_stand tally)
 
--- what a sort of the book gives
+-- what a sort of the book returns
 pub sorted_book : (tally : Tally) (book order : List Rule) → book ≡ rules → IsPermutation book order → IsSortedBy (before tally) order → order ≡ ranking tally
 sorted_book tally book order is all up =
     rankings_are_one tally order (record { all = subst (λ (some : List Rule). IsPermutation some order) is all; sorted = up })

@@ -21,7 +21,7 @@ use Rattle.t1_lines.specs.Cutting.{cut}
 abbrev pub differs : ℕ → ℕ → Bool
 differs byte c = not (c == byte)
 
--- Neither a plus nor a needless zero stands in front.
+-- Neither a plus nor a needless zero comes first.
 abbrev pub begins_plainly : List ℕ → Bool
 begins_plainly [] = true
 begins_plainly (c ∷ []) = not (c == 43)
@@ -92,7 +92,7 @@ waiver_line number text =
     (λ broken. if_unused broken (record { number = number; place = at_waiver name rule; rule = broken }))
     (rule_read q.1)) (rule_coded q.0)) (name_read p.0)) (cut 32 p.1)) (cut 32 text)
 
--- Behind `NUMBER: `.
+-- After `NUMBER: `.
 unfoldable pub place_line : ℕ → List ℕ → Option FaultLineValue
 place_line number text =
     option_and_then (λ p.
@@ -105,7 +105,7 @@ place_line number text =
 abbrev pub refusals : List RefusalCode
 refusals = E01 ∷ E02 ∷ E03 ∷ E04 ∷ E05 ∷ E06 ∷ E07 ∷ E08 ∷ E09 ∷ E10 ∷ E11 ∷ E12 ∷ E13 ∷ E14 ∷ E15 ∷ []
 
--- The refusal of which this is told.
+-- The refusal of this text.
 abbrev pub refusal_among : List RefusalCode → List ℕ → Option RefusalCode
 refusal_among [] text = None
 refusal_among (code ∷ others) text = if same_name (refusal_text_of code) text then Some code else refusal_among others text
@@ -117,7 +117,7 @@ abbrev pub blank_read : List ℕ → Option (List ℕ)
 blank_read [] = None
 blank_read (c ∷ text) = if c == 32 then Some text else None
 
--- Behind the first word and `: `.
+-- After the first word and `: `.
 unfoldable pub told_line : List ℕ → List ℕ → Option LineValue
 told_line word text =
     if same_name word (codes "refused") then option_map of_refusal (refusal_of text)

@@ -25,8 +25,8 @@ pub record NamesGlyph (font : FontValue) (code : Option ℕ) (glyph : ℕ) : Typ
   pub has_letters : (length (standard_name number) == 0) ≡ false
   pub is_named : glyph_named font (standard_name number) ≡ Some glyph
 
--- Behind a seac whose codes name two glyphs it is made of these too: the base at the origin of the glyph, and the accent by the
--- left sidebearing point and what the seac says.
+-- After a seac whose codes name two glyphs it is made of these too: the base at the origin of the glyph, and the accent
+-- by the left sidebearing point and what the seac says.
 abbrev pub SeacsDrawBaseAndAccent : Type 0
 SeacsDrawBaseAndAccent =
     (font : FontValue) (glyph base accent : ℕ) (before : List StepView) (step : StepView) → step_is_seac step ≡ true →
@@ -35,7 +35,7 @@ SeacsDrawBaseAndAccent =
     ≡ part glyph origin ∷ part base origin
     ∷ part accent (accent_origin (sidebearing_by (metrics_of (before ++ step ∷ []))) (seac_in step)) ∷ []
 
--- Where the accent's sidebearing is ASB, its left sidebearing point stands ADX behind that of the glyph.
+-- Where the accent's sidebearing is ASB, its left sidebearing point is ADX to the right of that of the glyph.
 abbrev pub AccentsStandByTheirSidebearings : Type 0
 AccentsStandByTheirSidebearings =
     (start : Point) (seac : Seac) → ((accent_origin start seac).x +ℤ seac.sidebearing) ≡ (start.x +ℤ seac.x)

@@ -40,8 +40,8 @@ abbrev pub is_left_open : Bool → List DrawnView → Bool
 is_left_open is [] = is
 is_left_open is (d ∷ ds) = is_left_open (open_behind is d.segment) ds
 
--- Where a step that wants the path closed doesn't break P02, at a move outside flex and at the end, nothing that was drawn is
--- open: so in a glyph without P02 each subpath that draws is closed.
+-- If a step that requires the path to be closed doesn't break P02, nothing that was drawn is open. Such a step is a
+-- move outside flex, or the end. So in a glyph without P02 each subpath that draws is closed.
 abbrev pub DrawnSubpathsAreClosed : Type 0
 DrawnSubpathsAreClosed =
     (edition : Edition) (before : List StepView) (step : StepView) → violates edition P02 before step ≡ false →

@@ -14,12 +14,12 @@ end_of (Line p) = Some p
 end_of (Curve a b p) = Some p
 end_of Close = None
 
--- Where the last of some segments ends; the point that is given, where there are none.
+-- Where the last of some segments ends; this point, where there are none.
 abbrev pub last_end : Option Point → List Segment → Option Point
 last_end point [] = point
 last_end point (s ∷ ss) = last_end (end_of s) ss
 
--- But for closepath, the last segment that a step draws ends where the current point is behind the step.
+-- But for closepath, the last segment that a step draws ends where the current point is after the step.
 abbrev pub StepsEndAtTheCurrentPoint : Type 0
 StepsEndAtTheCurrentPoint =
     (before : List StepView) (step : StepView) → closes step.token ≡ false →

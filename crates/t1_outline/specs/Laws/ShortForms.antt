@@ -7,7 +7,7 @@ use Rattle.t1_char.specs.Steps.{StepView}
 use Rattle.t1_outline.specs.Outlines.{drawn, stroke_by}
 use Rattle.t1_rules.specs.declared.step_rules.flex.Point.{Point}
 
--- Each short form draws from a point what the full one draws that the standard gives for it.
+-- Each short form draws from a point what its full form in the standard draws.
 pub record DrawAlike (start : Point) (a b c d : ℤ) : Type 0 where
   pub hlineto : stroke_by start (a ∷ []) Hlineto ≡ stroke_by start (a ∷ pos 0 ∷ []) Rlineto
   pub vlineto : stroke_by start (a ∷ []) Vlineto ≡ stroke_by start (pos 0 ∷ a ∷ []) Rlineto
@@ -23,7 +23,7 @@ ShortFormsDrawAlike = (start : Point) (a b c d : ℤ) → DrawAlike start a b c 
 abbrev pub with_command : StepView → Commands → List ℤ → StepView
 with_command step command arguments = record step { token = Command command; stack = arguments }
 
--- And so each step that has a short form draws, behind any steps, what it draws with the full one.
+-- And so each step that has a short form draws, after any steps, what it draws with the full one.
 pub record StepsDrawAlike (before : List StepView) (step : StepView) (a b c d : ℤ) : Type 0 where
   pub hmoveto :
       drawn before (with_command step Hmoveto (a ∷ [])) ≡ drawn before (with_command step Rmoveto (a ∷ pos 0 ∷ []))

@@ -16,7 +16,7 @@ use Rattle.t1_rules.specs.StepRules.Tokens.{closes, is_line, is_move}
 abbrev pub spoils : Mask → Bool
 spoils broken = has broken (number_of X01) || (has broken (number_of X03) || has broken (number_of X04))
 
--- The places of a flex behind a step, at most eight.
+-- The places of a flex after a step, at most eight.
 abbrev pub places_kept : List Point → Point → StepView → List Point
 places_kept places point step =
     if is_flex_start step then point ∷ []
@@ -28,7 +28,7 @@ moves_outside in_flex step = is_move step.token && not in_flex
 abbrev pub ends_whole : Bool → Bool → StepView → Bool
 ends_whole in_flex spoiled step = is_flex_end step && in_flex && not spoiled
 
--- The current points in front of the step and behind it, whether it stands in flex, whether that is spoiled, its places, and
+-- By the current points before the step and after it, whether it is in flex, whether that is spoiled, its places, and
 -- whether there is a subpath.
 abbrev pub drawn_in : StepView → Point → Point → Bool → Bool → List Point → Bool → List Segment
 drawn_in step start end in_flex spoiled places there =

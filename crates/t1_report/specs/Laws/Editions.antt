@@ -11,8 +11,8 @@ use Rattle.t1_report.specs.Faults.{FaultValue}
 use Rattle.t1_report.specs.Reports.{IsReport}
 use Rattle.t1_report.specs.Waivers.{Waiver}
 
--- Each glyph has at most as many steps as the first edition looks at, and none of them sets a stem whose width,
--- clamped, is -20 or -21.
+-- Each glyph has no more steps than the first edition looks at. None of them sets a stem whose width, clamped,
+-- is -20 or -21.
 pub record IsUsual (font : FontValue) : Type 0 where
   pub short : (glyph : ℕ) → glyph < length font.glyphs → length (steps_of font glyph) ≤ limit_of One
   pub wide : (glyph : ℕ) → glyph < length font.glyphs → list_any sets_one_edge (steps_of font glyph) ≡ false

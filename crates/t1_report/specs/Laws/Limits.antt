@@ -1,4 +1,4 @@
--- Which steps of a glyph the rules are asked of.
+-- Which steps of a glyph the rules apply to.
 use Rattle.std.specs.Prelude.{◌≡◌, ℕ, suc, ◌<◌, ◌==◌, ◌&&◌, nat_lt, false, length}
 use Rattle.t1_char.specs.declared.edition.Edition.{Edition}
 use Rattle.t1_char.specs.Steps.{steps_of}
@@ -13,12 +13,12 @@ use Rattle.t1_report.specs.Reports.{is_broken}
 -- By an edition the steps of each glyph are checked to a limit. Places of steps count from 0, and numbers of steps
 -- from 1.
 pub record AreCheckedTo (limit : ℕ) (edition : Edition) : Type 0 where
-  -- Up to the limit a step breaks just what the edition's table of rules says of its place among the glyph's steps,
-  -- with the font's components by the same limit.
+  -- Up to the limit a step breaks just what the edition's table of rules says of its place in the glyph. The font's
+  -- components are those by the same limit.
   pub table : (font : FontValue) (glyph place n : ℕ) → glyph < length font.glyphs → place < limit →
       is_broken (checked font edition) (suc glyph) (suc place) n
       ≡ breaks_at (charstring_rules edition (components_of limit font)) n (steps_of font glyph) place
-  -- The step behind these breaks L01, exactly where there is one, and no other rule.
+  -- The step after these breaks L01, exactly where there is one, and no other rule.
   pub first_past : (font : FontValue) (glyph n : ℕ) → glyph < length font.glyphs →
       is_broken (checked font edition) (suc glyph) (suc limit) n
       ≡ (nat_lt limit (length (steps_of font glyph)) && number_of L01 == n)

@@ -10,12 +10,12 @@ use Rattle.t1_rules.specs.Watches.{IsCalm}
 use Rattle.t1_report.specs.Checked.{CheckedFont, step_limit}
 use Rattle.t1_report.specs.Reports.{is_broken}
 
--- The last of these steps is no hint replacement, nor the pop behind one.
+-- The last of these steps is no hint replacement, nor the pop after one.
 abbrev pub IsBehindNoReplacement : List StepView → Type 0
 IsBehindNoReplacement before = (is_replaced before ≡ false) × (is_replaced_and_popped before ≡ false)
 
--- Of a glyph's steps, whose places count from 0, those from one on up to another are numbers that a machine passes, and
--- the first of them stands directly behind no hint replacement and no pop of one: none of them breaks a rule.
+-- Some steps of a glyph, from one place up to another, are numbers that a machine passes; places count from 0. If the
+-- first of them isn't directly after a hint replacement or a pop of one, none of them breaks a rule.
 abbrev pub PassedNumbersBreakNoRule : Type 0
 PassedNumbersBreakNoRule =
     (font : CheckedFont) (glyph from to place n : ℕ) → glyph < length font.value.glyphs →
@@ -29,7 +29,7 @@ CalmIsBehindNoReplacement =
     (edition : Edition) (watches : Watches) (before : List StepView) →
     WatchesStandFor edition watches before → IsCalm watches → IsBehindNoReplacement before
 
--- What calm watchers keep is what they would keep behind such numbers, too.
+-- What calm watchers keep is what they would keep after such numbers, too.
 abbrev pub CalmWatchersStandBehindNumbers : Type 0
 CalmWatchersStandBehindNumbers =
     (font : CheckedFont) (glyph from to : ℕ) (watches : Watches) → from ≤ to →

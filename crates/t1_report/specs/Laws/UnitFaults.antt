@@ -18,7 +18,7 @@ pub record AreTheReports (faults : List FaultValue) (unit : ℕ) (given : List F
   pub same : map bare given ≡ faults_at (is_in_unit unit) faults
   pub numbered : AreNumbered 1 given
 
--- The faults of a unit, given one after another, each the next one until there is none, are the report's.
+-- The faults of a unit, returned one after another, each the next one until there is none, are the report's.
 abbrev pub GivenAreTheReports : Type 0
 GivenAreTheReports =
     (font : CheckedFont) (waivers : List Waiver) (unit : ℕ) (faults given : List FaultValue) →
@@ -33,14 +33,14 @@ UnitsHaveFaults =
     length font.value.glyphs ≤ most_glyphs → length waivers ≤ largest_waivers →
     (given : List FaultValue) × AreOfUnit font waivers unit given
 
--- At the first mark of a unit none of them was given so far.
+-- At the first mark of a unit none of them was returned so far.
 abbrev pub NoneOfUnitIsGivenAtFirst : Type 0
 NoneOfUnitIsGivenAtFirst =
     (font : CheckedFont) (waivers : List Waiver) (unit : ℕ) (faults given : List FaultValue) →
     IsReport font waivers faults → AreTheReports faults unit given → IsSoFar given 0 (first_mark_of unit)
 
--- Where k of them were given so far, and k is the mark's number, the next one is the one behind these; then k + 1 were
--- given, and that is the number of its mark.
+-- Where k of them were returned so far, and k is the mark's number, the next one is the one after these. Then k + 1
+-- were returned, and that is the number of its mark.
 abbrev pub MarksOfUnitGoOnCounting : Type 0
 MarksOfUnitGoOnCounting =
     (font : CheckedFont) (waivers : List Waiver) (unit : ℕ) (faults given : List FaultValue) (k : ℕ) (mark : Mark)
@@ -49,7 +49,7 @@ MarksOfUnitGoOnCounting =
     IsReport font waivers faults → AreTheReports faults unit given → IsSoFar given k mark →
     IsNextInUnit font waivers unit mark fault → (slice_get given k ≡ Some fault) × IsSoFar given (k + 1) (mark_of fault)
 
--- Where none is next in the unit, all were given.
+-- Where none is next in the unit, all were returned.
 abbrev pub AllOfUnitAreGivenAtLast : Type 0
 AllOfUnitAreGivenAtLast =
     (font : CheckedFont) (waivers : List Waiver) (unit : ℕ) (faults given : List FaultValue) (k : ℕ) (mark : Mark) →

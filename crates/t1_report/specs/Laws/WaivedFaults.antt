@@ -47,7 +47,7 @@ HasNoNameTwice font =
 abbrev pub FontsHaveNoNameTwice : Type 0
 FontsHaveNoNameTwice = (bytes : List ℕ) (font : FontValue) → font_in bytes ≡ Ok font → HasNoNameTwice font
 
--- A waiver is told unused exactly where the faults of the font and its glyphs are the same without it.
+-- A waiver is reported as unused exactly where the faults of the font and its glyphs are the same without it.
 abbrev pub UnusedWaiversChangeNothing : Type 0
 UnusedWaiversChangeNothing =
     (font : CheckedFont) (front back : List Waiver) (w : Waiver) (told without : List FaultValue) →
@@ -56,8 +56,8 @@ UnusedWaiversChangeNothing =
     (is_told font (front ++ w ∷ back) (length font.value.glyphs + 1) (length front + 1) (number_of U01) ≡ true)
     ↔ (faults_at (is_in_font font) told ≡ faults_at (is_in_font font) without)
 
--- Of the same waivers in another order the faults of the font and its glyphs are the same, and so is whether
--- each waiver is told unused, at its place.
+-- With the same waivers in another order the faults of the font and its glyphs are the same. So is whether
+-- each waiver is reported as unused, at its place.
 abbrev pub OrderLeavesFaults : Type 0
 OrderLeavesFaults =
     (font : CheckedFont) (waivers others : List Waiver) (told other : List FaultValue) →
@@ -72,7 +72,7 @@ OrderLeavesUses =
     is_told font waivers (length font.value.glyphs + 1) (i + 1) n
     ≡ is_told font others (length font.value.glyphs + 1) (j + 1) n
 
--- A line that stood before says nothing more.
+-- A line that was there before says nothing more.
 abbrev pub RepeatedLinesSayNothing : Type 0
 RepeatedLinesSayNothing =
     (front middle back : List (List ℕ)) (line : List ℕ) →

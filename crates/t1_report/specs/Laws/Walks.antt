@@ -13,7 +13,7 @@ abbrev pub AreTheReport : Type 0
 AreTheReport = (font : CheckedFont) (waivers : List Waiver) (faults : List FaultValue) → length font.value.glyphs ≤ most_glyphs →
     length waivers ≤ largest_waivers → AreLater font waivers first_mark faults ↔ IsReport font waivers faults
 
--- After the mark of a fault they are those behind it in the report.
+-- After the mark of a fault they are those after it in the report.
 abbrev pub AreTheRest : Type 0
 AreTheRest =
     (font : CheckedFont) (waivers : List Waiver) (faults : List FaultValue) (k : ℕ) (fault : FaultValue)
@@ -22,12 +22,12 @@ AreTheRest =
     IsReport font waivers faults → slice_get faults k ≡ Some fault →
     AreLater font waivers (mark_of fault) rest ↔ (rest ≡ drop (k + 1) faults)
 
--- At the first mark no fault of the report was given so far.
+-- At the first mark no fault of the report was returned so far.
 abbrev pub NoneIsGivenAtFirst : Type 0
 NoneIsGivenAtFirst = (faults : List FaultValue) → IsSoFar faults 0 first_mark
 
--- Where k faults were given so far, and k is the mark's number, the next fault is the one behind them in the
--- report; then k + 1 were given, and that is the number of its mark.
+-- Where k faults were returned so far, and k is the mark's number, the next fault is the one after them in the
+-- report. Then k + 1 were returned, and that is the number of its mark.
 abbrev pub MarksGoOnCounting : Type 0
 MarksGoOnCounting =
     (font : CheckedFont) (waivers : List Waiver) (faults : List FaultValue) (k : ℕ) (mark : Mark) (fault : FaultValue) →
@@ -35,19 +35,19 @@ MarksGoOnCounting =
     IsReport font waivers faults → IsSoFar faults k mark →
     IsNext font waivers mark fault → (slice_get faults k ≡ Some fault) × IsSoFar faults (k + 1) (mark_of fault)
 
--- Where none is next, all were given.
+-- Where none is next, all were returned.
 abbrev pub AllAreGivenAtLast : Type 0
 AllAreGivenAtLast = (font : CheckedFont) (waivers : List Waiver) (faults : List FaultValue) (k : ℕ) (mark : Mark) →
     IsReport font waivers faults → IsSoFar faults k mark → HasNoneLater font waivers mark → k ≡ length faults
 
--- These faults follow a mark, each the next one behind the one before, and lead to another mark.
+-- These faults follow a mark, each the next one after the one before, and lead to another mark.
 abbrev pub LeadTo : CheckedFont → List Waiver → Mark → List FaultValue → Mark → Type 0
 LeadTo font waivers mark [] last = mark ≡ last
 LeadTo font waivers mark (fault ∷ given) last =
     IsNext font waivers mark fault × LeadTo font waivers (mark_of fault) given last
 
--- What is given from such a mark on is the front of what the report has behind the k, and the mark that it leads to
--- counts on: from the first mark on it is the front of the report.
+-- What is returned from such a mark on is a prefix of what the report has after the first k. The mark that it
+-- leads to counts on. From the first mark on it is a prefix of the report.
 abbrev pub GivenAreTheFront : Type 0
 GivenAreTheFront = (font : CheckedFont) (waivers : List Waiver) (faults : List FaultValue) (k : ℕ) (mark : Mark)
     (given : List FaultValue) (last : Mark) →

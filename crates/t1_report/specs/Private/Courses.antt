@@ -14,8 +14,8 @@ use Rattle.t1_report.specs.Walks.{IsLater}
 abbrev pub IsInHand : Found → Place → Type 0
 IsInHand found p = (p.unit ≡ found.unit) × (p.step ≡ found.step) × (has found.rules (number_of p.rule) ≡ true)
 
--- The floor of a place: of the rules that are broken there those of a greater number come after the mark, and no others. (It is
--- the mark's rule at the mark's own place, 0 behind it, and past all rules in front of it.)
+-- The floor of a place: of the rules that are broken there those of a greater number come after the mark, and no
+-- others. (It is the mark's rule at the mark's own place, 0 after it, and past all rules before it.)
 pub record IsFloor (mark : Mark) (unit step floor : ℕ) : Type 0 where
   pub above : (r : ℕ) → floor < r → r ≤ last_number → Comes (spot mark.unit mark.step mark.rule) (spot unit step r)
   pub below : (r : ℕ) → 0 < r → Comes (spot mark.unit mark.step mark.rule) (spot unit step r) → floor < r

@@ -1,4 +1,4 @@
--- The fronts of a report.
+-- The prefixes of a report.
 use Rattle.std.specs.Prelude.{ℕ, List}
 use Rattle.std.specs.List.{All, Any}
 use Rattle.t1_rules.specs.Book.{number_of}
@@ -7,7 +7,7 @@ use Rattle.t1_report.specs.Faults.{FaultValue}
 use Rattle.t1_report.specs.Waivers.{Waiver}
 use Rattle.t1_report.specs.Reports.{Comes, IsRising, IsViolationOf, Place, spot, spot_of, StandsAt, AreNumbered, IsTold, path_at}
 
--- The front of a report: all violations that come before this unit, step and rule number, and no other.
+-- A prefix of a report: all violations that come before this unit, step and rule number, and no other.
 pub record IsFrontOf (Violated : Place → Type 0) (path_of : Place
     → List ℕ) (unit step rule : ℕ) (faults : List FaultValue) : Type 0 where
   pub rising : IsRising faults
@@ -17,7 +17,7 @@ pub record IsFrontOf (Violated : Place → Type 0) (path_of : Place
       → Any (StandsAt p) faults
   pub numbered : AreNumbered 1 faults
 
--- The front of the report of a font by an edition, given waivers.
+-- The prefix of the report of a font by an edition, given waivers.
 abbrev pub IsFront : CheckedFont → List Waiver → ℕ → ℕ → ℕ → List FaultValue → Type 0
 IsFront font waivers unit step rule faults =
     IsFrontOf (IsTold font waivers) (path_at font) unit step rule faults

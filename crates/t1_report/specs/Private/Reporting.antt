@@ -1,4 +1,4 @@
--- What the report's own functions keep while they ask a place or a glyph.
+-- What the report's own functions keep while they test a place or a glyph.
 use Rattle.std.specs.Prelude.{◌≡◌, ℕ, ◌+◌, ◌≤◌, List, length}
 use Rattle.t1_char.specs.declared.edition.Edition.{Edition}
 use Rattle.t1_char.specs.Editions.{limit_of}
@@ -13,7 +13,7 @@ use Rattle.t1_report.specs.Checked.{CheckedFont}
 use Rattle.t1_report.specs.Reports.{path_in, is_told}
 use Rattle.t1_report.specs.Waivers.{Waiver}
 
--- The set has the rules that are told at a place, and the place has its path.
+-- The set has the rules that are reported at a place, and the place has its path.
 pub record HasTold (font : CheckedFont) (waivers : List Waiver) (place : FaultPlace) (told : Mask) : Type 0 where
   pub rules : (n : ℕ) → has told n ≡ is_told font waivers place.unit place.step n
   pub path : place.path.now.items ≡ path_in font.value place.unit place.step

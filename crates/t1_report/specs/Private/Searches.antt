@@ -1,4 +1,4 @@
--- What a search stands for.
+-- The state of a search.
 use Rattle.std.specs.Prelude.{◌≡◌, ⊤, ℕ, ◌+◌, ◌<◌, ◌≤◌, ◌⊎◌, Bool, true, false, length, ◌-◌, List}
 use Rattle.t1_font.specs.Fonts.{FontValue}
 use Rattle.t1_rules.specs.Components.{AreOf}
@@ -22,16 +22,16 @@ use Rattle.t1_font.specs.Bounds.{most_glyphs}
 abbrev pub IsFrom : ℕ → ℕ → ℕ → ℕ → Type 0
 IsFrom unit step unit' step' = (unit < unit') ⊎ ((unit ≡ unit') × (step ≤ step'))
 
--- Nothing is told from a unit and a step on.
+-- Nothing is reported from a unit and a step on.
 abbrev pub HasNoneFrom : CheckedFont → List Waiver → ℕ → ℕ → Type 0
 HasNoneFrom font waivers unit step = (p : Place) → IsTold font waivers p → IsFrom unit step p.unit p.step → ⊥
 
--- Nothing is told of a unit from a step on; nor from one up to another.
+-- Nothing is reported of a unit from a step on; nor from one up to another.
 abbrev pub TellsNoneFrom : CheckedFont → List Waiver → ℕ → ℕ → Type 0
 TellsNoneFrom font waivers unit from =
     (s : ℕ) (r : Rule) → from ≤ s → is_told font waivers unit s (number_of r) ≡ false
 
--- What was found is where something is first told of a unit from a step on, if there is anything.
+-- What was found is where something is first reported of a unit from a step on, if there is anything.
 pub record IsFirstTold (font : CheckedFont) (waivers : List Waiver) (unit from : ℕ) (found : Found) : Type 0 where
   pub unit_is : found.unit ≡ unit
   pub behind : from ≤ found.step
@@ -47,7 +47,7 @@ pub record IsFirstPlace (font : CheckedFont) (waivers : List Waiver) (unit step 
   pub rules : (n : ℕ) → has found.rules n ≡ is_told font waivers found.unit found.step n
   pub path : found.path.items ≡ path_in font.value found.unit found.step
 
--- The next step of a part, and how often its machine was asked.
+-- The next step of a part, and how many steps were requested of its machine.
 abbrev pub step_of_part : Part → ℕ
 step_of_part (Font places) = font_step places
 step_of_part (Glyph run) = run.machine.counted + 1
@@ -73,7 +73,7 @@ pub record IsBegun (font : CheckedFont) (glyph : ℕ) (run : GlyphRun) : Type 0 
   pub runs : IsRun run.machine run.watches
   pub counted : run.machine.counted ≡ 0
 
--- The waivers are before a step, or before the first or behind the last.
+-- The waivers are before a step, or before the first or after the last.
 pub record AreBegun (font : CheckedFont) (waivers : List Waiver) (glyph step next : ℕ) : Type 0 where
   pub behind : glyph ≡ length font.value.glyphs
   pub first : 1 ≤ next
@@ -87,7 +87,7 @@ IsPartBegun font waivers glyph step (Glyph run) = IsBegun font glyph run
 IsPartBegun font waivers glyph step (Waivers next) = AreBegun font waivers glyph step next
 IsPartBegun font waivers glyph step Over = length font.value.glyphs < glyph
 
--- A glyph is done when its machine has told all of it; the waivers are, when the last was asked.
+-- A glyph is done when its machine has returned all of it; the waivers are, when the last was tested.
 abbrev pub IsDone : CheckedFont → List Waiver → ℕ → Part → Type 0
 IsDone font waivers unit (Font places) = Unit {0}
 IsDone font waivers unit (Glyph run) = run.machine.counted ≡ turns_of_unit font unit
@@ -116,7 +116,7 @@ pub record IsGlyphPart (font : CheckedFont) (from unit passed : ℕ) (run : Glyp
   pub passed_are : passed ≡ turns_before font from unit
   pub few : length font.value.glyphs ≤ most_glyphs
 
--- The waivers: those before the next one were asked, from the first that the search asks on.
+-- The waivers: those before the next one were tested, from the first that the search tests on.
 pub record IsWaiverPart (font : CheckedFont) (waivers : List Waiver) (from first_step unit passed checked next : ℕ) : Type 0 where
   pub begins : from ≤ unit
   pub unit_is : unit ≡ length font.value.glyphs + 1

@@ -1,4 +1,4 @@
--- Within one unit: where a rule is first broken, and what stands for the places of the font and the run of a glyph.
+-- Within one unit: where a rule is first broken, and the state of the places of the font and of the run of a glyph.
 use Rattle.std.specs.Prelude.{◌≡◌, ℕ, ◌+◌, ◌*◌, ◌<◌, ◌≤◌, false, Option, None, Some, length, take}
 use Rattle.t1_char.specs.Steps.{steps_of}
 use Rattle.t1_font.specs.Fonts.{FontValue}
@@ -33,7 +33,7 @@ pub record IsFirst (font : CheckedFont) (unit from : ℕ) (found : Found) : Type
   pub rules : (n : ℕ) → has found.rules n ≡ is_broken font unit found.step n
   pub path : found.path.items ≡ path_in font.value unit found.step
 
--- The next place of the font to be asked.
+-- The next place of the font to be tested.
 abbrev pub font_step : FontPlaces → ℕ
 font_step p = index_count * p.key + p.index
 
@@ -46,7 +46,7 @@ pub record IsFontPlaces (font : FontValue) (p : FontPlaces) : Type 0 where
 abbrev pub executed : MachineView → CheckedFont
 executed machine = checked machine.font machine.edition
 
--- The machine told no more of its glyph than there is, and the watchers have seen what it told up to the limit.
+-- The machine returned no more of its glyph than there is, and the watchers have seen what it returned up to the limit.
 pub record IsRun (machine : MachineView) (watches : Watches) : Type 0 where
   pub there : machine.glyph < length machine.font.glyphs
   pub counted : machine.counted ≤ turns_of_glyph (executed machine) machine.glyph

@@ -7,7 +7,7 @@ use Rattle.t1_run.specs.declared.failure.Failure.{Failure}
 use Rattle.t1_run.proofs.FilesRead.{had, had_none, unasked}
 use Rattle.t1_run.proofs.files.read_waivers.Goals as goal
 
--- What reading the text gives.
+-- What reading the text returns.
 text_had : {X : Type 0} (bytes : X → List ℕ) (old new : SourceState) (r : Result X Failure)
     → MatchResult r (λ x. AreAll 1048576 old new (bytes x)) (AreUnread 1048576 WaiversTooLarge old new)
     → MatchResult r (λ x. IsWaiverText true old new (bytes x)) (IsNoWaiverText true old new)
