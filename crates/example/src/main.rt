@@ -39,7 +39,7 @@ fn mark_in(text: &str) -> Option<Mark> {
     })
 }
 
-/// Writes the line of the fault behind a mark, and gives the mark of that fault; none where there is no more.
+/// Writes the line of the fault after a mark, and returns the mark of that fault; None where there is no more.
 fn show_next(rt: &HostRuntime, font: &Font<'_>, mark: Mark) -> Result<Option<Mark>, Failure> {
     let waivers = Waivers::none();
     let sidebearings = Sidebearings::prepare(rt.alloc(), font, Edition::One)?;

@@ -1,4 +1,4 @@
--- What the program answers to the bytes that a source gave until its end.
+-- The program's answer to the bytes of a source.
 use Rattle.std.proofs.Common.{option_map, string_bytes, ◌≡◌, ℕ, Bool, false, List, Option, None, Some, Result, Ok, Err, inl, inr, subst, sym, ap, ◌∙◌, refl}
 use Rattle.t1_font.specs.Fonts.{FontValue}
 use Rattle.t1_io.specs.Devices.{SinkState, SourceState}
@@ -30,7 +30,7 @@ use Rattle.t1_answer.specs.Ends.{EndsForMemory}
 use Rattle.t1_run.specs.Failures.{failure_line, failure_status}
 use Rattle.t1_run.specs.Input.{AreUnread, StopsAt}
 
--- A file that isn't read for a reason of its bytes, or for want of memory.
+-- A file that isn't read for a reason of its bytes, or since memory ran out.
 pub unread_ends : (options : Options) (left : Option (List ℕ)) (failed : Bool) (v v' : SourceState) (out out' told told' errors' : SinkState) (unread : Unread)
     (read : Result FontValue Unread) (result : Status)
     → AreRead left (with_reason read) → failed ≡ false → Checks options read v v' out out' told told' (Err unread)

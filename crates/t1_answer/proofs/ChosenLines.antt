@@ -1,5 +1,5 @@
 -- The lines of the faults that are chosen of a report, one after another. What the marks of a walk count is a law of
--- t1_report, whose clauses these lemmas are given.
+-- t1_report, whose clauses these lemmas take.
 use Rattle.std.proofs.Common.{◌≡◌, ℕ, suc, ◌+◌, ◌-◌, ◌^◌, ◌<◌, ◌≤◌, min, List, [], ◌∷◌, Option, None, Some, Result, Ok, Err, inl, inr, length, take, drop, get_or, slice_get, refl, sym, ap, subst, ◌∙◌, arith}
 use Rattle.std.proofs.lemmas.Bool.{cases_lt}
 use Rattle.std.proofs.lemmas.List.{drop_all, get_or-drop, get_or-take, length-drop, length-take, take_all}
@@ -190,7 +190,7 @@ pub chosen_by : NoneIsGivenAtFirst → MarksGoOnCounting → AreBehindTheCount �
 chosen_by starts counts behind font waivers faults options most is few few_waivers report = ap (λ n. take n (drop (min options.after (length faults)) faults))
     is ∙ chosen_are starts counts behind font waivers faults options few few_waivers report
 
--- ---- the flush behind the lines
+-- ---- the flush after the lines
 
 pub lines_delivered : (a b c : SinkState) (text : List ℕ) → Wrote a b text → Flushed b c → Delivered a c text
 lines_delivered a b c text before flushed = Delivers-flush {X = ℕ} {E = ℕ} a b c text (Ok 0) before flushed

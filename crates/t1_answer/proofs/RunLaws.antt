@@ -85,21 +85,21 @@ never-report result (inl a) (inr b) = cc
 never-report result (inr a) (inl b) = cc
 never-report result (inr a) (inr b) = cc
 
--- ---- what was told
+-- ---- what was printed
 
--- where standard error works the text was told, with its status
+-- where standard error works the text was printed, with its status
 told-text : (text : List ℕ) (status : Status) (e e' : SinkState) (result : Status) → Tells text status e e' result → e'.failed ≡ false
     → Appends e.written e'.written text
 told-text text status e e' result (told wrote is) whole = wrote.bytes
 told-text text status e e' result (untold broke is) whole = absurd (true≢false (sym broke.failed ∙ whole))
 
--- where the status isn't 3 the text was told
+-- where the status isn't 3 the text was printed
 told-unfailed : (text : List ℕ) (status : Status) (e e' : SinkState) (result : Status) → Tells text status e e' result → result ≢ Failed
     → Appends e.written e'.written text × (result ≡ status)
 told-unfailed text status e e' result (told wrote is) ok = (wrote.bytes, is)
 told-unfailed text status e e' result (untold broke is) ok = absurd (ok is)
 
--- a failed standard error gives 3
+-- a failed standard error means status 3
 told-broken : (text : List ℕ) (status : Status) (e e' : SinkState) (result : Status) → e.failed ≡ false → Tells text status e e' result → e'.failed ≡ true
     → result ≡ Failed
 told-broken text status e e' result sound (told wrote is) broken = absurd (true≢false (sym broken ∙ wrote.failed ∙ sound))
@@ -110,7 +110,7 @@ told-status : (text : List ℕ) (status : Status) (e e' : SinkState) (result : S
 told-status text status e e' result (told wrote is) = inl is
 told-status text status e e' result (untold broke is) = inr is
 
--- what is told of a failure ends with 3
+-- a failure that is printed ends with 3
 told-failed : (text : List ℕ) (e e' : SinkState) (result : Status) → Tells text Failed e e' result → result ≡ Failed
 told-failed text e e' result (told wrote is) = is
 told-failed text e e' result (untold broke is) = is
@@ -200,7 +200,7 @@ module _ (options : Options) (left : Option (List ℕ)) (failed : Bool) (waivers
   same_failed : waivers' ≡ waivers → waivers'.failed ≡ waivers.failed
   same_failed same = ap (λ (s : SourceState). s.failed) same
 
-  -- an answer that was given whole, with a status other than 2 and 3
+  -- an answer that was printed whole, with a status other than 2 and 3
   after_given : (answer : Answer) → Answering answer → failed ≡ false → waivers'.failed ≡ waivers.failed → IsSpared options left failed waivers waivers'
       → answer.told ≡ []
       → (answer.status ≡ Refused → ⊥) → (answer.status ≡ Failed → ⊥) → Gives program answer.output answer.status out out' errors errors' result
@@ -378,7 +378,7 @@ module _ (options : Options) (left : Option (List ℕ)) (failed : Bool) (waivers
       after_no_memory unfailed (same_failed untouched) (spared_whole untouched) same
       (subst (λ (f : Failure). Tells (failure_line program f) (failure_status f) errors errors' result) memory tells)
 
--- a reason is a refusal, or want of memory
+-- a reason is a refusal, or memory ran out
 kind_of : (code : Option RefusalCode) → (failure_status (refused_by code) ≡ Refused) ⊎ (refused_by code ≡ failure.Memory)
 kind_of (Some code) = inl refl
 kind_of None = inr refl

@@ -66,7 +66,7 @@ line_more limit steps n step is =
     ∙ ap (λ text. lines_to limit steps n ++ text) (append-nil (step_line (with_number step.step (1 + length front))))
     ∙ ap (λ k. lines_to limit steps n ++ step_line (with_number step.step k)) number
 
--- What stands behind the lines of the first n steps.
+-- What follows the lines of the first n steps.
 rest_behind : ℕ → List StepView → ℕ → List ℕ
 rest_behind limit steps n = flat_map step_line (drop n (numbered 1 (take limit steps))) ++ limit_line limit (length steps)
 

@@ -1,4 +1,4 @@
--- Whether waivers are asked for, and the report with them.
+-- Whether waivers are requested, and the report with them.
 use Rattle.std.proofs.Common.{◌≡◌, ℕ, Bool, List, option_map, if◌then◌else◌, Option, None, Some, refl, subst}
 use Rattle.std.specs.Option.{is_some}
 use Rattle.t1_font.specs.Fonts.{FontValue}
@@ -20,7 +20,7 @@ use Rattle.t1_answer.specs.Private.Running.{Reports}
 use Rattle.t1_answer.specs.Private.Running.Reports.{lines, malformed, no_memory}
 use Rattle.t1_answer.specs.Waived.{asks_waivers, is_asked}
 
--- ---- whether they are asked for
+-- ---- whether they are requested
 
 pub asked_is : {A B : Type 0} (trace : Option A) (waive : Option B) (b : Bool) → trace ≡ None → b ≡ is_some waive → b ≡ is_asked trace waive
 asked_is None None b none is = is

@@ -1,4 +1,4 @@
--- What the program answers: text on standard output, text on standard error, and a status.
+-- The program's answer: text on standard output, text on standard error, and a status.
 use Rattle.std.specs.Prelude.{◌≡◌, ℕ, List, [], ◌∷◌, take, drop, Option, None, Some, option_map, string_bytes, Result, Ok, Err, if◌then◌else◌}
 use Rattle.t1_font.specs.Fonts.{FontValue}
 use Rattle.t1_char.specs.declared.edition.Edition.{Edition}
@@ -28,7 +28,7 @@ pub record Answer : Type 0 where
 abbrev pub refused : List ℕ → Answer
 refused line = record { output = []; told = line; status = Refused }
 
--- Of a report without so many faults at its front, at most so many.
+-- Of a report without its first so many faults, at most so many.
 abbrev pub at_most : {A : Type 0} → Option ℕ → List A → List A
 at_most None faults = faults
 at_most (Some max) faults = take max faults
@@ -47,7 +47,7 @@ abbrev pub reported : FontValue → List Waiver → List FaultValue → Answer
 reported font waivers faults =
     record { output = lines_of font waivers faults; told = []; status = status_of faults }
 
--- What the options choose of a font's report, given waivers; where these aren't read, the reason is told.
+-- What the options choose of a font's report, given waivers; where these aren't read, the reason is printed.
 abbrev pub IsReported : Options → FontValue → Result (List Waiver) Reason → Answer → Type 0
 IsReported options font (Ok waivers) answer =
     (faults : List FaultValue)
@@ -62,20 +62,20 @@ traced_at edition font name (Some glyph) = record { output = trace_of edition fo
 abbrev pub traced : Edition → FontValue → List ℕ → Answer
 traced edition font name = traced_at edition font name (glyph_named font name)
 
--- Without a name the report is answered, with one the trace of that glyph.
+-- Without a name the answer is the report, with one the trace of that glyph.
 abbrev pub IsShown : Options → FontValue → Result (List Waiver) Reason → Option (List ℕ) → Answer
     → Type 0
 IsShown options font waived None answer = IsReported options font waived answer
 IsShown options font waived (Some name) answer = answer ≡ traced options.edition font name
 
--- The answer of a font that was read is what the options ask for; else the reason is told.
+-- The answer of a font that was read is what the options request; else the reason is printed.
 abbrev pub IsAnswerTo : Options → Result FontValue Reason → Result (List Waiver) Reason → Answer
     → Type 0
 IsAnswerTo options (Ok font) waived answer =
     IsShown options font waived (option_map string_bytes options.trace) answer
 IsAnswerTo options (Err reason) waived answer = answer ≡ refused (told_of reason)
 
--- The waivers of a text, where the options ask for them; else there are none.
+-- The waivers of a text, where the options request them; else there are none.
 abbrev pub waived_by : Options → List ℕ → Result (List Waiver) Reason
 waived_by options text = if asks_waivers options then waivers_in text else Ok []
 

@@ -1,4 +1,4 @@
--- The command line: its arguments as clap sees them, and the options that words give by clap's rules.
+-- The command line: its arguments as clap sees them, and the options that words yield by clap's rules.
 use Rattle.std.specs.Prelude.{◌≡◌, ℕ, List, Option, None, Some, option_map, codes, string_bytes}
 use Rattle.clap.specs.Words.{App, Rule, Text, first_of, matches_of, new_app, new_rule, with_rule}
 use Rattle.clap.specs.declared.builder.value_parser.ValueParser.TheVariants as parser
@@ -43,7 +43,7 @@ abbrev pub IsNumberOrZero : Option Text → ℕ → Type 0
 IsNumberOrZero None n = n ≡ 0
 IsNumberOrZero (Some text) n = IsNumber text n
 
--- The options are those that the words give.
+-- The options are those that the words yield.
 pub record AreGiven (words : List Text) (options : Options) : Type 0 where
   pub after : IsNumberOrZero (first_of (codes "after") (matches_of t1check words)) options.after
   pub max : AreNumber (first_of (codes "max") (matches_of t1check words)) options.max

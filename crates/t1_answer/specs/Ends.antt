@@ -1,4 +1,4 @@
--- How a run ends: what was given on the output, what was told on standard error, and the status.
+-- How a run ends: what was printed on the output and on standard error, and the status.
 use Rattle.std.specs.Prelude.{◌≡◌, ℕ, Bool, true, false, List, Option, None, Some, option_map, Ok, Err, string_bytes}
 use Rattle.t1_font.specs.Fonts.{FontValue}
 use Rattle.t1_io.specs.Devices.{SinkState, SourceState}
@@ -21,12 +21,12 @@ use Rattle.t1_run.specs.FontFiles.{AreRead}
 use Rattle.t1_run.specs.Telling.{Gives, Tells}
 use Rattle.t1_run.specs.WaiverFiles.{AreWaived, IsHeard, IsUnbroken}
 
--- Memory ran out: this is told, and the status is Failed.
+-- Memory ran out: this is printed, and the status is Failed.
 abbrev pub EndsForMemory : SinkState → SinkState → Status → Type 0
 EndsForMemory errors errors' result = Tells (out_of_memory_line program) Failed errors errors' result
 
--- What the options ask for of a font: lines of its report, or the trace of a glyph, where there is one of
--- the name. The waivers that they ask for are read first, if their text can be had.
+-- What the options request of a font: lines of its report, or the trace of a glyph, where there is one of
+-- the name. The waivers that they request are read first, if their text can be had.
 pub data Shows (options : Options) (font : FontValue) (waivers waivers' : SourceState)
     (out out' errors errors' : SinkState) (result : Status) : Type 0 where
   reported :
@@ -65,7 +65,7 @@ pub data Shows (options : Options) (font : FontValue) (waivers waivers' : Source
       → Shows options font waivers waivers' out out' errors errors' result
 
 -- How a run ends: these bytes were left in the source, and a read of it failed or didn't; and the source of
--- waivers before it and behind it.
+-- waivers before it and after it.
 pub data Ends (options : Options) (left : Option (List ℕ)) (failed : Bool) (waivers waivers' : SourceState)
     (out out' errors errors' : SinkState) (result : Status) : Type 0 where
   -- status 0 or 1; 2 where waivers are refused; or 3 where a write, the flush or a read of the waivers

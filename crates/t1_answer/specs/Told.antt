@@ -1,4 +1,4 @@
--- What is told under the program's name of a font or waivers that aren't read, and the status.
+-- What is printed under the program's name of a font or waivers that aren't read, and the status.
 use Rattle.std.specs.Prelude.{ℕ, List, codes}
 use Rattle.t1_lines.specs.declared.refusal.Reason.{Reason}
 use Rattle.t1_run.specs.Failures.{failure_line, failure_of, failure_status}
@@ -7,7 +7,7 @@ use Rattle.t1_run.specs.declared.status.Status.{Status}
 abbrev pub program : List ℕ
 program = codes "t1check"
 
--- The line of a refusal, by its number; of want of memory, which refuses nothing, that memory ran out.
+-- The line of a refusal, by its number. For memory, which refuses nothing, that memory ran out.
 abbrev pub told_of : Reason → List ℕ
 told_of reason = failure_line program (failure_of reason)
 

@@ -7,7 +7,7 @@ use Rattle.t1_char.specs.declared.edition.Edition.{Edition}
 use Rattle.t1_char.specs.Editions.{limit_of}
 use Rattle.t1_report.specs.Traces.{step_line}
 
--- The lines of steps up to the limit, and a line that tells of more.
+-- The lines of steps up to the limit, and a line that says that there are more.
 abbrev pub trace_text : ℕ → List NumberedStep → List ℕ
 trace_text limit steps =
     flat_map step_line (take limit steps) ++ (if nat_lt limit (length steps) then codes "limit\n" else [])

@@ -1,4 +1,4 @@
--- How the words of the command line are answered.
+-- What the program does with the words of the command line.
 use Rattle.std.specs.Prelude.{◌≡◌, List, [], None, Some, option_map, string_bytes, if◌then◌else◌, Option}
 use Rattle.clap.specs.Words.{Text, fault_of}
 use Rattle.t1_run.specs.Answering.{Program}
@@ -13,12 +13,12 @@ use Rattle.t1_answer.specs.Ends.{Ends}
 use Rattle.t1_answer.specs.Told.{program}
 use Rattle.t1_answer.specs.Waived.{asks_waivers}
 
--- The options are those that the words give by clap's rules, which find no fault in the words.
+-- The options are those that the words yield by clap's rules, which find no fault in the words.
 pub record AreTaken (words : List Text) (options : Options) : Type 0 where
   pub given : AreGiven words options
   pub sound : fault_of t1check words ≡ []
 
--- The file of waivers that is to be read: where waivers are asked for, the one that is named.
+-- The file of waivers that is to be read: where waivers are requested, the one that is named.
 abbrev pub waivers_named : Options → Option Text
 waivers_named options = if asks_waivers options then option_map string_bytes options.waive else None
 
@@ -27,7 +27,7 @@ abbrev pub NamesFont : List Text → Text → Type 0
 NamesFont words name =
     (options : Options) × (AreTaken words options × (option_map string_bytes options.file ≡ Some name))
 
--- The words are taken, ask for waivers, and name this file of them.
+-- The words are taken, request waivers, and name this file of them.
 abbrev pub NamesWaivers : List Text → Text → Type 0
 NamesWaivers words name = (options : Options) × (AreTaken words options × (waivers_named options ≡ Some name))
 

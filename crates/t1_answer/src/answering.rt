@@ -17,10 +17,10 @@ use std::io::Read;
 use t1_io::{In, Sink, Source};
 use t1_run::{Answered, Failure, Status, tell_failure};
 
-/// Answers the words of the command line, the program's name first: explains them, or runs on the file
-/// that they name, which `open_file` opens, or on `input` where they name none; with the waivers of the
-/// file that `open_waivers` opens, where they ask for these. A file is opened at most where they name it. The
-/// files are handed back, so that what is told of a read is tied to what was read.
+/// Handles the words of the command line, the program's name first: explains them, or runs. A run reads the
+/// file that they name, which `open_file` opens, or `input` where they name none. It uses the waivers of the
+/// file that `open_waivers` opens, if they are requested. A file is opened at most where the words name it.
+/// The files are returned, so that the contract can say what was read of them.
 pub fn answer<S, I, F, O, G, P, W, E>(
     alloc: Global,
     words: &[S],
@@ -97,7 +97,7 @@ where
     }
 }
 
-/// Runs on a source, with the waivers of the file that the options name, which is handed back.
+/// Runs on a source, with the waivers of the file that the options name, which is returned.
 fn run_on<R, G, P, W, E>(
     alloc: Global,
     source: &mut R,

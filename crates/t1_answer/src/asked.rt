@@ -1,12 +1,12 @@
-//! What the words of the command line ask for.
+//! What the words of the command line request.
 ghost use Rattle.t1_answer.specs.Answers.{traced};
 
 use t1_char::Edition;
 
-/// What the words of the command line ask for.
+/// What the words of the command line request.
 #[derive(Debug, Drop)]
 pub struct Options {
-    /// How many lines of the report are left out at its front.
+    /// How many lines of the report are skipped first.
     pub after: u64,
     /// How many of the other lines are written at most; all of them without it.
     pub max: Option<u64>,

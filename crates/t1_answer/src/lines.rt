@@ -21,7 +21,7 @@ use t1_rules::Sidebearings;
 use t1_run::Status;
 
 /// Writes the lines of a font's report that the options choose, each before the next fault is sought, and
-/// flushes them; tells whether there was one. After a failure a front of them went out.
+/// flushes them. Returns whether there was one. After a failure, a prefix of them was written.
 pub fn write_report<'a, W: Sink>(
     sink: &mut W,
     font: &'a Font<'a>,
@@ -65,7 +65,7 @@ fn pass(walk: &mut Walk<'_>, count: u64)
     }
 }
 
-/// Writes the lines of the faults behind the mark of a walk, at most as many as the options ask for.
+/// Writes the lines of the faults after the mark of a walk, up to the options' `max`.
 fn write_lines<W: Sink>(
     sink: &mut W,
     font: &Font<'_>,

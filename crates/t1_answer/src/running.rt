@@ -1,4 +1,4 @@
-//! A run: reads a font, and the waivers, and writes what the options ask for.
+//! A run: reads a font, and the waivers, and writes what the options request.
 
 ghost use Rattle.std.specs.Prelude.{◌≡◌, ◌≤◌, ◌<◌, ◌+◌, List, false, length, None};
 ghost use Rattle.t1_font.specs.FontFiles.{font_in};
@@ -33,8 +33,8 @@ use t1_run::{
     Failure, Status, read_font_file, read_waivers, tell_failure, tell_no_glyph, tell_write_failed,
 };
 
-/// Reads a font to its end and writes its report, or the trace of a glyph. The waivers that the options ask for are read once the
-/// font is.
+/// Reads a font to its end and writes its report, or the trace of a glyph. The waivers that the options request are
+/// read once the font is.
 pub fn run<R: Source, V: Source, W: Sink, E: Sink>(
     alloc: Global,
     source: &mut R,
@@ -85,7 +85,7 @@ fn check<V: Source, W: Sink, E: Sink>(
     Ok(status)
 }
 
-/// Writes what the options ask for of a font: lines of its report, or the trace of a glyph.
+/// Writes what the options request of a font: lines of its report, or the trace of a glyph.
 fn show<V: Source, W: Sink, E: Sink>(
     alloc: Global,
     font: &Font<'_>,
@@ -108,7 +108,7 @@ fn show<V: Source, W: Sink, E: Sink>(
     give_trace(&*font, glyph, options.edition, out, errors)
 }
 
-/// Reads the waivers that are asked for, and writes the report.
+/// Reads the waivers that are requested, and writes the report.
 fn show_report<V: Source, W: Sink, E: Sink>(
     alloc: Global,
     font: &Font<'_>,
@@ -129,7 +129,7 @@ fn show_report<V: Source, W: Sink, E: Sink>(
     }
 }
 
-/// Writes the report, given the text of waivers.
+/// Writes the report, by the text of waivers.
 fn report_waived<W: Sink, E: Sink>(
     alloc: Global,
     font: &Font<'_>,

@@ -86,7 +86,7 @@ module _ (texts : List Text) (fonts : FontRows) (are : AreIndexed texts fonts) (
 pub none_indexed : (fonts : FontRows) → fonts ≡ [] → AreIndexed [] fonts
 none_indexed fonts none = λ font. subst (λ (es : FontRows). AreRowsOf None (rows_at es font)) (sym none) tt
 
--- ---- one text behind the other
+-- ---- one text after the other
 
 pub indexed_next : (texts : List Text) (i : ℕ) (d : Text) (old new : FontRows) → i < length texts → AreIndexed (take i texts) old
     → IsIndexed (get_or texts i d) old new → AreIndexed (take (i + 1) texts) new

@@ -116,7 +116,7 @@ module _ (texts : List Text) (done : List (List ℕ)) (font : List ℕ) (old new
         ∙ ap (left_of (first_rows texts other)) (sym (others other apart))
   ]
 
-  -- What is left of a font, and of which fonts nothing is left behind it.
+  -- What is left of a font, and of which fonts nothing is left after it.
   pub data Takes : Type 0 where
     unread : first_rows texts font ≡ None → left_at old font ≡ None → IsLeft texts done new → IsLeft texts (font ∷ done) new → Takes
     again : (rows : List ℕ) → first_rows texts font ≡ Some rows → is_among done font ≡ true → left_at old font ≡ Some [] → IsLeft texts done new → Takes

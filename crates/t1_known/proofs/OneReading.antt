@@ -8,7 +8,7 @@ use Rattle.t1_known.specs.Lines.{row_lines}
 use Rattle.t1_known.specs.Reads.{AreLinesOf, HasKeyTwice, HasNoRow, ReachesLine}
 use Rattle.t1_known.specs.declared.known.NotKnown.TheVariants.{Memory, NoRow, Twice}
 
--- Two places of a list: one place, or the one in front of the other.
+-- Two places of a list: one place, or the one before the other.
 data AreSplit (a : List (List ℕ)) (x : List ℕ) (b : List (List ℕ)) (y : List ℕ) : Type 0 where
   same : x ≡ y → AreSplit a x b y
   earlier : (more : List (List ℕ)) → b ≡ a ++ x ∷ more → AreSplit a x b y
@@ -38,7 +38,7 @@ one_stop text x y rows other at_x fault_x at_y fault_y = go (split at_x.front x 
     go (earlier more is) = absurd (never at_x.front x more other rows (subst (λ ls. AreLinesOf ls other) is at_y.are) at_x.are fault_x)
     go (later more is) = absurd (never at_y.front y more rows other (subst (λ ls. AreLinesOf ls rows) is at_x.are) at_y.are fault_y)
 
--- a line that is no row isn't that of a row whose key stands twice
+-- a line that is no row isn't that of a row whose key occurs twice
 not_both : (text x y : List ℕ) → HasNoRow text x → HasKeyTwice text y → ⊥
 not_both text x y none twice =
     let one = one_stop text x y none.rows twice.rows none.reaches (no_row_stops text x none) twice.reaches (key_twice_stops text y twice) in

@@ -1,4 +1,4 @@
--- The kinds of a report's lines stand in one line each.
+-- The kinds of a report's lines are in one line each.
 use Rattle.std.proofs.Common.{◌≡◌, ◌<◌, ◌==◌, ℕ, zero, suc, Bool, true, not, List, [], ◌∷◌, ◌++◌, codes, length, map, refl, arith, slice_index_or}
 use Rattle.std.proofs.lemmas.Bool.{and_parts}
 use Rattle.std.proofs.lemmas.Bool.Decides.{nat_tests}

@@ -44,7 +44,7 @@ module _ (row : RowValue) (found : Option (List ℕ)) (told among : Bool) (left 
   first_text : (rows : List ℕ) → told ≡ true → found ≡ Some rows → among ≡ false → left ≡ Some rows → text_by ≡ put_by ++ more
   first_text rows is some out all_left = rw (is, some, out, all_left) refl
 
--- Behind a part of the text these fonts are done.
+-- After a part of the text these fonts are done.
 pub record IsNext (all : List Text) (left : LeftRows) (text part : List ℕ) (rest : List (List ℕ) → List ℕ) : Type 0 where
   pub done : List (List ℕ)
   pub left_is : IsLeft all done left

@@ -134,7 +134,7 @@ new_key (b ∷ before) row later once there = elim (cases_Bool (bytes_eq (key_of
   | inr other ↦ new_key before row later once.1 (rw other at there)
 ]
 
--- A line at which a reading stops behind these rows.
+-- A line at which a reading stops after these rows.
 abbrev pub IsFault : List ℕ → List RowValue → Type 0
 IsFault line rows = IsNoRow line ⊎ ((row : RowValue) × IsLineOf line row × (has_key rows (key_of row) ≡ true))
 
@@ -168,7 +168,7 @@ module _ (rows : List RowValue) (text : List ℕ) (lines : row_lines text ≡ ma
   abbrev rows_are : AreLinesOf (row_lines text) rows
   rows_are = record { each = subst (λ ls. AllZip IsLineOf ls rows) (sym lines) (are_lines rows all); once = once }
 
-  -- no fault can be told of it
+  -- no fault can be reported of it
   pub no_fault : (line : List ℕ) → (HasNoRow text line ⊎ HasKeyTwice text line) → ⊥
   no_fault line (inl none) = reached_never text line rows none.rows rows_are none.reaches (no_row_stops text line none)
   no_fault line (inr twice) = reached_never text line rows twice.rows rows_are twice.reaches (key_twice_stops text line twice)

@@ -20,7 +20,7 @@ use Rattle.t1_known.specs.Readings.{AreReadingsOf, IsReadable}
 use Rattle.t1_known.specs.Reads.{AreLinesOf, IsLineOf}
 use Rattle.t1_known.specs.declared.readings.Reading.{Reading as Text}
 
--- What stands in the first text of a font is what was found in it.
+-- What is in the first text of a font is what was found in it.
 abbrev AreKindsOf : List ℕ → Option (List ℕ) → Option (List (List ℕ)) → Type 0
 AreKindsOf font None None = Unit {0}
 AreKindsOf font None (Some kinds) = ⊥

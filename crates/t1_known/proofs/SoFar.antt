@@ -13,7 +13,7 @@ use Rattle.t1_known.specs.Reads.{AreLinesOf, HasKeyTwice, HasNoRow, IsLineOf, Is
 use Rattle.t1_known.specs.declared.known.NotKnown.{NotKnown}
 use Rattle.t1_known.specs.declared.known.NotKnown.TheVariants.{Memory, NoRow, Twice}
 
--- The lines in front of the rest of a text are those of the rows that are kept.
+-- The lines before the rest of a text are those of the rows that are kept.
 pub record HasRead (text rest : List ℕ) (entries : List Entry) : Type 0 where
   pub front : List (List ℕ)
   pub split : row_lines text ≡ front ++ row_lines rest

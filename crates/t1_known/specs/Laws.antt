@@ -25,8 +25,8 @@ RowsAreReadBack =
     (rows : List RowValue) → AllByRecursion IsInOneLine rows → IsDistinct bytes_eq (map key_of rows)
     → (result : Result (List RowValue) NotKnown) → IsReadAs (file_text rows) result → (result ≡ Ok rows) ⊎ (result ≡ Err Memory)
 
--- The file that an update writes is read as exactly the rows of the update: where the known faults were read of a text, and where what was
--- found in fonts can be read of its rows and is of rules that are told.
+-- The file that an update writes is read as exactly the rows of the update, if the known faults were read of a text.
+-- What was found in fonts must be readable of its rows, and of rules that are reported.
 abbrev pub UpdatesAreReadBack : Type 0
 UpdatesAreReadBack =
     (choice : Choice) (readings : List Reading) (text : List ℕ) (rows : List RowValue) → IsReadAs text (Ok rows)
@@ -66,7 +66,7 @@ IsSameReading (Err Memory) b = Unit {0}
 abbrev pub ATextIsReadOneWay : Type 0
 ATextIsReadOneWay = (text : List ℕ) (a b : Result (List RowValue) NotKnown) → IsReadAs text a → IsReadAs text b → IsSameReading a b
 
--- What is found in a font can be read of its rows: of the lines of its report, where its name can stand in a row.
+-- What is found in a font can be read of its rows: of the lines of its report, where its name can be in a row.
 abbrev pub LinesAreReadable : Type 0
 LinesAreReadable =
     (font : List ℕ) (lines : List FaultLineValue) → AllByRecursion IsFaultLine lines → length lines < 2 ^ 64 → 0 < length font

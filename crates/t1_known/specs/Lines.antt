@@ -5,7 +5,7 @@ use Rattle.std.specs.List.{list_all}
 abbrev pub has_no_line_end : List ℕ → Bool
 has_no_line_end text = list_all (λ byte. not (byte == 10)) text
 
--- One byte more in front of the first line.
+-- One byte more before the first line.
 abbrev pub with_byte : ℕ → List (List ℕ) → List (List ℕ)
 with_byte byte [] = (byte ∷ []) ∷ []
 with_byte byte (line ∷ lines) = (byte ∷ line) ∷ lines

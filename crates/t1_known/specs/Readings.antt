@@ -7,7 +7,7 @@ use Rattle.t1_known.specs.declared.readings.Reading.{Reading as Text}
 use Rattle.t1_many.specs.Choice.{Choice}
 use Rattle.t1_many.specs.KnownFaults.{IsKind, Reading, row_text, rows_of}
 
--- What is told of a font is in these rows.
+-- The rows of a font in a text are those of its reading.
 pub record IsTextOf (text : Text) (reading : Reading) : Type 0 where
   pub font : text.font.now ≡ reading.font
   pub rows : text.rows.now ≡ flat_map row_text (rows_of reading.font reading.kinds)
@@ -19,7 +19,8 @@ AreTextsOf texts readings = AllZip IsTextOf texts readings
 abbrev pub IsPlainKind : List ℕ → Type 0
 IsPlainKind kind = IsKind kind × (has_no_line_end kind ≡ true)
 
--- The rows of a font can be read: its name and its kinds can stand in a row, and they are fewer than a number of 64 bits counts.
+-- The rows of a font can be read: its name and its kinds can be in a row, and they are fewer than a number of 64 bits
+-- counts.
 pub record IsReadable (reading : Reading) : Type 0 where
   pub kinds : AllByRecursion IsPlainKind reading.kinds
   pub few : length reading.kinds < 2 ^ 64

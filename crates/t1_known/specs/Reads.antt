@@ -31,7 +31,7 @@ pub record HasNoRow (text line : List ℕ) : Type 0 where
   pub reaches : ReachesLine text line rows
   pub none : IsNoRow line
 
--- Its first fault is a row whose key stands in an earlier one.
+-- Its first fault is a row whose key is in an earlier one.
 pub record HasKeyTwice (text line : List ℕ) : Type 0 where
   pub rows : List RowValue
   pub reaches : ReachesLine text line rows

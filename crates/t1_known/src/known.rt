@@ -121,7 +121,7 @@ fn add_line<'a>(rows: &mut Rows<'a>, line: &'a [u8]) -> Result<(), NotKnown<'a>>
     Ok(())
 }
 
-/// The key of the row that a line is: what stands behind the count and its blank.
+/// The key of the row that a line is: what follows the count and its blank.
 fn key_in<'a>(line: &'a [u8], row: Row<'_>) -> &'a [u8]
     requires { IsLineOf line.now (row_value row) }
     ensures { result.now ≡ key_of (row_value row.entry) }

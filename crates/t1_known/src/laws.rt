@@ -2,7 +2,8 @@
 
 ghost use Rattle.t1_known.specs.Laws.{ATextIsReadOneWay, LinesAreReadable, RowsAreReadBack, UpdatesAreReached, UpdatesAreReadBack};
 
-/// Rows that were written are read back, unless memory runs out: where no kind and no font has a line end, and no key stands twice.
+/// Rows that were written are read back, unless memory runs out: where no kind and no font has a line end, and no key
+/// occurs twice.
 pub fn rows_are_read_back()
     ensures { RowsAreReadBack }
 {}
@@ -10,13 +11,14 @@ pub fn rows_are_read_back()
 /// What `write_updated` writes is read as the updated rows, unless memory runs out. No line of a font with a reading goes beyond them, and no
 /// row falls short of what was found.
 ///
-/// The old rows are those of a text that was read. Each kind of a reading is of a rule that is told, and no kind and no font has a line end.
+/// The old rows are those of a text that was read. Each kind of a reading is of a rule that is reported, and no kind
+/// and no font has a line end.
 pub fn updates_are_read_back()
     ensures read { UpdatesAreReadBack }
     ensures reached { UpdatesAreReached }
 {}
 
-/// What is found in a font can be read of its rows, where the font's name can stand in a row.
+/// What is found in a font can be read of its rows, where the font's name can be in a row.
 pub fn lines_are_readable()
     ensures { LinesAreReadable }
 {}

@@ -1,15 +1,18 @@
 //! A file of known faults: how often faults of a kind are known of a font.
 //!
-//! [`KnownFaults::read`] reads its rows, as `3 H02 glyph A fonts/a.pfb`, and [`KnownFaults::count_of`] says how often faults of a kind are
-//! known of a font. Of the fonts whose reports were made, each a [`Reading`], [`write_shortfalls`] writes which rows are no longer reached,
-//! and [`write_updated`] writes the file anew.
+//! [`KnownFaults::read`] reads its rows, as `3 H02 glyph A fonts/a.pfb`, and [`KnownFaults::count_of`] says how often
+//! faults of a kind are known of a font. Of the fonts whose reports were made, each a [`Reading`], [`write_shortfalls`]
+//! writes which rows are no longer reached, and [`write_updated`] writes a new file.
 //!
 //! Promised:
 //!
-//! - what is read is each row of the text in its order, or the first line at fault, and nothing else ([`a_text_is_read_one_way`]);
-//! - rows that were written are read back ([`rows_are_read_back`]);
-//! - so are those of an update: no line of a font that was read goes beyond them, and no row falls short ([`updates_are_read_back`]);
-//! - what is written is decided by the rows, the readings and the rules that are told, and memory runs out before the first byte or not at all.
+//! - What is read is each row of the text in its order, or the first line at fault, and nothing else
+//!   ([`a_text_is_read_one_way`]).
+//! - Rows that were written are read back ([`rows_are_read_back`]).
+//! - So are those of an update: no line of a font that was read goes beyond them, and no row falls short
+//!   ([`updates_are_read_back`]).
+//! - What is written depends only on the rows, the readings and the rules that are reported. Memory runs out before the
+//!   first byte or not at all.
 #![tactic(auto)]
 
 mod digits;

@@ -6,7 +6,7 @@ ghost use Rattle.t1_known.specs.Private.Kept.{IsNextLine};
 
 use t1_lines::cut;
 
-/// The first line of a text, and what stands behind it: None where nothing is left.
+/// The first line of a text, and what follows it: None where nothing is left.
 pub(crate) fn next_line(text: &[u8]) -> Option<(&[u8], &[u8])>
     ensures { IsNextLine text.now result }
 {

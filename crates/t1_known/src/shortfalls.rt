@@ -23,8 +23,8 @@ use t1_many::{Lost, Row, is_told};
 /// Writes which rows of known faults are no longer reached, in their order, a line each:
 /// `a.pfb: known faults: H02 glyph A: 3 known, 1 found`.
 ///
-/// Rows of fonts without a reading, and of rules that aren't told, are skipped. Of readings of one font the first is taken. Nothing is written
-/// if memory runs out, or if the text of a reading isn't of rows, which is the same error.
+/// Rows of fonts without a reading, and of rules that aren't reported, are skipped. Of readings of one font the first
+/// is taken. Nothing is written if memory runs out, or if the text of a reading isn't of rows, which is the same error.
 pub fn write_shortfalls<W: Sink>(
     alloc: Global,
     sink: &mut W,
@@ -43,7 +43,7 @@ pub fn write_shortfalls<W: Sink>(
     Ok(())
 }
 
-/// Tells of each row that is no longer reached.
+/// Reports each row that is no longer reached.
 fn tell_rows<W: Sink>(
     sink: &mut W,
     rows: &Rows<'_>,
@@ -61,7 +61,7 @@ fn tell_rows<W: Sink>(
     Ok(())
 }
 
-/// Tells of a row where it is no longer reached.
+/// Reports a row where it is no longer reached.
 fn tell_row<W: Sink>(
     sink: &mut W,
     key: &[u8],
@@ -84,7 +84,7 @@ fn tell_row<W: Sink>(
     put_shortfall(sink, row, found.count_text(key))
 }
 
-/// Tells of a row of whose kind so many were found.
+/// Reports a row of whose kind so many were found.
 fn put_shortfall<W: Sink>(sink: &mut W, row: &Row<'_>, found: &[u8]) -> Result<(), Broken>
     requires count { list_all is_decimal_digit row.now.count.now ≡ true }
     requires found { list_all is_decimal_digit found.now ≡ true }

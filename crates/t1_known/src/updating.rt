@@ -1,4 +1,4 @@
-//! The file of known faults anew.
+//! The new file of known faults.
 
 ghost use Rattle.std.specs.Prelude.{◌≡◌, [], ◌&&◌, ℕ, List, IfOk, OnOk, option_map};
 ghost use Rattle.t1_io.specs.Devices.{Writes};
@@ -22,9 +22,9 @@ use t1_many::{Lost, Row, is_told};
 /// The rows of fonts that are still to be written, by the fonts.
 type Left<'a> = IndexMap<&'a [u8], &'a [u8]>;
 
-/// Writes a file of known faults anew:
+/// Writes a new file of known faults:
 ///
-/// - rows of fonts without a reading, and of rules that aren't told, stay as they are;
+/// - rows of fonts without a reading, and of rules that aren't reported, stay as they are;
 /// - the first other row of a font is replaced by all rows of the font's reading, and its later ones are dropped;
 /// - the rows of the other readings follow, in the order of the readings.
 ///
@@ -101,7 +101,7 @@ fn put_rows<'a, W: Sink>(
     Ok(())
 }
 
-/// Puts a row, or in its place the rows of its font, if these are known and its rule is told.
+/// Puts a row, or in its place the rows of its font, if these are known and its rule is reported.
 fn put_row<'a, W: Sink>(
     sink: &mut W,
     key: &[u8],
@@ -125,7 +125,7 @@ fn put_row<'a, W: Sink>(
     }
 }
 
-/// Puts a row as it stood.
+/// Puts a row as it was.
 fn put_known<W: Sink>(sink: &mut W, key: &[u8], row: &Row<'_>) -> Result<(), Broken>
     requires { key.now ≡ key_of (row_value row.now) }
     ensures { Writes (W.state sink.old) (W.state sink.new) (row_text (row_value row.now)) result }

@@ -1,4 +1,4 @@
--- The faults that a walk gave from the first mark on.
+-- The faults that a walk returned from the first mark on.
 use Rattle.std.proofs.Common.{◌≡◌, ◌≤◌, ◌^◌, ◌-◌, ℕ, ◌+◌, List, [], ◌∷◌, ◌++◌, length, take, drop, refl, sym, ap, subst, ◌∙◌, arith, length-append, take-append-drop}
 use Rattle.std.proofs.lemmas.List.{take_all}
 use Rattle.t1_report.proofs.FewFaults.{few_faults}

@@ -28,7 +28,7 @@ told-push : (rules : Mask) (faults : List FaultValue) (fault : FaultValue) (b : 
 told-push rules faults fault b is =
     filter-append (λ (f : FaultValue). has rules (number_of f.rule)) faults (fault ∷ []) ∙ ap (λ c. told_faults rules faults ++ cond c (fault ∷ []) []) is
 
--- So many faults were given, and those that are told are counted.
+-- So many faults were returned, and those that are reported are counted.
 pub record HaveCounted (rules : Mask) (font : CheckedFont) (waivers : List Waiver) (count : ℕ) (mark : Mark) (counted : ℕ → ℕ)
     (groups : List (ℕ × ℕ)) : Type 0 where
   pub given : List FaultValue
@@ -56,7 +56,7 @@ none_counted rules font waivers mark counted groups first none empty = record {
 module _ (rules : Mask) (font : CheckedFont) (waivers : List Waiver) (count : ℕ) (mark : Mark) (counted : ℕ → ℕ)
     (groups : List (ℕ × ℕ)) (have : HaveCounted rules font waivers count mark counted groups) (fault : FaultValue) (next : IsNext font waivers mark fault)
     (in_font : IsInFont font.value waivers fault) where
-  -- a fault that is told
+  -- a fault that is reported
   pub one_counted : (now : ℕ → ℕ) → has rules (number_of fault.rule) ≡ true
       → ((group : ℕ) → now group ≡ counted group + cond (nat_eq (group_of font.value fault) group) 1 0) → (groups_now : List (ℕ × ℕ))
       → groups_now ≡ insert_entry nat_eq groups (group_of font.value fault) (counted (group_of font.value fault) + 1)

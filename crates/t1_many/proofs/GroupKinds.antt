@@ -60,7 +60,7 @@ waiver_named (v ∷ waivers) (suc i) w names at =
     waiver_named waivers i w (All-tail (λ (u : Waiver). IsTrue (list_all is_regular u.0)) v waivers names) at
 
 module _ (font : FontValue) (waivers : List Waiver) where
-  -- Where a fault stands.
+  -- Where a fault is.
   pub data IsPlaced (fault : FaultValue) : Type 0 where
     in_font :
         fault.unit ≡ 0 → part_of font fault ≡ fault.step / index_count → fault.step / index_count < key_count

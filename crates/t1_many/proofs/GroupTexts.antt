@@ -32,7 +32,7 @@ all_firsts P font [] all = tt
 all_firsts P font (x ∷ faults) all =
     (all.0, all_of_some P (λ (other : FaultValue). not (nat_eq (group_of font x) (group_of font other))) (firsts font faults) (all_firsts P font faults all.1))
 
--- what stands at a place of a mapped list
+-- what is at a place of a mapped list
 mapped : {X Y : Type 0} (f : X → Y) (xs : List X) (i : ℕ) (y : Y) → slice_get (map f xs) i ≡ Some y → (x : X) × (slice_get xs i ≡ Some x) × (f x ≡ y)
 mapped f [] i y is = absurd (none-some y is)
 mapped f (x ∷ xs) zero y is = (x, refl, some_same (f x) y is)

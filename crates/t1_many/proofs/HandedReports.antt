@@ -1,4 +1,4 @@
--- A report that is handed on, with how its font was found behind it.
+-- A report that is handed on, with how its font was found after it.
 use Rattle.std.proofs.Common.{◌≡◌, ℕ, List, [], ◌∷◌, ◌++◌, Option, None, Some, Result, Ok, Err, sym, subst}
 use Rattle.std.specs.Result.{IsErrAnd}
 use Rattle.t1_many.proofs.Handed.{handed-append, handed-one, handed-stopped}
@@ -33,7 +33,7 @@ module _ {F : Type 0} (takes : F → F → Handed → Option Lost → Type 0) (n
         handed-append takes a b c (lines_by judges name font.value waivers faults) _ lost handed
         (subst (λ (f : Found). HandsOn takes b c (done name f ∷ []) lost) same (handed-one takes b c (done name found) lost took))
 
-    -- or behind all of them
+    -- or after all of them
     pub stopped_late : (c : F) (found : Found) (lost : Lost) → HandsLines takes judges name font waivers a b (Ok found)
         → takes b c (done name found) (Some lost) → (r : Result Found Lost) → IsErrAnd r (λ l. l ≡ lost)
         → HandsReport takes judges name font waivers a c r

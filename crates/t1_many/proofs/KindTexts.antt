@@ -23,7 +23,7 @@ numbered F01 (inr past) = omega (arith, past)
 numbered _ (inl none) = omega (arith, none)
 numbered _ (inr past) = omega (arith, past)
 
--- a text behind another one
+-- a text after another one
 pub appended : {T E : Type 0} (r : Result T E) (new mid old code text kind : List ℕ) → OnOk r (new ≡ mid ++ text) → mid ≡ old ++ code
     → code ++ text ≡ kind → OnOk r (new ≡ old ++ kind)
 appended (Ok value) new mid old code text kind is before whole =

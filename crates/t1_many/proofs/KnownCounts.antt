@@ -22,7 +22,7 @@ or_false : (b : Bool) → (b || false) ≡ b
 or_false true = refl
 or_false false = refl
 
--- a count behind an insertion
+-- a count after an insertion
 pub counted : (get get' : ℕ → Option ℕ) (group value q : ℕ) → get' q ≡ cond (nat_eq group q) (Some value) (get q)
     → count_at get' q ≡ cond (nat_eq group q) value (count_at get q)
 counted get get' group value q is = ap (λ o. count_at (λ (n : ℕ). o) q) is ∙ by (nat_eq group q)

@@ -67,7 +67,7 @@ module _ (font : FontValue) (rules : Mask) where
   abbrev tells : FaultValue → Bool
   tells fault = has rules (number_of fault.rule)
 
-  -- a fault that is told is among those that are
+  -- a fault that is reported is among those that are
   more_among : (fault x : FaultValue) (faults : List FaultValue) → is_among font fault (told_faults rules faults) ≡ true
       → is_among font fault (told_faults rules (x ∷ faults)) ≡ true
   more_among fault x faults among = elim (cases_Bool (tells x)) [

@@ -15,12 +15,12 @@ pub all_digits : (bytes : List ℕ) → list_all is_decimal_digit bytes ≡ true
 all_digits [] all = refl
 all_digits (byte ∷ bytes) all = rw all refl
 
--- a byte in front of which not all are digits is a letter
+-- a byte from which on not all are digits is a letter
 pub one_letter : (front : List ℕ) (byte : ℕ) (bytes : List ℕ) → list_all is_decimal_digit (byte ∷ bytes) ≡ false
     → front ++ letters_of (byte ∷ bytes) ≡ (front ++ byte ∷ []) ++ letters_of bytes
 one_letter front byte bytes other = rw other (sym (append_assoc front (byte ∷ []) (letters_of bytes)))
 
--- one byte more of a code, in front of which not all are digits
+-- one byte more of a code, from which on not all are digits
 pub next_letter : (code : List ℕ) (at : ℕ) → at < length code → list_all is_decimal_digit (drop at code) ≡ false
     → letters_of code ≡ take at code ++ letters_of (drop at code) → letters_of code ≡ take (at + 1) code ++ letters_of (drop (at + 1) code)
 next_letter code at less other before =

@@ -39,7 +39,7 @@ kinds_at rule (at_step name path step) is = of_glyph (code_of rule) name (code_i
 kinds_at rule (at_waiver name waived) is =
     of_waiver (code_of rule) name (code_of waived) (code_is_a_word rule) (name_is_a_word name is.0) (code_is_a_word waived) refl
 
--- ---- the code in front
+-- ---- the code at the beginning
 
 up_to_blank : (word rest : List ℕ) → is_word word ≡ true → rule_of (word ++ (32 ∷ rest)) ≡ word
 up_to_blank [] rest all = refl

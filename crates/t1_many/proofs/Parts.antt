@@ -3,7 +3,7 @@ use Rattle.std.proofs.Common.{◌≡◌, ◌<◌, ◌≤◌, ◌*◌, ◌/◌, �
 use Rattle.t1_many.specs.Laws.{PartsAreTheWhole}
 use Rattle.t1_many.specs.Shards.{first_parts, start_of}
 
--- parts begin one behind the other
+-- parts begin one after the other
 rises : (parts count n : ℕ) → 0 < parts → start_of parts count n ≤ start_of parts count (suc n)
 rises parts count n some =
     let within : n * count / parts * parts ≤ n * count = div-mul-le_self (n * count) parts in

@@ -1,4 +1,4 @@
--- What the plain form writes and tells of things that are handed on.
+-- What the plain form prints of things that are handed on.
 use Rattle.std.proofs.Common.{◌≡◌, ◌⊎◌, ℕ, true, List, [], ◌∷◌, ◌++◌, Option, None, Some, inl, inr, refl, sym, ap, subst, ◌∙◌, append_assoc, append-nil}
 use Rattle.std.proofs.KnownBytes.{Appends-kept, Appends-nil, Appends-trans}
 use Rattle.std.proofs.lemmas.Option.{none-some}
@@ -12,7 +12,7 @@ use Rattle.t1_many.specs.declared.recipient.Lost.TheVariants.{Device, Memory}
 use Rattle.t1_run.specs.declared.failure.Failure.{Failure}
 use Rattle.t1_run.specs.declared.failure.Failure.TheVariants as failures
 
--- ---- fronts
+-- ---- prefixes
 
 front-all : (a b : Option (List ℕ)) (x : List ℕ) → Appends a b x → AppendsFront a b x
 front-all a b x all = (x, ([], (sym (append-nil x), all)))
@@ -32,7 +32,7 @@ none-same a b same = subst (λ (s : SinkState). Appends a.written s.written []) 
 
 -- ---- one thing
 
--- It was written and told.
+-- It was printed.
 record IsOut (old new : Devices) (handed : Handed) : Type 0 where
   pub out : Appends old.out.written new.out.written (text_of handed)
   pub errors : Appends old.errors.written new.errors.written (told_of handed)

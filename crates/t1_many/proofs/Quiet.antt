@@ -42,7 +42,7 @@ module _ (font : List ℕ) (f : List ℕ → ℕ) (few : (kind : List ℕ) → f
   value : (kind : List ℕ) → digits_value 10 (decimal (f kind)) ≡ f kind
   value kind = (decimal_is_IsNumeral (f kind) (few kind)).1
 
-  -- a row of another kind in front
+  -- a row of another kind before
   skipped : (row : RowValue) (rows : List RowValue) (kind : List ℕ) → bytes_eq row.kind kind ≡ false → known_count (row ∷ rows) font kind ≡ known_count rows font kind
   skipped row rows kind other = go (bytes_eq row.font font)
     where
@@ -93,7 +93,7 @@ in_others : (other font : List ℕ) (found_there : Option (List (List ℕ))) (mo
 in_others other font None more kind unlike = refl
 in_others other font (Some kinds) more kind unlike = others other font (found_count kinds) (distinct kinds) more kind unlike
 
--- ---- what is known behind an update
+-- ---- what is known after an update
 
 -- whether one of the readings is of a font
 abbrev has : List ℕ → List Reading → Bool

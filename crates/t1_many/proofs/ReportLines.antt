@@ -59,7 +59,7 @@ module _ (judges : FaultValue → Verdict) where
         ∙ map-append (line name font.value waivers) (filter (λ (fault : FaultValue). is_told (judges fault)) xs)
         (filter (λ (fault : FaultValue). is_told (judges fault)) ys)
 
-    -- one more that is told, and one that isn't
+    -- one more that is reported, and one that isn't
     lines-push : (xs : List FaultValue) (fault : FaultValue) (told : Bool) → is_told (judges fault) ≡ told
         → lines (xs ++ fault ∷ []) ≡ lines xs ++ cond told (line name font.value waivers fault ∷ []) []
     lines-push xs fault true is =
@@ -69,7 +69,7 @@ module _ (judges : FaultValue → Verdict) where
         lines-append xs (fault ∷ [])
         ∙ ap (λ t. lines xs ++ map (line name font.value waivers) (cond t (fault ∷ []) [])) is
 
-    -- So many faults were given, and of those that are told the lines were handed on.
+    -- So many faults were returned, and of those that are reported the lines were handed on.
     pub record HaveGone {F : Type 0} (takes : F → F → Handed → Option Lost → Type 0) (count : ℕ) (mark : Mark) (old new : F) (found : Found)
         : Type 0 where
       pub given : List FaultValue
@@ -87,7 +87,7 @@ module _ (judges : FaultValue → Verdict) where
         found_more : found_with (judges fault) found ≡ found_by judges (gone.given ++ fault ∷ [])
         found_more = ap (found_with (judges fault)) gone.found_is ∙ sym (found-push gone.given fault)
 
-        -- a fault that is told
+        -- a fault that is reported
         pub one_gone : (c : F) → is_told (judges fault) ≡ true → takes b c (line name font.value waivers fault) None
             → HaveGone takes (count + 1) (mark_of fault) a c (found_with (judges fault) found)
         one_gone c is took = record {

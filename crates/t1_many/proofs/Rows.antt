@@ -15,7 +15,7 @@ use Rattle.t1_many.specs.Laws.{ATextIsOneRow}
 no_word : (byte : ℕ) (word : List ℕ) → byte ≡ 32 → is_word (byte ∷ word) ≡ true → ⊥
 no_word byte word is word_is = true≢false (sym (subst (λ b. is_word (b ∷ word) ≡ true) is word_is))
 
--- what stands in front of the first blank, and what behind it
+-- what is before the first blank, and what after it
 pub unjoin : (x y xs ys : List ℕ) → is_word x ≡ true → is_word y ≡ true → x ++ (32 ∷ xs) ≡ y ++ (32 ∷ ys) → (x ≡ y) × (xs ≡ ys)
 unjoin [] [] xs ys word_x word_y e = let rest : xs ≡ ys = cc in (refl, rest)
 unjoin [] (b ∷ y) xs ys word_x word_y e = let blank : b ≡ 32 = cc in absurd (no_word b y blank word_y)
@@ -28,7 +28,7 @@ unjoin (a ∷ x) (b ∷ y) xs ys word_x word_y e =
 
 -- ---- kinds
 
--- A kind with a blank and a rest behind it, by its first two words.
+-- A kind with a blank and a rest after it, by its first two words.
 pub record IsSplit (kind rest : List ℕ) : Type 0 where
   pub rule : List ℕ
   pub unit : List ℕ
@@ -37,7 +37,7 @@ pub record IsSplit (kind rest : List ℕ) : Type 0 where
   pub unit_is : is_word unit ≡ true
   pub is : kind ++ (32 ∷ rest) ≡ rule ++ (32 ∷ (unit ++ (32 ∷ tail)))
 
--- one word behind the unit's first
+-- one word after the unit's first
 pub short : (rule unit word rest : List ℕ)
     → (rule ++ (32 ∷ (unit ++ (32 ∷ (word ++ []))))) ++ (32 ∷ rest) ≡ rule ++ (32 ∷ (unit ++ (32 ∷ (word ++ (32 ∷ rest)))))
 short rule unit word rest =
@@ -109,7 +109,7 @@ font_waiver e = let no : ◌≡◌ {A = ℕ} 102 119 = cc in absurd (omega (arit
 pub glyph_waiver : codes "glyph" ≡ codes "waiver" → ⊥
 glyph_waiver e = let no : ◌≡◌ {A = ℕ} 103 119 = cc in absurd (omega (arith, no))
 
--- a kind and what stands behind it
+-- a kind and what follows it
 kinds : (a b rest rest' : List ℕ) → IsKind a → IsKind b → a ++ (32 ∷ rest) ≡ b ++ (32 ∷ rest') → (a ≡ b) × (rest ≡ rest')
 kinds a b rest rest' (of_font rule key ra ka is) (of_font rule' key' rb kb is') e =
     let same = same_splits (font_split a rule key rest ra is) (font_split b rule' key' rest' rb is') e in

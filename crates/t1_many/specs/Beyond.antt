@@ -15,11 +15,11 @@ use Rattle.t1_rules.specs.Book.{number_of}
 use Rattle.t1_rules.specs.Mask.{has}
 use Rattle.t1_rules.specs.declared.mask.Mask.{Mask}
 
--- What is done with a fault whose rule is told or isn't, and which goes beyond what is known or doesn't.
+-- What is done with a fault whose rule is reported or isn't, and which goes beyond what is known or doesn't.
 abbrev pub verdict_of : Bool → Bool → Verdict
 verdict_of told beyond = if told then (if beyond then Told else Known) else Left
 
--- A fault of a font with these goes beyond where, of those that are told, more are of its group than are known.
+-- A fault of a font with these goes beyond where, of those that are reported, more are of its group than are known.
 abbrev pub verdict_beyond : (ℕ → ℕ) → Mask → FontValue → List FaultValue → FaultValue → Verdict
 verdict_beyond known rules font faults fault = verdict_of (has rules (number_of fault.rule))
     (nat_lt (known (group_of font fault)) (found_in font (told_faults rules faults) (group_of font fault)))

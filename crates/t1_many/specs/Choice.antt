@@ -1,4 +1,4 @@
--- Which rules are told of many fonts.
+-- Which rules are reported of many fonts.
 use Rattle.std.specs.Prelude.{ℕ, ◌&&◌, ◌||◌, Bool, true, not, List, [], ◌∷◌, if◌then◌else◌}
 use Rattle.std.specs.List.{list_all, list_any}
 use Rattle.std.specs.Str.{bytes_eq}
@@ -23,6 +23,6 @@ abbrev pub is_only : List (List ℕ) → List ℕ → Bool
 is_only [] code = true
 is_only (word ∷ words) code = list_any (picks code) (word ∷ words)
 
--- The rule of this code is told.
+-- The rule of this code is reported.
 abbrev pub is_told : Choice → List ℕ → Bool
 is_told choice code = is_only choice.only code && not (list_any (picks code) choice.except)

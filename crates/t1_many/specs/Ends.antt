@@ -9,7 +9,7 @@ use Rattle.t1_summary.specs.declared.found.Found.{Found}
 use Rattle.t1_many.specs.declared.recipient.Lost.{Lost}
 use Rattle.t1_run.specs.declared.status.Status.{Status}
 
--- The check of a font ends so by what its files give.
+-- The check of a font ends so by what its files hold.
 abbrev pub IsEntry : Files → Edition → Entry → Type 0
 IsEntry files edition entry = IsFound edition (given_of files entry.name) entry.outcome
 

@@ -1,4 +1,4 @@
--- The files of fonts and of their waivers, and what they give.
+-- The files of fonts and of their waivers, and what they hold.
 use Rattle.std.specs.Prelude.{◌≡◌, ◌⊎◌, ◌+◌, ℕ, true, false, List, [], Option, None, Some, Result, Ok, Err}
 use Rattle.t1_char.specs.declared.edition.Edition.{Edition}
 use Rattle.t1_font.specs.Fonts.{FontValue}
@@ -25,7 +25,7 @@ pub record Given : Type 1 where
   -- A read of the file of waivers failed.
   pub BreaksWaivers : Type 0
 
--- How the check of a font ends by what its files give. The waivers are read once the font is.
+-- How the check of a font ends by what its files hold. The waivers are read once the font is.
 pub data IsFound (edition : Edition) (given : Given) (outcome : Outcome) : Type 0 where
   reports :
       (report : Report) → given.Reads (Ok report.font) → given.Waives (Ok report.waivers)
@@ -52,7 +52,7 @@ pub record Files : Type 1 where
   -- A font has no file of waivers.
   pub HasNoWaivers : List ℕ → Type 0
 
--- Files that are opened by their names, by what opening gives.
+-- Files that are opened by their names, by what opening returns.
 abbrev pub files_by : {R V E : Type 0} → (R → SourceState) → (V → SourceState) → (List ℕ → Result R E → Type 0)
     → (List ℕ → Option (Result V E) → Type 0) → Files
 files_by {R} {V} {E} state state_of_waivers Gives GivesWaivers = record {
@@ -73,7 +73,7 @@ pub record IsReadSo (files : Files) (name : List ℕ) (font : Result FontValue R
   pub read : AreRead old.left font
   pub kept : new.failed ≡ false
 
--- A read of it failed, and no read was made behind that.
+-- A read of it failed, and no read was made after that.
 pub record ReadFails (files : Files) (name : List ℕ) : Type 0 where
   pub old : SourceState
   pub new : SourceState

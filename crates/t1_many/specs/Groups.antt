@@ -12,7 +12,7 @@ use Rattle.t1_rules.specs.Keys.{index_count}
 use Rattle.t1_rules.specs.Mask.{has}
 use Rattle.t1_rules.specs.declared.mask.Mask.{Mask}
 
--- The faults whose rules are told.
+-- The faults whose rules are reported.
 abbrev pub told_faults : Mask → List FaultValue → List FaultValue
 told_faults rules faults = filter (λ fault. has rules (number_of fault.rule)) faults
 
@@ -25,7 +25,7 @@ part_of font fault =
 abbrev pub group_of : FontValue → FaultValue → ℕ
 group_of font fault = (fault.unit * 4294967296 + part_of font fault) * 128 + number_of fault.rule
 
--- A fault stands in a unit of the font: in the font itself, in one of its glyphs, or at a waiver.
+-- A fault is in a unit of the font: in the font itself, in one of its glyphs, or at a waiver.
 abbrev pub IsAt : FontValue → FaultValue → Type 0
 IsAt font fault = fault.unit ≤ length font.glyphs + 1
 
@@ -46,8 +46,8 @@ firsts font (fault ∷ faults) = fault ∷ filter (λ other. not (nat_eq (group_
 abbrev pub groups_of : FontValue → List FaultValue → List (ℕ × ℕ)
 groups_of font faults = map (λ fault. (group_of font fault, found_in font faults (group_of font fault))) (firsts font faults)
 
--- The faults that are told of the report of a font with these waivers, all of which stand in it, were counted by their groups: so often each,
--- and in this order.
+-- The reported faults of a font with these waivers, all of which are in it, were counted by their groups: so often
+-- each, and in this order.
 abbrev pub CountsReport : Mask → CheckedFont → List Waiver → (ℕ → ℕ) → List (ℕ × ℕ) → Type 0
 CountsReport rules font waivers count groups =
     (faults : List FaultValue) × IsReport font waivers faults × AllByRecursion (IsInFont font.value waivers) faults

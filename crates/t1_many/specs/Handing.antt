@@ -13,7 +13,8 @@ use Rattle.t1_report.specs.Reports.{IsReport}
 use Rattle.t1_report.specs.Waivers.{Waiver}
 use Rattle.t1_run.specs.declared.failure.Failure.{Failure}
 
--- One thing that is handed on of a font: a line of its report, or why there is none; and, behind all else of it, how it was found.
+-- One thing that is handed on of a font: a line of its report, or why there is none; and, after all else of it, how it
+-- was found.
 pub data Handed : Type 0 where
   line : (name : List ℕ) → FontValue → List Waiver → FaultValue → Handed
   failure : (name : List ℕ) → Failure → Handed
@@ -75,7 +76,7 @@ HandsFont takes judges old new entry taken =
     HandsOn takes old new (handed_of judges entry.name entry.outcome) (lost_of taken)
     × IfOk taken (λ found. found ≡ found_of judges entry.outcome)
 
--- The lines of a report that are told were handed on, and then how the font was found; or it stopped there.
+-- The lines of a report that aren't omitted were handed on, and then how the font was found; or it stopped there.
 abbrev pub HandsReport : {F : Type 0} → (F → F → Handed → Option Lost → Type 0) → (FaultValue → Verdict) → List ℕ → CheckedFont → List Waiver
     → F → F → Result Found Lost → Type 0
 HandsReport takes judges name font waivers old new taken =

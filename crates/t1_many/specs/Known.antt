@@ -24,7 +24,8 @@ kind_in font waivers fault = kind_of (line_in font waivers fault)
 abbrev pub key_in : List ℕ → FontValue → List Waiver → FaultValue → List ℕ
 key_in name font waivers fault = key_of (kind_in font waivers fault) name
 
--- A fault of a font with these goes beyond what is known where, of those that are told, more are of its kind than are known.
+-- Of a font with these, a fault goes beyond what is known where more of the reported faults are of its kind than are
+-- known.
 abbrev pub verdict_known : (List ℕ → ℕ) → Mask → List ℕ → FontValue → List Waiver → List FaultValue → FaultValue → Verdict
 verdict_known counts rules name font waivers faults fault = verdict_of (has rules (number_of fault.rule))
     (nat_lt (counts (key_in name font waivers fault))

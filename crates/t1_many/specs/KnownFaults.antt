@@ -14,7 +14,8 @@ use Rattle.t1_many.specs.Choice.{Choice, is_told}
 
 -- ---- kinds
 
--- The kind of a fault: its rule and the unit in which it stands, `RULE font KEY`, `RULE glyph NAME` or `RULE waiver NAME RULE`.
+-- The kind of a fault: its rule and the unit in which it is, `RULE font KEY`, `RULE glyph NAME` or
+-- `RULE waiver NAME RULE`.
 abbrev pub kind_at : Rule → PlaceValue → List ℕ
 kind_at rule (at_key key index) = concat (code_of rule ∷ codes " font " ∷ key_text_of key ∷ [])
 kind_at rule (at_step name path step) = concat (code_of rule ∷ codes " glyph " ∷ name ∷ [])
@@ -44,7 +45,7 @@ pub data IsKind (kind : List ℕ) : Type 0 where
 -- ---- rows
 
 pub record RowValue : Type 0 where
-  -- How often, by decimal digits as they stand.
+  -- How often, by decimal digits as they are.
   pub count : List ℕ
   pub kind : List ℕ
   -- The font's name.
@@ -83,7 +84,7 @@ beyond rows font lines =
 
 -- ---- rows that are judged
 
--- A font whose report was made, and the kinds of its lines that are told, in their order.
+-- A font whose report was made, and the kinds of its lines that are reported, in their order.
 pub record Reading : Type 0 where
   pub font : List ℕ
   pub kinds : List (List ℕ)
@@ -93,7 +94,7 @@ abbrev pub kinds_in : List Reading → List ℕ → Option (List (List ℕ))
 kinds_in [] font = None
 kinds_in (reading ∷ readings) font = if bytes_eq reading.font font then Some reading.kinds else kinds_in readings font
 
--- A row is judged where the report of its font was made, and its rule is told.
+-- A row is judged where the report of its font was made, and its rule is reported.
 abbrev pub is_judged : Choice → List Reading → RowValue → Bool
 is_judged choice readings row = is_some (kinds_in readings row.font) && is_told choice (rule_of row.kind)
 
@@ -102,11 +103,11 @@ abbrev pub shortfall_text : RowValue → ℕ → List ℕ
 shortfall_text row found = concat
     (row.font ∷ codes ": known faults: " ∷ row.kind ∷ codes ": " ∷ row.count ∷ codes " known, " ∷ decimal found ∷ codes " found\n" ∷ [])
 
--- What is told of a row of whose kind so many were found: nothing where it is reached.
+-- What is reported of a row of whose kind so many were found: nothing where it is reached.
 abbrev pub shortfall_at : RowValue → ℕ → List ℕ
 shortfall_at row found = if nat_lt found (digits_value 10 row.count) then shortfall_text row found else []
 
--- What is told of a row.
+-- What is reported of a row.
 abbrev pub shortfall_in : Choice → RowValue → Option (List (List ℕ)) → List ℕ
 shortfall_in choice row None = []
 shortfall_in choice row (Some kinds) = if is_told choice (rule_of row.kind) then shortfall_at row (found_count kinds row.kind) else []
@@ -139,8 +140,8 @@ rows_behind all done (reading ∷ readings) =
     if is_among done reading.font then rows_behind all done readings
     else rows_in reading.font (kinds_in all reading.font) ++ rows_behind all (reading.font ∷ done) readings
 
--- The rows that are written in the place of these. One that isn't judged stands as it was. In the place of the first one of a font
--- that is judged stand all that were found in it; and of fonts without such a row behind all others.
+-- The rows that are written in the place of these. One that isn't judged stays as it was. The first one of a font that
+-- is judged is replaced by all that were found in it. Those of fonts without such a row come after all others.
 abbrev pub updated_behind : Choice → List Reading → List (List ℕ) → List RowValue → List RowValue
 updated_behind choice readings done [] = rows_behind readings done readings
 updated_behind choice readings done (row ∷ rows) =

@@ -43,12 +43,12 @@ LinesHaveKinds = (l : FaultLineValue) → IsFaultLine l → IsKind (kind_of l)
 abbrev pub KindsNameTheirRules : Type 0
 KindsNameTheirRules = (l : FaultLineValue) → rule_of (kind_of l) ≡ code_of l.rule
 
--- What the plain form is handed is written and told, one thing behind the other; where a device fails, a front of it.
+-- What the plain form takes is printed, one thing after the other; if a write fails, a prefix of it.
 abbrev pub PlainIsWritten : Type 0
 PlainIsWritten =
     (old new : Devices) (handed : List Handed) (lost : Option Lost) → HandsOn PlainTakes old new handed lost → IsWritten old new handed lost
 
--- Behind the last font nothing waits to be flushed.
+-- After the last font nothing waits to be flushed.
 abbrev pub PlainIsFlushed : Type 0
 PlainIsFlushed =
     (old new : Devices) (handed : List Handed) (name : List ℕ) (found : Found)
@@ -80,7 +80,7 @@ GroupRowsAreKindRows =
 abbrev pub ATextIsOneRow : Type 0
 ATextIsOneRow = (a b : RowValue) → IsRow a → IsRow b → row_text a ≡ row_text b → a ≡ b
 
--- The parts of a list, one behind the other, are the list.
+-- The parts of a list, one after the other, are the list.
 abbrev pub PartsAreTheWhole : Type 0
 PartsAreTheWhole = (parts : ℕ) → 0 < parts → (list : List (List ℕ)) → first_parts parts list parts ≡ list
 
@@ -103,7 +103,7 @@ PartsHaveTheStatus =
     (founds_of : ℕ → List Found) (parts : ℕ)
     → status_of_all (joined founds_of parts) ≡ worst_of (of_parts (λ part. status_of_all (founds_of part)) parts)
 
--- The kinds that were found are of rules that are told, and they are fewer than a number of 64 bits counts.
+-- The kinds that were found are of rules that are reported, and they are fewer than a number of 64 bits counts.
 pub record IsReading (choice : Choice) (kinds : List (List ℕ)) : Type 0 where
   pub told : AllByRecursion (λ kind. is_told choice (rule_of kind) ≡ true) kinds
   pub few : length kinds < 2 ^ 64
@@ -111,7 +111,7 @@ pub record IsReading (choice : Choice) (kinds : List (List ℕ)) : Type 0 where
 abbrev pub AreReadings : Choice → List Reading → Type 0
 AreReadings choice readings = (font : List ℕ) (kinds : List (List ℕ)) → kinds_in readings font ≡ Some kinds → IsReading choice kinds
 
--- Behind an update no line of a font that was read goes beyond what is known.
+-- After an update no line of a font that was read goes beyond what is known.
 abbrev pub NoLineIsBeyond : Type 0
 NoLineIsBeyond =
     (choice : Choice) (readings : List Reading) (rows : List RowValue) (font : List ℕ) (lines : List FaultLineValue)

@@ -1,4 +1,4 @@
--- The plain form: lines and refusals on the output, all else on standard error, each with the font's name in front.
+-- The plain form: lines and refusals on the output, all else on standard error, each after the font's name.
 use Rattle.std.specs.Prelude.{◌≡◌, ◌⊎◌, ℕ, true, List, [], ◌∷◌, ◌++◌, codes, Option, None, Some}
 use Rattle.std.specs.Io.KnownBytes.{Appends}
 use Rattle.std.specs.List.{concat, flat_map}
@@ -11,7 +11,7 @@ use Rattle.t1_run.specs.Failures.{out_of_memory_line, read_failed_line, refusal_
 use Rattle.t1_run.specs.declared.failure.Failure.{Failure}
 use Rattle.t1_run.specs.declared.failure.Failure.TheVariants as failures
 
--- The program that checks one font, in whose words it is told that one isn't checked.
+-- The program that checks one font. In its words it is reported that a font isn't checked.
 abbrev pub checker : List ℕ
 checker = codes "t1check"
 
@@ -19,7 +19,7 @@ checker = codes "t1check"
 abbrev pub named : List ℕ → List ℕ → List ℕ
 named name text = concat (name ∷ codes ": " ∷ []) ++ text
 
--- A refusal is written as a line of a report is, and each other failure is told on standard error.
+-- A refusal is written as a line of a report is, and each other failure is printed on standard error.
 abbrev pub failure_text : List ℕ → Failure → List ℕ
 failure_text name (failures.Refused code) = named name (refusal_line code)
 failure_text name failures.Broken = []
@@ -30,7 +30,7 @@ failure_told name (failures.Refused code) = []
 failure_told name failures.Broken = named name (read_failed_line checker)
 failure_told name failures.Memory = named name (out_of_memory_line checker)
 
--- What is written of a thing that is handed on, and what is told.
+-- What is written on the output of a thing that is handed on, and what on standard error.
 abbrev pub text_of : Handed → List ℕ
 text_of (line name font waivers fault) = named name (line_of font waivers fault)
 text_of (failure name reason) = failure_text name reason
@@ -75,14 +75,14 @@ PutsFailure old new name failures.Broken lost =
 PutsFailure old new name failures.Memory lost =
     (new.out ≡ old.out) × IsPut old.errors new.errors (named name (out_of_memory_line checker)) lost
 
--- One thing that is handed on. The output is flushed behind each font.
+-- One thing that is handed on. The output is flushed after each font.
 abbrev pub PlainTakes : Devices → Devices → Handed → Option Lost → Type 0
 PlainTakes old new (line name font waivers fault) lost =
     IsPut old.out new.out (named name (line_of font waivers fault)) lost × (new.errors ≡ old.errors)
 PlainTakes old new (failure name reason) lost = PutsFailure old new name reason lost
 PlainTakes old new (done name found) lost = IsFlushed old.out new.out lost × (new.errors ≡ old.errors)
 
--- All of these was written and told; or a device failed, and a front of it was.
+-- All of these was printed; or a write failed, and a prefix of it was.
 abbrev pub IsWritten : Devices → Devices → List Handed → Option Lost → Type 0
 IsWritten old new handed None =
     Appends old.out.written new.out.written (texts handed) × Appends old.errors.written new.errors.written (tellings handed)

@@ -1,4 +1,4 @@
--- Fonts whose lines are told by known faults, and what is found in them.
+-- Fonts whose lines are reported by known faults, and what is found in them.
 use Rattle.std.specs.Prelude.{◌≡◌, ◌⊎◌, ℕ, List, [], ◌∷◌, ◌++◌, if◌then◌else◌, map, Option, None, Result, Ok, Err, string_bytes}
 use Rattle.std.specs.List.{flat_map}
 use Rattle.t1_font.specs.Fonts.{FontValue}
@@ -23,7 +23,7 @@ use Rattle.t1_summary.specs.declared.found.Found.{Found}
 abbrev pub by_known : (List ℕ → ℕ) → Mask → List ℕ → Report → FaultValue → Verdict
 by_known counts rules name report = verdict_known counts rules name report.font report.waivers report.faults
 
--- Those whose rules are told become known.
+-- Those whose rules are reported become known.
 abbrev pub as_known : Mask → Report → FaultValue → Verdict
 as_known rules report fault = if has rules (number_of fault.rule) then Known else Left
 
@@ -39,7 +39,7 @@ Keeps old new reading (Ok found) (Err lost) = (lost ≡ Memory) × (new ≡ old)
 Keeps old new reading (Err before) (Ok kept) = ⊥
 Keeps old new reading (Err before) (Err lost) = (lost ≡ before) × (new ≡ old)
 
--- A font is taken: what is told of it is handed on, and what was found in it is kept where its report was made.
+-- A font is taken: what is reported of it is handed on, and what was found in it is kept where its report was made.
 abbrev pub TakesOutcome : {F : Type 0} → (F → F → Handed → Option Lost → Type 0) → (Report → FaultValue → Verdict) → Mask → F → F
     → List Reading → List Reading → List ℕ → Outcome → Result Found Lost → Type 0
 TakesOutcome takes judges rules form form' old new name (reported report) (Ok found) =

@@ -19,6 +19,6 @@ abbrev pub of_parts : {A : Type 0} → (ℕ → A) → ℕ → List A
 of_parts value_of zero = []
 of_parts value_of (suc n) = of_parts value_of n ++ value_of n ∷ []
 
--- The first parts, one behind the other.
+-- The first parts, one after the other.
 abbrev pub first_parts : {A : Type 0} → ℕ → List A → ℕ → List A
 first_parts parts list n = joined (part_of parts list) n

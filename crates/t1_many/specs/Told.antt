@@ -12,7 +12,7 @@ use Rattle.t1_many.specs.declared.verdict.Verdict.{Verdict}
 use Rattle.t1_report.specs.Faults.{FaultValue}
 use Rattle.t1_run.specs.declared.status.Status.{Status}
 
--- What is handed on of fonts, one behind the other, and how they were found.
+-- What is handed on of fonts, one after the other, and how they were found.
 abbrev pub all_handed : (Report → FaultValue → Verdict) → List Entry → List Handed
 all_handed judges entries = flat_map (λ entry. handed_of judges entry.name entry.outcome) entries
 

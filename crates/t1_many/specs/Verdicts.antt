@@ -8,6 +8,6 @@ use Rattle.t1_rules.specs.Book.{number_of}
 use Rattle.t1_rules.specs.Mask.{has}
 use Rattle.t1_rules.specs.declared.mask.Mask.{Mask}
 
--- The faults of these rules are told.
+-- The faults of these rules are reported.
 abbrev pub of_rules : Mask → Report → FaultValue → Verdict
 of_rules rules report fault = if has rules (number_of fault.rule) then Told else Left

@@ -1,4 +1,4 @@
--- Waivers that are written beside a font, which waive each line of a glyph that is told.
+-- Waivers that are written beside a font, which waive each line of a glyph that is reported.
 use Rattle.std.specs.Prelude.{ℕ, List, [], ◌∷◌, ◌++◌, codes}
 use Rattle.std.specs.List.{flat_map}
 use Rattle.t1_rules.specs.declared.rule.Rule.{Rule}

@@ -21,7 +21,7 @@ use t1_font::Font;
 use t1_report::{Fault, Waivers, a_font_has_one_report};
 use t1_rules::{Mask, Sidebearings};
 
-/// The faults whose rules are in a set are told where their groups are found more often than they are known.
+/// The faults whose rules are in a set are reported where their groups are found more often than they are known.
 #[derive(Clone, Copy)]
 struct Beyond<'a> {
     rules: Mask,
@@ -46,8 +46,8 @@ impl<'a> Judge for Beyond<'a> {
     }
 }
 
-/// Hands the lines of a font's report on that go beyond known faults: of the rules that are told, all lines of a group that is found more
-/// often than it is known. The others of these rules are known faults.
+/// Hands on the lines of a font's report that go beyond known faults. Of the rules that are reported, these are all
+/// lines of a group that is found more often than it is known. The others of these rules are known faults.
 pub fn hand_beyond<'a, F: Form>(
     form: &mut F,
     name: &str,

@@ -1,4 +1,4 @@
-//! Which rules are told of many fonts.
+//! Which rules are reported of many fonts.
 
 ghost use Rattle.std.specs.Prelude.{◌≡◌, map};
 ghost use Rattle.std.specs.List.{list_all, list_any};
@@ -10,8 +10,8 @@ ghost use Rattle.t1_scan.specs.Bytes.{is_decimal_digit};
 
 use t1_rules::{Mask, Rule, rule_code};
 
-/// The rules that are told: those that a word of `only` picks, all without such a word, but for those that a word of `except` picks. A word
-/// is the code of a rule, or the letters of codes.
+/// The rules that are reported: those that a word of `only` picks, all without such a word, but for those that a word
+/// of `except` picks. A word is the code of a rule, or the letters of codes.
 pub fn told_rules(only: &[&[u8]], except: &[&[u8]]) -> Mask
     ensures { (rule : RuleValue) → has result (number_of rule)
         ≡ is_told (record { only = map (λ word. word.now) only.now; except = map (λ word. word.now) except.now }) (code_of rule) }
@@ -26,7 +26,7 @@ pub fn told_rules(only: &[&[u8]], except: &[&[u8]]) -> Mask
     rules
 }
 
-/// Whether the rule of a code is told: a word of `only` picks it, or there is none, and no word of `except` does.
+/// Whether the rule of a code is reported: a word of `only` picks it, or there is none, and no word of `except` does.
 pub fn is_told(only: &[&[u8]], except: &[&[u8]], code: &[u8]) -> bool
     ensures { result
         ≡ is_told (record { only = map (λ word. word.now) only.now; except = map (λ word. word.now) except.now }) code.now }

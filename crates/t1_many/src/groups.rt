@@ -68,7 +68,7 @@ fn bump(counts: &mut Counts, group: u64) -> Result<(), AllocError>
     Ok(())
 }
 
-/// Counts the groups of the faults whose rules are told, in a font's whole report.
+/// Counts the groups of the faults whose rules are reported, in a font's whole report.
 pub fn count_groups<'a>(
     alloc: Global,
     font: &'a Font<'a>,

@@ -21,7 +21,7 @@ use t1_rules::Sidebearings;
 use t1_run::Failure;
 use t1_summary::Found;
 
-/// Hands the lines of a font's report on that are told, and then how the font was found.
+/// Hands on the lines of a font's report that aren't omitted, and then how the font was found.
 pub fn hand_report<'a, F: Form, J: Judge>(
     form: &mut F,
     name: &str,
@@ -41,7 +41,7 @@ pub fn hand_report<'a, F: Form, J: Judge>(
     Ok(found)
 }
 
-/// Hands the lines of a font's report on that are told.
+/// Hands on the lines of a font's report that aren't omitted.
 fn hand_lines<'a, F: Form, J: Judge>(
     form: &mut F,
     name: &str,

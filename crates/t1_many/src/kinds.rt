@@ -99,7 +99,7 @@ fn push_waiver(text: &mut Vec<u8>, waivers: &Waivers<'_>, place: usize) -> Resul
     push_two(text, b" ", rule_code(rule).as_bytes())
 }
 
-/// Appends a text, and another one behind it.
+/// Appends a text, and another one after it.
 pub(crate) fn push_two(text: &mut Vec<u8>, front: &[u8], end: &[u8]) -> Result<(), AllocError>
     ensures { OnOk result (text.new.items ≡ text.old.items ++ concat (front.now ∷ end.now ∷ [])) }
 {

@@ -17,8 +17,8 @@ pub fn a_text_is_one_row()
     ensures rows { ATextIsOneRow }
 {}
 
-/// What is handed to the plain form is written and told, all of it, one thing behind the other, and behind the last font it is flushed. Where a
-/// device fails a front of it was.
+/// What the plain form takes is printed, all of it, one thing after the other, and after the last font it is flushed.
+/// If a write fails, a prefix of it was printed.
 #[tactic(auto, using(crate::proofs::PlainLines::written, crate::proofs::PlainLines::flushed))]
 pub fn plain_lines_are_written()
     ensures written { PlainIsWritten }
@@ -34,7 +34,7 @@ pub fn groups_are_kinds()
     ensures rows { GroupRowsAreKindRows }
 {}
 
-/// The parts of a list, one behind the other, are the list.
+/// The parts of a list, one after the other, are the list.
 #[tactic(auto, using(crate::proofs::Parts::whole))]
 pub fn parts_are_the_whole()
     ensures { PartsAreTheWhole }

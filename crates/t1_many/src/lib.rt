@@ -1,8 +1,9 @@
-//! Many fonts together: each is checked in turn, and its lines are written with its name in front; which rules are told, which lines go
-//! beyond known faults, which part of a list is checked, and the waivers that are written of lines.
+//! Many fonts together: each is checked in turn, and its lines are written after its name. Also: which rules are
+//! reported, which lines go beyond known faults, which part of a list is checked, and the waivers that are written of
+//! lines.
 //!
-//! [`check_all`] checks fonts one after another, and [`told_rules`] says which rules are told. [`read_row`] reads a row of a file of known
-//! faults, and [`count_groups`] counts a font's faults as such rows do.
+//! [`check_all`] checks fonts one after another, and [`told_rules`] says which rules are reported. [`read_row`] reads a
+//! row of a file of known faults, and [`count_groups`] counts a font's faults as such rows do.
 #![tactic(auto)]
 
 mod beyond;

@@ -16,8 +16,8 @@ use t1_report::{Fault, Waivers, write_fault};
 use t1_run::Failure;
 use t1_summary::Found;
 
-/// Lines and refusals on the output, all else on standard error, each with the font's name in front. Behind each font the output is
-/// flushed.
+/// Lines and refusals on the output, all else on standard error, each after the font's name. After each font the output
+/// is flushed.
 #[derive(Drop)]
 pub struct Plain<W: Sink, E: Sink> {
     /// Standard output.
@@ -55,7 +55,7 @@ impl<W: Sink, E: Sink> Form for Plain<W, E> {
     }
 }
 
-/// Puts the line of a fault, with the font's name in front.
+/// Puts the line of a fault, after the font's name.
 fn put_line<W: Sink>(
     sink: &mut W,
     name: &str,
@@ -72,7 +72,7 @@ fn put_line<W: Sink>(
     Ok(())
 }
 
-/// Puts a line with the font's name in front.
+/// Puts a line, after the font's name.
 fn put_named<W: Sink>(sink: &mut W, name: &str, line: &[u8]) -> Result<(), Lost>
     ensures { IsPut (W.state sink.old) (W.state sink.new) (named name.now line.now) (lost_of result) }
 {

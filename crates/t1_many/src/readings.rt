@@ -1,4 +1,4 @@
-//! Fonts whose lines are told by known faults, and what is found in them.
+//! Fonts whose lines are reported by known faults, and what is found in them.
 
 ghost use Rattle.std.specs.Prelude.{◌≡◌, IfOk, List, false};
 ghost use Rattle.std.specs.List.{AllByRecursion};
@@ -34,10 +34,10 @@ pub struct Reading {
     pub rows: Vec<u8>,
 }
 
-/// Tells the lines of fonts that go beyond known faults, in a form, and keeps what was found.
+/// Reports the lines of fonts that go beyond known faults, in a form, and keeps what was found.
 #[derive(Drop)]
 pub struct Beyond<K: Known + Drop, F: Form + Drop> {
-    /// Of which rules lines are told.
+    /// Of which rules lines are reported.
     pub rules: Mask,
     /// What is known.
     pub known: K,
@@ -83,12 +83,12 @@ impl<K: Known + Drop, F: Form + Drop> Recipient for Beyond<K, F> {
     }
 }
 
-/// Tells no line of a report, and keeps what was found: it is to be known.
+/// Reports no line of a report, and keeps what was found: it is to be known.
 #[derive(Drop)]
 pub struct Anew<F: Form + Drop> {
     /// Of which rules faults become known.
     pub rules: Mask,
-    /// The form that takes what is told besides lines.
+    /// The form that takes what is reported besides lines.
     pub form: F,
     /// The fonts whose reports were made, in order.
     pub readings: Vec<Reading>,
@@ -156,7 +156,7 @@ fn read_groups(
     Ok(Reading { font, rows })
 }
 
-/// Keeps what was found in a font behind what was found in others, unless the run stops there.
+/// Keeps what was found in a font after what was found in others, unless the run stops there.
 fn keep(readings: &mut Vec<Reading>, reading: Reading, taken: Taken) -> Taken
     ensures { Keeps readings.old.items readings.new.items reading taken result }
 {

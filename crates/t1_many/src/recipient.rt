@@ -17,7 +17,7 @@ use t1_summary::Found;
 /// Why a run over many fonts stops.
 #[derive(Clone, Copy, Debug, PartialEq, Eq)]
 pub enum Lost {
-    /// A device failed.
+    /// A write or a flush failed.
     Device,
     /// Memory ran out while a line was written.
     Memory,

@@ -11,7 +11,7 @@ use t1_lines::cut;
 /// A row of known faults: how often faults of a kind are known of a font.
 #[derive(Clone, Copy, Debug)]
 pub struct Row<'a> {
-    /// How often, by decimal digits as they stand.
+    /// How often, by decimal digits as they are.
     pub count: &'a [u8],
     /// The rule, and the unit in which it is broken: `H02 glyph A`, `Z04 font BlueValues`, `U01 waiver A P01`.
     pub kind: &'a [u8],
@@ -39,7 +39,7 @@ fn whole_row(line: &[u8]) -> Option<Row<'_>>
     Some(Row { count, kind, font })
 }
 
-/// Cuts a kind off the front of a text: `RULE font KEY`, `RULE glyph NAME` or `RULE waiver NAME RULE`.
+/// Cuts a kind off the beginning of a text: `RULE font KEY`, `RULE glyph NAME` or `RULE waiver NAME RULE`.
 #[tactic(auto, unfolding(crate::specs::Private::Rows::kind_cut))]
 fn cut_kind(text: &[u8]) -> Option<(&[u8], &[u8])>
     ensures { option_map (λ p. (p.0.now, p.1.now)) result ≡ kind_cut text.now }
@@ -50,7 +50,7 @@ fn cut_kind(text: &[u8]) -> Option<(&[u8], &[u8])>
     cut_unit(text, unit, rest)
 }
 
-/// The same, given the word of the unit, and what stands behind the word that follows it.
+/// The same, by the word of the unit, and what follows the word after it.
 #[tactic(auto, unfolding(crate::specs::Private::Rows::unit_cut))]
 fn cut_unit<'a>(text: &'a [u8], unit: &[u8], rest: &'a [u8]) -> Option<(&'a [u8], &'a [u8])>
     ensures { option_map (λ p. (p.0.now, p.1.now)) result ≡ unit_cut text.now unit.now rest.now }
@@ -65,7 +65,7 @@ fn cut_unit<'a>(text: &'a [u8], unit: &[u8], rest: &'a [u8]) -> Option<(&'a [u8]
     None
 }
 
-/// What stands in front of the blank before the end of a text.
+/// What is before the blank before the end of a text.
 fn front<'a>(text: &'a [u8], end: &[u8]) -> &'a [u8]
     ensures { result.now ≡ front text.now end.now }
 {

@@ -1,4 +1,4 @@
-//! Fonts of whose reports the lines of some rules are told.
+//! Fonts of whose reports the lines of some rules are reported.
 
 ghost use Rattle.std.specs.Prelude.{◌≡◌, false, map, string_bytes, Ok};
 ghost use Rattle.std.specs.Fn.{FnReturnsAt};
@@ -20,10 +20,10 @@ use t1_report::Waivers;
 use t1_rules::{Mask, Sidebearings};
 use t1_run::{Failure, Status};
 
-/// Tells the lines of these rules, in a form.
+/// Reports the lines of these rules, in a form.
 #[derive(Drop)]
 pub struct Telling<F: Form> {
-    /// Of which rules lines are told.
+    /// Of which rules lines are reported.
     pub rules: Mask,
     /// The form that takes them.
     pub form: F,
@@ -55,8 +55,8 @@ impl<F: Form> Recipient for Telling<F> {
     }
 }
 
-/// Checks the fonts of these names in order, as [`check_all`] does, and tells the lines of some rules, why there is no report of a font, and
-/// how each font was found.
+/// Checks the fonts of these names in order, as [`check_all`] does. It reports the lines of some rules, why there is no
+/// report of a font, and how each font was found.
 pub fn tell_all<R, V, O, P, F>(
     alloc: Global,
     names: &[String],

@@ -20,9 +20,9 @@ use t1_summary::Found;
 pub enum Verdict {
     /// It is handed on.
     Told,
-    /// It is left out as a known fault.
+    /// It is omitted as a known fault.
     Known,
-    /// It is left out as what isn't asked for.
+    /// It is omitted as what isn't requested.
     Left,
 }
 
@@ -59,7 +59,7 @@ pub trait Judge {
         ensures { result ≡ judges self.now font.now (fault_value fault.now) };
 }
 
-/// The faults of these rules are told.
+/// The faults of these rules are reported.
 impl Judge for Mask {
     ghost use Rattle.t1_many.specs.declared.verdict.Verdict.{Verdict};
 

@@ -14,7 +14,7 @@ use Rattle.t1_names.specs.Words.{Trims, has_line_end}
 use Rattle.t1_names.specs.declared.folders.Below.{Below}
 use Rattle.t1_names.specs.declared.folders.Listing.{Listing}
 
--- what one more word stands for comes after what the words before it stand for
+-- what one more word names comes after what the words before it name
 more_of : (part : Found → List (List ℕ)) (founds : List Found) (one : Found) (before more after : List (String Global)) → after ≡ before ++ more
     → map string_bytes more ≡ part one → map string_bytes before ≡ flat_map part founds → map string_bytes after ≡ flat_map part (founds ++ one ∷ [])
 more_of part founds one before more after is more_are before_are =

@@ -16,7 +16,7 @@ module _ (is_folder : List ℕ → Bool) where
   abbrev IsFolder : List ℕ → Bool → Type 0
   IsFolder name leads = is_folder name ≡ leads
 
-  -- what shortens a word at its front or its end, with what the word is
+  -- what shortens a word at its beginning or its end, with what the word is
   data Way (word next : List ℕ) : Type 0 where
     at_front : (rest : List ℕ) → word ≡ 46 ∷ 47 ∷ rest → next ≡ after_slashes rest → (next ≡ [] → ⊥) → Way word next
     at_back : word ≡ next ++ 47 ∷ [] → ((rest : List ℕ) → word ≡ 46 ∷ 47 ∷ rest → after_slashes rest ≡ []) → (next ≡ [] → ⊥) → is_folder word ≡ true → Way word next

@@ -6,7 +6,7 @@ use Rattle.t1_names.specs.declared.globs.Glob.{Glob as GlobValue}
 use Rattle.t1_names.specs.declared.globs.Piece.{Piece as PieceValue}
 use Rattle.t1_names.specs.declared.globs.Piece.TheVariants.{AnyChar, DoubleStar, Itself, Set, Star}
 
--- The piece that a value stands for.
+-- The piece that a value means.
 abbrev pub piece_of : PieceValue → Piece
 piece_of (Itself own) = itself own
 piece_of AnyChar = any_char

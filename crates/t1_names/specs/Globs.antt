@@ -43,7 +43,7 @@ repeats (set negated members) = false
 repeats star = true
 repeats double_star = true
 
--- One character that the test lets through, and what passes after it.
+-- One character that the test passes, and what passes after it.
 abbrev pub one_then : (ℕ → Bool) → (List ℕ → Bool) → List ℕ → Bool
 one_then test passes [] = false
 one_then test passes (c ∷ cs) = test c && passes cs
@@ -76,7 +76,7 @@ does_match glob name = matches glob.pieces name || (not glob.has_slash && matche
 abbrev pub is_excluded : List Glob → List ℕ → Bool
 is_excluded globs name = list_any (λ glob. does_match glob (chars name)) globs
 
--- The piece at the front of a glob, and what is after it.
+-- The first piece of a glob, and what is after it.
 pub record Front : Type 0 where
   pub piece : Piece
   pub rest : List ℕ
@@ -113,7 +113,7 @@ abbrev pub set_front : List ℕ → Front
 set_front [] = record { piece = itself 91; rest = [] }
 set_front (c ∷ rest) = if c == 33 then set_or_itself true (c ∷ rest) (members_at rest) else set_or_itself false (c ∷ rest) (members_at (c ∷ rest))
 
--- The front of a glob that begins with this character.
+-- The first piece of a glob that begins with this character, and what is after it.
 abbrev pub front : ℕ → List ℕ → Front
 front c rest =
     if c == 42 then star_front rest

@@ -50,7 +50,7 @@ OneList =
     → AreNamed (λ word leads. is_folder word ≡ leads) (λ folder r. r ≡ as_listed (listing_of folder)) words globs names' unsearched' passed_over'
     → (names ≡ names') × (unsearched ≡ unsearched') × (passed_over ≡ passed_over')
 
--- A word that leads to a folder keeps no `./` at its front.
+-- A word that leads to a folder keeps no leading `./`.
 abbrev pub NoDotInFolders : Type 0
 NoDotInFolders =
     (is_folder : List ℕ → Bool) → (word trimmed rest : List ℕ) → Trims (λ name leads. is_folder name ≡ leads) word trimmed → is_folder trimmed ≡ true

@@ -7,7 +7,7 @@ use Rattle.t1_names.specs.Once.{each_once}
 use Rattle.t1_names.specs.Words.{Trims, has_line_end}
 use Rattle.t1_names.specs.declared.folders.Listing.{Listing}
 
--- What a word stands for: fonts, and the folders that weren't searched whole.
+-- What a word names: fonts, and the folders that weren't searched whole.
 pub record Found : Type 0 where
   pub fonts : List (List ℕ)
   pub unsearched : List (List ℕ)
@@ -16,7 +16,8 @@ pub record Found : Type 0 where
 abbrev pub alone : List ℕ → Found
 alone name = record { fonts = name ∷ []; unsearched = [] }
 
--- A word that leads to a folder stands for the fonts below it, another one for itself. One with a line end isn't looked at.
+-- A word that leads to a folder names the fonts below it, another one names itself. One with a line end isn't looked
+-- at.
 pub data StandsFor {E : Type 0} (IsFolder : List ℕ → Bool → Type 0) (Lists : List ℕ → Result Listing E → Type 0) (word : List ℕ)
     (found : Found) : Type 0 where
   no_line : has_line_end word ≡ true → found ≡ alone word → StandsFor IsFolder Lists word found
@@ -27,14 +28,14 @@ pub data StandsFor {E : Type 0} (IsFolder : List ℕ → Bool → Type 0) (Lists
       (trimmed : List ℕ) → has_line_end word ≡ false → Trims IsFolder word trimmed → IsFolder trimmed true
       → IsBelow Lists trimmed found.fonts found.unsearched → StandsFor IsFolder Lists word found
 
--- What all words stand for, one after another.
+-- What all words name, one after another.
 abbrev pub all_fonts : List Found → List (List ℕ)
 all_fonts founds = flat_map (λ found. found.fonts) founds
 
 abbrev pub all_unsearched : List Found → List (List ℕ)
 all_unsearched founds = flat_map (λ found. found.unsearched) founds
 
--- The names that can stand in a line, and how many can't.
+-- The names that can be in a line, and how many can't.
 abbrev pub one_line_names : List (List ℕ) → List (List ℕ)
 one_line_names names = filter (λ name. not (has_line_end name)) names
 

@@ -1,19 +1,19 @@
--- Words that stand for a font or a folder.
+-- Words that name a font or a folder.
 use Rattle.std.specs.Prelude.{◌≡◌, ◌≢◌, ◌==◌, ℕ, Bool, true, false, List, [], ◌∷◌, ◌++◌, if◌then◌else◌}
 use Rattle.std.specs.List.{list_any}
 
--- A name with a line end can't stand in a line.
+-- A name with a line end can't be in a line.
 abbrev pub has_line_end : List ℕ → Bool
 has_line_end name = list_any (λ byte. byte == 10) name
 
--- What is after the slashes at the front of a text.
+-- What is after the leading slashes of a text.
 abbrev pub after_slashes : List ℕ → List ℕ
 after_slashes [] = []
 after_slashes (byte ∷ bytes) = if byte == 47 then after_slashes bytes else byte ∷ bytes
 
 -- A word that is shortened once, where words lead to folders as IsFolder says.
 pub data Shortens (IsFolder : List ℕ → Bool → Type 0) : List ℕ → List ℕ → Type 0 where
-  -- `./`, and slashes after it, go from the front, where something else is after them
+  -- a leading `./`, and slashes after it, go where something else is after them
   front : (rest : List ℕ) → after_slashes rest ≢ [] → Shortens IsFolder (46 ∷ 47 ∷ rest) (after_slashes rest)
   -- else `/` goes from the end, where something is before it and the word leads to a folder
   back :

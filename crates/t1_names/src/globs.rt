@@ -11,7 +11,7 @@ use std::alloc::{AllocError, Global};
 /// A piece of a glob.
 #[derive(Drop)]
 pub enum Piece {
-    /// A character that stands for itself.
+    /// A character that matches itself.
     Itself(char),
     /// `?`: one character, but no `/`.
     AnyChar,
@@ -276,7 +276,7 @@ fn read_pieces(alloc: Global, text: &[char]) -> Result<Vec<Piece>, AllocError>
     Ok(pieces)
 }
 
-/// Reads the piece at the front of a glob, and returns what is after it too.
+/// Reads the first piece of a glob, and returns what is after it too.
 fn read_front(alloc: Global, first: char, rest: &[char]) -> Result<(Piece, &[char]), AllocError>
     ensures { IfOk result (λ read. (piece_of read.0 ≡ (front first rest.now).piece) × (read.1.now ≡ (front first rest.now).rest)) }
 {
@@ -308,7 +308,7 @@ fn read_set(alloc: Global, rest: &[char]) -> Result<(Piece, &[char]), AllocError
     }
 }
 
-/// Reads a set whose members are at the front of `body`, where `rest` is what is after its `[`.
+/// Reads a set whose members begin `body`, where `rest` is what is after its `[`.
 fn read_members<'a>(
     alloc: Global,
     negated: bool,

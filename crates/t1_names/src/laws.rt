@@ -31,7 +31,8 @@ pub fn lists_are_one()
     ensures { OneList }
 {}
 
-/// The names of fonts below a folder have no `./` at their front: neither has a word that leads to a folder, nor the name of what is in one.
+/// The names of fonts below a folder have no leading `./`: neither has a word that leads to a folder, nor the name of
+/// what is in one.
 pub fn names_have_no_dot()
     ensures folders { NoDotInFolders }
     ensures paths { NoDotInPaths }

@@ -1,7 +1,8 @@
-//! The fonts that words name. A word is the name of a font, or of a folder, which stands for the fonts below it.
+//! The fonts that words name. A word is the name of a font, or of a folder, which means the fonts below it.
 //!
-//! [`fonts_named`] makes the list: each font once, in the order of the words, without those that a [`Glob`] excludes. It asks closures which
-//! words lead to folders and what is in a folder, so nothing here reads a file. [`words_in`] reads words from the text of a list.
+//! [`fonts_named`] makes the list: each font once, in the order of the words, without those that a [`Glob`] excludes.
+//! Closures say which words lead to folders and what is in a folder, so nothing here reads a file. [`words_in`] reads
+//! words from the text of a list.
 #![tactic(auto)]
 
 mod folders;

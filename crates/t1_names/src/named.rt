@@ -20,12 +20,12 @@ pub struct Named {
     pub names: Vec<String>,
     /// The folders that weren't searched whole, each once.
     pub unsearched: Vec<String>,
-    /// How many names of fonts, and of folders that weren't searched whole, have a line end and so can't stand in a line.
+    /// How many names of fonts, and of folders that weren't searched whole, have a line end and so can't be in a line.
     pub passed_over: usize,
 }
 
-/// The fonts that words name, without those that a glob excludes. Where `is_folder` says that a word leads to a folder, it stands for the
-/// fonts below it, which `list` lists.
+/// The fonts that words name, without those that a glob excludes. Where `is_folder` says that a word leads to a folder,
+/// it names the fonts below it, which `list` lists.
 pub fn fonts_named<D, L>(
     alloc: Global,
     words: &[String],
@@ -54,7 +54,7 @@ where
     })
 }
 
-/// What words stand for, one after another.
+/// What words name, one after another.
 fn search<D, L>(
     alloc: Global,
     words: &[String],
@@ -81,7 +81,7 @@ where
     Ok(Below { fonts, unsearched })
 }
 
-/// What a word stands for.
+/// What a word names.
 fn stand_for<D, L>(alloc: Global, word: &str, is_folder: &D, list: &L) -> Result<Below, AllocError>
 where
     D: Fn(&str) -> bool,
@@ -136,7 +136,7 @@ fn included(alloc: Global, names: Vec<String>, excluded: &[Glob]) -> Result<Vec<
     Ok(kept)
 }
 
-/// Leaves the names that can stand in a line, and says how many can't.
+/// Leaves the names that can be in a line, and says how many can't.
 fn keep_lines(names: &mut Vec<String>) -> usize
     ensures lines { map string_bytes names.new.items ≡ one_line_names (map string_bytes names.old.items) }
     ensures count { result ≡ line_end_count (map string_bytes names.old.items) }

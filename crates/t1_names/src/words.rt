@@ -1,11 +1,11 @@
-//! Words that stand for a font or a folder.
+//! Words that name a font or a folder.
 
 ghost use Rattle.std.specs.Prelude.{◌≡◌, ◌≢◌, ◌<◌, [], ◌∷◌, length, MatchOption};
 ghost use Rattle.std.specs.Fn.{FnReturnsAt};
 ghost use Rattle.t1_names.specs.Words.{IsShort, Shortens, Trims, after_slashes, has_line_end};
 
-/// The name that a word stands for: `./`, and slashes after it, go from its front where something else is after them; then `/` goes from its
-/// end where something is before it and `is_folder` says that the word, with the `/`, leads to a folder.
+/// The name that a word means. A leading `./`, and slashes after it, go where something else is after them. Then `/`
+/// goes from its end where something is before it and `is_folder` says that the word, with the `/`, leads to a folder.
 pub fn trim_word<'a, D>(word: &'a str, is_folder: &D) -> &'a str
 where
     D: Fn(&str) -> bool,
@@ -19,7 +19,7 @@ where
     trimmed
 }
 
-/// A word without what goes from its front or its end.
+/// A word without what goes from its beginning or its end.
 fn shortened<'a, D>(word: &'a str, is_folder: &D) -> Option<&'a str>
 where
     D: Fn(&str) -> bool,
@@ -37,7 +37,7 @@ where
     if is_folder(word) { Some(front) } else { None }
 }
 
-/// A word without `./` at its front and the slashes after it, where something else is after them.
+/// A word without its leading `./` and the slashes after it, where something else is after them.
 fn without_front(word: &str) -> Option<&str>
     ensures { MatchOption result ((rest : _) → word.now ≡ 46 ∷ 47 ∷ rest → after_slashes rest ≡ [])
         (λ next. (rest : _) × (word.now ≡ 46 ∷ 47 ∷ rest) × (next.now ≡ after_slashes rest) × (next.now ≢ [])) }
@@ -47,7 +47,7 @@ fn without_front(word: &str) -> Option<&str>
     if rest.is_empty() { None } else { Some(rest) }
 }
 
-/// What is after the slashes at the front of a text.
+/// What is after the leading slashes of a text.
 fn after_slashes(text: &str) -> &str
     ensures { result.now ≡ after_slashes text.now }
 {
@@ -58,7 +58,7 @@ fn after_slashes(text: &str) -> &str
     rest
 }
 
-/// Whether a name has a line end, and so can't stand in a line.
+/// Whether a name has a line end, and so can't be in a line.
 pub(crate) fn has_line_end(name: &str) -> bool
     ensures { result ≡ has_line_end name.now }
 {

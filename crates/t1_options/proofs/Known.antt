@@ -48,12 +48,12 @@ any_of test (first ∷ list) zero rule at passes =
 any_of test (first ∷ list) (suc place) rule at passes =
     ap (λ b. test first || b) (any_of test list place rule at passes) ∙ or_true (test first)
 
--- of the rules that one word tells
+-- of the rules that one word chooses
 one_word : (b : Bool) → ((b || false) && true) ≡ b
 one_word true = refl
 one_word false = refl
 
--- the set of the rules that one word tells has one exactly where the word is known
+-- the set of the rules that one word chooses has one exactly where the word is known
 pub known_by_mask : (mask : Mask) (code : Text) (found : Option Rule)
     → ((rule : Rule) → has mask (number_of rule) ≡ is_told (record { only = code ∷ []; except = [] }) (code_of rule))
     → MatchOption found (HasNoneAbove mask 0) (λ rule. IsLeastAbove mask 0 rule) → is_some found ≡ is_known code

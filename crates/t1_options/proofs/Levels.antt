@@ -22,7 +22,7 @@ and_true false = refl
 picks_own : (rule : Rule) → picks (code_of rule) (code_of rule) ≡ true
 picks_own rule = rw (itself (code_of rule)) refl
 
--- the codes that levels leave out pick the rules of other levels
+-- the codes that levels omit pick the rules of other levels
 pub picked_by_level : (words : List Text) (rule : Rule) → list_any (picks (code_of rule)) (left_out words) ≡ not (is_of_levels words rule)
 unfolding codes_outside
 picked_by_level words rule =
@@ -39,7 +39,7 @@ both_ways true false true = refl
 both_ways true false false = refl
 both_ways false out level = refl
 
--- a choice that leaves out codes and levels
+-- a choice that omits codes and levels
 told_by_level : (only except words : List Text) (rule : Rule)
     → is_told (record { only = only; except = except ++ left_out words }) (code_of rule)
     ≡ (is_told (record { only = only; except = except }) (code_of rule) && is_of_levels words rule)

@@ -8,7 +8,7 @@ use Rattle.t1_options.specs.Laws.{IsPart, ShardsAreParts}
 use Rattle.t1_options.specs.Values.{is_slash, number_in, part_of, shard_of}
 use Rattle.t1_options.specs.declared.asked.Shard.{Shard}
 
--- a choice that gives something
+-- a choice that has something
 chosen : {X : Type 0} (b : Bool) (o : Option X) (x : X) → (if b then o else None) ≡ Some x → o ≡ Some x
 chosen true o x is = is
 chosen false o x is = cc

@@ -15,7 +15,7 @@ pub wrong : {X : Type 0} (meaning : Text → Option X) (value : Option Text) (fo
 wrong meaning value found given missing is_given means is_missing =
     ap₂ (λ a b. a && b) is_given (not_missing (is_some found) missing is_missing ∙ ap (λ o. not (is_some o)) means)
 
--- the same, where the meaning is a text that is lent
+-- the same, where the meaning is a reference to a text
 some_lent : (found : Option (Bor Text)) → is_some (option_map (λ s. s.now) found) ≡ is_some found
 some_lent None = refl
 some_lent (Some text) = refl

@@ -48,7 +48,7 @@ are_levels words = not (is_empty words) && list_all (λ word. is_some (level_nam
 unfoldable pub is_of_levels : List Text → Rule → Bool
 is_of_levels words rule = is_empty words || list_any (λ word. bytes_eq word (level_text (level_of rule))) words
 
--- The codes of those of these rules whose levels are left out.
+-- The codes of those of these rules whose levels are omitted.
 unfoldable pub codes_outside : List Text → List Rule → List Text
 codes_outside words list = map code_of (filter (λ rule. not (is_of_levels words rule)) list)
 
@@ -57,7 +57,7 @@ left_out words = codes_outside words rules
 
 -- ---- the choice
 
--- The codes that are left out: those that `--except` names, and those of the rules whose levels `--level` doesn't name.
+-- The codes that are omitted: those that `--except` names, and those of the rules whose levels `--level` doesn't name.
 abbrev pub excepted : GivenValue → List Text
 excepted given = codes_of given.except ++ left_out (words_of given.level)
 

@@ -23,7 +23,7 @@ quiet_rule = record (new_rule (codes "quiet")) { short = Some 113; action = Some
 abbrev pub jobs_rule : Rule
 jobs_rule = record (new_rule (codes "jobs")) { short = Some 106; value_names = 1 }
 
--- --version, answered by the program itself
+-- --version, which the program itself handles
 abbrev pub version_rule : Rule
 version_rule = record (new_rule (codes "show-version")) { long = Some (codes "version"); action = Some Count }
 

@@ -1,4 +1,4 @@
--- What the words give for each option, by clap's rules.
+-- What the words say for each option, by clap's rules.
 use Rattle.std.specs.Prelude.{Bool, nat_lt, List, [], Option, map, option_map, unwrap_or, codes}
 use Rattle.clap.specs.Words.{Row, Text, all_of, count_of, first_of, matches_of}
 use Rattle.t1_options.specs.CommandLine.{t1check_all}
@@ -37,7 +37,7 @@ is_in rows id = nat_lt 0 (count_of id rows)
 abbrev pub values_in : List Row → Text → List Text
 values_in rows id = unwrap_or (all_of id rows) []
 
--- What the matches give.
+-- What the matches say.
 abbrev pub given_in : List Row → GivenValue
 given_in rows = record {
   quiet = is_in rows (codes "quiet");
@@ -65,11 +65,11 @@ given_in rows = record {
   paths = values_in rows (codes "path");
 }
 
--- What these words give.
+-- What these words say.
 abbrev pub given_by : List Text → GivenValue
 given_by words = given_in (matches_of t1check_all words)
 
--- What is behind the references of a value of the program.
+-- A value of the program, by what its references lead to.
 abbrev pub given_value : Given → GivenValue
 given_value g = record {
   quiet = g.quiet;

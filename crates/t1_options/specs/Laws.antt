@@ -51,8 +51,8 @@ are_written LeftAside = false
 are_written Written = true
 are_written Overwritten = true
 
--- Options that go together: known faults are updated of a whole list, waivers are written of a whole list without known faults, the page
--- of the rules is named in a form, and there is a path or a list of them.
+-- Options that go together: known faults are updated of a whole list; waivers are written of a whole list without known
+-- faults; the page of the rules is named in a form; there is a path or a list of them.
 pub record GoTogether (options : Options) : Type 0 where
   pub updated : is_anew options.known_faults ≡ true → options.shard ≡ None
   pub written : are_written options.waivers ≡ true → (options.known_faults ≡ Unnamed) × (options.shard ≡ None)
@@ -62,7 +62,7 @@ pub record GoTogether (options : Options) : Type 0 where
 abbrev pub MeantGoTogether : Type 0
 MeantGoTogether = (given : GivenValue) (options : Options) → AreMeant given options → GoTogether options
 
--- What two uses of an option give.
+-- What two uses of an option mean.
 abbrev pub given_twice : Text → Text → Text → GivenValue
 given_twice option first last = given_by (codes "t1check-all" ∷ (option ++ first) ∷ (option ++ last) ∷ [])
 

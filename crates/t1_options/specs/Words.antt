@@ -17,7 +17,7 @@ abbrev pub IsAsked : GivenValue → Request → Type 0
 IsAsked given Version = given.version ≡ true
 IsAsked given (Check options) = (given.version ≡ false) × AreMeant given options
 
--- clap's rules find no fault in the words, and what they give requests this.
+-- clap's rules find no fault in the words, and what they say requests this.
 pub record IsTaken (words : List Text) (request : Request) : Type 0 where
   pub sound : fault_of t1check_all words ≡ []
   pub asked : IsAsked (given_by words) request
@@ -55,7 +55,8 @@ pub record AsksNothing (given : GivenValue) (error : UsageError) : Type 0 where
   pub no_version : given.version ≡ false
   pub wrong : IsWrong given error
 
--- The words request nothing: clap finds a fault, or the request for help, which has this text; or what they give requests nothing.
+-- The words request nothing: clap finds a fault, or the request for help, which has this text; or what they say
+-- requests nothing.
 pub data IsRefused (help : Text) (words : List Text) (error : UsageError) : Type 0 where
   by_clap : AreRefused t1check_all words error → HasHelp help error → IsRefused help words error
   by_meaning : fault_of t1check_all words ≡ [] → AsksNothing (given_by words) error → IsRefused help words error

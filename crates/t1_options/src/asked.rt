@@ -25,7 +25,7 @@ pub struct Options {
     pub rules: Mask,
     /// The codes that `--only` names, in capitals: of rules or their letters.
     pub only: Vec<String>,
-    /// The codes that `--except` names, in capitals, and behind them those of the rules whose levels `--level` leaves out.
+    /// The codes that `--except` names, in capitals, and after them those of the rules whose levels `--level` omits.
     pub except: Vec<String>,
     /// The rules whose lines make the status 1.
     pub failing: Mask,

@@ -112,7 +112,7 @@ fn is_level(word: &str) -> bool
     Level::from_text(word.as_bytes()).is_some()
 }
 
-/// The codes that are left out: those that `--except` names, and those of the rules whose levels `--level` doesn't name.
+/// The codes that are omitted: those that `--except` names, and those of the rules whose levels `--level` doesn't name.
 pub(crate) fn excepted(
     alloc: Global,
     except: &[String],
@@ -125,21 +125,21 @@ pub(crate) fn excepted(
     copies(alloc, codes.as_slice())
 }
 
-/// The texts, lent.
+/// References to the texts.
 fn texts_of(alloc: Global, texts: &[String]) -> Result<Vec<&str>, AllocError>
     ensures { IfOk result (λ lent. map (λ s. s.now) lent.items ≡ map string_bytes texts.now) }
 {
     texts.iter().map(|text| text.as_str()).collect(alloc)
 }
 
-/// The codes of the rules whose levels are left out.
+/// The codes of the rules whose levels are omitted.
 fn left_out(alloc: Global, levels: &[String]) -> Result<Vec<&'static str>, AllocError>
     ensures { IfOk result (λ codes. map (λ s. s.now) codes.items ≡ left_out (map string_bytes levels.now)) }
 {
     codes_outside(alloc, all_rules(), levels)
 }
 
-/// The codes of those of these rules whose levels are left out.
+/// The codes of those of these rules whose levels are omitted.
 fn codes_outside(
     alloc: Global,
     rules: &[Rule],

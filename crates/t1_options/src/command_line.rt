@@ -157,7 +157,7 @@ fn jobs<'a>(alloc: Global) -> Arg<'a>
     Arg::new(alloc, "jobs").short('j').value_name("N")
 }
 
-/// `--version`, which the program answers. The id `version` is clap's own.
+/// `--version`, which the program itself handles. The id `version` is clap's own.
 fn version<'a>(alloc: Global) -> Arg<'a>
     ensures rule { rule_of result ≡ version_rule }
     ensures local { result.global ≡ false }

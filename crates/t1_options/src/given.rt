@@ -1,4 +1,4 @@
-//! What the words give for each option.
+//! What the words say for each option.
 
 ghost use Rattle.std.specs.Prelude.{◌≡◌, map, option_map};
 ghost use Rattle.clap.specs.Words.{first_of, found_of, rows_of};
@@ -6,7 +6,8 @@ ghost use Rattle.t1_options.specs.Given.{given_in, given_value, is_in, values_in
 
 use clap::ArgMatches;
 
-/// What the words give for each option: whether a flag was given, the last value of an option, all values of one that adds.
+/// What the words say for each option: whether a flag was given, the last value of an option, all values of one that
+/// adds.
 #[derive(Clone, Copy)]
 pub(crate) struct Given<'a> {
     pub(crate) quiet: bool,

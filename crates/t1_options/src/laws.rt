@@ -14,7 +14,7 @@ pub fn codes_choose_rules()
     ensures { CodesChooseRules }
 {}
 
-/// A rule is told where its code is chosen and its level is.
+/// A rule is reported where its code is chosen and its level is.
 #[tactic(auto, using(crate::proofs::Levels::levels_choose_rules))]
 pub fn levels_choose_rules()
     ensures { LevelsChooseRules }

@@ -5,15 +5,16 @@
 //!
 //! Promised:
 //!
-//! - words are taken exactly where clap finds no fault and nothing is wrong with what they give;
-//! - the options are those that the words mean: of an option that is given again the last value counts, and `--only`, `--except`,
-//!   `--level`, `--fail-on`, `--files-from` and `--exclude` add values ([`uses_count`]);
-//! - the options keep the codes of `--only` and `--except`, and with the latter those that `--level` leaves out; these choose the rules that are
-//!   printed ([`codes_choose_rules`]): those that codes and levels both choose ([`levels_choose_rules`]);
-//! - a word that isn't UTF-8 is told by a mark in front of it ([`is_marked`]), and is no glob;
-//! - where several things are wrong, the first in one order is reported (`checks_of`);
-//! - options go together ([`options_go_together`]), a shard is one of its parts ([`shards_are_parts`]), and `--only` and `--except` name any
-//!   rule and no refusal ([`rules_are_known`]).
+//! - Words are taken exactly where clap finds no fault and nothing is wrong with what they say.
+//! - The options are those that the words mean. Of an option that is given again the last value counts; `--only`,
+//!   `--except`, `--level`, `--fail-on`, `--files-from` and `--exclude` add values ([`uses_count`]).
+//! - The options keep the codes of `--only` and `--except`, and with the latter those that `--level` omits. These
+//!   choose the rules that are printed ([`codes_choose_rules`]): those that codes and levels both choose
+//!   ([`levels_choose_rules`]).
+//! - A word that isn't UTF-8 is known by a mark before it ([`is_marked`]), and is no glob.
+//! - Where several things are wrong, the first in one order is reported (`checks_of`).
+//! - Options go together ([`options_go_together`]), a shard is one of its parts ([`shards_are_parts`]), and `--only`
+//!   and `--except` name any rule and no refusal ([`rules_are_known`]).
 //!
 //! ```text
 //! let request = options(alloc, words)?;

@@ -1,7 +1,6 @@
--- The parts of the picture of a glyph: the glyph itself, and base and accent of its seac, each with where its origin
--- is.
--- Type 1 Font Format 1.1, chapter 6 (seac, hsbw, sbw). That a component that isn't there draws nothing, and that ASB and
--- the sidebearing have a say in where the accent is, is our choice where the standard is silent.
+-- The parts of a glyph's picture: the glyph itself, and base and accent of its seac, each with where its origin is.
+-- Type 1 Font Format 1.1, chapter 6 (seac, hsbw, sbw). That a component that isn't there draws nothing, and that ASB
+-- and the sidebearing have a say in where the accent is, is our choice where the standard is silent.
 use Rattle.std.specs.Prelude.{◌≡◌, ℕ, ◌+ℤ◌, ◌-ℤ◌, ◌<◌, if◌then◌else◌, Bool, Option, Some, None, List, [], ◌∷◌, ◌++◌, length}
 use Rattle.std.specs.List.{find}
 use Rattle.std.specs.Option.{option_map}

@@ -20,7 +20,7 @@ pub record HasRead {X : Type 0} (text_of : X → List ℕ) (is : X → Type 0) (
   pub any : (ys : List X) (tail : List ℕ) → All is ys → ends tail → text ≡ flat_map text_of ys ++ tail
       → (more : List X) × (All is more × (rest ≡ flat_map text_of more ++ tail))
 
--- the records behind the first of the rest
+-- the records after the first of the rest
 others : {X : Type 0} (text_of : X → List ℕ) (is : X → Type 0) (ends : List ℕ → Type 0) → IsUnique text_of is → IsNoEnd text_of ends
     → (rest behind tail : List ℕ) (x : X) → is x → rest ≡ text_of x ++ behind → ends tail
     → (more : List X) → All is more → rest ≡ flat_map text_of more ++ tail

@@ -22,14 +22,14 @@
 //!
 //! Names, rows and waivers are netstrings, `LENGTH:BYTES,`, so that any bytes may be in them. Names are UTF-8.
 //!
-//! The list of the fonts itself is handed over too, a line each: [`write_lines`], [`read_lines`].
+//! The list of the fonts itself is passed too, a line each: [`write_lines`], [`read_lines`].
 //!
 //! What is promised:
 //!
 //! - [`read_part`] reads the text of a part, and no other text, unless memory runs out.
 //! - [`parts_are_read_back`]: a text is that of one part at most, and the text of a part is read as this part.
 //! - [`lines_are_read_back`]: texts without line ends are read as they were written.
-//! - A text is written whole, or the device failed and a prefix of the text went out.
+//! - A text is written whole, or a write failed and a prefix of the text was written.
 //! - No memory is taken but for what is read.
 //!
 //! ```

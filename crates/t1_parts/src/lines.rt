@@ -1,4 +1,4 @@
-//! Lists of texts that the processes of a run hand over, a line each.
+//! Lists of texts that the processes of a run pass to each other, a line each.
 
 ghost use Rattle.std.specs.Prelude.{◌≡◌, map, string_bytes};
 ghost use Rattle.t1_io.specs.Devices.{Writes};

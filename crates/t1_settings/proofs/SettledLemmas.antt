@@ -1,4 +1,4 @@
--- What is told, by the text of it.
+-- What is reported, by its text.
 use Rattle.std.proofs.Common.{◌≡◌, Err, IfErr, IfOk, List, Ok, Result, String, Global, string_bytes, subst, sym, ℕ}
 use Rattle.std.specs.declared.alloc.AllocError.{AllocError}
 use Rattle.t1_settings.specs.Private.Usage.{IsUsageOf}

@@ -9,7 +9,7 @@ use Rattle.t1_settings.specs.declared.finding.Found.{Found}
 use Rattle.t1_settings.specs.declared.finding.Unfound.{Unfound}
 use Rattle.t1_settings.specs.declared.finding.Unfound.TheVariants.{CannotRead, Memory}
 
--- Files that are asked for by their names.
+-- Files, by their names.
 pub record Files : Type 1 where
   -- A file has this text.
   pub Has : List ℕ → List ℕ → Type 0
@@ -18,7 +18,7 @@ pub record Files : Type 1 where
   -- There is no such file.
   pub HasNone : List ℕ → Type 0
 
--- By what reading gives: None where there is no such file.
+-- By what reading returns: None where there is no such file.
 abbrev pub files_by : {E : Type 0} → (List ℕ → Option (Result (Vec ℕ Global) E) → Type 0) → Files
 files_by {E} Gives = record {
   Has = λ name text. (bytes : Vec ℕ Global) × Gives name (Some (Ok bytes)) × (bytes.items ≡ text);

@@ -4,7 +4,7 @@ use Rattle.std.specs.Str.{bytes_eq}
 use Rattle.t1_settings.specs.declared.keys.Key.{Key}
 use Rattle.t1_settings.specs.declared.keys.Key.TheVariants.{Baseline, Edition, Except, Exclude, FailOn, Level, Only}
 
--- A key is named as the option that it stands for.
+-- A key is named as the option that it sets.
 abbrev pub name_of : Key → List ℕ
 name_of Baseline = codes "baseline"
 name_of Edition = codes "edition"

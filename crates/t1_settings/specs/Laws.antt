@@ -7,7 +7,7 @@ use Rattle.t1_settings.specs.Words.{gives, uses, words_before}
 use Rattle.t1_settings.specs.declared.keys.Key.{Key}
 use Rattle.t1_settings.specs.declared.keys.Key.TheVariants.{Baseline}
 
--- None of the words before a command line uses an option that the command line gives.
+-- None of the words before a command line uses an option that the command line has.
 abbrev pub GivenOptionsWin : Type 0
 GivenOptionsWin =
     (folder : List ℕ) (words : List (List ℕ)) (settings : List SettingValue) (key : Key) → gives (option_of key) words ≡ true

@@ -37,7 +37,7 @@ pub data AreSettled (files : Files) (words : List (List ℕ)) (path : Option (Li
       → IsNearest files start (Some found) → settled.file ≡ Some (file_in found.0) → AreWordsOf words found settled.words
       → AreSettled files words path settled
 
--- ---- what is told
+-- ---- what is reported
 
 abbrev pub told_text : List ℕ → List ℕ → List ℕ
 told_text name rest = codes "t1check-all: " ++ (name ++ rest)
@@ -54,13 +54,13 @@ unknown_key_text name key = told_text name (codes ": unknown key " ++ (key ++ co
 abbrev pub wrong_value_text : List ℕ → Key → List ℕ
 wrong_value_text name key = told_text name (codes ": " ++ (name_of key ++ (codes " wants " ++ (wanted_of key ++ codes "\n"))))
 
--- Something is wrong with a file, by its folder and its text, and this is told.
+-- Something is wrong with a file, by its folder and its text, and this is reported.
 pub data IsWrongIn (found : List ℕ × List ℕ) (told : List ℕ) : Type 0 where
   no_toml : (line : ℕ) → IsNoToml found.1 line → told ≡ no_toml_text (file_in found.0) line → IsWrongIn found told
   unknown_key : (key : List ℕ) → HasSettings found.1 (Err (unknown key)) → told ≡ unknown_key_text (file_in found.0) key → IsWrongIn found told
   wrong_value : (key : Key) → HasSettings found.1 (Err (wrong key)) → told ≡ wrong_value_text (file_in found.0) key → IsWrongIn found told
 
--- The settings can't be read, or something is wrong with them, and this is told.
+-- The settings can't be read, or something is wrong with them, and this is reported.
 pub data AreUnsettled (files : Files) (words : List (List ℕ)) (path : Option (List ℕ)) (told : List ℕ) : Type 0 where
   unread :
       (start name : List ℕ) → gives (codes "--no-settings") words ≡ false → BeginsAt path start → IsUnread files start name
@@ -69,7 +69,7 @@ pub data AreUnsettled (files : Files) (words : List (List ℕ)) (path : Option (
       (start : List ℕ) → (found : List ℕ × List ℕ) → gives (codes "--no-settings") words ≡ false → BeginsAt path start
       → IsNearest files start (Some found) → IsWrongIn found told → AreUnsettled files words path told
 
--- A text of which this is so is told; or memory ran out.
+-- A text of which this is so is reported; or memory ran out.
 abbrev pub ToldOr : (List ℕ → Type 0) → Unsettled → Type 0
 ToldOr Is (Usage text) = Is (string_bytes text)
 ToldOr Is Memory = Unit {0}

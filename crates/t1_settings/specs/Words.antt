@@ -8,13 +8,13 @@ use Rattle.t1_settings.specs.Reading.{SettingValue}
 use Rattle.t1_settings.specs.declared.keys.Key.{Key}
 use Rattle.t1_settings.specs.declared.keys.Key.TheVariants.{Baseline, Edition, Except, Exclude, FailOn, Level, Only}
 
--- ---- what the command line gives
+-- ---- what the command line has
 
--- A word is an option, or one with its value behind `=`.
+-- A word is an option, or one with its value after `=`.
 abbrev pub uses : List ℕ → List ℕ → Bool
 uses option word = bytes_eq (before_first (λ byte. byte == 61) word) option
 
--- The words of a command line give an option: one of those before `--` does.
+-- The words of a command line have an option: one of those before `--` does.
 abbrev pub gives : List ℕ → List (List ℕ) → Bool
 gives option [] = false
 gives option (word ∷ words) = if bytes_eq word (codes "--") then false else uses option word || gives option words
@@ -28,7 +28,8 @@ is_baseline FailOn = false
 is_baseline Level = false
 is_baseline Only = false
 
--- An entry is left aside where the command line gives its option, and `baseline` where waivers are written, which has no use for it.
+-- An entry is left aside where the command line has its option, and `baseline` where waivers are written, which has no
+-- use for it.
 abbrev pub is_left_aside : List (List ℕ) → Key → Bool
 is_left_aside words key = gives (option_of key) words || (is_baseline key && gives (codes "--write-waivers") words)
 

@@ -3,7 +3,7 @@
 ghost use Rattle.std.specs.Prelude.{◌≡◌};
 ghost use Rattle.t1_settings.specs.Keys.{key_in, name_of, option_of, wanted_of};
 
-/// A key of a settings file, which stands for the option of its name.
+/// A key of a settings file, which sets the option of its name.
 #[derive(Clone, Copy, Debug, PartialEq, Eq)]
 pub enum Key {
     /// `baseline`: a file.
@@ -60,7 +60,7 @@ pub(crate) fn name_of(key: Key) -> &'static str
     }
 }
 
-/// The option that a key stands for.
+/// The option that a key sets.
 pub(crate) fn option_of(key: Key) -> &'static str
     ensures { result.now ≡ option_of key }
 {

@@ -5,11 +5,13 @@
 //!
 //! Promised:
 //!
-//! - the file is the nearest that is there ([`find_settings`]); its text is TOML as the kit's `toml` defines it ([`read_settings`]);
-//! - an entry whose option the command line gives is left aside ([`given_options_win`]), and with `--write-waivers` the entry `baseline`;
-//! - paths, and globs with a slash, are below the file's folder ([`words_before`]);
-//! - with `--no-settings` nothing is looked for;
-//! - what is wrong is told with the file's name and the line or the key.
+//! - The file is the nearest that is there ([`find_settings`]); its text is TOML as the kit's `toml` defines it
+//!   ([`read_settings`]).
+//! - An entry whose option the command line has is left aside ([`given_options_win`]), and with `--write-waivers` the
+//!   entry `baseline`.
+//! - Paths, and globs with a slash, are below the file's folder ([`words_before`]).
+//! - With `--no-settings` nothing is looked for.
+//! - What is wrong is reported with the file's name and the line or the key.
 //!
 //! ```text
 //! let settled = settled_words(alloc, words, first_path, &|name: &str| read(name))?;

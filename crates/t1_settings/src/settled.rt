@@ -117,7 +117,7 @@ fn wrong(alloc: Global, found: &Found, fault: &Fault) -> Unsettled
     }
 }
 
-/// A text that is told, if memory didn't run out.
+/// A text that is reported, if memory didn't run out.
 fn told(text: Result<String, AllocError>) -> Unsettled
     ensures { IsUsageOf text result }
 {

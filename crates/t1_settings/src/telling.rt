@@ -1,4 +1,4 @@
-//! What is told of settings that have none to give.
+//! What is reported where settings can't be used.
 
 ghost use Rattle.std.specs.Prelude.{◌≡◌, IfOk, string_bytes};
 ghost use Rattle.t1_settings.specs.Settled.{no_toml_text, told_text, unknown_key_text, unread_text, wrong_value_text};

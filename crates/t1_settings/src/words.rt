@@ -44,7 +44,7 @@ fn is_baseline(key: Key) -> bool
     }
 }
 
-/// Whether words give an option.
+/// Whether words have an option.
 pub(crate) fn gives(option: &str, words: &[&str]) -> bool
     ensures { result ≡ gives option.now (map (λ s. s.now) words.now) }
 {
@@ -59,7 +59,7 @@ pub(crate) fn gives(option: &str, words: &[&str]) -> bool
     false
 }
 
-/// Whether a word is an option, or one with its value behind `=`.
+/// Whether a word is an option, or one with its value after `=`.
 fn uses(option: &str, word: &str) -> bool
     ensures { result ≡ uses option.now word.now }
 {

@@ -138,7 +138,8 @@ module _ (rules : Mask) (font : FontValue) (waivers : List Waiver) (faults : Lis
 
 -- ---- a walk over the report
 
--- So many faults were given; of the glyphs from the mark's on those pairs are written that were written of the last one.
+-- So many faults were returned; of the glyphs from the mark's on those pairs are written that were written of the last
+-- one.
 pub record HaveWaived (rules : Mask) (font : CheckedFont) (waivers : List Waiver) (count : ℕ) (mark : Mark) (last : ℕ) (written : Mask)
     (text : List ℕ) : Type 0 where
   pub given : List FaultValue

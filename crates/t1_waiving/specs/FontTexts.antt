@@ -23,7 +23,8 @@ abbrev pub texts_of : List ℕ → List ℕ → List FontText
 texts_of name [] = []
 texts_of name (byte ∷ text) = record { name = name; text = readable (byte ∷ text) } ∷ []
 
--- What is kept by how its check ended: the waivers of the lines of its glyphs whose rules are told, nothing where there is no report.
+-- What is kept by how its check ended: the waivers of the lines of its glyphs whose rules are reported, nothing where
+-- there is no report.
 abbrev pub outcome_texts : Mask → List ℕ → Outcome → List FontText
 outcome_texts rules name (reported report) = texts_of name (report_text rules report.font report.waivers report.faults)
 outcome_texts rules name (failed reason) = []
@@ -31,6 +32,6 @@ outcome_texts rules name (failed reason) = []
 abbrev pub entry_texts : Mask → Entry → List FontText
 entry_texts rules entry = outcome_texts rules entry.name entry.outcome
 
--- Of fonts, one behind the other.
+-- Of fonts, one after the other.
 abbrev pub all_texts : Mask → List Entry → List FontText
 all_texts rules entries = flat_map (entry_texts rules) entries

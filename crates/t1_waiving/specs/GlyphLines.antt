@@ -9,11 +9,11 @@ use Rattle.t1_rules.specs.Book.{number_of}
 use Rattle.t1_rules.specs.Mask.{has}
 use Rattle.t1_rules.specs.declared.mask.Mask.{Mask}
 
--- A fault is in a glyph: neither in the font itself, unit 0, nor at a waiver, in the unit behind the last glyph's.
+-- A fault is in a glyph: neither in the font itself, unit 0, nor at a waiver, in the unit after the last glyph's.
 abbrev pub is_in_glyph : FontValue → FaultValue → Bool
 is_in_glyph font fault = not (fault.unit == 0) && not (fault.unit == length font.glyphs + 1)
 
--- The faults of these rules are told, but those in glyphs.
+-- The faults of these rules are reported, but those in glyphs.
 abbrev pub judged_outside : Mask → FontValue → FaultValue → Verdict
 judged_outside rules font fault = if has rules (number_of fault.rule) && not (is_in_glyph font fault) then Told else Left
 

@@ -13,7 +13,8 @@ use Rattle.t1_rules.specs.declared.mask.Mask.{Mask}
 use Rattle.t1_waiving.specs.GlyphLines.{is_in_glyph}
 use Rattle.t1_waiving.specs.Reports.{report_text, report_waivers}
 
--- The text of waivers that is written of a font's report is read as exactly these, if the names of its glyphs have no blank and no delimiter.
+-- The text of waivers that is written of a font's report is read as exactly these. No name of its glyphs may have a
+-- blank or a delimiter.
 abbrev pub WrittenTextsAreRead : Type 0
 WrittenTextsAreRead =
     (rules : Mask) (font : CheckedFont) (faults : List FaultValue) → HasNames font.value → IsReport font [] faults

@@ -10,7 +10,7 @@ use Rattle.t1_report.specs.Reports.{IsReport}
 use Rattle.t1_report.specs.Waivers.{Waiver}
 use Rattle.t1_rules.specs.declared.mask.Mask.{Mask}
 
--- Those of the lines of glyphs whose rules are told.
+-- Those of the lines of glyphs whose rules are reported.
 abbrev pub report_waivers : Mask → FontValue → List Waiver → List FaultValue → List Waiver
 report_waivers rules font waivers faults = waivers_of_lines (map (line_in font waivers) (told_faults rules faults))
 

@@ -16,10 +16,10 @@ pub(crate) fn is_in_glyph(font: &Font<'_>, fault: &Fault) -> bool
     fault.unit != 0 && fault.unit as usize != font.glyphs().len() + 1
 }
 
-/// The faults of these rules are told, but those in glyphs.
+/// The faults of these rules are reported, but those in glyphs.
 #[derive(Clone, Copy, Debug, PartialEq, Eq)]
 pub struct OutsideGlyphs {
-    /// Of which rules lines are told.
+    /// Of which rules lines are reported.
     pub rules: Mask,
 }
 

@@ -1,11 +1,14 @@
-//! Waivers that are written beside fonts: each line of a glyph is waived, and the lines of the font itself are told.
+//! Waivers that are written beside fonts: each line of a glyph is waived, and the lines of the font itself are
+//! reported.
 //!
-//! [`waivers_text`] writes the waivers of one font's report. [`waive_all`] checks fonts one after another by a [`Waiving`], which tells the
-//! other lines in a form and keeps the waivers of each font; [`tell_too_many`] names the fonts that have more than are read.
+//! [`waivers_text`] writes the waivers of one font's report. [`waive_all`] checks fonts one after another by a
+//! [`Waiving`], which reports the other lines in a form and keeps the waivers of each font; [`tell_too_many`] names the
+//! fonts that have more than are read.
 //!
 //! What is promised:
 //!
-//! - A font's text has a line `NAME RULE` for each glyph and each rule of those that are told, once, in the order of their first lines.
+//! - A font's text has one line `NAME RULE` for each glyph and each reported rule that it breaks, in the order of their
+//!   first lines.
 //! - [`written_texts_are_read`]: t1check reads the text as exactly these waivers.
 //! - [`written_waivers_leave_no_glyph_line`]: with them, by the same edition, no line of these rules is left in a glyph, and no waiver is
 //!   unused.

@@ -1,4 +1,4 @@
-//! Fonts of which the lines of glyphs are waived, and the others told.
+//! Fonts of which the lines of glyphs are waived, and the others reported.
 
 ghost use Rattle.std.specs.Prelude.{◌≡◌, false, map, string_bytes, Ok};
 ghost use Rattle.std.specs.Fn.{FnReturnsAt};
@@ -18,12 +18,12 @@ use t1_report::{Waivers, a_font_has_one_report, waivers_leave_out_what_they_say}
 use t1_rules::{Mask, Sidebearings};
 use t1_run::{Failure, Status};
 
-/// Tells the lines of these rules, in a form, but those of glyphs: of these it keeps the waivers.
+/// Reports the lines of these rules, in a form, but those of glyphs: of these it keeps the waivers.
 #[derive(Drop)]
 pub struct Waiving<F: Form> {
-    /// Of which rules lines are told or waived.
+    /// Of which rules lines are reported or waived.
     pub rules: Mask,
-    /// The form that takes those that are told.
+    /// The form that takes those that are reported.
     pub form: F,
     /// The waivers of the others.
     pub kept: Kept,
@@ -55,8 +55,8 @@ impl<F: Form> Recipient for Waiving<F> {
     }
 }
 
-/// Checks the fonts of these names in order, as [`check_all`] does, tells the lines of some rules but those of glyphs, why there is no report
-/// of a font, and how each font was found, and keeps the waivers of the lines of glyphs.
+/// Checks the fonts of these names in order, as [`check_all`] does. It reports the lines of some rules but those of
+/// glyphs, why there is no report of a font, and how each font was found. It keeps the waivers of the lines of glyphs.
 pub fn waive_all<R, V, O, P, F>(
     alloc: Global,
     names: &[String],

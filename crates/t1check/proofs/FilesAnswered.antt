@@ -23,7 +23,7 @@ use Rattle.t1_run.specs.declared.usage.UsageError.TheVariants.{Help, Usage, Memo
 use Rattle.t1check.specs.Laws.{AreWaiversOf, Folder, IsAnswered, IsFontOf, WordsAndFilesAreAnswered, opening_of}
 use Rattle.t1check.specs.Laws.IsAnswered.{answered, helped}
 
--- What is told of a failure ends with 3.
+-- A failure that is printed ends with 3.
 three : (text : List ℕ) (errors errors' : SinkState) (result : Status) → Tells text Failed errors errors' result → result ≡ Failed
 three text errors errors' result (told wrote is) = is
 three text errors errors' result (untold broke is) = is

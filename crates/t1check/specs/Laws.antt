@@ -13,7 +13,7 @@ use Rattle.t1_run.specs.declared.status.Status.{Status}
 use Rattle.t1_run.specs.declared.status.Status.TheVariants.{Failed}
 use Rattle.t1_run.specs.declared.usage.UsageError.TheVariants.{Help}
 
--- What names stand for: the bytes of a file, where they are known, or nothing that can be opened.
+-- What names lead to: the bytes of a file, where they are known, or nothing that can be opened.
 abbrev pub Folder : Type 0
 Folder = Text → Option (Option (List ℕ))
 
@@ -31,8 +31,8 @@ abbrev pub AreWaiversOf : Folder → Option Text → SourceState → Type 0
 AreWaiversOf waivers None source = Unit {0}
 AreWaiversOf waivers (Some name) source = waivers name ≡ Some source.left
 
--- Help was asked for, and given; or the words give options, and the one answer to them, to the bytes of the font that they
--- name and to the waivers' was given, where these bytes are known.
+-- Help was requested, and printed. Or the words yield options, and the one answer was printed: that to them, to the
+-- bytes of the font that they name and to the waivers', where these bytes are known.
 pub data IsAnswered (words : List Text) (fonts waivers : Folder) (input : SourceState) (sinks sinks' : Sinks) (result : Status) : Type 0 where
   helped :
       (text : _) → AreRefused t1check words (Help text) → Delivered sinks.out sinks'.out (string_bytes text)

@@ -16,7 +16,7 @@ use Rattle.t1_answer.specs.Waived.{asks_waivers}
 use Rattle.t1_run.specs.Failures.{out_of_memory_line, read_failed_line, write_failed_line}
 use Rattle.t1_run.specs.WaiverFiles.{IfWaived}
 
--- This answer was given, where what went out is known.
+-- This answer was printed, where what went out is known.
 pub record Gave (answer : Answer) (result : Status) (out out' errors errors' : SinkState) : Type 0 where
   pub status : result ≡ answer.status
   pub output : Appends out.written out'.written answer.output
@@ -27,20 +27,20 @@ abbrev pub IfKnown : Options → Option (List ℕ) → Option (List ℕ)
     → (Result FontValue Reason → Result (List Waiver) Reason → Type 0) → Type 0
 IfKnown options left text P = IfSome left (λ input. IfWaived (asks_waivers options) text (P (font_of input)))
 
--- The answer to files that were read so was given.
+-- The answer to files that were read so was printed.
 abbrev pub Answered : Options → Status → SinkState → SinkState → SinkState → SinkState
     → Result FontValue Reason → Result (List Waiver) Reason → Type 0
 Answered options result out out' errors errors' read waived =
     (answer : Answer) × (IsAnswerTo options read waived answer × Gave answer result out out' errors errors')
 
--- A front of the answer's text went out.
+-- A prefix of the answer's text was written.
 abbrev pub WentOut : Options → SinkState → SinkState → Result FontValue Reason
     → Result (List Waiver) Reason → Type 0
 WentOut options out out' read waived =
     (answer : Answer)
     × (IsAnswerTo options read waived answer × AppendsFront out.written out'.written answer.output)
 
--- The source of waivers is as it was, unless they are asked for and the font was read.
+-- The source of waivers is as it was, unless they are requested and the font was read.
 pub record IsSpared (options : Options) (left : Option (List ℕ)) (failed : Bool)
     (waivers waivers' : SourceState) : Type 0 where
   pub unasked : asks_waivers options ≡ false → waivers' ≡ waivers
@@ -51,7 +51,8 @@ pub record IsSpared (options : Options) (left : Option (List ℕ)) (failed : Boo
 abbrev pub ReadFailed : Bool → SourceState → Type 0
 ReadFailed failed waivers' = (failed ≡ true) ⊎ (waivers'.failed ≡ true)
 
--- Status 0, 1 or 2: the bytes and the options decide what went out and was told, and nothing waits on the output.
+-- Status 0, 1 or 2: the bytes and the options decide what was printed on the output and on standard error, and
+-- nothing waits on the output.
 pub record IsDecided (options : Options) (left : Option (List ℕ)) (waivers : SourceState)
     (out out' errors errors' : SinkState) (result : Status) : Type 0 where
   pub answer : IfKnown options left waivers.left (Answered options result out out' errors errors')
@@ -62,8 +63,8 @@ pub record IsFlushed (out out' : SinkState) : Type 0 where
   pub flushed : out'.flushed ≡ true
   pub flushes : out'.flushes ≡ one_more out.flushes
 
--- Status 3: why it is that is told, where it can be (that no glyph has the name is an answer). What went out is a
--- front of the answer's text, and nothing did where the output didn't fail.
+-- Status 3: the reason is printed, if it can be (that no glyph has the name is an answer). What was written is a
+-- prefix of the answer's text, and nothing was where the output didn't fail.
 pub record HasFailed (options : Options) (left : Option (List ℕ)) (failed : Bool)
     (waivers waivers' : SourceState) (out out' errors errors' : SinkState) (result : Status) : Type 0 where
   pub read_failed : ReadFailed failed waivers' → errors'.failed ≡ false
@@ -91,7 +92,7 @@ pub record Promises (options : Options) (left : Option (List ℕ)) (failed : Boo
   pub untouched : result ≡ Refused → out' ≡ out
   pub failure : result ≡ Failed
       → HasFailed options left failed waivers waivers' out out' errors errors' result
-  -- The waivers are read where they are asked for, once the font is read.
+  -- The waivers are read where they are requested, once the font is read.
   pub spared : IsSpared options left failed waivers waivers'
 
 -- Each way in which a run ends keeps them.

@@ -37,7 +37,7 @@ pub data Reports (options : Options) (font : FontValue) (waived : Result (List W
       → Reports options font waived out out' errors errors' result
 
 -- How reading these bytes ends: the font is shown, or there is a reason why they aren't read, and nothing
--- read, given or told.
+-- read or printed.
 abbrev pub Checks : Options → Result FontValue Unread → SourceState → SourceState → SinkState → SinkState
     → SinkState → SinkState → Result Status Unread → Type 0
 Checks options read waivers waivers' out out' errors errors' (Ok status) =

@@ -45,7 +45,7 @@ Adds line old new (Err (NoRow at)) = (at.now ≡ line) × IsNoRow line
 Adds line old new (Err (Twice at)) = (at.now ≡ line) × IsKnownKey line (rows_now old)
 Adds line old new (Err Memory) = Unit {0}
 
--- The first line of a text, and what stands behind it.
+-- The first line of a text, and what follows it.
 abbrev pub IsNextLine : List ℕ → Option (Bor (List ℕ) × Bor (List ℕ)) → Type 0
 IsNextLine text None = text ≡ []
 IsNextLine text (Some (line, rest)) = (lines_of text ≡ line.now ∷ lines_of rest.now) × (length rest.now < length text)

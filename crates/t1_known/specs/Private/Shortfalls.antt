@@ -40,7 +40,7 @@ AreIndexed texts fonts = (font : List ℕ) → AreRowsOf (first_rows texts font)
 abbrev pub IsIndexed : Text → FontRows → FontRows → Type 0
 IsIndexed text old new = (texts : List Text) → AreIndexed texts old → AreIndexed (texts ++ text ∷ []) new
 
--- How often the row of a key says, as it stands there.
+-- How often the row of a key says, as it is there.
 abbrev pub count_text : List RowValue → List ℕ → List ℕ
 count_text [] key = codes "0"
 count_text (row ∷ rows) key = if bytes_eq key (key_of row) then row.count else count_text rows key

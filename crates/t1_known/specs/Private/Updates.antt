@@ -1,4 +1,5 @@
--- The file anew, as the program writes it: of the rows of a font nothing is left behind the first place at which they were written.
+-- The new file, as the program writes it: of the rows of a font nothing is left after the first place at which they
+-- were written.
 use Rattle.std.specs.Prelude.{◌≡◌, ◌&&◌, ℕ, Bool, List, [], ◌∷◌, ◌++◌, Option, None, Some, if◌then◌else◌, is_some, option_map, Result, Ok, Err}
 use Rattle.std.specs.Borrow.{Bor}
 use Rattle.std.specs.Map.{lookup}
@@ -22,7 +23,7 @@ behind_text all done (text ∷ texts) =
     if is_among done text.font.now then behind_text all done texts
     else rows_text (first_rows all text.font.now) ++ behind_text all (text.font.now ∷ done) texts
 
--- The rows that are written in the place of these, and behind them.
+-- The rows that are written in the place of these, and after them.
 abbrev pub updated_text : Choice → List Text → List (List ℕ) → List RowValue → List ℕ
 updated_text choice all done [] = behind_text all done all
 updated_text choice all done (row ∷ rows) =
@@ -58,7 +59,7 @@ IsTaken font old new =
 
 -- ---- one row
 
--- What is written in the place of a row whose rule is told.
+-- What is written in the place of a row whose rule is reported.
 abbrev pub row_or : RowValue → Option (List ℕ) → List ℕ
 row_or row None = row_text row
 row_or row (Some rows) = rows
@@ -66,7 +67,7 @@ row_or row (Some rows) = rows
 abbrev pub row_put : Choice → LeftRows → RowValue → List ℕ
 row_put choice left row = if is_told choice (rule_of row.kind) then row_or row (left_at left row.font) else row_text row
 
--- What is left behind it.
+-- What is left after it.
 abbrev pub LeavesBy : Bool → List ℕ → LeftRows → LeftRows → Type 0
 LeavesBy told font old new = (other : List ℕ)
     → left_at new other ≡ (if told && (bytes_eq font other && is_some (left_at old font)) then Some [] else left_at old other)
@@ -81,7 +82,7 @@ pub record HavePut (all : List Text) (whole : List ℕ) (rest : List (List ℕ) 
   pub wrote : Wrote old new so_far
   pub split : so_far ++ rest done ≡ whole
 
--- All rows were put in their places, or the device failed.
+-- All rows were put in their places, or a write failed.
 abbrev pub PutsRows : {E : Type 0} → Choice → List RowValue → SinkState → SinkState → LeftRows → LeftRows → Result (Unit {0}) E → Type 0
 PutsRows choice rows old new left left' (Ok put) = (all : List Text) → IsLeft all [] left
     → HavePut all (updated_text choice all [] rows) (λ done. behind_text all done all) old new left'

@@ -17,7 +17,8 @@ use Rattle.t1_many.specs.declared.recipient.Lost.{Lost}
 abbrev pub IsFont : FontValue → Type 0
 IsFont font = (bytes : List ℕ) × (font_in bytes ≡ Ok font)
 
--- What is known of a font's text of waivers, of its file, of the bytes of the font, and of its file, one wrapped around the other.
+-- What is known of the waivers' text, of its file, of the font's bytes, and of their file, each wrapped around
+-- the one before.
 abbrev pub of_text : FontValue → List ℕ → Given
 of_text font text = record {
   Reads = λ read. read ≡ Ok font;

@@ -9,7 +9,7 @@ use Rattle.t1_report.specs.Faults.{FaultValue}
 use Rattle.t1_report.specs.Reports.{IsReport}
 use Rattle.t1_report.specs.Waivers.{Waiver}
 
--- The lines of a report that are told.
+-- The lines of a report that aren't omitted.
 abbrev pub HandsLines : {F : Type 0} → (F → F → Handed → Option Lost → Type 0) → (FaultValue → Verdict) → List ℕ → CheckedFont → List Waiver
     → F → F → Result Found Lost → Type 0
 HandsLines takes judges name font waivers old new taken =

@@ -7,11 +7,11 @@ use Rattle.t1_lines.specs.Cutting.{cut}
 use Rattle.t1_many.specs.KnownFaults.{RowValue}
 use Rattle.t1_scan.specs.Bytes.{is_decimal_digit}
 
--- What stands in front of the blank before the end of a text.
+-- What is before the blank before the end of a text.
 abbrev pub front : List ℕ → List ℕ → List ℕ
 front text end = take (length text - length end - 1) text
 
--- A kind and what stands behind it, given the word of its unit, and what stands behind the next word.
+-- A kind and what follows it, by the word of its unit and what follows the next word.
 unfoldable pub unit_cut : List ℕ → List ℕ → List ℕ → Option (List ℕ × List ℕ)
 unit_cut text unit rest =
     if bytes_eq unit (codes "font") || bytes_eq unit (codes "glyph") then Some (front text rest, rest)

@@ -28,8 +28,8 @@ moves_outside in_flex step = is_move step.token && not in_flex
 abbrev pub ends_whole : Bool → Bool → StepView → Bool
 ends_whole in_flex spoiled step = is_flex_end step && in_flex && not spoiled
 
--- By the current points before the step and after it, whether it is in flex, whether that is spoiled, its places, and
--- whether there is a subpath.
+-- By the points before and after the step, whether it is in flex, whether that is spoiled, its places, and whether
+-- there is a subpath.
 abbrev pub drawn_in : StepView → Point → Point → Bool → Bool → List Point → Bool → List Segment
 drawn_in step start end in_flex spoiled places there =
     if moves_outside in_flex step then Move end ∷ []

@@ -4,7 +4,7 @@ use Rattle.t1_settings.specs.Reading.{NoSetting, unknown, wrong}
 use Rattle.t1_settings.specs.declared.reading.Fault.{Fault}
 use Rattle.t1_settings.specs.declared.reading.Fault.TheVariants as fault
 
--- A fault tells of an entry that is no setting; or memory ran out.
+-- A fault is of an entry that is no setting; or memory ran out.
 abbrev pub Tells : (NoSetting → Type 0) → Fault → Type 0
 Tells Is (fault.NoToml line) = ⊥
 Tells Is (fault.UnknownKey name) = Is (unknown (string_bytes name))

@@ -17,7 +17,7 @@ use Rattle.t1_answer.specs.Told.{program}
 use Rattle.t1_answer.specs.declared.asked.Options.{Options}
 use Rattle.t1_answer.proofs.running.report_waived.Goals as goal
 
--- A text that isn't read as waivers, for its bytes or for want of memory.
+-- A text that isn't read as waivers, for its bytes or since memory ran out.
 unread_reports : {W : Type 0} (value : W → List Waiver) (options : Options) (font : FontValue) (waived : Option (List Waiver)) (error : WaiverError)
     (out errors errors' : SinkState) (result : Status) → IsReadAs value waived (Err error)
     → Tells (failure_line program (failure_of (of_waivers error))) (failure_status (failure_of (of_waivers error))) errors errors' result
