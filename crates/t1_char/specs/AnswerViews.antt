@@ -13,3 +13,7 @@ answer_view Limit step = limited step
 abbrev pub is_over : Answer → Bool
 is_over Ended = true
 is_over _ = false
+
+abbrev pub is_limit : Answer → Bool
+is_limit Limit = true
+is_limit _ = false

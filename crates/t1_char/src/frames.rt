@@ -37,7 +37,7 @@ use t1_font::Font;
 pub(crate) struct Frames<'a> {
     /// Behind the step's token.
     current: Cursor<'a>,
-    /// The charstrings that called, the glyph's first, each behind its callsubr.
+    /// The charstrings that called, the glyph's first, each after its callsubr.
     callers: ArrayVec<Cursor<'a>, MOST_CALLS>,
     /// The Subr that the step calls, where its token is callsubr.
     named: Option<Subr<'a>>,
@@ -47,7 +47,7 @@ pub(crate) struct Frames<'a> {
     pub(crate) step: Step,
 }
 
-/// How many steps a run has behind it, and the way of those that it passed.
+/// How many steps a run has executed, and the way of those that it passed.
 #[derive(Clone, Copy)]
 pub(crate) struct Gone {
     pub(crate) before: u32,
@@ -55,7 +55,7 @@ pub(crate) struct Gone {
 }
 
 impl<'a> Frames<'a> {
-    /// A glyph's charstring, behind a step that does nothing.
+    /// A glyph's charstring, after a step that does nothing.
     pub(crate) fn start(font: &'a Font<'a>, glyph: usize) -> Frames<'a>
         ensures ready { IsReady font.now result }
         ensures steps { steps_from font.now result ≡ step_here font.now result ∷ steps_of font.now glyph }
@@ -92,7 +92,7 @@ impl<'a> Frames<'a> {
         self.step.stack.clear();
     }
 
-    /// Executes the step, and tells whether the run goes on.
+    /// Executes the step, and returns whether the run goes on.
     #[inline(always)]
     pub(crate) fn execute(&mut self, font: &'a Font<'a>) -> bool
         requires { IsReady font.now self.old }

@@ -15,7 +15,7 @@ use crate::command::Command;
 /// What becomes of the steps that come next.
 #[derive(Clone, Copy)]
 pub enum Passing {
-    /// Each is told: the machine returns at it.
+    /// None: the machine returns at each.
     Told,
     /// The machine passes numbers that the stack has room for.
     Numbers,

@@ -10,7 +10,7 @@ ghost use Rattle.std.specs.Prelude.{false};
 ghost use Rattle.t1_char.specs.Steps.{steps_of};
 ghost use Rattle.t1_char.specs.StepValues.{step_value};
 ghost use Rattle.t1_char.specs.Turns.{counted_after, turn_at};
-ghost use Rattle.t1_char.specs.AnswerViews.{answer_view, is_over};
+ghost use Rattle.t1_char.specs.AnswerViews.{answer_view, is_limit, is_over};
 ghost use Rattle.t1_char.specs.TurnViews.{turn_value};
 
 use crate::edition::Edition;
@@ -20,7 +20,7 @@ use crate::step::Step;
 use std::marker::Model;
 use t1_font::Font;
 
-/// What a machine answers.
+/// What a machine returns.
 #[derive(Clone, Copy)]
 pub enum Turn<'m> {
     /// The next step; it is executed by the next call.
@@ -31,7 +31,7 @@ pub enum Turn<'m> {
     Limit(&'m Step),
 }
 
-/// The same without the step, which [`Machine::current`] lends.
+/// The same without the step, to which [`Machine::current`] has a reference.
 #[derive(Clone, Copy)]
 pub enum Answer {
     /// There is a next step.
@@ -50,18 +50,26 @@ impl Answer {
     {
         matches!(self, Answer::Ended)
     }
+
+    /// Whether the step is the first past the limit.
+    #[inline(always)]
+    pub fn is_limit(self) -> bool
+        ensures { result ≡ is_limit self }
+    {
+        matches!(self, Answer::Limit)
+    }
 }
 
 /// What becomes of the numbers that come next and that the stack has room for.
 #[derive(Clone, Copy)]
 pub enum Numbers {
-    /// Each is told as a step.
+    /// Each is returned as a step.
     Told,
-    /// The machine goes over them, and each counts as a step that it was asked for.
+    /// The machine passes them, and each counts as a requested step.
     Passed,
 }
 
-/// What a machine answers after it passed steps, and the way of these.
+/// What a machine returns after it passed steps, and the way of these.
 #[derive(Clone, Copy)]
 pub struct Far {
     pub answer: Answer,
@@ -162,7 +170,7 @@ impl<'a> Machine<'a> {
         self.frames.start_again(self.font, glyph);
     }
 
-    /// The next step, up to the limit of the edition; the end and the limit are told again.
+    /// The next step, up to the limit of the edition; the end and the limit are returned again.
     #[inline(always)]
     pub fn step(&mut self) -> Turn<'_>
         ensures* moves_on { sem 𝓛 (MovesOn self.entry) }
@@ -190,8 +198,8 @@ impl<'a> Machine<'a> {
         self.go_on(Numbers::Told)
     }
 
-    /// Executes the step that was told last, goes over the numbers behind it where they are to be passed, and reads
-    /// the next step, up to the limit of the edition; the end and the limit are told again.
+    /// Executes the step that was returned last, passes the numbers after it where it may, and reads the next step, up to
+    /// the limit of the edition; the end and the limit are returned again.
     #[inline(always)]
     pub fn go_on(&mut self, numbers: Numbers) -> Answer
         ensures asked { IsAsked numbers self.old self.new (answer_view result self.new.step) }
@@ -244,7 +252,7 @@ impl<'a> Machine<'a> {
         }
     }
 
-    /// The step that was told last; before the first call a step that does nothing.
+    /// The step that was returned last; before the first call a step that does nothing.
     #[inline(always)]
     pub fn current(&self) -> &Step
         ensures { step_value result.now ≡ self.now.step }
@@ -252,7 +260,7 @@ impl<'a> Machine<'a> {
         &self.frames.step
     }
 
-    /// How often it was asked for a step, up to the first end or limit; a number that was passed counts as asked for.
+    /// How many steps were requested, up to the first end or limit; a passed number counts as requested.
     pub fn counted(&self) -> u32
         ensures counted { result ≡ self.now.counted }
         ensures most { result ≤ limit_of self.now.edition + 1 }

@@ -1,5 +1,5 @@
 -- Numbers, lines and closepaths that a machine passes, while the watchers are calm, or in the midst of a path.
-use Rattle.std.proofs.Common.{◌≡◌, ℕ, ℤ, zero, suc, ◌+◌, ◌-◌, ◌<◌, ◌≤◌, inl, inr, Bool, true, false, List, [], ◌∷◌, ◌++◌, length, length-take, take, refl, sym, ap, subst, ◌∙◌, arith}
+use Rattle.std.proofs.Common.{◌≡◌, ℕ, ℤ, zero, suc, ◌+◌, ◌-◌, ◌<◌, ◌≤◌, inl, inr, Bool, true, false, List, [], ◌∷◌, ◌++◌, length, length-take, take, refl, sym, ap, subst, ◌∙◌, le-ltb, lt-ltb, nat_lt, arith}
 use Rattle.std.proofs.lemmas.Int.{ints}
 use Rattle.std.proofs.lemmas.Bool.{cases_lt}
 use Rattle.std.proofs.lemmas.Option.{slice_get_within}
@@ -17,7 +17,7 @@ use Rattle.t1_char.specs.declared.machine.Answer.TheVariants as answers
 use Rattle.t1_char.specs.declared.machine.Answer.TheVariants.{Ended, Limit}
 use Rattle.t1_char.specs.declared.step.Step.{Step}
 use Rattle.t1_char.specs.declared.token.CharToken.TheVariants.{Command}
-use Rattle.t1_char.specs.AnswerViews.{answer_view, is_over}
+use Rattle.t1_char.specs.AnswerViews.{answer_view, is_limit, is_over}
 use Rattle.t1_char.specs.Editions.{limit_of}
 use Rattle.t1_char.specs.Lines.{GoesOn, IsAskedFar, IsCommandPassed, LeadsOn, PassesStep, PassesSteps, closed, further, is_closed, is_lines, no_way, way_by}
 use Rattle.t1_char.specs.Passing.{IsPassed}
@@ -25,7 +25,7 @@ use Rattle.t1_char.specs.Steps.{StepView, steps_of}
 use Rattle.t1_char.specs.StepValues.{step_value}
 use Rattle.t1_char.specs.Turns.{MachineView, TurnValue, limited, stepped}
 use Rattle.t1_char.proofs.EditionLemmas.{limit_few}
-use Rattle.t1_char.proofs.TurnsTaken.{behind}
+use Rattle.t1_char.proofs.TurnsTaken.{behind, limited_is, stepped_is}
 use Rattle.t1_rules.specs.declared.sidebearings.Component.{Component}
 use Rattle.t1_rules.specs.declared.step_rules.flex.Point.{Point}
 use Rattle.t1_rules.specs.declared.watches.Watches.{Watches}
@@ -376,3 +376,21 @@ pub ended_far : (what : Passing) (m new : MachineView) (answer : Answer) (way : 
 ended_far what m new answer way font glyph of_font of_glyph is asked few =
     let over = told_end (behind m (m.counted + asked.taken)) font glyph of_font of_glyph (ended_view answer new.step is ∙ asked.turn) in
     record { over = over; counted_is = count_at_end (behind m (m.counted + asked.taken)) font glyph new.counted of_font of_glyph over few asked.counted }
+
+-- The answer says whether that step is past the limit.
+pub past_far : (what : Passing) (m new : MachineView) (answer : Answer) (way : Way) (step : Step) (font : CheckedFont) → executed m ≡ font
+    → is_over answer ≡ false → step_value step ≡ new.step → IsAskedFar what m new (answer_view answer new.step) way
+    → is_limit answer ≡ nat_lt (step_limit font) step.number
+past_far what m new Ended way step font of_font on here asked = let no : true ≡ false = on in cc
+past_far what m new answers.Step way step font of_font on here asked =
+    let limit = limit_of m.edition in
+    let all : List StepView = steps_of m.font m.glyph in
+    let same : limit ≡ step_limit font = ap (λ (f : CheckedFont). step_limit f) of_font in
+    let is = stepped_is limit all (m.counted + asked.taken) (step_value step) (ap stepped here ∙ asked.turn) in
+    sym (le-ltb (step_limit font) step.number (omega (arith, is.within, is.number, same, length-take limit all)))
+past_far what m new Limit way step font of_font on here asked =
+    let limit = limit_of m.edition in
+    let all : List StepView = steps_of m.font m.glyph in
+    let same : limit ≡ step_limit font = ap (λ (f : CheckedFont). step_limit f) of_font in
+    let is = limited_is limit all (m.counted + asked.taken) (step_value step) (ap limited here ∙ asked.turn) in
+    sym (lt-ltb (step_limit font) step.number (omega (arith, is.number, same)))

@@ -12,7 +12,6 @@ use Rattle.t1_char.specs.AnswerViews.{answer_view, is_over}
 use Rattle.t1_char.specs.declared.machine.Answer.{Answer}
 use Rattle.t1_char.specs.declared.machine.Answer.TheVariants as answers
 use Rattle.t1_char.specs.declared.machine.Answer.TheVariants.{Ended, Limit}
-use Rattle.t1_char.specs.declared.machine.Numbers.{Numbers}
 use Rattle.t1_char.specs.declared.step.Step.{Step}
 use Rattle.t1_char.specs.Turns.{ended}
 use Rattle.t1_char.proofs.TurnsTaken.{IsOver}

@@ -55,8 +55,8 @@ abbrev pub unit_view : CheckedFont → List Waiver → ℕ → Mark → ℕ → 
 unit_view font waivers unit mark turns =
     record { font = font; waivers = waivers; unit = unit; mark = mark; turns = turns }
 
--- The mark becomes that of the fault, and stays where there is none; the turns are those up to the fault, or of the whole
--- unit.
+-- The mark becomes that of the fault, and stays where there is none; the turns are those up to the fault, or of the
+-- whole unit.
 abbrev pub unit_walked : UnitView → Option Fault → UnitView
 unit_walked u fault =
     unit_view u.font u.waivers u.unit (mark_after u.mark fault) (turns_after_in u.font u.waivers u.unit fault)

@@ -33,9 +33,9 @@ pub fn faults_after_a_mark_are_the_rest()
     ensures { AreTheRest }
 {}
 
-/// A mark whose number n counts the report's faults up to it goes on counting: the next fault is number n + 1 of the
-/// report, and its mark is such a one too. If there is none, all were returned. The mark of four zeros is such a one.
-/// So what was returned since then is the first n faults of the report, and the others are to come.
+/// A mark numbered n is after the report's first n faults, if it is the mark of four zeros or was reached from it. The
+/// next fault is then number n + 1 of the report; if there is none, all were returned. So what was returned is a prefix
+/// of the report, and what is to come is the rest.
 pub fn marks_count_the_faults_given()
     ensures start { NoneIsGivenAtFirst }
     ensures next { MarksGoOnCounting }
@@ -72,8 +72,9 @@ pub fn passed_numbers_break_no_rule()
     ensures kept { CalmWatchersStandBehindNumbers }
 {}
 
-/// Numbers, lines, curves and closepaths that a machine passes in a path break no rule. The watchers, which don't see them,
-/// keep the same after them, but for the current point and what is drawn: these are moved on by the way of the steps.
+/// Numbers, lines, curves and closepaths that a machine passes in a path break no rule. The watchers, which don't see
+/// them, keep the same after them, but for the current point and what is drawn: these are moved on by the way of the
+/// steps.
 pub fn passed_lines_break_no_rule()
     ensures rules { PassedLinesBreakNoRule }
     ensures kept { WatchersMoveOnByLines }
@@ -95,8 +96,8 @@ pub fn no_waivers_change_nothing()
     ensures turns { NoneIsAsked }
 {}
 
-/// A text is read as a waiver exactly where it is the line of that waiver: a name without blanks and delimiters, a blank, the
-/// code of a rule that can be waived.
+/// A text is read as a waiver exactly where it is the line of that waiver: a name without blanks and delimiters, a
+/// blank, the code of a rule that can be waived.
 pub fn waiver_lines_are_waivers()
     ensures waiver { LinesAreWaivers }
     ensures lines { LinesMakeTheText }

@@ -115,7 +115,7 @@ fn add_glyph(
             step: step.number,
             path: &step.path,
         };
-        let broken = broken_at(&mut watches, sidebearings, limit, step);
+        let broken = broken_at(&mut watches, sidebearings, limit < step.number, step);
         add_faults(faults, place, waivers.left(name, broken))?;
     }
     Ok(())

@@ -1,6 +1,6 @@
 //! What a step of a glyph breaks.
 
-ghost use Rattle.std.specs.Prelude.{◌≡◌, ℕ, List, [], ◌∷◌, ◌++◌, length};
+ghost use Rattle.std.specs.Prelude.{◌≡◌, ℕ, List, [], ◌∷◌, ◌++◌, length, nat_lt};
 ghost use Rattle.t1_char.specs.Editions.{limit_of};
 ghost use Rattle.t1_char.specs.Steps.{StepView};
 ghost use Rattle.t1_char.specs.StepValues.{step_view};
@@ -13,15 +13,15 @@ use t1_char::Step;
 use t1_rules::{Mask, Rule, Sidebearings, Watch, Watches};
 
 /// The rules that the next step of a glyph breaks: the first step past the limit of the edition breaks the
-/// rule on the limit, and no other.
+/// rule on the limit, and no other. `is_past` says that it is this step.
 #[inline(always)]
 pub(crate) fn broken_at(
     watches: &mut Watches,
     sidebearings: &Sidebearings,
-    limit: u32,
+    is_past: bool,
     step: &Step,
 ) -> Mask
-    requires limit { limit ≡ limit_of sidebearings.now.edition }
+    requires past { is_past ≡ nat_lt (limit_of sidebearings.now.edition) step.now.number }
     requires next { (before : List StepView) × IsNextStep sidebearings.now.edition watches.old before step.now }
     ensures broken { (before : List StepView) → IsNextStep sidebearings.now.edition watches.old before step.now →
         (n : ℕ) → has result n
@@ -31,7 +31,7 @@ pub(crate) fn broken_at(
     ensures seen { (before : List StepView) → IsNextStep sidebearings.now.edition watches.old before step.now →
         HaveSeen sidebearings.now.edition watches.new (before ++ step_view step.now ∷ []) }
 {
-    if limit < step.number {
+    if is_past {
         return Mask::empty().with(Rule::L01, true);
     }
     let token = step.token;

@@ -22,9 +22,9 @@ use std::marker::Model;
 use t1_font::Font;
 use t1_rules::Sidebearings;
 
-/// A report that is given one fault at a time. It takes no memory and can't fail. [`Walk::turns`] counts how often it
-/// asks a machine for a step: for each glyph as often as the glyph has steps, and for each waiver of it once more, up
-/// to the first step that breaks the waiver's rule.
+/// A report, one fault at a time. It takes no memory and can't fail. [`Walk::turns`] counts the requested steps: those of
+/// each glyph up to the limit and one more for the end, and for each waiver those of its glyph once more, up to the first
+/// that breaks the waiver's rule.
 ///
 /// ```
 /// let sidebearings = Sidebearings::prepare(alloc, &font, Edition::One)?;
@@ -85,7 +85,7 @@ impl<'a> Walk<'a> {
         )
     }
 
-    /// From behind a mark on, whatever it is; the font's `Sidebearings` are asked for.
+    /// From after a mark on, whatever it is; it needs the font's `Sidebearings`.
     pub fn resume(
         font: &'a Font<'a>,
         sidebearings: &'a Sidebearings,
@@ -105,8 +105,8 @@ impl<'a> Walk<'a> {
         }
     }
 
-    /// The least fault of the report behind the mark, with the number behind the mark's; then it is the mark. It stands in
-    /// the font, as [`write_fault`](crate::write_fault) wants.
+    /// The least fault of the report after the mark, with the number after the mark's; then it is the mark. It is in the font,
+    /// as [`write_fault`](crate::write_fault) needs.
     pub fn next(&mut self) -> Option<Fault>
         ensures next { MatchOption result (HasNoneLater self.old.font self.old.waivers self.old.mark)
             (λ fault. IsNext self.old.font self.old.waivers self.old.mark (fault_value fault)) }
@@ -117,15 +117,15 @@ impl<'a> Walk<'a> {
         self.course.next()
     }
 
-    /// The mark of the fault that was given last, or the one that it began with.
+    /// The mark of the fault that was returned last, or the one that it began with.
     pub fn mark(&self) -> Mark
         ensures { result ≡ self.now.mark }
     {
         self.course.mark()
     }
 
-    /// How often it has asked a machine for a step: for each glyph, and for each waiver, once more than the limit of
-    /// steps at most. A number that a machine passes counts as a step that was asked for.
+    /// How many steps it has requested: of each glyph, and for each waiver, at most one more than the limit. A number that a
+    /// machine passes counts as a requested step.
     pub fn turns(&self) -> u64
         ensures turns { result ≡ self.now.turns }
         ensures few { result ≤ (step_limit self.now.font + 1) * (length self.now.font.value.glyphs + length self.now.waivers) }

@@ -14,14 +14,14 @@ ToldIsBroken =
 abbrev pub NoneIsAsked : Type 0
 NoneIsAsked = (font : CheckedFont) (from first to : ℕ) → turns_asked font [] from first to ≡ 0
 
--- For a rule that a glyph breaks, so many steps are requested as the first such step's number says.
+-- For a rule that a glyph breaks, the steps up to the first that breaks it are requested.
 abbrev pub AskedToTheFirst : Type 0
 AskedToTheFirst =
     (font : CheckedFont) (glyph n first : ℕ)
     → ((s : ℕ) → s < first → is_broken font (suc glyph) s n ≡ false)
     → is_broken font (suc glyph) first n ≡ true → turns_for font n (Some glyph) ≡ first
 
--- For one that it doesn't break, as many as for the glyph itself.
+-- For one that it doesn't break, all turns of the glyph.
 abbrev pub AskedToTheEnd : Type 0
 AskedToTheEnd =
     (font : CheckedFont) (glyph n : ℕ) → ((s : ℕ) → is_broken font (suc glyph) s n ≡ false)

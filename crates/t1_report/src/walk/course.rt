@@ -29,7 +29,7 @@ pub(crate) struct Course<'a> {
 }
 
 impl<'a> Course<'a> {
-    /// From behind a mark on.
+    /// From after a mark on.
     pub(crate) fn from(
         font: &'a Font<'a>,
         sidebearings: &'a Sidebearings,
@@ -66,7 +66,7 @@ impl<'a> Course<'a> {
         self.mark
     }
 
-    /// How often machines were asked.
+    /// How many steps of machines were requested.
     pub(crate) fn turns(&self) -> u64
         requires { IsCourse self.now }
         ensures turns { result ≡ turns_so_far self.now.search }
@@ -76,7 +76,7 @@ impl<'a> Course<'a> {
         self.search.turns()
     }
 
-    /// The next fault behind the mark.
+    /// The next fault after the mark.
     pub(crate) fn next(&mut self) -> Option<Fault>
         requires { IsCourse self.old }
         ensures next { MatchOption result (HasNoneLater (checked_in self.old.search) self.old.search.waivers.now self.old.mark)
@@ -101,7 +101,7 @@ impl<'a> Course<'a> {
         }
     }
 
-    /// The next fault behind the mark in the unit that is searched.
+    /// The next fault after the mark in the unit that is searched.
     pub(crate) fn next_in_unit(&mut self) -> Option<Fault>
         requires { IsUnitCourse self.old }
         ensures next { MatchOption result
@@ -129,7 +129,7 @@ impl<'a> Course<'a> {
         }
     }
 
-    /// The next fault behind the mark of those in hand; then it is the mark.
+    /// The next fault after the mark of those in hand; then it is the mark.
     fn next_in_hand(&mut self) -> Option<Fault>
         requires { IsCourse self.old }
         ensures next { MatchOption result (AreToBeFound self.new.search self.new.mark)
@@ -165,7 +165,7 @@ fn floor(mark: Mark, unit: u32, step: u32) -> u8
     }
 }
 
-/// The fault of one of the rules in hand, behind the fault of a number.
+/// The fault of one of the rules in hand, after the fault of a number.
 fn fault_in(found: &Found, rule: Rule, number: u64) -> Fault
     ensures number { result.number ≡ one_more number }
     ensures unit { result.unit ≡ found.now.unit }

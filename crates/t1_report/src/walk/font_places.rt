@@ -1,4 +1,4 @@
-//! The places of the font, asked one after another.
+//! The places of the font, looked at one after another.
 
 ghost use Rattle.std.specs.Prelude.{◌≡◌, ◌≤◌, ◌+◌, ◌*◌, MatchOption};
 ghost use Rattle.t1_char.specs.declared.edition.Edition.{Edition as Editions};
@@ -12,7 +12,7 @@ use arrayvec::ArrayVec;
 use t1_font::Font;
 use t1_rules::{INDEXES, KEYS, font_faults, places};
 
-/// The next place of the font that is to be asked.
+/// The next place of the font that is to be looked at.
 #[derive(Clone, Copy)]
 pub(crate) struct FontPlaces {
     key: u8,
@@ -42,7 +42,7 @@ impl FontPlaces {
         }
     }
 
-    /// The next place where a rule is broken; places that can have no fault aren't asked.
+    /// The next place where a rule is broken; places that can have no fault are skipped.
     pub(crate) fn next(&mut self, font: &Font<'_>) -> Option<Found>
         requires places { IsFontPlaces font.now self.old }
         ensures found { (edition : Editions) →

@@ -1,4 +1,4 @@
-//! The place where a walk stands.
+//! The place where a walk is.
 
 use t1_char::Path;
 use t1_rules::Mask;

@@ -12,7 +12,7 @@ ghost use Rattle.t1_char.specs.declared.edition.Edition.TheVariants.{Two};
 
 use crate::violations::broken_at;
 use crate::walk::found::Found;
-use t1_char::{Edition, Machine, Passing};
+use t1_char::{CharToken, Command, Drawn, Edition, Machine, Passing, Way};
 use t1_font::{Font, copy_of};
 use t1_rules::{Mask, Sidebearings, Watch, Watches};
 
@@ -50,7 +50,7 @@ impl<'a> GlyphRun<'a> {
         self.watches.start_again(edition);
     }
 
-    /// How many steps were asked for.
+    /// How many steps were requested.
     pub(crate) fn counted(&self) -> u32
         ensures counted { result ≡ self.now.machine.counted }
         ensures most { result ≤ limit_of Two + 1 }
@@ -99,15 +99,17 @@ fn next_broken(
     ensures font { executed machine.new ≡ executed machine.old }
     ensures glyph { machine.new.glyph ≡ machine.old.glyph }
 {
-    let limit = sidebearings.edition().step_limit();
-    while machine.counted() <= limit {
-        let far = machine.go_far(passing_by(watches));
+    let mut on = machine.counted() <= sidebearings.edition().step_limit();
+    let mut misses = 0;
+    while on {
+        let far = machine.go_far(passing_by(watches, misses));
         watches.go(far.way);
         if far.answer.is_over() {
             return None;
         }
         let step = machine.current();
-        let rules = broken_at(watches, sidebearings, limit, step);
+        let is_past = far.answer.is_limit();
+        let rules = broken_at(watches, sidebearings, is_past, step);
         if has_rules(rules) {
             return Some(Found {
                 unit,
@@ -116,19 +118,51 @@ fn next_broken(
                 rules,
             });
         }
+        misses = misses_after(misses, far.way, step.token);
+        on = !is_past;
     }
     None
+}
+
+/// How many steps in a row have no line before machines look for none, until one is returned. A hostile glyph has many moves
+/// or calls, and to look for a line after each costs time.
+const MOST_MISSES: u32 = 32;
+
+/// Counts the steps in a row without a line.
+#[inline(always)]
+fn misses_after(misses: u32, way: Way, token: CharToken) -> u32 {
+    if !matches!(way.drawn, Drawn::Nothing) || misses >= MOST_MISSES && is_line(token) {
+        0
+    } else {
+        misses.wrapping_add(1)
+    }
+}
+
+/// Whether a line or a curve is drawn.
+#[inline(always)]
+fn is_line(token: CharToken) -> bool {
+    matches!(
+        token,
+        CharToken::Command(
+            Command::Rlineto
+                | Command::Hlineto
+                | Command::Vlineto
+                | Command::Rrcurveto
+                | Command::Vhcurveto
+                | Command::Hvcurveto
+        )
+    )
 }
 
 /// What becomes of the steps that come next: numbers are passed, unless a rule speaks of them, and lines in the midst of a
 /// path.
 #[inline(always)]
-fn passing_by(watches: &Watches) -> Passing
+fn passing_by(watches: &Watches, misses: u32) -> Passing
     ensures { IsFit result watches.now }
 {
     if !watches.is_calm() {
         Passing::Told
-    } else if watches.is_steady() {
+    } else if misses < MOST_MISSES && watches.is_steady() {
         Passing::Lines
     } else {
         Passing::Numbers

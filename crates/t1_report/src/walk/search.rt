@@ -27,7 +27,7 @@ use t1_rules::Sidebearings;
 pub(crate) enum Part<'a> {
     Font(FontPlaces),
     Glyph(GlyphRun<'a>),
-    /// The waivers behind the glyphs, and the step of the next one.
+    /// The waivers after the glyphs, and the step of the next one.
     Waivers(u32),
     Over,
 }
@@ -42,9 +42,9 @@ pub(crate) struct Search<'a> {
     from: u32,
     first: u32,
     unit: u32,
-    /// How often machines were asked in the units before.
+    /// How many steps of machines were requested in the units before.
     passed: u64,
-    /// How often they were asked for the waivers.
+    /// How many were requested for the waivers.
     checked: u64,
     part: Part<'a>,
 }
@@ -115,7 +115,7 @@ impl<'a> Search<'a> {
         None
     }
 
-    /// How often machines were asked, in the units before and in this one.
+    /// How many steps of machines were requested, in the units before and in this one.
     pub(crate) fn turns(&self) -> u64
         requires { IsSearch self.now }
         ensures turns { result ≡ self.now.passed + turns_in self.now.part + self.now.checked }
@@ -204,7 +204,7 @@ impl<'a> Search<'a> {
     }
 }
 
-/// A glyph before its first step; behind the last glyph the waivers from a step on; then all is over.
+/// A glyph before its first step; after the last glyph the waivers from a step on; then all is over.
 fn unit_part<'a>(
     font: &'a Font<'a>,
     waivers: &Waivers<'_>,
@@ -221,7 +221,7 @@ fn unit_part<'a>(
     part
 }
 
-/// The same in the place of a part: a glyph stands where the one before it stood.
+/// The same in place: a glyph takes the place of the one before it.
 fn begin<'a>(
     part: &mut Part<'a>,
     font: &'a Font<'a>,
@@ -249,7 +249,7 @@ fn begin<'a>(
     }
 }
 
-/// What is told of a step of a glyph where rules are broken: those that aren't waived of it.
+/// The rules that are reported of a step of a glyph: those broken there and not waived.
 fn told_of(found: Found, font: &Font<'_>, waivers: &Waivers<'_>) -> Found
     requires { 1 ≤ found.unit }
     ensures unit { result.unit ≡ found.unit }

@@ -1,4 +1,5 @@
 use Rattle.std.proofs.Common.{◌<◌, [], ◌∷◌, ◌++◌, length, sym, ◌∙◌, arith}
+use Rattle.std.proofs.lemmas.Bool.{ltb-false}
 use Rattle.t1_char.specs.Editions.{limit_of}
 use Rattle.t1_char.proofs.EditionLemmas.{limit_few}
 use Rattle.t1_char.specs.StepValues.{step_view}
@@ -12,7 +13,8 @@ returns-clause-broken c = λ before next n.
     let components = c.args.sidebearings.now.components in
     let edition = c.args.sidebearings.now.edition in
     let step = step_view c.args.step.now in
-    let inside : length before < limit_of edition = omega (arith, c.if-limit-step.false, next.number, c.requires.limit) in
+    let near = ltb-false (limit_of edition) c.args.step.now.number (sym c.requires.past ∙ c.if-is_past.false) in
+    let inside : length before < limit_of edition = omega (arith, near, next.number) in
     let short : length before < most_steps = omega (arith, inside, limit_few edition) in
     both_kinds edition components n before step _ _ _ (c.join.ensures n)
     (c.see_as.ensures.answer edition before next.seen short n) (c.see_as-2.ensures before n)

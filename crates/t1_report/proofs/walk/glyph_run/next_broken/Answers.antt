@@ -1,63 +1,54 @@
-use Rattle.std.proofs.Common.{◌+◌, ◌++◌, ◌∷◌, [], take, refl, ap, sym, subst, ◌∙◌, arith}
+use Rattle.std.proofs.Common.{◌≡◌, nat_lt, ◌+◌, ◌++◌, ◌∷◌, [], take, refl, ap, sym, subst, ◌∙◌, arith}
+use Rattle.std.proofs.lemmas.Bool.{ltb-false, ltb-true, not-false, not-true}
 use Rattle.t1_char.specs.Editions.{limit_of}
 use Rattle.t1_char.specs.Steps.{steps_of}
 use Rattle.t1_char.specs.StepValues.{step_view}
 use Rattle.t1_report.proofs.GlyphSteps.{is_next_by}
 use Rattle.t1_rules.specs.Steady.{moved_on}
-use Rattle.t1_report.proofs.PassedLines.{GoneFar, ended_far, gone_far, turn_far}
+use Rattle.t1_report.proofs.PassedLines.{GoneFar, ended_far, gone_far, past_far, turn_far}
 use Rattle.t1_report.proofs.PassedNumbers.{EndsBehind, IsTurn, StandsBehind, fewer_turns_left}
 use Rattle.t1_report.proofs.RunSteps.{same_executed, found_at, quiet_limit, quiet_more, quiet_over, run_at, run_more, run_of, run_over, step_agrees, turns_at_limit}
+use Rattle.t1_report.specs.Checked.{step_limit}
 use Rattle.t1_report.specs.Private.Units.{IsQuiet, executed}
 use Rattle.t1_report.specs.Private.Reporting.{HaveSeen}
 use Rattle.t1_report.proofs.walk.glyph_run.next_broken.Goals as goal
+use Rattle.t1_report.proofs.walk.glyph_run.next_broken.Goals.{After-misses_after-misses}
 
 -- The glyph is over.
 abbrev gone : (c : goal.Then-is_over) → GoneFar (executed c.args.machine.now) c.args.machine.now.glyph c.args.unit (c.args.machine.now.counted + 1)
-    (c.loop-machine.machine.counted + c.go_far-far.ensures.asked.taken) (moved_on c.loop-machine.watches c.go_far-far.result.way)
+    (c.loop-on.machine.counted + c.go_far-far.ensures.asked.taken) (moved_on c.loop-on.watches c.go_far-far.result.way)
 gone c =
-    gone_far c.passing_by.result c.loop-machine.machine c.go_far-far.new.self _ c.go_far-far.result.way c.loop-machine.watches (executed c.args.machine.now)
+    gone_far c.passing_by.result c.loop-on.machine c.go_far-far.new.self _ c.go_far-far.result.way c.loop-on.watches (executed c.args.machine.now)
     c.args.machine.now.glyph c.args.unit (c.args.machine.now.counted + 1)
-    c.passing_by.ensures c.loop-machine.invariant.font c.loop-machine.invariant.glyph c.requires.unit c.loop-machine.invariant.run
-    c.loop-machine.invariant.quiet
-    (omega (
-      arith,
-      c.loop-machine-test.true,
-      c.counted.ensures.counted,
-      c.step_limit-limit.ensures.limit
-          ∙ ap limit_of (c.edition.ensures ∙ c.requires.edition),
-    )) c.go_far-far.ensures.asked
+    c.passing_by.ensures c.loop-on.invariant.font c.loop-on.invariant.glyph c.requires.unit c.loop-on.invariant.run
+    c.loop-on.invariant.quiet
+    (c.loop-on.invariant.near c.loop-on-test.true) c.go_far-far.ensures.asked
 
 abbrev stands : (c : goal.Then-is_over) → StandsBehind (executed c.args.machine.now) c.args.machine.now.glyph c.args.unit (c.args.machine.now.counted + 1)
-    (c.loop-machine.machine.counted + c.go_far-far.ensures.asked.taken) c.go.new.self
+    (c.loop-on.machine.counted + c.go_far-far.ensures.asked.taken) c.go.new.self
 stands c =
     subst (StandsBehind (executed c.args.machine.now) c.args.machine.now.glyph c.args.unit (c.args.machine.now.counted + 1)
-    (c.loop-machine.machine.counted + c.go_far-far.ensures.asked.taken)) (sym c.go.ensures) (gone c).stands
+    (c.loop-on.machine.counted + c.go_far-far.ensures.asked.taken)) (sym c.go.ensures) (gone c).stands
 
 abbrev ended : (c : goal.Then-is_over) → EndsBehind (executed c.args.machine.now) c.args.machine.now.glyph
-    (c.loop-machine.machine.counted + c.go_far-far.ensures.asked.taken) c.go_far-far.new.self.counted
+    (c.loop-on.machine.counted + c.go_far-far.ensures.asked.taken) c.go_far-far.new.self.counted
 ended c =
-    ended_far c.passing_by.result c.loop-machine.machine c.go_far-far.new.self c.go_far-far.result.answer c.go_far-far.result.way
-    (executed c.args.machine.now) c.args.machine.now.glyph c.loop-machine.invariant.font c.loop-machine.invariant.glyph
+    ended_far c.passing_by.result c.loop-on.machine c.go_far-far.new.self c.go_far-far.result.answer c.go_far-far.result.way
+    (executed c.args.machine.now) c.args.machine.now.glyph c.loop-on.invariant.font c.loop-on.invariant.glyph
     (sym c.is_over.ensures ∙ c.if-is_over.true) c.go_far-far.ensures.asked (stands c).run.counted_few
 
 -- The watchers can be moved on.
 pub go-requires : goal.go-requires
 go-requires c =
-    (gone_far c.passing_by.result c.loop-machine.machine c.go_far-far.new.self _ c.go_far-far.result.way c.loop-machine.watches
+    (gone_far c.passing_by.result c.loop-on.machine c.go_far-far.new.self _ c.go_far-far.result.way c.loop-on.watches
     (executed c.args.machine.now) c.args.machine.now.glyph c.args.unit (c.args.machine.now.counted + 1)
-    c.passing_by.ensures c.loop-machine.invariant.font c.loop-machine.invariant.glyph c.requires.unit c.loop-machine.invariant.run
-    c.loop-machine.invariant.quiet
-    (omega (
-      arith,
-      c.loop-machine-test.true,
-      c.counted.ensures.counted,
-      c.step_limit-limit.ensures.limit
-          ∙ ap limit_of (c.edition.ensures ∙ c.requires.edition),
-    )) c.go_far-far.ensures.asked).point
+    c.passing_by.ensures c.loop-on.invariant.font c.loop-on.invariant.glyph c.requires.unit c.loop-on.invariant.run
+    c.loop-on.invariant.quiet
+    (c.loop-on.invariant.near c.loop-on-test.true) c.go_far-far.ensures.asked).point
 
 pub returns-then-is_over-clause-found : goal.returns-then-is_over-clause-found
 returns-then-is_over-clause-found c =
-    quiet_over (executed c.args.machine.now) c.args.unit c.args.machine.now.glyph (c.args.machine.now.counted + 1) (c.loop-machine.machine.counted + c.go_far-far.ensures.asked.taken) c.requires.unit
+    quiet_over (executed c.args.machine.now) c.args.unit c.args.machine.now.glyph (c.args.machine.now.counted + 1) (c.loop-on.machine.counted + c.go_far-far.ensures.asked.taken) c.requires.unit
     (ended c).over (stands c).quiet
 
 pub returns-then-is_over-clause-counted : goal.returns-then-is_over-clause-counted
@@ -68,9 +59,9 @@ returns-then-is_over-clause-run c =
     let font = executed c.args.machine.now in
     let glyph = c.args.machine.now.glyph in
     run_of font glyph c.go_far-far.new.self c.go.new.self
-    (same_executed c.go_far-far.new.self c.loop-machine.machine c.go_far-far.ensures.font c.go_far-far.ensures.edition ∙ c.loop-machine.invariant.font)
-    (c.go_far-far.ensures.glyph ∙ c.loop-machine.invariant.glyph) c.requires.run.there
-    (run_over font glyph (c.loop-machine.machine.counted + c.go_far-far.ensures.asked.taken) c.go_far-far.new.self.counted c.go.new.self (ended c).over (ended c).counted_is (stands c).run)
+    (same_executed c.go_far-far.new.self c.loop-on.machine c.go_far-far.ensures.font c.go_far-far.ensures.edition ∙ c.loop-on.invariant.font)
+    (c.go_far-far.ensures.glyph ∙ c.loop-on.invariant.glyph) c.requires.run.there
+    (run_over font glyph (c.loop-on.machine.counted + c.go_far-far.ensures.asked.taken) c.go_far-far.new.self.counted c.go.new.self (ended c).over (ended c).counted_is (stands c).run)
 
 -- The step, and that it is the next one for the watchers.
 pub broken_at-rules-requires-clause-next : goal.broken_at-rules-requires-clause-next
@@ -78,40 +69,36 @@ broken_at-rules-requires-clause-next c =
     let font = executed c.args.machine.now in
     let all = steps_of font.value c.args.machine.now.glyph in
     let turn =
-    turn_far c.passing_by.result c.loop-machine.machine c.go_far-far.new.self c.go_far-far.result.answer c.go_far-far.result.way c.current-step.result.now
-    c.loop-machine.watches c.go.new.self
+    turn_far c.passing_by.result c.loop-on.machine c.go_far-far.new.self c.go_far-far.result.answer c.go_far-far.result.way c.current-step.result.now
+    c.loop-on.watches c.go.new.self
     (executed c.args.machine.now) c.args.machine.now.glyph c.args.unit (c.args.machine.now.counted + 1)
-    c.passing_by.ensures c.loop-machine.invariant.font c.loop-machine.invariant.glyph c.requires.unit c.loop-machine.invariant.run
-    c.loop-machine.invariant.quiet
-    (omega (
-      arith,
-      c.loop-machine-test.true,
-      c.counted.ensures.counted,
-      c.step_limit-limit.ensures.limit
-          ∙ ap limit_of (c.edition.ensures ∙ c.requires.edition),
-    ))
+    c.passing_by.ensures c.loop-on.invariant.font c.loop-on.invariant.glyph c.requires.unit c.loop-on.invariant.run
+    c.loop-on.invariant.quiet
+    (c.loop-on.invariant.near c.loop-on-test.true)
     (sym c.is_over.ensures ∙ c.if-is_over.false) c.current-step.ensures c.go_far-far.ensures.asked c.go.ensures in (
       take turn.before all,
       is_next_by c.args.sidebearings.now.edition font.edition c.requires.edition all c.go.new.self turn.before
           c.current-step.result.now turn.told.listed turn.stands.run.seen_are,
     )
 
+pub broken_at-rules-requires-clause-past : goal.broken_at-rules-requires-clause-past
+broken_at-rules-requires-clause-past c =
+    c.is_limit-is_past.ensures
+    ∙ past_far c.passing_by.result c.loop-on.machine c.go_far-far.new.self c.go_far-far.result.answer c.go_far-far.result.way c.current-step.result.now
+    (executed c.args.machine.now) c.loop-on.invariant.font (sym c.is_over.ensures ∙ c.if-is_over.false) c.current-step.ensures
+    c.go_far-far.ensures.asked
+    ∙ ap (λ e. nat_lt (limit_of e) c.current-step.result.now.number) (sym c.requires.edition)
+
 -- A rule is broken at it.
 abbrev turn_broken : (c : goal.After-copy_of) → IsTurn (executed c.args.machine.now) c.args.machine.now.glyph c.args.unit (c.args.machine.now.counted + 1)
-    c.loop-machine.machine.counted c.go_far-far.new.self.counted c.go.new.self c.current-step.result.now
+    c.loop-on.machine.counted c.go_far-far.new.self.counted c.go.new.self c.current-step.result.now
 turn_broken c =
-    turn_far c.passing_by.result c.loop-machine.machine c.go_far-far.new.self c.go_far-far.result.answer c.go_far-far.result.way c.current-step.result.now
-    c.loop-machine.watches c.go.new.self
+    turn_far c.passing_by.result c.loop-on.machine c.go_far-far.new.self c.go_far-far.result.answer c.go_far-far.result.way c.current-step.result.now
+    c.loop-on.watches c.go.new.self
     (executed c.args.machine.now) c.args.machine.now.glyph c.args.unit (c.args.machine.now.counted + 1)
-    c.passing_by.ensures c.loop-machine.invariant.font c.loop-machine.invariant.glyph c.requires.unit c.loop-machine.invariant.run
-    c.loop-machine.invariant.quiet
-    (omega (
-      arith,
-      c.loop-machine-test.true,
-      c.counted.ensures.counted,
-      c.step_limit-limit.ensures.limit
-          ∙ ap limit_of (c.edition.ensures ∙ c.requires.edition),
-    ))
+    c.passing_by.ensures c.loop-on.invariant.font c.loop-on.invariant.glyph c.requires.unit c.loop-on.invariant.run
+    c.loop-on.invariant.quiet
+    (c.loop-on.invariant.near c.loop-on-test.true)
     (sym c.is_over.ensures ∙ c.if-is_over.false) c.current-step.ensures c.go_far-far.ensures.asked c.go.ensures
 
 pub returns-then-has_rules-clause-found : goal.returns-then-has_rules-clause-found
@@ -127,7 +114,7 @@ returns-then-has_rules-clause-found c =
     turn.told.listed c.requires.sidebearings c.requires.edition
     (λ k. c.broken_at-rules.ensures.broken (take n (steps_of font.value glyph)) next k) in
     found_at font c.args.unit glyph (c.args.machine.now.counted + 1) n step _ c.requires.run.there c.requires.unit turn.told.listed
-    (omega (arith, c.loop-machine.invariant.least, turn.least)) turn.stands.quiet
+    (omega (arith, c.loop-on.invariant.least, turn.least)) turn.stands.quiet
     refl refl c.copy_of.ensures agrees
 
 pub returns-then-has_rules-clause-counted : goal.returns-then-has_rules-clause-counted
@@ -143,44 +130,40 @@ returns-then-has_rules-clause-run c =
     let next = is_next_by c.args.sidebearings.now.edition font.edition c.requires.edition (steps_of font.value glyph) c.go.new.self n step
     turn.told.listed turn.stands.run.seen_are in
     run_of font glyph c.go_far-far.new.self c.broken_at-rules.new.watches
-    (same_executed c.go_far-far.new.self c.loop-machine.machine c.go_far-far.ensures.font c.go_far-far.ensures.edition ∙ c.loop-machine.invariant.font)
-    (c.go_far-far.ensures.glyph ∙ c.loop-machine.invariant.glyph) c.requires.run.there
+    (same_executed c.go_far-far.new.self c.loop-on.machine c.go_far-far.ensures.font c.go_far-far.ensures.edition ∙ c.loop-on.invariant.font)
+    (c.go_far-far.ensures.glyph ∙ c.loop-on.invariant.glyph) c.requires.run.there
     (run_more font glyph n c.go_far-far.new.self.counted step c.broken_at-rules.new.watches turn.told
     (subst (λ e. HaveSeen e c.broken_at-rules.new.watches (take n (steps_of font.value glyph) ++ step_view step ∷ [])) c.requires.edition
     (c.broken_at-rules.ensures.seen (take n (steps_of font.value glyph)) next)))
 
 -- No rule is broken at it.
-abbrev turn_quiet : (c : goal.Else-has_rules) → IsTurn (executed c.args.machine.now) c.args.machine.now.glyph c.args.unit (c.args.machine.now.counted + 1)
-    c.loop-machine.machine.counted c.go_far-far.new.self.counted c.go.new.self c.current-step.result.now
+abbrev turn_quiet : (c : After-misses_after-misses) → IsTurn (executed c.args.machine.now) c.args.machine.now.glyph c.args.unit (c.args.machine.now.counted + 1)
+    c.loop-on.machine.counted c.go_far-far.new.self.counted c.go.new.self c.current-step.result.now
 turn_quiet c =
-    turn_far c.passing_by.result c.loop-machine.machine c.go_far-far.new.self c.go_far-far.result.answer c.go_far-far.result.way c.current-step.result.now
-    c.loop-machine.watches c.go.new.self
+    turn_far c.passing_by.result c.loop-on.machine c.go_far-far.new.self c.go_far-far.result.answer c.go_far-far.result.way c.current-step.result.now
+    c.loop-on.watches c.go.new.self
     (executed c.args.machine.now) c.args.machine.now.glyph c.args.unit (c.args.machine.now.counted + 1)
-    c.passing_by.ensures c.loop-machine.invariant.font c.loop-machine.invariant.glyph c.requires.unit c.loop-machine.invariant.run
-    c.loop-machine.invariant.quiet
-    (omega (
-      arith,
-      c.loop-machine-test.true,
-      c.counted.ensures.counted,
-      c.step_limit-limit.ensures.limit
-          ∙ ap limit_of (c.edition.ensures ∙ c.requires.edition),
-    ))
+    c.passing_by.ensures c.loop-on.invariant.font c.loop-on.invariant.glyph c.requires.unit c.loop-on.invariant.run
+    c.loop-on.invariant.quiet
+    (c.loop-on.invariant.near c.loop-on-test.true)
     (sym c.is_over.ensures ∙ c.if-is_over.false) c.current-step.ensures c.go_far-far.ensures.asked c.go.ensures
 
-pub loop-machine-smaller : goal.loop-machine-smaller
-loop-machine-smaller c =
-    fewer_turns_left (executed c.args.machine.now) c.args.machine.now.glyph c.args.unit (c.args.machine.now.counted + 1) c.loop-machine.machine.counted
-    c.go_far-far.new.self.counted c.go.new.self c.current-step.result.now (turn_quiet c)
-    (omega (
-      arith,
-      c.loop-machine-test.true,
-      c.counted.ensures.counted,
-      c.step_limit-limit.ensures.limit
-          ∙ ap limit_of (c.edition.ensures ∙ c.requires.edition),
-    ))
+-- Whether it is past the limit.
+abbrev past_is : (c : After-misses_after-misses) → c.is_limit-is_past.result ≡ nat_lt (step_limit (executed c.args.machine.now)) c.current-step.result.now.number
+past_is c =
+    c.is_limit-is_past.ensures
+    ∙ past_far c.passing_by.result c.loop-on.machine c.go_far-far.new.self c.go_far-far.result.answer c.go_far-far.result.way c.current-step.result.now
+    (executed c.args.machine.now) c.loop-on.invariant.font (sym c.is_over.ensures ∙ c.if-is_over.false) c.current-step.ensures
+    c.go_far-far.ensures.asked
 
-pub loop-machine-preserved : goal.loop-machine-preserved
-loop-machine-preserved c =
+pub loop-on-smaller : goal.loop-on-smaller
+loop-on-smaller c =
+    fewer_turns_left (executed c.args.machine.now) c.args.machine.now.glyph c.args.unit (c.args.machine.now.counted + 1) c.loop-on.machine.counted
+    c.go_far-far.new.self.counted c.go.new.self c.current-step.result.now (turn_quiet c)
+    (c.loop-on.invariant.near c.loop-on-test.true)
+
+pub loop-on-preserved : goal.loop-on-preserved
+loop-on-preserved c =
     let font = executed c.args.machine.now in
     let glyph = c.args.machine.now.glyph in
     let turn = turn_quiet c in
@@ -191,8 +174,8 @@ loop-machine-preserved c =
     let agrees = step_agrees font c.args.unit glyph n step c.args.sidebearings.now c.broken_at-rules.result c.requires.unit c.requires.run.there
     turn.told.listed c.requires.sidebearings c.requires.edition
     (λ k. c.broken_at-rules.ensures.broken (take n (steps_of font.value glyph)) next k) in
-    let of_font = same_executed c.go_far-far.new.self c.loop-machine.machine c.go_far-far.ensures.font c.go_far-far.ensures.edition ∙ c.loop-machine.invariant.font in
-    let of_glyph = c.go_far-far.ensures.glyph ∙ c.loop-machine.invariant.glyph in
+    let of_font = same_executed c.go_far-far.new.self c.loop-on.machine c.go_far-far.ensures.font c.go_far-far.ensures.edition ∙ c.loop-on.invariant.font in
+    let of_glyph = c.go_far-far.ensures.glyph ∙ c.loop-on.invariant.glyph in
     record {
       run = run_of font glyph c.go_far-far.new.self c.broken_at-rules.new.watches of_font of_glyph c.requires.run.there
           (run_more font glyph n c.go_far-far.new.self.counted step c.broken_at-rules.new.watches turn.told
@@ -203,32 +186,32 @@ loop-machine-preserved c =
       quiet = subst (λ k. IsQuiet font c.args.unit (c.args.machine.now.counted + 1) (k + 1)) (sym turn.told.counted_is)
           (quiet_more font c.args.unit (c.args.machine.now.counted + 1) n step c.broken_at-rules.result turn.told.listed.number turn.stands.quiet agrees
           (c.has_rules.ensures c.if-has_rules.false));
-      least = omega (arith, c.loop-machine.invariant.least, turn.least, turn.told.counted_is);
+      least = omega (arith, c.loop-on.invariant.least, turn.least, turn.told.counted_is);
+      near = λ on. omega (
+        arith,
+        ltb-false (step_limit font) step.number (sym (past_is c) ∙ not-true c.is_limit-is_past.result on),
+        turn.told.counted_is,
+        turn.told.listed.number,
+      );
+      past = λ off. omega (
+        arith,
+        ltb-true (step_limit font) step.number (sym (past_is c) ∙ not-false c.is_limit-is_past.result off),
+        turn.told.counted_is,
+        turn.told.listed.number,
+      );
     }
 
 pub returns-clause-found : goal.returns-clause-found
 returns-clause-found c =
     quiet_limit (executed c.args.machine.now) c.args.unit c.args.machine.now.glyph (c.args.machine.now.counted + 1)
-    c.loop-machine.machine.counted c.requires.unit
-    (omega (
-      arith,
-      c.loop-machine-test.false,
-      c.counted.ensures.counted,
-      c.step_limit-limit.ensures.limit
-          ∙ ap limit_of (c.edition.ensures ∙ c.requires.edition),
-    )) c.loop-machine.invariant.quiet
+    c.loop-on.machine.counted c.requires.unit
+    (c.loop-on.invariant.past c.loop-on-test.false) c.loop-on.invariant.quiet
 
 pub returns-clause-counted : goal.returns-clause-counted
 returns-clause-counted c =
     let font = executed c.args.machine.now in
     let glyph = c.args.machine.now.glyph in
-    turns_at_limit font glyph c.loop-machine.machine.counted
-    (omega (
-      arith,
-      c.loop-machine-test.false,
-      c.counted.ensures.counted,
-      c.step_limit-limit.ensures.limit
-          ∙ ap limit_of (c.edition.ensures ∙ c.requires.edition),
-    ))
-    (run_at font glyph c.loop-machine.machine c.loop-machine.watches c.loop-machine.invariant.font c.loop-machine.invariant.glyph
-    c.loop-machine.invariant.run).counted_few
+    turns_at_limit font glyph c.loop-on.machine.counted
+    (c.loop-on.invariant.past c.loop-on-test.false)
+    (run_at font glyph c.loop-on.machine c.loop-on.watches c.loop-on.invariant.font c.loop-on.invariant.glyph
+    c.loop-on.invariant.run).counted_few
