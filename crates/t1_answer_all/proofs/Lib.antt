@@ -1,3 +1,4 @@
+pub mod FilesAgain
 pub mod Lists
 pub mod Puts
 pub mod QuietAgain

@@ -37,7 +37,7 @@ use Rattle.t1_answer_all.specs.Laws.{AnUpdateIsQuietNextTime, AreChosenBy, IsQui
 
 -- ---- lists
 
-all-append : {X : Type 0} (P : X → Type 0) (a b : List X) → AllByRecursion P a → AllByRecursion P b → AllByRecursion P (a ++ b)
+pub all-append : {X : Type 0} (P : X → Type 0) (a b : List X) → AllByRecursion P a → AllByRecursion P b → AllByRecursion P (a ++ b)
 all-append P [] b all_a all_b = all_b
 all-append P (x ∷ a) b all_a all_b = (all_a.0, all-append P a b all_a.1 all_b)
 

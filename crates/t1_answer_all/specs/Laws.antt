@@ -1,21 +1,26 @@
 -- The statements of laws.
-use Rattle.std.specs.Prelude.{◌≡◌, ◌⊎◌, ℕ, List, [], map, Ok}
+use Rattle.std.specs.Prelude.{◌≡◌, ◌⊎◌, ◌<◌, ℕ, List, [], length, map, Option, None, Some, Ok}
 use Rattle.std.specs.List.{AllByRecursion, IsDistinct}
 use Rattle.std.specs.Str.{bytes_eq}
 use Rattle.t1_batch.specs.Checks.{all_handed}
 use Rattle.t1_batch.specs.Endings.{shortfalls_text}
 use Rattle.t1_batch.specs.Modes.{anew, beyond, judges_of, readings_of}
+use Rattle.t1_char.specs.declared.edition.Edition.{Edition}
 use Rattle.t1_known.specs.Readings.{IsReadable}
 use Rattle.t1_known.specs.Reads.{IsReadAs}
 use Rattle.t1_many.specs.Choice.{Choice, is_told}
 use Rattle.t1_many.specs.Counting.{all_lines}
+use Rattle.t1_many.specs.Files.{Files, IsFound as IsFoundBy, given_of}
 use Rattle.t1_many.specs.Handing.{found_of}
 use Rattle.t1_many.specs.KnownFaults.{RowValue, file_text, updated}
 use Rattle.t1_many.specs.Outcomes.{Entry, Outcome, failed, found_of_failure, reported}
+use Rattle.t1_names.specs.Named.{one_line_names}
+use Rattle.t1_names.specs.Once.{each_once}
 use Rattle.t1_rules.specs.Book.{code_of, number_of}
 use Rattle.t1_rules.specs.Mask.{has}
 use Rattle.t1_rules.specs.declared.mask.Mask.{Mask}
 use Rattle.t1_rules.specs.declared.rule.Rule.{Rule}
+use Rattle.t1_run.specs.declared.failure.Failure.TheVariants.{Broken, Memory, Refused}
 use Rattle.t1_summary.specs.declared.found.Found.{Found}
 use Rattle.t1_summary.specs.declared.found.Found.TheVariants.{Clean, Known}
 
@@ -46,3 +51,38 @@ AnUpdateIsQuietNextTime =
     (choice : Choice) (rules : Mask) (entries : List Entry) (text : List ℕ) (rows known : List RowValue)
     → AreChosenBy choice rules → CanBeKnown rules entries → IsReadAs text (Ok rows)
     → IsReadAs (file_text (updated choice (readings_of (anew rows) rules entries) rows)) (Ok known) → IsQuiet choice rules known entries
+
+-- ---- over files
+
+-- Files that hold these bytes by their names, and some of whose fonts have these texts of waivers. No file has the empty name.
+abbrev pub holding : (List ℕ → List ℕ) → (List ℕ → Option (List ℕ)) → Files
+holding bytes_of text_of = record {
+  Opens = λ name old new. (0 < length name) × (old.left ≡ Some (bytes_of name));
+  CannotOpen = λ name. Unit {0};
+  OpensWaivers = λ name old new. (text : List ℕ) × (text_of name ≡ Some text) × (old.left ≡ Some text);
+  CannotOpenWaivers = λ name. Unit {0};
+  HasNoWaivers = λ name. text_of name ≡ None;
+}
+
+-- A font was read or refused. Else a read or an allocation failed, and the status is 3.
+abbrev pub IsChecked : Outcome → Type 0
+IsChecked (reported report) = Unit {0}
+IsChecked (failed (Refused code)) = Unit {0}
+IsChecked (failed Broken) = ⊥
+IsChecked (failed Memory) = ⊥
+
+-- The fonts of a list were checked in such files.
+pub record AreCheckedIn (bytes_of : List ℕ → List ℕ) (text_of : List ℕ → Option (List ℕ)) (edition : Edition) (listed : List (List ℕ))
+    (entries : List Entry) : Type 0 where
+  pub named : map (λ entry. entry.name) entries ≡ one_line_names (each_once listed)
+  pub found : AllByRecursion (λ entry. IsFoundBy edition (given_of (holding bytes_of text_of) entry.name) entry.outcome) entries
+  pub checked : AllByRecursion (λ entry. IsChecked entry.outcome) entries
+
+-- Where known faults were made anew of fonts, and the file is read, another check of the same files is quiet.
+abbrev pub AnUpdateOfFilesIsQuietNextTime : Type 0
+AnUpdateOfFilesIsQuietNextTime =
+    (bytes_of : List ℕ → List ℕ) (text_of : List ℕ → Option (List ℕ)) (edition : Edition) (listed : List (List ℕ)) (entries again : List Entry)
+    (choice : Choice) (rules : Mask) (text : List ℕ) (rows known : List RowValue)
+    → AreCheckedIn bytes_of text_of edition listed entries → AreCheckedIn bytes_of text_of edition listed again
+    → AreChosenBy choice rules → IsReadAs text (Ok rows)
+    → IsReadAs (file_text (updated choice (readings_of (anew rows) rules entries) rows)) (Ok known) → IsQuiet choice rules known again

@@ -14,7 +14,8 @@
 //! - [`replace_files`]: exactly the files left to be replaced are, known faults first, then waivers by font. Existing waivers are kept unless they
 //!   are to be overwritten. If some are kept, or a file can't be replaced, that is printed, and the status is that of a failure.
 //! - [`an_update_is_quiet_next_time`]: after an update of known faults, the next check of the same fonts by the same rules hands on no line of a
-//!   report. Each font has to be checked once, and what was found has to be readable from rows.
+//!   report. Each font has to be checked once, and what was found has to be readable from rows. [`an_update_of_files_is_quiet_next_time`]: of files
+//!   that hold the same bytes both are so.
 #![tactic(auto)]
 
 mod answering;
@@ -32,7 +33,7 @@ mod words;
 pub use answering::{Answered, answer, to_replace};
 pub use checking::{check_listed, output_of};
 pub use known::{read_known, text_of_known};
-pub use laws::an_update_is_quiet_next_time;
+pub use laws::{an_update_is_quiet_next_time, an_update_of_files_is_quiet_next_time};
 pub use listing::{Fonts, Listed, list_fonts};
 pub use part::check_part;
 pub use places::{Places, System};

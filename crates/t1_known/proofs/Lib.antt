@@ -1,5 +1,6 @@
 pub mod DigitSteps
 pub mod FontIndex
+pub mod FoundKinds
 pub mod FoundRows
 pub mod KeptRows
 pub mod LeftRows

@@ -36,7 +36,7 @@ each_text p (text ∷ texts) (suc i) d all less = each_text p texts i d (and_par
 key_in_line : (key : ℕ) → key < key_count → has_no_line_end (key_text_of key) ≡ true
 key_in_line key less = each_text has_no_line_end key_texts key [] refl less
 
-kind_in_line : (rule : Rule) (place : PlaceValue) → IsPlace place rule → has_no_line_end (kind_at rule place) ≡ true
+pub kind_in_line : (rule : Rule) (place : PlaceValue) → IsPlace place rule → has_no_line_end (kind_at rule place) ≡ true
 kind_in_line rule (at_key key index) is =
     without-append (code_of rule) (codes " font " ++ (key_text_of key ++ [])) (code_in_line rule)
     (without-append (key_text_of key) [] (key_in_line key is.0) refl)

@@ -2,6 +2,8 @@
 use Rattle.std.specs.Prelude.{◌≡◌, ◌⊎◌, ◌<◌, ◌^◌, ℕ, true, List, [], length, map, Some, Result, Ok, Err}
 use Rattle.std.specs.List.{AllByRecursion, IsDistinct, flat_map}
 use Rattle.std.specs.Str.{bytes_eq}
+use Rattle.t1_char.specs.declared.edition.Edition.{Edition}
+use Rattle.t1_font.specs.Fonts.{FontValue}
 use Rattle.t1_known.specs.Keys.{key_of}
 use Rattle.t1_known.specs.Lines.{has_no_line_end}
 use Rattle.t1_known.specs.Readings.{IsReadable}
@@ -10,8 +12,16 @@ use Rattle.t1_known.specs.declared.known.NotKnown.{NotKnown}
 use Rattle.t1_known.specs.declared.known.NotKnown.TheVariants.{Memory, NoRow, Twice}
 use Rattle.t1_lines.specs.Lines.{FaultLineValue, IsFaultLine}
 use Rattle.t1_many.specs.Choice.{Choice}
+use Rattle.t1_many.specs.Groups.{told_faults}
+use Rattle.t1_many.specs.Known.{kind_in}
 use Rattle.t1_many.specs.KnownFaults.{IsRow, Reading, RowValue, beyond, file_text, kind_of, kinds_in, shortfall, updated}
 use Rattle.t1_many.specs.Laws.{AreReadings}
+use Rattle.t1_many.specs.Outcomes.{IsRead}
+use Rattle.t1_report.specs.Checked.{checked}
+use Rattle.t1_report.specs.Faults.{FaultValue}
+use Rattle.t1_report.specs.Reports.{IsReport}
+use Rattle.t1_report.specs.Waivers.{Waiver}
+use Rattle.t1_rules.specs.declared.mask.Mask.{Mask}
 
 -- The text of a row is one line.
 pub record IsInOneLine (row : RowValue) : Type 0 where
@@ -71,3 +81,10 @@ abbrev pub LinesAreReadable : Type 0
 LinesAreReadable =
     (font : List ℕ) (lines : List FaultLineValue) → AllByRecursion IsFaultLine lines → length lines < 2 ^ 64 → 0 < length font
     → has_no_line_end font ≡ true → IsReadable (record { font = font; kinds = map kind_of lines })
+
+-- What the report of a font that was read says can be read of its rows, where its name can stand in a row.
+abbrev pub ReportsAreReadable : Type 0
+ReportsAreReadable =
+    (name : List ℕ) (font : FontValue) (waivers : List Waiver) (faults : List FaultValue) (edition : Edition) (rules : Mask)
+    → IsRead font waivers → IsReport (checked font edition) waivers faults → 0 < length name → has_no_line_end name ≡ true
+    → IsReadable (record { font = name; kinds = map (kind_in font waivers) (told_faults rules faults) })

@@ -59,8 +59,8 @@ impl<'a> Model for KnownFaults<'a> {
 }
 
 impl<'a> KnownFaults<'a> {
-    /// Reads the known faults of a text, a row a line, as in `3 H02 glyph A fonts/a.pfb`. Lines that begin with `#` are skipped. An error names
-    /// the first line that is no row, or whose kind and font are those of an earlier row.
+    /// Reads the known faults of a text, a row a line, as in `3 H02 glyph A fonts/a.pfb`. Lines that begin with `#` are
+    /// skipped. An error names the first line that is no row, or whose kind and font are those of an earlier row.
     pub fn read(alloc: Global, text: &'a [u8]) -> Result<KnownFaults<'a>, NotKnown<'a>>
         ensures { IsReadAs text.now result }
     {

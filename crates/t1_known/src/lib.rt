@@ -26,7 +26,8 @@ mod updating;
 
 pub use known::{KnownFaults, NotKnown};
 pub use laws::{
-    a_text_is_read_one_way, lines_are_readable, rows_are_read_back, updates_are_read_back,
+    a_text_is_read_one_way, lines_are_readable, reports_are_readable, rows_are_read_back,
+    updates_are_read_back,
 };
 pub use readings::Reading;
 pub use shortfalls::write_shortfalls;

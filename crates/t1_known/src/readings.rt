@@ -21,7 +21,8 @@ pub struct Reading<'a> {
 /// What was found in fonts, by their names.
 pub(crate) type Found<'a> = IndexMap<&'a [u8], KnownFaults<'a>>;
 
-/// Indexes what was found in fonts; of fonts of one name the first is taken. An error may also say that rows of a font can't be read.
+/// Indexes what was found in fonts; of fonts of one name the first is taken. An error may also say that rows of a font
+/// can't be read.
 pub(crate) fn found<'a>(alloc: Global, readings: &[Reading<'a>]) -> Result<Found<'a>, AllocError>
     ensures { IfOk result (λ fonts. AreIndexed readings.now fonts.entries) }
 {

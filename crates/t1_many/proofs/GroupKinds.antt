@@ -229,7 +229,7 @@ clear_named (Ok joined) font is =
     section_named (marks_in joined) joined.bytes (clear_of (marks_in joined) joined.bytes) refl font is
 clear_named (Err e) font is = cc
 
-font_named : (bytes : List ℕ) (font : FontValue) → font_in bytes ≡ Ok font → HasNames font
+pub font_named : (bytes : List ℕ) (font : FontValue) → font_in bytes ≡ Ok font → HasNames font
 unfolding font_in
 font_named bytes font is = clear_named (joined_of bytes) font is
 

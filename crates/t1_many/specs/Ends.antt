@@ -29,8 +29,8 @@ AreTaken {R} takes old new (entry ∷ entries) founds =
 abbrev pub status_of_all : List Found → Status
 status_of_all founds = worst_of (map status_of_found founds)
 
--- All fonts were checked, and how each check ended was taken in order; the status is the greatest of theirs. Or it stopped at one of
--- them. A font that can't be read stops nothing.
+-- All fonts were checked, and how each check ended was taken in order; the status is the greatest of theirs. Or it
+-- stopped at one of them. A font that can't be read stops nothing.
 pub data Ends {R : Type 0} (takes : R → R → Entry → Result Found Lost → Type 0) (files : Files) (edition : Edition) (names : List (List ℕ))
     (old new : R) (result : Result Status Lost) : Type 0 where
   all :

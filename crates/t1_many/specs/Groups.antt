@@ -1,4 +1,5 @@
--- Groups of a font's faults: those of one rule in one unit, in the font itself at one key, of the waivers at one waiver. A group has a number.
+-- Groups of a font's faults: those of one rule in one unit, in the font itself at one key, of the waivers at one
+-- waiver. A group has a number.
 use Rattle.std.specs.Prelude.{◌≡◌, ℕ, ◌+◌, ◌*◌, ◌/◌, ◌==◌, ◌≤◌, nat_eq, Bool, not, List, [], ◌∷◌, filter, length, map, if◌then◌else◌}
 use Rattle.std.specs.List.{AllByRecursion, count_by, list_any}
 use Rattle.t1_font.specs.Fonts.{FontValue}

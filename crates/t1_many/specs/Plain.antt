@@ -82,7 +82,7 @@ PlainTakes old new (line name font waivers fault) lost =
 PlainTakes old new (failure name reason) lost = PutsFailure old new name reason lost
 PlainTakes old new (done name found) lost = IsFlushed old.out new.out lost × (new.errors ≡ old.errors)
 
--- All of these was printed; or a write failed, and a prefix of it was.
+-- All of these were printed; or a write failed, and a prefix of them was.
 abbrev pub IsWritten : Devices → Devices → List Handed → Option Lost → Type 0
 IsWritten old new handed None =
     Appends old.out.written new.out.written (texts handed) × Appends old.errors.written new.errors.written (tellings handed)

@@ -16,9 +16,9 @@ use t1_char::Edition;
 use t1_io::{In, Source};
 use t1_run::{Failure, Status};
 
-/// Checks the fonts of these names in order, whose files `open_font` opens, with the waivers that `open_waivers` opens, where a font has
-/// some. The recipient takes how each check ended. A font that can't be read stops no other one. The status is the greatest of
-/// the fonts'.
+/// Checks the fonts of these names in order, whose files `open_font` opens, with the waivers that `open_waivers` opens,
+/// where a font has some. The recipient takes how each check ended. A font that can't be read stops no other one. The
+/// status is the greatest of the fonts'.
 pub fn check_all<R, V, O, P, T>(
     alloc: Global,
     names: &[String],

@@ -19,8 +19,8 @@ use t1_report::{
 };
 use t1_rules::{INDEXES, Mask, Sidebearings};
 
-/// How often faults of a group were found, by the group's number, in the order of their first faults: faults of one rule in one glyph, at one
-/// key of the font or at one waiver are a group.
+/// How often faults of a group were found, by the group's number, in the order of their first faults: faults of one
+/// rule in one glyph, at one key of the font or at one waiver are a group.
 pub type Counts = IndexMap<u64, u64>;
 
 /// The number of a fault's group.

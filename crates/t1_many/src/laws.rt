@@ -9,8 +9,8 @@ pub fn codes_pick_their_rules()
     ensures letters { LettersPickTheirRules }
 {}
 
-/// A row of known faults has one reading: its text is that of no other row. The kind of a line's fault is one that a row can have, and
-/// begins with the code of the rule.
+/// A row of known faults has one reading: its text is that of no other row. The kind of a line's fault is one that a
+/// row can have, and begins with the code of the rule.
 pub fn a_text_is_one_row()
     ensures kinds { LinesHaveKinds }
     ensures codes { KindsNameTheirRules }
@@ -25,8 +25,8 @@ pub fn plain_lines_are_written()
     ensures flushed { PlainIsFlushed }
 {}
 
-/// Two faults of a font's report are of one group exactly where rows of known faults name one kind. So groups are found as often as their
-/// kinds, and their rows are those of the kinds.
+/// Two faults of a font's report are of one group exactly where rows of known faults name one kind. So groups are found
+/// as often as their kinds, and their rows are those of the kinds.
 #[tactic(auto, using(crate::proofs::GroupKinds::groups_are_kinds, crate::proofs::KindRows::groups_count_kinds, crate::proofs::KindRows::rows_are_kind_rows))]
 pub fn groups_are_kinds()
     ensures groups { GroupsAreKinds }
@@ -40,8 +40,8 @@ pub fn parts_are_the_whole()
     ensures { PartsAreTheWhole }
 {}
 
-/// What is handed on of parts, joined, is what is handed on of the whole, and so are its bytes; the greatest status of the parts is the
-/// whole's.
+/// What is handed on of parts, joined, is what is handed on of the whole, and so are its bytes; the greatest status of
+/// the parts is the whole's.
 #[tactic(auto, using(crate::proofs::JoinedParts::handed, crate::proofs::JoinedParts::status))]
 pub fn parts_are_told_as_the_whole()
     ensures handed { PartsAreHandedOn }

@@ -16,7 +16,8 @@ use t1_report::Waivers;
 use t1_rules::Sidebearings;
 use t1_run::{Failure, read_font_file, read_waivers};
 
-/// Reads a font to its end, and then its waivers where it has some, and hands its report on. Where there is no report, nothing is done.
+/// Reads a font to its end, and then its waivers where it has some, and hands its report on. Where there is no report,
+/// nothing is done.
 pub(crate) fn check_opened<R: Source, V: Source, T: Recipient>(
     alloc: Global,
     name: &str,

@@ -1,4 +1,4 @@
-//! Fonts of whose reports the lines of some rules are reported.
+//! Reports the lines of some rules of many fonts.
 
 ghost use Rattle.std.specs.Prelude.{◌≡◌, false, map, string_bytes, Ok};
 ghost use Rattle.std.specs.Fn.{FnReturnsAt};

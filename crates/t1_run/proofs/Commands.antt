@@ -43,7 +43,7 @@ ours app mine c e =
       negates = ap (λ (a : App). a.top.subcommand_negates_reqs) e ∙ mine.negates;
     }
 
--- texts that the test tells apart are not equal
+-- texts that the test distinguishes are not equal
 differ : (x y : Text) → not (bytes_eq x y) ≡ true → x ≡ y → ⊥
 differ x y e same =
     let equal : bytes_eq x y ≡ true = (bytes_eq-Decides x y).1 same in

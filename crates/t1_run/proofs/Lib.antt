@@ -1,4 +1,5 @@
 pub mod Commands
+pub mod FewRead
 pub mod FilesRead
 pub mod InputLemmas
 pub mod RefusalLaws

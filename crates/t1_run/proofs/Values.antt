@@ -74,7 +74,8 @@ passes_at c f id text values named groups first =
     let got = entry_by_id (EntryPasses c) f.entries.items id w.0 values w.1 in
     entry_passes c id text named groups got.0 got.3 ((bytes_eq-Decides got.0.0.now id).0 got.2) (ap first_text got.1 ∙ w.2)
 
--- where nothing excludes anything, the first value of an argument of the caller's, which alone has its id, passed its parser
+-- where nothing excludes anything, the first value of an argument of the caller's, which alone has its id, passed its
+-- parser
 pub first_value-passes : (old : Command) (m : ArgMatches) (p : IsParsedFrom old m) → IsPlain old → (out-Command old).has_globals ≡ false
     → (k : ℕ) (d : Arg) → k < length (args_of old)
     → ((j : ℕ) (e : Arg) → j < length (args_of old)

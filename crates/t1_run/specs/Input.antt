@@ -17,7 +17,8 @@ pub record ReadsAtMost (most : ℕ) (old new : SourceState) : Type 0 where
   pub taken : TakesAtMost most old.left new.left
   pub stops : old.failed ≡ false → new.late_takes ≡ old.late_takes
 
--- Where reading a source stops: at its end, past so many bytes, at a failed read, or where memory ran out, of which this is said.
+-- Where reading a source stops: at its end, past so many bytes, at a failed read, or where memory ran out, of which
+-- this is said.
 pub data StopsAt (most : ℕ) (old new : SourceState) (NoMemory : Type 0) : Type 0 where
   the_end : IsAtEnd new.left → StopsAt most old new NoMemory
   past_limit : (bytes : List ℕ) → Consumes old.left new.left bytes → most < length bytes → StopsAt most old new NoMemory

@@ -3,8 +3,8 @@ use Rattle.std.specs.Prelude.{ℕ, List, Option, None}
 use Rattle.clap.specs.Words.{Text}
 use Rattle.t1_io.specs.Devices.{SinkState, SourceState}
 
--- A way to open files by their names: one of the name is opened and these bytes are left in it, where they are known, or it
--- can't be opened.
+-- A way to open files by their names: one of the name is opened and these bytes are left in it, where they are known,
+-- or it can't be opened.
 pub record Opening : Type 1 where
   pub Opens : Text → Option (List ℕ) → Type 0
   pub CannotOpen : Text → Type 0

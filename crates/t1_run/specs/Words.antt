@@ -24,8 +24,8 @@ abbrev pub are_distinct : List Rule → Bool
 are_distinct [] = true
 are_distinct (r ∷ rs) = list_all (λ s. not (bytes_eq s.id r.id)) rs && are_distinct rs
 
--- A program without subcommands, groups and global arguments, whose arguments exclude nothing and have ids of their own. Each
--- field is a test that is made once a program.
+-- A program without subcommands, groups and global arguments, whose arguments exclude nothing and have ids of their
+-- own. Each field is a test that is made once a program.
 pub record IsPlainApp (app : App) : Type 0 where
   pub own : list_all is_own app.top.rules ≡ true
   pub distinct : are_distinct app.top.rules ≡ true

@@ -1,4 +1,5 @@
-//! Laws above the definitions: each is the contract of a function that does nothing, but for calling the law on which it rests.
+//! Laws above the definitions: each is the contract of a function that does nothing, but for calling the law on which
+//! it rests.
 
 ghost use Rattle.t1_run.specs.Laws.{NeverForMemory, RefusedByPart};
 

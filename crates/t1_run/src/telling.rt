@@ -71,7 +71,7 @@ fn tell_of<E: Sink>(program: &str, what: &[u8], errors: &mut E) -> Status
     tell_parts(errors, &[program.as_bytes(), what], Status::Failed)
 }
 
-/// Prints a text on the output and flushes it. If that fails, this is printed on standard error.
+/// Prints a text on the output and flushes it. If that fails, it is reported on standard error.
 pub fn give<W: Sink, E: Sink>(program: &str, text: &[u8], out: &mut W, errors: &mut E) -> Status
     ensures { Gives program.now text.now Status.Clean (W.state out.old) (W.state out.new) (E.state errors.old)
         (E.state errors.new) result }

@@ -1,0 +1,273 @@
+-- Two checks of the same files find the same, and what they find can become known.
+use Rattle.std.proofs.Common.{◌≡◌, ◌<◌, ◌==◌, ℕ, Bool, true, false, not, cond, nat_lt, List, [], ◌∷◌, ◌++◌, length, map, Option, None, Some, Result, Ok, Err, IfOk, inl, inr, refl, sym, ap, ap₂, subst, ◌∙◌, arith}
+use Rattle.std.proofs.lemmas.Bool.{cases_Bool}
+use Rattle.std.specs.List.{AllByRecursion, IsDistinct, filter, flat_map}
+use Rattle.std.specs.Str.{bytes_eq}
+use Rattle.t1_batch.specs.Modes.{entry_readings, outcome_readings}
+use Rattle.t1_char.specs.declared.edition.Edition.{Edition}
+use Rattle.t1_font.proofs.LimitsKept.{fonts_within_limits}
+use Rattle.t1_font.specs.FontFiles.{font_in}
+use Rattle.t1_font.specs.Fonts.{FontValue}
+use Rattle.t1_font.specs.declared.unread.Unread.{Unread}
+use Rattle.t1_known.proofs.FoundKinds.{reports_are_readable}
+use Rattle.t1_known.specs.Laws.{UpdatesAreReached}
+use Rattle.t1_known.specs.Lines.{has_no_line_end}
+use Rattle.t1_known.specs.Readings.{IsReadable}
+use Rattle.t1_lines.specs.declared.refusal.Reason.{Reason}
+use Rattle.t1_many.specs.Files.{IsFound, given_of}
+use Rattle.t1_many.specs.Files.IsFound.{breaks, breaks_waivers, no_memory, refused, reports, waivers_refused}
+use Rattle.t1_many.specs.Laws.{KindsNameTheirRules}
+use Rattle.t1_many.specs.Outcomes.{Entry, IsRead, Outcome, Report, failed, reported}
+use Rattle.t1_names.proofs.OnceLaws.{none_is_twice}
+use Rattle.t1_names.specs.Named.{one_line_names}
+use Rattle.t1_names.specs.Once.{each_once}
+use Rattle.t1_names.specs.Words.{has_line_end}
+use Rattle.t1_report.proofs.OneReport.{no_other_report}
+use Rattle.t1_report.specs.Checked.{checked}
+use Rattle.t1_report.specs.Faults.{FaultValue}
+use Rattle.t1_report.specs.Reports.{IsReport}
+use Rattle.t1_report.specs.Waivers.{Waiver, lines_from, lines_read, waivers_of}
+use Rattle.t1_rules.specs.declared.mask.Mask.{Mask}
+use Rattle.t1_run.proofs.FewRead.{AreFew, HasFew, of_file, of_text}
+use Rattle.t1_run.specs.Failures.{failure_of}
+use Rattle.t1_run.specs.FontFiles.{font_of, with_reason}
+use Rattle.t1_run.specs.WaiverFiles.{as_waivers, waivers_in}
+use Rattle.t1_answer_all.proofs.QuietAgain.{all-append, quiet_again}
+use Rattle.t1_answer_all.specs.Laws.{AnUpdateOfFilesIsQuietNextTime, AreCheckedIn, CanBeKnown, IsChecked, IsQuiet, holding}
+
+-- The waivers of a font that has this text of them, if it has one.
+abbrev waived_by : Option (List ℕ) → Result (List Waiver) Reason
+waived_by None = Ok []
+waived_by (Some text) = waivers_in text
+
+-- How a font is found by its file's bytes and the text of its waivers, where no read fails and memory doesn't run out.
+data IsSure (edition : Edition) (bytes : List ℕ) (text : Option (List ℕ)) (name : List ℕ) (outcome : Outcome) : Type 0 where
+  sure_report :
+      (report : Report) → font_of bytes ≡ Ok report.font → waived_by text ≡ Ok report.waivers
+      → IsReport (checked report.font edition) report.waivers report.faults → 0 < length name → outcome ≡ reported report
+      → IsSure edition bytes text name outcome
+  sure_refused : (reason : Reason) → font_of bytes ≡ Err reason → outcome ≡ failed (failure_of reason) → IsSure edition bytes text name outcome
+  sure_waivers :
+      (font : FontValue) (reason : Reason) → font_of bytes ≡ Ok font → waived_by text ≡ Err reason → outcome ≡ failed (failure_of reason)
+      → IsSure edition bytes text name outcome
+
+module _ (bytes_of : List ℕ → List ℕ) (text_of : List ℕ → Option (List ℕ)) (edition : Edition) (name : List ℕ) where
+  read_is : (font : Result FontValue Reason) → (given_of (holding bytes_of text_of) name).Reads font
+      → (0 < length name) × (font_of (bytes_of name) ≡ font)
+  read_is font reads =
+      let opened = reads.opened in
+      let read = reads.read in
+      (opened.0, rw opened.1 at read)
+
+  waived_is : (waived : Result (List Waiver) Reason) → (given_of (holding bytes_of text_of) name).Waives waived
+      → waived_by (text_of name) ≡ waived
+  waived_is waived (inl none) = ap waived_by none.0 ∙ sym none.1
+  waived_is waived (inr some) =
+      let opened = some.opened in
+      let read = some.read in
+      ap waived_by opened.1 ∙ (rw opened.2 at read)
+
+  sure : (outcome : Outcome) → IsFound edition (given_of (holding bytes_of text_of) name) outcome → IsChecked outcome
+      → IsSure edition (bytes_of name) (text_of name) name outcome
+  sure outcome (reports report reads waives is same) checks =
+      let read = read_is (Ok report.font) reads in
+      sure_report report read.1 (waived_is (Ok report.waivers) waives) is read.0 same
+  sure outcome (refused reason reads same) checks = sure_refused reason (read_is (Err reason) reads).1 same
+  sure outcome (waivers_refused font reads reason waives same) checks =
+      sure_waivers font reason (read_is (Ok font) reads).1 (waived_is (Err reason) waives) same
+  sure outcome (breaks broken same) checks = absurd (subst IsChecked same checks)
+  sure outcome (breaks_waivers font reads broken same) checks = absurd (subst IsChecked same checks)
+  sure outcome (no_memory same) checks = absurd (subst IsChecked same checks)
+
+-- ---- the same is found again
+
+abbrev made : FontValue → List Waiver → List FaultValue → Outcome
+made font waivers faults = reported (record { font = font; waivers = waivers; faults = faults })
+
+ok_same : {T E : Type 0} (a b : T) (r : Result T E) → r ≡ Ok a → r ≡ Ok b → a ≡ b
+ok_same a b (Ok c) is_a is_b = (let one : c ≡ a = cc in let other : c ≡ b = cc in sym one ∙ other)
+ok_same a b (Err e) is_a is_b = cc
+
+err_same : {T E : Type 0} (a b : E) (r : Result T E) → r ≡ Err a → r ≡ Err b → a ≡ b
+err_same a b (Ok c) is_a is_b = cc
+err_same a b (Err c) is_a is_b = (let one : c ≡ a = cc in let other : c ≡ b = cc in sym one ∙ other)
+
+either : {T E : Type 0} (a : T) (b : E) (r : Result T E) → r ≡ Ok a → r ≡ Err b → ⊥
+either a b (Ok c) is_a is_b = cc
+either a b (Err c) is_a is_b = cc
+
+module _ (edition : Edition) (bytes : List ℕ) (text : Option (List ℕ)) (name : List ℕ) where
+  same_reports : (a b : Report) → a.font ≡ b.font → a.waivers ≡ b.waivers → IsReport (checked a.font edition) a.waivers a.faults
+      → IsReport (checked b.font edition) b.waivers b.faults → reported a ≡ reported b
+  same_reports a b fonts waivers is_a is_b =
+      let of_font : IsReport (checked b.font edition) a.waivers a.faults =
+      subst (λ (f : FontValue). IsReport (checked f edition) a.waivers a.faults) fonts is_a in
+      let of_both : IsReport (checked b.font edition) b.waivers a.faults =
+      subst (λ (ws : List Waiver). IsReport (checked b.font edition) ws a.faults) waivers of_font in
+      let faults : a.faults ≡ b.faults = no_other_report (checked b.font edition) b.waivers a.faults b.faults of_both is_b in
+      ap (λ (f : FontValue). made f a.waivers a.faults) fonts ∙ ap (λ (ws : List Waiver). made b.font ws a.faults) waivers
+      ∙ ap (made b.font b.waivers) faults
+
+  same_outcome : (a b : Outcome) → IsSure edition bytes text name a → IsSure edition bytes text name b → a ≡ b
+  same_outcome a b (sure_report r font waived is named at) (sure_report r' font' waived' is' named' at') =
+      at ∙ same_reports r r' (ok_same r.font r'.font (font_of bytes) font font') (ok_same r.waivers r'.waivers (waived_by text) waived waived') is is'
+      ∙ sym at'
+  same_outcome a b (sure_refused why font at) (sure_refused why' font' at') =
+      at ∙ ap (λ (w : Reason). failed (failure_of w)) (err_same why why' (font_of bytes) font font') ∙ sym at'
+  same_outcome a b (sure_waivers f why font waived at) (sure_waivers f' why' font' waived' at') =
+      at ∙ ap (λ (w : Reason). failed (failure_of w)) (err_same why why' (waived_by text) waived waived') ∙ sym at'
+  same_outcome a b (sure_report r font waived is named at) (sure_refused why font' at') = absurd (either r.font why (font_of bytes) font font')
+  same_outcome a b (sure_report r font waived is named at) (sure_waivers f why font' waived' at') =
+      absurd (either r.waivers why (waived_by text) waived waived')
+  same_outcome a b (sure_refused why font at) (sure_report r font' waived is named at') = absurd (either r.font why (font_of bytes) font' font)
+  same_outcome a b (sure_refused why font at) (sure_waivers f why' font' waived at') = absurd (either f why (font_of bytes) font' font)
+  same_outcome a b (sure_waivers f why font waived at) (sure_report r font' waived' is named at') =
+      absurd (either r.waivers why (waived_by text) waived' waived)
+  same_outcome a b (sure_waivers f why font waived at) (sure_refused why' font' at') = absurd (either f why' (font_of bytes) font font')
+
+module _ (bytes_of : List ℕ → List ℕ) (text_of : List ℕ → Option (List ℕ)) (edition : Edition) where
+  abbrev IsFoundSo : Entry → Type 0
+  IsFoundSo entry = IsFound edition (given_of (holding bytes_of text_of) entry.name) entry.outcome
+
+  sure_of : (entry : Entry) → IsFoundSo entry → IsChecked entry.outcome
+      → IsSure edition (bytes_of entry.name) (text_of entry.name) entry.name entry.outcome
+  sure_of entry found checks = sure bytes_of text_of edition entry.name entry.outcome found checks
+
+  same_entry : (a b : Entry) → a.name ≡ b.name → IsFoundSo a → IsChecked a.outcome → IsFoundSo b → IsChecked b.outcome → a ≡ b
+  same_entry a b names found_a checks_a found_b checks_b =
+      let sure_a : IsSure edition (bytes_of b.name) (text_of b.name) b.name a.outcome =
+      subst (λ (n : List ℕ). IsSure edition (bytes_of n) (text_of n) n a.outcome) names (sure_of a found_a checks_a) in
+      let outcomes = same_outcome edition (bytes_of b.name) (text_of b.name) b.name a.outcome b.outcome sure_a (sure_of b found_b checks_b) in
+      ap₂ (λ (n : List ℕ) (o : Outcome). record { name = n; outcome = o }) names outcomes
+
+  same_entries : (xs ys : List Entry) → map (λ (e : Entry). e.name) xs ≡ map (λ (e : Entry). e.name) ys
+      → AllByRecursion IsFoundSo xs → AllByRecursion (λ e. IsChecked e.outcome) xs
+      → AllByRecursion IsFoundSo ys → AllByRecursion (λ e. IsChecked e.outcome) ys → xs ≡ ys
+  same_entries [] [] names found_x checks_x found_y checks_y = refl
+  same_entries [] (y ∷ ys) names found_x checks_x found_y checks_y = cc
+  same_entries (x ∷ xs) [] names found_x checks_x found_y checks_y = cc
+  same_entries (x ∷ xs) (y ∷ ys) names found_x checks_x found_y checks_y =
+      let first : x.name ≡ y.name = cc in
+      let others : map (λ (e : Entry). e.name) xs ≡ map (λ (e : Entry). e.name) ys = cc in
+      ap₂ (λ (e : Entry) (es : List Entry). e ∷ es) (same_entry x y first found_x.0 checks_x.0 found_y.0 checks_y.0)
+      (same_entries xs ys others found_x.1 checks_x.1 found_y.1 checks_y.1)
+
+-- ---- it can become known
+
+with_reason_of : (read : Result FontValue Unread) (large : Bool) (reason : Reason) (font : FontValue)
+    → cond large (Err reason) (with_reason read) ≡ Ok font → read ≡ Ok font
+with_reason_of (Ok f) true reason font is = cc
+with_reason_of (Ok f) false reason font is = (let same : f ≡ font = cc in ap Ok same)
+with_reason_of (Err e) true reason font is = cc
+with_reason_of (Err e) false reason font is = cc
+
+font_is : (bytes : List ℕ) (font : FontValue) → font_of bytes ≡ Ok font → font_in bytes ≡ Ok font
+unfolding font_of
+font_is bytes font is = with_reason_of (font_in bytes) (nat_lt 16777216 (length bytes)) _ font is
+
+as_waivers_of : (read : Option (List Waiver)) (large : Bool) (reason : Reason) (waivers : List Waiver)
+    → cond large (Err reason) (as_waivers read) ≡ Ok waivers → read ≡ Some waivers
+as_waivers_of (Some ws) true reason waivers is = cc
+as_waivers_of (Some ws) false reason waivers is = (let same : ws ≡ waivers = cc in ap Some same)
+as_waivers_of None true reason waivers is = cc
+as_waivers_of None false reason waivers is = cc
+
+waivers_are : (text : List ℕ) (waivers : List Waiver) → waivers_in text ≡ Ok waivers → waivers_of text ≡ Some waivers
+unfolding waivers_in
+waivers_are text waivers is = as_waivers_of (waivers_of text) (nat_lt 1048576 (length text)) _ waivers is
+
+if_ok : {T E : Type 0} (P : T → Type 0) (r : Result T E) (x : T) → IfOk r P → r ≡ Ok x → P x
+if_ok P r x holds is = rw is at holds
+
+none_read : waivers_of [] ≡ Some []
+unfolding lines_from lines_read
+none_read = refl
+
+read_of : (bytes : List ℕ) (text : Option (List ℕ)) (font : FontValue) (waivers : List Waiver) → font_of bytes ≡ Ok font
+    → waived_by text ≡ Ok waivers → IsRead font waivers
+read_of bytes None font waivers is waived = record {
+  bytes = bytes;
+  font_is = font_is bytes font is;
+  text = [];
+  waivers_are = (let same : [] ≡ waivers = cc in none_read ∙ ap Some same);
+  few = if_ok HasFew (font_of bytes) font (of_file fonts_within_limits bytes) is;
+  few_waivers = (let same : [] ≡ waivers = cc in subst AreFew same (omega arith));
+}
+read_of bytes (Some text) font waivers is waived = record {
+  bytes = bytes;
+  font_is = font_is bytes font is;
+  text = text;
+  waivers_are = waivers_are text waivers waived;
+  few = if_ok HasFew (font_of bytes) font (of_file fonts_within_limits bytes) is;
+  few_waivers = if_ok AreFew (waivers_in text) waivers (of_text text) waived;
+}
+
+readable_outcome : (rules : Mask) (edition : Edition) (bytes : List ℕ) (text : Option (List ℕ)) (name : List ℕ) (outcome : Outcome)
+    → has_no_line_end name ≡ true → IsSure edition bytes text name outcome
+    → AllByRecursion IsReadable (outcome_readings rules name outcome)
+readable_outcome rules edition bytes text name outcome in_line (sure_report report font waived is named same) =
+    subst (λ o. AllByRecursion IsReadable (outcome_readings rules name o)) (sym same) (
+      reports_are_readable name report.font report.waivers report.faults edition rules (read_of bytes text report.font report.waivers font waived) is named
+          in_line,
+      tt,
+    )
+readable_outcome rules edition bytes text name outcome in_line (sure_refused reason font same) =
+    subst (λ o. AllByRecursion IsReadable (outcome_readings rules name o)) (sym same) tt
+readable_outcome rules edition bytes text name outcome in_line (sure_waivers f reason font waived same) =
+    subst (λ o. AllByRecursion IsReadable (outcome_readings rules name o)) (sym same) tt
+
+no_line_end : (name : List ℕ) → not (has_line_end name) ≡ true → has_no_line_end name ≡ true
+no_line_end [] none = refl
+no_line_end (byte ∷ name) none = elim (cases_Bool (byte == 10)) [
+  | inl is ↦ (let bad : not true ≡ true = rw is at none in cc)
+  | inr other ↦ (let more : not (has_line_end name) ≡ true = rw other at none in rw other (no_line_end name more))
+]
+
+kept_in_line : (names : List (List ℕ)) → AllByRecursion (λ n. has_no_line_end n ≡ true) (one_line_names names)
+kept_in_line [] = tt
+kept_in_line (name ∷ names) = elim (cases_Bool (not (has_line_end name))) [
+  | inl is ↦ rw is (no_line_end name is, kept_in_line names)
+  | inr not ↦ rw not (kept_in_line names)
+]
+
+apart_kept : (test : List ℕ → Bool) (name : List ℕ) (names : List (List ℕ)) → AllByRecursion (λ y. bytes_eq name y ≡ false) names
+    → AllByRecursion (λ y. bytes_eq name y ≡ false) (filter test names)
+apart_kept test name [] apart = tt
+apart_kept test name (first ∷ names) apart = elim (cases_Bool (test first)) [
+  | inl is ↦ rw is (apart.0, apart_kept test name names apart.1)
+  | inr not ↦ rw not (apart_kept test name names apart.1)
+]
+
+distinct_kept : (test : List ℕ → Bool) (names : List (List ℕ)) → IsDistinct bytes_eq names → IsDistinct bytes_eq (filter test names)
+unfolding IsDistinct
+distinct_kept test [] once = tt
+distinct_kept test (name ∷ names) once = elim (cases_Bool (test name)) [
+  | inl is ↦ rw is (apart_kept test name names once.0, distinct_kept test names once.1)
+  | inr not ↦ rw not (distinct_kept test names once.1)
+]
+
+module _ (bytes_of : List ℕ → List ℕ) (text_of : List ℕ → Option (List ℕ)) (edition : Edition) (rules : Mask) where
+  readable_entries : (entries : List Entry) → AllByRecursion (λ n. has_no_line_end n ≡ true) (map (λ (e : Entry). e.name) entries)
+      → AllByRecursion (IsFoundSo bytes_of text_of edition) entries → AllByRecursion (λ e. IsChecked e.outcome) entries
+      → AllByRecursion IsReadable (flat_map (entry_readings rules) entries)
+  readable_entries [] in_line found checks = tt
+  readable_entries (e ∷ es) in_line found checks =
+      all-append IsReadable (entry_readings rules e) (flat_map (entry_readings rules) es)
+      (readable_outcome rules edition (bytes_of e.name) (text_of e.name) e.name e.outcome in_line.0
+      (sure_of bytes_of text_of edition e found.0 checks.0))
+      (readable_entries es in_line.1 found.1 checks.1)
+
+  can_be_known : (listed : List (List ℕ)) (entries : List Entry) → AreCheckedIn bytes_of text_of edition listed entries → CanBeKnown rules entries
+  can_be_known listed entries are = record {
+    once = subst (IsDistinct bytes_eq) (sym are.named) (distinct_kept (λ name. not (has_line_end name)) (each_once listed) (none_is_twice listed));
+    readable = readable_entries entries
+        (subst (λ (ns : List (List ℕ)). AllByRecursion (λ n. has_no_line_end n ≡ true) ns) (sym are.named) (kept_in_line (each_once listed)))
+        are.found are.checked;
+  }
+
+pub files_quiet_again : UpdatesAreReached → KindsNameTheirRules → AnUpdateOfFilesIsQuietNextTime
+files_quiet_again reached name_rules bytes_of text_of edition listed entries again choice rules text rows known first second chosen before after =
+    let same : entries ≡ again = same_entries bytes_of text_of edition entries again (first.named ∙ sym second.named) first.found first.checked
+    second.found second.checked in
+    subst (IsQuiet choice rules known) same
+    (quiet_again reached name_rules choice rules entries text rows known chosen (can_be_known bytes_of text_of edition rules listed entries first) before after)
