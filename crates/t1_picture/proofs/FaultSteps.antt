@@ -1,40 +1,31 @@
 -- The faults of a glyph that were added so far.
-use Rattle.std.proofs.Common.{◌≡◌, ℕ, zero, suc, ◌+◌, ◌-◌, ◌<◌, ◌≤◌, ◌==◌, ◌&&◌, inl, inr, min, Bool, true, false, true≢false, cond, nat_le, nat_lt, if◌then◌else◌, Option, None, Some, List, [], ◌∷◌, ◌++◌, length, length-take, take, append_assoc, append-nil, slice_get, refl, sym, ap, subst, ◌∙◌, arith}
-use Rattle.std.proofs.lemmas.Bool.{leb-true, leb-false, ltb-true}
+use Rattle.std.proofs.Common.{◌≡◌, ℕ, zero, suc, ◌+◌, ◌-◌, ◌<◌, ◌≤◌, inl, inr, min, Bool, true, false, cond, nat_le, if◌then◌else◌, Option, None, Some, List, [], ◌∷◌, ◌++◌, take, append_assoc, append-nil, refl, sym, ap, subst, ◌∙◌, arith}
 use Rattle.std.proofs.lemmas.List.Sums.{sum_by-cons}
 use Rattle.std.specs.List.{count_by}
 use Rattle.std.specs.Option.{option_to_list}
-use Rattle.std.specs.Option.{option_and_then}
-use Rattle.t1_char.specs.Steps.{NumberedStep, StepView, steps_of}
-use Rattle.t1_char.specs.Turns.{MachineView, step_of_number}
+use Rattle.t1_char.specs.Steps.{StepView}
+use Rattle.t1_char.specs.Turns.{MachineView}
 use Rattle.t1_outline.specs.Private.Outlining.{steps_in}
 use Rattle.t1_font.specs.Fonts.{glyph_name}
 use Rattle.t1_picture.specs.declared.marks.FaultMark.{FaultMark}
 use Rattle.t1_picture.specs.declared.marks.Marks.{Marks}
 use Rattle.t1_picture.specs.Drawings.{all_steps}
-use Rattle.t1_picture.specs.Private.FaultViews.{AreThose, IsRunFor, IsStepOf, counted}
+use Rattle.t1_picture.specs.Private.FaultViews.{AreThose, IsRunFor, counted}
 use Rattle.t1_picture.specs.Private.MarkViews.{IsMarked, done_with, last_with}
-use Rattle.t1_picture.specs.Marks.{fault_lines, glyph_steps, is_X05, is_waived_of, last_of, lines_of, marks_from, miss_lines, named_at, named_by, pen_at, same_point, shown_of, up_to, waived_of}
-use Rattle.t1_picture.specs.Private.Runs.{GoesTo, IsInHand, IsOfSameGlyph, seen_steps}
+use Rattle.t1_picture.specs.Marks.{fault_lines, glyph_steps, is_waived_of, last_of, lines_of, marks_from, pen_at, reason_in, same_point, shown_of, up_to, waived_of}
+use Rattle.t1_picture.specs.Private.Runs.{GoesTo, IsOfSameGlyph, seen_steps}
 use Rattle.t1_picture.specs.Subjects.{Subject}
-use Rattle.t1_picture.specs.Texts.{legible_line}
-use Rattle.t1_picture.proofs.Runs.{none_past}
+use Rattle.t1_reasons.specs.GlyphReasons.{IsOfSameGlyph as IsSameMachine, reason_at}
 use Rattle.t1_report.specs.declared.marks.Mark.{Mark}
-use Rattle.t1_report.specs.Checked.{CheckedFont, checked, step_limit}
+use Rattle.t1_report.specs.Checked.{CheckedFont, checked}
 use Rattle.t1_report.specs.Faults.{FaultValue}
-use Rattle.t1_report.specs.Lines.{line_of}
-use Rattle.t1_report.specs.Reports.{Place, is_broken, is_told, path_at, place_of, rules_of, step_breaks}
+use Rattle.t1_report.specs.Reports.{Place, path_at, place_of}
 use Rattle.t1_report.specs.UnitFaults.{HasNoneLaterInUnit, IsNextInUnit, IsToldOf}
 use Rattle.t1_report.specs.Waivers.{Waiver, is_waived}
 use Rattle.t1_report.specs.Walks.{AreLaterOf, IsNextOf, mark_of}
-use Rattle.t1_report.proofs.Broken.{past_steps}
 use Rattle.t1_report.proofs.OneReport.{both, same_fault}
-use Rattle.t1_report.proofs.Told.{quiet_told}
 use Rattle.t1_rules.specs.declared.rule.Rule.{Rule}
-use Rattle.t1_rules.specs.declared.rule.Rule.TheVariants.{L01, X05}
-use Rattle.t1_rules.specs.declared.step_rules.flex.Point.{Point}
 use Rattle.t1_rules.specs.Book.{number_of}
-use Rattle.t1_rules.specs.StepRules.{breaks_at}
 use Rattle.t1_rules.specs.StepRules.Flex.{current_point}
 
 -- There is one next fault.
@@ -55,76 +46,6 @@ steps_rise font waivers unit mark fault at next = elim next.later [
   | inl unit_less ↦ absurd (omega (arith, unit_less, at, next.violation.violated.0))
   | inr same_unit ↦ elim same_unit.1 [ inl less ↦ omega (arith, less) | inr same ↦ omega (arith, same.0) ]
 ]
-
--- Where X05 is reported there is a step.
-told_is_broken : (font : CheckedFont) (waivers : List Waiver) (unit step n : ℕ) → unit ≤ length font.value.glyphs
-    → is_told font waivers unit step n ≡ true → is_broken font unit step n ≡ true
-told_is_broken font waivers unit step n within told = by_test (is_broken font unit step n) refl
-  where
-    by_test : (b : Bool) → is_broken font unit step n ≡ b → b ≡ true
-    by_test true is = refl
-    by_test false is = absurd (true≢false (sym told ∙ quiet_told font waivers unit step n within is))
-
-and_right : (a b : Bool) → (a && b) ≡ true → b ≡ true
-and_right true b is = is
-and_right false b is = absurd (true≢false (sym is))
-
-below_limit : (font : CheckedFont) (glyph i : ℕ) → is_broken font (suc glyph) (suc i) (number_of X05) ≡ true → i < step_limit font
-unfolding is_broken
-below_limit font glyph i is = by_test (nat_lt i (step_limit font)) refl
-    (and_right (nat_lt glyph (length font.value.glyphs)) _ is)
-  where
-    by_test : (b : Bool) → nat_lt i (step_limit font) ≡ b
-        → step_breaks (step_limit font) (rules_of font) (number_of X05) (steps_of font.value glyph) i ≡ true → i < step_limit font
-    by_test true less breaks = ltb-true i (step_limit font) less
-    by_test false more breaks = absurd (true≢false (sym (and_right _ (number_of L01 == number_of X05)
-        (sym (ap (λ b. cond b (breaks_at (rules_of font) (number_of X05) (steps_of font.value glyph) i)
-        ((i == step_limit font && nat_lt i (length (steps_of font.value glyph))) && number_of L01 == number_of X05)) more) ∙ breaks))))
-
-no_step : (font : CheckedFont) (glyph n : ℕ) → is_broken font (suc glyph) 0 n ≡ true → ⊥
-unfolding is_broken
-no_step font glyph n is = true≢false (sym is)
-
-of_step : (s : Subject) (i : ℕ) → i < length (steps_of s.font s.glyph) → i < step_limit (checked s.font s.edition) → IsStepOf s (suc i)
-of_step s i less below = record {
-  some = omega arith;
-  within = omega (arith, less, below, length-take (step_limit (checked s.font s.edition)) (steps_of s.font s.glyph));
-}
-
-pub x05_stands : (s : Subject) (waivers : List Waiver) (fault : FaultValue) → s.glyph < length s.font.glyphs → fault.rule ≡ X05
-    → IsToldOf (checked s.font s.edition) waivers (s.glyph + 1) (place_of fault) → IsStepOf s fault.step
-x05_stands s waivers fault there rule told = by_step fault.step refl
-  where
-    font : CheckedFont
-    font = checked s.font s.edition
-
-    broken : is_broken font (s.glyph + 1) fault.step (number_of X05) ≡ true
-    broken =
-        ap (λ (u : ℕ). is_broken font u fault.step (number_of X05)) (sym told.0)
-        ∙ ap (λ (r : Rule). is_broken font fault.unit fault.step (number_of r)) (sym rule)
-        ∙ told_is_broken font waivers fault.unit fault.step (number_of fault.rule) (omega (arith, told.0, there)) told.1
-
-    in_unit : (step : ℕ) → fault.step ≡ step → is_broken font (suc s.glyph) step (number_of X05) ≡ true
-    in_unit step is = let unit : suc s.glyph ≡ s.glyph + 1 = omega arith in
-        ap (λ (u : ℕ). is_broken font u step (number_of X05)) unit ∙ ap (λ (k : ℕ). is_broken font (s.glyph + 1) k (number_of X05)) (sym is) ∙ broken
-
-    within : (i : ℕ) → is_broken font (suc s.glyph) (suc i) (number_of X05) ≡ true → i < length (steps_of s.font s.glyph)
-    within i is = by_test (nat_le (suc i) (length (take (step_limit font + 1) (steps_of s.font s.glyph)))) refl
-      where
-        by_test : (b : Bool) → nat_le (suc i) (length (take (step_limit font + 1) (steps_of s.font s.glyph))) ≡ b → i < length (steps_of s.font s.glyph)
-        by_test true less =
-            omega (
-              arith,
-              leb-true (suc i) (length (take (step_limit font + 1) (steps_of s.font s.glyph))) less,
-              length-take (step_limit font + 1) (steps_of s.font s.glyph),
-            )
-        by_test false more = absurd (true≢false (sym is ∙ past_steps font (suc s.glyph) s.glyph (suc i) (number_of X05) (omega arith)
-            (leb-false (suc i) (length (take (step_limit font + 1) (steps_of s.font s.glyph))) more)))
-
-    by_step : (step : ℕ) → fault.step ≡ step → IsStepOf s fault.step
-    by_step zero is = absurd (no_step font s.glyph (number_of X05) (in_unit 0 is))
-    by_step (suc i) is =
-        subst (λ (k : ℕ). IsStepOf s k) (sym is) (of_step s i (within i (in_unit (suc i) is)) (below_limit font s.glyph i (in_unit (suc i) is)))
 
 -- ---- faults that were added
 
@@ -275,36 +196,7 @@ all_counted s faults n mark count has none =
     ap (λ (fs : List FaultValue). min (count + count_by (is_waived_of s) fs) all_steps) (sym none) ∙ has.count_is in
     omega (arith, end, has.small)
 
--- ---- the point that the end of a flex names
-
--- After a step that was gone to, it is in hand.
-pub named_there : (s : Subject) (m m' : MachineView) (number : ℕ) → IsRunFor s m' → IsStepOf s number → GoesTo m m' number → IsInHand m'
-    → named_at s number ≡ named_by m'.step.step
-named_there s m m' number run stands goes hand = by_step (slice_get (glyph_steps s) (number - 1)) refl
-  where
-    steps : steps_in m' ≡ glyph_steps s
-    steps = rw (run.font, run.glyph, run.edition) refl
-
-    counted_is : m'.counted ≡ number
-    counted_is = goes.counted (omega (arith, stands.within, ap length steps))
-
-    by_step : (o : Option StepView) → slice_get (glyph_steps s) (number - 1) ≡ o → named_at s number ≡ named_by m'.step.step
-    by_step None none = absurd (omega (arith, none_past (glyph_steps s) (number - 1) none, stands.within, stands.some))
-    by_step (Some step) there =
-        let held : m'.step ≡ step_of_number m'.counted step =
-        hand step (omega (arith, counted_is, stands.some))
-        (ap (λ (ss : List StepView). slice_get ss (m'.counted - 1)) steps ∙ ap (λ (k : ℕ). slice_get (glyph_steps s) (k - 1)) counted_is ∙ there) in
-        ap (option_and_then named_by) there ∙ ap (λ (n : NumberedStep). named_by n.step) (sym held)
-
--- The lines of an X05.
-pub with_miss : (s : Subject) (fault : FaultValue) (pen : Point) (named : Option Point) (line : List ℕ) → is_X05 fault.rule ≡ true
-    → pen ≡ pen_at s fault.step → named_at s fault.step ≡ named → line ≡ legible_line (line_of s.font s.waivers fault)
-    → line ∷ miss_lines pen named ≡ fault_lines s fault
-with_miss s fault pen named line rule at names is =
-    ap (λ (l : List ℕ). l ∷ miss_lines pen named) is
-    ∙ ap (λ (p : Point). legible_line (line_of s.font s.waivers fault) ∷ miss_lines p named) at
-    ∙ ap (λ (o : Option Point). legible_line (line_of s.font s.waivers fault) ∷ miss_lines (pen_at s fault.step) o) (sym names)
-    ∙ ap (λ b. legible_line (line_of s.font s.waivers fault) ∷ cond b (miss_lines (pen_at s fault.step) (named_at s fault.step)) []) (sym rule)
+-- ---- runs
 
 pub still_for : (s : Subject) (m m' : MachineView) → IsRunFor s m → IsOfSameGlyph m m' → IsRunFor s m'
 still_for s m m' run same = record {
@@ -313,9 +205,17 @@ still_for s m m' run same = record {
   edition = same.edition ∙ run.edition;
 }
 
-pub was_x05 : (rule : Rule) → is_X05 rule ≡ true → rule ≡ X05
-was_x05 X05 is = refl
-was_x05 _ is = cc
+-- The same of reasons, which are found by a machine of the glyph.
+pub still_of : (s : Subject) (m m' : MachineView) → IsRunFor s m → IsSameMachine m m' → IsRunFor s m'
+still_of s m m' run same = record {
+  font = same.font ∙ run.font;
+  glyph = same.glyph ∙ run.glyph;
+  edition = same.edition ∙ run.edition;
+}
+
+pub reason_is : (s : Subject) (m : MachineView) (rule : Rule) (step : ℕ) → IsRunFor s m → reason_at m rule step ≡ reason_in s rule step
+reason_is s m rule zero run = refl
+reason_is s m rule (suc place) run = rw (run.font, run.glyph, run.edition) refl
 
 -- Without waivers nothing is waived.
 none_is_waived : (s : Subject) (faults : List FaultValue) → s.waivers ≡ [] → count_by (is_waived_of s) faults ≡ 0

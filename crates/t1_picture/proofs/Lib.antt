@@ -1,4 +1,3 @@
-pub mod ExactPlaces
 pub mod FaultSteps
 pub mod Joined
 pub mod Made

@@ -1,13 +1,11 @@
 -- The statements of laws.
-use Rattle.std.specs.Prelude.{◌≡◌, ◌≤◌, ◌==◌, ◌||◌, ◌<◌, ◌+◌, ◌-◌, ◌*◌, ◌^◌, not, nat_lt, ℕ, Bool, true, false, List, [], ◌∷◌, ◌++◌, codes, length}
+use Rattle.std.specs.Prelude.{◌≡◌, ◌≤◌, ◌==◌, ◌||◌, ◌<◌, not, nat_lt, ℕ, Bool, true, false, List, [], ◌∷◌, ◌++◌, codes, length}
 use Rattle.std.specs.Str.{NoCharPasses}
 use Rattle.std.specs.List.{AllByRecursion, concat, flat_map, list_all, list_any}
 use Rattle.t1_font.specs.Bounds.{most_glyphs}
 use Rattle.t1_font.specs.Keys.{same_name}
 use Rattle.t1_outline.specs.Outlines.{drawn_of, outline_of}
 use Rattle.t1_outline.specs.Parts.{parts_of_both}
-use Rattle.t1_picture.specs.declared.decimals.Unit.{Unit}
-use Rattle.t1_picture.specs.Decimals.{one_of, places}
 use Rattle.t1_picture.specs.Drawings.{all_steps, component_part, components_of, drawing_of, own_part}
 use Rattle.t1_picture.specs.Layers.{segment_text}
 use Rattle.t1_picture.specs.Parts.{PartView, drawn_steps}
@@ -44,19 +42,6 @@ OutlineIsThatOfItsParts =
 abbrev pub WholePartsAreOutlines : Type 0
 WholePartsAreOutlines =
     (part : PartView) → part.last ≡ all_steps → drawn_of (drawn_steps part) ≡ outline_of part.edition part.font part.glyph
-
--- ---- numbers
-
--- The number that digits are.
-abbrev pub digits_value : List ℕ → ℕ
-digits_value [] = 0
-digits_value (digit ∷ digits) = (digit - 48) * 10 ^ length digits + digits_value digits
-
--- The decimal places that a part of one is written with are this part, exactly.
-abbrev pub PlacesAreExact : Type 0
-PlacesAreExact =
-    (counted : Unit) (rest : ℕ) → rest < one_of counted →
-    digits_value (places (one_of counted) 16 rest) * one_of counted ≡ rest * 10 ^ length (places (one_of counted) 16 rest)
 
 -- ---- texts in XML
 

@@ -1,6 +1,5 @@
 pub mod Bands
 pub mod Bounds
-pub mod Decimals
 pub mod Drawings
 pub mod Frames
 pub mod Laws

@@ -1,28 +1,28 @@
--- The faults of the glyph: where their marks are, and their lines. Type 1 Font Format 1.1, 8.3 (the end of a flex).
-use Rattle.std.specs.Prelude.{◌≡◌, ℕ, ◌+◌, ◌-◌, ◌&&◌, min, nat_le, if◌then◌else◌, Bool, true, false, Option, None, Some, List, [], ◌∷◌, ◌++◌, codes, length, slice_get, take, unwrap_or}
+-- The faults of the glyph: where their marks are, and their lines.
+use Rattle.std.specs.Prelude.{◌≡◌, ℕ, zero, suc, ◌+◌, ◌-◌, ◌&&◌, min, nat_le, if◌then◌else◌, Bool, Option, None, Some, List, [], ◌∷◌, ◌++◌, codes, take, unwrap_or}
 use Rattle.std.specs.List.{count_by, flat_map}
-use Rattle.std.specs.Option.{option_and_then}
 use Rattle.std.specs.Ordering.{int_eq}
 use Rattle.t1_char.specs.Editions.{limit_of}
-use Rattle.t1_char.specs.Stacks.{from_top}
 use Rattle.t1_char.specs.Steps.{StepView, steps_of}
-use Rattle.t1_font.specs.Fonts.{glyph_name}
+use Rattle.t1_font.specs.Fonts.{FontValue, glyph_name}
 use Rattle.t1_picture.specs.declared.faults.Faults.{Faults}
 use Rattle.t1_picture.specs.declared.marks.FaultMark.{FaultMark}
-use Rattle.t1_picture.specs.Decimals.{point_text}
 use Rattle.t1_picture.specs.Drawings.{all_steps, texts_of}
 use Rattle.t1_picture.specs.Subjects.{Subject}
 use Rattle.t1_picture.specs.Texts.{legible_line}
+use Rattle.t1_reason_texts.specs.Texts.{reason_text, says_more}
+use Rattle.t1_reasons.specs.GlyphReasons.{reason_among}
+use Rattle.t1_reasons.specs.declared.reason.Reason.{Reason}
 use Rattle.t1_report.specs.Checked.{checked}
 use Rattle.t1_report.specs.Faults.{FaultValue}
 use Rattle.t1_report.specs.Lines.{line_of}
 use Rattle.t1_report.specs.UnitFaults.{AreOfUnit}
 use Rattle.t1_report.specs.Waivers.{Waiver, is_waived}
 use Rattle.t1_rules.specs.declared.rule.Rule.{Rule}
-use Rattle.t1_rules.specs.declared.rule.Rule.TheVariants.{X05}
 use Rattle.t1_rules.specs.declared.step_rules.flex.Point.{Point}
 use Rattle.t1_rules.specs.Book.{number_of}
-use Rattle.t1_rules.specs.StepRules.Flex.{at, current_point}
+use Rattle.t1_rules.specs.Components.{components_of}
+use Rattle.t1_rules.specs.StepRules.Flex.{current_point}
 
 -- The faults of the glyph with these waivers, in the order of the report.
 abbrev pub AreShownOf : Subject → List Waiver → List FaultValue → Type 0
@@ -71,31 +71,27 @@ marks_from s (Some mark) (fault ∷ faults) =
 
 -- ---- lines
 
--- The point that the end of a flex names: below the flex height, and below the count of arguments and the OtherSubr's number.
-abbrev pub named_by : StepView → Option Point
-named_by step =
-    if nat_le 4 (length step.stack) then Some (at (from_top step.stack 3) (from_top step.stack 2)) else None
+-- Why a rule is broken at a step of the glyph, if it is.
+abbrev pub reason_in : Subject → Rule → ℕ → Option Reason
+reason_in s rule zero = None
+reason_in s rule (suc place) =
+    reason_among (limit_of s.edition) s.edition (components_of (limit_of s.edition) s.font) rule (steps_of s.font s.glyph) place
 
-abbrev pub named_at : Subject → ℕ → Option Point
-named_at s number = option_and_then named_by (slice_get (glyph_steps s) (number - 1))
+abbrev pub reason_of : Subject → FaultValue → Option Reason
+reason_of s fault = reason_in s fault.rule fault.step
 
--- Where the pen is and which point is named.
-abbrev pub miss_line : Point → Point → List ℕ
-miss_line pen named = codes "   the pen is at " ++ (point_text pen ++ (codes ", the end names " ++ point_text named))
+-- Three blanks, and the text of the reason.
+abbrev pub reason_line : FontValue → Rule → Reason → List ℕ
+reason_line font rule reason = codes "   " ++ reason_text font rule reason
 
-abbrev pub miss_lines : Point → Option Point → List (List ℕ)
-miss_lines pen None = []
-miss_lines pen (Some named) = miss_line pen named ∷ []
+-- None, if it doesn't say more than the line.
+abbrev pub reason_lines : FontValue → Rule → Option Reason → List (List ℕ)
+reason_lines font rule None = []
+reason_lines font rule (Some reason) = if says_more reason then reason_line font rule reason ∷ [] else []
 
-abbrev pub is_X05 : Rule → Bool
-is_X05 X05 = true
-is_X05 _ = false
-
--- The line of a fault, as t1check writes it, without its end; below that of an X05 the two points.
+-- The line of a fault, as t1check writes it, without its end; below it why its rule is broken.
 abbrev pub fault_lines : Subject → FaultValue → List (List ℕ)
-fault_lines s fault =
-    legible_line (line_of s.font s.waivers fault)
-    ∷ (if is_X05 fault.rule then miss_lines (pen_at s fault.step) (named_at s fault.step) else [])
+fault_lines s fault = legible_line (line_of s.font s.waivers fault) ∷ reason_lines s.font fault.rule (reason_of s fault)
 
 abbrev pub lines_of : Subject → List FaultValue → List (List ℕ)
 lines_of s faults = flat_map (fault_lines s) faults

@@ -6,10 +6,10 @@ ghost use Rattle.t1_font.specs.Keys.{index_of};
 ghost use Rattle.t1_picture.specs.Bands.{across_box, across_line, across_text, band_of, band_text, is_one_edge, lower_edge, one_edge, upper_edge, upright_box, upright_line, upright_text, with_band, zone_by, zone_text, zones_from, zones_in, zones_text};
 
 use crate::bounds::Bounds;
-use crate::decimals::{Exact, coordinate, value};
 use crate::frame::Frame;
 use std::alloc::AllocError;
 use t1_char::{Edition, UNIT};
+use t1_decimals::{Exact, coordinate, value};
 use t1_font::{Entry, Font, Key};
 use t1_rules::Stem;
 

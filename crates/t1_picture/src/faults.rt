@@ -1,33 +1,32 @@
 //! The faults of the glyph: where their marks are, and their lines.
 
-ghost use Rattle.std.specs.Prelude.{◌≡◌, ◌≤◌, ◌+◌, ◌++◌, IfOk, None, OnOk, List, [], nat_le, string_bytes};
-ghost use Rattle.t1_char.specs.StepValues.{step_view};
+ghost use Rattle.std.specs.Prelude.{◌≡◌, ◌+◌, ◌++◌, IfOk, None, OnOk, List, [], nat_le, string_bytes};
 ghost use Rattle.t1_picture.specs.Drawings.{texts_of};
-ghost use Rattle.t1_picture.specs.Private.FaultViews.{AreAdded, IsRunFor, IsStepOf, counted};
-ghost use Rattle.t1_picture.specs.Marks.{AreFaultsOf, AreShownOf, fault_lines, faults_view, is_X05, miss_line, miss_lines, named_by, pen_at, waived_of};
+ghost use Rattle.t1_picture.specs.Private.FaultViews.{AreAdded, counted};
+ghost use Rattle.t1_picture.specs.Marks.{AreFaultsOf, AreShownOf, fault_lines, faults_view, reason_line, reason_lines, reason_of, waived_of};
 ghost use Rattle.t1_picture.specs.Subjects.{subject_of};
 ghost use Rattle.t1_picture.specs.Texts.{legible_line};
 ghost use Rattle.t1_picture.specs.Views.{CanBeDrawn};
 ghost use Rattle.t1_report.specs.Faults.{FaultValue, fault_value};
 ghost use Rattle.t1_report.specs.Lines.{IsInFont, line_of};
-ghost use Rattle.t1_rules.specs.declared.rule.Rule.TheVariants.{X05};
 
-use crate::decimals::Coordinates;
 use crate::line::WrittenLine;
 use crate::marks::{FaultMark, Marks};
 use crate::run::Run;
 use crate::texts::{add_line, written_line};
 use crate::view::View;
 use std::alloc::{AllocError, Global};
-use t1_char::Step;
+use t1_font::Font;
+use t1_reason_texts::{ReasonText, says_more};
+use t1_reasons::{GlyphReasons, Reason};
 use t1_report::{Fault, UnitFaults, Waivers, write_fault};
-use t1_rules::{Point, Rule};
+use t1_rules::Rule;
 
 /// The faults that are marked.
 #[derive(Drop)]
 pub(crate) struct Faults {
     pub(crate) marks: Vec<FaultMark>,
-    /// Their lines, as t1check writes them, without ends; after that of an X05 the two points.
+    /// Their lines, as t1check writes them, without ends; after each why its rule is broken, if that says more.
     pub(crate) lines: Vec<String>,
     /// How many faults aren't marked, since they are waived.
     pub(crate) waived: u64,
@@ -68,7 +67,7 @@ fn add_faults(
 {
     let mut course = UnitFaults::of(view.font, view.sidebearings, view.waivers, unit);
     let mut run = Run::start(view.font, view.glyph, view.edition());
-    let mut behind = Run::start(view.font, view.glyph, view.edition());
+    let mut reasons = GlyphReasons::start(view.font, view.glyph, view.edition());
     for _fault in 0..u64::MAX {
         let Some(fault) = course.next() else {
             return Ok(());
@@ -77,9 +76,9 @@ fn add_faults(
             return Ok(());
         }
         run.go_to(fault.step.saturating_sub(1));
-        let pen = run.point();
-        marks.mark(pen, fault.number)?;
-        add_lines(alloc, view, &fault, pen, &mut behind, lines)?;
+        marks.mark(run.point(), fault.number)?;
+        let reason = reasons.reason(view.sidebearings, fault.step, fault.rule);
+        add_lines(alloc, view, &fault, reason, lines)?;
     }
     Ok(())
 }
@@ -91,74 +90,53 @@ fn is_drawn(step: u32, last: u64) -> bool
     u64::from(step) <= last
 }
 
-fn is_x05(rule: Rule) -> bool
-    ensures { result ≡ is_X05 rule }
-{
-    matches!(rule, Rule::X05)
-}
-
-/// Adds the lines of a fault, given the pen before its step. A run that is no further than its step is executed up to that.
+/// Adds the line of a fault, and why its rule is broken.
 fn add_lines(
     alloc: Global,
     view: &View<'_>,
     fault: &Fault,
-    pen: Point,
-    behind: &mut Run<'_>,
+    reason: Option<Reason>,
     lines: &mut Vec<String>,
 ) -> Result<(), AllocError>
     requires in_font { IsInFont view.now.font.now view.now.waivers.now (fault_value fault.now) }
-    requires pen { pen ≡ pen_at (subject_of view.now) fault.now.step }
-    requires behind { IsRunFor (subject_of view.now) behind.old }
-    requires before { behind.old.counted ≤ fault.now.step }
-    requires there { fault.now.rule ≡ X05 → IsStepOf (subject_of view.now) fault.now.step }
-    ensures lines { OnOk result (texts_of lines.new.items
+    requires reason { reason ≡ reason_of (subject_of view.now) (fault_value fault.now) }
+    ensures { OnOk result (texts_of lines.new.items
         ≡ texts_of lines.old.items ++ fault_lines (subject_of view.now) (fault_value fault.now)) }
-    ensures run { OnOk result (IsRunFor (subject_of view.now) behind.new) }
-    ensures counted { OnOk result (behind.new.counted ≤ fault.now.step) }
 {
     add_line(lines, line_of(alloc, view, fault)?)?;
-    if !is_x05(fault.rule) {
-        return Ok(());
-    }
-    behind.go_to(fault.step);
-    add_miss(alloc, pen, behind.step(), lines)
+    add_reason(alloc, view.font, fault.rule, reason, lines)
 }
 
-/// Adds where the pen is and which point the end of a flex names, as a miss of a unit can't be seen.
-fn add_miss(
+/// Adds why a rule is broken, if that says more than the line.
+fn add_reason(
     alloc: Global,
-    pen: Point,
-    end: &Step,
+    font: &Font<'_>,
+    rule: Rule,
+    reason: Option<Reason>,
     lines: &mut Vec<String>,
 ) -> Result<(), AllocError>
-    ensures { OnOk result (texts_of lines.new.items ≡ texts_of lines.old.items ++ miss_lines pen (named_by (step_view end.now))) }
+    ensures { OnOk result (texts_of lines.new.items ≡ texts_of lines.old.items ++ reason_lines font.now rule reason) }
 {
-    let Some(named) = named_by(end) else {
+    let Some(reason) = reason else {
         return Ok(());
     };
-    add_line(lines, miss_line(alloc, pen, named)?)
-}
-
-/// Where the pen is and which point is named.
-fn miss_line(alloc: Global, pen: Point, named: Point) -> Result<String, AllocError>
-    ensures { IfOk result (λ line. string_bytes line ≡ miss_line pen named) }
-{
-    let pen = Coordinates(pen);
-    let named = Coordinates(named);
-    format!(in alloc; "   the pen is at {pen}, the end names {named}")
-}
-
-/// The point that the end of a flex names: below the flex height, and below the count of arguments and the OtherSubr's number.
-fn named_by(end: &Step) -> Option<Point>
-    ensures { result ≡ named_by (step_view end.now) }
-{
-    if end.stack.len() < 4 {
-        return None;
+    if !says_more(reason) {
+        return Ok(());
     }
-    Some(Point {
-        x: end.stack.from_top(3),
-        y: end.stack.from_top(2),
-    })
+    add_line(lines, reason_line(alloc, font, rule, reason)?)
+}
+
+/// Why a rule is broken, set off by three blanks.
+fn reason_line(
+    alloc: Global,
+    font: &Font<'_>,
+    rule: Rule,
+    reason: Reason,
+) -> Result<String, AllocError>
+    ensures { IfOk result (λ line. string_bytes line ≡ reason_line font.now rule reason) }
+{
+    let text = ReasonText { font, rule, reason };
+    format!(in alloc; "   {text}")
 }
 
 /// The unit of the glyph.

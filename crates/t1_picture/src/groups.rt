@@ -7,13 +7,13 @@ ghost use Rattle.t1_picture.specs.Layers.{layers_view};
 ghost use Rattle.t1_picture.specs.Pictures.{back_text, base_line, drawing_start, drawing_text, front_text, handles_start, lines_part, lines_start, mark_at, marks_part, marks_start, metrics_text, open_start, open_text, outline_part, outline_start, path_text, place_line, points_part, stems_part, stems_start, stretch_start, stretch_text, zones_part, zones_start};
 
 use crate::bands::{Band, write_upright_line, write_zones};
-use crate::decimals::{Exact, coordinate};
 use crate::drawing::Drawing;
 use crate::frame::Frame;
 use crate::layers::{Layers, write_mark};
 use crate::marks::FaultMark;
 use crate::texts::{END, push};
 use std::alloc::AllocError;
+use t1_decimals::{Exact, coordinate};
 use t1_font::Font;
 use t1_outline::Metrics;
 

@@ -4,11 +4,11 @@ ghost use Rattle.std.specs.Prelude.{◌≡◌, ◌++◌, OnOk, string_bytes};
 ghost use Rattle.t1_picture.specs.Drawings.{texts_of};
 ghost use Rattle.t1_picture.specs.Pictures.{circles_text, clip_text, columns_from, defs_text, ground_part, ground_text, head_by, head_text, letters_of, plane_text, size_text, square_text, svg_start, title_text, view_box_text};
 
-use crate::decimals::Exact;
 use crate::frame::Frame;
 use crate::marks::MARK;
 use crate::texts::{push, push_escaped};
 use std::alloc::AllocError;
+use t1_decimals::Exact;
 
 /// What is before the size.
 const HEAD: &str = r#"<?xml version="1.0" encoding="UTF-8"?>

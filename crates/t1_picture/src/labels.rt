@@ -5,12 +5,12 @@ ghost use Rattle.std.specs.List.{flat_map};
 ghost use Rattle.t1_picture.specs.Drawings.{texts_of};
 ghost use Rattle.t1_picture.specs.Pictures.{legend_line_text, legend_lines, legend_start, legend_text, line_start, number_at, number_text, numbers_start, numbers_text, one_number, two_numbers};
 
-use crate::decimals::{Exact, coordinate};
 use crate::frame::Frame;
 use crate::legend::legend;
 use crate::marks::{FaultMark, MARK};
 use crate::texts::{END, push, push_escaped};
 use std::alloc::AllocError;
+use t1_decimals::{Exact, coordinate};
 
 /// The height of letters.
 const LETTERS: i64 = 16;

@@ -1,6 +1,6 @@
 //! Laws of pictures. A call of one does nothing but call the laws that it rests on: a proof cites what it ensures.
 
-ghost use Rattle.t1_picture.specs.Laws.{AmpersandsBeginEntities, HasNoOtherPicture, HasPicture, LegibleTextsAreFit, OutlineIsThatOfItsParts, PlacesAreExact, TextsHaveNoMarkup, WholePartsAreOutlines};
+ghost use Rattle.t1_picture.specs.Laws.{AmpersandsBeginEntities, HasNoOtherPicture, HasPicture, LegibleTextsAreFit, OutlineIsThatOfItsParts, TextsHaveNoMarkup, WholePartsAreOutlines};
 
 use t1_report::faults_of_a_unit_are_the_reports;
 
@@ -18,12 +18,6 @@ pub fn a_subject_has_one_picture()
 pub fn outlines_are_drawn()
     ensures parts { OutlineIsThatOfItsParts }
     ensures whole { WholePartsAreOutlines }
-{}
-
-/// Coordinates, in units of 1/65536, and numbers of a dictionary, in units of 10^-9, are written exactly: their decimal places
-/// are the part after the point, neither rounded nor cut.
-pub fn numbers_are_written_exactly()
-    ensures { PlacesAreExact }
 {}
 
 /// No text of a font ends an element of the picture or a value in double quotes: as it is written there, it has no `<`, `>` and

@@ -7,10 +7,10 @@ ghost use Rattle.t1_picture.specs.Parts.{bands_of};
 
 use crate::bands::{Band, Direction};
 use crate::bounds::Bounds;
-use crate::decimals::{Coordinates, Exact, coordinate};
 use crate::subpath::{Subpath, placed};
 use std::alloc::{AllocError, Global};
 use t1_char::Edition;
+use t1_decimals::{Coordinates, Exact, coordinate};
 use t1_outline::Segment;
 use t1_rules::{Point, Stem};
 

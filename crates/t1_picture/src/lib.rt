@@ -23,7 +23,6 @@
 
 mod bands;
 mod bounds;
-mod decimals;
 mod drawing;
 mod faults;
 mod frame;
@@ -42,9 +41,6 @@ mod svg;
 mod texts;
 mod view;
 
-pub use laws::{
-    a_subject_has_one_picture, numbers_are_written_exactly, outlines_are_drawn,
-    texts_stay_in_their_elements,
-};
+pub use laws::{a_subject_has_one_picture, outlines_are_drawn, texts_stay_in_their_elements};
 pub use svg::picture;
 pub use view::View;

@@ -1,9 +1,9 @@
 -- Faults that are added one after another.
-use Rattle.std.specs.Prelude.{◌≡◌, ℕ, ◌+◌, ◌-◌, ◌^◌, ◌<◌, ◌≤◌, min, if◌then◌else◌, Bool, None, List, ◌++◌, length}
+use Rattle.std.specs.Prelude.{◌≡◌, ℕ, ◌+◌, ◌-◌, ◌^◌, min, if◌then◌else◌, Bool, None, List, ◌++◌}
 use Rattle.std.specs.Option.{option_to_list}
 use Rattle.t1_char.specs.Turns.{MachineView}
 use Rattle.t1_picture.specs.declared.marks.Marks.{Marks}
-use Rattle.t1_picture.specs.Marks.{AreShownOf, glyph_steps, lines_of, marks_from, shown_of}
+use Rattle.t1_picture.specs.Marks.{AreShownOf, lines_of, marks_from, shown_of}
 use Rattle.t1_picture.specs.Subjects.{Subject}
 use Rattle.t1_report.specs.Faults.{FaultValue}
 
@@ -12,11 +12,6 @@ pub record IsRunFor (s : Subject) (m : MachineView) : Type 0 where
   pub font : m.font ≡ s.font
   pub glyph : m.glyph ≡ s.glyph
   pub edition : m.edition ≡ s.edition
-
--- There is a step of this number, from 1, up to the limit.
-pub record IsStepOf (s : Subject) (number : ℕ) : Type 0 where
-  pub some : 0 < number
-  pub within : number ≤ length (glyph_steps s)
 
 -- These are the marks and the lines of the faults that are shown.
 pub record AreThose (s : Subject) (faults : List FaultValue) (marks : Marks) (lines : List (List ℕ)) : Type 0 where

@@ -3,7 +3,7 @@ use Rattle.t1_picture.specs.Drawings.{texts_of}
 use Rattle.t1_picture.specs.Private.MarkViews.{IsMarked}
 use Rattle.t1_picture.specs.Marks.{last_of, pen_at}
 use Rattle.t1_picture.specs.Subjects.{subject_of}
-use Rattle.t1_picture.proofs.FaultSteps.{HasAdded, all_added, none_comes, none_drawn, none_fits, one_added, pen_there, steps_rise, still_for, x05_stands}
+use Rattle.t1_picture.proofs.FaultSteps.{HasAdded, all_added, none_comes, none_drawn, none_fits, one_added, pen_there, reason_is, steps_rise, still_for, still_of}
 use Rattle.t1_picture.proofs.faults.add_faults.Goals as goal
 use Rattle.t1_report.specs.declared.marks.Mark.{Mark}
 use Rattle.t1_report.specs.Checked.{checked}
@@ -37,13 +37,10 @@ returns c = λ faults are.
     all_added s faults c.loop-fault._fault c.loop-fault.course.mark c.loop-fault.marks (texts_of c.loop-fault.lines.items) has
     (none_fits s c.loop-fault._fault has.rest c.loop-fault-test.false)
 
-pub add_lines-requires-clause-there : goal.add_lines-requires-clause-there
-add_lines-requires-clause-there c = λ rule.
-    let s = subject_of c.args.view.now in
-    let held = c.loop-fault.invariant in
+pub add_lines-requires-clause-reason : goal.add_lines-requires-clause-reason
+add_lines-requires-clause-reason c =
     let f = fault_value c.in-Some.fault in
-    let next = rw (held.font, held.waivers, held.unit) at c.in-Some.ensures.next in
-    x05_stands s s.waivers f c.requires.view.glyph rule next.violation.violated
+    c.reason-reason.ensures.reason ∙ reason_is (subject_of c.args.view.now) c.loop-fault.reasons f.rule f.step c.loop-fault.invariant.reasons
 
 pub loop-fault-preserved : goal.loop-fault-preserved
 loop-fault-preserved c =
@@ -57,8 +54,8 @@ loop-fault-preserved c =
     steps_rise (checked s.font s.edition) s.waivers (s.glyph + 1) c.loop-fault.course.mark f held.at next in
     let goes = c.go_to.ensures.goes (omega (arith, held.run_before, rises, c.saturating_sub.ensures)) in
     let run = still_for s c.loop-fault.run c.go_to.new.self held.run c.go_to.ensures.same in
-    let pen : c.point-pen.result ≡ pen_at s f.step =
-    c.point-pen.ensures ∙ pen_there s c.loop-fault.run c.go_to.new.self c.saturating_sub.result f.step run goes c.saturating_sub.ensures in
+    let pen : c.point.result ≡ pen_at s f.step =
+    c.point.ensures ∙ pen_there s c.loop-fault.run c.go_to.new.self c.saturating_sub.result f.step run goes c.saturating_sub.ensures in
     record {
       font = ap (λ (u : UnitView). u.font) state ∙ held.font;
       waivers = ap (λ (u : UnitView). u.waivers) state ∙ held.waivers;
@@ -67,12 +64,11 @@ loop-fault-preserved c =
       run = run;
       run_before = subst (λ (m : Mark). c.go_to.new.self.counted ≤ m.step - 1) (sym (ap (λ (u : UnitView). u.mark) state))
           (omega (arith, goes.most, c.saturating_sub.ensures));
-      behind = c.in_ok-add_lines.ensures.run;
-      behind_before = subst (λ (m : Mark). c.add_lines.new.behind.counted ≤ m.step) (sym (ap (λ (u : UnitView). u.mark) state)) c.in_ok-add_lines.ensures.counted;
+      reasons = still_of s c.loop-fault.reasons c.reason-reason.new.self held.reasons c.reason-reason.ensures.same;
       added = λ faults are.
           subst (λ (m : Mark). HasAdded s faults (c.loop-fault._fault + 1) m c.mark.new.self (texts_of c.add_lines.new.lines.items))
           (sym (ap (λ (u : UnitView). u.mark) state))
           (one_added s faults c.loop-fault._fault c.loop-fault.course.mark c.loop-fault.marks c.mark.new.self (texts_of c.loop-fault.lines.items)
           (texts_of c.add_lines.new.lines.items) f (held.added faults are) c.loop-fault-test.true next shown
-          (subst (λ (p : Point). IsMarked c.loop-fault.marks c.mark.new.self p f.number) pen c.in_ok-mark.ensures) c.in_ok-add_lines.ensures.lines);
+          (subst (λ (p : Point). IsMarked c.loop-fault.marks c.mark.new.self p f.number) pen c.in_ok-mark.ensures) c.in_ok-add_lines.ensures);
     }

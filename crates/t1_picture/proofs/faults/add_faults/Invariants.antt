@@ -16,8 +16,7 @@ invariant-loop-fault l = record {
   at : l.course.mark.unit ≡ l.view.glyph + 1;
   run : IsRunFor (subject_of l.view) l.run;
   run_before : l.run.counted ≤ l.course.mark.step - 1;
-  behind : IsRunFor (subject_of l.view) l.behind;
-  behind_before : l.behind.counted ≤ l.course.mark.step;
+  reasons : IsRunFor (subject_of l.view) l.reasons;
   added : (faults : List FaultValue) → AreShownOf (subject_of l.view) (subject_of l.view).waivers faults
       → HasAdded (subject_of l.view) faults l._fault l.course.mark l.marks (texts_of l.lines.items);
 }

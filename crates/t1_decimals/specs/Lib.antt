@@ -1,0 +1,3 @@
+-- Definitions.
+pub mod Decimals
+pub mod Laws

@@ -1,0 +1,3 @@
+-- Definitions.
+pub mod Laws
+pub mod Members

@@ -1,0 +1,5 @@
+pub mod PlainParts
+pub mod PlainTexts
+pub mod ShortParts
+pub mod ShortTexts
+pub mod ShownNames

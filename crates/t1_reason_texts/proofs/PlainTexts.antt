@@ -1,0 +1,338 @@
+-- No text has a byte below 32 or a colon.
+use Rattle.std.proofs.Common.{◌≡◌, ◌==◌, ◌∙◌, ◌++◌, not, if◌then◌else◌, ℕ, ℤ, Bool, true, false, Option, Some, None, List, [], ◌∷◌, nat_lt, refl, codes}
+use Rattle.std.specs.List.{list_all}
+use Rattle.std.proofs.lemmas.List.Folds.{list_all-append}
+use Rattle.t1_char.specs.declared.command.Command.{Command as Commands}
+use Rattle.t1_char.specs.declared.command.Command.TheVariants.{Callothersubr}
+use Rattle.t1_char.specs.declared.token.CharToken.{CharToken}
+use Rattle.t1_char.specs.declared.token.CharToken.TheVariants.{Number, Command, Unknown, Unknown12, Cut, Short, End}
+use Rattle.t1_font.specs.declared.encoding.Encoding.{Encoding}
+use Rattle.t1_font.specs.declared.encoding.Encoding.TheVariants.{Absent as NoEncoding}
+use Rattle.t1_font.specs.Fonts.{glyph_name}
+use Rattle.t1_reasons.specs.declared.reason.Edges.{Edges}
+use Rattle.t1_reasons.specs.declared.reason.EntryKind.{EntryKind}
+use Rattle.t1_reasons.specs.declared.reason.EntryKind.TheVariants.{Number as OneNumber, Numbers as ManyNumbers}
+use Rattle.t1_reasons.specs.declared.reason.Found.{Found}
+use Rattle.t1_reasons.specs.declared.reason.Found.TheVariants.{Absent, One, Other, Several}
+use Rattle.t1_reasons.specs.declared.reason.Reason.TheVariants.{Argument, Arguments, Code, Codes, Count, Depth, Entry, Falling, Features, Form, Gap, Glyph, Glyphs, Ids, Kind, Limit, Miss, Nothing, Numbers, Open, Othersubr, Quotient, Sidebearings, Since, Stem, Stems, Subr, SubrEntry, Token, TooMany, Triple, Width, Zone, Zones}
+use Rattle.t1_reasons.specs.declared.reason.SetStem.{SetStem}
+use Rattle.t1_rules.specs.declared.rule.Rule.{Rule}
+use Rattle.t1_rules.specs.declared.step_rules.flex.Point.{Point}
+use Rattle.t1_rules.specs.declared.step_rules.stems.Stem.{Stem as OneStem}
+use Rattle.t1_rules.specs.declared.rule.Rule.TheVariants.{F03, K01, K03, W02}
+use Rattle.t1_decimals.specs.Decimals.{point_text}
+use Rattle.t1_reason_texts.specs.FontTexts.{code_names_text, counts_numbers, encoded_name, entry_name, entry_needed, entry_text, features_text, form_text, found_text, glyphs_text, ids_text, kind_text, past_words, several_text, subr_entry_text, twice_words, two_features_text, value_text, wanted_words}
+use Rattle.t1_reason_texts.specs.Laws.{AreOneLine, is_plain}
+use Rattle.t1_reason_texts.specs.SeacTexts.{both_text, code_text, is_meant, meant_text, name_of_code, name_words, named_code_text, sidebearings_text}
+use Rattle.t1_reason_texts.specs.StepTexts.{argument_text, arguments_there_text, bound_words, call_text, count_text, depth_text, is_there, limit_text, middles_text, miss_text, off_words, open_text, or_more, quotient_text, since_after, since_before, since_none, since_text, span_text, stems_text, subr_text, takes_words, there_text, token_text, triple_text, widths_text}
+use Rattle.t1_reason_texts.specs.Texts.{reason_text}
+use Rattle.t1_reason_texts.specs.Words.{are_text, arguments_text, numbers_text}
+use Rattle.t1_reason_texts.specs.ZoneTexts.{above_text, apart_by, below_one, below_text, edges_text, falling_text, gap_text, height_text, meets_text, needed_text, too_many_text, width_text, zone_text, zones_text}
+use Rattle.t1_reason_texts.proofs.PlainParts.{either_same, plain_by, plain_command, plain_decimal, plain_either, plain_name, plain_signed, plain_wide}
+
+-- ---- words
+
+plain_numbers : (count : ℕ) → list_all is_plain (numbers_text count) ≡ true
+plain_numbers count = simp (plain_either, list_all-append is_plain, plain_decimal, either_same)
+
+plain_are : (count : ℕ) → list_all is_plain (are_text count) ≡ true
+plain_are count = simp (plain_either, list_all-append is_plain, plain_decimal, either_same)
+
+plain_arguments : (count : ℤ) → list_all is_plain (arguments_text count) ≡ true
+plain_arguments count = simp (plain_either, list_all-append is_plain, plain_by, either_same)
+
+-- ---- steps
+
+plain_more : (command : Commands) → list_all is_plain (or_more command) ≡ true
+plain_more Callothersubr = refl
+plain_more _ = refl
+
+plain_count : (command : Commands) (taken there : ℕ) → list_all is_plain (count_text command taken there) ≡ true
+plain_count command taken there = simp (list_all-append is_plain, plain_command, plain_numbers, plain_more, plain_are)
+
+plain_bound : (number : ℤ) → list_all is_plain (bound_words number) ≡ true
+plain_bound number = simp (plain_either, either_same)
+
+plain_argument : (place : ℕ) (number : ℤ) → list_all is_plain (argument_text place number) ≡ true
+plain_argument place number = simp (list_all-append is_plain, plain_decimal, plain_by, plain_bound)
+
+plain_quotient : (dividend divisor : ℤ) → list_all is_plain (quotient_text dividend divisor) ≡ true
+plain_quotient dividend divisor = simp (list_all-append is_plain, plain_by)
+
+plain_subr : (number : ℤ) (found : Bool) → list_all is_plain (subr_text number found) ≡ true
+plain_subr number true = plain_by 65536 number
+plain_subr number false = plain_by 65536 number
+
+plain_depth : (calls : ℕ) → list_all is_plain (depth_text calls) ≡ true
+plain_depth calls = simp (plain_either, list_all-append is_plain, plain_decimal, either_same)
+
+plain_token : (token : CharToken) → list_all is_plain (token_text token) ≡ true
+plain_token (Number number) = plain_signed number
+plain_token (Command command) = plain_command command
+plain_token (Unknown byte) = plain_decimal byte
+plain_token (Unknown12 byte) = plain_decimal byte
+plain_token Cut = refl
+plain_token Short = refl
+plain_token End = refl
+
+plain_is_there : (token : CharToken) → list_all is_plain (is_there token) ≡ true
+plain_is_there (Unknown12 byte) = refl
+plain_is_there _ = refl
+
+plain_there : (rule : Rule) (token : CharToken) → list_all is_plain (there_text rule token) ≡ true
+plain_there rule token = simp (list_all-append is_plain, plain_token, plain_either, plain_is_there, either_same)
+
+plain_before : (rule : Rule) → list_all is_plain (since_before rule) ≡ true
+plain_before W02 = refl
+plain_before _ = refl
+
+plain_after : (rule : Rule) → list_all is_plain (since_after rule) ≡ true
+plain_after W02 = refl
+plain_after _ = refl
+
+plain_none : (rule : Rule) → list_all is_plain (since_none rule) ≡ true
+plain_none W02 = refl
+plain_none _ = refl
+
+plain_since : (rule : Rule) (step : Option ℕ) → list_all is_plain (since_text rule step) ≡ true
+plain_since rule None = plain_none rule
+plain_since rule (Some step) = simp (list_all-append is_plain, plain_before, plain_decimal, plain_after)
+
+plain_point : (point : Point) → list_all is_plain (point_text point) ≡ true
+plain_point point = simp (list_all-append is_plain, plain_by)
+
+plain_open : (start pen : Point) → list_all is_plain (open_text start pen) ≡ true
+plain_open start pen = simp (plain_either, list_all-append is_plain, plain_by, either_same)
+
+plain_miss : (named pen : Point) → list_all is_plain (miss_text named pen) ≡ true
+plain_miss named pen = simp (list_all-append is_plain, plain_by)
+
+plain_span : (stem : OneStem) → list_all is_plain (span_text stem) ≡ true
+plain_span stem = simp (list_all-append is_plain, plain_by)
+
+plain_stems : (own : OneStem) (other : SetStem) → list_all is_plain (stems_text own other) ≡ true
+unfolding stems_text
+plain_stems own other = simp (plain_either, list_all-append is_plain, plain_by, plain_decimal, plain_wide, either_same)
+
+plain_middles : (one two three : OneStem) → list_all is_plain (middles_text one two three) ≡ true
+unfolding middles_text
+plain_middles one two three = simp (list_all-append is_plain, plain_wide)
+
+plain_widths : (one two three : OneStem) → list_all is_plain (widths_text one two three) ≡ true
+unfolding widths_text
+plain_widths one two three = simp (list_all-append is_plain, plain_by)
+
+plain_off : (one two three : OneStem) → list_all is_plain (off_words one two three) ≡ true
+plain_off one two three = simp (plain_either, either_same)
+
+plain_triple : (one two three : OneStem) → list_all is_plain (triple_text one two three) ≡ true
+plain_triple one two three = simp (list_all-append is_plain, plain_widths, plain_middles, plain_off)
+
+plain_takes : (number : ℤ) → list_all is_plain (takes_words number) ≡ true
+plain_takes number = simp (plain_either, either_same)
+
+plain_call : (rule : Rule) (number count : ℤ) → list_all is_plain (call_text rule number count) ≡ true
+plain_call rule number count =
+    simp (list_all-append is_plain, plain_by, plain_arguments, plain_either, plain_takes, either_same)
+
+plain_arguments_there : (count : ℤ) (there : ℕ) → list_all is_plain (arguments_there_text count there) ≡ true
+plain_arguments_there count there = simp (list_all-append is_plain, plain_by, plain_are)
+
+plain_limit : (steps : ℕ) → list_all is_plain (limit_text steps) ≡ true
+plain_limit steps = simp (list_all-append is_plain, plain_decimal)
+
+-- ---- seac
+
+plain_name_words : (name : List ℕ) → list_all is_plain (name_words name) ≡ true
+plain_name_words [] = refl
+plain_name_words (letter ∷ letters) = plain_name (letter ∷ letters)
+
+plain_named : (code : ℤ) (name : List ℕ) → list_all is_plain (named_code_text code name) ≡ true
+plain_named code name = simp (list_all-append is_plain, plain_by, plain_name_words)
+
+plain_code : (rule : Rule) (code : ℤ) → list_all is_plain (code_text rule code) ≡ true
+unfolding code_text
+plain_code K01 code = plain_by 65536 code
+plain_code K03 code = list_all-append is_plain (named_code_text code (name_of_code code)) (codes ", which is no glyph") ∙ rw (plain_named code (name_of_code code)) refl
+plain_code _ code = plain_named code (name_of_code code)
+
+plain_both : (rule : Rule) (base accent : ℤ) → list_all is_plain (both_text rule base accent) ≡ true
+unfolding both_text
+plain_both rule base accent = simp (list_all-append is_plain, plain_code)
+
+plain_meant : (is_base is_accent : Bool) (rule : Rule) (base accent : ℤ) → list_all is_plain (meant_text is_base is_accent rule base accent) ≡ true
+plain_meant true false rule base accent = plain_code rule base
+plain_meant false true rule base accent = plain_code rule accent
+plain_meant true true rule base accent = plain_both rule base accent
+plain_meant false false rule base accent = plain_both rule base accent
+
+plain_sidebearings : (told own : ℤ) → list_all is_plain (sidebearings_text told own) ≡ true
+plain_sidebearings told own = simp (list_all-append is_plain, plain_by)
+
+-- ---- entries
+
+plain_entry_name : (rule : Rule) → list_all is_plain (entry_name rule) ≡ true
+plain_entry_name F03 = refl
+plain_entry_name _ = refl
+
+plain_entry_needed : (rule : Rule) → list_all is_plain (entry_needed rule) ≡ true
+plain_entry_needed F03 = refl
+plain_entry_needed _ = refl
+
+plain_value : (number : ℤ) → list_all is_plain (value_text number) ≡ true
+plain_value number = plain_by 1000000000 number
+
+plain_counted : (b : Bool) (rule : Rule) (count : ℕ)
+    → list_all is_plain (if b then numbers_text count ++ entry_needed rule else entry_name rule ++ codes " is no number") ≡ true
+plain_counted true rule count = list_all-append is_plain (numbers_text count) (entry_needed rule) ∙ rw (plain_numbers count, plain_entry_needed rule) refl
+plain_counted false rule count = list_all-append is_plain (entry_name rule) (codes " is no number") ∙ rw (plain_entry_name rule) refl
+
+plain_several : (rule : Rule) (count : ℕ) → list_all is_plain (several_text rule count) ≡ true
+plain_several rule count = plain_counted (counts_numbers rule) rule count
+
+plain_entry : (rule : Rule) (found : Found) → list_all is_plain (entry_text rule found) ≡ true
+plain_entry rule Absent = simp (list_all-append is_plain, plain_entry_name)
+plain_entry rule (One number) = simp (list_all-append is_plain, plain_entry_name, plain_by, plain_entry_needed)
+plain_entry rule (Several count) = plain_several rule count
+plain_entry rule Other = simp (list_all-append is_plain, plain_entry_name)
+
+plain_found : (found : Found) → list_all is_plain (found_text found) ≡ true
+plain_found Absent = refl
+plain_found (One number) = plain_value number
+plain_found (Several count) = plain_numbers count
+plain_found Other = refl
+
+plain_wanted : (wanted : EntryKind) → list_all is_plain (wanted_words wanted) ≡ true
+plain_wanted OneNumber = refl
+plain_wanted ManyNumbers = refl
+
+plain_kind : (found : Found) (wanted : EntryKind) → list_all is_plain (kind_text found wanted) ≡ true
+plain_kind found wanted = simp (list_all-append is_plain, plain_found, plain_wanted)
+
+plain_two : (one two : ℤ) → list_all is_plain (two_features_text one two) ≡ true
+plain_two one two = simp (list_all-append is_plain, plain_by)
+
+plain_some : (b : Bool) (one two : ℤ) (count : ℕ) → list_all is_plain (if b then two_features_text one two else found_text (Several count)) ≡ true
+plain_some true one two count = plain_two one two
+plain_some false one two count = plain_numbers count
+
+plain_features : (found : Found) (one two : ℤ) → list_all is_plain (features_text found one two) ≡ true
+plain_features (Several count) one two = plain_some (count == 2) one two count
+plain_features Absent one two = refl
+plain_features (One number) one two = plain_value number
+plain_features Other one two = refl
+
+plain_ids : (clear private : ℤ) → list_all is_plain (ids_text clear private) ≡ true
+plain_ids clear private = simp (list_all-append is_plain, plain_by)
+
+plain_form : (encoding : Encoding) → list_all is_plain (form_text encoding) ≡ true
+plain_form NoEncoding = refl
+plain_form _ = refl
+
+plain_glyphs : (count : ℕ) → list_all is_plain (glyphs_text count) ≡ true
+plain_glyphs count = simp (plain_either, list_all-append is_plain, plain_decimal, either_same)
+
+plain_code_names : (code : ℕ) (name : List ℕ) → list_all is_plain (code_names_text code name) ≡ true
+plain_code_names code name = simp (list_all-append is_plain, plain_decimal, plain_name)
+
+plain_twice : (twice is_past : Bool) → list_all is_plain (twice_words twice is_past) ≡ true
+plain_twice true true = refl
+plain_twice true false = refl
+plain_twice false true = refl
+plain_twice false false = refl
+
+plain_past : (is_past : Bool) (size : ℕ) → list_all is_plain (past_words is_past size) ≡ true
+plain_past true size = plain_decimal size
+plain_past false size = refl
+
+plain_subr_entry : (number : ℕ) (twice is_past : Bool) (size : ℕ) → list_all is_plain (subr_entry_text number twice is_past size) ≡ true
+plain_subr_entry number twice is_past size = simp (list_all-append is_plain, plain_decimal, plain_twice, plain_past)
+
+-- ---- zones
+
+plain_too_many : (count most : ℕ) → list_all is_plain (too_many_text count most) ≡ true
+plain_too_many count most = simp (list_all-append is_plain, plain_numbers, plain_decimal)
+
+plain_falling : (before number : ℤ) → list_all is_plain (falling_text before number) ≡ true
+plain_falling before number = simp (list_all-append is_plain, plain_by)
+
+plain_distance : (distance : ℤ) → list_all is_plain (needed_text distance) ≡ true
+plain_distance distance = simp (list_all-append is_plain, plain_wide)
+
+plain_gap : (top bottom distance : ℤ) → list_all is_plain (gap_text top bottom distance) ≡ true
+plain_gap top bottom distance = simp (list_all-append is_plain, plain_by, plain_wide)
+
+plain_edges : (edges : Edges) → list_all is_plain (edges_text edges) ≡ true
+plain_edges edges = simp (list_all-append is_plain, plain_by)
+
+plain_below : (own : Edges) (gap : ℤ) (other : Edges) → list_all is_plain (below_text own gap other) ≡ true
+unfolding below_text
+plain_below own gap other = simp (list_all-append is_plain, plain_by, plain_wide)
+
+plain_above : (own : Edges) (gap : ℤ) (other : Edges) → list_all is_plain (above_text own gap other) ≡ true
+unfolding above_text
+plain_above own gap other = simp (list_all-append is_plain, plain_by, plain_wide)
+
+plain_meets : (own other : Edges) → list_all is_plain (meets_text own other) ≡ true
+unfolding meets_text
+plain_meets own other = simp (list_all-append is_plain, plain_by)
+
+plain_apart : (own other : Edges) (below above : ℤ) → list_all is_plain (apart_by own other below above) ≡ true
+unfolding apart_by
+plain_apart own other below above = simp (plain_either, plain_below, plain_above, plain_meets, either_same)
+
+plain_zones : (own other : Edges) (distance : ℤ) → list_all is_plain (zones_text own other distance) ≡ true
+plain_zones own other distance = simp (list_all-append is_plain, plain_apart, plain_wide)
+
+plain_height : (bottom top scale : ℤ) → list_all is_plain (height_text bottom top scale) ≡ true
+unfolding height_text
+plain_height bottom top scale = simp (list_all-append is_plain, plain_by, plain_wide)
+
+plain_below_one : list_all is_plain below_one ≡ true
+unfolding below_one
+plain_below_one = refl
+
+plain_zone : (bottom top scale : ℤ) → list_all is_plain (zone_text bottom top scale) ≡ true
+plain_zone bottom top scale = simp (list_all-append is_plain, plain_by, plain_height, plain_below_one)
+
+plain_width : (width nearest : ℤ) → list_all is_plain (width_text width nearest) ≡ true
+plain_width width nearest = simp (list_all-append is_plain, plain_by)
+
+-- ---- all
+
+pub are_one_line : AreOneLine
+unfolding reason_text
+are_one_line font rule Nothing = refl
+are_one_line font rule (Count command taken there) = plain_count command taken there
+are_one_line font rule (Argument place number) = plain_argument place number
+are_one_line font rule (Quotient dividend divisor) = plain_quotient dividend divisor
+are_one_line font rule (Depth calls) = plain_depth calls
+are_one_line font rule (Subr number found) = plain_subr number found
+are_one_line font rule (Token token) = plain_there rule token
+are_one_line font rule (Since step) = plain_since rule step
+are_one_line font rule (Open start pen) = plain_open start pen
+are_one_line font rule (Stems own other) = plain_stems own other
+are_one_line font rule (Stem stem) = plain_by 65536 stem.position
+are_one_line font rule (Triple one two three) = plain_triple one two three
+are_one_line font rule (Miss named pen) = plain_miss named pen
+are_one_line font rule (Othersubr number count) = plain_call rule number count
+are_one_line font rule (Arguments count there) = plain_arguments_there count there
+are_one_line font rule (Codes base accent) = plain_meant (is_meant font rule base) (is_meant font rule accent) rule base accent
+are_one_line font rule (Sidebearings told own) = plain_sidebearings told own
+are_one_line font rule (Limit steps) = plain_limit steps
+are_one_line font rule (Entry found) = plain_entry rule found
+are_one_line font rule (Ids clear private) = plain_ids clear private
+are_one_line font rule (Features found one two) = plain_features found one two
+are_one_line font rule (Glyphs count) = plain_glyphs count
+are_one_line font rule (Form encoding) = plain_form encoding
+are_one_line font rule (SubrEntry number twice size) = plain_subr_entry number twice (not (nat_lt number size)) size
+are_one_line font rule (Kind found wanted) = plain_kind found wanted
+are_one_line font rule (TooMany count most) = plain_too_many count most
+are_one_line font rule (Numbers count) = plain_numbers count
+are_one_line font rule (Glyph glyph) = plain_name (glyph_name font glyph)
+are_one_line font rule (Code code) = plain_code_names code (encoded_name font code)
+are_one_line font rule (Falling before number) = plain_falling before number
+are_one_line font rule (Gap top bottom distance) = plain_gap top bottom distance
+are_one_line font rule (Zones own other distance) = plain_zones own other distance
+are_one_line font rule (Zone bottom top scale) = plain_zone bottom top scale
+are_one_line font rule (Width width nearest) = plain_width width nearest

@@ -1,0 +1,518 @@
+-- No text is longer than 400 bytes.
+use Rattle.std.proofs.Common.{◌≤◌, ◌^◌, ◌==◌, ◌++◌, ◌-ℤ◌, ◌+ℤ◌, ◌*ℤ◌, not, if◌then◌else◌, int_le, int_lt, ℕ, ℤ, pos, Bool, true, false, Option, Some, None, List, [], ◌∷◌, length, length-append, nat_lt, arith, codes, unsigned_abs, decimal}
+use Rattle.t1_char.specs.declared.command.Command.{Command as Commands}
+use Rattle.t1_char.specs.declared.command.Command.TheVariants.{Callothersubr}
+use Rattle.t1_char.specs.declared.token.CharToken.{CharToken}
+use Rattle.t1_char.specs.declared.token.CharToken.TheVariants.{Number, Command, Unknown, Unknown12, Cut, Short, End}
+use Rattle.t1_font.specs.declared.encoding.Encoding.{Encoding}
+use Rattle.t1_font.specs.declared.encoding.Encoding.TheVariants.{Absent as NoEncoding}
+use Rattle.t1_font.specs.Fonts.{glyph_name}
+use Rattle.t1_reasons.specs.declared.reason.Edges.{Edges}
+use Rattle.t1_reasons.specs.declared.reason.EntryKind.{EntryKind}
+use Rattle.t1_reasons.specs.declared.reason.EntryKind.TheVariants.{Number as OneNumber, Numbers as ManyNumbers}
+use Rattle.t1_reasons.specs.declared.reason.Found.{Found}
+use Rattle.t1_reasons.specs.declared.reason.Found.TheVariants.{Absent, One, Other, Several}
+use Rattle.t1_reasons.specs.declared.reason.Reason.TheVariants.{Argument, Arguments, Code, Codes, Count, Depth, Entry, Falling, Features, Form, Gap, Glyph, Glyphs, Ids, Kind, Limit, Miss, Nothing, Numbers, Open, Othersubr, Quotient, Sidebearings, Since, Stem, Stems, Subr, SubrEntry, Token, TooMany, Triple, Width, Zone, Zones}
+use Rattle.t1_reasons.specs.declared.reason.SetStem.{SetStem}
+use Rattle.t1_rules.specs.declared.rule.Rule.{Rule}
+use Rattle.t1_rules.specs.declared.step_rules.flex.Point.{Point}
+use Rattle.t1_rules.specs.declared.step_rules.stems.Stem.{Stem as OneStem}
+use Rattle.t1_rules.specs.declared.rule.Rule.TheVariants.{F03, K01, K03, W02}
+use Rattle.t1_decimals.specs.Decimals.{decimal_by, point_text}
+use Rattle.t1_reason_texts.specs.FontTexts.{code_names_text, counts_numbers, encoded_name, entry_name, entry_needed, entry_text, features_text, form_text, found_text, glyphs_text, ids_text, kind_text, past_words, subr_entry_text, twice_words, two_features_text, value_text, wanted_words}
+use Rattle.t1_reason_texts.specs.declared.wide.Count.TheVariants.{Coordinate}
+use Rattle.t1_reason_texts.specs.Decimals.{wide_by, wide_text}
+use Rattle.t1_reason_texts.specs.Laws.{AreShort, IsOfTypesEdges, IsOfTypesStem}
+use Rattle.t1_reason_texts.specs.Names.{shown_name}
+use Rattle.t1_rules.specs.StepRules.Stems.{lower, twice_middle, upper}
+use Rattle.t1_reason_texts.specs.SeacTexts.{accent_text, both_text, code_text, is_meant, meant_text, name_of_code, name_words, named_code_text, sidebearings_text}
+use Rattle.t1_reason_texts.specs.StepTexts.{are_same_points, are_same_stems, argument_text, arguments_there_text, bound_words, count_text, depth_text, is_counted, is_there, limit_text, middles_text, miss_text, off_words, open_text, or_more, othersubr_text, pair_text, quotient_text, share, since_after, since_before, since_none, since_text, span_text, stems_text, subr_text, takes_words, there_text, token_text, triple_text, twins_text, widths_text}
+use Rattle.t1_reason_texts.specs.Texts.{reason_text}
+use Rattle.t1_reason_texts.specs.Words.{are_text, arguments_text, numbers_text}
+use Rattle.t1_reason_texts.specs.ZoneTexts.{above_text, apart_by, apart_text, below_one, below_text, edges_text, falling_text, gap_text, height_text, meets_text, needed_text, too_many_text, width_text, zone_text, zones_text}
+use Rattle.t1_reason_texts.proofs.ShortParts.{abs_sum, length_either, short_by, short_command, short_coordinate, short_decimal, short_int_coordinate, short_long_value, short_name, short_signed, short_wide}
+
+-- ---- words
+
+short_numbers : (count : ℕ) → length (numbers_text count) ≤ 72
+short_numbers count = simp (length_either, length-append) (grind (arith, short_decimal count))
+
+short_are : (count : ℕ) → length (are_text count) ≤ 68
+short_are count = simp (length_either, length-append) (grind (arith, short_decimal count))
+
+short_arguments : (count : ℤ) → length (arguments_text count) ≤ 92
+short_arguments count = simp (length_either, length-append) (grind (arith, short_by 65536 count (omega arith)))
+
+-- ---- steps
+
+short_more : (command : Commands) → length (or_more command) ≤ 8
+short_more Callothersubr = omega arith
+short_more _ = omega arith
+
+short_count : (command : Commands) (taken there : ℕ) → length (count_text command taken there) ≤ 400
+short_count command taken there =
+    simp length-append (omega (arith, short_command command, short_numbers taken, short_more command, short_are there))
+
+short_bound : (number : ℤ) → length (bound_words number) ≤ 15
+short_bound number = simp length_either (grind arith)
+
+short_argument : (place : ℕ) (number : ℤ) → length (argument_text place number) ≤ 400
+short_argument place number = simp length-append (omega (arith, short_decimal place, short_by 65536 number (omega arith), short_bound number))
+
+short_quotient : (dividend divisor : ℤ) → length (quotient_text dividend divisor) ≤ 400
+short_quotient dividend divisor =
+    simp length-append (omega (arith, short_by 65536 dividend (omega arith), short_by 65536 divisor (omega arith)))
+
+short_subr : (number : ℤ) (found : Bool) → length (subr_text number found) ≤ 400
+short_subr number true = omega (arith, short_by 65536 number (omega arith))
+short_subr number false = omega (arith, short_by 65536 number (omega arith))
+
+short_depth : (calls : ℕ) → length (depth_text calls) ≤ 400
+short_depth calls = simp (length_either, length-append) (grind (arith, short_decimal calls))
+
+short_token : (token : CharToken) → length (token_text token) ≤ 80
+short_token (Number number) = omega (arith, short_signed number)
+short_token (Command command) = omega (arith, short_command command)
+short_token (Unknown byte) = omega (arith, short_decimal byte)
+short_token (Unknown12 byte) = omega (arith, short_decimal byte)
+short_token Cut = omega arith
+short_token Short = omega arith
+short_token End = omega arith
+
+short_is_there : (token : CharToken) → length (is_there token) ≤ 10
+short_is_there (Unknown12 byte) = omega arith
+short_is_there _ = omega arith
+
+short_there : (rule : Rule) (token : CharToken) → length (there_text rule token) ≤ 400
+short_there rule token = simp (length_either, length-append) (grind (arith, short_token token, short_is_there token))
+
+short_before : (rule : Rule) → length (since_before rule) ≤ 28
+short_before W02 = omega arith
+short_before _ = omega arith
+
+short_after : (rule : Rule) → length (since_after rule) ≤ 7
+short_after W02 = omega arith
+short_after _ = omega arith
+
+short_none : (rule : Rule) → length (since_none rule) ≤ 26
+short_none W02 = omega arith
+short_none _ = omega arith
+
+short_since : (rule : Rule) (step : Option ℕ) → length (since_text rule step) ≤ 400
+short_since rule None = omega (arith, short_none rule)
+short_since rule (Some step) = simp length-append (omega (arith, short_before rule, short_decimal step, short_after rule))
+
+short_point : (point : Point) → length (point_text point) ≤ 165
+short_point point = simp length-append (omega (arith, short_by 65536 point.x (omega arith), short_by 65536 point.y (omega arith)))
+
+short_way : (start pen : Point) → length (codes "from " ++ (point_text start ++ (codes " to " ++ point_text pen))) ≤ 400
+short_way start pen =
+    let one = short_point start in
+    let two = short_point pen in
+    let first = length-append (point_text start) (codes " to " ++ point_text pen) in
+    omega (arith, one, two, first)
+
+short_open_by : (b : Bool) (start pen : Point)
+    → length (if b then codes "ends where it began, without closepath" else codes "from " ++ (point_text start ++ (codes " to " ++ point_text pen))) ≤ 400
+short_open_by true start pen = omega arith
+short_open_by false start pen = short_way start pen
+
+short_open : (start pen : Point) → length (open_text start pen) ≤ 400
+short_open start pen = short_open_by (are_same_points start pen) start pen
+
+short_miss : (named pen : Point) → length (miss_text named pen) ≤ 400
+short_miss named pen =
+    let one = short_point pen in
+    let two = short_point named in
+    let first = length-append (point_text pen) (codes ", the end names " ++ point_text named) in
+    omega (arith, one, two, first)
+
+abs_lower : (b : Bool) (p w : ℤ) → unsigned_abs p ≤ 2 ^ 31 → unsigned_abs w ≤ 2 ^ 31 → unsigned_abs (if b then p +ℤ w else p) ≤ 2 ^ 32
+abs_lower true p w one two = omega (arith, abs_sum p w, one, two)
+abs_lower false p w one two = omega (arith, one)
+
+abs_upper : (b : Bool) (p w : ℤ) → unsigned_abs p ≤ 2 ^ 31 → unsigned_abs w ≤ 2 ^ 31 → unsigned_abs (if b then p else p +ℤ w) ≤ 2 ^ 32
+abs_upper true p w one two = omega (arith, one)
+abs_upper false p w one two = omega (arith, abs_sum p w, one, two)
+
+short_span : (stem : OneStem) → IsOfTypesStem stem → length (span_text stem) ≤ 80
+short_span stem is =
+    let low = short_coordinate (lower stem) (omega (arith, abs_lower (int_lt (stem.position +ℤ stem.width) stem.position) stem.position stem.width is.position is.width)) in
+    let high = short_coordinate (upper stem) (omega (arith, abs_upper (int_lt (stem.position +ℤ stem.width) stem.position) stem.position stem.width is.position is.width)) in
+    simp length-append (omega (arith, low, high))
+
+short_stems_by : (b : Bool) (own : OneStem) (other : SetStem) → IsOfTypesStem own → IsOfTypesStem other.stem
+    → length (if b then twins_text own other.step else pair_text own other) ≤ 400
+short_stems_by true own other is_own is_other =
+    let first = length-append (span_text own) (codes ", the same stem is set at step " ++ decimal other.step) in
+    omega (arith, first, short_span own is_own, short_decimal other.step)
+short_stems_by false own other is_own is_other =
+    let third = length-append (decimal other.step) (codes ", share " ++ wide_text Coordinate (share own other.stem)) in
+    let second = length-append (span_text other.stem) (codes ", set at step " ++ (decimal other.step ++ (codes ", share " ++ wide_text Coordinate (share own other.stem)))) in
+    let first = length-append (span_text own)
+    (codes " and " ++ (span_text other.stem ++ (codes ", set at step " ++ (decimal other.step ++ (codes ", share " ++ wide_text Coordinate (share own other.stem)))))) in
+    omega (arith, first, second, third, short_span own is_own, short_span other.stem is_other, short_decimal other.step, short_wide 65536 (share own other.stem) (omega arith))
+
+short_stems : (own : OneStem) (other : SetStem) → IsOfTypesStem own → IsOfTypesStem other.stem → length (stems_text own other) ≤ 400
+unfolding stems_text
+short_stems own other is_own is_other = short_stems_by (are_same_stems own other.stem) own other is_own is_other
+
+short_middles : (one two three : OneStem) → length (middles_text one two three) ≤ 254
+unfolding middles_text
+short_middles one two three =
+    simp length-append (omega (
+      arith,
+      short_wide 131072 (twice_middle one) (omega arith),
+      short_wide 131072 (twice_middle two) (omega arith),
+      short_wide 131072 (twice_middle three) (omega arith),
+    ))
+
+short_widths : (one two three : OneStem) → IsOfTypesStem one → IsOfTypesStem two → IsOfTypesStem three → length (widths_text one two three) ≤ 86
+unfolding widths_text
+short_widths one two three is_one is_two is_three =
+    simp length-append (omega (
+      arith,
+      short_int_coordinate one.width is_one.width,
+      short_int_coordinate two.width is_two.width,
+      short_int_coordinate three.width is_three.width,
+    ))
+
+short_off : (one two three : OneStem) → length (off_words one two three) ≤ 17
+short_off one two three = simp length_either (grind arith)
+
+short_triple : (one two three : OneStem) → IsOfTypesStem one → IsOfTypesStem two → IsOfTypesStem three → length (triple_text one two three) ≤ 400
+short_triple one two three is_one is_two is_three =
+    simp length-append (omega (arith, short_widths one two three is_one is_two is_three, short_middles one two three, short_off one two three))
+
+short_takes : (number : ℤ) → length (takes_words number) ≤ 15
+short_takes number = simp length_either (grind arith)
+
+short_othersubr : (number count : ℤ) → length (othersubr_text number count) ≤ 190
+short_othersubr number count =
+    let first = length-append (decimal_by 65536 number) (codes " with " ++ arguments_text count) in
+    omega (arith, first, short_by 65536 number (omega arith), short_arguments count)
+
+short_call_by : (b : Bool) (number count : ℤ) → length (othersubr_text number count ++ (if b then takes_words number else [])) ≤ 400
+short_call_by true number count = omega (arith, length-append (othersubr_text number count) (takes_words number), short_othersubr number count, short_takes number)
+short_call_by false number count = omega (arith, length-append (othersubr_text number count) [], short_othersubr number count)
+
+short_arguments_there : (count : ℤ) (there : ℕ) → length (arguments_there_text count there) ≤ 400
+short_arguments_there count there =
+    let second = length-append (are_text there) (codes " there") in
+    let first = length-append (decimal_by 65536 count) (codes ", " ++ (are_text there ++ codes " there")) in
+    omega (arith, first, second, short_by 65536 count (omega arith), short_are there)
+
+short_limit : (steps : ℕ) → length (limit_text steps) ≤ 400
+short_limit steps = simp length-append (omega (arith, short_decimal steps))
+
+-- ---- seac
+
+short_name_words : (name : List ℕ) → length (name_words name) ≤ 67
+short_name_words [] = omega arith
+short_name_words (letter ∷ letters) = omega (arith, short_name (letter ∷ letters))
+
+short_named : (code : ℤ) (name : List ℕ) → length (named_code_text code name) ≤ 154
+short_named code name =
+    omega (arith, length-append (decimal_by 65536 code) (name_words name), short_by 65536 code (omega arith), short_name_words name)
+
+short_code : (rule : Rule) (code : ℤ) → length (code_text rule code) ≤ 173
+unfolding code_text
+short_code K01 code = omega (arith, short_by 65536 code (omega arith))
+short_code K03 code =
+    omega (arith, length-append (named_code_text code (name_of_code code)) (codes ", which is no glyph"), short_named code (name_of_code code))
+short_code _ code = omega (arith, short_named code (name_of_code code))
+
+short_both : (rule : Rule) (base accent : ℤ) → length (both_text rule base accent) ≤ 400
+unfolding both_text
+short_both rule base accent =
+    omega (arith, length-append (code_text rule base) (codes " and " ++ accent_text rule accent), short_code rule base, short_code rule accent)
+
+short_meant : (is_base is_accent : Bool) (rule : Rule) (base accent : ℤ) → length (meant_text is_base is_accent rule base accent) ≤ 400
+short_meant true false rule base accent = omega (arith, short_code rule base)
+short_meant false true rule base accent = omega (arith, short_code rule accent)
+short_meant true true rule base accent = short_both rule base accent
+short_meant false false rule base accent = short_both rule base accent
+
+short_sidebearings : (told own : ℤ) → length (sidebearings_text told own) ≤ 400
+short_sidebearings told own =
+    omega (
+      arith,
+      length-append (decimal_by 65536 told) (codes ", the accent's sidebearing is " ++ decimal_by 65536 own),
+      short_by 65536 told (omega arith),
+      short_by 65536 own (omega arith),
+    )
+
+-- ---- entries
+
+short_entry_name : (rule : Rule) → length (entry_name rule) ≤ 9
+short_entry_name F03 = omega arith
+short_entry_name _ = omega arith
+
+short_entry_needed : (rule : Rule) → length (entry_needed rule) ≤ 25
+short_entry_needed F03 = omega arith
+short_entry_needed _ = omega arith
+
+short_value : (number : ℤ) → length (value_text number) ≤ 82
+short_value number = short_by 1000000000 number (omega arith)
+
+short_counted : (b : Bool) (rule : Rule) (count : ℕ)
+    → length (if b then numbers_text count ++ entry_needed rule else entry_name rule ++ codes " is no number") ≤ 400
+short_counted true rule count =
+    omega (arith, length-append (numbers_text count) (entry_needed rule), short_numbers count, short_entry_needed rule)
+short_counted false rule count = omega (arith, length-append (entry_name rule) (codes " is no number"), short_entry_name rule)
+
+short_entry : (rule : Rule) (found : Found) → length (entry_text rule found) ≤ 400
+short_entry rule Absent = omega (arith, length-append (entry_name rule) (codes " is not there"), short_entry_name rule)
+short_entry rule (One number) =
+    omega (
+      arith,
+      length-append (entry_name rule) (codes " is " ++ (value_text number ++ entry_needed rule)),
+      length-append (value_text number) (entry_needed rule),
+      short_entry_name rule,
+      short_value number,
+      short_entry_needed rule,
+    )
+short_entry rule (Several count) = short_counted (counts_numbers rule) rule count
+short_entry rule Other = omega (arith, length-append (entry_name rule) (codes " is no number"), short_entry_name rule)
+
+short_found : (found : Found) → length (found_text found) ≤ 99
+short_found Absent = omega arith
+short_found (One number) = omega (arith, short_value number)
+short_found (Several count) = omega (arith, short_numbers count)
+short_found Other = omega arith
+
+short_wanted : (wanted : EntryKind) → length (wanted_words wanted) ≤ 29
+short_wanted OneNumber = omega arith
+short_wanted ManyNumbers = omega arith
+
+short_kind : (found : Found) (wanted : EntryKind) → length (kind_text found wanted) ≤ 400
+short_kind found wanted = omega (arith, length-append (found_text found) (wanted_words wanted), short_found found, short_wanted wanted)
+
+short_two : (one two : ℤ) → length (two_features_text one two) ≤ 400
+short_two one two =
+    omega (
+      arith,
+      length-append (value_text one) (codes " " ++ (value_text two ++ codes "}")),
+      length-append (value_text two) (codes "}"),
+      short_value one,
+      short_value two,
+    )
+
+short_some : (b : Bool) (one two : ℤ) (count : ℕ) → length (if b then two_features_text one two else found_text (Several count)) ≤ 400
+short_some true one two count = short_two one two
+short_some false one two count = omega (arith, short_numbers count)
+
+short_features : (found : Found) (one two : ℤ) → length (features_text found one two) ≤ 400
+short_features (Several count) one two = short_some (count == 2) one two count
+short_features Absent one two = omega arith
+short_features (One number) one two = omega (arith, short_value number)
+short_features Other one two = omega arith
+
+short_ids : (clear private : ℤ) → length (ids_text clear private) ≤ 400
+short_ids clear private =
+    omega (
+      arith,
+      length-append (value_text clear) (codes " in the clear text, " ++ (value_text private ++ codes " in Private")),
+      length-append (value_text private) (codes " in Private"),
+      short_value clear,
+      short_value private,
+    )
+
+short_form : (encoding : Encoding) → length (form_text encoding) ≤ 400
+short_form NoEncoding = omega arith
+short_form _ = omega arith
+
+short_glyphs : (count : ℕ) → length (glyphs_text count) ≤ 400
+short_glyphs count = simp (length_either, length-append) (grind (arith, short_decimal count))
+
+short_code_names : (code : ℕ) (name : List ℕ) → length (code_names_text code name) ≤ 400
+short_code_names code name =
+    omega (arith, length-append (decimal code) (codes " names " ++ shown_name name), short_decimal code, short_name name)
+
+short_twice : (twice is_past : Bool) → length (twice_words twice is_past) ≤ 21
+short_twice true true = omega arith
+short_twice true false = omega arith
+short_twice false true = omega arith
+short_twice false false = omega arith
+
+short_past : (is_past : Bool) (size : ℕ) → length (past_words is_past size) ≤ 81
+short_past true size = omega (arith, short_decimal size)
+short_past false size = omega arith
+
+short_subr_entry : (number : ℕ) (twice is_past : Bool) (size : ℕ) → length (subr_entry_text number twice is_past size) ≤ 400
+short_subr_entry number twice is_past size =
+    omega (
+      arith,
+      length-append (decimal number) (twice_words twice is_past ++ past_words is_past size),
+      length-append (twice_words twice is_past) (past_words is_past size),
+      short_decimal number,
+      short_twice twice is_past,
+      short_past is_past size,
+    )
+
+-- ---- zones
+
+short_too_many : (count most : ℕ) → length (too_many_text count most) ≤ 400
+short_too_many count most =
+    omega (
+      arith,
+      length-append (numbers_text count) (codes ", " ++ (decimal most ++ codes " at most")),
+      length-append (decimal most) (codes " at most"),
+      short_numbers count,
+      short_decimal most,
+    )
+
+short_falling : (before number : ℤ) → length (falling_text before number) ≤ 400
+short_falling before number =
+    omega (arith, length-append (value_text number) (codes " comes after " ++ value_text before), short_value number, short_value before)
+
+short_distance : (distance : ℤ) → length (needed_text distance) ≤ 96
+short_distance distance =
+    omega (arith, length-append (wide_by 1000000000 distance) (codes " is needed"), short_wide 1000000000 distance (omega arith))
+
+short_gap : (top bottom distance : ℤ) → length (gap_text top bottom distance) ≤ 400
+short_gap top bottom distance =
+    omega (
+      arith,
+      length-append (value_text top) (codes " to " ++ (value_text bottom ++ (codes " is " ++ (wide_by 1000000000 (bottom -ℤ top) ++ needed_text distance)))),
+      length-append (value_text bottom) (codes " is " ++ (wide_by 1000000000 (bottom -ℤ top) ++ needed_text distance)),
+      length-append (wide_by 1000000000 (bottom -ℤ top)) (needed_text distance),
+      short_value top,
+      short_value bottom,
+      short_wide 1000000000 (bottom -ℤ top) (omega arith),
+      short_distance distance,
+    )
+
+short_edges : (edges : Edges) → IsOfTypesEdges edges → length (edges_text edges) ≤ 80
+short_edges edges is =
+    omega (
+      arith,
+      length-append (value_text edges.lower) (codes " to " ++ value_text edges.upper),
+      short_long_value edges.lower (omega (arith, is.lower)),
+      short_long_value edges.upper (omega (arith, is.upper)),
+    )
+
+short_lies : (own : Edges) (gap : ℤ) (words : List ℕ) (other : Edges) → IsOfTypesEdges own → IsOfTypesEdges other → length words ≤ 12
+    → length (codes "zone " ++ (edges_text own ++ (codes " lies " ++ (wide_by 1000000000 gap ++ (words ++ edges_text other))))) ≤ 270
+short_lies own gap words other is_own is_other few =
+    omega (
+      arith,
+      length-append (edges_text own) (codes " lies " ++ (wide_by 1000000000 gap ++ (words ++ edges_text other))),
+      length-append (wide_by 1000000000 gap) (words ++ edges_text other),
+      length-append words (edges_text other),
+      short_edges own is_own,
+      short_edges other is_other,
+      short_wide 1000000000 gap (omega arith),
+      few,
+    )
+
+short_below : (own : Edges) (gap : ℤ) (other : Edges) → IsOfTypesEdges own → IsOfTypesEdges other → length (below_text own gap other) ≤ 270
+unfolding below_text
+short_below own gap other is_own is_other = short_lies own gap (codes " below zone ") other is_own is_other (omega arith)
+
+short_above : (own : Edges) (gap : ℤ) (other : Edges) → IsOfTypesEdges own → IsOfTypesEdges other → length (above_text own gap other) ≤ 270
+unfolding above_text
+short_above own gap other is_own is_other = short_lies own gap (codes " above zone ") other is_own is_other (omega arith)
+
+short_meets : (own other : Edges) → IsOfTypesEdges own → IsOfTypesEdges other → length (meets_text own other) ≤ 270
+unfolding meets_text
+short_meets own other is_own is_other =
+    omega (arith, length-append (edges_text own) (codes " overlaps zone " ++ edges_text other), short_edges own is_own, short_edges other is_other)
+
+short_one_of : (b d : Bool) (own other : Edges) (below above : ℤ) → IsOfTypesEdges own → IsOfTypesEdges other
+    → length (if b then below_text own below other else (if d then above_text own above other else meets_text own other)) ≤ 270
+short_one_of true d own other below above is_own is_other = short_below own below other is_own is_other
+short_one_of false true own other below above is_own is_other = short_above own above other is_own is_other
+short_one_of false false own other below above is_own is_other = short_meets own other is_own is_other
+
+short_apart : (own other : Edges) (below above : ℤ) → IsOfTypesEdges own → IsOfTypesEdges other → length (apart_by own other below above) ≤ 270
+unfolding apart_by
+short_apart own other below above is_own is_other = short_one_of (int_le (pos 0) below) (int_le (pos 0) above) own other below above is_own is_other
+
+short_zones : (own other : Edges) (distance : ℤ) → IsOfTypesEdges own → IsOfTypesEdges other → length (zones_text own other distance) ≤ 400
+short_zones own other distance is_own is_other =
+    omega (
+      arith,
+      length-append (apart_text own other) (needed_text distance),
+      short_apart own other (other.lower -ℤ own.upper) (own.lower -ℤ other.upper) is_own is_other,
+      short_distance distance,
+    )
+
+short_height : (bottom top scale : ℤ) → unsigned_abs scale ≤ 2 ^ 63 → length (height_text bottom top scale) ≤ 234
+unfolding height_text
+short_height bottom top scale is_scale =
+    omega (
+      arith,
+      length-append (wide_by 1000000000 (top -ℤ bottom)) (codes " times BlueScale " ++ (value_text scale ++ (codes " is " ++ wide_by 1000000000000000000 ((top -ℤ bottom) *ℤ scale)))),
+      length-append (value_text scale) (codes " is " ++ wide_by 1000000000000000000 ((top -ℤ bottom) *ℤ scale)),
+      short_wide 1000000000 (top -ℤ bottom) (omega arith),
+      short_long_value scale (omega (arith, is_scale)),
+      short_wide 1000000000000000000 ((top -ℤ bottom) *ℤ scale) (omega arith),
+    )
+
+short_below_one : length below_one ≤ 23
+unfolding below_one
+short_below_one = omega arith
+
+short_zone : (bottom top scale : ℤ) → unsigned_abs bottom ≤ 2 ^ 63 → unsigned_abs top ≤ 2 ^ 63 → unsigned_abs scale ≤ 2 ^ 63
+    → length (zone_text bottom top scale) ≤ 400
+short_zone bottom top scale is_bottom is_top is_scale =
+    omega (
+      arith,
+      length-append (value_text bottom) (codes " to " ++ (value_text top ++ (codes ", " ++ (height_text bottom top scale ++ below_one)))),
+      length-append (value_text top) (codes ", " ++ (height_text bottom top scale ++ below_one)),
+      length-append (height_text bottom top scale) below_one,
+      short_long_value bottom (omega (arith, is_bottom)),
+      short_long_value top (omega (arith, is_top)),
+      short_height bottom top scale is_scale,
+      short_below_one,
+    )
+
+short_width : (width nearest : ℤ) → length (width_text width nearest) ≤ 400
+short_width width nearest =
+    omega (
+      arith,
+      length-append (value_text width) (codes " is none of the snaps; " ++ (value_text nearest ++ codes " is nearest")),
+      length-append (value_text nearest) (codes " is nearest"),
+      short_value width,
+      short_value nearest,
+    )
+
+-- ---- all
+
+pub are_short : AreShort
+unfolding reason_text
+are_short font rule Nothing is = omega arith
+are_short font rule (Count command taken there) is = short_count command taken there
+are_short font rule (Argument place number) is = short_argument place number
+are_short font rule (Quotient dividend divisor) is = short_quotient dividend divisor
+are_short font rule (Depth calls) is = short_depth calls
+are_short font rule (Subr number found) is = short_subr number found
+are_short font rule (Token token) is = short_there rule token
+are_short font rule (Since step) is = short_since rule step
+are_short font rule (Open start pen) is = short_open start pen
+are_short font rule (Stems own other) is = short_stems own other is.0 is.1
+are_short font rule (Stem stem) is = omega (arith, short_by 65536 stem.position (omega arith))
+are_short font rule (Triple one two three) is = short_triple one two three is.0 is.1 is.2
+are_short font rule (Miss named pen) is = short_miss named pen
+are_short font rule (Othersubr number count) is = short_call_by (is_counted rule) number count
+are_short font rule (Arguments count there) is = short_arguments_there count there
+are_short font rule (Codes base accent) is = short_meant (is_meant font rule base) (is_meant font rule accent) rule base accent
+are_short font rule (Sidebearings told own) is = short_sidebearings told own
+are_short font rule (Limit steps) is = short_limit steps
+are_short font rule (Entry found) is = short_entry rule found
+are_short font rule (Ids clear private) is = short_ids clear private
+are_short font rule (Features found one two) is = short_features found one two
+are_short font rule (Glyphs count) is = short_glyphs count
+are_short font rule (Form encoding) is = short_form encoding
+are_short font rule (SubrEntry number twice size) is = short_subr_entry number twice (not (nat_lt number size)) size
+are_short font rule (Kind found wanted) is = short_kind found wanted
+are_short font rule (TooMany count most) is = short_too_many count most
+are_short font rule (Numbers count) is = omega (arith, short_numbers count)
+are_short font rule (Glyph glyph) is = omega (arith, short_name (glyph_name font glyph))
+are_short font rule (Code code) is = short_code_names code (encoded_name font code)
+are_short font rule (Falling before number) is = short_falling before number
+are_short font rule (Gap top bottom distance) is = short_gap top bottom distance
+are_short font rule (Zones own other distance) is = short_zones own other distance is.0 is.1
+are_short font rule (Zone bottom top scale) is = short_zone bottom top scale is.0 is.1 is.2
+are_short font rule (Width width nearest) is = short_width width nearest

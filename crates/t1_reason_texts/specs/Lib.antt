@@ -1,0 +1,10 @@
+-- Definitions.
+pub mod Decimals
+pub mod FontTexts
+pub mod Laws
+pub mod Names
+pub mod SeacTexts
+pub mod StepTexts
+pub mod Texts
+pub mod Words
+pub mod ZoneTexts

@@ -1,0 +1,190 @@
+-- The texts of reasons that steps have.
+use Rattle.std.specs.Prelude.{ℕ, ℤ, pos, ◌-ℤ◌, ◌+ℤ◌, ◌*ℤ◌, ◌==◌, ◌&&◌, ◌||◌, Bool, true, false, Option, Some, None, List, [], ◌++◌, codes, if◌then◌else◌}
+use Rattle.std.specs.Int.{int_max, int_min, is_negative}
+use Rattle.std.specs.Ordering.{int_eq}
+use Rattle.std.specs.Fmt.{decimal, signed_decimal}
+use Rattle.t1_char.specs.declared.command.Command.{Command as Commands}
+use Rattle.t1_char.specs.declared.command.Command.TheVariants.{Callothersubr}
+use Rattle.t1_char.specs.declared.token.CharToken.{CharToken}
+use Rattle.t1_char.specs.declared.token.CharToken.TheVariants.{Number, Command, Unknown, Unknown12, Cut, Short, End}
+use Rattle.t1_char.specs.Commands.{name_of}
+use Rattle.t1_decimals.specs.Decimals.{coordinate_text, point_text}
+use Rattle.t1_reasons.specs.declared.reason.SetStem.{SetStem}
+use Rattle.t1_reason_texts.specs.declared.wide.Count.TheVariants.{Coordinate, Middle}
+use Rattle.t1_reason_texts.specs.Decimals.{wide_text}
+use Rattle.t1_reason_texts.specs.Words.{are_text, arguments_text, numbers_text}
+use Rattle.t1_rules.specs.declared.rule.Rule.{Rule}
+use Rattle.t1_rules.specs.declared.rule.Rule.TheVariants.{C03, W02, P01, P03, H01, X01, X03, O03, K06}
+use Rattle.t1_rules.specs.declared.step_rules.flex.Point.{Point}
+use Rattle.t1_rules.specs.declared.step_rules.stems.Stem.{Stem}
+use Rattle.t1_rules.specs.StepRules.Stems.{lower, twice_middle, upper}
+
+-- ---- the stack
+
+-- ` or more` of a command that takes as many numbers as it is told.
+abbrev pub or_more : Commands → List ℕ
+or_more Callothersubr = codes " or more"
+or_more _ = []
+
+abbrev pub count_text : Commands → ℕ → ℕ → List ℕ
+count_text command taken there =
+    name_of command ++ (codes " takes " ++ (numbers_text taken ++ (or_more command ++ (codes ", " ++ (are_text there ++ codes " on the stack")))))
+
+abbrev pub bound_words : ℤ → List ℕ
+bound_words number = if is_negative number then codes "-32000 at least" else codes "32000 at most"
+
+abbrev pub argument_text : ℕ → ℤ → List ℕ
+argument_text place number =
+    codes "argument " ++ (decimal place ++ (codes " is " ++ (coordinate_text number ++ (codes ", " ++ bound_words number))))
+
+abbrev pub quotient_text : ℤ → ℤ → List ℕ
+quotient_text dividend divisor = coordinate_text dividend ++ (codes " by " ++ coordinate_text divisor)
+
+abbrev pub subr_text : ℤ → Bool → List ℕ
+subr_text number found = if found then codes "Subr " ++ coordinate_text number else codes "there is no Subr " ++ coordinate_text number
+
+-- How many Subrs are being executed.
+abbrev pub depth_text : ℕ → List ℕ
+depth_text calls =
+    if calls == 0 then codes "no Subr is being executed"
+    else (if calls == 1 then codes "1 Subr is being executed" else decimal calls ++ codes " Subrs are being executed")
+
+-- ---- tokens
+
+abbrev pub token_text : CharToken → List ℕ
+token_text (Number number) = codes "the number " ++ signed_decimal number
+token_text (Command command) = name_of command
+token_text (Unknown byte) = codes "byte " ++ decimal byte
+token_text (Unknown12 byte) = codes "bytes 12 " ++ decimal byte
+token_text Cut = codes "a token that breaks off"
+token_text Short = codes "a charstring shorter than lenIV"
+token_text End = codes "the end of the charstring"
+
+abbrev pub is_there : CharToken → List ℕ
+is_there (Unknown12 byte) = codes " are there"
+is_there _ = codes " is there"
+
+-- C03 speaks of the token alone.
+abbrev pub says_token : Rule → Bool
+says_token C03 = true
+says_token _ = false
+
+abbrev pub there_text : Rule → CharToken → List ℕ
+there_text rule token = token_text token ++ (if says_token rule then [] else is_there token)
+
+-- ---- steps before
+
+-- What is said before and after the number of a step.
+abbrev pub since_before : Rule → List ℕ
+since_before W02 = codes "step "
+since_before P01 = codes "no move since step "
+since_before P03 = codes "nothing is drawn since step "
+since_before H01 = codes "drawn at step "
+since_before X01 = codes "the flex began at step "
+since_before X03 = codes "the flex began at step "
+since_before K06 = codes "an outline was made at step "
+since_before _ = codes "since step "
+
+abbrev pub since_after : Rule → List ℕ
+since_after W02 = codes " set it"
+since_after _ = []
+
+-- What is said where there was no such step.
+abbrev pub since_none : Rule → List ℕ
+since_none W02 = codes "another command came first"
+since_none P01 = codes "no move so far"
+since_none P03 = codes "nothing is drawn so far"
+since_none _ = codes "no step did so"
+
+abbrev pub since_text : Rule → Option ℕ → List ℕ
+since_text rule (Some step) = since_before rule ++ (decimal step ++ since_after rule)
+since_text rule None = since_none rule
+
+-- ---- paths and flex
+
+abbrev pub are_same_points : Point → Point → Bool
+are_same_points one other = int_eq one.x other.x && int_eq one.y other.y
+
+abbrev pub open_text : Point → Point → List ℕ
+open_text start pen =
+    if are_same_points start pen then codes "ends where it began, without closepath"
+    else codes "from " ++ (point_text start ++ (codes " to " ++ point_text pen))
+
+abbrev pub miss_text : Point → Point → List ℕ
+miss_text named pen = codes "the pen is at " ++ (point_text pen ++ (codes ", the end names " ++ point_text named))
+
+-- ---- stems
+
+-- The edges of a stem.
+abbrev pub span_text : Stem → List ℕ
+span_text stem = coordinate_text (lower stem) ++ (codes " to " ++ coordinate_text (upper stem))
+
+abbrev pub are_same_stems : Stem → Stem → Bool
+are_same_stems one other = int_eq (lower one) (lower other) && int_eq (upper one) (upper other)
+
+-- How much two stems share.
+abbrev pub share : Stem → Stem → ℤ
+share one other = int_min (upper one) (upper other) -ℤ int_max (lower one) (lower other)
+
+abbrev pub twins_text : Stem → ℕ → List ℕ
+twins_text stem step = span_text stem ++ (codes ", the same stem is set at step " ++ decimal step)
+
+abbrev pub pair_text : Stem → SetStem → List ℕ
+pair_text own other =
+    span_text own
+    ++ (codes " and " ++ (span_text other.stem ++ (codes ", set at step " ++ (decimal other.step ++ (codes ", share " ++ wide_text Coordinate (share own other.stem))))))
+
+unfoldable pub stems_text : Stem → SetStem → List ℕ
+stems_text own other = if are_same_stems own other.stem then twins_text own other.step else pair_text own other
+
+abbrev pub stem_text : Stem → List ℕ
+stem_text stem = codes "at " ++ coordinate_text stem.position
+
+-- How far the second middle is from half-way between the others, in units of 1/262144.
+abbrev pub off_middle : Stem → Stem → Stem → ℤ
+off_middle one two three = (pos 2 *ℤ twice_middle two) -ℤ (twice_middle one +ℤ twice_middle three)
+
+abbrev pub is_half_off : ℤ → Bool
+is_half_off off = int_eq off (pos 131072) || int_eq off (pos 0 -ℤ pos 131072)
+
+abbrev pub off_words : Stem → Stem → Stem → List ℕ
+off_words one two three = if is_half_off (off_middle one two three) then codes ", half a unit off" else []
+
+unfoldable pub middles_text : Stem → Stem → Stem → List ℕ
+middles_text one two three =
+    wide_text Middle (twice_middle one)
+    ++ (codes " " ++ (wide_text Middle (twice_middle two) ++ (codes " " ++ wide_text Middle (twice_middle three))))
+
+unfoldable pub widths_text : Stem → Stem → Stem → List ℕ
+widths_text one two three =
+    coordinate_text one.width ++ (codes " " ++ (coordinate_text two.width ++ (codes " " ++ coordinate_text three.width)))
+
+abbrev pub triple_text : Stem → Stem → Stem → List ℕ
+triple_text one two three =
+    codes "widths " ++ (widths_text one two three ++ (codes ", middles " ++ (middles_text one two three ++ off_words one two three)))
+
+-- ---- OtherSubrs
+
+abbrev pub othersubr_text : ℤ → ℤ → List ℕ
+othersubr_text number count = codes "OtherSubr " ++ (coordinate_text number ++ (codes " with " ++ arguments_text count))
+
+-- How many arguments an OtherSubr takes: 0, the end of a flex, three, 1 and 2 none, 3, the hint replacement, one.
+abbrev pub takes_words : ℤ → List ℕ
+takes_words number =
+    if int_eq number (pos 0) then codes "; it takes 3"
+    else (if int_eq number (pos 196608) then codes "; it takes 1" else codes "; it takes none")
+
+abbrev pub is_counted : Rule → Bool
+is_counted O03 = true
+is_counted _ = false
+
+abbrev pub call_text : Rule → ℤ → ℤ → List ℕ
+call_text rule number count = othersubr_text number count ++ (if is_counted rule then takes_words number else [])
+
+abbrev pub arguments_there_text : ℤ → ℕ → List ℕ
+arguments_there_text count there = codes "the count is " ++ (coordinate_text count ++ (codes ", " ++ (are_text there ++ codes " there")))
+
+-- ---- the limit
+
+abbrev pub limit_text : ℕ → List ℕ
+limit_text steps = decimal steps ++ codes " steps"

@@ -1,0 +1,69 @@
+-- The texts of reasons of zones and stem widths. Their numbers count 10^-9.
+use Rattle.std.specs.Prelude.{ℕ, ℤ, pos, ◌-ℤ◌, ◌*ℤ◌, int_le, List, ◌++◌, codes, if◌then◌else◌}
+use Rattle.std.specs.Fmt.{decimal}
+use Rattle.t1_reasons.specs.declared.reason.Edges.{Edges}
+use Rattle.t1_reason_texts.specs.declared.zone_texts.ApartText.{ApartText}
+use Rattle.t1_reason_texts.specs.declared.wide.Count.TheVariants.{Product, Value}
+use Rattle.t1_reason_texts.specs.Decimals.{wide_text}
+use Rattle.t1_reason_texts.specs.FontTexts.{value_text}
+use Rattle.t1_reason_texts.specs.Words.{numbers_text}
+
+abbrev pub too_many_text : ℕ → ℕ → List ℕ
+too_many_text count most = numbers_text count ++ (codes ", " ++ (decimal most ++ codes " at most"))
+
+abbrev pub falling_text : ℤ → ℤ → List ℕ
+falling_text before number = value_text number ++ (codes " comes after " ++ value_text before)
+
+-- The distance that zones keep.
+abbrev pub needed_text : ℤ → List ℕ
+needed_text distance = codes "; " ++ (wide_text Value distance ++ codes " is needed")
+
+abbrev pub gap_text : ℤ → ℤ → ℤ → List ℕ
+gap_text upper lower distance =
+    codes "from " ++ (value_text upper ++ (codes " to " ++ (value_text lower ++ (codes " is " ++ (wide_text Value (lower -ℤ upper) ++ needed_text distance)))))
+
+abbrev pub edges_text : Edges → List ℕ
+edges_text edges = value_text edges.lower ++ (codes " to " ++ value_text edges.upper)
+
+-- A zone that is so far below another, above it, or shares a place with it.
+unfoldable pub below_text : Edges → ℤ → Edges → List ℕ
+below_text own gap other =
+    codes "zone " ++ (edges_text own ++ (codes " lies " ++ (wide_text Value gap ++ (codes " below zone " ++ edges_text other))))
+
+unfoldable pub above_text : Edges → ℤ → Edges → List ℕ
+above_text own gap other =
+    codes "zone " ++ (edges_text own ++ (codes " lies " ++ (wide_text Value gap ++ (codes " above zone " ++ edges_text other))))
+
+unfoldable pub meets_text : Edges → Edges → List ℕ
+meets_text own other = codes "zone " ++ (edges_text own ++ (codes " overlaps zone " ++ edges_text other))
+
+unfoldable pub apart_by : Edges → Edges → ℤ → ℤ → List ℕ
+apart_by own other below above =
+    if int_le (pos 0) below then below_text own below other
+    else (if int_le (pos 0) above then above_text own above other else meets_text own other)
+
+-- The same, with how far it is below and above.
+abbrev pub apart_of : Edges → Edges → ApartText
+apart_of own other = record { own = own; other = other; below = other.lower -ℤ own.upper; above = own.lower -ℤ other.upper }
+
+abbrev pub apart_text : Edges → Edges → List ℕ
+apart_text own other = apart_by own other (other.lower -ℤ own.upper) (own.lower -ℤ other.upper)
+
+abbrev pub zones_text : Edges → Edges → ℤ → List ℕ
+zones_text own other distance = apart_text own other ++ needed_text distance
+
+-- A zone's height times BlueScale.
+unfoldable pub height_text : ℤ → ℤ → ℤ → List ℕ
+height_text lower upper scale =
+    codes "height " ++ (wide_text Value (upper -ℤ lower)
+    ++ (codes " times BlueScale " ++ (value_text scale ++ (codes " is " ++ wide_text Product ((upper -ℤ lower) *ℤ scale)))))
+
+unfoldable pub below_one : List ℕ
+below_one = codes "; less than 1 is needed"
+
+abbrev pub zone_text : ℤ → ℤ → ℤ → List ℕ
+zone_text lower upper scale =
+    codes "zone " ++ (value_text lower ++ (codes " to " ++ (value_text upper ++ (codes ", " ++ (height_text lower upper scale ++ below_one)))))
+
+abbrev pub width_text : ℤ → ℤ → List ℕ
+width_text width nearest = value_text width ++ (codes " is none of the snaps; " ++ (value_text nearest ++ codes " is nearest"))

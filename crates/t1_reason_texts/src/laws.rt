@@ -1,0 +1,13 @@
+//! Laws above the definitions: each is the contract of a function that does nothing.
+
+ghost use Rattle.t1_reason_texts.specs.Laws.{AreOneLine, AreShort};
+
+/// No text has a byte below 32, so none has a line end, and none has a colon, whatever names the font has.
+pub fn reason_texts_are_one_line()
+    ensures { AreOneLine }
+{}
+
+/// No text has more than 400 bytes, whatever names the font has.
+pub fn reason_texts_are_short()
+    ensures { AreShort }
+{}

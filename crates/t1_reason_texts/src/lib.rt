@@ -1,0 +1,30 @@
+//! The text of each reason: one line in the font's units and plain words.
+//!
+//! [`ReasonText`] writes it by `Display`. It is a function of the font, the rule and the reason alone: `reason_text` in
+//! `specs/Texts.antt`. [`says_more`] is false of the reasons that have none.
+//!
+//! ```
+//! let text = ReasonText {
+//!     font: &font,
+//!     rule: Rule::H03,
+//!     reason: Reason::Stem { stem },
+//! };
+//! println!(rt; "   {text}")?; // at -15
+//! ```
+#![tactic(auto)]
+
+mod font_texts;
+mod laws;
+mod names;
+mod seac_texts;
+mod step_texts;
+mod text;
+mod wide;
+mod words;
+mod zone_texts;
+
+pub use font_texts::encoded_name;
+pub use laws::{reason_texts_are_one_line, reason_texts_are_short};
+pub use step_texts::TokenText;
+pub use text::{ReasonText, says_more};
+pub use wide::{Count, Wide};

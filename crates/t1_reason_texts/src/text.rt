@@ -1,0 +1,236 @@
+//! The text of a reason.
+
+ghost use Rattle.std.specs.Prelude.{◌≡◌, Some};
+ghost use Rattle.t1_reason_texts.specs.Texts.{reason_text, says_more};
+
+use crate::font_texts::{
+    CodeNamesText, EntryText, FeaturesText, FormText, GlyphText, GlyphsText, IdsText, KindText,
+    SubrEntryText, encoded_name,
+};
+use crate::seac_texts::{CodesText, SidebearingsText, is_meant};
+use crate::step_texts::{
+    ArgumentText, ArgumentsThereText, CallText, CountText, DepthText, LimitText, MissText,
+    OpenText, QuotientText, SinceText, StemText, StemsText, SubrText, ThereText, TripleText,
+};
+use crate::words::Numbers;
+use crate::zone_texts::{FallingText, GapText, TooManyText, WidthText, ZoneText, ZonesText};
+use std::fmt;
+use t1_font::Font;
+use t1_reasons::Reason;
+use t1_rules::Rule;
+
+/// Why a rule is broken at a place, written by `Display`: one line, without its end, in the font's units.
+#[derive(Clone, Copy)]
+pub struct ReasonText<'a, 'b> {
+    /// The font, for the names of its glyphs and of its Encoding.
+    pub font: &'a Font<'b>,
+    /// The rule that is broken.
+    pub rule: Rule,
+    /// Why it is.
+    pub reason: Reason,
+}
+
+/// Whether a reason has a text: `Nothing` has none.
+pub fn says_more(reason: Reason) -> bool
+    ensures { result ≡ says_more reason }
+{
+    !matches!(reason, Reason::Nothing)
+}
+
+impl fmt::Display for ReasonText<'_, '_> {
+    ghost output = { λ t. Some (reason_text t.font.now t.rule t.reason) };
+
+    #[tactic(auto, unfolding(crate::specs::Texts::reason_text))]
+    fn fmt<W: fmt::Write>(&self, f: &mut fmt::Formatter<W>) -> fmt::Result {
+        let rule = self.rule;
+        match self.reason {
+            Reason::Nothing => Ok(()),
+            Reason::Count {
+                command,
+                taken,
+                there,
+            } => {
+                let text = CountText {
+                    command,
+                    taken,
+                    there,
+                };
+                write!(f, "{text}")
+            }
+            Reason::Argument { place, number } => {
+                let text = ArgumentText { place, number };
+                write!(f, "{text}")
+            }
+            Reason::Quotient { dividend, divisor } => {
+                let text = QuotientText { dividend, divisor };
+                write!(f, "{text}")
+            }
+            Reason::Depth { calls } => {
+                let text = DepthText(calls);
+                write!(f, "{text}")
+            }
+            Reason::Subr { number, found } => {
+                let text = SubrText { number, found };
+                write!(f, "{text}")
+            }
+            Reason::Token { token } => {
+                let text = ThereText { rule, token };
+                write!(f, "{text}")
+            }
+            Reason::Since { step } => {
+                let text = SinceText { rule, step };
+                write!(f, "{text}")
+            }
+            Reason::Open { start, pen } => {
+                let text = OpenText { start, pen };
+                write!(f, "{text}")
+            }
+            Reason::Stems { own, other } => {
+                let text = StemsText { own, other };
+                write!(f, "{text}")
+            }
+            Reason::Stem { stem } => {
+                let text = StemText(stem);
+                write!(f, "{text}")
+            }
+            Reason::Triple { one, two, three } => {
+                let text = TripleText { one, two, three };
+                write!(f, "{text}")
+            }
+            Reason::Miss { named, pen } => {
+                let text = MissText { named, pen };
+                write!(f, "{text}")
+            }
+            Reason::Othersubr { number, count } => {
+                let text = CallText {
+                    rule,
+                    number,
+                    count,
+                };
+                write!(f, "{text}")
+            }
+            Reason::Arguments { count, there } => {
+                let text = ArgumentsThereText { count, there };
+                write!(f, "{text}")
+            }
+            Reason::Codes { base, accent } => {
+                let text = CodesText {
+                    rule,
+                    base,
+                    accent,
+                    is_base: is_meant(self.font, rule, base),
+                    is_accent: is_meant(self.font, rule, accent),
+                };
+                write!(f, "{text}")
+            }
+            Reason::Sidebearings { told, own } => {
+                let text = SidebearingsText { told, own };
+                write!(f, "{text}")
+            }
+            Reason::Limit { steps } => {
+                let text = LimitText(steps);
+                write!(f, "{text}")
+            }
+            Reason::Entry { found } => {
+                let text = EntryText { rule, found };
+                write!(f, "{text}")
+            }
+            Reason::Ids { clear, private } => {
+                let text = IdsText { clear, private };
+                write!(f, "{text}")
+            }
+            Reason::Features { found, one, two } => {
+                let text = FeaturesText { found, one, two };
+                write!(f, "{text}")
+            }
+            Reason::Glyphs { count } => {
+                let text = GlyphsText(count);
+                write!(f, "{text}")
+            }
+            Reason::Form { encoding } => {
+                let text = FormText(encoding);
+                write!(f, "{text}")
+            }
+            Reason::SubrEntry {
+                number,
+                twice,
+                size,
+            } => {
+                let text = SubrEntryText {
+                    number,
+                    twice,
+                    is_past: !(number < size),
+                    size,
+                };
+                write!(f, "{text}")
+            }
+            Reason::Kind { found, wanted } => {
+                let text = KindText { found, wanted };
+                write!(f, "{text}")
+            }
+            Reason::TooMany { count, most } => {
+                let text = TooManyText { count, most };
+                write!(f, "{text}")
+            }
+            Reason::Numbers { count } => {
+                let text = Numbers(count);
+                write!(f, "{text}")
+            }
+            Reason::Glyph { glyph } => {
+                let text = GlyphText(self.font.glyph_name(glyph as usize));
+                write!(f, "{text}")
+            }
+            Reason::Code { code } => {
+                let text = CodeNamesText {
+                    code,
+                    name: encoded_name(self.font, code),
+                };
+                write!(f, "{text}")
+            }
+            Reason::Falling { before, number } => {
+                let text = FallingText { before, number };
+                write!(f, "{text}")
+            }
+            Reason::Gap {
+                upper,
+                lower,
+                distance,
+            } => {
+                let text = GapText {
+                    upper,
+                    lower,
+                    distance,
+                };
+                write!(f, "{text}")
+            }
+            Reason::Zones {
+                own,
+                other,
+                distance,
+            } => {
+                let text = ZonesText {
+                    own,
+                    other,
+                    distance,
+                };
+                write!(f, "{text}")
+            }
+            Reason::Zone {
+                lower,
+                upper,
+                scale,
+            } => {
+                let text = ZoneText {
+                    lower,
+                    upper,
+                    scale,
+                };
+                write!(f, "{text}")
+            }
+            Reason::Width { width, nearest } => {
+                let text = WidthText { width, nearest };
+                write!(f, "{text}")
+            }
+        }
+    }
+}

@@ -1,0 +1,294 @@
+//! The texts of reasons of zones and stem widths. Their numbers count 10^-9.
+
+ghost use Rattle.std.specs.Prelude.{◌≡◌, Some};
+ghost use Rattle.t1_reason_texts.specs.ZoneTexts.{above_text, apart_by, apart_of, below_one, below_text, edges_text, falling_text, gap_text, height_text, meets_text, needed_text, too_many_text, width_text, zone_text, zones_text};
+
+use crate::wide::{Count, Wide, difference, wide_difference, wide_product};
+use crate::words::Numbers;
+use std::fmt;
+use t1_decimals::value;
+use t1_reasons::Edges;
+
+/// How many numbers a list has, and how many it may have.
+#[derive(Clone, Copy)]
+pub(crate) struct TooManyText {
+    pub(crate) count: usize,
+    pub(crate) most: usize,
+}
+
+impl fmt::Display for TooManyText {
+    ghost output = { λ t. Some (too_many_text t.count t.most) };
+
+    fn fmt<W: fmt::Write>(&self, f: &mut fmt::Formatter<W>) -> fmt::Result {
+        let numbers = Numbers(self.count);
+        let most = self.most;
+        write!(f, "{numbers}, {most} at most")
+    }
+}
+
+/// A number of a list, and the one before it.
+#[derive(Clone, Copy)]
+pub(crate) struct FallingText {
+    pub(crate) before: i64,
+    pub(crate) number: i64,
+}
+
+impl fmt::Display for FallingText {
+    ghost output = { λ t. Some (falling_text t.before t.number) };
+
+    fn fmt<W: fmt::Write>(&self, f: &mut fmt::Formatter<W>) -> fmt::Result {
+        let before = value(self.before);
+        let number = value(self.number);
+        write!(f, "{number} comes after {before}")
+    }
+}
+
+/// The distance that zones keep.
+#[derive(Clone, Copy)]
+struct NeededText(i128);
+
+impl fmt::Display for NeededText {
+    ghost output = { λ t. Some (needed_text t.0) };
+
+    fn fmt<W: fmt::Write>(&self, f: &mut fmt::Formatter<W>) -> fmt::Result {
+        let distance = Wide {
+            number: self.0,
+            count: Count::Value,
+        };
+        write!(f, "; {distance} is needed")
+    }
+}
+
+/// The upper edge of a zone, the lower one of the next, and the distance that zones keep.
+#[derive(Clone, Copy)]
+pub(crate) struct GapText {
+    pub(crate) upper: i64,
+    pub(crate) lower: i64,
+    pub(crate) distance: i128,
+}
+
+impl fmt::Display for GapText {
+    ghost output = { λ t. Some (gap_text t.upper t.lower t.distance) };
+
+    fn fmt<W: fmt::Write>(&self, f: &mut fmt::Formatter<W>) -> fmt::Result {
+        let upper = value(self.upper);
+        let lower = value(self.lower);
+        let gap = wide_difference(self.lower, self.upper, Count::Value);
+        let needed = NeededText(self.distance);
+        write!(f, "from {upper} to {lower} is {gap}{needed}")
+    }
+}
+
+/// The edges of a zone.
+#[derive(Clone, Copy)]
+struct EdgesText(Edges);
+
+impl fmt::Display for EdgesText {
+    ghost output = { λ t. Some (edges_text t.0) };
+
+    fn fmt<W: fmt::Write>(&self, f: &mut fmt::Formatter<W>) -> fmt::Result {
+        let lower = value(self.0.lower);
+        let upper = value(self.0.upper);
+        write!(f, "{lower} to {upper}")
+    }
+}
+
+/// Two zones, and the distance that zones keep.
+#[derive(Clone, Copy)]
+pub(crate) struct ZonesText {
+    pub(crate) own: Edges,
+    pub(crate) other: Edges,
+    pub(crate) distance: i128,
+}
+
+/// Where a zone lies from another one: so far below or above it where that isn't negative.
+#[derive(Clone, Copy)]
+struct ApartText {
+    own: Edges,
+    other: Edges,
+    below: i128,
+    above: i128,
+}
+
+/// A zone that lies so far below another one.
+#[derive(Clone, Copy)]
+struct BelowText {
+    own: Edges,
+    gap: i128,
+    other: Edges,
+}
+
+/// A zone that lies so far above another one.
+#[derive(Clone, Copy)]
+struct AboveText {
+    own: Edges,
+    gap: i128,
+    other: Edges,
+}
+
+/// A zone that shares a place with another one.
+#[derive(Clone, Copy)]
+struct MeetsText {
+    own: Edges,
+    other: Edges,
+}
+
+impl fmt::Display for BelowText {
+    ghost output = { λ t. Some (below_text t.own t.gap t.other) };
+
+    #[tactic(auto, unfolding(crate::specs::ZoneTexts::below_text))]
+    fn fmt<W: fmt::Write>(&self, f: &mut fmt::Formatter<W>) -> fmt::Result {
+        let own = EdgesText(self.own);
+        let gap = Wide {
+            number: self.gap,
+            count: Count::Value,
+        };
+        let other = EdgesText(self.other);
+        write!(f, "zone {own} lies {gap} below zone {other}")
+    }
+}
+
+impl fmt::Display for AboveText {
+    ghost output = { λ t. Some (above_text t.own t.gap t.other) };
+
+    #[tactic(auto, unfolding(crate::specs::ZoneTexts::above_text))]
+    fn fmt<W: fmt::Write>(&self, f: &mut fmt::Formatter<W>) -> fmt::Result {
+        let own = EdgesText(self.own);
+        let gap = Wide {
+            number: self.gap,
+            count: Count::Value,
+        };
+        let other = EdgesText(self.other);
+        write!(f, "zone {own} lies {gap} above zone {other}")
+    }
+}
+
+impl fmt::Display for MeetsText {
+    ghost output = { λ t. Some (meets_text t.own t.other) };
+
+    #[tactic(auto, unfolding(crate::specs::ZoneTexts::meets_text))]
+    fn fmt<W: fmt::Write>(&self, f: &mut fmt::Formatter<W>) -> fmt::Result {
+        let own = EdgesText(self.own);
+        let other = EdgesText(self.other);
+        write!(f, "zone {own} overlaps zone {other}")
+    }
+}
+
+impl fmt::Display for ApartText {
+    ghost output = { λ t. Some (apart_by t.own t.other t.below t.above) };
+
+    #[tactic(auto, unfolding(crate::specs::ZoneTexts::apart_by))]
+    fn fmt<W: fmt::Write>(&self, f: &mut fmt::Formatter<W>) -> fmt::Result {
+        let below = BelowText {
+            own: self.own,
+            gap: self.below,
+            other: self.other,
+        };
+        let above = AboveText {
+            own: self.own,
+            gap: self.above,
+            other: self.other,
+        };
+        let meets = MeetsText {
+            own: self.own,
+            other: self.other,
+        };
+        if 0 <= self.below {
+            write!(f, "{below}")
+        } else if 0 <= self.above {
+            write!(f, "{above}")
+        } else {
+            write!(f, "{meets}")
+        }
+    }
+}
+
+fn apart(own: Edges, other: Edges) -> ApartText
+    ensures { result ≡ apart_of own other }
+{
+    ApartText {
+        own,
+        other,
+        below: difference(other.lower, own.upper),
+        above: difference(own.lower, other.upper),
+    }
+}
+
+impl fmt::Display for ZonesText {
+    ghost output = { λ t. Some (zones_text t.own t.other t.distance) };
+
+    fn fmt<W: fmt::Write>(&self, f: &mut fmt::Formatter<W>) -> fmt::Result {
+        let apart = apart(self.own, self.other);
+        let needed = NeededText(self.distance);
+        write!(f, "{apart}{needed}")
+    }
+}
+
+/// The edges of a zone, and BlueScale.
+#[derive(Clone, Copy)]
+pub(crate) struct ZoneText {
+    pub(crate) lower: i64,
+    pub(crate) upper: i64,
+    pub(crate) scale: i64,
+}
+
+/// A zone's height times BlueScale.
+#[derive(Clone, Copy)]
+struct HeightText {
+    lower: i64,
+    upper: i64,
+    scale: i64,
+}
+
+impl fmt::Display for HeightText {
+    ghost output = { λ t. Some (height_text t.lower t.upper t.scale) };
+
+    #[tactic(auto, unfolding(crate::specs::ZoneTexts::height_text))]
+    fn fmt<W: fmt::Write>(&self, f: &mut fmt::Formatter<W>) -> fmt::Result {
+        let height = wide_difference(self.upper, self.lower, Count::Value);
+        let scale = value(self.scale);
+        let product = wide_product(self.upper, self.lower, self.scale);
+        write!(f, "height {height} times BlueScale {scale} is {product}")
+    }
+}
+
+/// What is said of a product that isn't below 1.
+#[tactic(auto, unfolding(crate::specs::ZoneTexts::below_one))]
+fn below_one() -> &'static str
+    ensures { result.now ≡ below_one }
+{
+    "; less than 1 is needed"
+}
+
+impl fmt::Display for ZoneText {
+    ghost output = { λ t. Some (zone_text t.lower t.upper t.scale) };
+
+    fn fmt<W: fmt::Write>(&self, f: &mut fmt::Formatter<W>) -> fmt::Result {
+        let lower = value(self.lower);
+        let upper = value(self.upper);
+        let height = HeightText {
+            lower: self.lower,
+            upper: self.upper,
+            scale: self.scale,
+        };
+        let needed = below_one();
+        write!(f, "zone {lower} to {upper}, {height}{needed}")
+    }
+}
+
+/// The first standard width, and the stem snap that is nearest to it.
+#[derive(Clone, Copy)]
+pub(crate) struct WidthText {
+    pub(crate) width: i64,
+    pub(crate) nearest: i64,
+}
+
+impl fmt::Display for WidthText {
+    ghost output = { λ t. Some (width_text t.width t.nearest) };
+
+    fn fmt<W: fmt::Write>(&self, f: &mut fmt::Formatter<W>) -> fmt::Result {
+        let width = value(self.width);
+        let nearest = value(self.nearest);
+        write!(f, "{width} is none of the snaps; {nearest} is nearest")
+    }
+}

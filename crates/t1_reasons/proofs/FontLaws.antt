@@ -1,0 +1,405 @@
+-- Laws of reasons in the entries of a font.
+use Rattle.std.proofs.Common.{◌≡◌, ℕ, zero, suc, ◌-◌, ◌*◌, ◌/◌, ◌%◌, ◌<◌, ◌≤◌, ◌==◌, ◌&&◌, ◌||◌, not, Bool, true, false, Some, None, is_some, List, [], ◌∷◌, length, take, drop, slice_get, nat_eq, nat_lt, if◌then◌else◌, ℤ, pos, negsuc, neg_ℤ, ◌-ℤ◌, ◌*ℤ◌, ◌≤ℤ◌, ◌↔◌, int_le, refl, sym, ap, ◌∙◌, arith}
+use Rattle.std.specs.List.{find, list_all, list_any}
+use Rattle.std.specs.Map.{lookup}
+use Rattle.std.specs.Option.{unwrap_or}
+use Rattle.std.specs.Ordering.{int_eq}
+use Rattle.std.proofs.Math.Bool.{and-false}
+use Rattle.std.proofs.lemmas.Int.{ints}
+use Rattle.std.proofs.Math.Nat.{le-div_iff_mul-le, mul_comm}
+use Rattle.t1_font.specs.declared.key.Key.{Key}
+use Rattle.t1_font.specs.declared.key.Key.TheVariants.{FontType, PaintType, UniqueId, PrivateUniqueId, Password, MinFeature, BlueScale, BlueShift, BlueFuzz}
+use Rattle.t1_font.specs.Fonts.{FontValue, is_subr_twice}
+use Rattle.t1_font.specs.Values.{Value, absent, number as one_number, numbers as several_numbers, other as another}
+use Rattle.t1_scan.specs.Numbers.{billion}
+use Rattle.t1_rules.specs.declared.rule.Rule.{Rule}
+use Rattle.t1_rules.specs.declared.rule.Rule.TheVariants.{F03, F04, F05, F06, F07, F08, F11, F14, Z01, Z02, Z03, Z04, Z05, Z06, Z07, Z08, Z09, Z10, Z11}
+use Rattle.t1_rules.specs.Book.{number_of}
+use Rattle.t1_rules.specs.FontRules.{FontRule, each, each_of, font_rules, says, violated}
+use Rattle.t1_rules.specs.FontRules.Encoding.{is_no_form}
+use Rattle.t1_rules.specs.FontRules.Hints.{falls_at, has_too_many, hint_keys, is_of_another_kind, is_of_kind, number_at, numbers_at}
+use Rattle.t1_rules.specs.FontRules.Ids.{differ, id_keys, is_past_range}
+use Rattle.t1_rules.specs.FontRules.Stems.{is_not_among, is_not_one_width, snap_keys, width_is_apart, width_keys, width_of}
+use Rattle.t1_rules.specs.FontRules.Subrs.{is_wrong_subr as wrong_subr}
+use Rattle.t1_rules.specs.FontRules.Values.{count_in, first_in, is_absent, is_numbers, is_one_number, is_sixteen_twice, is_the_number, product_one}
+use Rattle.t1_rules.specs.FontRules.Zones.{begins_zone, come_near, comes_near_high, distance, has_odd_count, high_of, is_too_high, is_too_near, low_zone_keys, meets, scale, zone_keys, zones}
+use Rattle.t1_rules.specs.Keys.{index_count, key_number, list_limit_of, value_at}
+use Rattle.t1_rules.proofs.Lemmas.Book.{both}
+use Rattle.t1_reasons.specs.declared.reason.Edges.{Edges}
+use Rattle.t1_reasons.specs.declared.reason.EntryKind.TheVariants.{Number as OneNumber, Numbers as ManyNumbers}
+use Rattle.t1_reasons.specs.declared.reason.Reason.{Reason}
+use Rattle.t1_reasons.specs.declared.reason.Reason.TheVariants.{Entry, Falling, Form, Gap, Ids, Kind, Numbers, SubrEntry, TooMany, Width, Zone, Zones}
+use Rattle.t1_reasons.specs.FontReasons.{are_near, are_not_one, are_two_ids, at_key, at_keys, counts_at, excess_at, fits, forms_at, is_excess, is_misfit, is_no_width, is_nothing, is_odd, is_unknown_form, is_wrong_subr, kinds_at, kinds_of, subrs_in, wanted_at, beside_zones, compared_font_row, compares_in_fonts, entries_at, falls, falls_in, features_at, features_in, first_in_font_row, font_reason_row, font_row_of, found_in, gap_in, ids_at, ids_of, is_apart, is_found_number, is_near, is_neither_fill_nor_stroke, is_no_id, is_not_5839, is_not_one, is_past_ids, is_unusual_feature, key_among, meetings_at, meetings_in, nearer, nearest, of_key, reaches_one, scale_for, told_in_font, told_in_fonts, widths_at, widths_in, zone_from, zone_in, zones_in}
+use Rattle.t1_reasons.specs.Laws.{FontReasonsAreAgainstTheirRules, FontsBreakWhereThereIsAReason, ScalesDo}
+use Rattle.t1_reasons.specs.StepReasons.{is_any}
+use Rattle.t1_reasons.proofs.LawProofs.{found_such, found_there, one_such, such_in_both, such_where}
+
+-- No rule of a table has this number.
+abbrev without_number : ℕ → List FontRule → Bool
+without_number n rules = list_all (λ r. not (number_of r.rule == n)) rules
+
+none_says : (n : ℕ) (rules : List FontRule) → without_number n rules ≡ true → (font : FontValue) (key index : ℕ) → violated rules n font key index ≡ false
+none_says n [] other font key index = refl
+none_says n (r ∷ rs) other font key index =
+    let parts = both (not (number_of r.rule == n)) (without_number n rs) other in
+    go (number_of r.rule == n) parts.0 (none_says n rs parts.1 font key index)
+  where
+    go : (b : Bool) → not b ≡ true → violated rs n font key index ≡ false → (says r.tests font key index && b || violated rs n font key index) ≡ false
+    go true e rest = let no : false ≡ true = e in cc
+    go false e rest = rw (and-false (says r.tests font key index)) rest
+
+-- The row that alone has its number decides.
+font_row_decides : (n : ℕ) (rules : List FontRule) (place : ℕ) (r : FontRule) → slice_get rules place ≡ Some r → (number_of r.rule == n) ≡ true
+    → without_number n (take place rules) ≡ true → without_number n (drop (suc place) rules) ≡ true
+    → (font : FontValue) (key index : ℕ) → violated rules n font key index ≡ says r.tests font key index
+font_row_decides n [] place r there own front rest font key index = let no : None ≡ Some r = there in cc
+font_row_decides n (q ∷ qs) zero r there own front rest font key index =
+    let same : q ≡ r = cc in
+    rw (same, own, none_says n qs rest font key index) (last (says r.tests font key index))
+  where
+    last : (b : Bool) → (b && true || false) ≡ b
+    last true = refl
+    last false = refl
+font_row_decides n (q ∷ qs) (suc place) r there own front rest font key index =
+    let parts = both (not (number_of q.rule == n)) (without_number n (take place qs)) front in
+    go (number_of q.rule == n) parts.0 (font_row_decides n qs place r there own parts.1 rest font key index)
+  where
+    go : (b : Bool) → not b ≡ true → violated qs n font key index ≡ says r.tests font key index
+        → (says q.tests font key index && b || violated qs n font key index) ≡ says r.tests font key index
+    go true e later = let no : false ≡ true = e in cc
+    go false e later = rw (and-false (says q.tests font key index)) later
+
+and_true : (b : Bool) → b ≡ (b && true)
+and_true true = refl
+and_true false = refl
+
+or_false : (b : Bool) → b ≡ (b || false)
+or_false true = refl
+or_false false = refl
+
+or_assoc : (a b c : Bool) → ((a || b) || c) ≡ (a || (b || c))
+or_assoc true b c = refl
+or_assoc false b c = refl
+
+unequal : (b : Bool) → not ((b && false) && false) ≡ true
+unequal true = refl
+unequal false = refl
+
+where_so : (b : Bool) (p : Reason → Bool) (xs : List Reason) {test : Bool} → test ≡ is_some (find p xs)
+    → (b && test) ≡ is_some (find p (if b then xs else []))
+where_so true p xs same = same
+where_so false p xs same = refl
+
+-- A row that speaks of several keys, and one that speaks of one.
+keys_agree : (p : Reason → Bool) (test : FontValue → Key → ℕ → Bool) (candidates : FontValue → Key → ℕ → List Reason)
+    → ((font : FontValue) (k : Key) (index : ℕ) → test font k index ≡ is_some (find p (candidates font k index)))
+    → (keys : List Key) (font : FontValue) (key index : ℕ)
+    → says (each_of keys test) font key index ≡ is_some (find p (at_keys keys candidates font key index))
+keys_agree p test candidates agree [] font key index = refl
+keys_agree p test candidates agree (k ∷ ks) font key index =
+    go (key == key_number k) (agree font k index) (keys_agree p test candidates agree ks font key index)
+  where
+    go : (b : Bool) → test font k index ≡ is_some (find p (candidates font k index))
+        → says (each_of ks test) font key index ≡ is_some (find p (at_keys ks candidates font key index))
+        → (if b then test font k index else says (each_of ks test) font key index)
+        ≡ is_some (find p (of_key (λ k. candidates font k index) (if b then Some k else key_among ks key)))
+    go true here rest = here
+    go false here rest = rest
+
+key_agrees : (p : Reason → Bool) (test : FontValue → ℕ → Bool) (candidates : FontValue → ℕ → List Reason)
+    → ((font : FontValue) (index : ℕ) → test font index ≡ is_some (find p (candidates font index)))
+    → (own : ℕ) (font : FontValue) (key index : ℕ)
+    → says (each own test) font key index ≡ is_some (find p (at_key own candidates font key index))
+key_agrees p test candidates agree own font key index = go (key == own) (agree font index)
+  where
+    go : (b : Bool) → test font index ≡ is_some (find p (candidates font index))
+        → (if b then test font index else false) ≡ is_some (find p (if b then candidates font index else []))
+    go true here = here
+    go false here = refl
+
+number_agrees : (n : ℕ) (v : Value) → is_the_number n v ≡ is_found_number n (found_in v)
+number_agrees n absent = refl
+number_agrees n (one_number z) = refl
+number_agrees n (several_numbers count first) = refl
+number_agrees n another = refl
+
+typed : (font : FontValue) (k : Key) (index : ℕ)
+    → (index == 0 && not (is_the_number 1 (value_at font k))) ≡ is_some (find is_not_one (entries_at font k index))
+typed font k index =
+    rw (number_agrees 1 (value_at font k)) (sym (such_where (index == 0) is_not_one (Entry (found_in (value_at font k)))))
+
+painted : (font : FontValue) (k : Key) (index : ℕ)
+    → (index == 0 && not (is_the_number 0 (value_at font k) || is_the_number 2 (value_at font k)))
+    ≡ is_some (find is_neither_fill_nor_stroke (entries_at font k index))
+painted font k index =
+    rw (number_agrees 0 (value_at font k), number_agrees 2 (value_at font k))
+    (sym (such_where (index == 0) is_neither_fill_nor_stroke (Entry (found_in (value_at font k)))))
+
+passed : (font : FontValue) (k : Key) (index : ℕ)
+    → (index == 0 && not (is_the_number 5839 (value_at font k))) ≡ is_some (find is_not_5839 (entries_at font k index))
+passed font k index =
+    rw (number_agrees 5839 (value_at font k)) (sym (such_where (index == 0) is_not_5839 (Entry (found_in (value_at font k)))))
+
+id_agrees : (v : Value) → is_past_range v ≡ is_no_id (found_in v)
+id_agrees absent = refl
+id_agrees (one_number z) = refl
+id_agrees (several_numbers count first) = refl
+id_agrees another = refl
+
+past_ids : (font : FontValue) (k : Key) (index : ℕ)
+    → (index == 0 && is_past_range (value_at font k)) ≡ is_some (find is_past_ids (entries_at font k index))
+past_ids font k index =
+    rw (id_agrees (value_at font k)) (sym (such_where (index == 0) is_past_ids (Entry (found_in (value_at font k)))))
+
+ids_agree : (one two : Value) → differ one two ≡ is_some (find are_two_ids (ids_of one two))
+ids_agree absent two = refl
+ids_agree (one_number a) absent = refl
+ids_agree (one_number a) (one_number b) = sym (one_such are_two_ids (Ids a b))
+ids_agree (one_number a) (several_numbers count first) = refl
+ids_agree (one_number a) another = refl
+ids_agree (several_numbers count first) two = refl
+ids_agree another two = refl
+
+differing : (font : FontValue) (k : Key) (index : ℕ)
+    → (index == 0 && differ (value_at font UniqueId) (value_at font k)) ≡ is_some (find are_two_ids (ids_at font k index))
+differing font k index = where_so (index == 0) are_two_ids (ids_of (value_at font UniqueId) (value_at font k)) (ids_agree (value_at font UniqueId) (value_at font k))
+
+feature_agrees : (v : Value) → not (is_sixteen_twice v) ≡ is_unusual_feature (features_in v)
+feature_agrees absent = refl
+feature_agrees (one_number z) = refl
+feature_agrees (several_numbers count []) = sym (unequal (count == 2))
+feature_agrees (several_numbers count (a ∷ [])) = sym (unequal (count == 2))
+feature_agrees (several_numbers count (a ∷ (b ∷ first))) = refl
+feature_agrees another = refl
+
+unusual : (font : FontValue) (k : Key) (index : ℕ)
+    → (index == 0 && not (is_sixteen_twice (value_at font k))) ≡ is_some (find is_unusual_feature (features_at font k index))
+unusual font k index =
+    rw (feature_agrees (value_at font k)) (sym (such_where (index == 0) is_unusual_feature (features_in (value_at font k))))
+
+formed : (font : FontValue) (index : ℕ) → (index == 0 && is_no_form font.encoding) ≡ is_some (find is_unknown_form (forms_at font index))
+formed font index = sym (such_where (index == 0) is_unknown_form (Form font.encoding))
+
+wrong : (font : FontValue) (index : ℕ) → wrong_subr font index ≡ is_some (find is_wrong_subr (subrs_in font index))
+wrong font n =
+    sym (such_where (nat_lt n index_count && is_some (lookup (nat_eq n) font.subrs)) is_wrong_subr
+    (SubrEntry n (is_subr_twice font n) (unwrap_or font.size 0)))
+
+one_fits : (v : Value) → is_one_number v ≡ fits OneNumber (found_in v)
+one_fits absent = refl
+one_fits (one_number z) = refl
+one_fits (several_numbers count first) = refl
+one_fits another = refl
+
+many_fit : (v : Value) → is_numbers v ≡ fits ManyNumbers (found_in v)
+many_fit absent = refl
+many_fit (one_number z) = refl
+many_fit (several_numbers count first) = refl
+many_fit another = refl
+
+kind_fits : (k : Key) (v : Value) → is_of_kind k v ≡ fits (wanted_at k) (found_in v)
+kind_fits BlueScale v = one_fits v
+kind_fits BlueShift v = one_fits v
+kind_fits BlueFuzz v = one_fits v
+kind_fits _ v = many_fit v
+
+nothing_there : (v : Value) → is_absent v ≡ is_nothing (found_in v)
+nothing_there absent = refl
+nothing_there (one_number z) = refl
+nothing_there (several_numbers count first) = refl
+nothing_there another = refl
+
+of_kind : (font : FontValue) (k : Key) (index : ℕ) → is_of_another_kind k (value_at font k) index ≡ is_some (find is_misfit (kinds_at font k index))
+of_kind font k index = go (index == 0)
+  where
+    v : Value
+    v = value_at font k
+
+    here : (not (is_absent v) && not (is_of_kind k v)) ≡ is_some (find is_misfit (kinds_of (found_in v) (wanted_at k)))
+    here =
+        rw (nothing_there v, kind_fits k v) (sym (such_where (not (is_nothing (found_in v))) is_misfit (Kind (found_in v) (wanted_at k))))
+
+    go : (b : Bool) → ((b && not (is_absent v)) && not (is_of_kind k v))
+        ≡ is_some (find is_misfit (if b then kinds_of (found_in v) (wanted_at k) else []))
+    go true = here
+    go false = refl
+
+many : (font : FontValue) (k : Key) (index : ℕ) → has_too_many k (value_at font k) index ≡ is_some (find is_excess (excess_at font k index))
+many font k index = sym (such_where (index == list_limit_of k) is_excess (TooMany (count_in (value_at font k)) (list_limit_of k)))
+
+odd : (font : FontValue) (k : Key) (index : ℕ) → has_odd_count (value_at font k) index ≡ is_some (find is_odd (counts_at font k index))
+odd font k index = sym (such_where (index == 0) is_odd (Numbers (count_in (value_at font k))))
+
+width_agrees : (v : Value) → is_not_one_width v ≡ are_not_one (found_in v)
+width_agrees absent = refl
+width_agrees (one_number z) = refl
+width_agrees (several_numbers count first) = refl
+width_agrees another = refl
+
+no_width : (font : FontValue) (k : Key) (index : ℕ)
+    → (index == 0 && is_not_one_width (value_at font k)) ≡ is_some (find is_no_width (entries_at font k index))
+no_width font k index =
+    rw (width_agrees (value_at font k)) (sym (such_where (index == 0) is_no_width (Entry (found_in (value_at font k)))))
+
+fallen : (v : List ℤ) (index : ℕ) → falls_at v index ≡ is_some (find falls (falls_in v index))
+fallen v index = sym (such_where (nat_lt 0 index && nat_lt index (length v)) falls (Falling (number_at v (index - 1)) (number_at v index)))
+
+near : (d : ℤ) (v : List ℤ) (index : ℕ) → is_too_near d v index ≡ is_some (find is_near (gap_in d v index))
+near d v index = sym (such_where (nat_lt 0 index && begins_zone v index) is_near (Gap (number_at v (index - 1)) (number_at v index) d))
+
+high : (s : ℤ) (v : List ℤ) (index : ℕ) → is_too_high s v index ≡ is_some (find reaches_one (zone_in s v index))
+high s v index =
+    sym (such_where (index % 2 == 1 && nat_lt index (length v)) reaches_one (Zone (number_at v (index - 1)) (number_at v index) s))
+
+beside_agrees : (d : ℤ) (own : Edges) (others : List ℤ)
+    → list_any (come_near d (record { lower = own.lower; upper = own.upper })) (zones others)
+    ≡ is_some (find are_near (beside_zones d own (zones_in others)))
+beside_agrees d own [] = refl
+beside_agrees d own (a ∷ []) = refl
+beside_agrees d own (a ∷ (b ∷ v)) =
+    sym (such_in_both are_near (Zones own (record { lower = a; upper = b }) d ∷ []) (beside_zones d own (zones_in v))
+    ∙ rw (one_such are_near (Zones own (record { lower = a; upper = b }) d), ← beside_agrees d own v) refl)
+
+met : (d : ℤ) (v others : List ℤ) (index : ℕ) → meets d v others index ≡ is_some (find are_near (meetings_in d v others index))
+met d v others index = where_so (begins_zone v index) are_near (beside_zones d (zone_from v index) (zones_in others)) (beside_agrees d (zone_from v index) others)
+
+nearer_is : (width one other : ℤ) → int_eq width (nearer width one other) ≡ (int_eq width one || int_eq width other)
+nearer_is width one other = grind (arith, ints)
+
+nearest_is : (width snap : ℤ) (snaps : List ℤ) → int_eq width (nearest width snap snaps) ≡ list_any (int_eq width) (snap ∷ snaps)
+nearest_is width snap [] = or_false (int_eq width snap)
+nearest_is width snap (other ∷ snaps) =
+    nearest_is width (nearer width snap other) snaps
+    ∙ rw (nearer_is width snap other) (or_assoc (int_eq width snap) (int_eq width other) (list_any (int_eq width) snaps))
+
+among : (widths snaps : List ℤ) → is_not_among widths snaps ≡ is_some (find is_apart (widths_in widths snaps))
+among [] snaps = refl
+among (width ∷ widths) [] = refl
+among (width ∷ widths) (snap ∷ snaps) =
+    ap not (sym (nearest_is width snap snaps)) ∙ sym (one_such is_apart (Width width (nearest width snap snaps)))
+
+snapped : (font : FontValue) (k : Key) (index : ℕ)
+    → (index == 0 && width_is_apart font k) ≡ is_some (find is_apart (widths_at font k index))
+snapped font k index =
+    where_so (index == 0) is_apart (widths_in (first_in 1 (value_at font (width_of k))) (numbers_at font k))
+    (among (first_in 1 (value_at font (width_of k))) (numbers_at font k))
+
+compared_decides : (font : FontValue) (rule : Rule) (key index : ℕ) → compares_in_fonts rule ≡ true
+    → violated font_rules (number_of rule) font key index ≡ is_some (first_in_font_row (compared_font_row rule) font key index)
+unfolding font_rules
+compared_decides font F03 key index e =
+    font_row_decides 3 font_rules 2 _ refl refl refl refl font key index
+    ∙ keys_agree is_not_one (λ font k index. index == 0 && not (is_the_number 1 (value_at font k))) entries_at typed (FontType ∷ []) font key index
+compared_decides font F04 key index e =
+    font_row_decides 4 font_rules 3 _ refl refl refl refl font key index
+    ∙ keys_agree is_neither_fill_nor_stroke (λ font k index. index == 0 && not (is_the_number 0 (value_at font k) || is_the_number 2 (value_at font k))) entries_at painted (PaintType ∷ []) font key index
+compared_decides font F05 key index e =
+    font_row_decides 5 font_rules 4 _ refl refl refl refl font key index
+    ∙ keys_agree is_past_ids (λ font k index. index == 0 && is_past_range (value_at font k)) entries_at past_ids id_keys font key index
+compared_decides font F06 key index e =
+    font_row_decides 6 font_rules 5 _ refl refl refl refl font key index
+    ∙ keys_agree are_two_ids (λ font k index. index == 0 && differ (value_at font UniqueId) (value_at font k)) ids_at differing (PrivateUniqueId ∷ []) font key index
+compared_decides font F07 key index e =
+    font_row_decides 7 font_rules 6 _ refl refl refl refl font key index
+    ∙ keys_agree is_not_5839 (λ font k index. index == 0 && not (is_the_number 5839 (value_at font k))) entries_at passed (Password ∷ []) font key index
+compared_decides font F08 key index e =
+    font_row_decides 8 font_rules 7 _ refl refl refl refl font key index
+    ∙ keys_agree is_unusual_feature (λ font k index. index == 0 && not (is_sixteen_twice (value_at font k))) features_at unusual (MinFeature ∷ []) font key index
+compared_decides font F11 key index e =
+    font_row_decides 11 font_rules 10 _ refl refl refl refl font key index
+    ∙ key_agrees is_unknown_form (λ font index. index == 0 && is_no_form font.encoding) forms_at formed 4 font key index
+compared_decides font F14 key index e =
+    font_row_decides 14 font_rules 13 _ refl refl refl refl font key index ∙ key_agrees is_wrong_subr wrong_subr subrs_in wrong 20 font key index
+compared_decides font Z01 key index e =
+    font_row_decides 15 font_rules 14 _ refl refl refl refl font key index
+    ∙ keys_agree is_misfit (λ font k index. is_of_another_kind k (value_at font k) index) kinds_at of_kind hint_keys font key index
+compared_decides font Z02 key index e =
+    font_row_decides 16 font_rules 15 _ refl refl refl refl font key index
+    ∙ keys_agree is_excess (λ font k index. has_too_many k (value_at font k) index) excess_at many zone_keys font key index
+compared_decides font Z03 key index e =
+    font_row_decides 17 font_rules 16 _ refl refl refl refl font key index
+    ∙ keys_agree is_odd (λ font k index. has_odd_count (value_at font k) index) counts_at odd zone_keys font key index
+compared_decides font Z04 key index e =
+    font_row_decides 18 font_rules 17 _ refl refl refl refl font key index
+    ∙ keys_agree falls (λ font k index. falls_at (numbers_at font k) index) (λ font k index. falls_in (numbers_at font k) index) (λ font k index. fallen (numbers_at font k) index) zone_keys font key index
+compared_decides font Z05 key index e =
+    font_row_decides 19 font_rules 18 _ refl refl refl refl font key index
+    ∙ keys_agree is_near (λ font k index. is_too_near (distance font) (numbers_at font k) index) (λ font k index. gap_in (distance font) (numbers_at font k) index) (λ font k index. near (distance font) (numbers_at font k) index) zone_keys font key index
+compared_decides font Z06 key index e =
+    font_row_decides 20 font_rules 19 _ refl refl refl refl font key index
+    ∙ keys_agree are_near comes_near_high meetings_at (λ font k index. met (distance font) (numbers_at font k) (numbers_at font (high_of k)) index) low_zone_keys font key index
+compared_decides font Z07 key index e =
+    font_row_decides 21 font_rules 20 _ refl refl refl refl font key index
+    ∙ keys_agree reaches_one (λ font k index. is_too_high (scale font) (numbers_at font k) index) (λ font k index. zone_in (scale font) (numbers_at font k) index) (λ font k index. high (scale font) (numbers_at font k) index) zone_keys font key index
+compared_decides font Z08 key index e =
+    font_row_decides 22 font_rules 21 _ refl refl refl refl font key index
+    ∙ keys_agree is_no_width (λ font k index. index == 0 && is_not_one_width (value_at font k)) entries_at no_width width_keys font key index
+compared_decides font Z09 key index e =
+    font_row_decides 23 font_rules 22 _ refl refl refl refl font key index
+    ∙ keys_agree is_excess (λ font k index. has_too_many k (value_at font k) index) excess_at many snap_keys font key index
+compared_decides font Z10 key index e =
+    font_row_decides 24 font_rules 23 _ refl refl refl refl font key index
+    ∙ keys_agree falls (λ font k index. falls_at (numbers_at font k) index) (λ font k index. falls_in (numbers_at font k) index) (λ font k index. fallen (numbers_at font k) index) snap_keys font key index
+compared_decides font Z11 key index e =
+    font_row_decides 25 font_rules 24 _ refl refl refl refl font key index
+    ∙ keys_agree is_apart (λ font k index. index == 0 && width_is_apart font k) widths_at snapped snap_keys font key index
+compared_decides font _ key index e = let no : false ≡ true = e in cc
+
+pub fonts_broken_where_reason : FontsBreakWhereThereIsAReason
+fonts_broken_where_reason font rule key index = go (compares_in_fonts rule) refl
+  where
+    is_broken : Bool
+    is_broken = violated font_rules (number_of rule) font key index
+
+    go : (b : Bool) → compares_in_fonts rule ≡ b → is_broken
+        ≡ is_some (first_in_font_row (if b then compared_font_row rule else font_reason_row (told_in_fonts rule) is_any) font key index)
+    go true is = compared_decides font rule key index is
+    go false is = and_true is_broken ∙ sym (such_where is_broken is_any (told_in_font rule font index))
+
+pub reasons_are_against : FontReasonsAreAgainstTheirRules
+reasons_are_against font rule key index reason e = record {
+  there = found_there (font_row_of rule).is_against ((font_row_of rule).candidates font key index) reason e;
+  against = found_such (font_row_of rule).is_against ((font_row_of rule).candidates font key index) reason e;
+}
+
+-- ---- what would do
+
+fits_below : (k n one : ℕ) → 0 < k → k * n < one → n ≤ (one - 1) / k
+fits_below k n one some less = (le-div_iff_mul-le some).1 (omega (arith, less, mul_comm n k))
+
+under : (k n one : ℕ) → 0 < k → 0 < one → n ≤ (one - 1) / k → k * n < one
+under k n one some more most =
+    let product : n * k ≤ one - 1 = (le-div_iff_mul-le some).0 most in
+    omega (arith, product, mul_comm n k)
+
+product_is : (k n : ℕ) → (pos k *ℤ pos n) ≡ pos (k * n)
+product_is k n = refl
+
+never : (one m : ℕ) → 0 < one → int_le (pos one) (neg_ℤ (pos m)) ≡ false
+never one zero more = grind (arith, ints)
+never one (suc m) more = refl
+
+does : (k one : ℕ) → 0 < k → 0 < one → (s : ℤ) → (int_le (pos one) (pos k *ℤ s) ≡ false) ↔ (s ≤ℤ pos ((one - 1) / k))
+does k one some more (pos n) = (
+  λ e. let less : k * n < one = grind (arith, ints, e) in let within : n ≤ (one - 1) / k = fits_below k n one some less in grind (arith, ints, within),
+  λ le. let within : n ≤ (one - 1) / k = grind (arith, ints, le) in let less : k * n < one = under k n one some more within in grind (arith, ints, less),
+)
+does k one some more (negsuc n) = (λ e. grind (arith, ints), λ le. never one (k * suc n) more)
+
+pub scales_do : ScalesDo
+scales_do lower upper scale e s = go (upper -ℤ lower) e
+  where
+    go : (height : ℤ) → scale_for height ≡ Some scale → (int_le product_one (height *ℤ s) ≡ false) ↔ (s ≤ℤ scale)
+    go (pos zero) e = let no : None ≡ Some scale = e in cc
+    go (pos (suc h)) e =
+        let same : pos ((billion * billion - 1) / suc h) ≡ scale = cc in
+        rw (← same) (does (suc h) (billion * billion) (omega arith) (omega arith) s)
+    go (negsuc h) e = let no : None ≡ Some scale = e in cc
+
+-- A zone that isn't higher than 0 never reaches one by a BlueScale from 0 on.
+pub low_never_reaches : (height s : ℤ) → scale_for height ≡ None → pos 0 ≤ℤ s → int_le product_one (height *ℤ s) ≡ false
+low_never_reaches (pos zero) (pos n) is least = grind (arith, ints)
+low_never_reaches (pos zero) (negsuc n) is least = absurd (grind (arith, ints, least))
+low_never_reaches (pos (suc h)) s is least = let other : Some _ ≡ None = is in cc
+low_never_reaches (negsuc h) (pos n) is least = never (billion * billion) (suc h * n) (omega arith)
+low_never_reaches (negsuc h) (negsuc n) is least = absurd (grind (arith, ints, least))

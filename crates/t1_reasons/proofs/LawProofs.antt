@@ -1,0 +1,343 @@
+-- Laws of reasons.
+use Rattle.std.proofs.Common.{◌≡◌, ℕ, suc, arith, ◌&&◌, ◌||◌, Bool, true, false, Option, Some, None, is_some, List, [], ◌∷◌, ◌++◌, length, refl, sym, ap, ◌∙◌, ℤ, map, take, ◌-◌, ◌*◌, ◌≤◌, nat_le, not, pos}
+use Rattle.std.specs.Prelude.{if◌then◌else◌, ◌+◌}
+use Rattle.std.specs.Option.{option_or}
+use Rattle.std.specs.List.{find, flat_map, list_any, Contains}
+use Rattle.std.proofs.lemmas.Bool.{leb-true}
+use Rattle.std.proofs.lemmas.Int.{ints}
+use Rattle.std.proofs.lemmas.List.Folds.{find-append}
+use Rattle.std.proofs.Math.Bool.{and-false}
+use Rattle.t1_char.specs.declared.command.Command.{Command as Commands}
+use Rattle.t1_char.specs.declared.command.Command.TheVariants.{Vstem, Vstem3}
+use Rattle.t1_char.specs.declared.edition.Edition.{Edition}
+use Rattle.t1_char.specs.declared.token.CharToken.{CharToken}
+use Rattle.t1_char.specs.declared.token.CharToken.TheVariants.{Command}
+use Rattle.t1_char.specs.Arguments.{is_callothersubr, is_flex_end, is_whole}
+use Rattle.t1_char.specs.Numbers.{natural, unit}
+use Rattle.t1_char.specs.Stacks.{from_top}
+use Rattle.t1_char.specs.Commands.{arguments_of}
+use Rattle.t1_char.specs.Steps.{StepView, is_return}
+use Rattle.t1_char.specs.Seacs.{is_seac}
+use Rattle.t1_rules.specs.declared.rule.Rule.{Rule}
+use Rattle.t1_rules.specs.declared.rule.Rule.TheVariants.{C03, C04, C05, C07, C08, C09, S01, S02, S03, H02, H03, H04, X05, O01, O02, O03, K01, K02, K05}
+use Rattle.t1_rules.specs.declared.sidebearings.Component.{Component}
+use Rattle.t1_rules.specs.declared.step_rules.stems.Stem.{Stem}
+use Rattle.t1_rules.specs.Book.{number_of}
+use Rattle.t1_rules.specs.StepRules.{argument_rules, breaks, call_rules, path_rules, stem_rules, flex_rules, othersubr_rules, seac_rules, component_rules, step_rules, charstring_rules}
+use Rattle.t1_rules.specs.StepRules.Arguments.{divides, divides_by_zero, divides_past, has_argument_past, has_too_few_arguments, has_too_many_arguments, is_more_than, is_past, one_is_past, wanted_by}
+use Rattle.t1_rules.specs.StepRules.Othersubrs.{calls_by_numbers, calls_unknown, has_bad_count, has_good_count, has_wrong_count, is_effective, is_flex_or_hints, is_good_count, is_up_to}
+use Rattle.t1_rules.specs.StepRules.Calls.{calls_by_number, calls_missing, calls_too_deep, returns_from_glyph}
+use Rattle.t1_rules.specs.StepRules.Flex.{current_point, end_point, ends_elsewhere, is_elsewhere}
+use Rattle.t1_rules.specs.StepRules.Paths.{in_flex}
+use Rattle.t1_rules.specs.StepRules.Seac.{accent, accent_sidebearing, differs_in_sidebearing, has_no_code as no_code, has_unnamed_code, is_another}
+use Rattle.t1_rules.specs.StepRules.Stems.{has_no_width, is_stem, is_triple, sets_unequal, sets_without_width, hint_set, lies_across, one_overlaps, overlap_by, sets_overlapping, stands_upright, stems_meet, stems_of, two_overlap}
+use Rattle.t1_rules.specs.StepRules.Tokens.{is_command, is_unknown}
+use Rattle.t1_rules.proofs.Lemmas.StepRules.{row_decides}
+use Rattle.t1_reasons.specs.declared.reason.Reason.{Reason}
+use Rattle.t1_reasons.specs.declared.reason.Reason.TheVariants.{Argument, Stem as StemAlone, Count, Sidebearings, Stems, Token}
+use Rattle.t1_reasons.specs.declared.reason.SetStem.{SetStem}
+use Rattle.t1_reasons.specs.Backgrounds.{background_of}
+use Rattle.t1_reasons.specs.HintSets.{stems_set}
+use Rattle.t1_reasons.specs.Laws.{ReasonsAreAgainstTheirRules, StepsBreakWhereThereIsAReason}
+use Rattle.t1_reasons.specs.StepReasons.{arguments_in, beside, calls_at, codes_at, has_no_code, has_no_name, is_by_zero, is_outermost, is_past_quotient, is_too_deep, is_unknown_othersubr, is_unknown_token, known_calls_at, quotients_at, returns_at, compared_row, compares, count_of, counts_in, first_in_row, has_fewer, has_more, is_any, is_bad_count, is_lacking_subr, is_miscounted, is_miss, is_overlap, is_past_range, is_told_otherwise, is_uneven, is_widthless, misses_at, only_where, othersubrs_at, own_stems, pairs, pairs_with, placed_from, placed_of, reason_row, row_of, sidebearings_at, single_stems_at, stems_at, subrs_at, told_at, told_by, takes, triples_at, wants_in, with_own}
+use Rattle.t1_reasons.proofs.Hints.{plain, plain_hints, plain_set}
+
+-- ---- the first such
+
+pub one_such : {A : Type 0} (p : A → Bool) (x : A) → is_some (find p (x ∷ [])) ≡ p x
+one_such p x = go (p x) refl
+  where
+    go : (b : Bool) → p x ≡ b → is_some (find p (x ∷ [])) ≡ p x
+    go true is = rw is refl
+    go false is = rw is refl
+
+pub such_where : (b : Bool) (p : Reason → Bool) (x : Reason) → is_some (find p (only_where b x)) ≡ (b && p x)
+such_where true p x = one_such p x
+such_where false p x = refl
+
+pub such_in_both : {A : Type 0} (p : A → Bool) (xs ys : List A) → is_some (find p (xs ++ ys)) ≡ (is_some (find p xs) || is_some (find p ys))
+such_in_both {A = A} p xs ys = ap is_some (find-append p xs ys) ∙ go (find p xs)
+  where
+    go : (found : Option A) → is_some (option_or found (find p ys)) ≡ (is_some found || is_some (find p ys))
+    go None = refl
+    go (Some x) = refl
+
+-- ---- rule by rule
+
+more_counted : (token : CharToken) (stack : List ℤ) → has_too_many_arguments token stack ≡ is_some (find has_more (counts_in token stack))
+more_counted (Command command) stack = go (arguments_of command)
+  where
+    go : (count : Option ℕ) → is_more_than count (length stack) ≡ is_some (find has_more (count_of command count (length stack)))
+    go None = refl
+    go (Some count) = sym (one_such has_more (Count command count (length stack)))
+more_counted _ stack = refl
+
+fewer_counted : (token : CharToken) (stack : List ℤ) → has_too_few_arguments token stack ≡ is_some (find has_fewer (wants_in token stack))
+fewer_counted (Command command) stack = sym (one_such has_fewer (Count command (wanted_by command (arguments_of command)) (length stack)))
+fewer_counted _ stack = refl
+
+past_placed : (place : ℕ) (stack : List ℤ) → list_any is_past stack ≡ is_some (find is_past_range (placed_from place stack))
+past_placed place [] = refl
+past_placed place (z ∷ zs) =
+    sym (such_in_both is_past_range (Argument place z ∷ []) (placed_from (place + 1) zs)
+    ∙ rw (one_such is_past_range (Argument place z), ← past_placed (place + 1) zs) refl)
+
+past_argument : (token : CharToken) (stack : List ℤ) → has_argument_past token stack ≡ is_some (find is_past_range (arguments_in token stack))
+past_argument (Command command) stack = go (arguments_of command)
+  where
+    go : (count : Option ℕ) → one_is_past count stack ≡ is_some (find is_past_range (placed_of count stack))
+    go None = refl
+    go (Some count) = past_placed 1 (take count stack)
+past_argument _ stack = refl
+
+widthless_one : (stems : List Stem) → list_any has_no_width stems ≡ is_some (find is_widthless (map (λ s. StemAlone s) stems))
+widthless_one [] = refl
+widthless_one (s ∷ ss) =
+    sym (such_in_both is_widthless (StemAlone s ∷ []) (map (λ s. StemAlone s) ss)
+    ∙ rw (one_such is_widthless (StemAlone s), ← widthless_one ss) refl)
+
+widthless : (step : StepView) → sets_without_width step ≡ is_some (find is_widthless (single_stems_at step))
+widthless step = go (is_stem step.token)
+  where
+    go : (b : Bool) → (b && list_any has_no_width (stems_of step))
+        ≡ is_some (find is_widthless (if b then map (λ s. StemAlone s) (stems_of step) else []))
+    go true = widthless_one (stems_of step)
+    go false = refl
+
+uneven : (step : StepView) → sets_unequal step ≡ is_some (find is_uneven (triples_at step))
+uneven step = sym (such_where (is_command is_triple step.token) is_uneven _)
+
+badly_counted : (step : StepView) → has_bad_count step ≡ is_some (find is_bad_count (othersubrs_at step))
+badly_counted step = sym (such_where (calls_by_numbers step) is_bad_count _)
+
+unknown : (token : CharToken) → is_unknown token ≡ is_some (find is_unknown_token (Token token ∷ []))
+unknown token = sym (one_such is_unknown_token (Token token))
+
+past_quotient : (step : StepView) → divides_past step ≡ is_some (find is_past_quotient (quotients_at step))
+past_quotient step = sym (such_where (divides step) is_past_quotient _)
+
+by_zero : (step : StepView) → divides_by_zero step ≡ is_some (find is_by_zero (quotients_at step))
+by_zero step = sym (such_where (divides step) is_by_zero _)
+
+too_deep : (step : StepView) → calls_too_deep step ≡ is_some (find is_too_deep (calls_at step))
+too_deep step = sym (such_where (calls_by_number step) is_too_deep _)
+
+returned : (step : StepView) → returns_from_glyph step ≡ is_some (find is_outermost (returns_at step))
+returned step = sym (such_where (is_return step.token) is_outermost _)
+
+unknown_call : (step : StepView) → calls_unknown step ≡ is_some (find is_unknown_othersubr (known_calls_at step))
+unknown_call step = sym (such_where (calls_by_numbers step && has_good_count step) is_unknown_othersubr _)
+
+-- A call with the count that an OtherSubr takes, where so many arguments are there.
+one_call : (k m : ℕ) (calls : Bool) (there : ℕ) (number count : ℤ) → calls ≡ true → 2 ≤ there → natural (pos (m * unit)) ≡ Some m
+    → is_good_count (there - 2) count ≡ true
+    → (((calls && nat_le (m + 2) there) && is_whole k number) && is_whole m count) ≡ (is_whole k number && is_whole m count)
+one_call k m calls there number count called two own good = go (is_whole m count) refl
+  where
+    go : (b : Bool) → is_whole m count ≡ b → (((calls && nat_le (m + 2) there) && is_whole k number) && b) ≡ (is_whole k number && b)
+    go false is = and-false ((calls && nat_le (m + 2) there) && is_whole k number) ∙ sym (and-false (is_whole k number))
+    go true is =
+        let at : count ≡ pos (m * unit) = grind (arith, ints, is) in
+        let fits : nat_le m (there - 2) ≡ true = ap (is_up_to (there - 2)) (sym own) ∙ ap (is_good_count (there - 2)) (sym at) ∙ good in
+        let enough : m + 2 ≤ there = omega (arith, two, leb-true m (there - 2) fits) in
+        let more : nat_le (m + 2) there ≡ true = grind (arith, enough) in
+        rw (called, more) refl
+
+miscounted : (step : StepView) → has_wrong_count step ≡ is_some (find is_miscounted (known_calls_at step))
+miscounted step = go (is_callothersubr step.token) refl (nat_le 2 there) refl (has_good_count step) refl ∙ sym (such_where (calls_by_numbers step && has_good_count step) is_miscounted _)
+  where
+    there : ℕ
+    there = length step.stack
+
+    number : ℤ
+    number = from_top step.stack 0
+
+    count : ℤ
+    count = from_top step.stack 1
+
+    go : (a : Bool) → is_callothersubr step.token ≡ a → (b : Bool) → nat_le 2 there ≡ b → (c : Bool) → has_good_count step ≡ c
+        → ((((a && b) && c) && is_flex_or_hints number) && not (is_effective step))
+        ≡ (((a && b) && c) && (is_flex_or_hints number && not (takes number count)))
+    go false called b two c good = refl
+    go true called false two c good = refl
+    go true called true two false good = refl
+    go true called true two true good =
+        let enough : 2 ≤ there = leb-true 2 there two in
+        rw (
+          one_call 0 3 (is_callothersubr step.token) there number count called enough refl good,
+          one_call 1 0 (is_callothersubr step.token) there number count called enough refl good,
+          one_call 2 0 (is_callothersubr step.token) there number count called enough refl good,
+          one_call 3 1 (is_callothersubr step.token) there number count called enough refl good,
+        ) refl
+
+without_code : (step : StepView) → no_code step ≡ is_some (find has_no_code (codes_at step))
+without_code step = sym (such_where (is_seac step.token) has_no_code _)
+
+without_name : (step : StepView) → has_unnamed_code step ≡ is_some (find has_no_name (codes_at step))
+without_name step = sym (such_where (is_seac step.token) has_no_name _)
+
+both_ways : (a b c : Bool) → ((a && b) && c) ≡ ((a && c) && b)
+both_ways true true true = refl
+both_ways true true false = refl
+both_ways true false true = refl
+both_ways true false false = refl
+both_ways false b c = refl
+
+missed : (before : List StepView) (step : StepView) → ends_elsewhere before step ≡ is_some (find is_miss (misses_at before step))
+missed before step =
+    both_ways (is_flex_end step) (is_elsewhere (end_point step) (current_point before)) (in_flex before)
+    ∙ sym (such_where (is_flex_end step && in_flex before) is_miss _)
+
+lacked : (step : StepView) → calls_missing step ≡ is_some (find is_lacking_subr (subrs_at step))
+lacked step = sym (such_where (calls_by_number step) is_lacking_subr _)
+
+told_otherwise : (components : List Component) (step : StepView)
+    → differs_in_sidebearing components step ≡ is_some (find is_told_otherwise (sidebearings_at components step))
+told_otherwise components step = go (is_seac step.token) (accent components step).sidebearing
+  where
+    go : (b : Bool) (own : Option ℤ) → (b && is_another own (accent_sidebearing step))
+        ≡ is_some (find is_told_otherwise (if b then with_own (accent_sidebearing step) own else []))
+    go true None = refl
+    go true (Some own) = sym (one_such is_told_otherwise (Sidebearings (accent_sidebearing step) own))
+    go false own = refl
+
+beside_one : (edition : Edition) (own : Stem) (others : List SetStem)
+    → is_some (find (is_overlap edition) (beside own others)) ≡ list_any (overlap_by edition own) (plain others)
+beside_one edition own [] = refl
+beside_one edition own (other ∷ others) =
+    such_in_both (is_overlap edition) (Stems own other ∷ []) (beside own others)
+    ∙ rw (one_such (is_overlap edition) (Stems own other), beside_one edition own others) refl
+
+beside_all : (edition : Edition) (stems kept : List SetStem)
+    → is_some (find (is_overlap edition) (flat_map (λ own. beside own.stem kept) stems)) ≡ one_overlaps (overlap_by edition) (plain stems) (plain kept)
+beside_all edition [] kept = refl
+beside_all edition (own ∷ stems) kept =
+    such_in_both (is_overlap edition) (beside own.stem kept) (flat_map (λ s. beside s.stem kept) stems)
+    ∙ rw (beside_one edition own.stem kept, beside_all edition stems kept) refl
+
+in_pairs : (edition : Edition) (stems : List SetStem) → is_some (find (is_overlap edition) (pairs stems)) ≡ two_overlap (overlap_by edition) (plain stems)
+in_pairs edition [] = refl
+in_pairs edition (own ∷ stems) =
+    such_in_both (is_overlap edition) (beside own.stem stems) (pairs stems)
+    ∙ rw (beside_one edition own.stem stems, in_pairs edition stems) refl
+
+meet : (edition : Edition) (stems kept : List SetStem)
+    → is_some (find (is_overlap edition) (pairs_with stems kept)) ≡ stems_meet (overlap_by edition) (plain stems) (plain kept)
+meet edition stems kept =
+    such_in_both (is_overlap edition) (flat_map (λ own. beside own.stem kept) stems) (pairs stems)
+    ∙ rw (beside_all edition stems kept, in_pairs edition stems) refl
+
+apart : (token : CharToken) → is_command lies_across token ≡ true → is_command stands_upright token ≡ false
+apart (Command Vstem) e = let no : false ≡ true = e in cc
+apart (Command Vstem3) e = let no : false ≡ true = e in cc
+apart _ e = refl
+
+overlapping : (edition : Edition) (before : List StepView) (step : StepView)
+    → sets_overlapping (overlap_by edition) before step ≡ is_some (find (is_overlap edition) (stems_at before step))
+overlapping edition before step = go (is_command lies_across step.token) (is_command stands_upright step.token) (apart step.token)
+  where
+    along : (Commands → Bool) → Bool
+    along direction = stems_meet (overlap_by edition) (stems_of step) (hint_set direction before)
+
+    met : (direction : Commands → Bool)
+        → is_some (find (is_overlap edition) (pairs_with (own_stems before step) (stems_set direction before))) ≡ along direction
+    met direction =
+        meet edition (own_stems before step) (stems_set direction before)
+        ∙ rw (plain_set (length before + 1) (stems_of step), plain_hints direction before) refl
+
+    last : (b : Bool) → (b || false) ≡ b
+    last true = refl
+    last false = refl
+
+    go : (across upright : Bool) → (across ≡ true → upright ≡ false) →
+        ((across && along lies_across) || (upright && along stands_upright))
+        ≡ is_some (find (is_overlap edition)
+        (if across then pairs_with (own_stems before step) (stems_set lies_across before)
+        else (if upright then pairs_with (own_stems before step) (stems_set stands_upright before) else [])))
+    go true true e = let no : true ≡ false = e refl in cc
+    go true false e = last (along lies_across) ∙ sym (met lies_across)
+    go false true e = sym (met stands_upright)
+    go false false e = refl
+
+-- ---- all of them
+
+compared_decides : (edition : Edition) (components : List Component) (rule : Rule) (before : List StepView) (step : StepView) → compares rule ≡ true
+    → breaks (charstring_rules edition components) (number_of rule) before step
+    ≡ is_some (first_in_row (compared_row edition components rule) before step)
+unfolding charstring_rules step_rules argument_rules call_rules path_rules stem_rules flex_rules othersubr_rules seac_rules component_rules
+compared_decides edition components C03 before step e =
+    row_decides 28 (charstring_rules edition components) 2 _ refl refl refl refl before step ∙ unknown step.token
+compared_decides edition components C04 before step e =
+    row_decides 29 (charstring_rules edition components) 3 _ refl refl refl refl before step ∙ fewer_counted step.token step.stack
+compared_decides edition components C05 before step e =
+    row_decides 30 (charstring_rules edition components) 4 _ refl refl refl refl before step ∙ more_counted step.token step.stack
+compared_decides edition components C07 before step e =
+    row_decides 32 (charstring_rules edition components) 6 _ refl refl refl refl before step ∙ past_argument step.token step.stack
+compared_decides edition components C08 before step e =
+    row_decides 33 (charstring_rules edition components) 7 _ refl refl refl refl before step ∙ past_quotient step
+compared_decides edition components C09 before step e =
+    row_decides 34 (charstring_rules edition components) 8 _ refl refl refl refl before step ∙ by_zero step
+compared_decides edition components S01 before step e =
+    row_decides 35 (charstring_rules edition components) 9 _ refl refl refl refl before step ∙ lacked step
+compared_decides edition components S02 before step e =
+    row_decides 36 (charstring_rules edition components) 10 _ refl refl refl refl before step ∙ too_deep step
+compared_decides edition components S03 before step e =
+    row_decides 37 (charstring_rules edition components) 11 _ refl refl refl refl before step ∙ returned step
+compared_decides edition components H02 before step e =
+    row_decides 47 (charstring_rules edition components) 21 _ refl refl refl refl before step ∙ overlapping edition before step
+compared_decides edition components H03 before step e =
+    row_decides 48 (charstring_rules edition components) 22 _ refl refl refl refl before step ∙ widthless step
+compared_decides edition components H04 before step e =
+    row_decides 49 (charstring_rules edition components) 23 _ refl refl refl refl before step ∙ uneven step
+compared_decides edition components X05 before step e =
+    row_decides 56 (charstring_rules edition components) 30 _ refl refl refl refl before step ∙ missed before step
+compared_decides edition components O01 before step e =
+    row_decides 58 (charstring_rules edition components) 32 _ refl refl refl refl before step ∙ unknown_call step
+compared_decides edition components O02 before step e =
+    row_decides 59 (charstring_rules edition components) 33 _ refl refl refl refl before step ∙ badly_counted step
+compared_decides edition components O03 before step e =
+    row_decides 60 (charstring_rules edition components) 34 _ refl refl refl refl before step ∙ miscounted step
+compared_decides edition components K01 before step e =
+    row_decides 62 (charstring_rules edition components) 36 _ refl refl refl refl before step ∙ without_code step
+compared_decides edition components K02 before step e =
+    row_decides 63 (charstring_rules edition components) 37 _ refl refl refl refl before step ∙ without_name step
+compared_decides edition components K05 before step e =
+    row_decides 66 (charstring_rules edition components) 41 _ refl refl refl refl before step ∙ told_otherwise components step
+compared_decides edition components _ before step e = let no : false ≡ true = e in cc
+
+pub broken_where_reason : StepsBreakWhereThereIsAReason
+broken_where_reason edition components rule before step = go (compares rule) refl
+  where
+    and_true : (b : Bool) → b ≡ (b && true)
+    and_true true = refl
+    and_true false = refl
+
+    is_broken : Bool
+    is_broken = breaks (charstring_rules edition components) (number_of rule) before step
+
+    go : (b : Bool) → compares rule ≡ b → is_broken
+        ≡ is_some (first_in_row (if b then compared_row edition components rule else reason_row (told_at edition components rule) is_any) before step)
+    go true is = compared_decides edition components rule before step is
+    go false is = and_true is_broken ∙ sym (such_where is_broken is_any (told_by rule (background_of before) step))
+
+pub found_there : (p : Reason → Bool) (xs : List Reason) (x : Reason) → find p xs ≡ Some x → Contains xs x
+found_there p [] x e = let no : None ≡ Some x = e in cc
+found_there p (y ∷ ys) x e = go (p y) refl e (found_there p ys x)
+  where
+    go : (b : Bool) → p y ≡ b → find p (y ∷ ys) ≡ Some x → (find p ys ≡ Some x → Contains ys x) → Contains (y ∷ ys) x
+    go true is f rest = let same : Some y ≡ Some x = rw is at f in (0, omega arith, cc)
+    go false is f rest = let later = rest (rw is at f) in let less = later.1 in (suc later.0, omega arith, later.2)
+
+pub found_such : (p : Reason → Bool) (xs : List Reason) (x : Reason) → find p xs ≡ Some x → p x ≡ true
+found_such p [] x e = let no : None ≡ Some x = e in cc
+found_such p (y ∷ ys) x e = go (p y) refl e (found_such p ys x)
+  where
+    go : (b : Bool) → p y ≡ b → find p (y ∷ ys) ≡ Some x → (find p ys ≡ Some x → p x ≡ true) → p x ≡ true
+    go true is f rest = let same : Some y ≡ Some x = rw is at f in let alike : y ≡ x = cc in rw (← alike) is
+    go false is f rest = rest (rw is at f)
+
+pub reasons_are_against : ReasonsAreAgainstTheirRules
+reasons_are_against edition components rule before step reason e = record {
+  there = found_there (row_of edition components rule).is_against ((row_of edition components rule).candidates before step) reason e;
+  against = found_such (row_of edition components rule).is_against ((row_of edition components rule).candidates before step) reason e;
+}

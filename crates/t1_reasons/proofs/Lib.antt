@@ -1,0 +1,10 @@
+mod Backgrounds
+mod FaultLaws
+mod Finds
+mod FontLaws
+mod Hints
+mod LastSteps
+mod LawProofs
+mod RemedyLaws
+mod UnusedLaws
+mod Walking

@@ -1,0 +1,5 @@
+use Rattle.t1_reasons.proofs.FontLaws.{reasons_are_against}
+use Rattle.t1_reasons.proofs.laws.font_reasons_are_against_their_rules.Goals as goal
+
+pub returns : goal.returns
+returns c = reasons_are_against

@@ -1,0 +1,332 @@
+-- Why a font breaks a rule at a key and an index: what the rule compares there, and which of that is against it.
+use Rattle.std.specs.Prelude.{ℕ, suc, ◌+◌, ◌-◌, ◌*◌, ◌/◌, ◌%◌, ◌==◌, ◌&&◌, ◌||◌, not, Bool, true, false, if◌then◌else◌, nat_eq, nat_lt, int_le, int_lt, ℤ, pos, ◌-ℤ◌, ◌*ℤ◌, unsigned_abs, Option, Some, None, is_some, List, [], ◌∷◌, length, map}
+use Rattle.std.specs.List.{find}
+use Rattle.std.specs.Map.{lookup}
+use Rattle.std.specs.Option.{unwrap_or}
+use Rattle.std.specs.Ordering.{int_eq}
+use Rattle.t1_font.specs.declared.key.Key.{Key}
+use Rattle.t1_font.specs.declared.key.Key.TheVariants.{FontType, PaintType, UniqueId, PrivateUniqueId, Password, MinFeature, BlueScale, BlueShift, BlueFuzz}
+use Rattle.t1_font.specs.Fonts.{FontValue, is_subr_twice}
+use Rattle.t1_font.specs.Values.{Value, absent, number as one_number, numbers as several_numbers, other as another}
+use Rattle.t1_rules.specs.declared.rule.Rule.{Rule}
+use Rattle.t1_rules.specs.declared.rule.Rule.TheVariants.{F03, F04, F05, F06, F07, F08, F09, F10, F11, F13, F14, Z01, Z02, Z03, Z04, Z05, Z06, Z07, Z08, Z09, Z10, Z11}
+use Rattle.t1_rules.specs.Book.{number_of}
+use Rattle.t1_rules.specs.FontRules.{font_rules, violated}
+use Rattle.t1_rules.specs.FontRules.Encoding.{is_no_form}
+use Rattle.t1_rules.specs.FontRules.Hints.{hint_keys, number_at, numbers_at}
+use Rattle.t1_rules.specs.FontRules.Ids.{id_keys, is_whole_to}
+use Rattle.t1_rules.specs.FontRules.Stems.{snap_keys, width_keys, width_of}
+use Rattle.t1_rules.specs.FontRules.Values.{count_in, first_in, product_one, whole}
+use Rattle.t1_rules.specs.FontRules.Zones.{begins_zone, distance, high_of, low_zone_keys, scale, zone_keys}
+use Rattle.t1_rules.specs.Keys.{encoding_key, index_count, key_number, list_limit_of, subrs_key, value_at}
+use Rattle.t1_scan.specs.Numbers.{billion}
+use Rattle.t1_reasons.specs.declared.reason.Edges.{Edges}
+use Rattle.t1_reasons.specs.declared.reason.EntryKind.{EntryKind}
+use Rattle.t1_reasons.specs.declared.reason.EntryKind.TheVariants.{Number as OneNumber, Numbers as ManyNumbers}
+use Rattle.t1_reasons.specs.declared.reason.Found.{Found}
+use Rattle.t1_reasons.specs.declared.reason.Found.TheVariants.{Absent, One, Other, Several}
+use Rattle.t1_reasons.specs.declared.reason.Reason.{Reason}
+use Rattle.t1_reasons.specs.declared.reason.Reason.TheVariants.{Code, Entry, Falling, Features, Form, Gap, Glyph, Glyphs, Ids, Kind, Nothing, Numbers, SubrEntry, TooMany, Width, Zone, Zones}
+use Rattle.t1_reasons.specs.StepReasons.{is_any, only_where}
+
+-- ---- candidates
+
+-- What an entry is, and its number where it is one.
+abbrev pub found_in : Value → Found
+found_in absent = Absent
+found_in (one_number z) = One z
+found_in (several_numbers count first) = Several count
+found_in another = Other
+
+abbrev pub entries_at : FontValue → Key → ℕ → List Reason
+entries_at font k index = only_where (index == 0) (Entry (found_in (value_at font k)))
+
+-- The two UniqueIDs, where both are numbers.
+abbrev pub ids_of : Value → Value → List Reason
+ids_of (one_number one) (one_number two) = Ids one two ∷ []
+ids_of _ _ = []
+
+abbrev pub ids_at : FontValue → Key → ℕ → List Reason
+ids_at font k index = if index == 0 then ids_of (value_at font UniqueId) (value_at font k) else []
+
+-- How many numbers MinFeature has, and the first two of them, where there are two.
+abbrev pub features_in : Value → Reason
+features_in (several_numbers count (one ∷ (two ∷ first))) = Features (Several count) one two
+features_in value = Features (found_in value) (pos 0) (pos 0)
+
+abbrev pub features_at : FontValue → Key → ℕ → List Reason
+features_at font k index = only_where (index == 0) (features_in (value_at font k))
+
+-- The form of the Encoding.
+abbrev pub forms_at : FontValue → ℕ → List Reason
+forms_at font index = only_where (index == 0) (Form font.encoding)
+
+-- A Subr that is there, whether it is given twice, and the size of the array.
+abbrev pub subrs_in : FontValue → ℕ → List Reason
+subrs_in font n =
+    only_where (nat_lt n index_count && is_some (lookup (nat_eq n) font.subrs)) (SubrEntry n (is_subr_twice font n) (unwrap_or font.size 0))
+
+-- What a hint entry that is there is, and what it should be.
+abbrev pub wanted_at : Key → EntryKind
+wanted_at BlueScale = OneNumber
+wanted_at BlueShift = OneNumber
+wanted_at BlueFuzz = OneNumber
+wanted_at _ = ManyNumbers
+
+abbrev pub is_nothing : Found → Bool
+is_nothing Absent = true
+is_nothing _ = false
+
+abbrev pub kinds_of : Found → EntryKind → List Reason
+kinds_of found wanted = only_where (not (is_nothing found)) (Kind found wanted)
+
+abbrev pub kinds_at : FontValue → Key → ℕ → List Reason
+kinds_at font k index = if index == 0 then kinds_of (found_in (value_at font k)) (wanted_at k) else []
+
+-- How many numbers a list has; at the first place that is too much, with its limit.
+abbrev pub excess_at : FontValue → Key → ℕ → List Reason
+excess_at font k index = only_where (index == list_limit_of k) (TooMany (count_in (value_at font k)) (list_limit_of k))
+
+abbrev pub counts_at : FontValue → Key → ℕ → List Reason
+counts_at font k index = only_where (index == 0) (Numbers (count_in (value_at font k)))
+
+-- A number of a list, and the one before it.
+abbrev pub falls_in : List ℤ → ℕ → List Reason
+falls_in v index = only_where (nat_lt 0 index && nat_lt index (length v)) (Falling (number_at v (index - 1)) (number_at v index))
+
+-- A zone that begins here, the one before it, and the distance that zones keep.
+abbrev pub gap_in : ℤ → List ℤ → ℕ → List Reason
+gap_in d v index = only_where (nat_lt 0 index && begins_zone v index) (Gap (number_at v (index - 1)) (number_at v index) d)
+
+-- The zone that ends here, and BlueScale.
+abbrev pub zone_in : ℤ → List ℤ → ℕ → List Reason
+zone_in s v index =
+    only_where (index % 2 == 1 && nat_lt index (length v)) (Zone (number_at v (index - 1)) (number_at v index) s)
+
+-- A low zone that begins here beside each high one, and the distance that zones keep.
+abbrev pub zone_from : List ℤ → ℕ → Edges
+zone_from v index = record { lower = number_at v index; upper = number_at v (index + 1) }
+
+abbrev pub zones_in : List ℤ → List Edges
+zones_in [] = []
+zones_in (a ∷ []) = []
+zones_in (a ∷ (b ∷ v)) = record { lower = a; upper = b } ∷ zones_in v
+
+abbrev pub beside_zones : ℤ → Edges → List Edges → List Reason
+beside_zones d own others = map (λ other. Zones own other d) others
+
+abbrev pub meetings_in : ℤ → List ℤ → List ℤ → ℕ → List Reason
+meetings_in d v others index = if begins_zone v index then beside_zones d (zone_from v index) (zones_in others) else []
+
+abbrev pub meetings_at : FontValue → Key → ℕ → List Reason
+meetings_at font k index = meetings_in (distance font) (numbers_at font k) (numbers_at font (high_of k)) index
+
+-- The snap that is nearest to a width, the first of these.
+abbrev pub apart : ℤ → ℤ → ℕ
+apart one other = unsigned_abs (one -ℤ other)
+
+abbrev pub nearer : ℤ → ℤ → ℤ → ℤ
+nearer width one other = if nat_lt (apart width other) (apart width one) then other else one
+
+abbrev pub nearest : ℤ → ℤ → List ℤ → ℤ
+nearest width snap [] = snap
+nearest width snap (other ∷ snaps) = nearest width (nearer width snap other) snaps
+
+-- The first standard width, and the snap that is nearest.
+abbrev pub widths_in : List ℤ → List ℤ → List Reason
+widths_in (width ∷ widths) (snap ∷ snaps) = Width width (nearest width snap snaps) ∷ []
+widths_in _ _ = []
+
+abbrev pub widths_at : FontValue → Key → ℕ → List Reason
+widths_at font k index = if index == 0 then widths_in (first_in 1 (value_at font (width_of k))) (numbers_at font k) else []
+
+-- ---- tests
+
+-- It is this whole number.
+abbrev pub is_found_number : ℕ → Found → Bool
+is_found_number n (One z) = int_eq z (whole n)
+is_found_number n _ = false
+
+abbrev pub is_not_one : Reason → Bool
+is_not_one (Entry found) = not (is_found_number 1 found)
+is_not_one _ = false
+
+abbrev pub is_neither_fill_nor_stroke : Reason → Bool
+is_neither_fill_nor_stroke (Entry found) = not (is_found_number 0 found || is_found_number 2 found)
+is_neither_fill_nor_stroke _ = false
+
+abbrev pub is_not_5839 : Reason → Bool
+is_not_5839 (Entry found) = not (is_found_number 5839 found)
+is_not_5839 _ = false
+
+-- It is there, and no whole number from 0 to 16777215.
+abbrev pub is_no_id : Found → Bool
+is_no_id Absent = false
+is_no_id (One z) = not (is_whole_to 16777215 z)
+is_no_id (Several count) = true
+is_no_id Other = true
+
+abbrev pub is_past_ids : Reason → Bool
+is_past_ids (Entry found) = is_no_id found
+is_past_ids _ = false
+
+abbrev pub are_two_ids : Reason → Bool
+are_two_ids (Ids one other) = not (int_eq one other)
+are_two_ids _ = false
+
+abbrev pub are_two : Found → Bool
+are_two (Several count) = count == 2
+are_two _ = false
+
+abbrev pub is_unusual_feature : Reason → Bool
+is_unusual_feature (Features found one two) = not (are_two found && int_eq one (whole 16) && int_eq two (whole 16))
+is_unusual_feature _ = false
+
+abbrev pub are_near : Reason → Bool
+are_near (Zones own other d) = int_lt (other.lower -ℤ own.upper) d && int_lt (own.lower -ℤ other.upper) d
+are_near _ = false
+
+abbrev pub is_apart : Reason → Bool
+is_apart (Width width snap) = not (int_eq width snap)
+is_apart _ = false
+
+abbrev pub is_unknown_form : Reason → Bool
+is_unknown_form (Form encoding) = is_no_form encoding
+is_unknown_form _ = false
+
+abbrev pub is_wrong_subr : Reason → Bool
+is_wrong_subr (SubrEntry number twice size) = twice || not (nat_lt number size)
+is_wrong_subr _ = false
+
+abbrev pub fits : EntryKind → Found → Bool
+fits OneNumber (One z) = true
+fits ManyNumbers (Several count) = true
+fits _ _ = false
+
+abbrev pub is_misfit : Reason → Bool
+is_misfit (Kind found wanted) = not (fits wanted found)
+is_misfit _ = false
+
+abbrev pub is_excess : Reason → Bool
+is_excess (TooMany count most) = nat_lt most count
+is_excess _ = false
+
+abbrev pub is_odd : Reason → Bool
+is_odd (Numbers count) = count % 2 == 1
+is_odd _ = false
+
+-- Numbers, and not one.
+abbrev pub are_not_one : Found → Bool
+are_not_one (Several count) = not (count == 1)
+are_not_one _ = false
+
+abbrev pub is_no_width : Reason → Bool
+is_no_width (Entry found) = are_not_one found
+is_no_width _ = false
+
+abbrev pub falls : Reason → Bool
+falls (Falling before number) = int_lt number before
+falls _ = false
+
+abbrev pub is_near : Reason → Bool
+is_near (Gap upper lower d) = int_lt (lower -ℤ upper) d
+is_near _ = false
+
+-- Its height times BlueScale is 1 or more.
+abbrev pub reaches_one : Reason → Bool
+reaches_one (Zone lower upper s) = int_le product_one ((upper -ℤ lower) *ℤ s)
+reaches_one _ = false
+
+-- The greatest BlueScale by which a zone of this height is no longer too high, in units of 10^-9.
+abbrev pub scale_for : ℤ → Option ℤ
+scale_for (pos (suc height)) = Some (pos ((billion * billion - 1) / suc height))
+scale_for _ = None
+
+-- ---- the table
+
+-- At one of these keys, and at no other.
+abbrev pub key_among : List Key → ℕ → Option Key
+key_among keys key = find (λ k. key == key_number k) keys
+
+abbrev pub of_key : (Key → List Reason) → Option Key → List Reason
+of_key candidates None = []
+of_key candidates (Some k) = candidates k
+
+abbrev pub at_keys : List Key → (FontValue → Key → ℕ → List Reason) → FontValue → ℕ → ℕ → List Reason
+at_keys keys candidates font key index = of_key (λ k. candidates font k index) (key_among keys key)
+
+abbrev pub at_key : ℕ → (FontValue → ℕ → List Reason) → FontValue → ℕ → ℕ → List Reason
+at_key own candidates font key index = if key == own then candidates font index else []
+
+-- What a rule compares at a key and an index, in the order in which it is looked at, and which of it is against the rule.
+pub record FontReasonRow : Type 0 where
+  pub candidates : FontValue → ℕ → ℕ → List Reason
+  pub is_against : Reason → Bool
+
+abbrev pub font_reason_row : (FontValue → ℕ → ℕ → List Reason) → (Reason → Bool) → FontReasonRow
+font_reason_row candidates is_against = record { candidates = candidates; is_against = is_against }
+
+-- The rules that compare numbers.
+abbrev pub compares_in_fonts : Rule → Bool
+compares_in_fonts F03 = true
+compares_in_fonts F04 = true
+compares_in_fonts F05 = true
+compares_in_fonts F06 = true
+compares_in_fonts F07 = true
+compares_in_fonts F08 = true
+compares_in_fonts F11 = true
+compares_in_fonts F14 = true
+compares_in_fonts Z01 = true
+compares_in_fonts Z02 = true
+compares_in_fonts Z03 = true
+compares_in_fonts Z04 = true
+compares_in_fonts Z05 = true
+compares_in_fonts Z06 = true
+compares_in_fonts Z07 = true
+compares_in_fonts Z08 = true
+compares_in_fonts Z09 = true
+compares_in_fonts Z10 = true
+compares_in_fonts Z11 = true
+compares_in_fonts _ = false
+
+abbrev pub compared_font_row : Rule → FontReasonRow
+compared_font_row F03 = font_reason_row (at_keys (FontType ∷ []) entries_at) is_not_one
+compared_font_row F04 = font_reason_row (at_keys (PaintType ∷ []) entries_at) is_neither_fill_nor_stroke
+compared_font_row F05 = font_reason_row (at_keys id_keys entries_at) is_past_ids
+compared_font_row F06 = font_reason_row (at_keys (PrivateUniqueId ∷ []) ids_at) are_two_ids
+compared_font_row F07 = font_reason_row (at_keys (Password ∷ []) entries_at) is_not_5839
+compared_font_row F08 = font_reason_row (at_keys (MinFeature ∷ []) features_at) is_unusual_feature
+compared_font_row F11 = font_reason_row (at_key encoding_key forms_at) is_unknown_form
+compared_font_row F14 = font_reason_row (at_key subrs_key subrs_in) is_wrong_subr
+compared_font_row Z01 = font_reason_row (at_keys hint_keys kinds_at) is_misfit
+compared_font_row Z02 = font_reason_row (at_keys zone_keys excess_at) is_excess
+compared_font_row Z03 = font_reason_row (at_keys zone_keys counts_at) is_odd
+compared_font_row Z04 = font_reason_row (at_keys zone_keys (λ font k index. falls_in (numbers_at font k) index)) falls
+compared_font_row Z05 = font_reason_row (at_keys zone_keys (λ font k index. gap_in (distance font) (numbers_at font k) index)) is_near
+compared_font_row Z06 = font_reason_row (at_keys low_zone_keys meetings_at) are_near
+compared_font_row Z07 = font_reason_row (at_keys zone_keys (λ font k index. zone_in (scale font) (numbers_at font k) index)) reaches_one
+compared_font_row Z08 = font_reason_row (at_keys width_keys entries_at) is_no_width
+compared_font_row Z09 = font_reason_row (at_keys snap_keys excess_at) is_excess
+compared_font_row Z10 = font_reason_row (at_keys snap_keys (λ font k index. falls_in (numbers_at font k) index)) falls
+compared_font_row Z11 = font_reason_row (at_keys snap_keys widths_at) is_apart
+compared_font_row _ = font_reason_row (λ font key index. []) is_any
+
+-- The other rules: where the font breaks the rule, of what.
+abbrev pub told_in_font : Rule → FontValue → ℕ → Reason
+told_in_font F09 font index = Glyphs (length font.glyphs)
+told_in_font F10 font index = Glyph index
+told_in_font F13 font index = Code index
+told_in_font _ font index = Nothing
+
+abbrev pub told_in_fonts : Rule → FontValue → ℕ → ℕ → List Reason
+told_in_fonts rule font key index = only_where (violated font_rules (number_of rule) font key index) (told_in_font rule font index)
+
+abbrev pub font_row_of : Rule → FontReasonRow
+font_row_of rule = if compares_in_fonts rule then compared_font_row rule else font_reason_row (told_in_fonts rule) is_any
+
+-- The first candidate that is against the rule.
+abbrev pub first_in_font_row : FontReasonRow → FontValue → ℕ → ℕ → Option Reason
+first_in_font_row row font key index = find row.is_against (row.candidates font key index)
+
+abbrev pub font_reason : FontValue → Rule → ℕ → ℕ → Option Reason
+font_reason font rule key index = first_in_font_row (font_row_of rule) font key index

@@ -1,0 +1,11 @@
+pub mod Backgrounds
+pub mod Carried
+pub mod FaultReasons
+pub mod FontReasons
+pub mod GlyphReasons
+pub mod HintSets
+pub mod Laws
+pub mod Remedies
+pub mod Standing
+pub mod StepReasons
+pub mod UnusedWaivers

@@ -1,0 +1,334 @@
+-- Why a step breaks a rule. Some rules compare numbers: a reason is the first of what they compare, the candidates, that is against
+-- the rule, and the rule's test sees the numbers of a candidate alone. The other rules tell where they are broken, and of what.
+use Rattle.std.specs.Prelude.{ℕ, ℤ, ◌+◌, ◌-◌, take, ◌==◌, ◌&&◌, ◌||◌, not, is_none, Bool, true, false, nat_lt, if◌then◌else◌, Option, Some, None, List, [], ◌∷◌, ◌++◌, length, map}
+use Rattle.std.specs.List.{find, flat_map}
+use Rattle.std.specs.Ordering.{int_eq}
+use Rattle.t1_char.specs.declared.command.Command.{Command as Commands}
+use Rattle.t1_char.specs.declared.edition.Edition.{Edition}
+use Rattle.t1_char.specs.declared.token.CharToken.{CharToken}
+use Rattle.t1_char.specs.declared.token.CharToken.TheVariants.{Command}
+use Rattle.t1_char.specs.Arguments.{argument, is_flex_end, is_whole}
+use Rattle.t1_char.specs.Commands.{arguments_of}
+use Rattle.t1_char.specs.Stacks.{from_top}
+use Rattle.t1_char.specs.Effects.{most_calls}
+use Rattle.t1_char.specs.Steps.{StepView, is_return}
+use Rattle.t1_char.specs.Seacs.{is_seac}
+use Rattle.t1_rules.specs.declared.rule.Rule.{Rule}
+use Rattle.t1_rules.specs.declared.rule.Rule.TheVariants.{C03, C04, C05, C07, C08, C09, S01, S02, S03, W01, W02, P01, P02, P03, H01, H02, H03, H04, R01, R02, X01, X03, X05, O01, O02, O03, K01, K02, K03, K04, K05, K06, K07}
+use Rattle.t1_rules.specs.declared.sidebearings.Component.{Component}
+use Rattle.t1_rules.specs.declared.step_rules.stems.Stem.{Stem}
+use Rattle.t1_rules.specs.Book.{number_of}
+use Rattle.t1_rules.specs.StepRules.{breaks, charstring_rules}
+use Rattle.t1_rules.specs.StepRules.Arguments.{divides, is_past, is_zero, quotient_is_past, wanted_by}
+use Rattle.t1_rules.specs.StepRules.Othersubrs.{calls_by_numbers, has_good_count, is_flex_or_hints, is_good_count, is_known}
+use Rattle.t1_rules.specs.StepRules.Calls.{calls_by_number}
+use Rattle.t1_rules.specs.StepRules.Flex.{current_point, end_point, is_elsewhere}
+use Rattle.t1_rules.specs.StepRules.Paths.{in_flex}
+use Rattle.t1_rules.specs.StepRules.Seac.{accent, accent_sidebearing, is_unnamed, seac_code}
+use Rattle.t1_rules.specs.StepRules.Stems.{are_unequal, has_no_width, is_stem, is_triple, stem_at, lies_across, overlap_by, stands_upright, stems_of}
+use Rattle.t1_rules.specs.StepRules.Tokens.{is_command, is_unknown}
+use Rattle.t1_reasons.specs.declared.background.Background.{Background}
+use Rattle.t1_reasons.specs.declared.reason.Reason.{Reason}
+use Rattle.t1_reasons.specs.declared.reason.SetStem.{SetStem}
+use Rattle.t1_reasons.specs.Backgrounds.{background_of}
+use Rattle.t1_reasons.specs.HintSets.{all_set_at, stems_set}
+use Rattle.t1_reasons.specs.declared.reason.Reason.TheVariants.{Argument, Arguments, Codes, Count, Depth, Miss, Nothing, Open, Othersubr, Quotient, Sidebearings, Since, Stem as StemAlone, Stems, Subr, Token, Triple}
+
+-- ---- candidates
+
+abbrev pub only_where : Bool → Reason → List Reason
+only_where is_so reason = if is_so then reason ∷ [] else []
+
+-- How many numbers a command takes, and how many there are.
+abbrev pub count_of : Commands → Option ℕ → ℕ → List Reason
+count_of command None there = []
+count_of command (Some taken) there = Count command taken there ∷ []
+
+abbrev pub counts_in : CharToken → List ℤ → List Reason
+counts_in (Command command) stack = count_of command (arguments_of command) (length stack)
+counts_in _ stack = []
+
+abbrev pub counts_at : StepView → List Reason
+counts_at step = counts_in step.token step.stack
+
+-- How many numbers a command needs, and how many there are.
+abbrev pub wants_in : CharToken → List ℤ → List Reason
+wants_in (Command command) stack = Count command (wanted_by command (arguments_of command)) (length stack) ∷ []
+wants_in _ stack = []
+
+abbrev pub wants_at : StepView → List Reason
+wants_at step = wants_in step.token step.stack
+
+-- The arguments of a command, with their places.
+abbrev pub placed_from : ℕ → List ℤ → List Reason
+placed_from place [] = []
+placed_from place (z ∷ zs) = Argument place z ∷ placed_from (place + 1) zs
+
+abbrev pub placed_of : Option ℕ → List ℤ → List Reason
+placed_of None stack = []
+placed_of (Some count) stack = placed_from 1 (take count stack)
+
+abbrev pub arguments_in : CharToken → List ℤ → List Reason
+arguments_in (Command command) stack = placed_of (arguments_of command) stack
+arguments_in _ stack = []
+
+abbrev pub arguments_at : StepView → List Reason
+arguments_at step = arguments_in step.token step.stack
+
+-- The count that callothersubr is given, and how many numbers are there for it.
+abbrev pub othersubrs_at : StepView → List Reason
+othersubrs_at step = only_where (calls_by_numbers step) (Arguments (from_top step.stack 1) (length step.stack - 2))
+
+-- The token of a step.
+abbrev pub tokens_at : StepView → List Reason
+tokens_at step = Token step.token ∷ []
+
+-- The two numbers of a division.
+abbrev pub quotients_at : StepView → List Reason
+quotients_at step = only_where (divides step) (Quotient (from_top step.stack 1) (from_top step.stack 0))
+
+-- How many calls are open where a Subr is called, and at a return.
+abbrev pub depth_of : StepView → Reason
+depth_of step = Depth (length step.path)
+
+abbrev pub calls_at : StepView → List Reason
+calls_at step = only_where (calls_by_number step) (depth_of step)
+
+abbrev pub returns_at : StepView → List Reason
+returns_at step = only_where (is_return step.token) (depth_of step)
+
+-- The OtherSubr that is called with a count of arguments that are there.
+abbrev pub known_calls_at : StepView → List Reason
+known_calls_at step =
+    only_where (calls_by_numbers step && has_good_count step) (Othersubr (from_top step.stack 0) (from_top step.stack 1))
+
+-- The codes of seac.
+abbrev pub codes_at : StepView → List Reason
+codes_at step = only_where (is_seac step.token) (Codes (argument step.stack 3) (argument step.stack 4))
+
+-- The stems of a step.
+abbrev pub single_stems_at : StepView → List Reason
+single_stems_at step = if is_stem step.token then map (λ s. StemAlone s) (stems_of step) else []
+
+abbrev pub triples_at : StepView → List Reason
+triples_at step =
+    only_where (is_command is_triple step.token) (Triple (stem_at step.stack 0) (stem_at step.stack 2) (stem_at step.stack 4))
+
+-- The Subr that is called.
+abbrev pub subrs_at : StepView → List Reason
+subrs_at step = only_where (calls_by_number step) (Subr (from_top step.stack 0) step.found)
+
+-- A stem beside each of others; then two of some, the first of them before the other.
+abbrev pub beside : Stem → List SetStem → List Reason
+beside own others = map (Stems own) others
+
+abbrev pub pairs : List SetStem → List Reason
+pairs [] = []
+pairs (own ∷ others) = beside own.stem others ++ pairs others
+
+-- The stems of a step, each beside those of the hint set; then two of them.
+abbrev pub pairs_with : List SetStem → List SetStem → List Reason
+pairs_with stems kept = flat_map (λ own. beside own.stem kept) stems ++ pairs stems
+
+-- The stems that a step sets, with its number.
+abbrev pub own_stems : List StepView → StepView → List SetStem
+own_stems before step = all_set_at (length before + 1) (stems_of step)
+
+abbrev pub stems_at : List StepView → StepView → List Reason
+stems_at before step =
+    if is_command lies_across step.token then pairs_with (own_stems before step) (stems_set lies_across before)
+    else (if is_command stands_upright step.token then pairs_with (own_stems before step) (stems_set stands_upright before) else [])
+
+-- Where the end of a flex says that it is, and where the pen is.
+abbrev pub misses_at : List StepView → StepView → List Reason
+misses_at before step = only_where (is_flex_end step && in_flex before) (Miss (end_point step) (current_point before))
+
+-- The sidebearing that seac says, and that of its accent.
+abbrev pub with_own : ℤ → Option ℤ → List Reason
+with_own told None = []
+with_own told (Some own) = Sidebearings told own ∷ []
+
+abbrev pub sidebearings_at : List Component → StepView → List Reason
+sidebearings_at components step =
+    if is_seac step.token then with_own (accent_sidebearing step) (accent components step).sidebearing else []
+
+-- ---- tests
+
+-- More are there than are taken.
+abbrev pub has_more : Reason → Bool
+has_more (Count command taken there) = nat_lt taken there
+has_more _ = false
+
+-- Fewer are there than are taken.
+abbrev pub has_fewer : Reason → Bool
+has_fewer (Count command taken there) = nat_lt there taken
+has_fewer _ = false
+
+abbrev pub is_past_range : Reason → Bool
+is_past_range (Argument place number) = is_past number
+is_past_range _ = false
+
+abbrev pub is_bad_count : Reason → Bool
+is_bad_count (Arguments count there) = not (is_good_count there count)
+is_bad_count _ = false
+
+abbrev pub is_widthless : Reason → Bool
+is_widthless (StemAlone stem) = has_no_width stem
+is_widthless _ = false
+
+abbrev pub is_uneven : Reason → Bool
+is_uneven (Triple one two three) = are_unequal one two three
+is_uneven _ = false
+
+abbrev pub is_lacking_subr : Reason → Bool
+is_lacking_subr (Subr number found) = not found
+is_lacking_subr _ = false
+
+abbrev pub is_overlap : Edition → Reason → Bool
+is_overlap edition (Stems own other) = overlap_by edition own other.stem
+is_overlap edition _ = false
+
+abbrev pub is_miss : Reason → Bool
+is_miss (Miss named pen) = is_elsewhere named pen
+is_miss _ = false
+
+abbrev pub is_told_otherwise : Reason → Bool
+is_told_otherwise (Sidebearings told own) = not (int_eq own told)
+is_told_otherwise _ = false
+
+abbrev pub is_unknown_token : Reason → Bool
+is_unknown_token (Token token) = is_unknown token
+is_unknown_token _ = false
+
+abbrev pub is_past_quotient : Reason → Bool
+is_past_quotient (Quotient dividend divisor) = quotient_is_past dividend divisor
+is_past_quotient _ = false
+
+abbrev pub is_by_zero : Reason → Bool
+is_by_zero (Quotient dividend divisor) = is_zero divisor
+is_by_zero _ = false
+
+abbrev pub is_too_deep : Reason → Bool
+is_too_deep (Depth calls) = calls == most_calls
+is_too_deep _ = false
+
+abbrev pub is_outermost : Reason → Bool
+is_outermost (Depth calls) = calls == 0
+is_outermost _ = false
+
+abbrev pub is_unknown_othersubr : Reason → Bool
+is_unknown_othersubr (Othersubr number count) = not (is_known number)
+is_unknown_othersubr _ = false
+
+-- An OtherSubr is called with the count that it takes: flex ends, starts, is given a point; the hints are replaced.
+abbrev pub takes : ℤ → ℤ → Bool
+takes number count =
+    (is_whole 0 number && is_whole 3 count)
+    || ((is_whole 1 number && is_whole 0 count)
+    || ((is_whole 2 number && is_whole 0 count) || (is_whole 3 number && is_whole 1 count)))
+
+abbrev pub is_miscounted : Reason → Bool
+is_miscounted (Othersubr number count) = is_flex_or_hints number && not (takes number count)
+is_miscounted _ = false
+
+abbrev pub has_no_code : Reason → Bool
+has_no_code (Codes base accent) = is_none (seac_code base) || is_none (seac_code accent)
+has_no_code _ = false
+
+abbrev pub has_no_name : Reason → Bool
+has_no_name (Codes base accent) = is_unnamed (seac_code base) || is_unnamed (seac_code accent)
+has_no_name _ = false
+
+abbrev pub is_any : Reason → Bool
+is_any reason = true
+
+-- ---- rules that compare no numbers
+
+-- What such a rule says of a step that breaks it: an earlier step, the token, or the numbers that it speaks of.
+abbrev pub told_by : Rule → Background → StepView → Reason
+told_by W01 background step = Token step.token
+told_by W02 background step = Since background.width
+told_by P01 background step = Since background.closed
+told_by P02 background step = Open background.start background.pen
+told_by P03 background step = Since background.closed
+told_by H01 background step = Since background.drawn
+told_by R01 background step = Token step.token
+told_by R02 background step = Token step.token
+told_by X01 background step = Since background.flex
+told_by X03 background step = Since background.flex
+told_by K03 background step = Codes (argument step.stack 3) (argument step.stack 4)
+told_by K04 background step = Codes (argument step.stack 3) (argument step.stack 4)
+told_by K06 background step = Since background.outlined
+told_by K07 background step = Codes (argument step.stack 3) (argument step.stack 4)
+told_by _ background step = Nothing
+
+-- ---- the table
+
+-- What a rule compares at a step, in the order in which it is looked at, and which of it is against the rule.
+pub record ReasonRow : Type 0 where
+  pub candidates : List StepView → StepView → List Reason
+  pub is_against : Reason → Bool
+
+abbrev pub reason_row : (List StepView → StepView → List Reason) → (Reason → Bool) → ReasonRow
+reason_row candidates is_against = record { candidates = candidates; is_against = is_against }
+
+-- The rules that compare numbers.
+abbrev pub compares : Rule → Bool
+compares C03 = true
+compares C04 = true
+compares C05 = true
+compares C07 = true
+compares C08 = true
+compares C09 = true
+compares S01 = true
+compares S02 = true
+compares S03 = true
+compares H02 = true
+compares H03 = true
+compares H04 = true
+compares X05 = true
+compares O01 = true
+compares O02 = true
+compares O03 = true
+compares K01 = true
+compares K02 = true
+compares K05 = true
+compares _ = false
+
+abbrev pub compared_row : Edition → List Component → Rule → ReasonRow
+compared_row edition components C03 = reason_row (λ before step. tokens_at step) is_unknown_token
+compared_row edition components C04 = reason_row (λ before step. wants_at step) has_fewer
+compared_row edition components C05 = reason_row (λ before step. counts_at step) has_more
+compared_row edition components C07 = reason_row (λ before step. arguments_at step) is_past_range
+compared_row edition components C08 = reason_row (λ before step. quotients_at step) is_past_quotient
+compared_row edition components C09 = reason_row (λ before step. quotients_at step) is_by_zero
+compared_row edition components S01 = reason_row (λ before step. subrs_at step) is_lacking_subr
+compared_row edition components S02 = reason_row (λ before step. calls_at step) is_too_deep
+compared_row edition components S03 = reason_row (λ before step. returns_at step) is_outermost
+compared_row edition components H02 = reason_row stems_at (is_overlap edition)
+compared_row edition components H03 = reason_row (λ before step. single_stems_at step) is_widthless
+compared_row edition components H04 = reason_row (λ before step. triples_at step) is_uneven
+compared_row edition components X05 = reason_row misses_at is_miss
+compared_row edition components O01 = reason_row (λ before step. known_calls_at step) is_unknown_othersubr
+compared_row edition components O02 = reason_row (λ before step. othersubrs_at step) is_bad_count
+compared_row edition components O03 = reason_row (λ before step. known_calls_at step) is_miscounted
+compared_row edition components K01 = reason_row (λ before step. codes_at step) has_no_code
+compared_row edition components K02 = reason_row (λ before step. codes_at step) has_no_name
+compared_row edition components K05 = reason_row (λ before step. sidebearings_at components step) is_told_otherwise
+compared_row edition components _ = reason_row (λ before step. []) is_any
+
+-- The other rules: what the rule says of the step, where the step breaks it.
+abbrev pub told_at : Edition → List Component → Rule → List StepView → StepView → List Reason
+told_at edition components rule before step =
+    only_where (breaks (charstring_rules edition components) (number_of rule) before step) (told_by rule (background_of before) step)
+
+abbrev pub row_of : Edition → List Component → Rule → ReasonRow
+row_of edition components rule =
+    if compares rule then compared_row edition components rule else reason_row (told_at edition components rule) is_any
+
+-- The first candidate that is against the rule.
+abbrev pub first_in_row : ReasonRow → List StepView → StepView → Option Reason
+first_in_row row before step = find row.is_against (row.candidates before step)
+
+abbrev pub step_reason : Edition → List Component → Rule → List StepView → StepView → Option Reason
+step_reason edition components rule before step = first_in_row (row_of edition components rule) before step

@@ -1,0 +1,178 @@
+//! The reasons of a glyph's faults, in their order.
+
+ghost use Rattle.std.specs.Prelude.{◌≡◌, ◌<◌, ◌≤◌, ◌+◌, ◌-◌, true, false, length, take};
+ghost use Rattle.t1_char.specs.Editions.{limit_of};
+ghost use Rattle.t1_reasons.specs.GlyphReasons.{GoesTo, IsInHand, IsOfSameGlyph, is_step, limit_reason, reason_at, steps_in};
+ghost use Rattle.t1_reasons.specs.Standing.{AreBroken, StepsStandFor};
+ghost use Rattle.t1_rules.specs.Components.{AreOf};
+ghost use Rattle.t1_rules.specs.Private.Standing.{WatchesStandFor};
+ghost use Rattle.t1_rules.specs.StepRules.{step_rules};
+
+use crate::reason::Reason;
+use crate::steps_before::StepsBefore;
+use std::marker::Model;
+use t1_char::{Answer, Edition, Machine, Numbers};
+use t1_font::Font;
+use t1_rules::{Mask, Rule, Sidebearings, Watch, Watches};
+
+/// The reasons of a glyph's faults. It executes the glyph once where it is asked in the order of the steps, and once more where it is
+/// asked for an earlier step. It takes no memory and can't fail.
+#[derive(Drop)]
+pub struct GlyphReasons<'a> {
+    glyph: usize,
+    edition: Edition,
+    machine: Machine<'a>,
+    /// The steps before the step in hand.
+    before: StepsBefore,
+    /// The watchers that have seen the step in hand too.
+    watches: Watches,
+    /// What the step in hand breaks of the rules on its glyph's own steps.
+    broken: Mask,
+    /// What the machine answered last.
+    answer: Answer,
+}
+
+impl<'a> Model for GlyphReasons<'a> {
+    ghost use Rattle.t1_char.specs.Turns.{MachineView};
+    ghost use Rattle.t1_reasons.specs.GlyphReasons.{IsBegun, IsWatched};
+
+    ghost Value = { MachineView };
+
+    ghost view = { λ r. r.machine };
+
+    ghost invariant = { λ r. IsWatched r.machine r.before r.watches r.broken r.answer
+        × IsBegun r.machine r.glyph r.edition };
+}
+
+impl<'a> GlyphReasons<'a> {
+    /// Before the first step of a glyph, by its place.
+    pub fn start(font: &'a Font<'a>, glyph: usize, edition: Edition) -> GlyphReasons<'a>
+        requires { glyph < length font.now.glyphs }
+        ensures font { result.font ≡ font.now }
+        ensures glyph { result.glyph ≡ glyph }
+        ensures edition { result.edition ≡ edition }
+        ensures counted { result.counted ≡ 0 }
+    {
+        GlyphReasons {
+            glyph,
+            edition,
+            machine: Machine::start(font, glyph, edition),
+            before: StepsBefore::start(edition),
+            watches: Watches::start(edition),
+            broken: Mask::empty(),
+            answer: Answer::Step,
+        }
+    }
+
+    /// Returns why the step of a number, from 1 on, breaks a rule, or None where it doesn't, or there is no such step.
+    pub fn reason(&mut self, sidebearings: &Sidebearings, number: u32, rule: Rule) -> Option<Reason>
+        requires sidebearings { AreOf self.old.font sidebearings.now }
+        requires edition { sidebearings.now.edition ≡ self.old.edition }
+        ensures reason { result ≡ reason_at self.old rule number }
+        ensures same { IsOfSameGlyph self.old self.new }
+    {
+        if number < self.machine.counted() {
+            self.start_again();
+        }
+        self.go_to(number);
+        if self.machine.counted() != number {
+            return None;
+        }
+        self.reason_here(sidebearings, rule)
+    }
+
+    /// Why the step in hand breaks a rule.
+    fn reason_here(&self, sidebearings: &Sidebearings, rule: Rule) -> Option<Reason>
+        requires sidebearings { AreOf self.now.font sidebearings.now }
+        requires edition { sidebearings.now.edition ≡ self.now.edition }
+        ensures { result ≡ reason_at self.now rule self.now.counted }
+    {
+        if self.machine.counted() == 0 {
+            return None;
+        }
+        match self.answer {
+            Answer::Step => {
+                let step = self.machine.current();
+                let broken = self.broken.join(sidebearings.see(step));
+                self.before.reason(rule, step, sidebearings, broken)
+            }
+            Answer::Ended => None,
+            Answer::Limit => limit_reason(sidebearings.edition(), rule),
+        }
+    }
+
+    /// Goes back before the first step.
+    fn start_again(&mut self)
+        ensures same { IsOfSameGlyph self.old self.new }
+        ensures counted { self.new.counted ≡ 0 }
+    {
+        self.machine.start_again(self.glyph, self.edition);
+        self.before = StepsBefore::start(self.edition);
+        self.watches.start_again(self.edition);
+        self.broken = Mask::empty();
+        self.answer = Answer::Step;
+    }
+
+    /// Goes on to the step of a number, or past all steps.
+    fn go_to(&mut self, number: u32)
+        requires { self.old.counted ≤ number }
+        ensures { GoesTo self.old self.new number }
+    {
+        for _step in self.machine.counted()..number {
+            if !self.next() {
+                return;
+            }
+        }
+    }
+
+    /// Goes on by one step, and returns whether there is one.
+    fn next(&mut self) -> bool
+        ensures same { IsOfSameGlyph self.old self.new }
+        ensures stepped { result ≡ true → self.new.counted ≡ self.old.counted + 1 }
+        ensures over { result ≡ false → self.new.counted ≡ length (steps_in self.old) + 1 }
+        ensures all { result ≡ false → length (steps_in self.old) ≤ self.old.counted }
+    {
+        if !is_step(self.answer) {
+            return false;
+        }
+        see_in_hand(&mut self.before, &self.machine);
+        self.answer = self.machine.go_on(Numbers::Told);
+        if is_step(self.answer) {
+            self.broken = self.watches.see(self.machine.current());
+            true
+        } else {
+            false
+        }
+    }
+}
+
+/// Whether a machine answered a step.
+fn is_step(answer: Answer) -> bool
+    ensures { result ≡ is_step answer }
+{
+    matches!(answer, Answer::Step)
+}
+
+/// Goes past the step in hand, if there is one.
+fn see_in_hand(before: &mut StepsBefore, machine: &Machine<'_>)
+    requires in_hand { IsInHand machine.now }
+    requires stands { StepsStandFor machine.now.edition before.old (take (machine.now.counted - 1) (steps_in machine.now)) }
+    requires there { machine.now.counted ≤ length (steps_in machine.now) }
+    ensures { StepsStandFor machine.now.edition before.new (take machine.now.counted (steps_in machine.now)) }
+{
+    if machine.counted() > 0 {
+        before.see(machine.current());
+    }
+}
+
+/// Why the first step past the limit of an edition breaks a rule.
+fn limit_reason(edition: Edition, rule: Rule) -> Option<Reason>
+    ensures { result ≡ limit_reason (limit_of edition) rule }
+{
+    match rule {
+        Rule::L01 => Some(Reason::Limit {
+            steps: edition.step_limit(),
+        }),
+        _ => None,
+    }
+}

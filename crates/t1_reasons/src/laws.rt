@@ -1,0 +1,78 @@
+//! Laws of reasons, each on a call that does nothing.
+
+ghost use Rattle.t1_reasons.specs.FaultReasons.{FaultsHaveReasons, ReportedPlacesHaveReasons};
+ghost use Rattle.t1_reasons.specs.Remedies.{FuzzDoesForAll, NumbersDo, ScaleDoesForAll};
+ghost use Rattle.t1_reasons.specs.UnusedWaivers.{WaiversAreUnusedForAReason};
+ghost use Rattle.t1_reasons.specs.Laws.{FontReasonsAreAgainstTheirRules, FontsBreakWhereThereIsAReason, HintSetsAreThoseOfTheBook, ReasonsAreAgainstTheirRules, ScalesDo, StepsBreakWhereThereIsAReason, ToldStepsAreTheLast};
+
+/// A step breaks a rule exactly where it has a reason.
+#[tactic(auto, using(crate::proofs::LawProofs::broken_where_reason))]
+pub fn steps_break_where_there_is_a_reason()
+    ensures { StepsBreakWhereThereIsAReason }
+{}
+
+/// A reason is one of what the rule compares, and is against the rule by its own numbers.
+pub fn reasons_are_against_their_rules()
+    ensures { ReasonsAreAgainstTheirRules }
+{}
+
+/// A font breaks a rule exactly where it has a reason.
+#[tactic(auto, using(crate::proofs::FontLaws::fonts_broken_where_reason))]
+pub fn fonts_break_where_there_is_a_reason()
+    ensures { FontsBreakWhereThereIsAReason }
+{}
+
+/// A font's reason is one of what the rule compares, and is against the rule by its own numbers.
+pub fn font_reasons_are_against_their_rules()
+    ensures { FontReasonsAreAgainstTheirRules }
+{}
+
+/// The BlueScale that would do for a zone does, and no greater one.
+#[tactic(auto, using(crate::proofs::FontLaws::scales_do))]
+pub fn scales_do()
+    ensures { ScalesDo }
+{}
+
+/// The hint sets whose stems have steps are those of the rule book.
+#[tactic(auto, using(crate::proofs::Hints::plain_hints))]
+pub fn hint_sets_are_those_of_the_book()
+    ensures { HintSetsAreThoseOfTheBook }
+{}
+
+/// The report has a fault at a step of a glyph exactly where there is a reason, be it waived or not.
+#[tactic(auto, using(crate::proofs::FaultLaws::faults_have_reasons))]
+pub fn faults_have_reasons()
+    ensures { FaultsHaveReasons }
+{}
+
+/// Each fault that a report has of the font or of a glyph has a reason.
+#[tactic(auto, using(crate::proofs::FaultLaws::reported_places_have_reasons))]
+pub fn reported_places_have_reasons()
+    ensures { ReportedPlacesHaveReasons }
+{}
+
+/// The BlueScale that would do does for all zones of a font, and no greater one.
+pub fn scale_does_for_all()
+    ensures { ScaleDoesForAll }
+{}
+
+/// The counts, the range, the point and the number that rules on charstrings ask for do, and nothing beyond them.
+#[tactic(auto, using(crate::proofs::RemedyLaws::numbers_do))]
+pub fn numbers_do()
+    ensures { NumbersDo }
+{}
+
+/// A waiver isn't used exactly where its reason holds: no glyph has its name, or the glyph breaks its rule nowhere.
+pub fn waivers_are_unused_for_a_reason()
+    ensures { WaiversAreUnusedForAReason }
+{}
+
+/// The step that a reason names is the last of its kind before the place. Where it names none, there was none.
+pub fn told_steps_are_the_last()
+    ensures { ToldStepsAreTheLast }
+{}
+
+/// The BlueFuzz that would do does for all zones beside one another, and no greater one.
+pub fn fuzz_does_for_all()
+    ensures { FuzzDoesForAll }
+{}

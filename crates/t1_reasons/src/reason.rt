@@ -1,0 +1,209 @@
+//! Reasons.
+
+use t1_char::{CharToken, Command};
+use t1_font::Encoding;
+use t1_rules::{Point, Stem};
+
+/// What a rule compares where it is broken, or what it tells of that place. Numbers of charstrings are in units of 1/65536, those of
+/// dictionaries in units of 10^-9. Steps are numbered from 1.
+#[derive(Clone, Copy, Debug, PartialEq, Eq)]
+pub enum Reason {
+    /// The rule and its place say all.
+    Nothing,
+    /// How many numbers a command takes, and how many are on the stack: C04, C05.
+    Count {
+        command: Command,
+        taken: u8,
+        there: u8,
+    },
+    /// An argument, by its place from 1: C07.
+    Argument {
+        place: u8,
+        number: i64,
+    },
+    /// The number that is divided, and the divisor: C08, C09.
+    Quotient {
+        dividend: i64,
+        divisor: i64,
+    },
+    /// How many Subrs are being executed: S02, S03.
+    Depth {
+        calls: u8,
+    },
+    /// The number that names a Subr, and whether there is one: S01.
+    Subr {
+        number: i64,
+        found: bool,
+    },
+    /// The token of the step: C03, W01, R01, R02.
+    Token {
+        token: CharToken,
+    },
+    /// The step that set the width (W02), closed the last path (P01, P03), drew (H01), began the flex (X01, X03) or made an outline
+    /// (K06). It is None where there was no such step.
+    Since {
+        step: Option<u32>,
+    },
+    /// Where a path begins, and where the pen is: P02.
+    Open {
+        start: Point,
+        pen: Point,
+    },
+    /// A stem that the step sets, and one that overlaps it, with the step that set that: H02.
+    Stems {
+        own: Stem,
+        other: SetStem,
+    },
+    /// A stem that the step sets: H03.
+    Stem {
+        stem: Stem,
+    },
+    /// The three stems that the step sets: H04.
+    Triple {
+        one: Stem,
+        two: Stem,
+        three: Stem,
+    },
+    /// Where the end of a flex says that it is, and where the pen is: X05.
+    Miss {
+        named: Point,
+        pen: Point,
+    },
+    /// The number of an OtherSubr, and the count of arguments that it is called with: O01, O03.
+    Othersubr {
+        number: i64,
+        count: i64,
+    },
+    /// The count that callothersubr is given, and how many numbers are there for it: O02.
+    Arguments {
+        count: i64,
+        there: u8,
+    },
+    /// The arguments of seac that are the codes of base and accent: K01 to K04, K07.
+    Codes {
+        base: i32,
+        accent: i32,
+    },
+    /// The sidebearing that seac says, and that of its accent: K05.
+    Sidebearings {
+        told: i32,
+        own: i32,
+    },
+    /// How many steps the edition looks at: L01.
+    Limit {
+        steps: u32,
+    },
+    /// What an entry is: F03, F04, F05, F07, Z08.
+    Entry {
+        found: Found,
+    },
+    /// The UniqueID of the clear text, and that of the Private dictionary: F06.
+    Ids {
+        clear: i64,
+        private: i64,
+    },
+    /// What MinFeature is, and its first two numbers, which are 0 where there aren't two: F08.
+    Features {
+        found: Found,
+        one: i64,
+        two: i64,
+    },
+    /// How many glyphs there are: F09.
+    Glyphs {
+        count: usize,
+    },
+    /// The form of the Encoding: F11.
+    Form {
+        encoding: Encoding,
+    },
+    /// A Subr's number, whether it is given twice, and the size of the Subrs: F14.
+    SubrEntry {
+        number: u32,
+        twice: bool,
+        size: u32,
+    },
+    /// What an entry is, and what it should be: Z01.
+    Kind {
+        found: Found,
+        wanted: EntryKind,
+    },
+    /// How many numbers a list has, and how many it may have: Z02, Z09.
+    TooMany {
+        count: usize,
+        most: usize,
+    },
+    /// How many numbers a list has: Z03.
+    Numbers {
+        count: usize,
+    },
+    /// The glyph of this number: F10.
+    Glyph {
+        glyph: u32,
+    },
+    /// A code, whose name no glyph has: F13.
+    Code {
+        code: u32,
+    },
+    /// A number of a list, and the one before it: Z04, Z10.
+    Falling {
+        before: i64,
+        number: i64,
+    },
+    /// The upper edge of a zone, the lower one of the next, and the distance that zones keep: Z05.
+    Gap {
+        upper: i64,
+        lower: i64,
+        distance: i128,
+    },
+    /// A low zone, a high one that is too near, and the distance that zones keep: Z06.
+    Zones {
+        own: Edges,
+        other: Edges,
+        distance: i128,
+    },
+    /// The edges of a zone, and BlueScale: Z07.
+    Zone {
+        lower: i64,
+        upper: i64,
+        scale: i64,
+    },
+    /// The first standard width, and the stem snap that is nearest to it: Z11.
+    Width {
+        width: i64,
+        nearest: i64,
+    },
+}
+
+/// A stem of a hint set, and the step that set it.
+#[derive(Clone, Copy, Debug, Default, PartialEq, Eq)]
+pub struct SetStem {
+    pub stem: Stem,
+    pub step: u32,
+}
+
+/// The edges of a zone, in units of 10^-9.
+#[derive(Clone, Copy, Debug, PartialEq, Eq)]
+pub struct Edges {
+    pub lower: i64,
+    pub upper: i64,
+}
+
+/// What an entry of a dictionary is.
+#[derive(Clone, Copy, Debug, PartialEq, Eq)]
+pub enum Found {
+    /// It isn't there.
+    Absent,
+    /// A number, in units of 10^-9.
+    One { number: i64 },
+    /// An array or a procedure of so many numbers.
+    Several { count: usize },
+    /// Anything else.
+    Other,
+}
+
+/// What an entry should be.
+#[derive(Clone, Copy, Debug, PartialEq, Eq)]
+pub enum EntryKind {
+    Number,
+    Numbers,
+}

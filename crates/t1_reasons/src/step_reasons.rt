@@ -1,0 +1,609 @@
+//! Reasons that a step alone has, or with its background, a hint set or the components.
+
+ghost use Rattle.std.specs.Prelude.{◌≡◌, ◌≤◌, [], ◌∷◌, length, map, take};
+ghost use Rattle.std.specs.List.{find, flat_map};
+ghost use Rattle.t1_char.specs.StepValues.{step_view};
+ghost use Rattle.t1_reasons.specs.StepReasons.{calls_at, codes_at, depth_of, is_miscounted, takes, has_no_code, has_no_name, is_by_zero, is_outermost, is_past_quotient, is_too_deep, is_unknown_othersubr, is_unknown_token, known_calls_at, quotients_at, returns_at, tokens_at, compares, is_any, only_where, told_by, arguments_at, has_fewer, is_bad_count, is_past_range, is_uneven, is_widthless, triples_at, othersubrs_at, placed_from, single_stems_at, wants_at, beside, counts_at, has_more, is_lacking_subr, is_overlap, is_told_otherwise, pairs, pairs_with, sidebearings_at, subrs_at};
+ghost use Rattle.t1_char.specs.Arguments.{argument, is_whole};
+ghost use Rattle.t1_char.specs.Commands.{arguments_of};
+ghost use Rattle.t1_rules.specs.StepRules.Seac.{is_unnamed};
+ghost use Rattle.t1_char.specs.Stacks.{most_numbers};
+ghost use Rattle.t1_reasons.specs.declared.reason.Reason.TheVariants.{Arguments, Codes, Othersubr, Quotient, Stem as StemAlone};
+ghost use Rattle.t1_rules.specs.StepRules.Arguments.{is_past, quotient_is_past, wanted_by};
+ghost use Rattle.t1_rules.specs.StepRules.Othersubrs.{is_flex_or_hints, is_good_count, is_known};
+ghost use Rattle.t1_rules.specs.StepRules.Stems.{stem_at, lies_across, stands_upright};
+ghost use Rattle.t1_rules.specs.StepRules.Tokens.{is_command, is_div};
+
+use crate::background::Background;
+use crate::hint_sets::{is_triple, set_stem};
+use crate::reason::{Reason, SetStem};
+use t1_char::{
+    CharToken, Command, Edition, GREATEST, MOST_CALLS, Step, UNIT, cut_quotient, is_callothersubr,
+    is_callsubr, is_return, natural,
+};
+use t1_rules::{
+    Rule, Sidebearings, Stem, accent_code, are_unequal, base_code, is_seac, standard_name,
+};
+
+/// Whether a rule compares numbers.
+pub(crate) fn compares(rule: Rule) -> bool
+    ensures { result ≡ compares rule }
+{
+    matches!(
+        rule,
+        Rule::C03
+            | Rule::C04
+            | Rule::C05
+            | Rule::C07
+            | Rule::C08
+            | Rule::C09
+            | Rule::S01
+            | Rule::S02
+            | Rule::S03
+            | Rule::H02
+            | Rule::H03
+            | Rule::H04
+            | Rule::X05
+            | Rule::O01
+            | Rule::O02
+            | Rule::O03
+            | Rule::K01
+            | Rule::K02
+            | Rule::K05
+    )
+}
+
+/// Returns what a rule that compares no numbers says of the step, where the step breaks it.
+pub(crate) fn told_where(
+    is_broken: bool,
+    rule: Rule,
+    background: &Background,
+    step: &Step,
+) -> Option<Reason>
+    ensures { result ≡ find is_any (only_where is_broken (told_by rule background.now (step_view step.now))) }
+{
+    if is_broken {
+        Some(told_by(rule, background, step))
+    } else {
+        None
+    }
+}
+
+/// What a rule that compares no numbers says of a step that breaks it.
+fn told_by(rule: Rule, background: &Background, step: &Step) -> Reason
+    ensures { result ≡ told_by rule background.now (step_view step.now) }
+{
+    match rule {
+        Rule::W01 | Rule::R01 | Rule::R02 => Reason::Token { token: step.token },
+        Rule::W02 => Reason::Since {
+            step: background.width,
+        },
+        Rule::P01 | Rule::P03 => Reason::Since {
+            step: background.closed,
+        },
+        Rule::P02 => Reason::Open {
+            start: background.start,
+            pen: background.pen,
+        },
+        Rule::H01 => Reason::Since {
+            step: background.drawn,
+        },
+        Rule::X01 | Rule::X03 => Reason::Since {
+            step: background.flex,
+        },
+        Rule::K03 | Rule::K04 | Rule::K07 => Reason::Codes {
+            base: step.argument(3),
+            accent: step.argument(4),
+        },
+        Rule::K06 => Reason::Since {
+            step: background.outlined,
+        },
+        _ => Reason::Nothing,
+    }
+}
+
+/// Why a step breaks C03.
+pub(crate) fn token_reason(step: &Step) -> Option<Reason>
+    ensures { result ≡ find is_unknown_token (tokens_at (step_view step.now)) }
+{
+    let token = step.token;
+    match token {
+        CharToken::Unknown(_) | CharToken::Unknown12(_) => Some(Reason::Token { token }),
+        _ => None,
+    }
+}
+
+/// Why a step breaks C08.
+pub(crate) fn quotient_reason(step: &Step) -> Option<Reason>
+    ensures { result ≡ find is_past_quotient (quotients_at (step_view step.now)) }
+{
+    if !is_div(step.token) || step.stack.len() < 2 {
+        return None;
+    }
+    past_quotient(step.stack.from_top(1), step.stack.from_top(0))
+}
+
+fn past_quotient(dividend: i64, divisor: i64) -> Option<Reason>
+    ensures { result ≡ find is_past_quotient (Quotient dividend divisor ∷ []) }
+{
+    if quotient_is_past(dividend, divisor) {
+        Some(Reason::Quotient { dividend, divisor })
+    } else {
+        None
+    }
+}
+
+/// Whether the divisor isn't 0, and the quotient is past 32000.
+fn quotient_is_past(dividend: i64, divisor: i64) -> bool
+    ensures { result ≡ quotient_is_past dividend divisor }
+{
+    if divisor == 0 {
+        return false;
+    }
+    let quotient = cut_quotient(dividend, divisor);
+    (i128::from(GREATEST) < quotient) | (quotient < -i128::from(GREATEST))
+}
+
+/// Why a step breaks C09.
+pub(crate) fn zero_reason(step: &Step) -> Option<Reason>
+    ensures { result ≡ find is_by_zero (quotients_at (step_view step.now)) }
+{
+    if !is_div(step.token) || step.stack.len() < 2 {
+        return None;
+    }
+    by_zero(step.stack.from_top(1), step.stack.from_top(0))
+}
+
+fn by_zero(dividend: i64, divisor: i64) -> Option<Reason>
+    ensures { result ≡ find is_by_zero (Quotient dividend divisor ∷ []) }
+{
+    if divisor == 0 {
+        Some(Reason::Quotient { dividend, divisor })
+    } else {
+        None
+    }
+}
+
+fn is_div(token: CharToken) -> bool
+    ensures { result ≡ is_div token }
+{
+    matches!(token, CharToken::Command(Command::Div))
+}
+
+/// Why a step breaks S02.
+pub(crate) fn depth_reason(step: &Step) -> Option<Reason>
+    ensures { result ≡ find is_too_deep (calls_at (step_view step.now)) }
+{
+    if !is_callsubr(step.token) || step.stack.is_empty() || step.path.len() != MOST_CALLS {
+        return None;
+    }
+    Some(depth_of(step))
+}
+
+/// Why a step breaks S03.
+pub(crate) fn return_reason(step: &Step) -> Option<Reason>
+    ensures { result ≡ find is_outermost (returns_at (step_view step.now)) }
+{
+    if !is_return(step.token) || step.path.len() != 0 {
+        return None;
+    }
+    Some(depth_of(step))
+}
+
+fn depth_of(step: &Step) -> Reason
+    ensures { result ≡ depth_of (step_view step.now) }
+{
+    // This can't fail: at most ten calls are open.
+    Reason::Depth {
+        calls: step.path.len() as u8,
+    }
+}
+
+/// Why a step breaks O01.
+pub(crate) fn unknown_reason(step: &Step) -> Option<Reason>
+    ensures { result ≡ find is_unknown_othersubr (known_calls_at (step_view step.now)) }
+{
+    if !is_callothersubr(step.token) || step.stack.len() < 2 {
+        return None;
+    }
+    let count = step.stack.from_top(1);
+    // This can't fail: there are at most 24 numbers.
+    if !is_good_count(count, step.stack.len() as u8 - 2) {
+        return None;
+    }
+    unknown_othersubr(step.stack.from_top(0), count)
+}
+
+fn unknown_othersubr(number: i64, count: i64) -> Option<Reason>
+    ensures { result ≡ find is_unknown_othersubr (Othersubr number count ∷ []) }
+{
+    if is_known(number) {
+        None
+    } else {
+        Some(Reason::Othersubr { number, count })
+    }
+}
+
+/// Why a step breaks O03.
+pub(crate) fn wrong_count_reason(step: &Step) -> Option<Reason>
+    ensures { result ≡ find is_miscounted (known_calls_at (step_view step.now)) }
+{
+    if !is_callothersubr(step.token) || step.stack.len() < 2 {
+        return None;
+    }
+    let count = step.stack.from_top(1);
+    // This can't fail: there are at most 24 numbers.
+    if !is_good_count(count, step.stack.len() as u8 - 2) {
+        return None;
+    }
+    miscounted_call(step.stack.from_top(0), count)
+}
+
+fn miscounted_call(number: i64, count: i64) -> Option<Reason>
+    ensures { result ≡ find is_miscounted (Othersubr number count ∷ []) }
+{
+    if is_flex_or_hints(number) & !takes(number, count) {
+        Some(Reason::Othersubr { number, count })
+    } else {
+        None
+    }
+}
+
+/// Whether an OtherSubr is called with the count that it takes.
+fn takes(number: i64, count: i64) -> bool
+    ensures { result ≡ takes number count }
+{
+    (is_whole(0, number) & is_whole(3, count))
+        | ((is_whole(1, number) & is_whole(0, count))
+            | ((is_whole(2, number) & is_whole(0, count))
+                | (is_whole(3, number) & is_whole(1, count))))
+}
+
+/// Whether a number is that whole number.
+fn is_whole(whole: u16, number: i64) -> bool
+    ensures { result ≡ is_whole whole number }
+{
+    number == i64::from(whole) * UNIT
+}
+
+/// Whether an OtherSubr is one of flex and hint replacement.
+fn is_flex_or_hints(number: i64) -> bool
+    ensures { result ≡ is_flex_or_hints number }
+{
+    (number == 0) | ((number == UNIT) | ((number == 2 * UNIT) | (number == 3 * UNIT)))
+}
+
+/// Whether an OtherSubr is one of flex, hint replacement and counter control.
+fn is_known(number: i64) -> bool
+    ensures { result ≡ is_known number }
+{
+    is_flex_or_hints(number) | ((number == 12 * UNIT) | (number == 13 * UNIT))
+}
+
+/// Why a step breaks K01.
+pub(crate) fn code_reason(step: &Step) -> Option<Reason>
+    ensures { result ≡ find has_no_code (codes_at (step_view step.now)) }
+{
+    if !is_seac(step.token) {
+        return None;
+    }
+    if base_code(step).is_none() | accent_code(step).is_none() {
+        Some(codes_of(step))
+    } else {
+        None
+    }
+}
+
+/// Why a step breaks K02.
+pub(crate) fn name_reason(step: &Step) -> Option<Reason>
+    ensures { result ≡ find has_no_name (codes_at (step_view step.now)) }
+{
+    if !is_seac(step.token) {
+        return None;
+    }
+    if is_unnamed(base_code(step)) | is_unnamed(accent_code(step)) {
+        Some(codes_of(step))
+    } else {
+        None
+    }
+}
+
+/// Whether a code has no name.
+fn is_unnamed(code: Option<u8>) -> bool
+    ensures { result ≡ is_unnamed code }
+{
+    match code {
+        Some(code) => standard_name(code).is_empty(),
+        None => false,
+    }
+}
+
+fn codes_of(step: &Step) -> Reason
+    ensures { result ≡ Codes (argument step.now.stack 3) (argument step.now.stack 4) }
+{
+    Reason::Codes {
+        base: step.argument(3),
+        accent: step.argument(4),
+    }
+}
+
+/// Why a step breaks C05.
+pub(crate) fn count_reason(step: &Step) -> Option<Reason>
+    ensures { result ≡ find has_more (counts_at (step_view step.now)) }
+{
+    let CharToken::Command(command) = step.token else {
+        return None;
+    };
+    let taken = command.arguments()?;
+    // This can't fail: there are at most 24 numbers.
+    let there = step.stack.len() as u8;
+    if taken < there {
+        Some(Reason::Count {
+            command,
+            taken,
+            there,
+        })
+    } else {
+        None
+    }
+}
+
+/// Why a step breaks C04.
+pub(crate) fn want_reason(step: &Step) -> Option<Reason>
+    ensures { result ≡ find has_fewer (wants_at (step_view step.now)) }
+{
+    let CharToken::Command(command) = step.token else {
+        return None;
+    };
+    let taken = wanted_by(command);
+    // This can't fail: there are at most 24 numbers.
+    let there = step.stack.len() as u8;
+    if there < taken {
+        Some(Reason::Count {
+            command,
+            taken,
+            there,
+        })
+    } else {
+        None
+    }
+}
+
+/// How many numbers a command needs on the stack.
+fn wanted_by(command: Command) -> u8
+    ensures { result ≡ wanted_by command (arguments_of command) }
+{
+    match command.arguments() {
+        Some(count) => count,
+        None => match command {
+            Command::Div | Command::Callothersubr => 2,
+            Command::Callsubr => 1,
+            _ => 0,
+        },
+    }
+}
+
+/// Why a step breaks C07.
+pub(crate) fn argument_reason(step: &Step) -> Option<Reason>
+    ensures { result ≡ find is_past_range (arguments_at (step_view step.now)) }
+{
+    let CharToken::Command(command) = step.token else {
+        return None;
+    };
+    let count = command.arguments()?;
+    first_past(count, step.stack.as_slice())
+}
+
+/// The first argument past the range, of so many that are taken.
+fn first_past(count: u8, numbers: &[i64]) -> Option<Reason>
+    requires { length numbers.now ≤ most_numbers }
+    ensures { result ≡ find is_past_range (placed_from 1 (take count numbers.now)) }
+{
+    if usize::from(count) < numbers.len() {
+        past_among(&numbers[..usize::from(count)])
+    } else {
+        past_among(numbers)
+    }
+}
+
+/// The first number past the range.
+fn past_among(numbers: &[i64]) -> Option<Reason>
+    requires { length numbers.now ≤ most_numbers }
+    ensures { result ≡ find is_past_range (placed_from 1 numbers.now) }
+{
+    let mut rest = numbers;
+    let mut place = 0u8;
+    while let [number, others @ ..] = rest {
+        place += 1;
+        if is_past(*number) {
+            return Some(Reason::Argument {
+                place,
+                number: *number,
+            });
+        }
+        rest = others;
+    }
+    None
+}
+
+fn is_past(number: i64) -> bool
+    ensures { result ≡ is_past number }
+{
+    (GREATEST < number) | (number < -GREATEST)
+}
+
+/// Why a step breaks O02.
+pub(crate) fn othersubr_reason(step: &Step) -> Option<Reason>
+    ensures { result ≡ find is_bad_count (othersubrs_at (step_view step.now)) }
+{
+    if !is_callothersubr(step.token) || step.stack.len() < 2 {
+        return None;
+    }
+    // This can't fail: there are at most 24 numbers.
+    bad_count(step.stack.from_top(1), step.stack.len() as u8 - 2)
+}
+
+fn bad_count(count: i64, there: u8) -> Option<Reason>
+    ensures { result ≡ find is_bad_count (Arguments count there ∷ []) }
+{
+    if is_good_count(count, there) {
+        None
+    } else {
+        Some(Reason::Arguments { count, there })
+    }
+}
+
+fn is_good_count(count: i64, there: u8) -> bool
+    ensures { result ≡ is_good_count there count }
+{
+    match natural(count) {
+        Some(count) => count <= u32::from(there),
+        None => false,
+    }
+}
+
+/// Why a step breaks H03.
+pub(crate) fn width_reason(step: &Step) -> Option<Reason>
+    ensures { result ≡ find is_widthless (single_stems_at (step_view step.now)) }
+{
+    if !lies_across(step.token) && !stands_upright(step.token) {
+        return None;
+    }
+    if is_triple(step.token) {
+        widthless_among(&three_stems(step))
+    } else {
+        widthless_among(&[set_stem(step, 0, 0).stem])
+    }
+}
+
+fn three_stems(step: &Step) -> [Stem; 3]
+    ensures { result ≡ stem_at step.now.stack 0 ∷ stem_at step.now.stack 2 ∷ stem_at step.now.stack 4 ∷ [] }
+{
+    [
+        set_stem(step, 0, 0).stem,
+        set_stem(step, 2, 0).stem,
+        set_stem(step, 4, 0).stem,
+    ]
+}
+
+/// The first of the stems without a width.
+fn widthless_among(stems: &[Stem]) -> Option<Reason>
+    ensures { result ≡ find is_widthless (map (λ s. StemAlone s) stems.now) }
+{
+    let mut rest = stems;
+    while let [stem, others @ ..] = rest {
+        if stem.width == 0 {
+            return Some(Reason::Stem { stem: *stem });
+        }
+        rest = others;
+    }
+    None
+}
+
+/// Why a step breaks H04.
+pub(crate) fn triple_reason(step: &Step) -> Option<Reason>
+    ensures { result ≡ find is_uneven (triples_at (step_view step.now)) }
+{
+    if !is_triple(step.token) {
+        return None;
+    }
+    let [one, two, three] = three_stems(step);
+    if are_unequal(one, two, three) {
+        Some(Reason::Triple { one, two, three })
+    } else {
+        None
+    }
+}
+
+/// Why a step breaks S01.
+pub(crate) fn subr_reason(step: &Step) -> Option<Reason>
+    ensures { result ≡ find is_lacking_subr (subrs_at (step_view step.now)) }
+{
+    if !is_callsubr(step.token) || step.stack.is_empty() || step.found {
+        return None;
+    }
+    Some(Reason::Subr {
+        number: step.stack.from_top(0),
+        found: false,
+    })
+}
+
+/// Why a step breaks K05.
+pub(crate) fn sidebearing_reason(sidebearings: &Sidebearings, step: &Step) -> Option<Reason>
+    ensures { result ≡ find is_told_otherwise (sidebearings_at sidebearings.now.components (step_view step.now)) }
+{
+    if !is_seac(step.token) {
+        return None;
+    }
+    let own = sidebearings.accent_sidebearing(step)?;
+    let told = step.argument(0);
+    if own != told {
+        Some(Reason::Sidebearings { told, own })
+    } else {
+        None
+    }
+}
+
+pub(crate) fn lies_across(token: CharToken) -> bool
+    ensures { result ≡ is_command lies_across token }
+{
+    matches!(token, CharToken::Command(Command::Hstem | Command::Hstem3))
+}
+
+pub(crate) fn stands_upright(token: CharToken) -> bool
+    ensures { result ≡ is_command stands_upright token }
+{
+    matches!(token, CharToken::Command(Command::Vstem | Command::Vstem3))
+}
+
+/// The first pair of one of the stems and one of the hint set that overlap, or of two of the stems.
+pub(crate) fn overlap_among(edition: Edition, stems: &[SetStem], kept: &[SetStem]) -> Option<Reason>
+    ensures { result ≡ find (is_overlap edition) (pairs_with stems.now kept.now) }
+{
+    match overlap_with(edition, stems, kept) {
+        Some(reason) => Some(reason),
+        None => overlap_of_two(edition, stems),
+    }
+}
+
+/// The first pair of one of the stems and one that is kept.
+fn overlap_with(edition: Edition, stems: &[SetStem], kept: &[SetStem]) -> Option<Reason>
+    ensures { result ≡ find (is_overlap edition) (flat_map (λ own. beside own.stem kept.now) stems.now) }
+{
+    let mut rest = stems;
+    while let [own, others @ ..] = rest {
+        if let Some(reason) = overlap_beside(edition, own.stem, kept) {
+            return Some(reason);
+        }
+        rest = others;
+    }
+    None
+}
+
+/// The first pair of two of the stems.
+fn overlap_of_two(edition: Edition, stems: &[SetStem]) -> Option<Reason>
+    ensures { result ≡ find (is_overlap edition) (pairs stems.now) }
+{
+    let mut rest = stems;
+    while let [own, others @ ..] = rest {
+        if let Some(reason) = overlap_beside(edition, own.stem, others) {
+            return Some(reason);
+        }
+        rest = others;
+    }
+    None
+}
+
+/// The first pair of a stem and one of others.
+fn overlap_beside(edition: Edition, own: Stem, others: &[SetStem]) -> Option<Reason>
+    ensures { result ≡ find (is_overlap edition) (beside own others.now) }
+{
+    let mut rest = others;
+    while let [other, others @ ..] = rest {
+        if own.overlaps(other.stem, edition) {
+            return Some(Reason::Stems { own, other: *other });
+        }
+        rest = others;
+    }
+    None
+}

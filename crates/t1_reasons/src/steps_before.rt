@@ -1,0 +1,193 @@
+//! What rules ask of the steps before one.
+
+ghost use Rattle.std.specs.Prelude.{◌≡◌, ◌<◌, ◌+◌, true, List, [], ◌∷◌, ◌++◌, length};
+ghost use Rattle.std.specs.List.{find};
+ghost use Rattle.t1_char.specs.declared.edition.Edition.{Edition as Editions};
+ghost use Rattle.t1_char.specs.Steps.{StepView};
+ghost use Rattle.t1_char.specs.StepValues.{step_view};
+ghost use Rattle.t1_char.specs.Arguments.{is_flex_end};
+ghost use Rattle.t1_reasons.specs.HintSets.{all_set_at};
+ghost use Rattle.t1_reasons.specs.Standing.{AreBroken, StepsStandFor};
+ghost use Rattle.t1_reasons.specs.StepReasons.{compared_row, first_in_row, is_miss, is_overlap, misses_at, pairs_with, stems_at, step_reason};
+ghost use Rattle.t1_reasons.specs.declared.reason.Reason.TheVariants.{Miss};
+ghost use Rattle.t1_rules.specs.StepRules.{charstring_rules};
+ghost use Rattle.t1_rules.specs.StepRules.Flex.{end_point};
+ghost use Rattle.t1_rules.specs.StepRules.Stems.{stems_of};
+ghost use Rattle.t1_rules.specs.Watches.{most_steps};
+
+use crate::background::Background;
+use crate::hint_sets::{HintSets, is_triple, set_stem};
+use crate::reason::{Reason, SetStem};
+use crate::step_reasons::{
+    argument_reason, code_reason, compares, count_reason, depth_reason, lies_across, name_reason,
+    othersubr_reason, overlap_among, quotient_reason, return_reason, sidebearing_reason,
+    stands_upright, subr_reason, token_reason, told_where, triple_reason, unknown_reason,
+    want_reason, width_reason, wrong_count_reason, zero_reason,
+};
+use t1_char::{Edition, Step};
+use t1_rules::{FlexWatcher, Mask, Point, Rule, Sidebearings, Watch};
+
+/// What is kept of the steps before one.
+#[derive(Drop)]
+pub(crate) struct StepsBefore {
+    edition: Edition,
+    hints: HintSets,
+    flex: FlexWatcher,
+    background: Background,
+}
+
+impl StepsBefore {
+    /// Before the first step.
+    pub(crate) fn start(edition: Edition) -> StepsBefore
+        ensures { StepsStandFor edition result [] }
+    {
+        StepsBefore {
+            edition,
+            hints: HintSets::start(),
+            flex: FlexWatcher::start(edition),
+            background: Background::EMPTY,
+        }
+    }
+
+    /// Goes past a step.
+    pub(crate) fn see(&mut self, step: &Step)
+        requires { (edition : Editions) × ((before : List StepView) ×
+            (StepsStandFor edition self.old before × (length before < most_steps))) }
+        ensures { (edition : Editions) (before : List StepView) →
+            StepsStandFor edition self.old before → length before < most_steps →
+            StepsStandFor edition self.new (before ++ step_view step.now ∷ []) }
+    {
+        let in_flex = self.flex.is_in_flex();
+        let _flex = self.flex.see(step);
+        self.hints.see(step);
+        self.background = self
+            .background
+            .after(step, in_flex, self.hints.seen, self.flex.point());
+    }
+
+    /// Why the next step breaks a rule, where it does. The set has the rules that it breaks.
+    pub(crate) fn reason(
+        &self,
+        rule: Rule,
+        step: &Step,
+        sidebearings: &Sidebearings,
+        broken: Mask,
+    ) -> Option<Reason>
+        requires { (edition : Editions) × ((before : List StepView) ×
+            (StepsStandFor edition self.now before × (length before < most_steps))) }
+        ensures { (edition : Editions) (before : List StepView) →
+            StepsStandFor edition self.now before → length before < most_steps →
+            AreBroken (charstring_rules edition sidebearings.now.components) broken before (step_view step.now) →
+            result ≡ step_reason edition sidebearings.now.components rule before (step_view step.now) }
+    {
+        if compares(rule) {
+            self.compared(rule, step, sidebearings)
+        } else {
+            told_where(broken.has(rule), rule, &self.background, step)
+        }
+    }
+
+    /// The same of a rule that compares numbers.
+    fn compared(&self, rule: Rule, step: &Step, sidebearings: &Sidebearings) -> Option<Reason>
+        requires { (edition : Editions) × ((before : List StepView) ×
+            (StepsStandFor edition self.now before × (length before < most_steps))) }
+        ensures { (edition : Editions) (before : List StepView) →
+            StepsStandFor edition self.now before → length before < most_steps →
+            result ≡ first_in_row (compared_row edition sidebearings.now.components rule) before (step_view step.now) }
+    {
+        match rule {
+            Rule::C03 => token_reason(step),
+            Rule::C04 => want_reason(step),
+            Rule::C05 => count_reason(step),
+            Rule::C07 => argument_reason(step),
+            Rule::C08 => quotient_reason(step),
+            Rule::C09 => zero_reason(step),
+            Rule::S01 => subr_reason(step),
+            Rule::S02 => depth_reason(step),
+            Rule::S03 => return_reason(step),
+            Rule::H02 => self.stem_reason(step),
+            Rule::H03 => width_reason(step),
+            Rule::H04 => triple_reason(step),
+            Rule::X05 => self.miss_reason(step),
+            Rule::O01 => unknown_reason(step),
+            Rule::O02 => othersubr_reason(step),
+            Rule::O03 => wrong_count_reason(step),
+            Rule::K01 => code_reason(step),
+            Rule::K02 => name_reason(step),
+            Rule::K05 => sidebearing_reason(sidebearings, step),
+            _ => None,
+        }
+    }
+
+    /// Why the step breaks H02.
+    fn stem_reason(&self, step: &Step) -> Option<Reason>
+        requires { (edition : Editions) × ((before : List StepView) ×
+            (StepsStandFor edition self.now before × (length before < most_steps))) }
+        ensures { (edition : Editions) (before : List StepView) →
+            StepsStandFor edition self.now before → length before < most_steps →
+            result ≡ find (is_overlap edition) (stems_at before (step_view step.now)) }
+    {
+        if lies_across(step.token) {
+            self.own_overlap(step, self.hints.across())
+        } else if stands_upright(step.token) {
+            self.own_overlap(step, self.hints.upright())
+        } else {
+            None
+        }
+    }
+
+    /// The first pair of a stem of the step and one that is kept, or of two of its own.
+    fn own_overlap(&self, step: &Step, kept: &[SetStem]) -> Option<Reason>
+        requires { self.now.hints.seen < most_steps }
+        ensures { result ≡ find (is_overlap self.now.edition)
+            (pairs_with (all_set_at (self.now.hints.seen + 1) (stems_of (step_view step.now))) kept.now) }
+    {
+        let number = self.hints.seen + 1;
+        if is_triple(step.token) {
+            let stems = [
+                set_stem(step, 0, number),
+                set_stem(step, 2, number),
+                set_stem(step, 4, number),
+            ];
+            overlap_among(self.edition, &stems, kept)
+        } else {
+            overlap_among(self.edition, &[set_stem(step, 0, number)], kept)
+        }
+    }
+
+    /// Why the step breaks X05.
+    fn miss_reason(&self, step: &Step) -> Option<Reason>
+        ensures { (edition : Editions) (before : List StepView) → StepsStandFor edition self.now before →
+            result ≡ find is_miss (misses_at before (step_view step.now)) }
+    {
+        if step.ends_flex() && self.flex.is_in_flex() {
+            end_reason(step, self.flex.point())
+        } else {
+            None
+        }
+    }
+}
+
+/// Why the end of a flex isn't at the pen, where it isn't.
+fn end_reason(step: &Step, pen: Point) -> Option<Reason>
+    requires { is_flex_end (step_view step.now) ≡ true }
+    ensures { result ≡ find is_miss (Miss (end_point (step_view step.now)) pen ∷ []) }
+{
+    miss_of(
+        Point {
+            x: step.stack.from_top(3),
+            y: step.stack.from_top(2),
+        },
+        pen,
+    )
+}
+
+fn miss_of(named: Point, pen: Point) -> Option<Reason>
+    ensures { result ≡ find is_miss (Miss named pen ∷ []) }
+{
+    if (named.x != pen.x) | (named.y != pen.y) {
+        Some(Reason::Miss { named, pen })
+    } else {
+        None
+    }
+}

@@ -1,0 +1,453 @@
+//! Reasons at the steps of a glyph: Type 1 Font Format 1.1, chapters 6 and 8.
+
+use crate::assembly::charstring;
+use std::alloc::Global;
+use std::test::Fail;
+use t1_char::{CharToken, Command, Edition};
+use t1_font::Font;
+use t1_reasons::{GlyphReasons, Reason, SetStem};
+use t1_rules::{Point, Rule, Sidebearings, Stem};
+use t1_samples::{Sample, font_of, opened};
+
+/// One, in units of 1/65536.
+const ONE: i64 = 65_536;
+
+/// The same for the numbers of stems and arguments, which have 32 bits.
+const UNIT: i32 = 65_536;
+
+/// Glyphs, each a name, a colon and words, with a bar before the next; the step and the rule that the last of them is asked for;
+/// and the reason.
+type Row = (&'static str, u32, Rule, Option<Reason>);
+
+/// Subr 4 gives seven points of a flex, each after a move by 1 to the right; Subr 5 returns.
+const SUBRS: [(u32, &str); 2] = [
+    (
+        4,
+        "1 hmoveto 0 2 callothersubr 1 hmoveto 0 2 callothersubr 1 hmoveto 0 2 callothersubr \
+         1 hmoveto 0 2 callothersubr 1 hmoveto 0 2 callothersubr 1 hmoveto 0 2 callothersubr \
+         1 hmoveto 0 2 callothersubr return",
+    ),
+    (5, "return"),
+];
+
+/// Arguments, tokens and calls.
+const TOKENS: &[Row] = &[
+    (
+        "T: 500 hsbw endchar",
+        2,
+        Rule::C04,
+        Some(Reason::Count {
+            command: Command::Hsbw,
+            taken: 2,
+            there: 1,
+        }),
+    ),
+    ("T: 0 500 hsbw endchar", 3, Rule::C04, None),
+    ("T: 0 500 hsbw endchar", 3, Rule::C05, None),
+    (
+        "T: 0 0 500 hsbw endchar",
+        4,
+        Rule::C05,
+        Some(Reason::Count {
+            command: Command::Hsbw,
+            taken: 2,
+            there: 3,
+        }),
+    ),
+    (
+        "T: 0 500 hsbw 1 -32001 rmoveto endchar",
+        6,
+        Rule::C07,
+        Some(Reason::Argument {
+            place: 2,
+            number: -32001 * ONE,
+        }),
+    ),
+    ("T: 0 500 hsbw 1 -32000 rmoveto endchar", 6, Rule::C07, None),
+    (
+        "T: 0 500 hsbw 32001 1 div hmoveto endchar",
+        6,
+        Rule::C08,
+        Some(Reason::Quotient {
+            dividend: 32001 * ONE,
+            divisor: ONE,
+        }),
+    ),
+    (
+        "T: 0 500 hsbw 32001 2 div hmoveto endchar",
+        6,
+        Rule::C08,
+        None,
+    ),
+    (
+        "T: 0 500 hsbw 5 0 div hmoveto endchar",
+        6,
+        Rule::C09,
+        Some(Reason::Quotient {
+            dividend: 5 * ONE,
+            divisor: 0,
+        }),
+    ),
+    (
+        "T: 0 500 hsbw 17 callsubr endchar",
+        5,
+        Rule::S01,
+        Some(Reason::Subr {
+            number: 17 * ONE,
+            found: false,
+        }),
+    ),
+    ("T: 0 500 hsbw 5 callsubr endchar", 5, Rule::S01, None),
+    (
+        "T: 0 500 hsbw return endchar",
+        4,
+        Rule::S03,
+        Some(Reason::Depth { calls: 0 }),
+    ),
+    (
+        "T: 0 500 hsbw #2 endchar",
+        4,
+        Rule::C03,
+        Some(Reason::Token {
+            token: CharToken::Unknown(2),
+        }),
+    ),
+    (
+        "T: 0 hmoveto closepath endchar",
+        2,
+        Rule::W01,
+        Some(Reason::Token {
+            token: CharToken::Command(Command::Hmoveto),
+        }),
+    ),
+    (
+        "T: 0 500 hsbw 0 500 hsbw endchar",
+        6,
+        Rule::W02,
+        Some(Reason::Since { step: Some(3) }),
+    ),
+    (
+        "T: 0 500 hsbw endchar closepath",
+        4,
+        Rule::GE02,
+        Some(Reason::Nothing),
+    ),
+    ("T: 0 500 hsbw endchar", 4, Rule::GE02, None),
+    ("T: 0 500 hsbw endchar", 9, Rule::GE02, None),
+    ("T: 0 500 hsbw endchar", 0, Rule::GE02, None),
+];
+
+/// Paths, stems and flex.
+const OUTLINES: &[Row] = &[
+    (
+        "T: 0 500 hsbw 10 20 rmoveto 5 hlineto endchar",
+        9,
+        Rule::P02,
+        Some(Reason::Open {
+            start: Point {
+                x: 10 * ONE,
+                y: 20 * ONE,
+            },
+            pen: Point {
+                x: 15 * ONE,
+                y: 20 * ONE,
+            },
+        }),
+    ),
+    (
+        "T: 0 500 hsbw 10 hmoveto 5 hlineto closepath closepath endchar",
+        9,
+        Rule::P03,
+        Some(Reason::Since { step: Some(8) }),
+    ),
+    (
+        "T: 0 500 hsbw closepath endchar",
+        4,
+        Rule::P03,
+        Some(Reason::Since { step: None }),
+    ),
+    (
+        "T: 0 500 hsbw 0 hmoveto 5 hlineto 1 2 hstem closepath endchar",
+        10,
+        Rule::H01,
+        Some(Reason::Since { step: Some(7) }),
+    ),
+    (
+        "T: 0 500 hsbw 10 20 hstem 29 20 hstem endchar",
+        9,
+        Rule::H02,
+        Some(Reason::Stems {
+            own: Stem {
+                position: 29 * UNIT,
+                width: 20 * UNIT,
+            },
+            other: SetStem {
+                stem: Stem {
+                    position: 10 * UNIT,
+                    width: 20 * UNIT,
+                },
+                step: 6,
+            },
+        }),
+    ),
+    (
+        "T: 0 500 hsbw 10 20 hstem 30 20 hstem endchar",
+        9,
+        Rule::H02,
+        None,
+    ),
+    (
+        "T: 0 500 hsbw 10 20 vstem 29 20 hstem endchar",
+        9,
+        Rule::H02,
+        None,
+    ),
+    (
+        "T: 0 500 hsbw 0 40 hstem 10 20 hstem 15 2 hstem endchar",
+        12,
+        Rule::H02,
+        Some(Reason::Stems {
+            own: Stem {
+                position: 15 * UNIT,
+                width: 2 * UNIT,
+            },
+            other: SetStem {
+                stem: Stem {
+                    position: 0 * UNIT,
+                    width: 40 * UNIT,
+                },
+                step: 6,
+            },
+        }),
+    ),
+    (
+        "T: 0 500 hsbw 10 20 hstem 5 1 3 callothersubr pop callsubr 29 20 hstem endchar",
+        15,
+        Rule::H02,
+        None,
+    ),
+    (
+        "T: 0 500 hsbw 0 -20 hstem -10 5 hstem endchar",
+        9,
+        Rule::H02,
+        Some(Reason::Stems {
+            own: Stem {
+                position: -10 * UNIT,
+                width: 5 * UNIT,
+            },
+            other: SetStem {
+                stem: Stem {
+                    position: 0 * UNIT,
+                    width: -20 * UNIT,
+                },
+                step: 6,
+            },
+        }),
+    ),
+    (
+        "T: 0 500 hsbw 7 0 hstem endchar",
+        6,
+        Rule::H03,
+        Some(Reason::Stem {
+            stem: Stem {
+                position: 7 * UNIT,
+                width: 0 * UNIT,
+            },
+        }),
+    ),
+    (
+        "T: 0 500 hsbw 0 10 20 10 41 10 hstem3 endchar",
+        10,
+        Rule::H04,
+        Some(Reason::Triple {
+            one: Stem {
+                position: 0 * UNIT,
+                width: 10 * UNIT,
+            },
+            two: Stem {
+                position: 20 * UNIT,
+                width: 10 * UNIT,
+            },
+            three: Stem {
+                position: 41 * UNIT,
+                width: 10 * UNIT,
+            },
+        }),
+    ),
+    (
+        "T: 0 500 hsbw 0 10 20 10 40 10 hstem3 endchar",
+        10,
+        Rule::H04,
+        None,
+    ),
+    (
+        "T: 0 500 hsbw 0 hmoveto 0 1 callothersubr 4 callsubr 50 8 0 3 0 callothersubr \
+         pop pop setcurrentpoint closepath endchar",
+        52,
+        Rule::X05,
+        Some(Reason::Miss {
+            named: Point {
+                x: 8 * ONE,
+                y: 0 * ONE,
+            },
+            pen: Point {
+                x: 7 * ONE,
+                y: 0 * ONE,
+            },
+        }),
+    ),
+    (
+        "T: 0 500 hsbw 0 hmoveto 0 1 callothersubr 4 callsubr 50 7 0 3 0 callothersubr \
+         pop pop setcurrentpoint closepath endchar",
+        52,
+        Rule::X05,
+        None,
+    ),
+    (
+        "T: 0 500 hsbw 0 hmoveto 0 1 callothersubr 0 1 callothersubr endchar",
+        11,
+        Rule::X01,
+        Some(Reason::Since { step: Some(8) }),
+    ),
+];
+
+/// OtherSubrs and accented characters. 65 is A, 193 the grave accent, and 160 has no name.
+const CALLS: &[Row] = &[
+    (
+        "T: 0 500 hsbw 0 99 callothersubr endchar",
+        6,
+        Rule::O01,
+        Some(Reason::Othersubr {
+            number: 99 * ONE,
+            count: 0,
+        }),
+    ),
+    (
+        "T: 0 500 hsbw 1 5 12 callothersubr endchar",
+        7,
+        Rule::O02,
+        Some(Reason::Arguments {
+            count: 5 * ONE,
+            there: 1,
+        }),
+    ),
+    (
+        "T: 0 500 hsbw 1 1 12 callothersubr endchar",
+        7,
+        Rule::O02,
+        None,
+    ),
+    (
+        "T: 0 500 hsbw 1 2 2 3 callothersubr endchar",
+        8,
+        Rule::O03,
+        Some(Reason::Othersubr {
+            number: 3 * ONE,
+            count: 2 * ONE,
+        }),
+    ),
+    (
+        "T: 0 500 hsbw 0 0 0 65 256 seac",
+        9,
+        Rule::K01,
+        Some(Reason::Codes {
+            base: 65 * UNIT,
+            accent: 256 * UNIT,
+        }),
+    ),
+    (
+        "T: 0 500 hsbw 0 0 0 65 160 seac",
+        9,
+        Rule::K02,
+        Some(Reason::Codes {
+            base: 65 * UNIT,
+            accent: 160 * UNIT,
+        }),
+    ),
+    (
+        "A: 0 500 hsbw endchar | grave: 38 300 hsbw endchar | T: 0 500 hsbw 40 0 0 65 193 seac",
+        9,
+        Rule::K05,
+        Some(Reason::Sidebearings {
+            told: 40 * UNIT,
+            own: 38 * UNIT,
+        }),
+    ),
+    (
+        "A: 0 500 hsbw endchar | grave: 38 300 hsbw endchar | T: 0 500 hsbw 38 0 0 65 193 seac",
+        9,
+        Rule::K05,
+        None,
+    ),
+];
+
+/// A sound font with the Subrs and with these glyphs.
+fn sample_of(alloc: Global, glyphs: &str) -> Result<Sample, Fail> {
+    let mut sample = Sample::new(alloc)?;
+    for (number, words) in SUBRS {
+        sample = sample.subr(number, charstring(alloc, words)?.as_slice())?;
+    }
+    for glyph in glyphs.split('|') {
+        if let Some((name, words)) = glyph.split_once(':') {
+            sample = sample.glyph(name.trim().as_bytes(), charstring(alloc, words)?.as_slice())?;
+        }
+    }
+    Ok(sample)
+}
+
+/// The reason at a step of a font's last glyph.
+fn reason_in(
+    alloc: Global,
+    font: &Font<'_>,
+    edition: Edition,
+    step: u32,
+    rule: Rule,
+) -> Result<Option<Reason>, Fail> {
+    let count = font.glyphs().len();
+    if count == 0 {
+        return Err(Fail::from("a glyph"));
+    }
+    let sidebearings = Sidebearings::prepare(alloc, font, edition)?;
+    let mut reasons = GlyphReasons::start(&*font, count - 1, edition);
+    // Asked for a later step before, and for the same again, it says the same.
+    let _later = reasons.reason(&sidebearings, step.saturating_add(3), rule);
+    let found = reasons.reason(&sidebearings, step, rule);
+    if reasons.reason(&sidebearings, step, rule) != found {
+        return Err(Fail::from("the same reason again"));
+    }
+    Ok(found)
+}
+
+/// The same of these glyphs.
+fn reason_of(
+    alloc: Global,
+    glyphs: &str,
+    edition: Edition,
+    step: u32,
+    rule: Rule,
+) -> Result<Option<Reason>, Fail> {
+    let sample = sample_of(alloc, glyphs)?;
+    let mut file = opened(alloc, &sample)?;
+    let font = font_of(alloc, &mut file)?;
+    reason_in(alloc, &font, edition, step, rule)
+}
+
+#[test]
+fn reasons_at_steps(rt: HostRuntime) -> Result<(), Fail> {
+    for rows in [TOKENS, OUTLINES, CALLS] {
+        for (glyphs, step, rule, reason) in rows {
+            let found = reason_of(rt.alloc(), glyphs, Edition::One, *step, *rule)?;
+            assert_eq!(rt; found, *reason, "{glyphs}");
+        }
+    }
+    Ok(())
+}
+
+/// By the second edition a stem of width -20 is one edge, and overlaps nothing.
+#[test]
+fn reasons_by_the_second_edition(rt: HostRuntime) -> Result<(), Fail> {
+    let glyphs = "T: 0 500 hsbw 0 -20 hstem -10 5 hstem endchar";
+    let found = reason_of(rt.alloc(), glyphs, Edition::Two, 9, Rule::H02)?;
+    assert_eq!(rt; found, None);
+    Ok(())
+}
