@@ -1,4 +1,5 @@
-//! Laws above the definitions: each is the contract of a function that does nothing, but for calling the laws on which it rests.
+//! Laws above the definitions: each is the contract of a function that does nothing, but for calling the laws on which
+//! it rests.
 
 ghost use Rattle.t1_answer.specs.Laws.Answers.{HasAnAnswer, HasNoOtherAnswer};
 ghost use Rattle.t1_answer.specs.Laws.Runs.{RunsKeepPromises};

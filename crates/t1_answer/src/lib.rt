@@ -3,12 +3,10 @@
 //! [`options`] reads words, and [`explain`] handles those that yield no options. [`run`] reads one font, and the
 //! waivers, and writes the lines that the options request. [`answer`] does all of it, and opens the files that the
 //! words name.
+//!
 //! Promised: if no read, write or allocation fails, the font's bytes, the waivers' and the options determine what is
 //! printed and the status ([`a_file_has_one_answer`]). If a read or write fails, the status is 3, and what was
 //! written is a prefix of the text ([`runs_keep_promises`]).
-//! Promised: if no read, write or allocation fails, the font's bytes, the waivers' and the options determine what is
-//! printed and the status ([`a_file_has_one_answer`]). If one fails the status is 3, and what was written is a prefix
-//! of the text ([`runs_keep_promises`]).
 //!
 //! ```text
 //! let status = run(alloc, &mut font, &mut waivers, &options, &mut out, &mut errors);

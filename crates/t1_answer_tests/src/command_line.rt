@@ -47,7 +47,7 @@ Examples:
 For many fonts there is t1check-all. t1check is of the version that t1check-all --version tells.
 ";
 
-/// What words give, as texts that are lent: after, max, trace, file.
+/// What words are parsed to, as borrowed texts: after, max, trace, file.
 type Given<'a> = (u64, Option<u64>, Option<&'a str>, Option<&'a str>);
 
 /// The text of a name.
@@ -59,7 +59,7 @@ fn text(name: &Option<String>) -> Option<&str> {
 }
 
 /// Whether words give these options.
-fn gives(alloc: Global, words: &[&str], (after, max, trace, file): Given<'_>) -> bool {
+fn parses_to(alloc: Global, words: &[&str], (after, max, trace, file): Given<'_>) -> bool {
     let Ok(taken) = options(alloc, words) else {
         return false;
     };
@@ -72,11 +72,11 @@ fn gives(alloc: Global, words: &[&str], (after, max, trace, file): Given<'_>) ->
 /// The words give the options beside them.
 fn assert_given(rt: &impl Abort, alloc: Global, cases: &[(&[&str], Given<'_>)]) {
     for (words, given) in cases {
-        assert!(rt; gives(alloc, words, *given), "of {words:?}");
+        assert!(rt; parses_to(alloc, words, *given), "of {words:?}");
     }
 }
 
-/// The number of lines that are left out, and the file's name, which may be empty.
+/// The number of lines that are omitted, and the file's name, which may be empty.
 const WORDS: &[(&[&str], Given<'static>)] = &[
     (&["t1check"], (0, None, None, None)),
     (&[], (0, None, None, None)),
@@ -144,7 +144,7 @@ fn takes_names_of_glyphs_and_greatest_numbers(rt: HostRuntime) {
     assert_given(&rt, rt.alloc(), NAMES_AND_NUMBERS);
 }
 
-/// Whether words ask for this edition and this file of waivers.
+/// Whether words request this edition and this file of waivers.
 fn asks(alloc: Global, words: &[&str], edition: Edition, waive: Option<&str>) -> bool {
     match options(alloc, words) {
         Ok(taken) => taken.edition == edition && text(&taken.waive) == waive,
@@ -174,7 +174,7 @@ fn takes_editions_and_waivers(rt: HostRuntime) {
     }
 }
 
-/// The text of help that words ask for.
+/// The text of help that words request.
 pub(crate) fn help_of(alloc: Global, words: &[&str]) -> Result<String, Fail> {
     match options(alloc, words) {
         Err(UsageError::Help(text)) => Ok(text),
@@ -182,7 +182,7 @@ pub(crate) fn help_of(alloc: Global, words: &[&str]) -> Result<String, Fail> {
     }
 }
 
-/// Words that ask for help.
+/// Words that request help.
 const ASK_HELP: &[&[&str]] = &[
     &["t1check", "--help"],
     &["t1check", "-h"],
@@ -190,7 +190,7 @@ const ASK_HELP: &[&[&str]] = &[
 ];
 
 #[test]
-fn gives_help(rt: HostRuntime) -> Result<(), Fail> {
+fn returns_help(rt: HostRuntime) -> Result<(), Fail> {
     for words in ASK_HELP {
         assert_eq!(rt; help_of(rt.alloc(), words)?.as_str(), HELP, "of {words:?}");
     }

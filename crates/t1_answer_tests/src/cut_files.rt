@@ -1,4 +1,4 @@
-//! Each front of two sound files, the shortest first. The numbers come from the places of the segments,
+//! Each prefix of two sound files, the shortest first. The numbers come from the places of the segments,
 //! the word `eexec`, the digits and the tokens, counted by hand and by another program.
 
 use crate::fonts::hexadecimal;
@@ -9,7 +9,7 @@ use std::test::Fail;
 use t1_run::Status;
 use t1_samples::END_SEGMENT;
 
-/// What is answered to a file that is cut.
+/// What the program returns for a file that is cut.
 #[derive(Clone, Copy, Debug)]
 enum Cut {
     /// Nothing: the font is whole.
@@ -36,7 +36,7 @@ const E09: Cut = Cut::Refused("refused: E09 CharStrings malformed or absent\n");
 
 const E10: Cut = Cut::Refused("refused: E10 lenIV out of range\n");
 
-/// Whether the front of a file, of so many bytes, is answered so.
+/// Whether the program returns this for a file's prefix of so many bytes.
 fn is_answered(alloc: Global, file: &[u8], len: usize, cut: Cut) -> bool {
     let Some(front) = file.get(..len) else {
         return false;
@@ -49,8 +49,8 @@ fn is_answered(alloc: Global, file: &[u8], len: usize, cut: Cut) -> bool {
     }
 }
 
-/// The fronts of a file are answered so: of so many in a row, each a byte longer than the one before, all
-/// the same.
+/// The program returns this for the prefixes of a file. It is the same for so many in a row, each a byte longer
+/// than the one before.
 fn assert_cuts(rt: &impl Abort, alloc: Global, file: &[u8], rows: &[(usize, Cut)]) {
     let mut len = 0usize;
     for (count, cut) in rows {
@@ -59,11 +59,11 @@ fn assert_cuts(rt: &impl Abort, alloc: Global, file: &[u8], rows: &[(usize, Cut)
             len = len.saturating_add(1);
         }
     }
-    assert_eq!(rt; len, file.len() + 1, "the whole file is the last front");
+    assert_eq!(rt; len, file.len() + 1, "the whole file is the last prefix");
 }
 
-/// The fronts of the PFB file, whose segments end at 110, 293, 831 and 833 bytes: 829 end inside a
-/// segment, and of the four that end with one, the first has no byte of the section.
+/// The prefixes of the PFB file, whose segments end at 110, 293, 831 and 833 bytes. 829 prefixes end inside a
+/// segment. Of the four that end with one, the first has no byte of the section.
 const PFB: &[(usize, Cut)] = &[
     (1, E01),
     (109, E03),
@@ -76,15 +76,15 @@ const PFB: &[(usize, Cut)] = &[
     (1, Cut::Clean),
 ];
 
-/// Wherever a PFB file is cut, the cut is told.
+/// Wherever a PFB file is cut, the cut is reported.
 #[test]
-fn tells_where_a_pfb_file_is_cut(rt: HostRuntime) -> Result<(), Fail> {
+fn reports_where_a_pfb_file_is_cut(rt: HostRuntime) -> Result<(), Fail> {
     let file = ended_by(rt.alloc(), END_SEGMENT)?;
     assert_cuts(&rt, rt.alloc(), file.as_slice(), PFB);
     Ok(())
 }
 
-/// The fronts of the PFA file, whose section is hexadecimal. In all: E01 2, E04 101, E06 10, E07 15, E08 19,
+/// The prefixes of the PFA file, whose section is hexadecimal. In all: E01 2, E04 101, E06 10, E07 15, E08 19,
 /// E09 385, E10 5. The last 538 have the last `end` of the private text.
 const PFA: &[(usize, Cut)] = &[
     (2, E01),
@@ -107,7 +107,7 @@ const PFA: &[(usize, Cut)] = &[
 
 /// No private text is read that breaks off before its last `end`.
 #[test]
-fn tells_where_a_pfa_file_is_cut(rt: HostRuntime) -> Result<(), Fail> {
+fn reports_where_a_pfa_file_is_cut(rt: HostRuntime) -> Result<(), Fail> {
     let file = hexadecimal(rt.alloc())?;
     assert_cuts(&rt, rt.alloc(), file.as_slice(), PFA);
     Ok(())

@@ -15,7 +15,7 @@ use t1_io::{Fuse, In, Limit, Out};
 use t1_run::Status;
 use t1_samples::{CLEAR, FontFile, Sample};
 
-/// A reader that gives a byte a read, without end.
+/// A reader that returns a byte a read, without end.
 #[derive(Drop)]
 struct Endless {
     reads: u64,
@@ -102,8 +102,8 @@ fn moves_a_byte_a_call(rt: HostRuntime) -> Result<(), Fail> {
     Ok(())
 }
 
-/// Whether a run whose output fails behind so many bytes is answered so.
-fn tells_failed_write(alloc: Global, run: &Run, room: usize) -> bool {
+/// Whether a run whose output fails after so many bytes reports the failed write.
+fn reports_failed_write(alloc: Global, run: &Run, room: usize) -> bool {
     let answer = answer_of(alloc, run, FAR, Limit::Bytes(room));
     match run.text.as_bytes().get(..room) {
         Some(front) => answer.is(Status::Failed, front, b"t1check: write failed\n"),
@@ -115,7 +115,7 @@ fn tells_failed_write(alloc: Global, run: &Run, room: usize) -> bool {
 fn assert_failed_writes(rt: &impl Abort, alloc: Global, run: &Run) {
     for room in 0..run.text.len() + 1 {
         assert!(rt;
-            tells_failed_write(alloc, run, room),
+            reports_failed_write(alloc, run, room),
             "{room} bytes of {:?}",
             run.text
         );
@@ -123,7 +123,7 @@ fn assert_failed_writes(rt: &impl Abort, alloc: Global, run: &Run) {
 }
 
 #[test]
-fn tells_a_failed_write(rt: HostRuntime) -> Result<(), Fail> {
+fn reports_a_failed_write(rt: HostRuntime) -> Result<(), Fail> {
     let runs = runs(rt.alloc())?;
     for run in &runs {
         assert_failed_writes(&rt, rt.alloc(), run);
@@ -139,20 +139,20 @@ fn ten_bytes_go_out(rt: HostRuntime) -> Result<(), Fail> {
     Ok(())
 }
 
-/// Whether a run whose input fails behind so many reads is answered so.
-fn tells_failed_read(alloc: Global, run: &Run, calls: usize) -> bool {
+/// Whether a run whose input fails after so many reads reports the failed read.
+fn reports_failed_read(alloc: Global, run: &Run, calls: usize) -> bool {
     let answer = answer_of(alloc, run, Limit::Calls(calls), FAR);
     answer.is(Status::Failed, b"", b"t1check: read failed\n")
 }
 
 /// The input fails at its first read, and at the one that would have found its end.
 #[test]
-fn tells_a_failed_read(rt: HostRuntime) -> Result<(), Fail> {
+fn reports_a_failed_read(rt: HostRuntime) -> Result<(), Fail> {
     let runs = runs(rt.alloc())?;
     for run in &runs {
         for calls in 0..2usize {
             assert!(rt;
-                tells_failed_read(rt.alloc(), run, calls),
+                reports_failed_read(rt.alloc(), run, calls),
                 "{calls} reads for {:?}",
                 run.text
             );
@@ -204,8 +204,8 @@ fn refused_files(alloc: Global) -> Result<[RefusedFile; 4], AllocError> {
     ])
 }
 
-/// Whether a refusal of which so many bytes can be told is answered so: where that isn't all, it has failed.
-fn tells_front(alloc: Global, refused: &RefusedFile, room: usize) -> bool {
+/// Whether a refusal is printed as far as so many bytes go: where that isn't all, the run has failed.
+fn prints_prefix(alloc: Global, refused: &RefusedFile, room: usize) -> bool {
     let file = refused.file.as_slice();
     let answer = answer_within(alloc, file, &ALL, FAR, FAR, Limit::Bytes(room));
     let line = refused.line.as_bytes();
@@ -220,7 +220,7 @@ fn tells_front(alloc: Global, refused: &RefusedFile, room: usize) -> bool {
 fn assert_failed_refusals(rt: &impl Abort, alloc: Global, refused: &RefusedFile) {
     for room in 0..refused.line.len() + 1 {
         assert!(rt;
-            tells_front(alloc, refused, room),
+            prints_prefix(alloc, refused, room),
             "{room} bytes of {}",
             refused.line
         );
@@ -228,7 +228,7 @@ fn assert_failed_refusals(rt: &impl Abort, alloc: Global, refused: &RefusedFile)
 }
 
 #[test]
-fn fails_where_nothing_can_be_told(rt: HostRuntime) -> Result<(), Fail> {
+fn fails_where_nothing_can_be_printed(rt: HostRuntime) -> Result<(), Fail> {
     let files = refused_files(rt.alloc())?;
     for file in &files {
         assert_failed_refusals(&rt, rt.alloc(), file);

@@ -1,4 +1,4 @@
-//! What is answered to words that gave no options.
+//! What is printed for words that parse to no options.
 
 ghost use Rattle.std.specs.Prelude.{◌≡◌, true};
 ghost use Rattle.t1_io.specs.Limits.{lets_some_through};
@@ -12,7 +12,7 @@ use t1_answer::explain;
 use t1_io::{Fuse, Limit, Out};
 use t1_run::{Status, UsageError};
 
-/// What is answered to words that gave no options, over an output with this limit.
+/// What is printed for words that parse to no options, over an output with this limit.
 fn explained(alloc: Global, error: &UsageError, output: Limit) -> Answer
     requires { lets_some_through output ≡ true }
 {
@@ -30,7 +30,7 @@ fn explained(alloc: Global, error: &UsageError, output: Limit) -> Answer
     }
 }
 
-/// What is answered to a usage fault.
+/// What is printed for a usage fault.
 fn usage(alloc: Global) -> Result<Answer, AllocError> {
     let usage = UsageError::Usage(String::from_str(alloc, "usage\n")?);
     Ok(explained(alloc, &usage, FAR))
@@ -50,8 +50,8 @@ fn explains_on_the_right_device(rt: HostRuntime) -> Result<(), Fail> {
     Ok(())
 }
 
-/// Whether help that fails behind so many bytes is answered so.
-fn tells_failed_help(alloc: Global, help: &UsageError, room: usize) -> bool {
+/// Whether help that fails after so many bytes reports the failed write.
+fn reports_failed_help(alloc: Global, help: &UsageError, room: usize) -> bool {
     let answer = explained(alloc, help, Limit::Bytes(room));
     match HELP.as_bytes().get(..room) {
         Some(front) => answer.is(Status::Failed, front, b"t1check: write failed\n"),
@@ -61,10 +61,10 @@ fn tells_failed_help(alloc: Global, help: &UsageError, room: usize) -> bool {
 
 /// The output fails after each count of bytes of the help, the last time at the flush.
 #[test]
-fn tells_help_that_fails(rt: HostRuntime) -> Result<(), Fail> {
+fn reports_help_that_fails(rt: HostRuntime) -> Result<(), Fail> {
     let help = UsageError::Help(help_of(rt.alloc(), &["t1check", "--help"])?);
     for room in 0..HELP.len() + 1 {
-        assert!(rt; tells_failed_help(rt.alloc(), &help, room), "{room}");
+        assert!(rt; reports_failed_help(rt.alloc(), &help, room), "{room}");
     }
     Ok(())
 }

@@ -61,7 +61,7 @@ fn one_digit_makes_no_hexadecimal_section(rt: HostRuntime) -> Result<(), Fail> {
     Ok(())
 }
 
-/// An empty array of Subrs stands for none.
+/// An empty array of Subrs counts as none.
 #[test]
 fn no_subrs_are_clean(rt: HostRuntime) -> Result<(), Fail> {
     let file = Sample::new(rt.alloc())?.subrs(b"/Subrs [] def\n")?.pfb()?;

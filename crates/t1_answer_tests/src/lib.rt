@@ -1,9 +1,9 @@
-//! Tests of what t1check answers, by public items of t1_answer and t1_run alone.
+//! Tests of what t1check returns and prints, by public items of t1_answer and t1_run alone.
 //!
-//! What stands here is what proofs don't show: that calls succeed, that the definitions say what the specification of the
+//! These tests show what proofs don't: that calls succeed, that the definitions say what the specification of the
 //! program means, and what texts say. Expected values are worked out by hand.
 //!
-//! They stand above the library since a crate with tests is proved twice, with them and without.
+//! They are above the library since a crate with tests is proved twice, with them and without.
 #![tactic(auto)]
 
 #[cfg(test)]

@@ -11,7 +11,7 @@ use t1_answer::Options;
 use t1_io::{In, Out};
 use t1_run::Status;
 
-/// How many bytes a read gives at most.
+/// How many bytes a read returns at most.
 const BYTES_PER_READ: usize = 100;
 
 /// A reader of bytes that counts its reads, and fails at one of them.
@@ -40,7 +40,7 @@ enum Failing {
     None,
     /// This write.
     Write(u64),
-    /// This write, which takes no byte and tells no error.
+    /// This write, which takes no byte and returns no error.
     TakesNone(u64),
     /// This flush.
     Flush(u64),
@@ -86,7 +86,7 @@ fn writer(alloc: Global, failing: Failing) -> Writes {
     }
 }
 
-/// Runs the program on a file and this writer, and gives the status and what was told.
+/// Runs the program on a file and this writer, and returns the status and what was printed on standard error.
 fn run_into(
     alloc: Global,
     file: &[u8],
@@ -152,7 +152,7 @@ fn count_writes(alloc: Global, run: &Run) -> Option<u64> {
     (status == run.status && is_whole).then_some(output.writes)
 }
 
-/// Whether a write that fails ends the run with a front of the text, and nothing is flushed.
+/// Whether a write that fails ends the run with a prefix of the text, and nothing is flushed.
 fn ends_at_write(alloc: Global, run: &Run, failing: Failing, place: u64) -> bool {
     let text = run.text.as_bytes();
     let mut output = writer(alloc, failing);
@@ -176,7 +176,7 @@ fn assert_failed_writes(rt: &impl Abort, alloc: Global, run: &Run, writes: u64) 
     }
 }
 
-/// Each write fails in turn: what was written before it went out.
+/// Each write fails in turn: what was written before it reached the writer.
 #[test]
 fn a_write_that_fails_once_ends_the_run(rt: HostRuntime) -> Result<(), Fail> {
     let runs = runs(rt.alloc())?;
@@ -187,7 +187,7 @@ fn a_write_that_fails_once_ends_the_run(rt: HostRuntime) -> Result<(), Fail> {
     Ok(())
 }
 
-/// Whether the whole text is written and flushed once, and a first flush that fails is told.
+/// Whether the whole text is written and flushed once, and a first flush that fails is reported.
 fn is_flushed_once(alloc: Global, run: &Run, place: u64) -> bool {
     let mut output = writer(alloc, Failing::Flush(place));
     let (status, told) = run_into(alloc, run.file.as_slice(), &run.options, &mut output);
@@ -200,7 +200,7 @@ fn is_flushed_once(alloc: Global, run: &Run, place: u64) -> bool {
     is_answered && is_whole && output.flushes == 1
 }
 
-/// The flush reaches the writer, once; where it fails the whole text went out, and that is told.
+/// The flush reaches the writer, once; where it fails the whole text was written, and the failure is reported.
 #[test]
 fn a_text_is_flushed_once(rt: HostRuntime) -> Result<(), Fail> {
     let runs = runs(rt.alloc())?;

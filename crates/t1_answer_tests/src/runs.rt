@@ -7,13 +7,13 @@ use t1_char::Edition;
 use t1_run::Status;
 use t1_samples::{NOTDEF, Sample};
 
-/// What the program is given, and what it answers.
+/// The program's input, and what it returns.
 #[derive(Drop)]
 pub(crate) struct Run {
     pub(crate) file: Vec<u8>,
     pub(crate) options: Options,
     pub(crate) status: Status,
-    /// All that is written; nothing is told.
+    /// All that is written; nothing is printed on standard error.
     pub(crate) text: &'static str,
 }
 

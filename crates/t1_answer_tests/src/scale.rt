@@ -1,4 +1,4 @@
-//! Fonts of the greatest sizes. No contract can rule out a body that answers want of memory there.
+//! Fonts of the greatest sizes. No contract can rule out a body that returns out of memory there.
 
 use crate::shared::{answer_to, is_clean, is_refused};
 use std::alloc::{AllocError, Global};
@@ -18,14 +18,14 @@ const GLYPHS: u32 = 65_535;
 /// How many glyphs are given twice.
 const DOUBLED: u32 = 4_465;
 
-/// A sound private text behind so many blanks.
+/// A sound private text after so many blanks.
 fn padded(alloc: Global, blanks: usize) -> Result<Vec<u8>, AllocError> {
     let mut text = vec![in alloc; b' '; blanks]?;
     text.extend_from_slice(Sample::new(alloc)?.private()?.as_slice())?;
     Ok(text)
 }
 
-/// All Subrs that a font may have, each an empty charstring, behind a head with this size.
+/// All Subrs that a font may have, each an empty charstring, after a head with this size.
 fn subrs(alloc: Global, size: u32) -> Result<Vec<u8>, AllocError> {
     let mut lines = format!(in alloc; "/Subrs {size} array\n")?.into_bytes();
     for number in 0..SUBRS {
@@ -64,7 +64,7 @@ fn reads_sixteen_megabytes_of_a_pfb_file(rt: HostRuntime) -> Result<(), Fail> {
     Ok(())
 }
 
-/// The last digit has no second one, and is left out.
+/// The last digit has no second one, and is omitted.
 #[test]
 fn reads_ten_megabytes_of_digits(rt: HostRuntime) -> Result<(), Fail> {
     let text = padded(rt.alloc(), 5_000_000)?;
@@ -86,7 +86,7 @@ fn reads_all_subrs(rt: HostRuntime) -> Result<(), Fail> {
     Ok(())
 }
 
-/// A font whose Subrs all stand past the array, and whose glyphs but `.notdef` are each given twice:
+/// A font whose Subrs are all past the array, and whose glyphs but `.notdef` are each given twice:
 /// 70,000 lines.
 fn faulty(alloc: Global) -> Result<Vec<u8>, AllocError> {
     let lines = subrs(alloc, 0)?;
@@ -114,7 +114,7 @@ fn writes_seventy_thousand_lines(rt: HostRuntime) -> Result<(), Fail> {
     Ok(())
 }
 
-/// The private text in front of the CharStrings' entries.
+/// The private text before the CharStrings' entries.
 const FRONT: &[u8] = b"dup /Private 8 dict dup begin\n/password 5839 def\n/MinFeature {16 16} def\n\
 /lenIV -1 def\n/Subrs 6 array\nND\n2 index /CharStrings 65535 dict dup begin\n";
 

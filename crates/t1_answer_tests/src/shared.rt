@@ -11,7 +11,7 @@ use t1_io::{In, Out, Sink, Source};
 use t1_run::Status;
 use t1_samples::{Charstrings, FontFile, Sample, TRAILER};
 
-/// What the program answers.
+/// What the program returns and prints.
 #[derive(Drop)]
 pub(crate) struct Answer {
     pub(crate) status: Status,
@@ -20,7 +20,7 @@ pub(crate) struct Answer {
 }
 
 impl Answer {
-    /// Whether this is the answer: the status, and all that was written and told.
+    /// Whether this is the answer: the status, the whole output, and the whole of standard error.
     pub(crate) fn is(&self, status: Status, output: &[u8], told: &[u8]) -> bool {
         self.status == status && self.output.as_slice() == output && self.told.as_slice() == told
     }
@@ -39,7 +39,7 @@ pub(crate) const ALL: Options = Options {
     file: None,
 };
 
-/// A sound PFB file but for its end, with encrypted charstrings and the zeros behind its section.
+/// A sound PFB file but for its end, with encrypted charstrings and the zeros after its section.
 pub(crate) fn ended_by(alloc: Global, end: &[u8]) -> Result<Vec<u8>, AllocError> {
     let sample = Sample::with_charstrings(alloc, Charstrings::Encrypted(4))?;
     let clear = sample.clear()?;
@@ -52,8 +52,8 @@ pub(crate) fn ended_by(alloc: Global, end: &[u8]) -> Result<Vec<u8>, AllocError>
     .pfb(alloc)
 }
 
-/// Runs the program on a font and on waivers, over a standard error that doesn't fail, and gives the status and what
-/// was told.
+/// Runs the program on a font and on waivers, over a standard error that doesn't fail, and returns the status and what
+/// was printed there.
 pub(crate) fn run_over<R: Source, V: Source, W: Sink>(
     alloc: Global,
     font: &mut R,
@@ -98,7 +98,7 @@ pub(crate) fn answer_to(alloc: Global, bytes: &[u8]) -> Answer {
     answer_over(alloc, &mut In::new(bytes), &mut In::new(io::empty()), &ALL)
 }
 
-/// Whether the program finds nothing to tell of a file.
+/// Whether the program finds nothing to report of a file.
 pub(crate) fn is_clean(alloc: Global, file: &[u8]) -> bool {
     answer_to(alloc, file).is(Status::Clean, b"", b"")
 }

@@ -26,7 +26,7 @@ fn answer_with(
     answer_over(alloc, &mut In::new(file), &mut reader, options)
 }
 
-/// The options that ask for waivers, and for the trace of a glyph if that is named.
+/// The options that request waivers, and the trace of a glyph if that is named.
 fn waived(alloc: Global, trace: Option<String>) -> Result<Options, AllocError> {
     Ok(Options {
         trace,
@@ -43,7 +43,7 @@ fn with_glyph(alloc: Global, glyph: &[u8]) -> Result<Vec<u8>, AllocError> {
 /// The glyph of the number 32001, 0, hmoveto, closepath, endchar.
 const FOUR_FAULTS: &[u8] = b"\xff\x00\x00\x7d\x01\x8b\x16\x09\x0e";
 
-/// The charstring of glyph A, waivers, the status, and what is written and told.
+/// The charstring of glyph A, waivers, the status, the output, and standard error.
 const ANSWERS: &[(&[u8], &[u8], Status, &str, &str)] = &[
     (b"", b"A GE01\n", Status::Clean, "", ""),
     (
@@ -78,9 +78,9 @@ const ANSWERS: &[(&[u8], &[u8], Status, &str, &str)] = &[
     ),
 ];
 
-/// The same is answered where a read gives one byte.
+/// The same is returned where a read returns one byte.
 #[test]
-fn answers_with_waivers(rt: HostRuntime) -> Result<(), Fail> {
+fn reports_with_waivers(rt: HostRuntime) -> Result<(), Fail> {
     let options = waived(rt.alloc(), None)?;
     for (glyph, text, status, output, told) in ANSWERS {
         let file = with_glyph(rt.alloc(), glyph)?;
@@ -97,7 +97,7 @@ fn answers_with_waivers(rt: HostRuntime) -> Result<(), Fail> {
 
 /// A read of the waivers fails: the first, and the one that would have found their end.
 #[test]
-fn tells_a_failed_read_of_waivers(rt: HostRuntime) -> Result<(), Fail> {
+fn reports_a_failed_read_of_waivers(rt: HostRuntime) -> Result<(), Fail> {
     let options = waived(rt.alloc(), None)?;
     let file = with_glyph(rt.alloc(), b"")?;
     for calls in 0..2usize {
@@ -111,7 +111,7 @@ fn tells_a_failed_read_of_waivers(rt: HostRuntime) -> Result<(), Fail> {
     Ok(())
 }
 
-/// What is answered to a file with waivers whose first read fails.
+/// What the program returns for a file with waivers whose first read fails.
 fn answer_without(alloc: Global, file: &[u8], trace: Option<String>) -> Result<Answer, AllocError> {
     let options = waived(alloc, trace)?;
     Ok(answer_with(alloc, file, &options, b"A", Limit::Calls(0)))
@@ -126,7 +126,7 @@ fn leaves_waivers_alone_at_a_refusal(rt: HostRuntime) -> Result<(), Fail> {
     Ok(())
 }
 
-/// And where a trace is asked for.
+/// And where a trace is requested.
 #[test]
 fn leaves_waivers_alone_at_a_trace(rt: HostRuntime) -> Result<(), Fail> {
     let file = with_glyph(rt.alloc(), NOTDEF)?;
@@ -142,7 +142,7 @@ fn leaves_waivers_alone_at_a_trace(rt: HostRuntime) -> Result<(), Fail> {
     Ok(())
 }
 
-/// What is answered to so many empty lines of waivers, within a limit, where glyph A is empty.
+/// What the program returns for so many empty lines of waivers, within a limit, where glyph A is empty.
 fn answer_to_lines(alloc: Global, count: usize, limit: Limit) -> Result<Answer, AllocError>
     requires { lets_some_through limit ≡ true }
 {
@@ -152,7 +152,7 @@ fn answer_to_lines(alloc: Global, count: usize, limit: Limit) -> Result<Answer, 
     Ok(answer_with(alloc, file.as_slice(), &options, text.as_slice(), limit))
 }
 
-/// How many empty lines, the status, and what is written and told.
+/// How many empty lines, the status, the output, and standard error.
 const AT_THE_LIMIT: &[(usize, Status, &str, &str)] = &[
     (
         1_048_576,

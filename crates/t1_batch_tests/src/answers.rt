@@ -1,4 +1,4 @@
-//! What is answered to words of t1check-all, and which files are replaced.
+//! What t1check-all returns for its words, and which files are replaced.
 
 ghost use Rattle.std.specs.Prelude.{◌≡◌, false, IfOk};
 
@@ -112,7 +112,7 @@ const FOUR_FAULTS: &[u8] = b"\xff\x00\x00\x7d\x01\x8b\x16\x09\x0e";
 
 /// Words of the command line come first, then those of lists; one of a list isn't UTF-8.
 #[test]
-fn answers_with_a_run(rt: HostRuntime) -> Result<(), Fail> {
+fn returns_a_run(rt: HostRuntime) -> Result<(), Fail> {
     let faulty = Sample::new(rt.alloc())?.glyph(b"A", FOUR_FAULTS)?.pfb()?;
     let files = [
         ("b.pfb", faulty.as_slice()),
@@ -151,7 +151,7 @@ a.pfb: 4: glyph A - 4 P03 closepath without a path
 
 /// What is wrong first is printed: known faults, then a list that can't be read, then that there is no font.
 #[test]
-fn tells_what_is_wrong(rt: HostRuntime) -> Result<(), Fail> {
+fn reports_what_is_wrong(rt: HostRuntime) -> Result<(), Fail> {
     let files = [
         ("known", b"3 H02 glyph A a.pfb\nnonsense\n".as_slice()),
         ("empty", b"\n".as_slice()),
@@ -273,7 +273,7 @@ fn keeps_waivers_that_are_there(rt: HostRuntime) -> Result<(), Fail> {
 
 /// A file that can't be replaced is reported, and the waivers are overwritten all the same.
 #[test]
-fn tells_what_can_not_be_replaced(rt: HostRuntime) -> Result<(), Fail> {
+fn reports_what_can_not_be_replaced(rt: HostRuntime) -> Result<(), Fail> {
     let left = Replacements {
         status: Status::Faults,
         known_faults: Some(NewFile {

@@ -312,7 +312,7 @@ t1check-all: write failed
 
 /// A whole part without its output is a failed read.
 #[test]
-fn tells_a_file_that_is_missing(rt: HostRuntime) -> Result<(), Fail> {
+fn reports_a_file_that_is_missing(rt: HostRuntime) -> Result<(), Fail> {
     let first = text_of(rt.alloc(), FAULTY)?;
     let parts = [Process {
         found: Some(first.as_slice()),

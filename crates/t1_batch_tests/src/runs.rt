@@ -134,7 +134,7 @@ const FOUR_FAULTS: &[u8] = b"\xff\x00\x00\x7d\x01\x8b\x16\x09\x0e";
 
 /// One font has a P03, one is refused and one isn't there.
 #[test]
-fn tells_lines_and_the_summary(rt: HostRuntime) -> Result<(), Fail> {
+fn prints_lines_and_the_summary(rt: HostRuntime) -> Result<(), Fail> {
     let faulty = Sample::new(rt.alloc())?.glyph(b"A", FOUR_FAULTS)?.pfb()?;
     let files = [
         ("faulty.pfb", faulty.as_slice()),
@@ -236,7 +236,7 @@ fn run_beyond<'a, W: Sink + Drop, E: Sink + Drop>(
 
 /// No line goes beyond the known faults, and the row of H02 is no longer reached.
 #[test]
-fn tells_what_is_no_longer_reached(rt: HostRuntime) -> Result<(), Fail> {
+fn reports_what_is_no_longer_reached(rt: HostRuntime) -> Result<(), Fail> {
     let faulty = Sample::new(rt.alloc())?.glyph(b"A", FOUR_FAULTS)?.pfb()?;
     let files = [("faulty.pfb", faulty.as_slice())];
     let Ok(known) = KnownFaults::read(rt.alloc(), KNOWN) else {
@@ -376,7 +376,7 @@ t1check-all: lines of a font itself can not be waived
 
 /// What couldn't be listed comes first, and the status is that of a failure. `quiet` omits the summary.
 #[test]
-fn tells_what_was_not_listed(rt: HostRuntime) -> Result<(), Fail> {
+fn reports_what_was_not_listed(rt: HostRuntime) -> Result<(), Fail> {
     let faulty = Sample::new(rt.alloc())?.glyph(b"A", FOUR_FAULTS)?.pfb()?;
     let files = [("faulty.pfb", faulty.as_slice())];
     let unsearched = names_of(rt.alloc(), &["fonts/old"])?;

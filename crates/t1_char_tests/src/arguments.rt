@@ -1,4 +1,4 @@
-//! What commands and OtherSubrs are given: Type 1 Font Format 1.1, chapters 6 and 8.
+//! The arguments of commands and OtherSubrs: Type 1 Font Format 1.1, chapters 6 and 8.
 
 use crate::traces::steps_with;
 use std::alloc::Global;
@@ -34,7 +34,7 @@ fn arguments_from_the_bottom(rt: HostRuntime) -> Result<(), Fail> {
     Ok(())
 }
 
-/// Whether a glyph's last step but one starts a flex, gives a point of one, ends one, replaces hints.
+/// Whether a glyph's last step but one starts a flex, adds a point of one, ends one, replaces hints.
 fn events(alloc: Global, glyph: &[u8]) -> Result<[bool; 4], Fail> {
     let steps = steps_with(alloc, &[], glyph)?;
     let step = steps.get(steps.len().saturating_sub(2)).ok_or("no call")?;

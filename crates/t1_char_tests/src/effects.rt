@@ -1,23 +1,28 @@
 //! What tokens do to the stack and to the results that wait: Type 1 Font Format 1.1, chapters 6 and 8.
 
-use crate::traces::{states_of, steps_with};
-use std::alloc::Global;
+use crate::traces::{assert_returned, states_of, steps_with};
+use std::alloc::{AllocError, Global};
 use std::process::Abort;
 use std::test::Fail;
+use t1_char::Step;
 use t1_font::Unread;
 
-/// The last step of a glyph: its stack, its results, its facts.
+/// The last of these steps: its stack, its results, its facts.
+fn last_of(alloc: Global, steps: &[Step]) -> Result<String, AllocError> {
+    let (_, last) = steps.split_at(steps.len().saturating_sub(1));
+    states_of(alloc, last)
+}
+
+/// The last step of a glyph.
 fn end_of(alloc: Global, glyph: &[u8]) -> Result<String, Unread> {
     let steps = steps_with(alloc, &[], glyph)?;
-    let (_, last) = steps.as_slice().split_at(steps.len().saturating_sub(1));
-    Ok(states_of(alloc, last)?)
+    Ok(last_of(alloc, steps.as_slice())?)
 }
 
 /// The glyphs have the last steps beside them.
 fn assert_ends(rt: &impl Abort, alloc: Global, cases: &[(&[u8], &str)]) -> Result<(), Fail> {
     for (glyph, want) in cases {
-        let end = end_of(alloc, glyph)?;
-        assert_eq!(rt; end.as_str(), *want, "of {glyph:?}");
+        assert_returned(rt, end_of(alloc, glyph), want, "by the list", glyph)?;
     }
     Ok(())
 }
@@ -65,7 +70,7 @@ const RESULTS: &[(&[u8], &str)] = &[
     ),
     // 7 8 2 0: another count
     (b"\x92\x93\x8d\x8b\x0c\x10\x0c\x11", "- end [ 7 ] 1\n"),
-    // 0 1 and 0 2: nothing is given, nothing waits
+    // 0 1 and 0 2: nothing is passed, nothing waits
     (b"\x8b\x8c\x0c\x10", "- end [ ] 0\n"),
     (b"\x8b\x8d\x0c\x10\x0c\x11", "- end [ ] 0\n"),
     // 5 1 3: hint replacement
@@ -73,7 +78,7 @@ const RESULTS: &[(&[u8], &str)] = &[
     // 1 2 2 12 and 1 2 2 13: counter control
     (b"\x8c\x8d\x8d\x97\x0c\x10", "- end [ ] 0\n"),
     (b"\x8c\x8d\x8d\x98\x0c\x10", "- end [ ] 0\n"),
-    // 1 2 2 9: an OtherSubr that isn't known gives its arguments back
+    // 1 2 2 9: an OtherSubr that isn't known returns its arguments
     (b"\x8c\x8d\x8d\x94\x0c\x10\x0c\x11", "- end [ 1 ] 1\n"),
     // 7 1, and a half: so does a number that isn't whole
     (
@@ -85,7 +90,7 @@ const RESULTS: &[(&[u8], &str)] = &[
         b"\x92\x8c\x94\x0c\x10\x93\x8b\x8c\x0c\x10",
         "- end [ 8 ] 0\n",
     ),
-    // 6 7 8 2 9: what isn't asked for stays
+    // 6 7 8 2 9: what isn't requested stays
     (b"\x91\x92\x93\x8d\x94\x0c\x10", "- end [ 6 ] 2\n"),
     // pop of nothing
     (b"\x91\x0c\x11", "- end [ 6 ] 0\n"),
@@ -118,18 +123,23 @@ fn counts_that_are_not_good(rt: HostRuntime) -> Result<(), Fail> {
     assert_ends(&rt, rt.alloc(), COUNTS)
 }
 
+/// A glyph whose result waits while 25 numbers come, and the same with a pop.
+const FULL: &[(&[u8], &str)] = &[
+    (
+        b"\x92\x8c\x94\x0c\x10\
+\x8c\x8c\x8c\x8c\x8c\x8c\x8c\x8c\x8c\x8c\x8c\x8c\x8c\x8c\x8c\x8c\x8c\x8c\x8c\x8c\x8c\x8c\x8c\x8c\x8c",
+        "- end [ 1 1 1 1 1 1 1 1 1 1 1 1 1 1 1 1 1 1 1 1 1 1 1 1 ] 1\n",
+    ),
+    (
+        b"\x92\x8c\x94\x0c\x10\
+\x8c\x8c\x8c\x8c\x8c\x8c\x8c\x8c\x8c\x8c\x8c\x8c\x8c\x8c\x8c\x8c\x8c\x8c\x8c\x8c\x8c\x8c\x8c\x8c\x8c\
+\x0c\x11",
+        "- end [ 1 1 1 1 1 1 1 1 1 1 1 1 1 1 1 1 1 1 1 1 1 1 1 1 ] 0\n",
+    ),
+];
+
 /// A 25th number is dropped; a result that doesn't fit is taken and dropped.
 #[test]
 fn a_full_stack(rt: HostRuntime) -> Result<(), Fail> {
-    let mut glyph = Vec::from_slice(rt.alloc(), b"\x92\x8c\x94\x0c\x10")?;
-    for _ in 0..25 {
-        glyph.extend_from_slice(b"\x8c")?;
-    }
-    let full = "- end [ 1 1 1 1 1 1 1 1 1 1 1 1 1 1 1 1 1 1 1 1 1 1 1 1 ] ";
-    let text = end_of(rt.alloc(), glyph.as_slice())?;
-    assert_eq!(rt; text.as_str().strip_prefix(full), Some("1\n"));
-    glyph.extend_from_slice(b"\x0c\x11")?;
-    let text = end_of(rt.alloc(), glyph.as_slice())?;
-    assert_eq!(rt; text.as_str().strip_prefix(full), Some("0\n"));
-    Ok(())
+    assert_ends(&rt, rt.alloc(), FULL)
 }

@@ -1,20 +1,26 @@
 //! Glyphs of as many steps as an edition looks at, of one less, and of more. No chapter of the standard has the limit.
 
-use crate::machines::{Lines, told_of};
-use crate::traces::{steps_of, trace_of};
-use std::alloc::Global;
+use crate::machines::{Lines, returned_of};
+use crate::traces::{assert_returned, steps_of, trace_of};
+use std::alloc::{AllocError, Global};
+use std::process::Abort;
 use std::test::Fail;
-use t1_char::Edition;
+use t1_char::{Edition, Step};
 use t1_font::Unread;
 use t1_samples::{Sample, long_glyph};
+
+/// How many steps there are, and the line of the last.
+fn end_of(alloc: Global, steps: &[Step]) -> Result<String, AllocError> {
+    let count = steps.len();
+    let (_, last) = steps.split_at(count.saturating_sub(1));
+    let line = trace_of(alloc, last)?;
+    format!(in alloc; "{count} listed, {line}")
+}
 
 /// How many steps of a sample's second glyph are listed, and the line of the last.
 fn end_of_list(alloc: Global, sample: &Sample, edition: Edition) -> Result<String, Unread> {
     let steps = steps_of(alloc, sample, edition)?;
-    let count = steps.len();
-    let (_, last) = steps.as_slice().split_at(count.saturating_sub(1));
-    let line = trace_of(alloc, last)?;
-    Ok(format!(in alloc; "{count} listed, {line}")?)
+    Ok(end_of(alloc, steps.as_slice())?)
 }
 
 /// The edition, how many calls, how many times dotsection more, and what is listed.
@@ -30,13 +36,13 @@ const LISTED: &[(Edition, usize, usize, &str)] = &[
 fn steps_are_listed_to_the_first_past_the_limit(rt: HostRuntime) -> Result<(), Fail> {
     for (edition, calls, more, want) in LISTED {
         let sample = long_glyph(rt.alloc(), *calls, *more)?;
-        let listed = end_of_list(rt.alloc(), &sample, *edition)?;
-        assert_eq!(rt; listed.as_str(), *want);
+        let listed = end_of_list(rt.alloc(), &sample, *edition);
+        assert_returned(&rt, listed, want, "by the list", b"")?;
     }
     Ok(())
 }
 
-/// The edition, how many calls, how many times dotsection more, and each answer behind the steps.
+/// The edition, how many calls, how many times dotsection more, and each answer after the steps.
 const ENDED: &[(Edition, usize, usize, &str)] = &[
     (Edition::One, 11, 8332, "ended 100000\n"),
     (Edition::One, 12, 0, "ended 100001\n"),
@@ -55,13 +61,24 @@ const ENDED: &[(Edition, usize, usize, &str)] = &[
     ),
 ];
 
+/// A machine returns this answer three times.
+fn assert_three(
+    rt: &impl Abort,
+    alloc: Global,
+    sample: &Sample,
+    edition: Edition,
+    answer: &str,
+) -> Result<(), Fail> {
+    let want = format!(in alloc; "{answer}{answer}{answer}")?;
+    let told = returned_of(alloc, sample, edition, Lines::Ends);
+    assert_returned(rt, told, want.as_str(), "by a machine", b"")
+}
+
 #[test]
-fn the_end_and_the_limit_are_told_again(rt: HostRuntime) -> Result<(), Fail> {
+fn the_end_and_the_limit_are_returned_again(rt: HostRuntime) -> Result<(), Fail> {
     for (edition, calls, more, answer) in ENDED {
         let sample = long_glyph(rt.alloc(), *calls, *more)?;
-        let told = told_of(rt.alloc(), &sample, *edition, Lines::Ends)?;
-        let want = format!(in rt.alloc(); "{answer}{answer}{answer}")?;
-        assert_eq!(rt; told.as_str(), want.as_str());
+        assert_three(&rt, rt.alloc(), &sample, *edition, answer)?;
     }
     Ok(())
 }

@@ -1,7 +1,7 @@
-//! A glyph that is executed one step a call: its steps are those of the list, and the end is answered again. Type 1
+//! A glyph that is executed one step a call: its steps are those of the list, and the end is returned again. Type 1
 //! Font Format 1.1, chapter 6.
 
-use crate::traces::{glyph_count, push_line, push_state, with_subrs};
+use crate::traces::{Case, assert_machines, glyph_count, push_line, push_state, with_glyph};
 use std::alloc::{AllocError, Global};
 use std::test::Fail;
 use t1_char::{Answer, Edition, Machine, Numbers, Step, Turn};
@@ -13,25 +13,25 @@ use t1_samples::{Sample, font_of, opened};
 pub(super) enum Lines {
     Trace,
     States,
-    /// Nothing of the steps; each answer behind them, with the count of calls.
+    /// Nothing of the steps; each answer after them, with the count of calls.
     Ends,
-    /// The trace where numbers are passed, and the answer behind it.
+    /// The trace where numbers are passed, and the answer after it.
     Passed,
 }
 
-/// What a machine tells of a glyph with this charstring.
-pub(super) fn told_with(
+/// What a machine returns for a glyph with this charstring.
+pub(super) fn returned_with(
     alloc: Global,
     subrs: &[(u32, &[u8])],
     glyph: &[u8],
     lines: Lines,
 ) -> Result<String, Unread> {
-    let sample = with_subrs(alloc, subrs)?.glyph(b"A", glyph)?;
-    told_of(alloc, &sample, Edition::One, lines)
+    let sample = with_glyph(alloc, subrs, glyph)?;
+    returned_of(alloc, &sample, Edition::One, lines)
 }
 
-/// What a machine tells of a sample's second glyph.
-pub(super) fn told_of(
+/// What a machine returns for a sample's second glyph.
+pub(super) fn returned_of(
     alloc: Global,
     sample: &Sample,
     edition: Edition,
@@ -39,11 +39,11 @@ pub(super) fn told_of(
 ) -> Result<String, Unread> {
     let mut file = opened(alloc, sample)?;
     let font = font_of(alloc, &mut file)?;
-    Ok(told_in(alloc, &font, edition, lines)?)
+    Ok(returned_in(alloc, &font, edition, lines)?)
 }
 
-/// What is told of a font's second glyph.
-fn told_in(
+/// What a machine returns for a font's second glyph.
+fn returned_in(
     alloc: Global,
     font: &Font<'_>,
     edition: Edition,
@@ -52,10 +52,14 @@ fn told_in(
     if glyph_count(font) < 2 {
         return Ok(String::new(alloc));
     }
-    told_by(alloc, Machine::start(&*font, 1, edition), lines)
+    returned_by(alloc, Machine::start(&*font, 1, edition), lines)
 }
 
-fn told_by(alloc: Global, mut machine: Machine<'_>, lines: Lines) -> Result<String, AllocError> {
+fn returned_by(
+    alloc: Global,
+    mut machine: Machine<'_>,
+    lines: Lines,
+) -> Result<String, AllocError> {
     if let Lines::Passed = lines {
         return passed_by(alloc, machine);
     }
@@ -94,23 +98,35 @@ fn push_as(alloc: Global, text: &mut String, step: &Step, lines: Lines) -> Resul
     }
 }
 
-/// Adds the next answer, and how many calls there were.
-fn push_end(alloc: Global, text: &mut String, machine: &mut Machine<'_>) -> Result<(), AllocError> {
-    match machine.step() {
-        Turn::Step(step) => push_line(alloc, text, step)?,
-        Turn::Ended => text.push_str("ended ")?,
-        Turn::Limit(step) => {
-            text.push_str("limit ")?;
-            push_line(alloc, text, step)?;
-        }
+/// Adds the step past the limit.
+fn push_limit(alloc: Global, text: &mut String, step: &Step) -> Result<(), AllocError> {
+    text.push_str("limit ")?;
+    push_line(alloc, text, step)
+}
+
+/// Adds an answer.
+fn push_turn(alloc: Global, text: &mut String, turn: Turn<'_>) -> Result<(), AllocError> {
+    match turn {
+        Turn::Step(step) => push_line(alloc, text, step),
+        Turn::Ended => text.push_str("ended "),
+        Turn::Limit(step) => push_limit(alloc, text, step),
     }
-    let counted = machine.counted();
+}
+
+/// Adds how many calls there were.
+fn push_count(alloc: Global, text: &mut String, counted: u32) -> Result<(), AllocError> {
     let count = format!(in alloc; "{counted}\n")?;
     text.push_str(count.as_str())
 }
 
-/// Glyphs, and what is answered behind the end.
-const ENDS: &[(&[(u32, &[u8])], &[u8], &str)] = &[
+/// Adds the next answer, and how many calls there were.
+fn push_end(alloc: Global, text: &mut String, machine: &mut Machine<'_>) -> Result<(), AllocError> {
+    push_turn(alloc, text, machine.step())?;
+    push_count(alloc, text, machine.counted())
+}
+
+/// Glyphs, and what is returned after the end.
+const ENDS: &[Case<'static>] = &[
     (&[], b"\x8b\xf8\x88\x0d\x0e", "ended 5\nended 5\nended 5\n"),
     (&[], b"", "ended 2\nended 2\nended 2\n"),
     (
@@ -121,17 +137,13 @@ const ENDS: &[(&[(u32, &[u8])], &[u8], &str)] = &[
 ];
 
 #[test]
-fn the_end_is_told_again(rt: HostRuntime) -> Result<(), Fail> {
-    for (subrs, glyph, want) in ENDS {
-        let told = told_with(rt.alloc(), subrs, glyph, Lines::Ends)?;
-        assert_eq!(rt; told.as_str(), *want, "of {glyph:?}");
-    }
-    Ok(())
+fn the_end_is_returned_again(rt: HostRuntime) -> Result<(), Fail> {
+    assert_machines(&rt, rt.alloc(), Lines::Ends, ENDS)
 }
 
-/// Glyphs, and what is told of them where numbers are passed: a number in a Subr is passed too, and one that comes
-/// to a full stack is told.
-const PASSED: &[(&[(u32, &[u8])], &[u8], &str)] = &[
+/// Glyphs, and what is returned for them where numbers are passed. A number in a Subr is passed too, and one that
+/// comes to a full stack is returned.
+const PASSED: &[Case<'static>] = &[
     (
         &[],
         b"\x8b\xf8\x88\x0d\x0e",
@@ -151,9 +163,5 @@ const PASSED: &[(&[(u32, &[u8])], &[u8], &str)] = &[
 
 #[test]
 fn numbers_are_passed(rt: HostRuntime) -> Result<(), Fail> {
-    for (subrs, glyph, want) in PASSED {
-        let told = told_with(rt.alloc(), subrs, glyph, Lines::Passed)?;
-        assert_eq!(rt; told.as_str(), *want, "of {glyph:?}");
-    }
-    Ok(())
+    assert_machines(&rt, rt.alloc(), Lines::Passed, PASSED)
 }

@@ -1,9 +1,7 @@
 //! Steps of glyphs: calls, returns, ends, and the two facts of each step. Type 1 Font Format 1.1, chapter 6.
 
-use crate::machines::{Lines, told_of};
-use crate::traces::{
-    Case, assert_states, assert_traces, states_of, steps_of, steps_with, trace_of,
-};
+use crate::machines::{Lines, returned_of};
+use crate::traces::{Case, assert_lines, assert_returned, listed_of, steps_with};
 use std::alloc::{AllocError, Global};
 use std::process::Abort;
 use std::test::Fail;
@@ -73,10 +71,10 @@ const CALLS_OF_SUBRS: &[Case<'static>] = &[
 
 #[test]
 fn calls_of_subrs(rt: HostRuntime) -> Result<(), Fail> {
-    assert_traces(&rt, rt.alloc(), CALLS_OF_SUBRS)
+    assert_lines(&rt, rt.alloc(), Lines::Trace, CALLS_OF_SUBRS)
 }
 
-/// The tenth call, and the step behind it.
+/// The tenth call, and the step after it.
 #[test]
 fn the_tenth_call(rt: HostRuntime) -> Result<(), Fail> {
     let steps = steps_with(rt.alloc(), CALLS_ITSELF, CALLS)?;
@@ -92,16 +90,41 @@ fn calling(alloc: Global, charstrings: Charstrings, subr: &[u8]) -> Result<Sampl
         .glyph(b"A", CALLS)
 }
 
-/// The list of a sample's second glyph has these states, and a machine tells them too.
-fn assert_both(rt: &impl Abort, alloc: Global, sample: &Sample, want: &str) -> Result<(), Fail> {
-    let steps = steps_of(alloc, sample, Edition::One)?;
-    assert_eq!(rt; states_of(alloc, &steps)?.as_str(), want);
-    let told = told_of(alloc, sample, Edition::One, Lines::States)?;
-    assert_eq!(rt; told.as_str(), want, "by a machine");
-    let trace = trace_of(alloc, &steps)?;
-    let told = told_of(alloc, sample, Edition::One, Lines::Trace)?;
-    assert_eq!(rt; told.as_str(), trace.as_str(), "by a machine");
-    Ok(())
+/// The list of a sample's second glyph has this trace, and a machine returns the same.
+fn assert_both(
+    rt: &impl Abort,
+    alloc: Global,
+    sample: &Sample,
+    lines: Lines,
+    want: &str,
+) -> Result<(), Fail> {
+    assert_returned(
+        rt,
+        listed_of(alloc, sample, lines),
+        want,
+        "by the list",
+        CALLS,
+    )?;
+    assert_returned(
+        rt,
+        returned_of(alloc, sample, Edition::One, lines),
+        want,
+        "by a machine",
+        CALLS,
+    )
+}
+
+/// A machine returns the trace of the list of a sample's second glyph.
+fn assert_same_trace(rt: &impl Abort, alloc: Global, sample: &Sample) -> Result<(), Fail> {
+    let trace = listed_of(alloc, sample, Lines::Trace)?;
+    let told = returned_of(alloc, sample, Edition::One, Lines::Trace);
+    assert_returned(rt, told, trace.as_str(), "by a machine", CALLS)
+}
+
+/// The list has these states, a machine returns them too, and both return one trace.
+fn assert_states(rt: &impl Abort, alloc: Global, sample: &Sample, want: &str) -> Result<(), Fail> {
+    assert_both(rt, alloc, sample, Lines::States, want)?;
+    assert_same_trace(rt, alloc, sample)
 }
 
 /// The ways in which charstrings are enciphered.
@@ -117,15 +140,12 @@ fn enciphered_fonts(rt: HostRuntime) -> Result<(), Fail> {
     let want = "1 - 0\n2 - 500\n3 - hsbw\n4 - 5\n5 - callsubr\n6 5 return\n7 - endchar\n";
     for charstrings in CIPHERS {
         let sample = calling(rt.alloc(), *charstrings, b"\x0b")?;
-        let steps = steps_of(rt.alloc(), &sample, Edition::One)?;
-        assert_eq!(rt; trace_of(rt.alloc(), &steps)?.as_str(), want);
-        let told = told_of(rt.alloc(), &sample, Edition::One, Lines::Trace)?;
-        assert_eq!(rt; told.as_str(), want, "by a machine");
+        assert_both(&rt, rt.alloc(), &sample, Lines::Trace, want)?;
     }
     Ok(())
 }
 
-/// Subrs, and the states of their steps behind the call: what follows is read ahead.
+/// Subrs, and the states of their steps after the call: what follows is read ahead.
 const READ_AHEAD: &[(&[u8], &str)] = &[
     (b"\x0e\x0b", "5 endchar [ ] 0 last\n"),
     (b"\x0e\x0b\x0b", "5 endchar [ ] 0\n"),
@@ -136,15 +156,30 @@ const READ_AHEAD: &[(&[u8], &str)] = &[
     (b"", "5 end [ ] 0\n- endchar [ ] 0 last\n"),
 ];
 
-#[test]
-fn enciphered_subrs(rt: HostRuntime) -> Result<(), Fail> {
+/// The states of the steps up to the call, and of those after it.
+fn states_from_the_call(alloc: Global, states: &str) -> Result<String, AllocError> {
     let call =
         "- 0 [ ] 0\n- 500 [ 0 ] 0\n- hsbw [ 0 500 ] 0\n- 5 [ ] 0\n- callsubr [ 5 ] 0 found\n";
+    format!(in alloc; "{call}{states}")
+}
+
+/// A sample has these states after its call.
+fn assert_after_the_call(
+    rt: &impl Abort,
+    alloc: Global,
+    sample: &Sample,
+    states: &str,
+) -> Result<(), Fail> {
+    let want = states_from_the_call(alloc, states)?;
+    assert_states(rt, alloc, sample, want.as_str())
+}
+
+#[test]
+fn enciphered_subrs(rt: HostRuntime) -> Result<(), Fail> {
     for charstrings in CIPHERS {
         for (subr, states) in READ_AHEAD {
             let sample = calling(rt.alloc(), *charstrings, subr)?;
-            let want = format!(in rt.alloc(); "{call}{states}")?;
-            assert_both(&rt, rt.alloc(), &sample, want.as_str())?;
+            assert_after_the_call(&rt, rt.alloc(), &sample, states)?;
         }
     }
     Ok(())
@@ -156,7 +191,7 @@ fn a_glyph_shorter_than_len_iv(rt: HostRuntime) -> Result<(), Fail> {
     let sample = Sample::new(rt.alloc())?
         .key(b"/lenIV 4 def")?
         .glyph(b"A", b"\x8b\x0d\x0e")?;
-    assert_both(
+    assert_states(
         &rt,
         rt.alloc(),
         &sample,
@@ -176,7 +211,7 @@ const CUT: &[Case<'static>] = &[
 
 #[test]
 fn a_glyph_that_breaks_off(rt: HostRuntime) -> Result<(), Fail> {
-    assert_states(&rt, rt.alloc(), CUT)
+    assert_lines(&rt, rt.alloc(), Lines::States, CUT)
 }
 
 /// The glyph ends at endchar and seac, in a Subr too; a return outside a Subr does nothing.
@@ -198,7 +233,7 @@ const ENDS: &[Case<'static>] = &[
 
 #[test]
 fn ends_of_glyphs(rt: HostRuntime) -> Result<(), Fail> {
-    assert_traces(&rt, rt.alloc(), ENDS)
+    assert_lines(&rt, rt.alloc(), Lines::Trace, ENDS)
 }
 
 /// In a Subr `endchar return` is last, and `endchar return return` isn't; in the glyph itself only End
@@ -233,8 +268,8 @@ const BEHIND_THE_END: &[Case<'static>] = &[
 ];
 
 #[test]
-fn tokens_behind_the_end(rt: HostRuntime) -> Result<(), Fail> {
-    assert_states(&rt, rt.alloc(), BEHIND_THE_END)
+fn tokens_after_the_end(rt: HostRuntime) -> Result<(), Fail> {
+    assert_lines(&rt, rt.alloc(), Lines::States, BEHIND_THE_END)
 }
 
 /// A call takes its number off, whether it is made or not.
@@ -266,5 +301,5 @@ const RETURNS: &[(u32, &[u8])] = &[(5, b"\x0b")];
 
 #[test]
 fn calls_that_are_found(rt: HostRuntime) -> Result<(), Fail> {
-    assert_states(&rt, rt.alloc(), FOUND)
+    assert_lines(&rt, rt.alloc(), Lines::States, FOUND)
 }

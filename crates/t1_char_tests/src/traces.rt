@@ -3,7 +3,7 @@
 
 ghost use Rattle.std.specs.Prelude.{◌≡◌, length};
 
-use crate::machines::{Lines, told_with};
+use crate::machines::{Lines, returned_with};
 use std::alloc::{AllocError, Global};
 use std::process::Abort;
 use std::test::Fail;
@@ -54,7 +54,7 @@ fn push_path(alloc: Global, text: &mut String, path: &[u32]) -> Result<(), Alloc
     Ok(())
 }
 
-/// Adds a number of a stack: a whole one as it is, another in units of 1/65536 behind a `~`.
+/// Adds a number of a stack: a whole one as it is, another in units of 1/65536 after a `~`.
 fn push_entry(alloc: Global, text: &mut String, number: i64) -> Result<(), AllocError> {
     if number % 65536 == 0 {
         text.push_str(" ")?;
@@ -126,6 +126,14 @@ pub(super) fn states_of(alloc: Global, steps: &[Step]) -> Result<String, AllocEr
     Ok(text)
 }
 
+/// Lines of steps, as they are requested.
+fn lines_of(alloc: Global, steps: &[Step], lines: Lines) -> Result<String, AllocError> {
+    match lines {
+        Lines::States => states_of(alloc, steps),
+        _ => trace_of(alloc, steps),
+    }
+}
+
 /// The steps of a sample's second glyph.
 pub(super) fn steps_of(
     alloc: Global,
@@ -153,12 +161,21 @@ fn steps_in(alloc: Global, font: &Font<'_>, edition: Edition) -> Result<Vec<Step
 }
 
 /// A sound font with these Subrs.
-pub(super) fn with_subrs(alloc: Global, subrs: &[(u32, &[u8])]) -> Result<Sample, AllocError> {
+fn with_subrs(alloc: Global, subrs: &[(u32, &[u8])]) -> Result<Sample, AllocError> {
     let mut sample = Sample::new(alloc)?;
     for (number, code) in subrs {
         sample = sample.subr(*number, *code)?;
     }
     Ok(sample)
+}
+
+/// The same, with this glyph A.
+pub(super) fn with_glyph(
+    alloc: Global,
+    subrs: &[(u32, &[u8])],
+    glyph: &[u8],
+) -> Result<Sample, AllocError> {
+    with_subrs(alloc, subrs)?.glyph(b"A", glyph)
 }
 
 /// The steps of a glyph with this charstring, in a font with these Subrs.
@@ -167,51 +184,67 @@ pub(super) fn steps_with(
     subrs: &[(u32, &[u8])],
     glyph: &[u8],
 ) -> Result<Vec<Step>, Unread> {
-    let sample = with_subrs(alloc, subrs)?.glyph(b"A", glyph)?;
+    let sample = with_glyph(alloc, subrs, glyph)?;
     steps_of(alloc, &sample, Edition::One)
 }
 
-/// The states of the steps of a glyph with this charstring, in a font with these Subrs.
-fn states_with(alloc: Global, subrs: &[(u32, &[u8])], glyph: &[u8]) -> Result<String, Unread> {
-    let steps = steps_with(alloc, subrs, glyph)?;
-    Ok(states_of(alloc, &steps)?)
+/// The trace of the list of a sample's second glyph.
+pub(super) fn listed_of(alloc: Global, sample: &Sample, lines: Lines) -> Result<String, Unread> {
+    let steps = steps_of(alloc, sample, Edition::One)?;
+    Ok(lines_of(alloc, steps.as_slice(), lines)?)
 }
 
-/// The trace of a glyph with this charstring, in a font with these Subrs.
-fn trace_with(alloc: Global, subrs: &[(u32, &[u8])], glyph: &[u8]) -> Result<String, Unread> {
-    let steps = steps_with(alloc, subrs, glyph)?;
-    Ok(trace_of(alloc, &steps)?)
+/// The trace of the list of a glyph with this charstring.
+fn listed_with(
+    alloc: Global,
+    subrs: &[(u32, &[u8])],
+    glyph: &[u8],
+    lines: Lines,
+) -> Result<String, Unread> {
+    let sample = with_glyph(alloc, subrs, glyph)?;
+    listed_of(alloc, &sample, lines)
 }
 
 /// Subrs, a glyph, and what is written of its steps.
 pub(super) type Case<'a> = (&'a [(u32, &'a [u8])], &'a [u8], &'a str);
 
-/// The glyphs have the states of steps beside them.
-pub(super) fn assert_states(
+/// What was returned for a glyph, by a list or a machine, is this.
+pub(super) fn assert_returned(
     rt: &impl Abort,
-    alloc: Global,
-    cases: &[Case<'_>],
+    told: Result<String, Unread>,
+    want: &str,
+    by: &str,
+    glyph: &[u8],
 ) -> Result<(), Fail> {
-    for (subrs, glyph, want) in cases {
-        let states = states_with(alloc, subrs, glyph)?;
-        assert_eq!(rt; states.as_str(), *want, "of {glyph:?}");
-        let told = told_with(alloc, subrs, glyph, Lines::States)?;
-        assert_eq!(rt; told.as_str(), *want, "of {glyph:?}, by a machine");
-    }
+    let told = told?;
+    assert_eq!(rt; told.as_str(), want, "of {glyph:?}, {by}");
     Ok(())
 }
 
-/// The glyphs have the traces beside them.
-pub(super) fn assert_traces(
+/// The lists of the glyphs have the traces beside them, and machines return the same.
+pub(super) fn assert_lines(
     rt: &impl Abort,
     alloc: Global,
+    lines: Lines,
     cases: &[Case<'_>],
 ) -> Result<(), Fail> {
     for (subrs, glyph, want) in cases {
-        let trace = trace_with(alloc, subrs, glyph)?;
-        assert_eq!(rt; trace.as_str(), *want, "of {glyph:?}");
-        let told = told_with(alloc, subrs, glyph, Lines::Trace)?;
-        assert_eq!(rt; told.as_str(), *want, "of {glyph:?}, by a machine");
+        let listed = listed_with(alloc, subrs, glyph, lines);
+        assert_returned(rt, listed, want, "by the list", glyph)?;
+    }
+    assert_machines(rt, alloc, lines, cases)
+}
+
+/// Machines return what is beside the glyphs.
+pub(super) fn assert_machines(
+    rt: &impl Abort,
+    alloc: Global,
+    lines: Lines,
+    cases: &[Case<'_>],
+) -> Result<(), Fail> {
+    for (subrs, glyph, want) in cases {
+        let told = returned_with(alloc, subrs, glyph, lines);
+        assert_returned(rt, told, want, "by a machine", glyph)?;
     }
     Ok(())
 }

@@ -1,8 +1,9 @@
 //! What proofs don't show: that calls succeed, and that the definitions say what the standard and this
 //! program's own reading of fonts mean. Expected values are worked out by hand.
 //!
-//! A row of a table has a text, which is a part of its font, and a fact of that font, or why it isn't read. Fonts are
-//! read from the bytes of a file, by `OpenFont`; the tests of clear texts and of sections ask the parts below it.
+//! A row of a table has a text, which is a part of its font, and a fact of that font. Where the font isn't read, it
+//! has the reason. Fonts are read from the bytes of a file, by `OpenFont`; the tests of clear texts and of sections
+//! test the parts below it.
 
 mod charstrings;
 mod clear_texts;
@@ -28,7 +29,7 @@ const NO_CLEAR: &[u8] = b"%!\neexec\n";
 /// A private text that states nothing.
 const NO_PRIVATE: &[u8] = b"/CharStrings 0 dict dup begin end";
 
-/// Where a row's text stands in its font: between which words of which text. The other text states nothing.
+/// Where a row's text is in its font: between which words of which text. The other text states nothing.
 #[derive(Clone, Copy)]
 enum Part {
     Clear(&'static str, &'static str),
@@ -41,7 +42,7 @@ const CLEAR_LINES: Part = Part::Clear("%!\n", " eexec\n");
 /// The whole private text.
 const PRIVATE_TEXT: Part = Part::Private("", "");
 
-/// The lines of the private text in front of its CharStrings.
+/// The lines of the private text before its CharStrings.
 const PRIVATE_LINES: Part = Part::Private("", " /CharStrings 0 dict dup begin end");
 
 /// A fact of a font.
@@ -57,13 +58,13 @@ enum Fact {
     GlyphAt(usize, Option<(&'static [u8], &'static [u8])>),
     /// The glyph at a place is given twice, or isn't.
     GlyphTwice(usize, bool),
-    /// So many Subrs are told of.
+    /// The font has so many Subrs.
     SubrSize(u32),
     /// A Subr has that charstring, or isn't there.
     Subr(u32, Option<&'static [u8]>),
     /// A Subr is given twice, or isn't.
     SubrTwice(u32, bool),
-    /// So many random bytes stand in front of a charstring.
+    /// A charstring has so many random bytes before it.
     LenIv(i8),
     /// The Encoding has that form.
     Form(Encoding),
@@ -73,7 +74,7 @@ enum Fact {
     BadCode(bool),
     /// The file has no end segment, or has one.
     NoEnd(bool),
-    /// Bytes stand behind the end segment, or none.
+    /// Bytes are after the end segment, or none.
     Extra(bool),
 }
 

@@ -1,8 +1,8 @@
 //! Tests of the libraries from the devices up to the font, by their public items alone: one module a library.
 //!
-//! What stands here is what proofs don't show: that calls succeed, that the definitions say what the standard and
-//! this program's own reading of it mean, and what texts say. Expected values are worked out by hand, or come from
-//! another program.
+//! These tests show what proofs don't: that calls succeed, and what texts say. They also show that the definitions
+//! say what the standard and this program's own reading of it mean. Expected values are worked out by hand, or come
+//! from another program.
 //!
 //! | module | tests of |
 //! |---|---|
@@ -12,7 +12,7 @@
 //! | `scan` | t1_scan |
 //! | `font` | t1_font |
 //!
-//! They stand above the libraries since a crate with tests is proved twice, with them and without.
+//! They are above the libraries since a crate with tests is proved twice, with them and without.
 #![tactic(auto)]
 
 #[cfg(test)]

@@ -1,18 +1,27 @@
-//! The samples against the same bytes as another program writes them, and against t1_seal's readers: Type 1 Font
-//! Format 1.1, chapters 2, 5 and 7, and Technical Note 5040.
+//! The samples against the same bytes as another program writes them, and against t1_seal's readers. Sources: Type
+//! 1 Font Format 1.1, chapters 2, 5 and 7, and Technical Note 5040.
 
 use std::alloc::{AllocError, Global};
+use std::process::Abort;
 use std::test::Fail;
 use t1_samples::{CLEAR, Charstrings, END_SEGMENT, FontFile, Sample, TRAILER, charstring, eexec};
 use t1_seal::{join, open_eexec};
 
+/// What was written is these bytes.
+fn assert_written(
+    rt: &impl Abort,
+    written: Result<Vec<u8>, AllocError>,
+    bytes: &[u8],
+) -> Result<(), Fail> {
+    let written = written?;
+    assert_eq!(rt; written.as_slice(), bytes);
+    Ok(())
+}
+
 #[test]
 fn zeros_are_encrypted(rt: HostRuntime) -> Result<(), Fail> {
-    let section = eexec(rt.alloc(), [0; 4], b"")?;
-    let bytes = charstring(rt.alloc(), 4, b"")?;
-    assert_eq!(rt; section.as_slice(), b"\xd9\xd6\x6f\x63".as_slice());
-    assert_eq!(rt; bytes.as_slice(), b"\x10\xbf\x31\x70".as_slice());
-    Ok(())
+    assert_written(&rt, eexec(rt.alloc(), [0; 4], b""), b"\xd9\xd6\x6f\x63")?;
+    assert_written(&rt, charstring(rt.alloc(), 4, b""), b"\x10\xbf\x31\x70")
 }
 
 /// A private text and its section are of the same length but for the four bytes that are discarded.
@@ -26,18 +35,21 @@ fn sections_open(rt: HostRuntime) -> Result<(), Fail> {
 }
 
 /// The private text of a sample with a key, a Subr and a glyph.
-#[test]
-fn texts_are_written(rt: HostRuntime) -> Result<(), Fail> {
-    let text = Sample::new(rt.alloc())?
+fn text_of_all(alloc: Global) -> Result<Vec<u8>, AllocError> {
+    Sample::new(alloc)?
         .key(b"/BlueValues [0 25] def")?
         .subr(5, b"\x0b")?
         .glyph(b"A", b"\x0e")?
-        .private()?;
-    assert_eq!(rt;
-        text.as_slice(),
-        b"dup /Private 8 dict dup begin\n/password 5839 def\n/MinFeature {16 16} def\n/lenIV -1 def\n/BlueValues [0 25] def\n/Subrs 6 array\ndup 5 1 RD \x0b NP\nND\n2 index /CharStrings 4 dict dup begin\n/.notdef 5 RD \x8b\xf8\x88\x0d\x0e ND\n/A 1 RD \x0e ND\nend\n".as_slice()
-    );
-    Ok(())
+        .private()
+}
+
+#[test]
+fn texts_are_written(rt: HostRuntime) -> Result<(), Fail> {
+    assert_written(
+        &rt,
+        text_of_all(rt.alloc()),
+        b"dup /Private 8 dict dup begin\n/password 5839 def\n/MinFeature {16 16} def\n/lenIV -1 def\n/BlueValues [0 25] def\n/Subrs 6 array\ndup 5 1 RD \x0b NP\nND\n2 index /CharStrings 4 dict dup begin\n/.notdef 5 RD \x8b\xf8\x88\x0d\x0e ND\n/A 1 RD \x0e ND\nend\n",
+    )
 }
 
 /// The ways in which charstrings are encrypted, and the private text of a sample without Subrs.
@@ -62,8 +74,7 @@ fn without_subrs(alloc: Global, charstrings: Charstrings) -> Result<Vec<u8>, All
 #[test]
 fn charstrings_are_encrypted(rt: HostRuntime) -> Result<(), Fail> {
     for (charstrings, written) in ENCRYPTED {
-        let text = without_subrs(rt.alloc(), *charstrings)?;
-        assert_eq!(rt; text.as_slice(), *written);
+        assert_written(&rt, without_subrs(rt.alloc(), *charstrings), written)?;
     }
     Ok(())
 }
@@ -92,7 +103,7 @@ fn files_are_written(rt: HostRuntime) -> Result<(), Fail> {
             end: *end,
             ..FontFile::of(SHORT, b"end\n")
         };
-        assert_eq!(rt; file.pfb(rt.alloc())?.as_slice(), *bytes);
+        assert_written(&rt, file.pfb(rt.alloc()), bytes)?;
     }
     Ok(())
 }
@@ -103,18 +114,19 @@ fn hexadecimal_files_are_written(rt: HostRuntime) -> Result<(), Fail> {
         trailer: b"cleartomark\n",
         ..FontFile::of(SHORT, b"end\n0123456789")
     };
-    assert_eq!(rt;
-        file.pfa(rt.alloc())?.as_slice(),
-        b"%!\neexec\n\xd9\xd6\x6f\x63\x3a\x4c\x3c\x96\xa2\x8c\x7d\xd1\x53\x43\xe5\x48\xc2\x54cleartomark\n".as_slice()
-    );
-    assert_eq!(rt;
-        file.pfa_hexadecimal(rt.alloc())?.as_slice(),
-        b"%!\neexec\nd9d66\rf633a4\r\nc3c96a\n28c7dd\t 15343e 548c25\r4\ncleartomark\n".as_slice()
-    );
-    Ok(())
+    assert_written(
+        &rt,
+        file.pfa(rt.alloc()),
+        b"%!\neexec\n\xd9\xd6\x6f\x63\x3a\x4c\x3c\x96\xa2\x8c\x7d\xd1\x53\x43\xe5\x48\xc2\x54cleartomark\n",
+    )?;
+    assert_written(
+        &rt,
+        file.pfa_hexadecimal(rt.alloc()),
+        b"%!\neexec\nd9d66\rf633a4\r\nc3c96a\n28c7dd\t 15343e 548c25\r4\ncleartomark\n",
+    )
 }
 
-/// The private text in a PFB file with an end segment and nothing behind it, whose clear text is `CLEAR`.
+/// The private text in a PFB file with an end segment and nothing after it, whose clear text is `CLEAR`.
 fn private_in(alloc: Global, file: &[u8]) -> Result<Vec<u8>, Fail> {
     let joined = join(alloc, file)?;
     if !joined.pfb || !joined.end_segment || joined.trailing {

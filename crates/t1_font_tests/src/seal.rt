@@ -1,11 +1,11 @@
-//! Worked inputs, with answers from the format's definition and from another program's cipher: Type 1 Font Format
+//! Worked inputs, with results from the format's definition and from another program's cipher: Type 1 Font Format
 //! 1.1, chapter 7, and Technical Note 5040.
 
 use std::alloc::{AllocError, Global};
 use std::test::Fail;
 use t1_seal::{Cipher, Joined, SealError, join, open_eexec};
 
-/// Bytes that `join` takes, and what it answers for them.
+/// Bytes that `join` takes, and what it returns for them.
 struct Row {
     input: &'static [u8],
     bytes: &'static [u8],
@@ -116,11 +116,11 @@ fn refuses_short_sections(rt: HostRuntime) -> Result<(), Fail> {
 
 const PRIVATE: &[u8] = b"dup /Private 8 dict dup begin\n/password 5839 def\n";
 
-/// `PRIVATE` behind four zero bytes, enciphered by another program.
+/// `PRIVATE` after four zero bytes, enciphered by another program.
 const BINARY: &[u8] =
     b"\xd9\xd6\x6f\x63\x3b\x84\x6a\x98\x9b\x99\x74\xb0\x17\x9f\xc6\xcc\x44\x52\x95\x4d\x3a\x4f\xc2\x72\x59\x69\x99\xba\x87\x6c\xc6\x96\x18\x5c\xba\x93\x7e\x39\x13\x82\x90\x6a\x1e\x4a\x79\x96\xba\x19\x92\xda\x5d\x33\x77";
 
-/// The same in hexadecimal, with all six blanks among the digits and another byte behind them.
+/// The same in hexadecimal, with all six blanks among the digits and another byte after them.
 const HEXADECIMAL: &[u8] = b"\r\nd9D66 f63\t3b846a989b9974b0\r\n179fc6cc4452954d3a4fc2\0\
 72596999ba876cc69618\x0c5cba937e391382906a1e4a7996BA1992DA5D3377.41";
 

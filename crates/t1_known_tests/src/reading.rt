@@ -78,7 +78,7 @@ fn the_first_line_that_is_no_row_is_named(rt: HostRuntime) {
     }
 }
 
-/// Texts, and the first line of each whose key stands in an earlier one.
+/// Texts, and the first line of each whose key is in an earlier one.
 const TWICE: &[(&[u8], &[u8])] = &[
     (
         b"1 H02 glyph A a.pfb\n1 H02 glyph B a.pfb\n2 H02 glyph A a.pfb\nx",
@@ -91,7 +91,7 @@ const TWICE: &[(&[u8], &[u8])] = &[
 ];
 
 #[test]
-fn the_first_key_that_stands_twice_is_named(rt: HostRuntime) {
+fn the_first_key_that_is_there_twice_is_named(rt: HostRuntime) {
     for (text, line) in TWICE {
         match KnownFaults::read(rt.alloc(), text) {
             Err(NotKnown::Twice(found)) => assert!(rt; found == *line, "{text:?}"),

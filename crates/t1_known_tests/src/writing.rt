@@ -34,7 +34,7 @@ const READINGS: &[Reading<'static>] = &[
     },
 ];
 
-/// What is written anew where all rules are told.
+/// What is written anew where all rules are reported.
 const ALL_ANEW: &[u8] = b"\
 # Known faults: count, rule, unit, font.
 2 H02 glyph A a.pfb
@@ -45,7 +45,7 @@ const ALL_ANEW: &[u8] = b"\
 1 H02 glyph A new.pfb
 ";
 
-/// What is written anew where no rule of Z is told.
+/// What is written anew where no rule of Z is reported.
 const SOME_ANEW: &[u8] = b"\
 # Known faults: count, rule, unit, font.
 2 H02 glyph A a.pfb
@@ -121,11 +121,11 @@ b.pfb: known faults: H02 glyph A: 1 known, 0 found
 a.pfb: known faults: Z04 font BlueValues: 99999999999999999999999 known, 0 found
 ";
 
-/// The same where no rule of H is told.
+/// The same where no rule of H is reported.
 const SHORT_BUT_H: &[u8] =
     b"a.pfb: known faults: Z04 font BlueValues: 99999999999999999999999 known, 0 found\n";
 
-/// Which rows are no longer reached where no rule of these words is told.
+/// Which rows are no longer reached where no rule of these words is reported.
 fn short(rt: &HostRuntime, text: &mut Vec<u8>, except: &[&[u8]]) -> bool {
     let Ok(known) = KnownFaults::read(rt.alloc(), FILE) else {
         return false;

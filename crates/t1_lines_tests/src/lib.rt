@@ -1,6 +1,6 @@
 //! Tests of lines that are read back: of t1_lines, by its public items alone.
 //!
-//! What stands here is what proofs don't show: that the definitions say what lines look like, and that the texts of
+//! Here is what proofs don't show: that the definitions say what lines look like, and that the texts of
 //! refusals, which the libraries below derive for their errors, are those of lines. Expected values are worked out by
 //! hand.
 //!
@@ -9,7 +9,7 @@
 //! | `lines` | lines, and texts that are none |
 //! | `refusals` | the texts of errors of t1_seal and t1_font |
 //!
-//! They stand above the library since a crate with tests is proved twice, with them and without.
+//! They are above the library since a crate with tests is proved twice, with them and without.
 #![tactic(auto)]
 
 #[cfg(test)]

@@ -188,7 +188,7 @@ fn stops_where_the_output_fails(rt: HostRuntime) -> Result<(), Fail> {
 
 /// What isn't a font that was checked is reported too, as a folder that can't be searched.
 #[test]
-fn tells_what_was_not_checked(rt: HostRuntime) -> Result<(), Fail> {
+fn reports_what_was_not_checked(rt: HostRuntime) -> Result<(), Fail> {
     let mut text = Vec::new(rt.alloc());
     let mut told = Vec::new(rt.alloc());
     let mut form = Formatted::new(

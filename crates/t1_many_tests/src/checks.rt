@@ -43,7 +43,7 @@ struct Answer {
     told: Vec<u8>,
 }
 
-/// Checks the fonts of these names, of which all rules but C07 are told.
+/// Checks the fonts of these names, of which all rules but C07 are reported.
 fn check<'a>(
     alloc: Global,
     names: &[String],
@@ -84,7 +84,7 @@ fn names_of(alloc: Global, names: &[&str]) -> Result<Vec<String>, AllocError> {
 const FOUR_FAULTS: &[u8] = b"\xff\x00\x00\x7d\x01\x8b\x16\x09\x0e";
 
 /// A font that can't be opened and one whose waivers can't be stop no other; waivers leave out what they say; a refusal of a font or of
-/// its waivers stands among the lines.
+/// its waivers is among the lines.
 #[test]
 fn checks_fonts_one_after_another(rt: HostRuntime) -> Result<(), Fail> {
     let clean = Sample::new(rt.alloc())?.pfb()?;

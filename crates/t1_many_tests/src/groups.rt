@@ -18,12 +18,12 @@ use t1_summary::Found;
 /// The glyph of the number 32001, 0, hmoveto, and closepath twice, endchar.
 const FIVE_FAULTS: &[u8] = b"\xff\x00\x00\x7d\x01\x8b\x16\x09\x09\x0e";
 
-/// The group of a rule in the second glyph, behind `.notdef`.
+/// The group of a rule in the second glyph, after `.notdef`.
 fn group(rule: Rule) -> u64 {
     2 * 4_294_967_296 * 128 + u64::from(rule.number())
 }
 
-/// What is found in a font, of which all rules but C07 are told, and what is written of it.
+/// What is found in a font, of which all rules but C07 are reported, and what is written of it.
 #[derive(Drop)]
 struct Written {
     found: Counts,
@@ -62,7 +62,7 @@ fn write(alloc: Global, font: &Font<'_>) -> Result<Written, Fail>
     Ok(Written { found, taken, text })
 }
 
-/// P03 is found twice, and known once: so both of its lines are written. C05 is known, and C07 isn't told.
+/// P03 is found twice, and known once: so both of its lines are written. C05 is known, and C07 isn't reported.
 #[test]
 fn writes_what_goes_beyond(rt: HostRuntime) -> Result<(), Fail> {
     let sample = Sample::new(rt.alloc())?.glyph(b"A", FIVE_FAULTS)?;

@@ -1,4 +1,4 @@
-//! Tests of what is told of many fonts, by public items of t1_many alone. Expected values are worked out by hand.
+//! Tests of what is reported of many fonts, by public items of t1_many alone. Expected values are worked out by hand.
 #![tactic(auto)]
 
 #[cfg(test)]

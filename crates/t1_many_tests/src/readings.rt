@@ -1,4 +1,4 @@
-//! Fonts that are told by known faults, and fonts whose faults become known.
+//! Fonts that are reported by known faults, and fonts whose faults become known.
 
 ghost use Rattle.std.specs.Prelude.{◌≡◌, false, IfOk};
 
@@ -184,7 +184,7 @@ fn is_answered(answer: &Answer, text: &[u8]) -> bool {
 }
 
 #[test]
-fn tells_what_goes_beyond(rt: HostRuntime) -> Result<(), Fail> {
+fn reports_what_goes_beyond(rt: HostRuntime) -> Result<(), Fail> {
     let names = names(rt.alloc())?;
     let five = font_with(rt.alloc(), FIVE_FAULTS)?;
     let four = font_with(rt.alloc(), FOUR_FAULTS)?;
@@ -200,7 +200,7 @@ fn tells_what_goes_beyond(rt: HostRuntime) -> Result<(), Fail> {
 
 /// What is found becomes known, and no line is reported.
 #[test]
-fn tells_no_line_of_what_becomes_known(rt: HostRuntime) -> Result<(), Fail> {
+fn reports_no_line_of_what_becomes_known(rt: HostRuntime) -> Result<(), Fail> {
     let names = names(rt.alloc())?;
     let five = font_with(rt.alloc(), FIVE_FAULTS)?;
     let four = font_with(rt.alloc(), FOUR_FAULTS)?;

@@ -18,7 +18,8 @@ ends_so name end = bytes_eq (map to_ascii_lowercase (drop (length name - length 
 abbrev pub is_font_name : List ℕ → Bool
 is_font_name name = ends_so name (codes ".pfa") || ends_so name (codes ".pfb") || ends_so name (codes ".t1")
 
--- The name, from where the search begins, of what has this name in a folder: `.` isn't written, and one slash is between the two.
+-- The name, from where the search begins, of what has this name in a folder: `.` isn't written, and one slash is
+-- between the two.
 abbrev pub path_of : List ℕ → List ℕ → List ℕ
 path_of folder name =
     if bytes_eq folder (codes ".") then name
@@ -39,8 +40,8 @@ fonts_in folder (Font name ∷ entries) = path_of folder (string_bytes name) ∷
 abbrev pub unsearched_at : List ℕ → Bool → List (List ℕ)
 unsearched_at folder whole = if whole then [] else folder ∷ []
 
--- The fonts below these folders, which are searched from the last to the first and list what Lists says; and the folders that weren't listed
--- whole. n folders were listed before; once 2^64 - 1 were, none is listed any more.
+-- The fonts below these folders, which are searched from the last to the first and list what Lists says; and the
+-- folders that weren't listed whole. n folders were listed before; once 2^64 - 1 were, none is listed any more.
 pub data AreBelow {E : Type 0} (Lists : List ℕ → Result Listing E → Type 0) : ℕ → List (List ℕ) → List (List ℕ) → List (List ℕ) → Type 0 where
   none : (n : ℕ) → AreBelow Lists n [] [] []
   listed :

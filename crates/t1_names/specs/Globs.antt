@@ -20,7 +20,8 @@ pub record Glob : Type 0 where
 abbrev pub is_slash : ℕ → Bool
 is_slash c = c == 47
 
--- A character is in a set of these members: `a-z` are the characters from `a` to `z`, all else is itself, as a `-` at either end.
+-- A character is in a set of these members: `a-z` are the characters from `a` to `z`, all else is itself, as a `-` at
+-- either end.
 abbrev pub in_set : List ℕ → ℕ → Bool
 in_set [] c = false
 in_set (a ∷ []) c = c == a

@@ -46,8 +46,8 @@ line_end_count names = count_by has_line_end names
 abbrev pub included : List Glob → List (List ℕ) → List (List ℕ)
 included globs names = filter (λ name. not (is_excluded globs name)) names
 
--- The list that words make: each font once, without those that a glob excludes, and each folder once that wasn't searched whole. Names with a
--- line end are counted in place of being listed.
+-- The list that words make: each font once, without those that a glob excludes, and each folder once that wasn't
+-- searched whole. Names with a line end are counted in place of being listed.
 pub record AreNamed {E : Type 0} (IsFolder : List ℕ → Bool → Type 0) (Lists : List ℕ → Result Listing E → Type 0) (words : List (List ℕ))
     (globs : List Glob) (names unsearched : List (List ℕ)) (passed_over : ℕ) : Type 0 where
   pub founds : List Found

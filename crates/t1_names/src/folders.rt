@@ -49,7 +49,8 @@ fn ends_so(name: &[u8], end: &[u8]) -> bool
     name[start..].eq_ignore_ascii_case(end)
 }
 
-/// The fonts below a folder. `list` returns what is in a folder. No more than 2^64 - 1 folders are listed; those left then are unsearched.
+/// The fonts below a folder. `list` returns what is in a folder. No more than 2^64 - 1 folders are listed; those left
+/// then are unsearched.
 pub fn fonts_below<L>(alloc: Global, folder: &str, list: &L) -> Result<Below, AllocError>
 where
     L: Fn(&str) -> Result<Listing, AllocError>,

@@ -35,8 +35,8 @@ pub struct CharSet {
 /// - `*` matches any characters but `/`, `**` any characters;
 /// - `?` matches one character but `/`;
 /// - `[abc]` and `[a-z]` match one character of the set, `[!abc]` one that isn't in it; none of them matches `/`;
-/// - all else matches itself, and so does a `[` without an end before the next `/`. A set ends at the first `]` that isn't its first
-///   character.
+/// - all else matches itself, and so does a `[` without an end before the next `/`. A set ends at the first `]` that
+///   isn't its first character.
 ///
 /// A glob matches a whole name. One without `/` matches a name too whose last part it matches.
 #[derive(Drop)]

@@ -38,7 +38,8 @@ pub fn names_have_no_dot()
     ensures paths { NoDotInPaths }
 {}
 
-/// A text is read as one glob. `**` matches each name, `*` what has no slash, and a glob of plain characters just itself.
+/// A text is read as one glob. `**` matches each name, `*` what has no slash, and a glob of plain characters just
+/// itself.
 #[tactic(auto, using(crate::proofs::GlobLaws::one_reading, crate::proofs::GlobLaws::double_star_matches, crate::proofs::GlobLaws::star_stops, crate::proofs::GlobLaws::plain_is_itself))]
 pub fn globs_match()
     ensures reading { OneReading }

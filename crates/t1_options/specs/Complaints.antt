@@ -45,8 +45,8 @@ are_wrong values = not (is_empty values) && not (are_known (codes_of values))
 abbrev pub are_no_levels : List Text → Bool
 are_no_levels values = not (is_empty values) && not (are_levels (words_of values))
 
--- What can be wrong, in the order of the search: six values, combinations, a missing font, and then the shard, the codes, the
--- levels and the globs.
+-- What can be wrong, in the order of the search: six values, combinations, a missing font, and then the shard, the
+-- codes, the levels and the globs.
 abbrev pub checks_of : GivenValue → List (Bool × Complaint)
 checks_of given =
     (is_wrong number_in given.jobs, complaint.Jobs)

@@ -17,7 +17,7 @@ abbrev pub begins : ℕ → Text → Bool
 begins byte [] = false
 begins byte (first ∷ rest) = first == byte
 
--- A word that isn't UTF-8 is after a NUL, which no word has.
+-- A word that isn't UTF-8 is marked by a NUL before it, which no word has.
 abbrev pub is_marked : Text → Bool
 is_marked word = begins 0 word
 

@@ -2,7 +2,8 @@
 
 ghost use Rattle.t1_options.specs.Laws.{CodesChooseRules, LevelsChooseRules, MeantGoTogether, NoRefusalIsKnown, RulesAreKnown, ShardsAreParts, UsesCount};
 
-/// `--only` and `--except` accept the code of each rule and its letters, and nothing that begins with E: refusals are always printed.
+/// `--only` and `--except` accept the code of each rule and its letters, and nothing that begins with E: refusals are
+/// always printed.
 #[tactic(auto, using(crate::proofs::Known::rules_are_known, crate::proofs::Known::no_refusal_is_known))]
 pub fn rules_are_known()
     ensures rules { RulesAreKnown }
@@ -30,8 +31,8 @@ pub fn options_go_together()
     ensures { MeantGoTogether }
 {}
 
-/// If an option is given twice, as `--NAME=VALUE`, its last value counts; of `--only`, `--except`, `--level`, `--fail-on`, `--files-from` and
-/// `--exclude` both do, in their order.
+/// If an option is given twice, as `--NAME=VALUE`, its last value counts; of `--only`, `--except`, `--level`,
+/// `--fail-on`, `--files-from` and `--exclude` both do, in their order.
 #[tactic(auto, using(crate::proofs::Uses::uses_count))]
 pub fn uses_count()
     ensures { UsesCount }

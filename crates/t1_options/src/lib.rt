@@ -1,7 +1,7 @@
 //! The options of t1check-all, from the words of its command line.
 //!
-//! [`options`] reads the words. clap splits them into options and values; this crate judges the values and which options go together. The
-//! result is a [`Request`], or a `UsageError` with the text to print.
+//! [`options`] reads the words. clap splits them into options and values; this crate judges the values and which
+//! options go together. The result is a [`Request`], or a `UsageError` with the text to print.
 //!
 //! Promised:
 //!

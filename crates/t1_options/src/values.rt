@@ -60,7 +60,7 @@ fn begins(byte: u8, text: &[u8]) -> bool
     }
 }
 
-/// Whether a word begins with a NUL, as one does that isn't UTF-8: no word of a command line has a NUL.
+/// Whether a word begins with a NUL, which marks one that isn't UTF-8: no word of a command line has a NUL.
 pub fn is_marked(word: &str) -> bool
     ensures { result ≡ is_marked word.now }
 {

@@ -1,5 +1,5 @@
--- What the steps of a glyph draw: moves, lines, curves, and where a subpath is closed. Type 1 Font Format 1.1, chapters 6 and 8.
--- Which flex is drawn, and that a line or a curve without a move begins a subpath, is this project's own.
+-- What the steps of a glyph draw: moves, lines, curves, and where a subpath is closed. Type 1 Font Format 1.1, chapters
+-- 6 and 8. Which flex is drawn, and that a line or a curve without a move begins a subpath, is this project's own.
 use Rattle.std.specs.Prelude.{ℕ, ℤ, pos, ◌+◌, ◌&&◌, ◌||◌, not, if◌then◌else◌, Bool, Option, Some, None, List, [], ◌∷◌, ◌++◌, length, map, take}
 use Rattle.t1_char.specs.declared.command.Command.{Command as Commands}
 use Rattle.t1_char.specs.declared.command.Command.TheVariants.{Vlineto, Rlineto, Hlineto, Rrcurveto, Vhcurveto, Hvcurveto}
@@ -87,7 +87,8 @@ has_subpath before = since makes_subpath closing_step before
 abbrev pub with_opening : Bool → Point → List Segment → List Segment
 with_opening there start strokes = if there then strokes else Move start ∷ strokes
 
--- The two curves of a flex: from its start, through its points but the first, which is its reference point. Chapter 8.3.
+-- The two curves of a flex: from its start, through its points but the first, which is its reference point. Chapter
+-- 8.3.
 abbrev pub flex_curves : Bool → List Point → List Segment
 flex_curves there (start ∷ reference ∷ a ∷ b ∷ c ∷ d ∷ e ∷ f ∷ []) =
     with_opening there start (Curve a b c ∷ Curve d e f ∷ [])

@@ -67,8 +67,8 @@ composition_of steps = record { metrics = metrics_of steps; seac = seac_of steps
 abbrev pub part : ℕ → Point → Part
 part glyph point = record { glyph = glyph; origin = point }
 
--- A code names the glyph that has the code's name in StandardEncoding. It names none where it is no code (K01), has no name (K02),
--- or no glyph has that name (K03).
+-- A code names the glyph that has the code's name in StandardEncoding. It names none where it is no code (K01), has no
+-- name (K02), or no glyph has that name (K03).
 abbrev pub there_or_not : ℕ → Point → Option ℕ → SeacPart
 there_or_not code point None = NoGlyph code
 there_or_not code point (Some glyph) = There (part glyph point)
@@ -108,8 +108,8 @@ abbrev pub parts_of_both : Option SeacParts → List Part
 parts_of_both None = []
 parts_of_both (Some components) = part_of components.base ++ part_of components.accent
 
--- The parts of a glyph's picture: the glyph itself, its base and its accent. Each is drawn from its own steps; so a component has
--- no say in what else is drawn, and its own seac draws nothing.
+-- The parts of a glyph's picture: the glyph itself, its base and its accent. Each is drawn from its own steps; so a
+-- component has no say in what else is drawn, and its own seac draws nothing.
 abbrev pub parts_of : FontValue → ℕ → List StepView → List Part
 parts_of font glyph steps = part glyph origin ∷ parts_of_both (seac_parts_in font (composition_of steps))
 

@@ -1,5 +1,5 @@
-//! The outlines of glyphs, as the steps of their charstrings draw them: moves, lines, curves, and where a subpath is closed.
-//! Adobe Type 1 Font Format 1.1, chapters 6 and 8.
+//! The outlines of glyphs, as the steps of their charstrings draw them: moves, lines, curves, and where a subpath is
+//! closed. Adobe Type 1 Font Format 1.1, chapters 6 and 8.
 //!
 //! [`Pen`] sees the steps of a glyph one after another, and returns what each draws, at most three segments. It knows
 //! where the current point is, whether something was drawn and not closed, and which stems are in force: all by the

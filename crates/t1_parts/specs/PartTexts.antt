@@ -1,4 +1,5 @@
--- What was found in the fonts of a part, as a text: records of fonts, each by a letter and netstrings, and then the numbers of the tally.
+-- What was found in the fonts of a part, as a text: records of fonts, each by a letter and netstrings, and then the
+-- numbers of the tally.
 use Rattle.std.specs.Prelude.{◌≡◌, ◌≢◌, ◌++◌, ℕ, List, codes, Option, None, Some, Result, Ok, Err}
 use Rattle.std.specs.List.{flat_map}
 use Rattle.t1_parts.specs.Netstrings.{netstring}

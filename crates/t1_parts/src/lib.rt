@@ -1,7 +1,7 @@
 //! What was found in the fonts of a part of a list, as a text.
 //!
-//! A run over many fonts is split into parts, each checked by a process of its own. Each process writes what it found, a [`Part`], as a text.
-//! One more process reads these texts and joins the parts.
+//! A run over many fonts is split into parts, each checked by a process of its own. Each process writes what it found,
+//! a [`Part`], as a text. One more process reads these texts and joins the parts.
 //!
 //! [`write_part`] writes a record for each font with rows or waivers, and then the numbers of the tally:
 //!

@@ -20,7 +20,8 @@ pub fn write_lines<W: Sink>(lines: &[String], sink: &mut W) -> Result<(), Broken
     Ok(())
 }
 
-/// Reads what [`write_lines`] wrote. [`NotPart::NoPart`] is the error where a line isn't UTF-8, or the last one has no end.
+/// Reads what [`write_lines`] wrote. [`NotPart::NoPart`] is the error where a line isn't UTF-8, or the last one has no
+/// end.
 pub fn read_lines(alloc: Global, text: &[u8]) -> Result<Vec<String>, NotPart>
     ensures { AreLinesOf text.now result }
 {

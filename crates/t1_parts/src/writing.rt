@@ -17,8 +17,8 @@ use t1_many::Reading;
 use t1_summary::write_numbers;
 use t1_waiving::FontWaivers;
 
-/// Writes the text of a part. After a failure a prefix went out; else [`read_part`](crate::read_part) reads the text as this part, unless memory
-/// runs out.
+/// Writes the text of a part. After a failure a prefix went out; else [`read_part`](crate::read_part) reads the text as
+/// this part, unless memory runs out.
 pub fn write_part<W: Sink>(part: &Part, sink: &mut W) -> Result<(), Broken>
     ensures text { Writes (W.state sink.old) (W.state sink.new) (part_text (part_value part.now)) result }
     ensures part { OnOk result (IsTally part.now.tally → IsPart (part_value part.now)) }

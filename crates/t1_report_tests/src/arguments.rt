@@ -2,12 +2,12 @@
 //! and then just isn't.
 
 use crate::reports::{IN_A, assert_faults, faults_of_file};
-use std::alloc::Global;
+use std::alloc::{AllocError, Global};
 use std::test::Fail;
 use t1_samples::{CLEAR, FontFile};
 
-/// The faults of a font whose charstrings are encrypted, with this lenIV and this glyph A.
-fn encrypted_faults(alloc: Global, len_iv: &str, glyph: &[u8]) -> Result<String, Fail> {
+/// The private text of a font with this lenIV and this encrypted glyph `.notdef`.
+fn encrypted_text(alloc: Global, len_iv: &str, glyph: &[u8]) -> Result<Vec<u8>, AllocError> {
     let length = glyph.len();
     let mut private = format!(in alloc;
         "/password 5839 def /MinFeature {{16 16}} def /lenIV {len_iv} def \
@@ -16,30 +16,43 @@ fn encrypted_faults(alloc: Global, len_iv: &str, glyph: &[u8]) -> Result<String,
     .into_bytes();
     private.extend_from_slice(glyph)?;
     private.extend_from_slice(b" ND end")?;
-    let file = FontFile::of(CLEAR, private.as_slice()).pfa(alloc)?;
+    Ok(private)
+}
+
+/// The file of such a font.
+fn encrypted_file(alloc: Global, len_iv: &str, glyph: &[u8]) -> Result<Vec<u8>, AllocError> {
+    let private = encrypted_text(alloc, len_iv, glyph)?;
+    FontFile::of(CLEAR, private.as_slice()).pfa(alloc)
+}
+
+/// The faults of such a font.
+fn encrypted_faults(alloc: Global, len_iv: &str, glyph: &[u8]) -> Result<String, Fail> {
+    let file = encrypted_file(alloc, len_iv, glyph)?;
     faults_of_file(alloc, file.as_slice())
 }
 
-/// Four encrypted zero bytes, and then nothing or `0 500 hsbw endchar`; under lenIV 0 all bytes count.
+/// lenIV, an encrypted glyph, and the faults: four encrypted zero bytes, and then nothing or `0 500 hsbw endchar`.
+/// Under lenIV 0 all bytes count.
+const ENCRYPTED: &[(&str, &[u8], &str)] = &[
+    ("4", b"\x10\xbf\x31", ".notdef 1 C01, .notdef 2 GE01"),
+    ("4", b"\x10\xbf\x31\x70", ".notdef 1 GE01"),
+    ("4", b"\x10\xbf\x31\x70\x79\xc8\x2f\x06\x80", ""),
+    ("1", b"", ".notdef 1 C01, .notdef 2 GE01"),
+    ("0", b"", ".notdef 1 GE01"),
+    ("0", b"\x9b\x2c\x08\xa1\xd3", ""),
+];
+
 #[test]
-fn bytes_in_front_of_charstrings(rt: HostRuntime) -> Result<(), Fail> {
-    let cases: [(&str, &[u8], &str); 6] = [
-        ("4", b"\x10\xbf\x31", ".notdef 1 C01, .notdef 2 GE01"),
-        ("4", b"\x10\xbf\x31\x70", ".notdef 1 GE01"),
-        ("4", b"\x10\xbf\x31\x70\x79\xc8\x2f\x06\x80", ""),
-        ("1", b"", ".notdef 1 C01, .notdef 2 GE01"),
-        ("0", b"", ".notdef 1 GE01"),
-        ("0", b"\x9b\x2c\x08\xa1\xd3", ""),
-    ];
-    for (len_iv, glyph, faults) in cases {
+fn bytes_before_charstrings(rt: HostRuntime) -> Result<(), Fail> {
+    for (len_iv, glyph, faults) in ENCRYPTED {
         let found = encrypted_faults(rt.alloc(), len_iv, glyph)?;
-        assert_eq!(rt; found.as_str(), faults, "{len_iv} {glyph:?}");
+        assert_eq!(rt; found.as_str(), *faults, "{len_iv} {glyph:?}");
     }
     Ok(())
 }
 
-/// What breaks off behind endchar isn't executed: it is a token after the end. A command that isn't known
-/// clears the stack, but it isn't asked for its arguments, and hsbw may stand behind it.
+/// What breaks off after endchar isn't executed: it is a token after the end. A command that isn't known
+/// clears the stack, but its arguments aren't checked, and hsbw may be after it.
 const TOKENS_THAT_MEAN_NOTHING: &[(&str, &str)] = &[
     ("0 500 hsbw #255 #0 #0 #0", "A 4 C02, A 5 GE01"),
     ("0 500 hsbw #255 #0 #0 #0 #5 hmoveto endchar", ""),
@@ -81,7 +94,7 @@ const TOO_FEW_ARGUMENTS: &[(&str, &str)] = &[
     ("0 500 hsbw callsubr endchar", "A 4 C04"),
 ];
 
-/// What is too many is dropped, and isn't asked for its size. The end of a charstring takes no numbers.
+/// What is too many is dropped, and its size isn't checked. The end of a charstring takes no numbers.
 const TOO_MANY_ARGUMENTS: &[(&str, &str)] = &[
     ("0 500 hsbw 7 endchar", "A 5 C05"),
     ("0 500 hsbw endchar", ""),
@@ -140,8 +153,8 @@ const NUMBERS_OUT_OF_RANGE: &[(&str, &str)] = &[
     ("32001 hsbw endchar", "A 2 C04, A 2 C07"),
 ];
 
-/// A quotient is cut toward zero in 1/65536, and then asked for its size: 2097184001 / 65537 is less than
-/// 1/65536 above 32000, and 2097152001 / 65536 is 1/65536 above it. A quotient out of range is then 32000.
+/// A quotient is cut toward zero in 1/65536, and then its size is checked. 2097184001 / 65537 is less than 1/65536
+/// above 32000, and 2097152001 / 65536 is 1/65536 above it. A quotient out of range is then 32000.
 const QUOTIENTS: &[(&str, &str)] = &[
     ("0 500 hsbw 32001 1 div hmoveto endchar", "A 6 C08"),
     ("0 500 hsbw 32000 1 div hmoveto endchar", ""),

@@ -1,4 +1,4 @@
-//! Charstrings, given as words.
+//! Charstrings, written as words.
 
 use std::alloc::Global;
 use std::test::Fail;

@@ -51,8 +51,8 @@ const CALLS: &[(&str, &str, &str)] = &[
     ),
 ];
 
-/// A Subr ends with return or with the glyph; the glyph ends with endchar, in a Subr too. Behind endchar
-/// nothing may stand in its charstring, but for one return in a Subr.
+/// A Subr ends with return or with the glyph; the glyph ends with endchar, in a Subr too. After endchar
+/// nothing may be in its charstring, but for one return in a Subr.
 const ENDS: &[(&str, &str, &str)] = &[
     ("", "A: 0 500 hsbw return endchar", "A 4 S03"),
     ("", "A: 0 500 hsbw return", "A 4 S03, A 5 GE01"),

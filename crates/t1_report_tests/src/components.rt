@@ -66,7 +66,7 @@ const NESTED_SEACS: &[(&str, &str, &str)] = &[
     ),
 ];
 
-/// A component may stand behind the glyph that names it, and of a glyph that is given twice the later bytes
+/// A component may be after the glyph that names it, and of a glyph that is given twice the later bytes
 /// count.
 const ORDERS_OF_GLYPHS: &[(&str, &str)] = &[
     ("C: 0 500 hsbw 0 0 0 65 65 seac | A: 0 500 hsbw endchar", ""),

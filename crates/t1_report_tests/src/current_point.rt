@@ -82,7 +82,7 @@ const CURRENT_POINTS: &[(&str, &str)] = &[
     ),
 ];
 
-/// hsbw, sbw and setcurrentpoint set the point wherever they stand. Arguments are kept within 32000, and are
+/// hsbw, sbw and setcurrentpoint set the point wherever they are. Arguments are kept within 32000, and are
 /// those at the bottom of the stack.
 const POINTS_OF_FAULTY_COMMANDS: &[(&str, &str)] = &[
     (
@@ -139,7 +139,7 @@ const POINTS_OF_FAULTY_COMMANDS: &[(&str, &str)] = &[
 ];
 
 /// Subr 0 makes 42,837 moves: Subr 5 makes ten of them, and Subrs 4, 3 and 2 call the next one ten times.
-/// Subr 1 gives the seven points of a flex.
+/// Subr 1 has the seven points of a flex.
 const FAR_RIGHT: &str = "\
 0: 2 callsubr 2 callsubr 2 callsubr 2 callsubr 3 callsubr 3 callsubr 4 callsubr 4 callsubr \
 4 callsubr 4 callsubr 4 callsubr 4 callsubr 4 callsubr 4 callsubr 5 callsubr 5 callsubr 5 callsubr \

@@ -1,5 +1,5 @@
-//! The two editions of the rule book: stems of one edge, Type 1 Font Format 1.1, chapter 6, and how many steps are
-//! checked, which no chapter of the standard says.
+//! The two editions of the rule book: stems of one edge (Type 1 Font Format 1.1, chapter 6), and how many steps are
+//! checked. No chapter of the standard says how many.
 
 use crate::fonts::{LONG, MANY_STEMS, with_glyphs};
 use crate::reports::in_short;
@@ -8,7 +8,7 @@ use std::alloc::Global;
 use std::process::Abort;
 use std::test::Fail;
 use t1_char::Edition;
-use t1_font::Font;
+use t1_font::{Font, OpenFont, Unread};
 use t1_report::Waivers;
 use t1_samples::{font_of, long_glyph, opened};
 
@@ -18,13 +18,30 @@ fn faults_by(alloc: Global, font: &Font<'_>, edition: Edition) -> Result<String,
     in_short(alloc, font, &Waivers::none(), faults.as_slice())
 }
 
-/// The faults of a font with Subrs and glyphs by the first edition and by the second.
-fn by_each_edition(alloc: Global, subrs: &str, glyphs: &str) -> Result<(String, String), Fail> {
+/// The faults of a font with Subrs and glyphs by an edition.
+fn faults_in_edition(
+    alloc: Global,
+    subrs: &str,
+    glyphs: &str,
+    edition: Edition,
+) -> Result<String, Fail> {
     let mut file = opened(alloc, &with_glyphs(alloc, subrs, glyphs)?)?;
     let font = font_of(alloc, &mut file)?;
-    let first = faults_by(alloc, &font, Edition::One)?;
-    let second = faults_by(alloc, &font, Edition::Two)?;
-    Ok((first, second))
+    faults_by(alloc, &font, edition)
+}
+
+/// A font with Subrs and glyphs breaks these rules of an edition.
+fn assert_edition(
+    rt: &impl Abort,
+    alloc: Global,
+    subrs: &str,
+    glyphs: &str,
+    edition: Edition,
+    faults: &str,
+) -> Result<(), Fail> {
+    let found = faults_in_edition(alloc, subrs, glyphs, edition)?;
+    assert_eq!(rt; found.as_str(), faults, "{glyphs}, {edition:?}");
+    Ok(())
 }
 
 /// Subrs and glyphs, and the faults by the first edition and by the second.
@@ -33,17 +50,16 @@ type InEditions = (&'static str, &'static str, &'static str, &'static str);
 /// A font with Subrs and glyphs breaks the rules beside them.
 fn assert_editions(rt: &impl Abort, alloc: Global, cases: &[InEditions]) -> Result<(), Fail> {
     for (subrs, glyphs, first, second) in cases {
-        let (one, two) = by_each_edition(alloc, subrs, glyphs)?;
-        assert_eq!(rt; one.as_str(), *first, "{glyphs}, edition 1");
-        assert_eq!(rt; two.as_str(), *second, "{glyphs}, edition 2");
+        assert_edition(rt, alloc, subrs, glyphs, Edition::One, first)?;
+        assert_edition(rt, alloc, subrs, glyphs, Edition::Two, second)?;
     }
     Ok(())
 }
 
-/// What two stems that overlap are told as.
+/// What two stems that overlap are reported as.
 const OVERLAP: &str = "A 9 H02";
 
-/// A stem of one edge overlaps none before it, none behind it and none of its own step; it counts among the
+/// A stem of one edge overlaps none before it, none after it and none of its own step; it counts among the
 /// 96, and is compared with none where it is the 97th.
 const STEMS: &[InEditions] = &[
     (
@@ -142,7 +158,7 @@ fn long_components(rt: HostRuntime) -> Result<(), Fail> {
     assert_editions(&rt, rt.alloc(), COMPONENTS)
 }
 
-/// The faults of a font by the second edition, by a walk, and how often that asks machines.
+/// The faults of a font by the second edition, by a walk, and how often that requests steps.
 fn walked_in_short(alloc: Global, font: &Font<'_>) -> Result<(String, u64), Fail> {
     let (faults, turns) = walked(alloc, font, &Waivers::none(), Edition::Two)?;
     Ok((
@@ -151,26 +167,58 @@ fn walked_in_short(alloc: Global, font: &Font<'_>) -> Result<(String, u64), Fail
     ))
 }
 
-/// The faults of a font whose glyph A calls Subr 5 so often and goes on: in its report by the first edition, and by a
-/// walk by the second, with how often that asks machines.
-fn faults_of_a_long_glyph(
+/// A font breaks these rules: in its report by the first edition, and by a walk by the second, which requests steps so
+/// often.
+fn assert_long(
+    rt: &impl Abort,
     alloc: Global,
-    calls: usize,
-    more: usize,
-) -> Result<(String, (String, u64)), Fail> {
-    let mut file = opened(alloc, &long_glyph(alloc, calls, more)?)?;
-    let font = font_of(alloc, &mut file)?;
-    let first = faults_by(alloc, &font, Edition::One)?;
-    let second = walked_in_short(alloc, &font)?;
-    Ok((first, second))
+    font: &Font<'_>,
+    row: (usize, usize),
+    first: &str,
+    second: (&str, u64),
+) -> Result<(), Fail> {
+    assert_first(rt, alloc, font, row, first)?;
+    let (found, asked) = walked_in_short(alloc, font)?;
+    assert_eq!(rt; (found.as_str(), asked), second, "{row:?}, edition 2");
+    Ok(())
 }
 
-/// What is told of the limits.
+fn assert_first(
+    rt: &impl Abort,
+    alloc: Global,
+    font: &Font<'_>,
+    row: (usize, usize),
+    faults: &str,
+) -> Result<(), Fail> {
+    let found = faults_by(alloc, font, Edition::One)?;
+    assert_eq!(rt; found.as_str(), faults, "{row:?}, edition 1");
+    Ok(())
+}
+
+/// A font whose glyph A calls Subr 5 so often and goes on.
+fn opened_long(alloc: Global, calls: usize, more: usize) -> Result<OpenFont, Unread> {
+    opened(alloc, &long_glyph(alloc, calls, more)?)
+}
+
+/// The same of the font of a file.
+fn assert_long_file(
+    rt: &impl Abort,
+    alloc: Global,
+    file: &mut OpenFont,
+    row: (usize, usize),
+    first: &str,
+    second: (&str, u64),
+) -> Result<(), Fail> {
+    let font = font_of(alloc, file)?;
+    assert_long(rt, alloc, &font, row, first, second)
+}
+
+/// What is reported of the limits.
 const FIRST_LIMIT: &str = "A 100001 L01";
 
 const SECOND_LIMIT: &str = "A 1000001 L01";
 
-/// Calls and further steps; the faults by each edition, and how often a walk by the second asks machines. The
+/// Calls and further steps; the faults by each edition, and how often a walk by the second requests steps. The
 /// glyph `.notdef` takes five turns; the glyphs have 99,999 steps, 100,000, 100,001, and ten times as many.
 const LENGTHS: &[(usize, usize, &str, &str, u64)] = &[
     (11, 8_332, "", "", 100_005),
@@ -181,17 +229,19 @@ const LENGTHS: &[(usize, usize, &str, &str, u64)] = &[
     (120, 37, FIRST_LIMIT, SECOND_LIMIT, 1_000_006),
 ];
 
-/// The report of the first edition lists the steps of a glyph; by the second a walk alone is asked.
+/// The report of the first edition lists the steps of a glyph; by the second only a walk is tested.
 #[test]
 fn long_glyphs(rt: HostRuntime) -> Result<(), Fail> {
     for (calls, more, first, second, turns) in LENGTHS {
-        let (one, (two, asked)) = faults_of_a_long_glyph(rt.alloc(), *calls, *more)?;
-        assert_eq!(rt; one.as_str(), *first, "{calls} {more}, edition 1");
-        assert_eq!(rt;
-            (two.as_str(), asked),
-            (*second, *turns),
-            "{calls} {more}, edition 2"
-        );
+        let mut file = opened_long(rt.alloc(), *calls, *more)?;
+        assert_long_file(
+            &rt,
+            rt.alloc(),
+            &mut file,
+            (*calls, *more),
+            first,
+            (second, *turns),
+        )?;
     }
     Ok(())
 }

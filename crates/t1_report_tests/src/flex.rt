@@ -1,4 +1,4 @@
-//! Starts of flexes, and what stands inside and outside them, X01 to X03: Type 1 Font Format 1.1, chapter 8. Each
+//! Starts of flexes, and what is inside and outside them, X01 to X03: Type 1 Font Format 1.1, chapter 8. Each
 //! rule is broken, and then just isn't.
 
 use crate::reports::{WITH_POINTS, assert_faults};

@@ -1,11 +1,11 @@
-//! Points and ends of flexes, and setcurrentpoint behind them, X04 to X06: Type 1 Font Format 1.1, chapters 6 and 8.
+//! Points and ends of flexes, and setcurrentpoint after them, X04 to X06: Type 1 Font Format 1.1, chapters 6 and 8.
 //! Each rule is broken, and then just isn't.
 
 use crate::fonts::POINTS;
 use crate::reports::{Front, WITH_POINTS, assert_faults, assert_fonts};
 use std::test::Fail;
 
-/// One move stands in front of each point. Where one is missing or too many, each later point is faulted as
+/// One move is before each point. Where one is missing or too many, each later point is faulted as
 /// well, and the end.
 const PAIRS: &[(&str, &str)] = &[
     (
@@ -109,7 +109,7 @@ const ENDS_OF_FLEX: &[(&str, &str)] = &[
     ),
 ];
 
-/// Two pops, right behind the end of a flex, stand right in front of setcurrentpoint. An end outside a flex
+/// Two pops, right after the end of a flex, are right before setcurrentpoint. An end outside a flex
 /// serves as well, and has X02 already.
 const SETTINGS_OF_THE_POINT: &[(&str, &str, &str)] = &[
     ("", "A: 0 500 hsbw 0 0 setcurrentpoint endchar", "A 6 X06"),
@@ -192,7 +192,7 @@ const WITH_USUAL_SUBRS: Front = Front {
     glyphs: "A: ",
 };
 
-/// A serif with a flex, drawn as real fonts do it, and hint replacement in front of a second path.
+/// A serif with a flex, drawn as real fonts do it, and hint replacement before a second path.
 const USUAL_GLYPHS: &[(&str, &str)] = &[
     (
         "0 500 hsbw 0 20 hstem 100 0 rmoveto 1 callsubr 50 0 rmoveto 2 callsubr -40 0 rmoveto 2 callsubr \
@@ -207,7 +207,7 @@ const USUAL_GLYPHS: &[(&str, &str)] = &[
     ),
 ];
 
-/// Subr 2 gives 256 points, each behind its move, so that the flex has 263.
+/// Subr 2 has 256 points, each after its move, so that the flex has 263.
 const TOO_MANY_PAIRS: &[(&str, &str, &str)] = &[(
     "2: 3 callsubr 3 callsubr 3 callsubr 3 callsubr 3 callsubr 3 callsubr 3 callsubr 3 callsubr return |\
 3: 4 callsubr 4 callsubr 4 callsubr 4 callsubr 4 callsubr 4 callsubr 4 callsubr 4 callsubr return |\

@@ -1,34 +1,52 @@
-//! Fonts whose Subrs and glyphs are given as words, and Subrs that the glyphs of several tests call.
+//! Fonts whose Subrs and glyphs are written as words, and Subrs that the glyphs of several tests call.
 
 use crate::assembly::charstring;
 use std::alloc::Global;
 use std::test::Fail;
 use t1_samples::Sample;
 
-/// A sound font with these Subrs: each a number, a colon and words, with a bar in front of the next.
+/// A sound font with these Subrs: each a number, a colon and words, with a bar before the next.
 fn with_subrs(alloc: Global, subrs: &str) -> Result<Sample, Fail> {
     let mut sample = Sample::new(alloc)?;
     for subr in subrs.split('|') {
-        if let Some((number, words)) = subr.split_once(':') {
-            let number = number.trim().parse::<u32>()?;
-            sample = sample.subr(number, charstring(alloc, words)?.as_slice())?;
-        }
+        sample = with_subr(alloc, sample, subr)?;
     }
     Ok(sample)
 }
 
-/// A font with these Subrs and glyphs: each glyph a name, a colon and words, with a bar in front of the next.
+/// The sample with one more Subr, if a colon is in these words.
+fn with_subr(alloc: Global, sample: Sample, subr: &str) -> Result<Sample, Fail> {
+    match subr.split_once(':') {
+        Some((number, words)) => {
+            let number = number.trim().parse::<u32>()?;
+            let code = charstring(alloc, words)?;
+            Ok(sample.subr(number, code.as_slice())?)
+        }
+        None => Ok(sample),
+    }
+}
+
+/// A font with these Subrs and glyphs: each glyph a name, a colon and words, with a bar before the next.
 pub(super) fn with_glyphs(alloc: Global, subrs: &str, glyphs: &str) -> Result<Sample, Fail> {
     let mut sample = with_subrs(alloc, subrs)?;
     for glyph in glyphs.split('|') {
-        if let Some((name, words)) = glyph.split_once(':') {
-            sample = sample.glyph(name.trim().as_bytes(), charstring(alloc, words)?.as_slice())?;
-        }
+        sample = with_glyph(alloc, sample, glyph)?;
     }
     Ok(sample)
 }
 
-/// Subr 4 gives seven points of a flex, each behind a move by 1 to the right, and Subr 5 gives one.
+/// The sample with one more glyph, if a colon is in these words.
+fn with_glyph(alloc: Global, sample: Sample, glyph: &str) -> Result<Sample, Fail> {
+    match glyph.split_once(':') {
+        Some((name, words)) => {
+            let code = charstring(alloc, words)?;
+            Ok(sample.glyph(name.trim().as_bytes(), code.as_slice())?)
+        }
+        None => Ok(sample),
+    }
+}
+
+/// Subr 4 has seven points of a flex, each after a move by 1 to the right, and Subr 5 has one.
 pub(super) const POINTS: &str = "\
 4: 1 hmoveto 0 2 callothersubr 1 hmoveto 0 2 callothersubr 1 hmoveto 0 2 callothersubr \
 1 hmoveto 0 2 callothersubr 1 hmoveto 0 2 callothersubr 1 hmoveto 0 2 callothersubr \
@@ -61,8 +79,8 @@ pub(super) const MANY_STEMS: &str = "\
 81 1 vstem 82 1 vstem 83 1 vstem 84 1 vstem 85 1 vstem 86 1 vstem 87 1 vstem 88 1 vstem 89 1 vstem \
 90 1 vstem 91 1 vstem 92 1 vstem 93 1 vstem return";
 
-/// Subr 0 is 99,987 steps and a return: Subr 5 is ten times dotsection, and Subrs 4, 3 and 2 call the next one
-/// ten times.
+/// Subr 0 is 99,987 steps and a return. Subr 5 is ten times dotsection, and Subrs 4, 3 and 2 call the next one ten
+/// times.
 pub(super) const LONG: &str = "\
 0: 2 callsubr 2 callsubr 2 callsubr 2 callsubr 2 callsubr 2 callsubr 2 callsubr \
 3 callsubr 3 callsubr 3 callsubr 3 callsubr 4 callsubr 4 callsubr 4 callsubr 4 callsubr 4 callsubr \

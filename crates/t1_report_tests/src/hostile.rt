@@ -1,10 +1,9 @@
-//! Fonts that are made to take long, to nest deep, or to be great: `report` and a walk tell the same of each. The
+//! Fonts that are made to take long, to nest deep, or to be great: `report` and a walk return the same for each. The
 //! limits are Type 1 Font Format 1.1, chapter 6, and the program's own.
 
 use crate::reports::{in_short, lines_of};
-use crate::walks::{FIRST, both, six_answers_in};
+use crate::walks::{FIRST, assert_answers, both, with_glyph};
 use std::alloc::{AllocError, Global};
-use std::process::Abort;
 use std::test::Fail;
 use t1_char::Edition;
 use t1_font::{Font, OpenFont, Unread};
@@ -14,34 +13,35 @@ use t1_samples::{CLEAR, Charstrings, FontFile, Sample, TRAILER, add_times, font_
 /// How many glyphs a font has at most.
 const MOST_GLYPHS: u32 = 65_535;
 
-/// How often a machine is asked for a step of a glyph at most.
+/// How often a step of a glyph is requested at most.
 const MOST_TURNS: u64 = 100_001;
-
-/// A token a hundred times, and return.
-fn hundred_times(alloc: Global, token: [u8; 2]) -> Result<Vec<u8>, AllocError> {
-    let mut bytes = Vec::new(alloc);
-    add_times(&mut bytes, &token, 100)?;
-    bytes.push(0x0b)?;
-    Ok(bytes)
-}
 
 /// Ten Subrs: the last is a hundred times dotsection, and each other calls the next a hundred times.
 fn ten_subrs(alloc: Global) -> Result<Vec<u8>, AllocError> {
     let mut lines = Vec::from_slice(alloc, b"/Subrs 10 array\n")?;
     for number in 0..10u8 {
-        let token = if number < 9 {
-            [140 + number, 0x0a]
-        } else {
-            [0x0c, 0x00]
-        };
-        let bytes = hundred_times(alloc, token)?;
-        let head = format!(in alloc; "dup {number} 201 RD ")?;
-        lines.extend_from_slice(head.as_bytes())?;
-        lines.extend_from_slice(bytes.as_slice())?;
-        lines.extend_from_slice(b" NP\n")?;
+        add_subr(alloc, &mut lines, number)?;
     }
     lines.extend_from_slice(b"ND\n")?;
     Ok(lines)
+}
+
+/// Adds the line of one of them.
+fn add_subr(alloc: Global, lines: &mut Vec<u8>, number: u8) -> Result<(), AllocError> {
+    let token = if number < 9 {
+        [140 + number, 0x0a]
+    } else {
+        [0x0c, 0x00]
+    };
+    add_head(alloc, lines, number)?;
+    add_times(lines, &token, 100)?;
+    lines.extend_from_slice(b"\x0b NP\n")
+}
+
+/// Adds its number and its length.
+fn add_head(alloc: Global, lines: &mut Vec<u8>, number: u8) -> Result<(), AllocError> {
+    let head = format!(in alloc; "dup {number} 201 RD ")?;
+    lines.extend_from_slice(head.as_bytes())
 }
 
 /// A font whose glyph A, `0 500 hsbw 0 callsubr endchar`, would take more than 10^20 steps.
@@ -53,43 +53,90 @@ fn of_ten_subrs(alloc: Global) -> Result<OpenFont, Unread> {
     opened(alloc, &sample)
 }
 
-/// A font whose glyph A divides the least number by -1.
-fn of_a_great_quotient(alloc: Global) -> Result<OpenFont, Unread> {
-    let glyph = b"\x8b\xf8\x88\x0d\xff\x80\x00\x00\x00\x8a\x0c\x0c\x16\x0e";
-    let sample = Sample::new(alloc)?.glyph(b"A", glyph)?;
-    opened(alloc, &sample)
+/// A glyph that divides the least number by -1.
+const GREAT_QUOTIENT: &[u8] = b"\x8b\xf8\x88\x0d\xff\x80\x00\x00\x00\x8a\x0c\x0c\x16\x0e";
+
+/// The private text of a sample with encrypted charstrings.
+fn encrypted_text(alloc: Global) -> Result<Vec<u8>, AllocError> {
+    Sample::with_charstrings(alloc, Charstrings::Encrypted(4))?.private()
+}
+
+/// The same with a glyph A of three cipher bytes.
+fn text_of_a_short_glyph(alloc: Global) -> Result<Vec<u8>, AllocError> {
+    let whole = encrypted_text(alloc)?;
+    let front = whole.as_slice().strip_suffix(b"end\n").unwrap_or(b"");
+    let mut private = Vec::from_slice(alloc, front)?;
+    private.extend_from_slice(b"/A 3 RD \x10\xbf\x31 ND\nend\n")?;
+    Ok(private)
+}
+
+/// The file of a font with this private text and a trailer.
+fn with_trailer(alloc: Global, private: &[u8]) -> Result<Vec<u8>, AllocError> {
+    FontFile {
+        trailer: TRAILER,
+        ..FontFile::of(CLEAR, private)
+    }
+    .pfb(alloc)
+}
+
+/// The file of a font with lenIV 4, whose glyph A has three cipher bytes.
+fn file_of_a_short_glyph(alloc: Global) -> Result<Vec<u8>, AllocError> {
+    let private = text_of_a_short_glyph(alloc)?;
+    with_trailer(alloc, private.as_slice())
 }
 
 /// A font with lenIV 4, whose glyph A has three cipher bytes.
-fn of_a_short_glyph(alloc: Global) -> Result<OpenFont, Fail> {
-    let sample = Sample::with_charstrings(alloc, Charstrings::Encrypted(4))?;
-    let whole = sample.private()?;
-    let front = whole.as_slice().strip_suffix(b"end\n").ok_or("the end")?;
-    let mut private = Vec::from_slice(alloc, front)?;
-    private.extend_from_slice(b"/A 3 RD \x10\xbf\x31 ND\nend\n")?;
-    let file = FontFile {
-        trailer: TRAILER,
-        ..FontFile::of(CLEAR, private.as_slice())
-    }
-    .pfb(alloc)?;
-    Ok(OpenFont::open(alloc, file.as_slice())?)
+fn of_a_short_glyph(alloc: Global) -> Result<OpenFont, Unread> {
+    let file = file_of_a_short_glyph(alloc)?;
+    OpenFont::open(alloc, file.as_slice())
 }
 
-/// A font whose MinFeature is a procedure that nests so deep.
-fn of_a_deep_procedure(alloc: Global, depth: usize) -> Result<OpenFont, Unread> {
+/// The line of a MinFeature that is a procedure which nests so deep.
+fn deep_procedure(alloc: Global, depth: usize) -> Result<Vec<u8>, AllocError> {
     let mut key = Vec::from_slice(alloc, b"/MinFeature ")?;
     add_times(&mut key, b"{", depth)?;
     add_times(&mut key, b"}", depth)?;
     key.extend_from_slice(b" def")?;
-    let sample = Sample::new(alloc)?.key(key.as_slice())?;
-    opened(alloc, &sample)
+    Ok(key)
 }
 
-/// The faults of a font's report, which a walk gives too.
+/// A font whose MinFeature is such a procedure.
+fn of_a_deep_procedure(alloc: Global, depth: usize) -> Result<OpenFont, Unread> {
+    let key = deep_procedure(alloc, depth)?;
+    opened(alloc, &Sample::new(alloc)?.key(key.as_slice())?)
+}
+
+/// A font of this module.
+#[derive(Clone, Copy, Debug)]
+enum Hostile {
+    /// Glyph A has 100,001 steps that are looked at, the last of them in the last Subr.
+    TenSubrs,
+    /// The least number by minus one.
+    GreatQuotient,
+    /// A glyph shorter than lenIV.
+    ShortGlyph,
+    /// A procedure that nests so deep.
+    DeepProcedure(usize),
+    /// So many empty glyphs.
+    EmptyGlyphs(u32),
+}
+
+/// That font.
+fn opened_as(alloc: Global, hostile: Hostile) -> Result<OpenFont, Unread> {
+    match hostile {
+        Hostile::TenSubrs => of_ten_subrs(alloc),
+        Hostile::GreatQuotient => with_glyph(alloc, GREAT_QUOTIENT),
+        Hostile::ShortGlyph => of_a_short_glyph(alloc),
+        Hostile::DeepProcedure(depth) => of_a_deep_procedure(alloc, depth),
+        Hostile::EmptyGlyphs(count) => of_empty_glyphs(alloc, count),
+    }
+}
+
+/// The faults of a font's report, which a walk returns too.
 fn reported(alloc: Global, font: &Font<'_>) -> Result<Vec<Fault>, Fail> {
     let (faults, turns) = both(alloc, font, &Waivers::none(), Edition::One)?;
     if turns > MOST_TURNS.saturating_mul(font.glyphs().len() as u64) {
-        return Err(Fail::from("a walk asks machines too often"));
+        return Err(Fail::from("a walk requests steps too often"));
     }
     Ok(faults)
 }
@@ -97,43 +144,50 @@ fn reported(alloc: Global, font: &Font<'_>) -> Result<Vec<Fault>, Fail> {
 /// The faults of a font in short.
 fn faults_in(alloc: Global, file: &mut OpenFont) -> Result<String, Fail> {
     let font = font_of(alloc, file)?;
-    let faults = reported(alloc, &font)?;
-    in_short(alloc, &font, &Waivers::none(), faults.as_slice())
+    reported_in_short(alloc, &font)
+}
+
+fn reported_in_short(alloc: Global, font: &Font<'_>) -> Result<String, Fail> {
+    let faults = reported(alloc, font)?;
+    in_short(alloc, font, &Waivers::none(), faults.as_slice())
 }
 
 /// The lines of a font.
 fn lines_in(alloc: Global, file: &mut OpenFont) -> Result<String, Fail> {
     let font = font_of(alloc, file)?;
-    let faults = reported(alloc, &font)?;
-    lines_of(alloc, &font, &Waivers::none(), faults.as_slice())
+    reported_lines(alloc, &font)
 }
 
-/// A font breaks these rules, by its report and by a walk.
-fn assert_both(
-    rt: &impl Abort,
-    alloc: Global,
-    file: &mut OpenFont,
-    faults: &str,
-) -> Result<(), Fail> {
-    let found = faults_in(alloc, file)?;
-    assert_eq!(rt; found.as_str(), faults);
+fn reported_lines(alloc: Global, font: &Font<'_>) -> Result<String, Fail> {
+    let faults = reported(alloc, font)?;
+    lines_of(alloc, font, &Waivers::none(), faults.as_slice())
+}
+
+/// The faults of that font in short.
+fn faults_as(alloc: Global, hostile: Hostile) -> Result<String, Fail> {
+    let mut file = opened_as(alloc, hostile)?;
+    faults_in(alloc, &mut file)
+}
+
+/// Fonts, and the rules that each breaks by its report and by a walk.
+const FAULTS: &[(Hostile, &str)] = &[
+    (Hostile::TenSubrs, "A 0>1>2>3>4>5>6>7>8>9 100001 L01"),
+    (Hostile::GreatQuotient, "A 6 C08"),
+    (Hostile::ShortGlyph, "A 1 C01, A 2 GE01"),
+    (Hostile::DeepProcedure(32), "MinFeature 0 F08"),
+];
+
+#[test]
+fn hostile_fonts_break_their_rules(rt: HostRuntime) -> Result<(), Fail> {
+    for (hostile, faults) in FAULTS {
+        let found = faults_as(rt.alloc(), *hostile)?;
+        assert_eq!(rt; found.as_str(), *faults, "{hostile:?}");
+    }
     Ok(())
 }
 
-/// Glyph A has 100,001 steps that are looked at, the last of them in the last Subr.
-#[test]
-fn ten_subrs_that_call_the_next(rt: HostRuntime) -> Result<(), Fail> {
-    let mut file = of_ten_subrs(rt.alloc())?;
-    assert_both(
-        &rt,
-        rt.alloc(),
-        &mut file,
-        "A 0>1>2>3>4>5>6>7>8>9 100001 L01",
-    )
-}
-
-/// Marks, and six answers behind each with how often machines were asked: five times for .notdef, and
-/// 100,001 times for A, whose calls go on behind the limit.
+/// Marks, and six answers after each with how often steps were requested. They are requested five times for
+/// .notdef, and 100,001 times for A, whose calls go on after the limit.
 const AT_THE_LIMIT: &[(Mark, &str)] = &[
     (
         FIRST,
@@ -162,24 +216,7 @@ const AT_THE_LIMIT: &[(Mark, &str)] = &[
 #[test]
 fn walks_stop_at_the_limit(rt: HostRuntime) -> Result<(), Fail> {
     let mut file = of_ten_subrs(rt.alloc())?;
-    let font = font_of(rt.alloc(), &mut file)?;
-    for (mark, want) in AT_THE_LIMIT {
-        let found = six_answers_in(rt.alloc(), &font, *mark)?;
-        assert_eq!(rt; found.as_str(), *want, "from {mark:?}");
-    }
-    Ok(())
-}
-
-#[test]
-fn the_least_number_by_minus_one(rt: HostRuntime) -> Result<(), Fail> {
-    let mut file = of_a_great_quotient(rt.alloc())?;
-    assert_both(&rt, rt.alloc(), &mut file, "A 6 C08")
-}
-
-#[test]
-fn a_glyph_shorter_than_len_iv(rt: HostRuntime) -> Result<(), Fail> {
-    let mut file = of_a_short_glyph(rt.alloc())?;
-    assert_both(&rt, rt.alloc(), &mut file, "A 1 C01, A 2 GE01")
+    assert_answers(&rt, rt.alloc(), &mut file, AT_THE_LIMIT)
 }
 
 /// Why a font isn't read, if it isn't.
@@ -190,33 +227,54 @@ fn refusal_of(alloc: Global, file: &mut OpenFont) -> Option<Unread> {
     }
 }
 
-#[test]
-fn a_procedure_nested_32_deep(rt: HostRuntime) -> Result<(), Fail> {
-    let mut file = of_a_deep_procedure(rt.alloc(), 32)?;
-    assert_both(&rt, rt.alloc(), &mut file, "MinFeature 0 F08")
+/// The same of a font of this module.
+fn refusal_as(alloc: Global, hostile: Hostile) -> Result<Option<Unread>, Unread> {
+    let mut file = opened_as(alloc, hostile)?;
+    Ok(refusal_of(alloc, &mut file))
 }
 
+/// Fonts that aren't read, and why: a procedure that nests 33 deep, and one glyph more than there may be.
+const REFUSED: &[(Hostile, Unread)] = &[
+    (Hostile::DeepProcedure(33), Unread::Unclosed),
+    (Hostile::EmptyGlyphs(MOST_GLYPHS + 1), Unread::PastLimit),
+];
+
 #[test]
-fn a_procedure_nested_deeper(rt: HostRuntime) -> Result<(), Fail> {
-    let mut file = of_a_deep_procedure(rt.alloc(), 33)?;
-    assert_eq!(rt; refusal_of(rt.alloc(), &mut file), Some(Unread::Unclosed));
+fn fonts_past_a_limit_are_refused(rt: HostRuntime) -> Result<(), Fail> {
+    for (hostile, unread) in REFUSED {
+        assert_eq!(rt;
+            refusal_as(rt.alloc(), *hostile)?,
+            Some(*unread),
+            "{hostile:?}"
+        );
+    }
     Ok(())
 }
 
-/// The private text in front of the CharStrings' entries.
+/// The private text before the CharStrings' entries.
 const FRONT: &[u8] = b"dup /Private 8 dict dup begin\n/password 5839 def\n/MinFeature {16 16} def\n\
 /lenIV -1 def\n/Subrs 6 array\nND\n2 index /CharStrings 65535 dict dup begin\n";
 
 /// A font of so many empty glyphs, g0 and on, without .notdef.
 fn of_empty_glyphs(alloc: Global, count: u32) -> Result<OpenFont, Unread> {
-    let mut private = Vec::from_slice(alloc, FRONT)?;
-    for number in 0..count {
-        let line = format!(in alloc; "/g{number} 0 RD  ND\n")?;
-        private.extend_from_slice(line.as_bytes())?;
-    }
-    private.extend_from_slice(b"end\n")?;
+    let private = text_of_empty_glyphs(alloc, count)?;
     let file = FontFile::of(CLEAR, private.as_slice()).pfb(alloc)?;
     OpenFont::open(alloc, file.as_slice())
+}
+
+/// Its private text.
+fn text_of_empty_glyphs(alloc: Global, count: u32) -> Result<Vec<u8>, AllocError> {
+    let mut private = Vec::from_slice(alloc, FRONT)?;
+    for number in 0..count {
+        add_empty_glyph(alloc, &mut private, number)?;
+    }
+    private.extend_from_slice(b"end\n")?;
+    Ok(private)
+}
+
+fn add_empty_glyph(alloc: Global, text: &mut Vec<u8>, number: u32) -> Result<(), AllocError> {
+    let line = format!(in alloc; "/g{number} 0 RD  ND\n")?;
+    text.extend_from_slice(line.as_bytes())
 }
 
 /// The lines of the font of the most empty glyphs.
@@ -224,11 +282,15 @@ fn lines_of_empty_glyphs(alloc: Global) -> Result<String, AllocError> {
     let mut lines = String::new(alloc);
     lines.push_str("1: font CharStrings 0 F09 no .notdef\n")?;
     for number in 0..MOST_GLYPHS {
-        let place = number + 2;
-        let line = format!(in alloc; "{place}: glyph g{number} - 1 GE01 no endchar\n")?;
-        lines.push_str(line.as_str())?;
+        add_line(alloc, &mut lines, number, number + 2)?;
     }
     Ok(lines)
+}
+
+/// Adds the line of a glyph's fault, which has that place.
+fn add_line(alloc: Global, lines: &mut String, number: u32, place: u32) -> Result<(), AllocError> {
+    let line = format!(in alloc; "{place}: glyph g{number} - 1 GE01 no endchar\n")?;
+    lines.push_str(line.as_str())
 }
 
 /// Whether these are the lines of the most empty glyphs.
@@ -237,7 +299,7 @@ fn are_all_lines(alloc: Global, lines: &str) -> Result<bool, AllocError> {
     Ok(ends && lines == lines_of_empty_glyphs(alloc)?.as_str())
 }
 
-/// They are reported, and a walk gives them.
+/// They are reported, and a walk returns them.
 #[test]
 fn the_most_glyphs(rt: HostRuntime) -> Result<(), Fail> {
     let mut file = of_empty_glyphs(rt.alloc(), MOST_GLYPHS)?;
@@ -246,8 +308,8 @@ fn the_most_glyphs(rt: HostRuntime) -> Result<(), Fail> {
     Ok(())
 }
 
-/// Marks in the font of the most empty glyphs, and six answers behind each: a machine is asked twice for
-/// each glyph that is left behind, and once for the one in hand.
+/// Marks in the font of the most empty glyphs, and six answers after each. Steps are requested twice for each glyph
+/// that is finished, and once for the one in hand.
 const IN_EMPTY_GLYPHS: &[(Mark, &str)] = &[
     (
         Mark {
@@ -299,17 +361,5 @@ const IN_EMPTY_GLYPHS: &[(Mark, &str)] = &[
 #[test]
 fn walks_from_marks_in_the_most_glyphs(rt: HostRuntime) -> Result<(), Fail> {
     let mut file = of_empty_glyphs(rt.alloc(), MOST_GLYPHS)?;
-    let font = font_of(rt.alloc(), &mut file)?;
-    for (mark, want) in IN_EMPTY_GLYPHS {
-        let found = six_answers_in(rt.alloc(), &font, *mark)?;
-        assert_eq!(rt; found.as_str(), *want, "from {mark:?}");
-    }
-    Ok(())
-}
-
-#[test]
-fn one_glyph_more_is_refused(rt: HostRuntime) -> Result<(), Fail> {
-    let mut file = of_empty_glyphs(rt.alloc(), MOST_GLYPHS + 1)?;
-    assert_eq!(rt; refusal_of(rt.alloc(), &mut file), Some(Unread::PastLimit));
-    Ok(())
+    assert_answers(&rt, rt.alloc(), &mut file, IN_EMPTY_GLYPHS)
 }

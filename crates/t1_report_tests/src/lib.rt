@@ -1,9 +1,10 @@
-//! Tests of reports: of t1_report, and of the rules of t1_rules on charstrings, since each wants a whole glyph.
+//! Tests of reports: of t1_report, and of the rules of t1_rules on charstrings, since each needs a whole glyph.
 //!
-//! A row of a table has a made font and the faults of its report, in short: `A 12 K06, A 5>6 14 P01` is rule K06 at
-//! step 12 of glyph A, and P01 at step 14, in Subr 6, which Subr 5 called; `BlueValues 1 Z07` is Z07 at index 1 of
-//! that key. A font that breaks no rule has the empty text. `reports` takes this from the report's own lines, whose
-//! numbers and texts it compares. Whole lines stand where a test is about lines, or about their numbers.
+//! A row of a table has a made font and the faults of its report, in short. `A 12 K06, A 5>6 14 P01` is rule K06 at
+//! step 12 of glyph A, and P01 at step 14. That step is in Subr 6, which Subr 5 called. `BlueValues 1 Z07` is Z07
+//! at index 1 of that key. A font that breaks no rule has the empty text. `reports` takes this from the report's
+//! own lines, whose numbers and texts it compares. Whole lines are where a test is about lines, or about their
+//! numbers.
 //!
 //! Expected values are worked out by hand.
 //!

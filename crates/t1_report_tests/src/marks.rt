@@ -1,4 +1,4 @@
-//! Marks at a fault, between places where none stands, and past every unit, step and rule. No chapter of the
+//! Marks at a fault, between places where none is, and past every unit, step and rule. No chapter of the
 //! standard has marks.
 
 ghost use Rattle.t1_rules.specs.Components.{AreOf};
@@ -8,12 +8,12 @@ use std::alloc::{AllocError, Global};
 use std::test::Fail;
 use t1_char::Edition;
 use t1_font::{Font, OpenFont, Unread};
-use t1_report::{Mark, Waivers, Walk};
+use t1_report::{Fault, Mark, Waivers, Walk};
 use t1_rules::{Sidebearings, rule_code};
 use t1_samples::{Sample, font_of, opened};
 
-/// A font of seven faults: Z07 of its BlueValues and Z01 of its StdHW, C05, C07, W01 and P03 of glyph A,
-/// which is unit 2 and has five steps, and GE01 of the empty glyph B. The glyph .notdef has four steps.
+/// A font of seven faults. It has Z07 of its BlueValues and Z01 of its StdHW; GE01 is of the empty glyph B. Glyph
+/// A, which is unit 2 and has five steps, has C05, C07, W01 and P03. The glyph .notdef has four steps.
 fn seven_faults(alloc: Global) -> Result<OpenFont, Unread> {
     let sample = Sample::new(alloc)?
         .key(b"/BlueValues [0 26] def /StdHW 30 def")?
@@ -36,20 +36,30 @@ fn mark_at(number: u64, place: Place) -> Mark {
     }
 }
 
-/// Adds the rule of a walk's next fault, or `none`, and the mark behind it.
+/// Adds the rule of a walk's next fault, or `none`, and the mark after it.
 fn push_answer(alloc: Global, text: &mut String, walk: &mut Walk<'_>) -> Result<(), AllocError> {
-    match walk.next() {
-        Some(fault) => text.push_str(rule_code(fault.rule))?,
-        None => text.push_str("none")?,
+    text.push_str(code_of(walk.next()))?;
+    push_mark(alloc, text, walk.mark())
+}
+
+/// The code of a fault's rule, or `none`.
+fn code_of(answer: Option<Fault>) -> &'static str {
+    match answer {
+        Some(fault) => rule_code(fault.rule),
+        None => "none",
     }
+}
+
+/// Adds a mark.
+fn push_mark(alloc: Global, text: &mut String, mark: Mark) -> Result<(), AllocError> {
     let Mark {
         number,
         unit,
         step,
         rule,
-    } = walk.mark();
-    let mark = format!(in alloc; " {number} {unit} {step} {rule}, ")?;
-    text.push_str(mark.as_str())
+    } = mark;
+    let words = format!(in alloc; " {number} {unit} {step} {rule}, ")?;
+    text.push_str(words.as_str())
 }
 
 /// Two answers of a walk.
@@ -69,14 +79,14 @@ fn two_answers<'a>(
     Ok(text)
 }
 
-/// Two answers behind a mark.
-fn two_answers_behind(alloc: Global, font: &Font<'_>, mark: Mark) -> Result<String, AllocError> {
+/// Two answers after a mark.
+fn two_answers_after(alloc: Global, font: &Font<'_>, mark: Mark) -> Result<String, AllocError> {
     let sidebearings = Sidebearings::prepare(alloc, font, Edition::One)?;
     two_answers(alloc, &*font, &sidebearings, mark)
 }
 
-/// Whether a walk gives no fault, asked three times, and keeps its mark.
-fn gives_nothing<'a>(font: &'a Font<'a>, sidebearings: &'a Sidebearings, mark: Mark) -> bool
+/// Whether a walk returns no fault in three calls, and keeps its mark.
+fn returns_nothing<'a>(font: &'a Font<'a>, sidebearings: &'a Sidebearings, mark: Mark) -> bool
     requires { AreOf font.now sidebearings.now }
 {
     let waivers = Waivers::none();
@@ -88,13 +98,27 @@ fn gives_nothing<'a>(font: &'a Font<'a>, sidebearings: &'a Sidebearings, mark: M
     nothing
 }
 
-/// Whether no fault stands behind a mark.
+/// Whether no fault is after a mark.
 fn is_last(alloc: Global, font: &Font<'_>, mark: Mark) -> Result<bool, AllocError> {
     let sidebearings = Sidebearings::prepare(alloc, font, Edition::One)?;
-    Ok(gives_nothing(&*font, &sidebearings, mark))
+    Ok(returns_nothing(&*font, &sidebearings, mark))
 }
 
-/// Places, and the two answers behind the mark of each with number 5. The last step of the font's last key
+/// The two answers after a mark, of the font of seven faults.
+fn answers_of_seven(alloc: Global, mark: Mark) -> Result<String, Fail> {
+    let mut file = seven_faults(alloc)?;
+    let font = font_of(alloc, &mut file)?;
+    Ok(two_answers_after(alloc, &font, mark)?)
+}
+
+/// Whether no fault is after a mark, of the font of seven faults.
+fn is_last_of_seven(alloc: Global, mark: Mark) -> Result<bool, Fail> {
+    let mut file = seven_faults(alloc)?;
+    let font = font_of(alloc, &mut file)?;
+    Ok(is_last(alloc, &font, mark)?)
+}
+
+/// Places, and the two answers after the mark of each with number 5. The last step of the font's last key
 /// is 1,441,791.
 const PLACES: &[(&[Place], &str)] = &[
     (
@@ -156,18 +180,16 @@ const PLACES: &[(&[Place], &str)] = &[
 
 #[test]
 fn walks_from_any_place(rt: HostRuntime) -> Result<(), Fail> {
-    let mut file = seven_faults(rt.alloc())?;
-    let font = font_of(rt.alloc(), &mut file)?;
     for (places, want) in PLACES {
         for place in places.iter() {
-            let found = two_answers_behind(rt.alloc(), &font, mark_at(5, *place))?;
-            assert_eq!(rt; found.as_str(), *want, "behind {place:?}");
+            let found = answers_of_seven(rt.alloc(), mark_at(5, *place))?;
+            assert_eq!(rt; found.as_str(), *want, "after {place:?}");
         }
     }
     Ok(())
 }
 
-/// Numbers of marks, and the two answers behind each: a number stays at the greatest.
+/// Numbers of marks, and the two answers after each: a number stays at the greatest.
 const NUMBERS: &[(u64, &str)] = &[
     (0, "P03 1 2 4 45, GE01 2 3 1 39, "),
     (
@@ -186,16 +208,14 @@ const NUMBERS: &[(u64, &str)] = &[
 
 #[test]
 fn walks_from_any_number(rt: HostRuntime) -> Result<(), Fail> {
-    let mut file = seven_faults(rt.alloc())?;
-    let font = font_of(rt.alloc(), &mut file)?;
     for (number, want) in NUMBERS {
-        let found = two_answers_behind(rt.alloc(), &font, mark_at(*number, (2, 4, 44)))?;
-        assert_eq!(rt; found.as_str(), *want, "behind {number}");
+        let found = answers_of_seven(rt.alloc(), mark_at(*number, (2, 4, 44)))?;
+        assert_eq!(rt; found.as_str(), *want, "after {number}");
     }
     Ok(())
 }
 
-/// Places at the last fault and behind it: past its rule, its step, its glyph, and all units.
+/// Places at the last fault and after it: past its rule, its step, its glyph, and all units.
 const PAST: &[Place] = &[
     (3, 1, 39),
     (3, 1, 40),
@@ -217,14 +237,15 @@ const PAST: &[Place] = &[
     (u32::MAX, u32::MAX, 255),
 ];
 
+/// Numbers of the marks there.
+const MARK_NUMBERS: &[u64] = &[0, 7, u64::MAX];
+
 #[test]
 fn walks_from_past_the_last_fault(rt: HostRuntime) -> Result<(), Fail> {
-    let mut file = seven_faults(rt.alloc())?;
-    let font = font_of(rt.alloc(), &mut file)?;
     for place in PAST {
-        for number in [0, 7, u64::MAX] {
-            let mark = mark_at(number, *place);
-            assert!(rt; is_last(rt.alloc(), &font, mark)?, "{mark:?}");
+        for number in MARK_NUMBERS {
+            let mark = mark_at(*number, *place);
+            assert!(rt; is_last_of_seven(rt.alloc(), mark)?, "{mark:?}");
         }
     }
     Ok(())

@@ -1,26 +1,24 @@
 //! The order of lines: the font, then glyph by glyph, step by step, rule by rule. No chapter of the standard has it.
 
-use crate::assembly::charstring;
+use crate::fonts::with_glyphs;
 use crate::reports::lines_of_sample;
+use std::alloc::Global;
 use std::test::Fail;
-use t1_samples::Sample;
+
+/// The lines of the report of a font with faults of two keys, and of three glyphs.
+fn lines_of_each_place(alloc: Global) -> Result<String, Fail> {
+    let sample = with_glyphs(
+        alloc,
+        "5:",
+        "B: 0 500 hsbw 5 callsubr 0 0 0 65 65 seac endchar | A: 0 500 hsbw 1 endchar endchar | :",
+    )?
+    .key(b"/StdHW 30 def /BlueValues [0 26] def")?;
+    lines_of_sample(alloc, &sample)
+}
 
 #[test]
 fn lines_rise_by_unit_step_and_rule(rt: HostRuntime) -> Result<(), Fail> {
-    let alloc = rt.alloc();
-    let sample = Sample::new(alloc)?
-        .key(b"/StdHW 30 def /BlueValues [0 26] def")?
-        .subr(5, b"")?
-        .glyph(
-            b"B",
-            charstring(alloc, "0 500 hsbw 5 callsubr 0 0 0 65 65 seac endchar")?.as_slice(),
-        )?
-        .glyph(
-            b"A",
-            charstring(alloc, "0 500 hsbw 1 endchar endchar")?.as_slice(),
-        )?
-        .glyph(b"", b"")?;
-    let found = lines_of_sample(alloc, &sample)?;
+    let found = lines_of_each_place(rt.alloc())?;
     assert_eq!(rt;
         found.as_str(),
         "1: font BlueValues 1 Z07 zone too high for BlueScale\n\

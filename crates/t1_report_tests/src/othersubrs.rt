@@ -4,7 +4,7 @@
 use crate::reports::{IN_A, assert_faults, assert_fonts};
 use std::test::Fail;
 
-/// A number that isn't whole is unknown, and so is 65536 + 12. An unknown OtherSubr gives its arguments back,
+/// A number that isn't whole is unknown, and so is 65536 + 12. An unknown OtherSubr returns its arguments,
 /// the first one first.
 const UNKNOWN_OTHERSUBRS: &[(&str, &str, &str)] = &[
     ("", "A: 0 500 hsbw 0 4 callothersubr endchar", "A 6 O01"),
@@ -33,7 +33,7 @@ const UNKNOWN_OTHERSUBRS: &[(&str, &str, &str)] = &[
     ),
 ];
 
-/// The count is whole, not negative, and at most the numbers below it; else no other rule asks the OtherSubr.
+/// The count is whole, not negative, and at most the numbers below it; else no other rule checks the OtherSubr.
 /// With fewer than two numbers there is no count.
 const BAD_COUNTS: &[(&str, &str)] = &[
     ("0 500 hsbw 7 2 12 callothersubr hmoveto endchar", "A 7 O02"),
@@ -112,9 +112,8 @@ const RESULTS: &[(&str, &str, &str)] = &[
     ),
 ];
 
-/// Each OtherSubr is called with 0, 1, 2, 3 and 4 arguments, and then with one that isn't there: a call
-/// breaks O01, O02 or O03, or none of them, and never two. A point or an end of a flex that is one stands
-/// outside a flex here.
+/// Each OtherSubr is called with 0, 1, 2, 3 and 4 arguments, and then with one that isn't there. A call breaks O01,
+/// O02 or O03, or none of them, and never two. What is a point or an end of a flex is outside a flex here.
 const COUNTS: &[(&str, &str)] = &[
     (
         "0 500 hsbw 0 -1 callothersubr 0 1 -1 callothersubr 0 0 2 -1 callothersubr \

@@ -63,7 +63,7 @@ const PATHS: &[(&str, &str)] = &[
     ),
 ];
 
-/// The usual Subrs of a flex, and one that begins a flex and gives its seven points.
+/// The usual Subrs of a flex, and one that begins a flex and has its seven points.
 const FLEX: &str = "\
 0: 3 0 callothersubr pop pop setcurrentpoint return |\
 1: 0 1 callothersubr return |\
@@ -77,7 +77,7 @@ const WITH_FLEX: Front = Front {
     glyphs: "A: ",
 };
 
-/// The end of a flex draws, so that it wants a move in front of the flex and a closepath behind it. The
+/// The end of a flex draws, so that it needs a move before the flex and a closepath after it. The
 /// moves in a flex begin no path and end none.
 const PATHS_WITH_A_FLEX: &[(&str, &str)] = &[
     (

@@ -1,11 +1,11 @@
-//! Hint replacement, R01 and R02, and stems behind it: Type 1 Font Format 1.1, chapter 8. Each rule is broken, and
+//! Hint replacement, R01 and R02, and stems after it: Type 1 Font Format 1.1, chapter 8. Each rule is broken, and
 //! then just isn't.
 
 use crate::reports::assert_fonts;
 use std::test::Fail;
 
-/// A replacement begins the stems of both directions anew, and stems may stand behind drawing again. An
-/// OtherSubr 3 with two arguments replaces nothing. Subr 4 is the usual one, which is given a Subr's number.
+/// A replacement begins the stems of both directions anew, and stems may be after drawing again. An
+/// OtherSubr 3 with two arguments replaces nothing. Subr 4 is the usual one, whose argument is a Subr's number.
 const REPLACED_STEMS: &[(&str, &str, &str)] = &[
     (
         "5: 10 20 hstem return",

@@ -7,7 +7,7 @@ ghost use Rattle.t1_report.specs.Lines.{IsInFont};
 use crate::fonts::{POINTS, with_glyphs};
 use crate::machines::assert_same_steps;
 use crate::walks::assert_walks;
-use std::alloc::Global;
+use std::alloc::{AllocError, Global};
 use std::process::Abort;
 use std::test::Fail;
 use t1_char::Edition;
@@ -17,7 +17,7 @@ use t1_report::{Fault, Waivers, report, write_fault};
 use t1_rules::{Rule, rule_text};
 use t1_samples::{Sample, add_fault, font_of};
 
-/// Whether a fault has a line: it stands at a key of the font, in a glyph, or is that of a waiver.
+/// Whether a fault has a line: it is at a key of the font, in a glyph, or is that of a waiver.
 fn has_line(font: &Font<'_>, waivers: &Waivers<'_>, fault: &Fault) -> bool
     ensures { result ≡ true → IsInFont font.now waivers.now (fault_value fault.now) }
 {
@@ -84,13 +84,25 @@ fn short_of(alloc: Global, line: &str, number: u64, fault: &Fault) -> Result<Str
         _ => "glyph",
     };
     let front = format!(in alloc; "{number}: {kind} ")?;
-    let text = rule_text(fault.rule);
-    let back = format!(in alloc; " {text}\n")?;
-    let rest = line.strip_prefix(front.as_str()).ok_or("a number")?;
-    let place = rest.strip_suffix(back.as_str()).ok_or("a rule's text")?;
+    match place_in(line, front.as_str(), rule_text(fault.rule)) {
+        Some(place) => Ok(short_place(alloc, place)?),
+        None => Err(Fail::from("a number, or a rule's text")),
+    }
+}
+
+/// What a line has between a prefix and its rule's text.
+fn place_in<'a>(line: &'a str, front: &str, text: &str) -> Option<&'a str> {
+    line.strip_prefix(front)?
+        .strip_suffix("\n")?
+        .strip_suffix(text)?
+        .strip_suffix(" ")
+}
+
+/// A place without the `-` of a path without Subrs.
+fn short_place(alloc: Global, place: &str) -> Result<String, AllocError> {
     match place.split_once(" - ") {
-        Some((name, step)) => Ok(format!(in alloc; "{name} {step}")?),
-        None => Ok(String::from_str(alloc, place)?),
+        Some((name, step)) => format!(in alloc; "{name} {step}"),
+        None => String::from_str(alloc, place),
     }
 }
 
@@ -103,11 +115,35 @@ fn add_short(
     number: u64,
     fault: &Fault,
 ) -> Result<(), Fail> {
+    let short = short_fault(alloc, font, waivers, number, fault)?;
+    Ok(add_fault(faults, short.as_str())?)
+}
+
+/// A fault in short, which has that number.
+fn short_fault(
+    alloc: Global,
+    font: &Font<'_>,
+    waivers: &Waivers<'_>,
+    number: u64,
+    fault: &Fault,
+) -> Result<String, Fail> {
+    let line = line_of(alloc, font, waivers, fault)?;
+    match str::from_utf8(line.as_slice()) {
+        Ok(line) => short_of(alloc, line, number, fault),
+        Err(_) => Err(Fail::from("a line that isn't UTF-8")),
+    }
+}
+
+/// The line of a fault.
+fn line_of(
+    alloc: Global,
+    font: &Font<'_>,
+    waivers: &Waivers<'_>,
+    fault: &Fault,
+) -> Result<Vec<u8>, Fail> {
     let mut line = Vec::new(alloc);
     add_line(&mut line, font, waivers, fault)?;
-    let line = String::from_utf8(line)?;
-    let short = short_of(alloc, line.as_str(), number, fault)?;
-    Ok(add_fault(faults, short.as_str())?)
+    Ok(line)
 }
 
 /// The faults of a report in short.
@@ -126,7 +162,7 @@ pub(super) fn in_short(
     Ok(text)
 }
 
-/// From how many bytes on a file is long: walks execute its glyphs behind each fault again.
+/// From how many bytes on a file is long: walks execute its glyphs after each fault again.
 const LONG: usize = 3_200;
 
 /// The faults of the report of a file's font; a machine executes its glyphs as the report's lists say, and walks
@@ -143,8 +179,13 @@ fn reported(alloc: Global, font: &Font<'_>, length: usize) -> Result<Vec<Fault>,
 pub(super) fn faults_of_file(alloc: Global, bytes: &[u8]) -> Result<String, Fail> {
     let mut file = OpenFont::open(alloc, bytes)?;
     let font = font_of(alloc, &mut file)?;
-    let faults = reported(alloc, &font, bytes.len())?;
-    in_short(alloc, &font, &Waivers::none(), faults.as_slice())
+    reported_in_short(alloc, &font, bytes.len())
+}
+
+/// The faults of the font of a file of that length in short.
+fn reported_in_short(alloc: Global, font: &Font<'_>, length: usize) -> Result<String, Fail> {
+    let faults = reported(alloc, font, length)?;
+    in_short(alloc, font, &Waivers::none(), faults.as_slice())
 }
 
 /// The faults of a sample in short.
@@ -154,14 +195,22 @@ pub(super) fn faults_of_sample(alloc: Global, sample: &Sample) -> Result<String,
 
 /// The lines of a sample's report.
 pub(super) fn lines_of_sample(alloc: Global, sample: &Sample) -> Result<String, Fail> {
-    let bytes = sample.pfb()?;
-    let mut file = OpenFont::open(alloc, bytes.as_slice())?;
-    let font = font_of(alloc, &mut file)?;
-    let faults = reported(alloc, &font, bytes.len())?;
-    lines_of(alloc, &font, &Waivers::none(), faults.as_slice())
+    lines_of_file(alloc, sample.pfb()?.as_slice())
 }
 
-/// What stands in a font in front of a row's words: Subrs and glyphs, up to the name of the last glyph.
+fn lines_of_file(alloc: Global, bytes: &[u8]) -> Result<String, Fail> {
+    let mut file = OpenFont::open(alloc, bytes)?;
+    let font = font_of(alloc, &mut file)?;
+    reported_lines(alloc, &font, bytes.len())
+}
+
+/// The lines of the report of the font of a file of that length.
+fn reported_lines(alloc: Global, font: &Font<'_>, length: usize) -> Result<String, Fail> {
+    let faults = reported(alloc, font, length)?;
+    lines_of(alloc, font, &Waivers::none(), faults.as_slice())
+}
+
+/// What is in a font before a row's words: Subrs and glyphs, up to the name of the last glyph.
 #[derive(Clone, Copy)]
 pub(super) struct Front {
     pub(super) subrs: &'static str,
@@ -192,14 +241,20 @@ pub(super) const WITH_POINTS: Front = Front {
     glyphs: "A: ",
 };
 
-/// The faults of a font with these words behind a front.
-fn faults_behind(alloc: Global, front: Front, words: &str) -> Result<String, Fail> {
+/// The faults of a font with these words after a prefix.
+fn faults_after(alloc: Global, front: Front, words: &str) -> Result<String, Fail> {
     let before = front.glyphs;
     let glyphs = format!(in alloc; "{before}{words}")?;
-    faults_of_sample(alloc, &with_glyphs(alloc, front.subrs, glyphs.as_str())?)
+    faults_of_font(alloc, front.subrs, glyphs.as_str())
 }
 
-/// Fonts with words behind the same front break the rules beside them.
+/// The faults of a font with Subrs and glyphs.
+fn faults_of_font(alloc: Global, subrs: &str, glyphs: &str) -> Result<String, Fail> {
+    let sample = with_glyphs(alloc, subrs, glyphs)?;
+    faults_of_sample(alloc, &sample)
+}
+
+/// Fonts with words after the same prefix break the rules beside them.
 pub(super) fn assert_faults(
     rt: &impl Abort,
     alloc: Global,
@@ -207,7 +262,7 @@ pub(super) fn assert_faults(
     cases: &[(&str, &str)],
 ) -> Result<(), Fail> {
     for (words, faults) in cases {
-        let found = faults_behind(alloc, front, words)?;
+        let found = faults_after(alloc, front, words)?;
         assert_eq!(rt; found.as_str(), *faults, "{words}");
     }
     Ok(())
@@ -220,7 +275,7 @@ pub(super) fn assert_fonts(
     cases: &[(&str, &str, &str)],
 ) -> Result<(), Fail> {
     for (subrs, glyphs, faults) in cases {
-        let found = faults_of_sample(alloc, &with_glyphs(alloc, subrs, glyphs)?)?;
+        let found = faults_of_font(alloc, subrs, glyphs)?;
         assert_eq!(rt; found.as_str(), *faults, "{subrs} {glyphs}");
     }
     Ok(())

@@ -1,4 +1,4 @@
-//! Codes of an accented character's components, and what stands beside a seac, K01 to K03 and K06: Type 1 Font
+//! Codes of an accented character's components, and what is beside a seac, K01 to K03 and K06: Type 1 Font
 //! Format 1.1, chapter 6. Each rule is broken, and then just isn't.
 
 use crate::reports::{IN_C, NO_FRONT, assert_faults, assert_fonts};
@@ -43,7 +43,7 @@ const CODES_WITHOUT_A_NAME: &[(&str, &str)] = &[
 ];
 
 /// Codes 68, 69, 98 and 194 are D, E, b and acute, which aren't in the font. Of a component that isn't there
-/// nothing else is asked.
+/// nothing else is checked.
 const COMPONENTS_THAT_ARE_NOT_THERE: &[(&str, &str)] = &[
     ("0 500 hsbw 7 0 0 68 66 seac", "C 9 K03"),
     ("0 500 hsbw 9 0 0 65 68 seac", "C 9 K03"),
@@ -63,7 +63,7 @@ fn codes_of_seac(rt: HostRuntime) -> Result<(), Fail> {
     assert_faults(&rt, rt.alloc(), IN_C, COMPONENTS_THAT_ARE_NOT_THERE)
 }
 
-/// What draws, moves, or gives stems may not stand in front of a seac; the end of a flex draws, and an end
+/// What draws, moves, or adds stems may not be before a seac; the end of a flex draws, and an end
 /// outside a flex doesn't.
 const COMMANDS_BEFORE_SEAC: &[(&str, &str)] = &[
     ("0 500 hsbw 0 hmoveto 7 0 0 65 66 seac", "C 11 K06"),
@@ -122,7 +122,7 @@ const COMMANDS_BEFORE_SEAC: &[(&str, &str)] = &[
     ),
 ];
 
-/// Nothing else in front of a seac breaks the rule.
+/// Nothing else before a seac breaks the rule.
 const HARMLESS_BEFORE_SEAC: &[(&str, &str)] = &[
     ("0 500 hsbw 0 1 callothersubr 7 0 0 65 66 seac", "C 12 X03"),
     (
@@ -138,7 +138,7 @@ const HARMLESS_BEFORE_SEAC: &[(&str, &str)] = &[
     ("0 500 hsbw 7 0 0 65 66 seac 0 hmoveto endchar", "C 9 GE02"),
 ];
 
-/// What a Subr executes stands in front of the seac, and a seac may stand in a Subr.
+/// What a Subr executes is before the seac, and a seac may be in a Subr.
 const SUBRS_AND_SEAC: &[(&str, &str, &str)] = &[
     (
         "5: return",

@@ -67,7 +67,7 @@ const NUMBERS_OF_SIDEBEARINGS: &[(&str, &str)] = &[
     ),
 ];
 
-/// The first hsbw or sbw that is executed counts, wherever it stands.
+/// The first hsbw or sbw that is executed counts, wherever it is.
 const PLACES_OF_SIDEBEARINGS: &[(&str, &str, &str)] = &[
     (
         "",

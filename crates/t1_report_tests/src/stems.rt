@@ -4,7 +4,7 @@ use crate::fonts::{MANY_STEMS, POINTS};
 use crate::reports::{Front, IN_A, assert_faults, assert_fonts};
 use std::test::Fail;
 
-/// Whatever draws stands in front of the stem, closepath or not; a move draws nothing.
+/// Whatever draws is before the stem, closepath or not; a move draws nothing.
 const STEMS_AFTER_DRAWING: &[(&str, &str)] = &[
     (
         "0 500 hsbw 0 hmoveto 5 hlineto 0 20 hstem closepath endchar",
@@ -210,8 +210,8 @@ const WITH_MANY_STEMS: Front = Front {
     glyphs: "A: ",
 };
 
-/// 96 stems are kept in each direction: the 96th lies from 95 to 96, and the 97th, from 96 to 97, is compared,
-/// but no later stem is compared with it. A replacement makes room again.
+/// 96 stems are kept in each direction. The 96th lies from 95 to 96. The 97th, from 96 to 97, is compared, but no
+/// later stem is compared with it. A replacement makes room again.
 const STEMS_KEPT: &[(&str, &str)] = &[
     (
         "0 500 hsbw 4 callsubr 94 1 hstem 94 1 hstem endchar",

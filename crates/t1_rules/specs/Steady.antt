@@ -1,4 +1,5 @@
--- Watchers in the midst of a path, of which lines, curves and closepaths change nothing but the current point and what is drawn.
+-- Watchers in the midst of a path, of which lines, curves and closepaths change nothing but the current point and what
+-- is drawn.
 use Rattle.std.specs.Prelude.{◌≡◌, true, false, ◌+ℤ◌}
 use Rattle.t1_char.specs.declared.lines.Drawn.{Drawn}
 use Rattle.t1_char.specs.declared.lines.Drawn.TheVariants.{Nothing, Open, Closed}

@@ -170,8 +170,8 @@ impl Watches {
         self.seac.draw();
     }
 
-    /// What all watchers say of a step of this command. Calls, returns and stems have functions of their own, which don't save
-    /// the registers that other commands need.
+    /// What all watchers say of a step of this command. Calls, returns and stems have functions of their own, which
+    /// don't save the registers that other commands need.
     #[inline(always)]
     fn see_command(&mut self, command: Command, step: &Step) -> Mask
         requires token { IsCommand (step_view step.now) command }
@@ -187,7 +187,8 @@ impl Watches {
         }
     }
 
-    /// The same of any command. Lines, curves and closepaths come here where machines don't pass them, as before the first move.
+    /// The same of any command. Lines, curves and closepaths come here where machines don't pass them, as before the
+    /// first move.
     #[inline(never)]
     fn see_other(&mut self, command: Command, step: &Step) -> Mask
         requires token { IsCommand (step_view step.now) command }

@@ -16,7 +16,7 @@ pub(super) const CLEAR: &str =
 pub(super) const PRIVATE: &str = "/password 5839 def /MinFeature {16 16} def \
 /CharStrings 2 dict dup begin /.notdef 0 RD  ND /A 0 RD  ND end";
 
-/// Where a row's text stands in its font: between which words of which text. The other text breaks no rule.
+/// Where a row's text is in its font: between which words of which text. The other text breaks no rule.
 #[derive(Clone, Copy)]
 pub(super) enum Part {
     Clear(&'static str, &'static str),

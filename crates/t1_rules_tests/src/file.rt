@@ -6,7 +6,7 @@ use std::test::Fail;
 use t1_font::{OpenFont, Unread};
 use t1_samples::{CLEAR, FontFile, Sample};
 
-/// The faults of the sample in a PFB file with these bytes behind its last segment, or in a PFA file.
+/// The faults of the sample in a PFB file with these bytes after its last segment, or in a PFA file.
 fn faults_of_file(alloc: Global, end: Option<&[u8]>) -> Result<String, Unread> {
     let private = Sample::new(alloc)?.private()?;
     let file = FontFile::of(CLEAR, private.as_slice());

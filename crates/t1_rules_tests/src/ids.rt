@@ -56,7 +56,7 @@ const BOTH_IDS: &[(&str, &str, &str)] = &[
     ("5", "(5)", "PrivateUniqueID 0 F05"),
 ];
 
-/// Two numbers that differ are told, in range or not, and nothing else is.
+/// Two numbers that differ are reported, in range or not, and nothing else is.
 #[test]
 fn both_unique_ids(rt: HostRuntime) -> Result<(), Fail> {
     for (id, other, faults) in BOTH_IDS {

@@ -1,7 +1,7 @@
 //! Tests of the rule book and of the rules on fonts: of t1_rules, by its public items alone. Those of the rules on
 //! charstrings are in t1_report_tests, since each wants a whole glyph.
 //!
-//! What stands here is what proofs don't show: that calls succeed, that the definitions say what the standard and
+//! Here is what proofs don't show: that calls succeed, that the definitions say what the standard and
 //! this program's own reading of it mean, and what texts say. Expected values are worked out by hand.
 //!
 //! | module | tests of |
@@ -11,7 +11,7 @@
 //! | `entries`, `encoding`, `ids`, `glyphs`, `subrs` | rules on entries of the font, and on what they hold |
 //! | `zones`, `stems`, `hints` | rules on the numbers of the Private dictionary |
 //!
-//! `faults` is what they share. They stand above the library since a crate with tests is proved twice, with them and
+//! `faults` is what they share. They are above the library since a crate with tests is proved twice, with them and
 //! without.
 #![tactic(auto)]
 

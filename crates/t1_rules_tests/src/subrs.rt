@@ -3,7 +3,7 @@
 use crate::faults::{Part, assert_faults};
 use std::test::Fail;
 
-/// The size and the Subrs behind the word `/Subrs`.
+/// The size and the Subrs after the word `/Subrs`.
 const SUBRS: Part = Part::Private(
     "/password 5839 def /MinFeature {16 16} def /Subrs ",
     " ND /CharStrings 2 dict dup begin /.notdef 0 RD  ND /A 0 RD  ND end",

@@ -29,7 +29,8 @@ files_by {E} Gives = record {
 abbrev pub file_in : List ℕ → List ℕ
 file_in folder = path_join folder (codes ".t1check.toml")
 
--- The folder above a folder, by its name. The working folder, whose name is empty, has none, nor has a name that ends in `.` or `..`, nor `/`.
+-- The folder above a folder, by its name. The working folder, whose name is empty, has none, nor has a name that ends
+-- in `.` or `..`, nor `/`.
 abbrev pub above : List ℕ → Option (List ℕ)
 above folder = if is_some (path_file_name folder) then path_parent folder else None
 
@@ -58,8 +59,8 @@ found_value found = (string_bytes found.folder, found.text.items)
 abbrev pub dot_is_empty : List ℕ → List ℕ
 dot_is_empty folder = if bytes_eq folder (codes ".") then [] else folder
 
--- The search begins at the first path, as the names of fonts begin in lines: without `./` and the last slash. Without a path it begins at the
--- working folder.
+-- The search begins at the first path, as the names of fonts begin in lines: without `./` and the last slash. Without a
+-- path it begins at the working folder.
 abbrev pub BeginsAt : Option (List ℕ) → List ℕ → Type 0
 BeginsAt None start = start ≡ []
 BeginsAt (Some path) start = (trimmed : List ℕ) × Trims (λ name leads. leads ≡ true) path trimmed × (start ≡ dot_is_empty trimmed)

@@ -28,8 +28,8 @@ pub enum Unfound {
     Memory,
 }
 
-/// The nearest settings file, in this folder or above it, if there is one. `text_of` returns the text of a file: None where there is no such
-/// file.
+/// The nearest settings file, in this folder or above it, if there is one. `text_of` returns the text of a file: None
+/// where there is no such file.
 pub fn find_settings<T>(alloc: Global, start: &str, text_of: &T) -> Result<Option<Found>, Unfound>
 where
     T: Fn(&str) -> Option<io::Result<Vec<u8>>>,

@@ -1,7 +1,8 @@
 //! The settings of t1check-all, from a file `.t1check.toml`: they are words of a command line.
 //!
-//! [`settled_words`] finds the nearest file at or above the first path, reads it, and returns the words that its entries are: `--only=H02,Z` for
-//! `only = ["H02", "Z"]`. The program puts them before the words of the command line, so `t1_options` judges both alike.
+//! [`settled_words`] finds the nearest file at or above the first path, reads it, and returns the words that its
+//! entries are: `--only=H02,Z` for `only = ["H02", "Z"]`. The program puts them before the words of the command line,
+//! so `t1_options` judges both alike.
 //!
 //! Promised:
 //!

@@ -32,8 +32,8 @@ pub enum Unsettled {
     Memory,
 }
 
-/// The words that the settings are for a command line of these words, without the program's name, whose first path is this. `text_of` returns
-/// the text of a file: None where there is no such file.
+/// The words that the settings are for a command line of these words, without the program's name, whose first path is
+/// this. `text_of` returns the text of a file: None where there is no such file.
 pub fn settled_words<T>(
     alloc: Global,
     words: &[&str],

@@ -78,9 +78,9 @@ fn the_nearest_file_counts(rt: HostRuntime) -> Result<(), Fail> {
     Ok(())
 }
 
-/// A file that is there and can't be read is told by its name, and none above it is asked for.
+/// A file that is there and can't be read is reported by its name, and none above it is looked for.
 #[test]
-fn an_unreadable_file_is_told(rt: HostRuntime) -> Result<(), Fail> {
+fn an_unreadable_file_is_reported(rt: HostRuntime) -> Result<(), Fail> {
     let files: &[File<'_>] = &[("fonts/.t1check.toml", None), (".t1check.toml", Some(""))];
     let told = settled(rt.alloc(), &[], Some("fonts/a.pfb"), files)?;
     assert_eq!(rt;

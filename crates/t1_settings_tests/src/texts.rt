@@ -3,7 +3,7 @@
 use crate::tools::settled;
 use std::test::Fail;
 
-/// A text of the working folder's file, and the words that it is, or what is told.
+/// A text of the working folder's file, and the words that it is, or what is reported.
 const TEXTS: &[(&str, &str)] = &[
     ("", ""),
     ("# nothing\n\n", ""),
@@ -59,7 +59,7 @@ const TEXTS: &[(&str, &str)] = &[
         "[check]\nonly = 'H'\n",
         "t1check-all: .t1check.toml: unknown key check\n",
     ),
-    // The first in the order of the keys is told.
+    // The first in the order of the keys is reported.
     (
         "z = 1\nfoo = 1\nlevel = 1\n",
         "t1check-all: .t1check.toml: unknown key foo\n",
@@ -154,7 +154,7 @@ const GIVEN: &[(&[&str], &str)] = &[
         &["--level=", "--fail-on", "should"],
         "--baseline=k --edition=2 --except=Z --exclude=*.t1 --only=H",
     ),
-    // A word behind `--`, and one that only begins so, is no option.
+    // A word after `--`, and one that only begins so, is no option.
     (
         &[
             "--edition2",

@@ -24,7 +24,7 @@ fn text_of(alloc: Global, files: &[File<'_>], name: &str) -> Option<io::Result<V
     None
 }
 
-/// The words before those of a command line, with blanks between them, or what is told.
+/// The words before those of a command line, with blanks between them, or what is reported.
 pub(crate) fn settled(
     alloc: Global,
     words: &[&str],

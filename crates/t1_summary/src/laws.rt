@@ -2,8 +2,8 @@
 
 ghost use Rattle.t1_summary.specs.Laws.{ATallyIsReadBack, ATextIsOneTally, ClassesAddUp, EachCounts, FontsAddUp, LinesAddUp, RankingsAreOne, RankingsStand, RulesAddUp, TalliesCount};
 
-/// Each font is of one class, and each line of one rule. So the numbers of a tally sum to its fonts, and to its lines, if there are fewer than
-/// 2^64.
+/// Each font is of one class, and each line of one rule. So the numbers of a tally sum to its fonts, and to its lines,
+/// if there are fewer than 2^64.
 pub fn counts_add_up()
     ensures classes { ClassesAddUp }
     ensures rules { RulesAddUp }

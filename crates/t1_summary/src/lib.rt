@@ -1,7 +1,8 @@
-//! The summary of a run over many fonts: how many fonts were found clean, faulty and so on, and how many lines were reported of each rule.
+//! The summary of a run over many fonts: how many fonts were found clean, faulty and so on, and how many lines were
+//! reported of each rule.
 //!
-//! A [`Tally`] counts, and [`summary`] writes the numbers for a reader. [`write_numbers`] writes them for a program: [`read_numbers`] reads them
-//! back, so that the tallies of parts of a run can be joined.
+//! A [`Tally`] counts, and [`summary`] writes the numbers for a reader. [`write_numbers`] writes them for a program:
+//! [`read_numbers`] reads them back, so that the tallies of parts of a run can be joined.
 //!
 //! What is promised, for all tallies and all texts:
 //!

@@ -11,8 +11,8 @@ use itoa::Buffer;
 use t1_io::{Broken, Sink, put_parts};
 use t1_lines::cut;
 
-/// Writes the numbers of a tally, one a line, in decimal digits: those of fonts, in the order of [`Found`](crate::Found), then those of lines, in
-/// the order of the book. After a failure a prefix went out.
+/// Writes the numbers of a tally, one a line, in decimal digits: those of fonts, in the order of
+/// [`Found`](crate::Found), then those of lines, in the order of the book. After a failure a prefix went out.
 pub fn write_numbers<W: Sink>(tally: &Tally, sink: &mut W) -> Result<(), Broken>
     ensures { Writes (W.state sink.old) (W.state sink.new) (numbers_text tally.now) result }
 {
@@ -37,8 +37,8 @@ fn put_line<W: Sink>(number: u64, sink: &mut W) -> Result<(), Broken>
     put_parts(sink, &[Buffer::new().format(number).as_bytes(), b"\n"])
 }
 
-/// Reads what [`write_numbers`] wrote. None if there aren't exactly 75 lines, or a line isn't a number of 64 bits in decimal digits without
-/// leading zeros.
+/// Reads what [`write_numbers`] wrote. None if there aren't exactly 75 lines, or a line isn't a number of 64 bits in
+/// decimal digits without leading zeros.
 pub fn read_numbers(text: &[u8]) -> Option<Tally>
     ensures { IsRead text.now result }
 {

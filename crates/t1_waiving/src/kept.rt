@@ -13,7 +13,8 @@ use t1_report::LARGEST_WAIVERS;
 pub struct FontWaivers {
     /// The font's name.
     pub name: String,
-    /// Their text, a line each; none where it has more than [`LARGEST_WAIVERS`] bytes, since t1check doesn't read such a text.
+    /// Their text, a line each; none where it has more than [`LARGEST_WAIVERS`] bytes, since t1check doesn't read such
+    /// a text.
     pub text: Option<Vec<u8>>,
 }
 

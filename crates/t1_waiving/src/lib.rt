@@ -10,8 +10,8 @@
 //! - A font's text has one line `NAME RULE` for each glyph and each reported rule that it breaks, in the order of their
 //!   first lines.
 //! - [`written_texts_are_read`]: t1check reads the text as exactly these waivers.
-//! - [`written_waivers_leave_no_glyph_line`]: with them, by the same edition, no line of these rules is left in a glyph, and no waiver is
-//!   unused.
+//! - [`written_waivers_leave_no_glyph_line`]: with them, by the same edition, no line of these rules is left in a
+//!   glyph, and no waiver is unused.
 //!
 //! ```
 //! let status = waive_all(alloc, names, open_font, |_| None, Edition::One, &mut waiving)?;

@@ -9,8 +9,8 @@ use crate::kept::Kept;
 use t1_io::{Broken, Sink, put_parts};
 use t1_run::Status;
 
-/// Names the fonts that have more waivers than are read, a line `NAME: too many waivers` each, and returns the status: failed where there is
-/// one.
+/// Names the fonts that have more waivers than are read, a line `NAME: too many waivers` each, and returns the status:
+/// failed where there is one.
 pub fn tell_too_many<W: Sink>(errors: &mut W, kept: &Kept) -> Result<Status, Broken>
     ensures told { Writes (W.state errors.old) (W.state errors.new) (flat_map too_many_line kept.now) result }
     ensures status { IfOk result (λ status. status ≡ status_of_texts kept.now) }

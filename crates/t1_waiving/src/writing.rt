@@ -70,8 +70,8 @@ fn push_waiver(text: &mut Vec<u8>, name: &[u8], rule: Rule) -> Result<(), AllocE
     text.extend_from_slice(b"\n")
 }
 
-/// Returns the text of the waivers of a font's report: a line `NAME RULE` for each glyph and each rule of these that it breaks, once, in the order of
-/// the report.
+/// Returns the text of the waivers of a font's report: a line `NAME RULE` for each glyph and each rule of these that it
+/// breaks, once, in the order of the report.
 pub fn waivers_text<'a>(
     alloc: Global,
     font: &'a Font<'a>,

@@ -1,4 +1,4 @@
-//! The waivers of a font's glyphs, and what is told with them.
+//! The waivers of a font's glyphs, and what is reported with them.
 
 ghost use Rattle.std.specs.Prelude.{◌≡◌, false, IfOk};
 
@@ -46,7 +46,7 @@ struct Answer {
     told: Vec<u8>,
 }
 
-/// Waives what can be waived of the fonts of these names, of which all rules but C07 are told.
+/// Waives what can be waived of the fonts of these names, of which all rules but C07 are reported.
 fn waive<'a>(alloc: Global, names: &[String], files: &'a [File<'a>]) -> (Answer, Kept) {
     let mut text = Vec::new(alloc);
     let mut told = Vec::new(alloc);
@@ -135,7 +135,7 @@ const FIVE_FAULTS: &[u8] = b"\xff\x00\x00\x7d\x01\x8b\x16\x09\x09\x0e";
 /// The same with one closepath.
 const FOUR_FAULTS: &[u8] = b"\xff\x00\x00\x7d\x01\x8b\x16\x09\x0e";
 
-/// Each pair of a glyph and a rule that is told has one waiver, in the order of the first lines; the line of the font itself is told, and so
+/// Each pair of a glyph and a rule that is reported has one waiver, in the order of the first lines; the line of the font itself is reported, and so
 /// is why a font isn't read.
 #[test]
 fn waives_lines_of_glyphs(rt: HostRuntime) -> Result<(), Fail> {

@@ -113,7 +113,7 @@ const VALUES: &[(&str, Fact)] = &[
     ),
 ];
 
-/// A later value replaces an earlier one, and keys stand only where no value or code is wanted.
+/// A later value replaces an earlier one, and keys are only where no value or code is needed.
 #[test]
 fn keys_of_the_clear_text_are_read(rt: HostRuntime) -> Result<(), Fail> {
     assert_facts(&rt, rt.alloc(), CLEAR_LINES, VALUES)

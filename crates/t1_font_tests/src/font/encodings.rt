@@ -57,10 +57,10 @@ fn the_form_is_read(rt: HostRuntime) -> Result<(), Fail> {
     assert_facts(&rt, rt.alloc(), CLEAR_LINES, FORMS)
 }
 
-/// What stands behind `/Encoding`.
+/// What is after `/Encoding`.
 const ENCODING: Part = Part::Clear("%!\n/Encoding ", " eexec\n");
 
-/// What stands behind `/Encoding`, and what a code has.
+/// What is after `/Encoding`, and what a code has.
 const CODES: &[(&str, Fact)] = &[
     (
         "256 array dup 65 /A put dup 300 /B put def",
@@ -100,7 +100,7 @@ const CODES: &[(&str, Fact)] = &[
     ("256 array dup 65 /A readonly put def", Fact::Code(65, None)),
     ("256 array 65 /A put def", Fact::Code(65, None)),
     ("256 array dup 65 / put def", Fact::Code(65, Some(b""))),
-    // Here `eexec` stands behind the name.
+    // Here `eexec` is after the name.
     ("256 array dup 65 /A", Fact::Code(65, None)),
     ("256 array dup 65 /A put", Fact::Code(65, Some(b"A"))),
     ("256 array def dup 65 /A put def", Fact::Code(65, None)),
@@ -154,9 +154,9 @@ const BAD_CODES: &[(&str, Fact)] = &[
     ),
 ];
 
-/// A code that isn't whole from 0 to 255 is told of the last Encoding alone.
+/// A code that isn't whole from 0 to 255 is reported of the last Encoding alone.
 #[test]
-fn bad_codes_are_told(rt: HostRuntime) -> Result<(), Fail> {
+fn bad_codes_are_reported(rt: HostRuntime) -> Result<(), Fail> {
     assert_facts(&rt, rt.alloc(), CLEAR_LINES, BAD_CODES)
 }
 
@@ -182,7 +182,7 @@ const TEXTS: &[(&str, Option<Refusal>)] = &[
     ("%!\n/Encoding 256 array dup 65", Some(Refusal::NoEexec)),
 ];
 
-/// What is looked at behind `dup` is read when its turn comes; nothing behind `eexec` is looked at.
+/// What is looked at after `dup` is read when its turn comes; nothing after `eexec` is looked at.
 #[test]
 fn encodings_are_refused_or_not(rt: HostRuntime) -> Result<(), Fail> {
     assert_clear_refusals(&rt, rt.alloc(), TEXTS)

@@ -6,7 +6,7 @@ use std::alloc::{AllocError, Global};
 use std::process::Abort;
 use std::test::Fail;
 use t1_font::{OpenFont, Unread};
-use t1_samples::{Charstrings, FontFile, Sample, TRAILER};
+use t1_samples::{Charstrings, END_SEGMENT, FontFile, Sample, TRAILER};
 
 #[derive(Clone, Copy)]
 enum Kind {
@@ -19,27 +19,40 @@ enum Kind {
     PfaHexadecimal,
 }
 
-/// A file of such a kind, of these texts and with a trailer behind the section.
-fn file_of<'a>(
-    alloc: Global,
-    clear: &'a [u8],
-    private: &'a [u8],
-    kind: Kind,
-) -> Result<Vec<u8>, AllocError> {
-    let mut file = FontFile::of(clear, private);
-    file.trailer = TRAILER;
+/// What a PFB file of such a kind has after its last segment.
+fn end_of(kind: Kind) -> &'static [u8] {
     match kind {
-        Kind::Pfb => {}
-        Kind::PfbWithoutEnd => file.end = b"",
-        Kind::PfbAndMore => file.end = b"\x80\x03\x00",
-        Kind::DigitInFront => file.discarded = [0x98, 0xff, 0, 0],
-        Kind::PfaBinary => return file.pfa(alloc),
-        Kind::PfaHexadecimal => return file.pfa_hexadecimal(alloc),
+        Kind::PfbWithoutEnd => b"",
+        Kind::PfbAndMore => b"\x80\x03\x00",
+        _ => END_SEGMENT,
     }
-    file.pfb(alloc)
 }
 
-/// The worked font in such a file, with charstrings encrypted behind four zero bytes.
+/// The four plain bytes before the private text.
+fn discarded_of(kind: Kind) -> [u8; 4] {
+    match kind {
+        Kind::DigitInFront => [0x98, 0xff, 0, 0],
+        _ => [0; 4],
+    }
+}
+
+/// A file of such a kind, of these texts and with a trailer after the section.
+fn file_of(alloc: Global, clear: &[u8], private: &[u8], kind: Kind) -> Result<Vec<u8>, AllocError> {
+    let file = FontFile {
+        clear,
+        private,
+        discarded: discarded_of(kind),
+        trailer: TRAILER,
+        end: end_of(kind),
+    };
+    match kind {
+        Kind::PfaBinary => file.pfa(alloc),
+        Kind::PfaHexadecimal => file.pfa_hexadecimal(alloc),
+        _ => file.pfb(alloc),
+    }
+}
+
+/// The worked font in such a file, with charstrings encrypted after four zero bytes.
 fn worked_file(alloc: Global, kind: Kind) -> Result<Vec<u8>, AllocError> {
     let sample = Sample::with_charstrings(alloc, Charstrings::Encrypted(4))?;
     let clear = sample.clear()?;
@@ -80,7 +93,7 @@ fn files_are_read(rt: HostRuntime) -> Result<(), Fail> {
     Ok(())
 }
 
-/// The kind of a file, whether it lacks its end, and whether more stands behind that.
+/// The kind of a file, whether it lacks its end, and whether more is after that.
 const MARKS: &[(Kind, bool, bool)] = &[
     (Kind::Pfb, false, false),
     (Kind::PfbWithoutEnd, true, false),
@@ -101,8 +114,8 @@ fn marks_of_files_are_kept(rt: HostRuntime) -> Result<(), Fail> {
     Ok(())
 }
 
-/// Files that aren't read, and why. The row of segments is read whole before the first token: a broken one is told
-/// first.
+/// Files that aren't read, and why. The row of segments is read whole before the first token: a broken one is
+/// reported first.
 const BROKEN: &[(&[u8], Unread)] = &[
     (b"", Unread::NotAFont),
     (b"%!", Unread::NoEexec),

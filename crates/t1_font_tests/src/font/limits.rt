@@ -5,7 +5,7 @@ use std::alloc::Global;
 use std::test::Fail;
 use t1_font::{MOST_GLYPHS, OpenFont, Unread};
 
-/// A font of the most glyphs, with these lines behind them. A glyph's name is its number.
+/// A font of the most glyphs, with these lines after them. A glyph's name is its number.
 fn with_most_glyphs(alloc: Global, lines: &str) -> Result<OpenFont, Unread> {
     let mut text = Vec::from_slice(alloc, b"/CharStrings 0 dict dup begin\n")?;
     for number in 0..MOST_GLYPHS {
@@ -16,7 +16,7 @@ fn with_most_glyphs(alloc: Global, lines: &str) -> Result<OpenFont, Unread> {
     with_private(alloc, text.as_slice())
 }
 
-/// The lines behind the most glyphs, and why the font is refused, if it is.
+/// The lines after the most glyphs, and why the font is refused, if it is.
 const ENDS: &[(&str, Option<Unread>)] = &[
     ("end", None),
     ("/0 1 RD x ND end", None),
@@ -25,16 +25,16 @@ const ENDS: &[(&str, Option<Unread>)] = &[
 ];
 
 /// Why a font of the most glyphs with these lines isn't read, if it isn't.
-fn unread_behind(alloc: Global, lines: &str) -> Result<Option<Unread>, Unread> {
+fn unread_after(alloc: Global, lines: &str) -> Result<Option<Unread>, Unread> {
     let mut file = with_most_glyphs(alloc, lines)?;
     unread(alloc, &mut file)
 }
 
-/// A name that was given before is none more; the length behind one too many isn't read.
+/// A name that was given before isn't counted again; the length after one too many isn't read.
 #[test]
 fn the_most_glyphs_are_read(rt: HostRuntime) -> Result<(), Fail> {
     for (lines, reason) in ENDS {
-        assert_eq!(rt; unread_behind(rt.alloc(), lines)?, *reason, "{lines}");
+        assert_eq!(rt; unread_after(rt.alloc(), lines)?, *reason, "{lines}");
     }
     Ok(())
 }

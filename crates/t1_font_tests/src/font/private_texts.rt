@@ -55,7 +55,7 @@ const ENDS: &[(&str, Unread)] = &[
     ),
 ];
 
-/// The end of the text is the want of CharStrings, but for the value of `/lenIV`.
+/// The end of the text is the lack of CharStrings, but for the value of `/lenIV`.
 #[test]
 fn texts_that_end_are_refused(rt: HostRuntime) -> Result<(), Fail> {
     assert_unread(&rt, rt.alloc(), PRIVATE_TEXT, ENDS)
@@ -74,7 +74,7 @@ const LEN_IVS: &[(&str, Fact)] = &[
     ("/BlueValues x def", Fact::LenIv(4)),
 ];
 
-/// The last `/lenIV` counts, wherever it stands but as a value; without one it is 4.
+/// The last `/lenIV` counts, wherever it is but as a value; without one it is 4.
 #[test]
 fn len_iv_is_read(rt: HostRuntime) -> Result<(), Fail> {
     assert_facts(&rt, rt.alloc(), PRIVATE_LINES, LEN_IVS)

@@ -15,7 +15,7 @@ fn section_start(alloc: Global, file: &[u8]) -> Result<usize, Refusal> {
     Ok(after)
 }
 
-/// Clear texts, and where the section behind each begins.
+/// Clear texts, and where the section after each begins.
 const PLACES: &[(&str, usize)] = &[
     ("%!\neexec", 8),
     ("%!\neexec(", 8),
@@ -26,9 +26,9 @@ const PLACES: &[(&str, usize)] = &[
     ("%!\n/Encoding 256 array dup 65 /A eexec put def eexec", 38),
 ];
 
-/// The place behind the word, whatever follows it.
+/// The place after the word, whatever follows it.
 #[test]
-fn the_section_begins_behind_the_word(rt: HostRuntime) -> Result<(), Fail> {
+fn the_section_begins_after_the_word(rt: HostRuntime) -> Result<(), Fail> {
     for (text, after) in PLACES {
         assert_eq!(rt;
             section_start(rt.alloc(), text.as_bytes())?,
@@ -64,7 +64,7 @@ const SECTIONS: &[(&[u8], Option<usize>)] = &[
     (b"%!\neexec \x41\xba\x2d\x3c", Some(0)),
 ];
 
-/// Blanks, tabs and line ends alone are skipped in front; four bytes are enough, and give no text.
+/// Blanks, tabs and line ends alone are skipped at the beginning; four bytes are enough, and make no text.
 #[test]
 fn sections_are_opened(rt: HostRuntime) -> Result<(), Fail> {
     for (file, length) in SECTIONS {

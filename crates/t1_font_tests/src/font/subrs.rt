@@ -30,7 +30,7 @@ const BROKEN: &[(&str, Unread)] = &[
     ("/Subrs 0 array /Subrs (", Unread::SecondSubrs),
 ];
 
-/// The first wrong token decides, also where bytes are missing behind it.
+/// The first wrong token decides, also where bytes are missing after it.
 #[test]
 fn broken_subrs_are_refused(rt: HostRuntime) -> Result<(), Fail> {
     assert_unread(&rt, rt.alloc(), PRIVATE_TEXT, BROKEN)
@@ -50,7 +50,7 @@ const SIZES: &[(&str, Fact)] = &[
     ("/Subrs 65535 array", Fact::SubrSize(65_535)),
 ];
 
-/// An array that holds blanks and comments alone stands for none.
+/// An array that holds blanks and comments alone counts as none.
 #[test]
 fn the_size_is_read(rt: HostRuntime) -> Result<(), Fail> {
     assert_facts(&rt, rt.alloc(), PRIVATE_LINES, SIZES)
@@ -114,7 +114,7 @@ const ENTRIES: &[(&str, Fact)] = &[
     ("/Subrs 1 array 7 dup 0 1 RD y NP", Fact::Subr(0, None)),
 ];
 
-/// Any word serves as `RD`; one byte behind it is passed over. The size limits nothing.
+/// Any word serves as `RD`; one byte after it is skipped. The size limits nothing.
 #[test]
 fn entries_are_read(rt: HostRuntime) -> Result<(), Fail> {
     assert_facts(&rt, rt.alloc(), PRIVATE_LINES, ENTRIES)

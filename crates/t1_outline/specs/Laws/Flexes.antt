@@ -9,15 +9,16 @@ use Rattle.t1_rules.specs.declared.step_rules.flex.Point.{Point}
 use Rattle.t1_rules.specs.StepRules.Paths.{in_flex}
 use Rattle.t1_rules.specs.StepRules.Tokens.{clears, is_move}
 
--- A step within a flex that says nothing of it: no command that takes arguments from the bottom of the stack, as a move does, and
--- no start, point or end.
+-- A step within a flex that says nothing of it: no command that takes arguments from the bottom of the stack, as a move
+-- does, and no start, point or end.
 pub record IsAside (step : StepView) : Type 0 where
   pub no_command : clears step.token ≡ false
   pub no_start : is_flex_start step ≡ false
   pub no_point : is_flex_point step ≡ false
   pub no_end : is_flex_end step ≡ false
 
--- So many times a move and then a point, with steps aside between, and whether a move more has come, whose point hasn't.
+-- So many times a move and then a point, with steps aside between, and whether a move more has come, whose point
+-- hasn't.
 pub data ArePairs : ℕ → Bool → List StepView → Type 0 where
   none : ArePairs 0 false []
   and_aside : (n : ℕ) (is_half : Bool) (steps : List StepView) (step : StepView) →

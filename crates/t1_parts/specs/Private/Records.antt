@@ -50,7 +50,8 @@ pub record HasRecords {X : Type 0} (text_of : X → List ℕ) (is : X → Type 0
   pub end : ends rest
   pub whole : text ≡ flat_map text_of xs ++ rest
 
--- What is read where a record may begin: nothing at an end, or a record and the rest of the text. It's no part if a record begins and none follows.
+-- What is read where a record may begin: nothing at an end, or a record and the rest of the text. It's no part if a
+-- record begins and none follows.
 abbrev pub ReadsRecord : {X V : Type 0} → (V → X) → (X → List ℕ) → (X → Type 0) → (List ℕ → Type 0) → List ℕ
     → Result (Option (V × Bor (List ℕ))) NotPart → Type 0
 ReadsRecord value text_of is ends text (Ok None) = ends text
