@@ -1,3 +1,4 @@
 -- Definitions.
 pub mod Laws
 pub mod Members
+pub mod Told

@@ -13,7 +13,7 @@ use Rattle.t1_reasons.specs.declared.reason.EntryKind.TheVariants.{Number as One
 use Rattle.t1_reasons.specs.declared.reason.Found.{Found}
 use Rattle.t1_reasons.specs.declared.reason.Found.TheVariants.{Absent, One, Other, Several}
 use Rattle.t1_reasons.specs.declared.reason.Reason.{Reason}
-use Rattle.t1_reasons.specs.declared.reason.Reason.TheVariants.{Argument, Arguments, Code, Codes, Count, Depth, Entry, Falling, Features, Form, Gap, Glyph, Glyphs, Ids, Kind, Limit, Miss, Nothing, Numbers, Open, Othersubr, Quotient, Sidebearings, Since, Stem, Stems, Subr, SubrEntry, Token, TooMany, Triple, Width, Zone, Zones}
+use Rattle.t1_reasons.specs.declared.reason.Reason.TheVariants.{Argument, Arguments, Code, Codes, Count, Depth, Entry, Falling, Features, Form, Gap, Glyph, Glyphs, Ids, Kind, Limit, Miss, Nothing, Numbers, Open, Othersubr, Quotient, Sidebearings, Since, Stem, Stems, Subr, SubrEntry, Token, TooMany, Triple, Waiver, Width, Zone, Zones}
 use Rattle.t1_reason_texts.specs.declared.wide.Count.TheVariants.{Value}
 use Rattle.t1_reason_texts.specs.Decimals.{wide_text}
 use Rattle.t1_reason_texts.specs.FontTexts.{encoded_name, value_text}
@@ -85,6 +85,7 @@ since_members (Some step) = one_member (codes "step") (count_data step)
 
 unfoldable pub reason_members : FontValue → Reason → Members
 reason_members font Nothing = no_members
+reason_members font (Waiver unused) = no_members
 reason_members font (Count command taken there) =
     three_members (codes "command") (string (name_of command)) (codes "taken") (count_data taken) (codes "there") (count_data there)
 reason_members font (Argument place number) = two_members (codes "place") (count_data place) (codes "number") (coordinate_data number)

@@ -482,7 +482,7 @@ pub fn reason_members(
     ensures { IfOk result (λ m. members_view m.entries ≡ reason_members font.now reason) }
 {
     match reason {
-        Reason::Nothing => Ok(Map::new(alloc)),
+        Reason::Nothing | Reason::Waiver { .. } => Ok(Map::new(alloc)),
         Reason::Count {
             command,
             taken,

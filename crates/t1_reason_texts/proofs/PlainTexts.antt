@@ -14,14 +14,16 @@ use Rattle.t1_reasons.specs.declared.reason.EntryKind.{EntryKind}
 use Rattle.t1_reasons.specs.declared.reason.EntryKind.TheVariants.{Number as OneNumber, Numbers as ManyNumbers}
 use Rattle.t1_reasons.specs.declared.reason.Found.{Found}
 use Rattle.t1_reasons.specs.declared.reason.Found.TheVariants.{Absent, One, Other, Several}
-use Rattle.t1_reasons.specs.declared.reason.Reason.TheVariants.{Argument, Arguments, Code, Codes, Count, Depth, Entry, Falling, Features, Form, Gap, Glyph, Glyphs, Ids, Kind, Limit, Miss, Nothing, Numbers, Open, Othersubr, Quotient, Sidebearings, Since, Stem, Stems, Subr, SubrEntry, Token, TooMany, Triple, Width, Zone, Zones}
+use Rattle.t1_reasons.specs.declared.reason.Reason.TheVariants.{Argument, Arguments, Code, Codes, Count, Depth, Entry, Falling, Features, Form, Gap, Glyph, Glyphs, Ids, Kind, Limit, Miss, Nothing, Numbers, Open, Othersubr, Quotient, Sidebearings, Since, Stem, Stems, Subr, SubrEntry, Token, TooMany, Triple, Waiver, Width, Zone, Zones}
 use Rattle.t1_reasons.specs.declared.reason.SetStem.{SetStem}
+use Rattle.t1_reasons.specs.declared.waivers.Unused.{Unused}
+use Rattle.t1_reasons.specs.declared.waivers.Unused.TheVariants.{NoGlyph, Unbroken}
 use Rattle.t1_rules.specs.declared.rule.Rule.{Rule}
 use Rattle.t1_rules.specs.declared.step_rules.flex.Point.{Point}
 use Rattle.t1_rules.specs.declared.step_rules.stems.Stem.{Stem as OneStem}
 use Rattle.t1_rules.specs.declared.rule.Rule.TheVariants.{F03, K01, K03, W02}
 use Rattle.t1_decimals.specs.Decimals.{point_text}
-use Rattle.t1_reason_texts.specs.FontTexts.{code_names_text, counts_numbers, encoded_name, entry_name, entry_needed, entry_text, features_text, form_text, found_text, glyphs_text, ids_text, kind_text, past_words, several_text, subr_entry_text, twice_words, two_features_text, value_text, wanted_words}
+use Rattle.t1_reason_texts.specs.FontTexts.{code_names_text, counts_numbers, encoded_name, entry_name, entry_needed, entry_text, features_text, form_text, found_text, glyphs_text, ids_text, kind_text, past_words, several_text, subr_entry_text, twice_words, two_features_text, unused_text, value_text, wanted_words}
 use Rattle.t1_reason_texts.specs.Laws.{AreOneLine, is_plain}
 use Rattle.t1_reason_texts.specs.SeacTexts.{both_text, code_text, is_meant, meant_text, name_of_code, name_words, named_code_text, sidebearings_text}
 use Rattle.t1_reason_texts.specs.StepTexts.{argument_text, arguments_there_text, bound_words, call_text, count_text, depth_text, is_there, limit_text, middles_text, miss_text, off_words, open_text, or_more, quotient_text, since_after, since_before, since_none, since_text, span_text, stems_text, subr_text, takes_words, there_text, token_text, triple_text, widths_text}
@@ -298,6 +300,12 @@ plain_zone bottom top scale = simp (list_all-append is_plain, plain_by, plain_he
 plain_width : (width nearest : ℤ) → list_all is_plain (width_text width nearest) ≡ true
 plain_width width nearest = simp (list_all-append is_plain, plain_by)
 
+-- ---- waivers
+
+plain_unused : (unused : Unused) → list_all is_plain (unused_text unused) ≡ true
+plain_unused NoGlyph = refl
+plain_unused (Unbroken glyph) = refl
+
 -- ---- all
 
 pub are_one_line : AreOneLine
@@ -336,3 +344,4 @@ are_one_line font rule (Gap top bottom distance) = plain_gap top bottom distance
 are_one_line font rule (Zones own other distance) = plain_zones own other distance
 are_one_line font rule (Zone bottom top scale) = plain_zone bottom top scale
 are_one_line font rule (Width width nearest) = plain_width width nearest
+are_one_line font rule (Waiver unused) = plain_unused unused

@@ -12,14 +12,16 @@ use Rattle.t1_reasons.specs.declared.reason.EntryKind.{EntryKind}
 use Rattle.t1_reasons.specs.declared.reason.EntryKind.TheVariants.{Number as OneNumber, Numbers as ManyNumbers}
 use Rattle.t1_reasons.specs.declared.reason.Found.{Found}
 use Rattle.t1_reasons.specs.declared.reason.Found.TheVariants.{Absent, One, Other, Several}
-use Rattle.t1_reasons.specs.declared.reason.Reason.TheVariants.{Argument, Arguments, Code, Codes, Count, Depth, Entry, Falling, Features, Form, Gap, Glyph, Glyphs, Ids, Kind, Limit, Miss, Nothing, Numbers, Open, Othersubr, Quotient, Sidebearings, Since, Stem, Stems, Subr, SubrEntry, Token, TooMany, Triple, Width, Zone, Zones}
+use Rattle.t1_reasons.specs.declared.reason.Reason.TheVariants.{Argument, Arguments, Code, Codes, Count, Depth, Entry, Falling, Features, Form, Gap, Glyph, Glyphs, Ids, Kind, Limit, Miss, Nothing, Numbers, Open, Othersubr, Quotient, Sidebearings, Since, Stem, Stems, Subr, SubrEntry, Token, TooMany, Triple, Waiver, Width, Zone, Zones}
 use Rattle.t1_reasons.specs.declared.reason.SetStem.{SetStem}
+use Rattle.t1_reasons.specs.declared.waivers.Unused.{Unused}
+use Rattle.t1_reasons.specs.declared.waivers.Unused.TheVariants.{NoGlyph, Unbroken}
 use Rattle.t1_rules.specs.declared.rule.Rule.{Rule}
 use Rattle.t1_rules.specs.declared.step_rules.flex.Point.{Point}
 use Rattle.t1_rules.specs.declared.step_rules.stems.Stem.{Stem as OneStem}
 use Rattle.t1_rules.specs.declared.rule.Rule.TheVariants.{F03, K01, K03, W02}
 use Rattle.t1_decimals.specs.Decimals.{decimal_by, point_text}
-use Rattle.t1_reason_texts.specs.FontTexts.{code_names_text, counts_numbers, encoded_name, entry_name, entry_needed, entry_text, features_text, form_text, found_text, glyphs_text, ids_text, kind_text, past_words, subr_entry_text, twice_words, two_features_text, value_text, wanted_words}
+use Rattle.t1_reason_texts.specs.FontTexts.{code_names_text, counts_numbers, encoded_name, entry_name, entry_needed, entry_text, features_text, form_text, found_text, glyphs_text, ids_text, kind_text, past_words, subr_entry_text, twice_words, two_features_text, unused_text, value_text, wanted_words}
 use Rattle.t1_reason_texts.specs.declared.wide.Count.TheVariants.{Coordinate}
 use Rattle.t1_reason_texts.specs.Decimals.{wide_by, wide_text}
 use Rattle.t1_reason_texts.specs.Laws.{AreShort, IsOfTypesEdges, IsOfTypesStem}
@@ -86,7 +88,7 @@ short_is_there _ = omega arith
 short_there : (rule : Rule) (token : CharToken) → length (there_text rule token) ≤ 400
 short_there rule token = simp (length_either, length-append) (grind (arith, short_token token, short_is_there token))
 
-short_before : (rule : Rule) → length (since_before rule) ≤ 28
+short_before : (rule : Rule) → length (since_before rule) ≤ 29
 short_before W02 = omega arith
 short_before _ = omega arith
 
@@ -478,6 +480,12 @@ short_width width nearest =
       short_value nearest,
     )
 
+-- ---- waivers
+
+short_unused : (unused : Unused) → length (unused_text unused) ≤ 400
+short_unused NoGlyph = omega arith
+short_unused (Unbroken glyph) = omega arith
+
 -- ---- all
 
 pub are_short : AreShort
@@ -516,3 +524,4 @@ are_short font rule (Gap top bottom distance) is = short_gap top bottom distance
 are_short font rule (Zones own other distance) is = short_zones own other distance is.0 is.1
 are_short font rule (Zone bottom top scale) is = short_zone bottom top scale is.0 is.1 is.2
 are_short font rule (Width width nearest) is = short_width width nearest
+are_short font rule (Waiver unused) is = short_unused unused

@@ -11,6 +11,8 @@ use Rattle.t1_reasons.specs.declared.reason.EntryKind.{EntryKind}
 use Rattle.t1_reasons.specs.declared.reason.EntryKind.TheVariants.{Number, Numbers}
 use Rattle.t1_reasons.specs.declared.reason.Found.{Found}
 use Rattle.t1_reasons.specs.declared.reason.Found.TheVariants.{Absent, One, Other, Several}
+use Rattle.t1_reasons.specs.declared.waivers.Unused.{Unused}
+use Rattle.t1_reasons.specs.declared.waivers.Unused.TheVariants.{NoGlyph, Unbroken}
 use Rattle.t1_reason_texts.specs.Names.{shown_name}
 use Rattle.t1_reason_texts.specs.Words.{numbers_text}
 use Rattle.t1_rules.specs.declared.rule.Rule.{Rule}
@@ -114,3 +116,8 @@ past_words false size = []
 
 abbrev pub subr_entry_text : ℕ → Bool → Bool → ℕ → List ℕ
 subr_entry_text number twice is_past size = codes "Subr " ++ (decimal number ++ (twice_words twice is_past ++ past_words is_past size))
+
+-- Why a waiver isn't used.
+abbrev pub unused_text : Unused → List ℕ
+unused_text NoGlyph = codes "no glyph has this name"
+unused_text (Unbroken glyph) = codes "no step of the glyph breaks this rule"

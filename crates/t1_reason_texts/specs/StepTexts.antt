@@ -82,7 +82,7 @@ since_before P03 = codes "nothing is drawn since step "
 since_before H01 = codes "drawn at step "
 since_before X01 = codes "the flex began at step "
 since_before X03 = codes "the flex began at step "
-since_before K06 = codes "an outline was made at step "
+since_before K06 = codes "an outline or a stem at step "
 since_before _ = codes "since step "
 
 abbrev pub since_after : Rule → List ℕ
@@ -187,4 +187,4 @@ arguments_there_text count there = codes "the count is " ++ (coordinate_text cou
 -- ---- the limit
 
 abbrev pub limit_text : ℕ → List ℕ
-limit_text steps = decimal steps ++ codes " steps"
+limit_text steps = codes "more than " ++ (decimal steps ++ codes " steps")

@@ -1,9 +1,10 @@
 -- The text of a reason: a function of the font, the rule and the reason. A reason that adds nothing has the empty text.
-use Rattle.std.specs.Prelude.{ℕ, not, nat_lt, Bool, true, false, List, []}
+use Rattle.std.specs.Prelude.{ℕ, not, nat_lt, if◌then◌else◌, Bool, true, false, List, [], ◌∷◌, codes, Option, Some, None}
+use Rattle.std.specs.List.{concat}
 use Rattle.t1_font.specs.Fonts.{FontValue, glyph_name}
 use Rattle.t1_reasons.specs.declared.reason.Reason.{Reason}
-use Rattle.t1_reasons.specs.declared.reason.Reason.TheVariants.{Argument, Arguments, Code, Codes, Count, Depth, Entry, Falling, Features, Form, Gap, Glyph, Glyphs, Ids, Kind, Limit, Miss, Nothing, Numbers, Open, Othersubr, Quotient, Sidebearings, Since, Stem, Stems, Subr, SubrEntry, Token, TooMany, Triple, Width, Zone, Zones}
-use Rattle.t1_reason_texts.specs.FontTexts.{code_names_text, encoded_name, entry_text, features_text, form_text, glyph_text, glyphs_text, ids_text, kind_text, subr_entry_text}
+use Rattle.t1_reasons.specs.declared.reason.Reason.TheVariants.{Argument, Arguments, Code, Codes, Count, Depth, Entry, Falling, Features, Form, Gap, Glyph, Glyphs, Ids, Kind, Limit, Miss, Nothing, Numbers, Open, Othersubr, Quotient, Sidebearings, Since, Stem, Stems, Subr, SubrEntry, Token, TooMany, Triple, Waiver, Width, Zone, Zones}
+use Rattle.t1_reason_texts.specs.FontTexts.{code_names_text, encoded_name, entry_text, features_text, form_text, glyph_text, glyphs_text, ids_text, kind_text, subr_entry_text, unused_text}
 use Rattle.t1_reason_texts.specs.SeacTexts.{codes_text, sidebearings_text}
 use Rattle.t1_reason_texts.specs.StepTexts.{argument_text, arguments_there_text, call_text, count_text, depth_text, limit_text, miss_text, open_text, quotient_text, since_text, stem_text, stems_text, subr_text, there_text, triple_text}
 use Rattle.t1_reason_texts.specs.Words.{numbers_text}
@@ -45,8 +46,19 @@ reason_text font rule (Gap upper lower distance) = gap_text upper lower distance
 reason_text font rule (Zones own other distance) = zones_text own other distance
 reason_text font rule (Zone lower upper scale) = zone_text lower upper scale
 reason_text font rule (Width width nearest) = width_text width nearest
+reason_text font rule (Waiver unused) = unused_text unused
 
 -- Whether a reason has a text.
 abbrev pub says_more : Reason → Bool
 says_more Nothing = false
 says_more _ = true
+
+-- The text that is shown behind a line: none where there is no reason, or where it adds nothing.
+abbrev pub shown_text : FontValue → Rule → Option Reason → Option (List ℕ)
+shown_text font rule None = None
+shown_text font rule (Some reason) = if says_more reason then Some (reason_text font rule reason) else None
+
+-- The line of such a text: three blanks and the text.
+abbrev pub line_behind : Option (List ℕ) → List ℕ
+line_behind None = []
+line_behind (Some text) = concat (codes "   " ∷ text ∷ codes "\n" ∷ [])

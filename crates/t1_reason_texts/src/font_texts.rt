@@ -4,14 +4,14 @@ ghost use Rattle.std.specs.Prelude.{◌≡◌, Some};
 ghost use Rattle.t1_font.specs.Views.{bytes_of};
 ghost use Rattle.std.specs.Option.{unwrap_or};
 ghost use Rattle.std.specs.Prelude.{[]};
-ghost use Rattle.t1_reason_texts.specs.FontTexts.{code_names_text, counts_numbers, encoded_name, entry_name, entry_needed, entry_text, features_text, form_text, found_text, glyph_text, glyphs_text, ids_text, kind_text, past_words, several_text, subr_entry_text, twice_words, two_features_text, value_text, wanted_words};
+ghost use Rattle.t1_reason_texts.specs.FontTexts.{code_names_text, counts_numbers, encoded_name, entry_name, entry_needed, entry_text, features_text, form_text, found_text, glyph_text, glyphs_text, ids_text, kind_text, past_words, several_text, subr_entry_text, twice_words, two_features_text, unused_text, value_text, wanted_words};
 
 use crate::names::ShownName;
 use crate::words::Numbers;
 use std::fmt;
 use t1_decimals::value;
 use t1_font::{Encoding, Font};
-use t1_reasons::{EntryKind, Found};
+use t1_reasons::{EntryKind, Found, Unused};
 use t1_rules::Rule;
 
 /// What an entry is.
@@ -354,5 +354,20 @@ impl fmt::Display for SubrEntryText {
             size: self.size,
         };
         write!(f, "Subr {number}{twice}{past}")
+    }
+}
+
+/// Why a waiver isn't used.
+#[derive(Clone, Copy)]
+pub(crate) struct UnusedText(pub(crate) Unused);
+
+impl fmt::Display for UnusedText {
+    ghost output = { λ t. Some (unused_text t.0) };
+
+    fn fmt<W: fmt::Write>(&self, f: &mut fmt::Formatter<W>) -> fmt::Result {
+        match self.0 {
+            Unused::NoGlyph => write!(f, "no glyph has this name"),
+            Unused::Unbroken { .. } => write!(f, "no step of the glyph breaks this rule"),
+        }
     }
 }

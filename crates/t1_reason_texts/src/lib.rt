@@ -26,5 +26,5 @@ mod zone_texts;
 pub use font_texts::encoded_name;
 pub use laws::{reason_texts_are_one_line, reason_texts_are_short};
 pub use step_texts::TokenText;
-pub use text::{ReasonText, says_more};
+pub use text::{ReasonText, ShortText, says_more, short_text, shown_text};
 pub use wide::{Count, Wide};

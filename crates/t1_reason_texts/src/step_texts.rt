@@ -206,7 +206,7 @@ fn since_before(rule: Rule) -> &'static str
         Rule::P03 => "nothing is drawn since step ",
         Rule::H01 => "drawn at step ",
         Rule::X01 | Rule::X03 => "the flex began at step ",
-        Rule::K06 => "an outline was made at step ",
+        Rule::K06 => "an outline or a stem at step ",
         _ => "since step ",
     }
 }
@@ -621,6 +621,6 @@ impl fmt::Display for LimitText {
 
     fn fmt<W: fmt::Write>(&self, f: &mut fmt::Formatter<W>) -> fmt::Result {
         let steps = self.0;
-        write!(f, "{steps} steps")
+        write!(f, "more than {steps} steps")
     }
 }

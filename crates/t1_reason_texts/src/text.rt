@@ -1,11 +1,11 @@
 //! The text of a reason.
 
-ghost use Rattle.std.specs.Prelude.{◌≡◌, Some};
-ghost use Rattle.t1_reason_texts.specs.Texts.{reason_text, says_more};
+ghost use Rattle.std.specs.Prelude.{◌≡◌, Some, IfOk, option_map};
+ghost use Rattle.t1_reason_texts.specs.Texts.{reason_text, says_more, shown_text};
 
 use crate::font_texts::{
     CodeNamesText, EntryText, FeaturesText, FormText, GlyphText, GlyphsText, IdsText, KindText,
-    SubrEntryText, encoded_name,
+    SubrEntryText, UnusedText, encoded_name,
 };
 use crate::seac_texts::{CodesText, SidebearingsText, is_meant};
 use crate::step_texts::{
@@ -14,7 +14,9 @@ use crate::step_texts::{
 };
 use crate::words::Numbers;
 use crate::zone_texts::{FallingText, GapText, TooManyText, WidthText, ZoneText, ZonesText};
+use arrayvec::ArrayString;
 use std::fmt;
+use std::fmt::Write;
 use t1_font::Font;
 use t1_reasons::Reason;
 use t1_rules::Rule;
@@ -35,6 +37,33 @@ pub fn says_more(reason: Reason) -> bool
     ensures { result ≡ says_more reason }
 {
     !matches!(reason, Reason::Nothing)
+}
+
+/// The text of a reason, in memory of its own: no text is longer.
+pub type ShortText = ArrayString<512>;
+
+/// Returns the text of a reason. No text is too long, so it fails for none.
+pub fn short_text(font: &Font<'_>, rule: Rule, reason: Reason) -> Result<ShortText, fmt::Error>
+    ensures { IfOk result (λ text. text.bytes ≡ reason_text font.now rule reason) }
+{
+    let mut text = ShortText::new();
+    let reason = ReasonText { font, rule, reason };
+    write!(text, "{reason}")?;
+    Ok(text)
+}
+
+/// Returns the text that is shown behind a line: None where there is no reason, or where it adds nothing.
+pub fn shown_text(
+    font: &Font<'_>,
+    rule: Rule,
+    reason: Option<Reason>,
+) -> Result<Option<ShortText>, fmt::Error>
+    ensures { IfOk result (λ text. option_map (λ t. t.bytes) text ≡ shown_text font.now rule reason) }
+{
+    match reason {
+        Some(reason) if says_more(reason) => Ok(Some(short_text(font, rule, reason)?)),
+        _ => Ok(None),
+    }
 }
 
 impl fmt::Display for ReasonText<'_, '_> {
@@ -229,6 +258,10 @@ impl fmt::Display for ReasonText<'_, '_> {
             }
             Reason::Width { width, nearest } => {
                 let text = WidthText { width, nearest };
+                write!(f, "{text}")
+            }
+            Reason::Waiver { unused } => {
+                let text = UnusedText(unused);
                 write!(f, "{text}")
             }
         }

@@ -189,7 +189,7 @@ const ROWS: &[Row] = &[
     (
         Rule::K06,
         Reason::Since { step: Some(14) },
-        "an outline was made at step 14",
+        "an outline or a stem at step 14",
     ),
     (
         Rule::P02,
@@ -434,7 +434,11 @@ const ROWS: &[Row] = &[
         },
         "seac says 40, the accent's sidebearing is 38.5",
     ),
-    (Rule::L01, Reason::Limit { steps: 100_000 }, "100000 steps"),
+    (
+        Rule::L01,
+        Reason::Limit { steps: 100_000 },
+        "more than 100000 steps",
+    ),
 ];
 
 #[test]

@@ -1,10 +1,11 @@
 -- The background of a step, one step further.
 use Rattle.std.proofs.Common.{◌≡◌, ◌+◌, None, List, [], ◌∷◌, ◌++◌, append-nil, append_assoc, length, refl, ap, ◌∙◌}
 use Rattle.t1_char.specs.Steps.{StepView}
+use Rattle.t1_char.proofs.LookingBack.{since_goes_on}
 use Rattle.t1_rules.specs.StepRules.Flex.{current_point, origin}
-use Rattle.t1_rules.specs.StepRules.Paths.{closing_step, drawing, flex_start, in_flex}
+use Rattle.t1_rules.specs.StepRules.Paths.{closing_step, drawing, flex_end, flex_start, in_flex}
 use Rattle.t1_rules.specs.StepRules.Seac.{makes_outline}
-use Rattle.t1_reasons.specs.Backgrounds.{background_after, background_of, start_on, width_step}
+use Rattle.t1_reasons.specs.Backgrounds.{background_after, background_of, end_on, ends_path, outer_point_on, start_on, width_step}
 use Rattle.t1_reasons.specs.Carried.{carried_from, carried_over, last_on}
 
 carried_more : {A : Type 0} (next : A → List StepView → StepView → A) (carried : A) (before ss : List StepView) (t : StepView)
@@ -14,7 +15,7 @@ carried_more next carried before (s ∷ ss) t =
     carried_more next (next carried before s) (before ++ s ∷ []) ss t
     ∙ ap (λ steps. next (carried_from next (next carried before s) (before ++ s ∷ []) ss) steps t) (append_assoc before (s ∷ []) ss)
 
-carried_on : {A : Type 0} (next : A → List StepView → StepView → A) (start : A) (before : List StepView) (t : StepView)
+pub carried_on : {A : Type 0} (next : A → List StepView → StepView → A) (start : A) (before : List StepView) (t : StepView)
     → carried_over next start (before ++ t ∷ []) ≡ next (carried_over next start before) before t
 carried_on next start before t = carried_more next start [] before t
 
@@ -24,6 +25,10 @@ pub background_goes_on : (before : List StepView) (t : StepView)
 background_goes_on before t =
     rw (
       carried_on start_on origin before t,
+      carried_on end_on origin before t,
+      carried_on outer_point_on origin before t,
+      since_goes_on flex_start flex_end before t,
+      since_goes_on drawing ends_path before t,
       carried_on (last_on closing_step) None before t,
       carried_on (last_on drawing) None before t,
       carried_on (last_on flex_start) None before t,

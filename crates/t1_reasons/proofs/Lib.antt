@@ -5,6 +5,7 @@ mod FontLaws
 mod Hints
 mod LastSteps
 mod LawProofs
+mod PathStarts
 mod RemedyLaws
 mod UnusedLaws
 mod Walking

@@ -1,22 +1,49 @@
--- The background of a step: where the pen is, and which steps before it were the last of their kinds.
+-- The background of a step: where the open path begins and ends, and which steps before it were the last of their kinds.
 use Rattle.std.specs.Prelude.{ℕ, ◌&&◌, ◌||◌, not, if◌then◌else◌, Bool, Some, List, [], ◌∷◌, ◌++◌}
 use Rattle.t1_char.specs.Arguments.{is_flex_end, is_flex_start}
+use Rattle.t1_char.specs.Since.{since}
 use Rattle.t1_char.specs.Steps.{StepView}
 use Rattle.t1_reasons.specs.declared.background.Background.{Background}
 use Rattle.t1_reasons.specs.Carried.{carried_over, last_such}
 use Rattle.t1_rules.specs.declared.step_rules.flex.Point.{Point}
 use Rattle.t1_rules.specs.StepRules.Flex.{current_point, origin}
-use Rattle.t1_rules.specs.StepRules.Paths.{closing_step, drawing, flex_start, outer_move}
+use Rattle.t1_rules.specs.StepRules.Paths.{closing_step, drawing, flex_start, in_flex, outer_move}
 use Rattle.t1_rules.specs.StepRules.Seac.{makes_outline}
 use Rattle.t1_rules.specs.StepRules.Stems.{is_stem}
 use Rattle.t1_rules.specs.StepRules.Tokens.{closes, is_line, is_move, sets_width}
 
--- Where the last move outside flex led.
+-- Where the last step outside flex left the pen: in flex it is the point at which that began.
+abbrev pub outer_point_on : Point → List StepView → StepView → Point
+outer_point_on point before step = if in_flex (before ++ step ∷ []) then point else current_point (before ++ step ∷ [])
+
+abbrev pub outer_point : List StepView → Point
+outer_point steps = carried_over outer_point_on origin steps
+
+-- A move outside flex, or closepath: the next step that draws begins a path.
+abbrev pub ends_path : List StepView → StepView → Bool
+ends_path before step = outer_move before step || closes step.token
+
+-- Something was drawn, and no move outside flex or closepath came since.
+abbrev pub is_begun : List StepView → Bool
+is_begun before = since drawing ends_path before
+
+-- The first step of a path that draws.
+abbrev pub begins_path : List StepView → StepView → Bool
+begins_path before step = drawing before step && not (is_begun before)
+
+-- Where the open path begins, whether at a move of its own or not.
 abbrev pub start_on : Point → List StepView → StepView → Point
-start_on start before step = if outer_move before step then current_point (before ++ step ∷ []) else start
+start_on start before step = if begins_path before step then outer_point before else start
 
 abbrev pub path_start : List StepView → Point
 path_start steps = carried_over start_on origin steps
+
+-- Where the last step that drew left the pen.
+abbrev pub end_on : Point → List StepView → StepView → Point
+end_on end before step = if drawing before step then current_point (before ++ step ∷ []) else end
+
+abbrev pub path_end : List StepView → Point
+path_end steps = carried_over end_on origin steps
 
 -- A step that sets sidebearing and width, whatever came before it.
 abbrev pub width_step : List StepView → StepView → Bool
@@ -25,7 +52,9 @@ width_step before step = sets_width step.token
 abbrev pub background_of : List StepView → Background
 background_of before = record {
   start = path_start before;
-  pen = current_point before;
+  end = path_end before;
+  outer_point = outer_point before;
+  is_begun = is_begun before;
   closed = last_such closing_step before;
   drawn = last_such drawing before;
   flex = last_such flex_start before;
@@ -37,13 +66,21 @@ background_of before = record {
 abbrev pub draws_in : Bool → StepView → Bool
 draws_in in_flex step = is_line step.token || (is_flex_end step && in_flex)
 
+abbrev pub ends_path_in : Bool → StepView → Bool
+ends_path_in in_flex step = (is_move step.token && not in_flex) || closes step.token
+
+abbrev pub is_in_flex_after : Bool → StepView → Bool
+is_in_flex_after in_flex step = is_flex_start step || (in_flex && not (is_flex_end step))
+
 abbrev pub outlines_in : Bool → StepView → Bool
 outlines_in in_flex step = is_move step.token || (draws_in in_flex step || (is_stem step.token || closes step.token))
 
 abbrev pub background_after : Background → Bool → ℕ → Point → StepView → Background
 background_after background in_flex number pen step = record {
-  start = if is_move step.token && not in_flex then pen else background.start;
-  pen = pen;
+  start = if draws_in in_flex step && not background.is_begun then background.outer_point else background.start;
+  end = if draws_in in_flex step then pen else background.end;
+  outer_point = if is_in_flex_after in_flex step then background.outer_point else pen;
+  is_begun = draws_in in_flex step || (background.is_begun && not (ends_path_in in_flex step));
   closed = if closes step.token then Some number else background.closed;
   drawn = if draws_in in_flex step then Some number else background.drawn;
   flex = if is_flex_start step then Some number else background.flex;

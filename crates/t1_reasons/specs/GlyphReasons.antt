@@ -6,6 +6,7 @@ use Rattle.t1_char.specs.declared.machine.Answer.TheVariants.{Step, Ended, Limit
 use Rattle.t1_char.specs.Editions.{limit_of}
 use Rattle.t1_char.specs.Steps.{StepView, steps_of}
 use Rattle.t1_char.specs.Turns.{MachineView, step_of_number}
+use Rattle.t1_font.specs.Fonts.{FontValue}
 use Rattle.t1_rules.specs.declared.mask.Mask.{Mask}
 use Rattle.t1_rules.specs.declared.rule.Rule.{Rule}
 use Rattle.t1_rules.specs.declared.rule.Rule.TheVariants.{L01}
@@ -39,11 +40,14 @@ reason_among limit edition components rule steps place =
     if nat_lt place limit then reason_at_place edition components rule steps place
     else (if place == limit && nat_lt place (length steps) then limit_reason limit rule else None)
 
--- Of a step of the machine's glyph, by its number from 1.
+-- Of a step of a glyph, by its number from 1.
+abbrev pub glyph_reason : FontValue → Edition → ℕ → Rule → ℕ → Option Reason
+glyph_reason font edition glyph rule zero = None
+glyph_reason font edition glyph rule (suc place) =
+    reason_among (limit_of edition) edition (components_of (limit_of edition) font) rule (steps_of font glyph) place
+
 abbrev pub reason_at : MachineView → Rule → ℕ → Option Reason
-reason_at m rule zero = None
-reason_at m rule (suc place) =
-    reason_among (limit_of m.edition) m.edition (components_of (limit_of m.edition) m.font) rule (steps_of m.font m.glyph) place
+reason_at m rule number = glyph_reason m.font m.edition m.glyph rule number
 
 -- The steps of a machine's glyph, up to the limit.
 abbrev pub steps_in : MachineView → List StepView

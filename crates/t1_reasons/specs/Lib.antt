@@ -5,7 +5,10 @@ pub mod FontReasons
 pub mod GlyphReasons
 pub mod HintSets
 pub mod Laws
+pub mod Private
+pub mod PathStarts
 pub mod Remedies
+pub mod Reported
 pub mod Standing
 pub mod StepReasons
 pub mod UnusedWaivers

@@ -249,7 +249,7 @@ abbrev pub told_by : Rule → Background → StepView → Reason
 told_by W01 background step = Token step.token
 told_by W02 background step = Since background.width
 told_by P01 background step = Since background.closed
-told_by P02 background step = Open background.start background.pen
+told_by P02 background step = Open background.start background.end
 told_by P03 background step = Since background.closed
 told_by H01 background step = Since background.drawn
 told_by R01 background step = Token step.token

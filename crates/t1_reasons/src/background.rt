@@ -1,8 +1,8 @@
-//! What reasons say of the steps before one: where the pen is, and which steps were the last of their kinds.
+//! What reasons say of the steps before one: where the open path begins and ends, and which steps were the last of their kinds.
 
 ghost use Rattle.std.specs.Prelude.{◌≡◌, ◌&&◌, ◌||◌, not, Some, if◌then◌else◌};
 ghost use Rattle.t1_char.specs.StepValues.{step_view};
-ghost use Rattle.t1_reasons.specs.Backgrounds.{background_after, draws_in, outlines_in};
+ghost use Rattle.t1_reasons.specs.Backgrounds.{background_after, draws_in, ends_path_in, is_in_flex_after, outlines_in};
 
 use crate::step_reasons::{lies_across, stands_upright};
 use t1_char::Step;
@@ -11,10 +11,14 @@ use t1_rules::{Point, closes, is_line, is_move, sets_width};
 /// The points and the steps that reasons tell of.
 #[derive(Clone, Copy, Debug, PartialEq, Eq)]
 pub(crate) struct Background {
-    /// Where the last move outside flex led.
+    /// Where the open path begins.
     pub(crate) start: Point,
-    /// The current point.
-    pub(crate) pen: Point,
+    /// Where the last step that drew left the pen.
+    pub(crate) end: Point,
+    /// Where the last step outside flex left the pen.
+    outer_point: Point,
+    /// Whether something was drawn since the last closepath or move outside flex.
+    is_begun: bool,
     /// The last closepath.
     pub(crate) closed: Option<u32>,
     /// The last step that drew a line, a curve or a flex.
@@ -31,7 +35,9 @@ impl Background {
     /// The background before the first step.
     pub(crate) const EMPTY: Background = Background {
         start: Point { x: 0, y: 0 },
-        pen: Point { x: 0, y: 0 },
+        end: Point { x: 0, y: 0 },
+        outer_point: Point { x: 0, y: 0 },
+        is_begun: false,
         closed: None,
         drawn: None,
         flex: None,
@@ -43,11 +49,13 @@ impl Background {
     pub(crate) fn after(self, step: &Step, in_flex: bool, number: u32, pen: Point) -> Background
         ensures { result ≡ background_after self in_flex number pen (step_view step.now) }
     {
-        let moves = is_move(step.token) & !in_flex;
         let draws = draws_in(step, in_flex);
+        let begins = draws & !self.is_begun;
         Background {
-            start: point_after(self.start, moves, pen),
-            pen,
+            start: point_after(self.start, begins, self.outer_point),
+            end: point_after(self.end, draws, pen),
+            outer_point: point_after(pen, is_in_flex_after(step, in_flex), self.outer_point),
+            is_begun: draws | (self.is_begun & !ends_path_in(step, in_flex)),
             closed: last(self.closed, closes(step.token), number),
             drawn: last(self.drawn, draws, number),
             flex: last(self.flex, step.starts_flex(), number),
@@ -62,6 +70,20 @@ fn draws_in(step: &Step, in_flex: bool) -> bool
     ensures { result ≡ draws_in in_flex (step_view step.now) }
 {
     is_line(step.token) | (step.ends_flex() & in_flex)
+}
+
+/// Whether the next step that draws begins a path, where a step is in flex or not.
+fn ends_path_in(step: &Step, in_flex: bool) -> bool
+    ensures { result ≡ ends_path_in in_flex (step_view step.now) }
+{
+    (is_move(step.token) & !in_flex) | closes(step.token)
+}
+
+/// Whether the step after a step is in flex, where that is or isn't.
+fn is_in_flex_after(step: &Step, in_flex: bool) -> bool
+    ensures { result ≡ is_in_flex_after in_flex (step_view step.now) }
+{
+    step.starts_flex() | (in_flex & !step.ends_flex())
 }
 
 /// Whether a step makes a part of an outline, being in flex or not.
@@ -79,8 +101,9 @@ fn last(earlier: Option<u32>, is_such: bool, number: u32) -> Option<u32>
     if is_such { Some(number) } else { earlier }
 }
 
-fn point_after(earlier: Point, moves: bool, pen: Point) -> Point
-    ensures { result ≡ (if moves then pen else earlier) }
+/// The point after a step, where it sets one or doesn't.
+fn point_after(earlier: Point, is_set: bool, point: Point) -> Point
+    ensures { result ≡ (if is_set then point else earlier) }
 {
-    if moves { pen } else { earlier }
+    if is_set { point } else { earlier }
 }

@@ -64,6 +64,13 @@ impl<'a> GlyphReasons<'a> {
         }
     }
 
+    /// Returns the place of the glyph.
+    pub fn glyph(&self) -> usize
+        ensures { result ≡ self.now.glyph }
+    {
+        self.glyph
+    }
+
     /// Returns why the step of a number, from 1 on, breaks a rule, or None where it doesn't, or there is no such step.
     pub fn reason(&mut self, sidebearings: &Sidebearings, number: u32, rule: Rule) -> Option<Reason>
         requires sidebearings { AreOf self.old.font sidebearings.now }

@@ -1,6 +1,7 @@
 //! Laws of reasons, each on a call that does nothing.
 
 ghost use Rattle.t1_reasons.specs.FaultReasons.{FaultsHaveReasons, ReportedPlacesHaveReasons};
+ghost use Rattle.t1_reasons.specs.PathStarts.{PathsBeginWhereThePenWasLeft};
 ghost use Rattle.t1_reasons.specs.Remedies.{FuzzDoesForAll, NumbersDo, ScaleDoesForAll};
 ghost use Rattle.t1_reasons.specs.UnusedWaivers.{WaiversAreUnusedForAReason};
 ghost use Rattle.t1_reasons.specs.Laws.{FontReasonsAreAgainstTheirRules, FontsBreakWhereThereIsAReason, HintSetsAreThoseOfTheBook, ReasonsAreAgainstTheirRules, ScalesDo, StepsBreakWhereThereIsAReason, ToldStepsAreTheLast};
@@ -70,6 +71,11 @@ pub fn waivers_are_unused_for_a_reason()
 /// The step that a reason names is the last of its kind before the place. Where it names none, there was none.
 pub fn told_steps_are_the_last()
     ensures { ToldStepsAreTheLast }
+{}
+
+/// The path that a reason of P02 names begins where the move or the closepath before it left the pen.
+pub fn paths_begin_where_the_pen_was_left()
+    ensures { PathsBeginWhereThePenWasLeft }
 {}
 
 /// The BlueFuzz that would do does for all zones beside one another, and no greater one.

@@ -1,7 +1,7 @@
 //! Why each line of a report is there: what its rule compares at that place, and which of it is against the rule.
 //!
-//! A reason is a witness. [`font_reason`] has the reasons of a font's faults, [`GlyphReasons`] those of a glyph's, by the number of
-//! the step. A place has a reason exactly where the rule is broken there, be it waived or not.
+//! A reason is a witness. [`ReportReasons`] has the reasons of the faults of a report, [`font_reason`] those of a font, [`GlyphReasons`]
+//! those of a glyph, by the number of the step. A place has a reason exactly where the rule is broken there, be it waived or not.
 //!
 //! The definition of each rule's reasons is a row of the table `row_of` in `specs/StepReasons.antt`, or of `font_row_of` in
 //! `specs/FontReasons.antt`: the candidates, in the order in which they are looked at, and a test that sees the numbers of a
@@ -33,6 +33,7 @@ mod hint_sets;
 mod laws;
 mod reason;
 mod remedies;
+mod reported;
 mod step_reasons;
 mod steps_before;
 mod waivers;
@@ -42,9 +43,11 @@ pub use glyph_reasons::GlyphReasons;
 pub use laws::{
     faults_have_reasons, font_reasons_are_against_their_rules, fonts_break_where_there_is_a_reason,
     fuzz_does_for_all, hint_sets_are_those_of_the_book, numbers_do,
-    reasons_are_against_their_rules, reported_places_have_reasons, scale_does_for_all, scales_do,
+    paths_begin_where_the_pen_was_left, reasons_are_against_their_rules,
+    reported_places_have_reasons, scale_does_for_all, scales_do,
     steps_break_where_there_is_a_reason, told_steps_are_the_last, waivers_are_unused_for_a_reason,
 };
 pub use reason::{Edges, EntryKind, Found, Reason, SetStem};
 pub use remedies::{fuzz_that_does, scale_that_does};
+pub use reported::ReportReasons;
 pub use waivers::{Unused, unused_reason};

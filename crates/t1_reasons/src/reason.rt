@@ -1,5 +1,6 @@
 //! Reasons.
 
+use crate::waivers::Unused;
 use t1_char::{CharToken, Command};
 use t1_font::Encoding;
 use t1_rules::{Point, Stem};
@@ -44,7 +45,7 @@ pub enum Reason {
     Since {
         step: Option<u32>,
     },
-    /// Where a path begins, and where the pen is: P02.
+    /// Where the open path begins, and where the last step that drew left the pen: P02.
     Open {
         start: Point,
         pen: Point,
@@ -171,6 +172,10 @@ pub enum Reason {
     Width {
         width: i64,
         nearest: i64,
+    },
+    /// Why a waiver isn't used: U01.
+    Waiver {
+        unused: Unused,
     },
 }
 

@@ -83,7 +83,7 @@ fn told_by(rule: Rule, background: &Background, step: &Step) -> Reason
         },
         Rule::P02 => Reason::Open {
             start: background.start,
-            pen: background.pen,
+            pen: background.end,
         },
         Rule::H01 => Reason::Since {
             step: background.drawn,

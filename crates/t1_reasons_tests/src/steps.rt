@@ -311,6 +311,136 @@ const OUTLINES: &[Row] = &[
     ),
 ];
 
+/// Open paths, where each begins and ends.
+const PATHS: &[Row] = &[
+    // A path after its move, and one after a closepath, without a move.
+    (
+        "T: 0 500 hsbw 10 20 rmoveto 5 hlineto 3 vlineto endchar",
+        11,
+        Rule::P02,
+        Some(Reason::Open {
+            start: Point {
+                x: 10 * ONE,
+                y: 20 * ONE,
+            },
+            pen: Point {
+                x: 15 * ONE,
+                y: 23 * ONE,
+            },
+        }),
+    ),
+    (
+        "T: 0 500 hsbw 10 20 rmoveto 5 hlineto 3 vlineto closepath 7 hlineto 1 vlineto endchar",
+        16,
+        Rule::P02,
+        Some(Reason::Open {
+            start: Point {
+                x: 15 * ONE,
+                y: 23 * ONE,
+            },
+            pen: Point {
+                x: 22 * ONE,
+                y: 24 * ONE,
+            },
+        }),
+    ),
+    // A path at the beginning of the glyph, from the sidebearing.
+    (
+        "T: 30 500 hsbw 5 hlineto 6 vlineto endchar",
+        8,
+        Rule::P02,
+        Some(Reason::Open {
+            start: Point {
+                x: 30 * ONE,
+                y: 0 * ONE,
+            },
+            pen: Point {
+                x: 35 * ONE,
+                y: 6 * ONE,
+            },
+        }),
+    ),
+    // Two moves after an open path: both name that path. What is drawn then begins at the second.
+    (
+        "T: 0 500 hsbw 10 20 rmoveto 5 hlineto 100 hmoveto 200 vmoveto 1 hlineto endchar",
+        10,
+        Rule::P02,
+        Some(Reason::Open {
+            start: Point {
+                x: 10 * ONE,
+                y: 20 * ONE,
+            },
+            pen: Point {
+                x: 15 * ONE,
+                y: 20 * ONE,
+            },
+        }),
+    ),
+    (
+        "T: 0 500 hsbw 10 20 rmoveto 5 hlineto 100 hmoveto 200 vmoveto 1 hlineto endchar",
+        12,
+        Rule::P02,
+        Some(Reason::Open {
+            start: Point {
+                x: 10 * ONE,
+                y: 20 * ONE,
+            },
+            pen: Point {
+                x: 15 * ONE,
+                y: 20 * ONE,
+            },
+        }),
+    ),
+    (
+        "T: 0 500 hsbw 10 20 rmoveto 5 hlineto 100 hmoveto 200 vmoveto 1 hlineto endchar",
+        15,
+        Rule::P02,
+        Some(Reason::Open {
+            start: Point {
+                x: 115 * ONE,
+                y: 220 * ONE,
+            },
+            pen: Point {
+                x: 116 * ONE,
+                y: 220 * ONE,
+            },
+        }),
+    ),
+    // A flex that begins a path, after a move and without one.
+    (
+        "T: 0 500 hsbw 10 20 rmoveto 0 1 callothersubr 4 callsubr 50 17 20 3 0 callothersubr \
+         pop pop setcurrentpoint endchar",
+        57,
+        Rule::P02,
+        Some(Reason::Open {
+            start: Point {
+                x: 10 * ONE,
+                y: 20 * ONE,
+            },
+            pen: Point {
+                x: 17 * ONE,
+                y: 20 * ONE,
+            },
+        }),
+    ),
+    (
+        "T: 30 500 hsbw 0 1 callothersubr 4 callsubr 50 37 0 3 0 callothersubr \
+         pop pop setcurrentpoint endchar",
+        54,
+        Rule::P02,
+        Some(Reason::Open {
+            start: Point {
+                x: 30 * ONE,
+                y: 0 * ONE,
+            },
+            pen: Point {
+                x: 37 * ONE,
+                y: 0 * ONE,
+            },
+        }),
+    ),
+];
+
 /// OtherSubrs and accented characters. 65 is A, 193 the grave accent, and 160 has no name.
 const CALLS: &[Row] = &[
     (
@@ -434,7 +564,7 @@ fn reason_of(
 
 #[test]
 fn reasons_at_steps(rt: HostRuntime) -> Result<(), Fail> {
-    for rows in [TOKENS, OUTLINES, CALLS] {
+    for rows in [TOKENS, OUTLINES, PATHS, CALLS] {
         for (glyphs, step, rule, reason) in rows {
             let found = reason_of(rt.alloc(), glyphs, Edition::One, *step, *rule)?;
             assert_eq!(rt; found, *reason, "{glyphs}");

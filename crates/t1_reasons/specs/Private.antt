@@ -1,0 +1,2 @@
+-- Words that private contracts alone cite.
+pub mod Executing
