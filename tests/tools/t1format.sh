@@ -139,6 +139,86 @@ wanted <<'END'
 END
 try_document 'no line as sarif' 0 "$scratch/form" sarif
 
+# Directly after a fault's line, and after that of a waiver, three blanks and a text are its reason. What can be read as a line is one, though:
+# a font's name may begin with blanks.
+cat >lines.in <<END
+a.pfb: 1: glyph A - 9 H02 stems overlap
+   0 to 50 and 40 to 90 share 10
+1: font BlueValues 6 Z04 zone numbers fall
+   521 comes after 705, 100% of
+   a second text
+refused: E03 segment cut short
+   no fault
+a.pfb: t1check: read failed
+   no fault either
+
+   after no line
+a.pfb: 2: glyph A - 10 H02 stems overlap
+   b.pfb: 1: waiver A P01 U01 waiver not used
+    \"$(printf '\303\251\033')
+a.pfb: 3: glyph A - 11 H02 stems overlap
+$(printf '   ')
+a.pfb: 4: glyph A - 12 H02 stems overlap
+  two blanks
+a.pfb: 5: glyph A - 13 H02 stems overlap
+a.pfb: 6: glyph A - 14 H02 stems overlap
+   the last
+END
+wanted <<END
+{"code":"H02","file":"a.pfb","level":"should","name":"A","number":1,"path":[],"reason":{"text":"0 to 50 and 40 to 90 share 10"},"step":9,"text":"stems overlap","unit":"glyph"}
+{"code":"Z04","index":6,"key":"BlueValues","level":"should","number":1,"reason":{"text":"521 comes after 705, 100% of"},"text":"zone numbers fall","unit":"font"}
+{"code":"E03","level":"must","text":"segment cut short","unit":"refused"}
+{"file":"a.pfb","text":"read failed","unit":"unchecked"}
+{"code":"H02","file":"a.pfb","level":"should","name":"A","number":2,"path":[],"step":10,"text":"stems overlap","unit":"glyph"}
+{"code":"U01","file":"   b.pfb","level":"should","name":"A","number":1,"reason":{"text":" \\\\\\\\\\"$(printf '\303\251')\\\\x1B"},"text":"waiver not used","unit":"waiver","waived":"P01"}
+{"code":"H02","file":"a.pfb","level":"should","name":"A","number":3,"path":[],"step":11,"text":"stems overlap","unit":"glyph"}
+{"code":"H02","file":"a.pfb","level":"should","name":"A","number":4,"path":[],"step":12,"text":"stems overlap","unit":"glyph"}
+{"code":"H02","file":"a.pfb","level":"should","name":"A","number":5,"path":[],"step":13,"text":"stems overlap","unit":"glyph"}
+{"code":"H02","file":"a.pfb","level":"should","name":"A","number":6,"path":[],"reason":{"text":"the last"},"step":14,"text":"stems overlap","unit":"glyph"}
+--
+t1format: line 5: no line of t1check
+t1format: line 7: no line of t1check
+t1format: line 9: no line of t1check
+t1format: line 10: no line of t1check
+t1format: line 11: no line of t1check
+t1format: line 16: no line of t1check
+t1format: line 18: no line of t1check
+END
+try_form 'reasons as jsonl' 3 jsonl
+sed -n '1,4p; 12,14p; 19,21p' lines.in >some
+mv some lines.in
+wanted <<END
+::warning file=a.pfb,line=1,title=H02 stems overlap::1: glyph A - 9 H02 stems overlap: 0 to 50 and 40 to 90 share 10
+::warning title=Z04 zone numbers fall::1: font BlueValues 6 Z04 zone numbers fall: 521 comes after 705, 100%25 of
+::warning file=a.pfb,line=1,title=H02 stems overlap::2: glyph A - 10 H02 stems overlap
+::warning file=   b.pfb,line=1,title=U01 waiver not used::1: waiver A P01 U01 waiver not used:  \\"$(printf '\303\251\033')
+::warning file=a.pfb,line=1,title=H02 stems overlap::5: glyph A - 13 H02 stems overlap
+::warning file=a.pfb,line=1,title=H02 stems overlap::6: glyph A - 14 H02 stems overlap: the last
+--
+END
+try_form 'reasons as commands' 0 github
+cat >"$scratch/messages.awk" <<'END'
+$1 ~ /[.]message[.]text$/ || $1 ~ /[.]partialFingerprints/ { print substr($0, length($1) + 2) }
+END
+wanted <<END
+"glyph A - 9 H02 stems overlap: 0 to 50 and 40 to 90 share 10"
+"a.pfb glyph A H02 1"
+"font BlueValues 6 Z04 zone numbers fall: 521 comes after 705, 100% of"
+" font BlueValues Z04 1"
+"glyph A - 10 H02 stems overlap"
+"a.pfb glyph A H02 1"
+"waiver A P01 U01 waiver not used:  \\\\\\\\\\"$(printf '\303\251')\\\\x1B"
+"   b.pfb waiver A P01 U01 1"
+"glyph A - 13 H02 stems overlap"
+"a.pfb glyph A H02 1"
+"glyph A - 14 H02 stems overlap: the last"
+"a.pfb glyph A H02 2"
+--
+END
+# shellcheck disable=SC2016
+[ -z "$reader" ] || try 'reasons as sarif' 0 \
+    sh -c '"$0/form" sarif >reasons.sarif && "$1" "$0/read" reasons.sarif | awk -f "$0/messages.awk"' "$scratch" "$reader"
+
 # A document of SARIF, a line a result: its place, its text, and the fingerprint that stays the same from run to run. The document's rules,
 # and each result's place among them, are compared elsewhere.
 cat >lines.in <<'END'

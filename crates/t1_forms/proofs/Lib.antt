@@ -1,5 +1,6 @@
 pub mod CommandParts
 pub mod Floats
+pub mod Messages
 pub mod NotTold
 pub mod OneObject
 pub mod OneTelling

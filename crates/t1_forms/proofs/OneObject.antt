@@ -4,8 +4,9 @@ use Rattle.std.proofs.lemmas.Bool.{and_parts, ltb-true}
 use Rattle.std.specs.List.{list_all}
 use Rattle.std.specs.Prelude.{IfSome, option_and_then}
 use Rattle.std.specs.Str.{bytes_eq}
-use Rattle.serde_json.specs.Data.{Data, Items, no_items, item, number, object, unsigned}
-use Rattle.serde_json.specs.Find.{as_array, as_number, as_str, as_u64, get}
+use Rattle.serde_json.specs.Data.{Data, Items, no_items, item, number, object, string, unsigned}
+use Rattle.serde_json.specs.Find.{as_array, as_number, as_str, as_u64, get, get_member}
+use Rattle.serde_json.proofs.Views.{get_member-put}
 use Rattle.serde_json.specs.View.{items_of}
 use Rattle.t1_rules.specs.declared.rule.Rule.{Rule}
 use Rattle.t1_rules.specs.Book.{code_of, rule_coded, text_of}
@@ -17,11 +18,11 @@ use Rattle.t1_lines.specs.declared.refusal.RefusalCode.{RefusalCode}
 use Rattle.t1_lines.specs.declared.refusal.RefusalCode.TheVariants.{E01}
 use Rattle.t1_lines.proofs.Cuts.{some_same}
 use Rattle.t1_lines.proofs.NamesRead.{key-found}
-use Rattle.t1_forms.specs.Laws.{AreBytes, DifferentTellingsHaveDifferentObjects, IsPlaceOfBytes, IsWhatOfBytes}
+use Rattle.t1_forms.specs.Laws.{AnObjectTellsOneLine, AreBytes, DifferentTellingsHaveDifferentObjects, IsPlaceOfBytes, IsWhatOfBytes}
 use Rattle.t1_forms.specs.NameWords.{name_of_word}
-use Rattle.t1_forms.specs.Objects.{fault_members, object_of, refusal_code_of, refusal_reason_of, with_font}
+use Rattle.t1_forms.specs.Objects.{fault_members, object_of, reason_object, refusal_code_of, refusal_reason_of, what_members, with_font, with_reason}
 use Rattle.t1_forms.specs.Shown.{shown}
-use Rattle.t1_forms.specs.Tellings.{IsWhat, ToldValue, WhatValue, of_line, of_unchecked}
+use Rattle.t1_forms.specs.Tellings.{IsWhat, ReasonValue, ToldValue, WhatValue, of_line, of_unchecked}
 use Rattle.t1_forms.proofs.ShownWords.{shown_words}
 
 -- ---- the members of an object
@@ -97,22 +98,58 @@ what_read file (of_unchecked reason) = common file (codes "unchecked") [] (shown
 
 -- ---- an object has these members
 
-reads_fault : (font : Option (List ℕ)) (n : ℕ) (place : PlaceValue) (rule : Rule)
-    → read_of (object (with_font font (fault_members n place rule))) ≡ fault_read (option_map shown font) n place rule
-reads_fault None n (at_key key index) rule = refl
-reads_fault None n (at_step name path step) rule = refl
-reads_fault None n (at_waiver name waived) rule = refl
-reads_fault (Some f) n (at_key key index) rule = refl
-reads_fault (Some f) n (at_step name path step) rule = refl
-reads_fault (Some f) n (at_waiver name waived) rule = refl
+abbrev whole : Option ReasonValue → Option (List ℕ) → WhatValue → Data
+whole reason font what = object_of (record { font = font; what = what; reason = reason })
 
-reads : (font : Option (List ℕ)) (what : WhatValue)
-    → read_of (object_of (record { font = font; what = what })) ≡ what_read (option_map shown font) what
-reads font (of_line (of_fault l)) = reads_fault font l.number l.place l.rule
-reads None (of_line (of_refusal code)) = refl
-reads (Some f) (of_line (of_refusal code)) = refl
-reads None (of_unchecked reason) = refl
-reads (Some f) (of_unchecked reason) = refl
+reads_fault : (reason : Option ReasonValue) (font : Option (List ℕ)) (n : ℕ) (place : PlaceValue) (rule : Rule)
+    → read_of (object (with_reason reason (with_font font (fault_members n place rule)))) ≡ fault_read (option_map shown font) n place rule
+reads_fault None None n (at_key key index) rule = refl
+reads_fault None None n (at_step name path step) rule = refl
+reads_fault None None n (at_waiver name waived) rule = refl
+reads_fault None (Some f) n (at_key key index) rule = refl
+reads_fault None (Some f) n (at_step name path step) rule = refl
+reads_fault None (Some f) n (at_waiver name waived) rule = refl
+reads_fault (Some r) None n (at_key key index) rule = refl
+reads_fault (Some r) None n (at_step name path step) rule = refl
+reads_fault (Some r) None n (at_waiver name waived) rule = refl
+reads_fault (Some r) (Some f) n (at_key key index) rule = refl
+reads_fault (Some r) (Some f) n (at_step name path step) rule = refl
+reads_fault (Some r) (Some f) n (at_waiver name waived) rule = refl
+
+reads : (reason : Option ReasonValue) (font : Option (List ℕ)) (what : WhatValue)
+    → read_of (whole reason font what) ≡ what_read (option_map shown font) what
+reads reason font (of_line (of_fault l)) = reads_fault reason font l.number l.place l.rule
+reads None None (of_line (of_refusal code)) = refl
+reads None (Some f) (of_line (of_refusal code)) = refl
+reads (Some r) None (of_line (of_refusal code)) = refl
+reads (Some r) (Some f) (of_line (of_refusal code)) = refl
+reads None None (of_unchecked why) = refl
+reads None (Some f) (of_unchecked why) = refl
+reads (Some r) None (of_unchecked why) = refl
+reads (Some r) (Some f) (of_unchecked why) = refl
+
+-- ---- and the reason
+
+no_reason_of_fault : (font : Option (List ℕ)) (n : ℕ) (place : PlaceValue) (rule : Rule)
+    → get_member (codes "reason") (with_font font (fault_members n place rule)) ≡ None
+no_reason_of_fault None n (at_key key index) rule = refl
+no_reason_of_fault None n (at_step name path step) rule = refl
+no_reason_of_fault None n (at_waiver name waived) rule = refl
+no_reason_of_fault (Some f) n (at_key key index) rule = refl
+no_reason_of_fault (Some f) n (at_step name path step) rule = refl
+no_reason_of_fault (Some f) n (at_waiver name waived) rule = refl
+
+no_reason : (font : Option (List ℕ)) (what : WhatValue) → get_member (codes "reason") (with_font font (what_members what)) ≡ None
+no_reason font (of_line (of_fault l)) = no_reason_of_fault font l.number l.place l.rule
+no_reason None (of_line (of_refusal code)) = refl
+no_reason (Some f) (of_line (of_refusal code)) = refl
+no_reason None (of_unchecked why) = refl
+no_reason (Some f) (of_unchecked why) = refl
+
+reason_read : (reason : Option ReasonValue) (font : Option (List ℕ)) (what : WhatValue)
+    → get (codes "reason") (whole reason font what) ≡ option_map reason_object reason
+reason_read None font what = no_reason font what
+reason_read (Some r) font what = get_member-put (codes "reason") (reason_object r) (with_font font (what_members what))
 
 file_of_fault : (file : Option (List ℕ)) (n : ℕ) (place : PlaceValue) (rule : Rule) → (fault_read file n place rule).file ≡ file
 file_of_fault file n (at_key key index) rule = refl
@@ -188,16 +225,43 @@ font_again (Some f) (Some g) bytes_f bytes_g same =
     let words : name_of_word (shown f) ≡ name_of_word (shown g) = ap name_of_word (some_same _ _ same) in
     sym (shown_words f bytes_f) ∙ words ∙ shown_words g bytes_g
 
+abbrev text_in : Option Data → List ℕ
+text_in d = unwrap_or (option_and_then as_str d) []
+
+text_again : (a b : Option ReasonValue) → IfSome a (λ r. AreBytes r.text) → IfSome b (λ r. AreBytes r.text)
+    → option_map reason_object a ≡ option_map reason_object b → option_map (λ r. r.text) a ≡ option_map (λ r. r.text) b
+text_again None None bytes_a bytes_b same = refl
+text_again None (Some r) bytes_a bytes_b same = cc
+text_again (Some r) None bytes_a bytes_b same = cc
+text_again (Some q) (Some r) bytes_q bytes_r same =
+    let objects : reason_object q ≡ reason_object r = some_same _ _ same in
+    let texts : Some (string (shown q.text)) ≡ Some (string (shown r.text)) =
+    sym (get_member-put (codes "text") (string (shown q.text)) q.numbers)
+    ∙ ap (get (codes "text")) objects ∙ get_member-put (codes "text") (string (shown r.text)) r.numbers in
+    sym (shown_words q.text bytes_q) ∙ ap (λ d. name_of_word (text_in d)) texts ∙ shown_words r.text bytes_r
+
 abbrev telling : Option (List ℕ) → WhatValue → ToldValue
-telling font what = record { font = font; what = what }
+telling font what = record { font = font; what = what; reason = None }
 
 pub one_object : DifferentTellingsHaveDifferentObjects
 one_object a b of_a of_b same =
     let read : what_read (option_map shown a.font) a.what ≡ what_read (option_map shown b.font) b.what =
-    sym (reads a.font a.what) ∙ ap read_of same ∙ reads b.font b.what in
+    sym (reads a.reason a.font a.what) ∙ ap read_of same ∙ reads b.reason b.font b.what in
     let whats : Some a.what ≡ Some b.what = sym (again _ a.what of_a.is of_a.what) ∙ ap what_again read ∙ again _ b.what of_b.is of_b.what in
     let files : option_map shown a.font ≡ option_map shown b.font =
     sym (file_of _ a.what) ∙ ap (λ (r : Read). r.file) read ∙ file_of _ b.what in
-    let font : a.font ≡ b.font = font_again a.font b.font of_a.font of_b.font files in
-    let what : a.what ≡ b.what = some_same _ _ whats in
-    ap₂ telling font what
+    let reasons : option_map reason_object a.reason ≡ option_map reason_object b.reason =
+    sym (reason_read a.reason a.font a.what) ∙ ap (get (codes "reason")) same ∙ reason_read b.reason b.font b.what in
+    record {
+      font = font_again a.font b.font of_a.font of_b.font files;
+      what = some_same _ _ whats;
+      text = text_again a.reason b.reason of_a.reason of_b.reason reasons;
+      reason = reasons;
+    }
+
+pub one_line : AnObjectTellsOneLine
+one_line a b none_a none_b of_a of_b same =
+    let alike = one_object a b of_a of_b same in
+    let own : a ≡ telling a.font a.what = ap (λ r. record a { reason = r }) none_a in
+    let other : b ≡ telling b.font b.what = ap (λ r. record b { reason = r }) none_b in
+    own ∙ ap₂ telling alike.font alike.what ∙ sym other

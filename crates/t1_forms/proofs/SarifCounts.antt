@@ -6,7 +6,7 @@ use Rattle.std.specs.List.{AllByRecursion, sum_by}
 use Rattle.serde_json.specs.Data.{Data}
 use Rattle.t1_forms.specs.Sarif.{SarifState, begun, most_failures}
 use Rattle.t1_forms.specs.SarifDocuments.{AllIsTold, Run, after_one, line_count, notification_of, result_of, run_step, runs_from, unchecked_count}
-use Rattle.t1_forms.specs.Tellings.{ToldValue, WhatValue, of_line, of_unchecked}
+use Rattle.t1_forms.specs.Tellings.{ReasonValue, ToldValue, WhatValue, of_line, of_unchecked}
 
 abbrev all_results : List Run → ℕ
 all_results runs = sum_by (λ run. length run.results) runs
@@ -31,32 +31,33 @@ Counted ts rest =
     → Counts (length results) (length failures) (lines ts) (unchecked ts) (rest state results failures)
 
 counted-with : (ts : List ToldValue) (rest : SarifState → List Data → List Data → List Run) → Counted ts rest
-    → (state after : SarifState) (results failures : List Data) (font : Option (List ℕ)) (what : WhatValue) → length failures ≤ most_failures
+    → (state after : SarifState) (results failures : List Data) (font : Option (List ℕ)) (what : WhatValue)
+    → (reason : Option ReasonValue) → length failures ≤ most_failures
     → Counts (length results) (length failures) (line_count what + lines ts) (unchecked_count what + unchecked ts)
-    (run_step rest state after results failures font what)
-counted-with ts rest counted state after results failures font (of_line l) room =
-    let more = counted after (results ++ result_of state font l ∷ []) failures room in
-    let long = length-append results (result_of state font l ∷ []) in
+    (run_step rest state after results failures font what reason)
+counted-with ts rest counted state after results failures font (of_line l) reason room =
+    let more = counted after (results ++ result_of state font l reason ∷ []) failures room in
+    let long = length-append results (result_of state font l reason ∷ []) in
     record {
       of_results = omega (arith, more.of_results, long);
       of_failures = omega (arith, more.of_failures);
       most = more.most;
     }
-counted-with ts rest counted state after results failures font (of_unchecked reason) room =
+counted-with ts rest counted state after results failures font (of_unchecked why) reason room =
     elim (cases_Bool (nat_lt (length failures) most_failures)) [
       | inl less ↦ (
-          let long = length-append failures (notification_of font reason ∷ []) in
+          let long = length-append failures (notification_of font why ∷ []) in
           let small : length failures < most_failures = ltb-true (length failures) most_failures less in
-          let more = counted after results (failures ++ notification_of font reason ∷ []) (omega (arith, long, small)) in
+          let more = counted after results (failures ++ notification_of font why ∷ []) (omega (arith, long, small)) in
           rw less (record {
             of_results = omega (arith, more.of_results);
             of_failures = omega (arith, more.of_failures, long);
             most = more.most;
           }))
       | inr full ↦ (
-          let more = counted after [] (notification_of font reason ∷ []) (omega arith) in
+          let more = counted after [] (notification_of font why ∷ []) (omega arith) in
           let run : Run = record { results = results; failures = failures } in
-          let runs = rest after [] (notification_of font reason ∷ []) in
+          let runs = rest after [] (notification_of font why ∷ []) in
           let first = sum_by-cons (λ r. length r.results) run runs in
           let told = sum_by-cons (λ r. length r.failures) run runs in
           rw full (record {
@@ -69,7 +70,7 @@ counted-with ts rest counted state after results failures font (of_unchecked rea
 counted : (ts : List ToldValue) → Counted ts (runs_from ts)
 counted [] state results failures room = record { of_results = omega arith; of_failures = omega arith; most = (room, tt) }
 counted (t ∷ ts) state results failures room =
-    let one = counted-with ts (runs_from ts) (counted ts) state (after_one state t) results failures t.font t.what room in
+    let one = counted-with ts (runs_from ts) (counted ts) state (after_one state t) results failures t.font t.what t.reason room in
     let lines_more = sum_by-cons (λ t. line_count t.what) t ts in
     let unchecked_more = sum_by-cons (λ t. unchecked_count t.what) t ts in
     record {

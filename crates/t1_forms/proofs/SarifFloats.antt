@@ -5,6 +5,7 @@ use Rattle.serde_json.specs.Written.{has_float, items_have_float}
 use Rattle.t1_lines.specs.Lines.{LineValue, PlaceValue, at_key, at_step, at_waiver, of_fault, of_refusal}
 use Rattle.t1_forms.specs.PageValues.{PageValue}
 use Rattle.t1_forms.specs.Pages.{pages}
+use Rattle.t1_forms.specs.Tellings.{ReasonValue}
 use Rattle.t1_forms.specs.SarifObjects.{fault_locations, logical_location, logical_locations, notification_object, page_object, result_object, tool_object}
 
 pages_have_none : (docs : Option (List ℕ)) (ps : List PageValue) → items_have_float (items_of (map (page_object docs) ps)) ≡ false
@@ -29,10 +30,11 @@ faults_have_none : (font : Option (List ℕ)) (place : PlaceValue) → has_float
 faults_have_none None place = rw (places_have_none place) refl
 faults_have_none (Some font) place = rw (places_have_none place) refl
 
-pub results_have_none : (font : Option (List ℕ)) (l : LineValue) (line print : List ℕ) → has_float (result_object font l line print) ≡ false
-results_have_none font (of_fault l) line print = rw (faults_have_none font l.place) refl
-results_have_none None (of_refusal code) line print = refl
-results_have_none (Some font) (of_refusal code) line print = refl
+pub results_have_none : (font : Option (List ℕ)) (l : LineValue) (line : List ℕ) (reason : Option ReasonValue) (print : List ℕ)
+    → has_float (result_object font l line reason print) ≡ false
+results_have_none font (of_fault l) line reason print = rw (faults_have_none font l.place) refl
+results_have_none None (of_refusal code) line reason print = refl
+results_have_none (Some font) (of_refusal code) line reason print = refl
 
 pub notifications_have_none : (font : Option (List ℕ)) (line : List ℕ) → has_float (notification_object font line) ≡ false
 notifications_have_none None line = refl

@@ -6,7 +6,7 @@ use Rattle.serde_json.specs.Data.{Data}
 use Rattle.serde_json.specs.Written.{comma_if, compact_text}
 use Rattle.t1_forms.specs.Sarif.{SarifState, after_what, begun, document_begin, most_failures, run_begin, run_end}
 use Rattle.t1_forms.specs.SarifDocuments.{DocumentsAreOfTheirRuns, Run, notification_of, result_of, run_step, runs_from, runs_text, separated, separated_from, tellings_text}
-use Rattle.t1_forms.specs.Tellings.{ToldValue, WhatValue, of_line, of_unchecked, what_spelled}
+use Rattle.t1_forms.specs.Tellings.{ReasonValue, ToldValue, WhatValue, of_line, of_unchecked, what_spelled}
 
 abbrev has_items : List Data → Bool
 has_items [] = false
@@ -72,11 +72,11 @@ Streams ts rest =
 
 stream-with : (ts : List ToldValue) (rest : SarifState → List Data → List Data → List Run) → Streams ts rest
     → (later : Bool) (state : SarifState) (results failures : List Data) (font : Option (List ℕ)) (what : WhatValue)
-    → Stands state results failures
-    → runs_text later state.docs (run_step rest state (after_what state font what (what_spelled what)) results failures font what)
-    ≡ (comma_if later ++ run_begin state.docs) ++ (separated results ++ tellings_text state (record { font = font; what = what } ∷ ts))
-stream-with ts rest streams later state results failures font (of_line l) stands =
-    let d = result_of state font l in
+    → (reason : Option ReasonValue) → Stands state results failures
+    → runs_text later state.docs (run_step rest state (after_what state font what (what_spelled what)) results failures font what reason)
+    ≡ (comma_if later ++ run_begin state.docs) ++ (separated results ++ tellings_text state (record { font = font; what = what; reason = reason } ∷ ts))
+stream-with ts rest streams later state results failures font (of_line l) reason stands =
+    let d = result_of state font l reason in
     let after = after_what state font (of_line l) (what_spelled (of_line l)) in
     let more = streams later after (results ++ d ∷ []) failures (record {
       has = sym (some_pushed results d);
@@ -90,8 +90,8 @@ stream-with ts rest streams later state results failures font (of_line l) stands
     (append_assoc (separated results) (comma_if (has_items results) ++ compact_text d) (tellings_text after ts))
     ∙ ap (λ b. (comma_if later ++ run_begin state.docs) ++ (separated results ++ ((comma_if b ++ compact_text d) ++ tellings_text after ts)))
     (sym stands.has)
-stream-with ts rest streams later state results failures font (of_unchecked reason) stands =
-    let d = notification_of font reason in
+stream-with ts rest streams later state results failures font (of_unchecked why) reason stands =
+    let d = notification_of font why in
     elim (cases_Bool (nat_lt (length failures) most_failures)) [
       | inl room ↦ (
           let kept : nat_lt state.failure_count most_failures ≡ true = ap (λ n. nat_lt n most_failures) stands.count ∙ room in
@@ -117,7 +117,7 @@ stream-with ts rest streams later state results failures font (of_unchecked reas
 stream : (ts : List ToldValue) → Streams ts (runs_from ts)
 stream [] later state results failures stands = stream-end later state results failures stands
 stream (t ∷ ts) later state results failures stands =
-    stream-with ts (runs_from ts) (stream ts) later state results failures t.font t.what stands
+    stream-with ts (runs_from ts) (stream ts) later state results failures t.font t.what t.reason stands
 
 pub documents : DocumentsAreOfTheirRuns
 documents docs ts =

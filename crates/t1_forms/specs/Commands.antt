@@ -1,4 +1,4 @@
--- Commands of a workflow of GitHub: `::KIND file=NAME,line=1,title=TITLE::LINE`.
+-- Commands of a workflow of GitHub: `::KIND file=NAME,line=1,title=TITLE::LINE`, or `LINE: REASON`.
 use Rattle.std.specs.Prelude.{ℕ, ◌==◌, List, [], ◌∷◌, ◌++◌, codes, Option, Some, None, if◌then◌else◌}
 use Rattle.std.specs.List.{flat_map}
 use Rattle.t1_rules.specs.declared.level.Level.{Level}
@@ -7,7 +7,7 @@ use Rattle.t1_rules.specs.declared.rule.Rule.{Rule}
 use Rattle.t1_rules.specs.Book.{code_of, level_of, text_of}
 use Rattle.t1_lines.specs.Lines.{of_fault, of_refusal}
 use Rattle.t1_forms.specs.Objects.{refusal_code_of, refusal_reason_of}
-use Rattle.t1_forms.specs.Tellings.{ToldValue, WhatValue, of_line, of_unchecked}
+use Rattle.t1_forms.specs.Tellings.{ReasonValue, ToldValue, WhatValue, of_line, of_unchecked}
 
 -- A byte of what a command shows. A line end would end the command, and `%` is before the number of a byte.
 abbrev pub message_byte : ℕ → List ℕ
@@ -59,9 +59,14 @@ command kind font code text message =
     ++ (flat_map property_byte text
     ++ (codes "::" ++ (flat_map message_byte message ++ codes "\n")))))
 
+-- A line, and the reason after it, where there is one.
+abbrev pub with_reason : List ℕ → Option ReasonValue → List ℕ
+with_reason line None = line
+with_reason line (Some r) = line ++ (codes ": " ++ r.text)
+
 -- What is reported, with its line, as a command.
 abbrev pub command_of : ToldValue → List ℕ → List ℕ
-command_of t line = command (command_kind t.what) t.font (title_code t.what) (title_text t.what) line
+command_of t line = command (command_kind t.what) t.font (title_code t.what) (title_text t.what) (with_reason line t.reason)
 
 -- A message of a rule, as a command.
 abbrev pub rule_command : Option (List ℕ) → Rule → List ℕ → List ℕ

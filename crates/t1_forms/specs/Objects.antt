@@ -12,7 +12,7 @@ use Rattle.t1_lines.specs.Lines.{PlaceValue, at_key, at_step, at_waiver, of_faul
 use Rattle.t1_lines.specs.declared.refusal.RefusalCode.{RefusalCode}
 use Rattle.t1_lines.specs.RefusalTexts.{refusal_text_of}
 use Rattle.t1_forms.specs.Shown.{shown}
-use Rattle.t1_forms.specs.Tellings.{ToldValue, WhatValue, of_line, of_unchecked}
+use Rattle.t1_forms.specs.Tellings.{ReasonValue, ToldValue, WhatValue, of_line, of_unchecked}
 
 -- What is reported of a refusal is its code, a blank and why.
 abbrev pub refusal_code_of : RefusalCode → List ℕ
@@ -67,8 +67,17 @@ abbrev pub with_font : Option (List ℕ) → Members → Members
 with_font None members = members
 with_font (Some name) members = put (codes "file") (string (shown name)) members
 
+-- A reason: its numbers, and its text.
+abbrev pub reason_object : ReasonValue → Data
+reason_object r = object (put (codes "text") (string (shown r.text)) r.numbers)
+
+-- With the reason, where there is one.
+abbrev pub with_reason : Option ReasonValue → Members → Members
+with_reason None members = members
+with_reason (Some r) members = put (codes "reason") (reason_object r) members
+
 abbrev pub object_of : ToldValue → Data
-object_of t = object (with_font t.font (what_members t.what))
+object_of t = object (with_reason t.reason (with_font t.font (what_members t.what)))
 
 -- The line that is written of it, with its end.
 abbrev pub object_line : ToldValue → List ℕ

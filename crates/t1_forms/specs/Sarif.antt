@@ -7,7 +7,7 @@ use Rattle.t1_lines.specs.Lines.{LineValue}
 use Rattle.t1_forms.specs.PageValues.{place_among}
 use Rattle.t1_forms.specs.Pages.{page_count, pages}
 use Rattle.t1_forms.specs.SarifObjects.{fingerprint, line_code, notification_object, result_object, tool_object, unit_of}
-use Rattle.t1_forms.specs.Tellings.{ToldValue, WhatValue, of_line, of_unchecked}
+use Rattle.t1_forms.specs.Tellings.{ReasonValue, ToldValue, WhatValue, of_line, of_unchecked}
 use Rattle.t1_forms.specs.declared.sarif.Sarif.{Sarif}
 
 -- What is kept from line to line.
@@ -84,10 +84,10 @@ counts_in state unit = if bytes_eq unit state.unit then state.counts else no_cou
 abbrev pub count_of : SarifState → Option (List ℕ) → LineValue → ℕ
 count_of state font l = one_more (slice_index (counts_in state (unit_of font l)) (place_among pages (line_code l)))
 
-abbrev pub result_text : SarifState → Option (List ℕ) → LineValue → List ℕ → List ℕ
-result_text state font l line =
+abbrev pub result_text : SarifState → Option (List ℕ) → LineValue → List ℕ → Option ReasonValue → List ℕ
+result_text state font l line reason =
     comma_if state.has_results
-    ++ compact_text (result_object font l line (fingerprint (unit_of font l) l (count_of state font l)))
+    ++ compact_text (result_object font l line reason (fingerprint (unit_of font l) l (count_of state font l)))
 
 abbrev pub after_result : SarifState → Option (List ℕ) → LineValue → SarifState
 after_result state font l =
@@ -118,12 +118,12 @@ with_failure state text =
 -- ---- what is reported
 
 -- What is written of it. Its line is spelled so.
-abbrev pub text_of_what : SarifState → Option (List ℕ) → WhatValue → List ℕ → List ℕ
-text_of_what state font (of_line l) line = result_text state font l line
-text_of_what state font (of_unchecked reason) line = room_text state
+abbrev pub text_of_what : SarifState → Option (List ℕ) → WhatValue → List ℕ → Option ReasonValue → List ℕ
+text_of_what state font (of_line l) line reason = result_text state font l line reason
+text_of_what state font (of_unchecked why) line reason = room_text state
 
 abbrev pub telling_text : SarifState → ToldValue → List ℕ → List ℕ
-telling_text state t line = text_of_what state t.font t.what line
+telling_text state t line = text_of_what state t.font t.what line t.reason
 
 abbrev pub after_what : SarifState → Option (List ℕ) → WhatValue → List ℕ → SarifState
 after_what state font (of_line l) line = after_result state font l

@@ -12,7 +12,7 @@ use Rattle.t1_forms.specs.Laws.{AreBytes}
 use Rattle.t1_forms.specs.Percents.{decoded}
 use Rattle.t1_io.specs.Devices.{one_more}
 use Rattle.t1_forms.specs.SarifObjects.{behind_colon, fingerprint, line_code, notification_object, result_object, unit_of, uri_byte}
-use Rattle.t1_forms.specs.Tellings.{ToldValue, WhatValue, of_line, of_unchecked, what_spelled}
+use Rattle.t1_forms.specs.Tellings.{ReasonValue, ToldValue, WhatValue, of_line, of_unchecked, what_spelled}
 
 -- ---- what is written of tellings, one after another
 
@@ -53,8 +53,8 @@ document_text docs runs = document_begin ++ runs_text false docs runs
 -- ---- the runs of tellings
 
 -- The result of a line.
-abbrev pub result_of : SarifState → Option (List ℕ) → LineValue → Data
-result_of state font l = result_object font l (what_spelled (of_line l)) (fingerprint (unit_of font l) l (count_of state font l))
+abbrev pub result_of : SarifState → Option (List ℕ) → LineValue → Option ReasonValue → Data
+result_of state font l reason = result_object font l (what_spelled (of_line l)) reason (fingerprint (unit_of font l) l (count_of state font l))
 
 abbrev pub notification_of : Option (List ℕ) → List ℕ → Data
 notification_of font reason = notification_object font (what_spelled (of_unchecked reason))
@@ -62,16 +62,16 @@ notification_of font reason = notification_object font (what_spelled (of_uncheck
 -- One telling more in the run that has these results and failures. A run reports a thousand fonts that weren't checked, then the next one
 -- begins.
 abbrev pub run_step : (SarifState → List Data → List Data → List Run) → SarifState → SarifState → List Data → List Data → Option (List ℕ) → WhatValue
-    → List Run
-run_step rest state after results failures font (of_line l) = rest after (results ++ result_of state font l ∷ []) failures
-run_step rest state after results failures font (of_unchecked reason) =
-    if nat_lt (length failures) most_failures then rest after results (failures ++ notification_of font reason ∷ [])
-    else record { results = results; failures = failures } ∷ rest after [] (notification_of font reason ∷ [])
+    → Option ReasonValue → List Run
+run_step rest state after results failures font (of_line l) reason = rest after (results ++ result_of state font l reason ∷ []) failures
+run_step rest state after results failures font (of_unchecked why) reason =
+    if nat_lt (length failures) most_failures then rest after results (failures ++ notification_of font why ∷ [])
+    else record { results = results; failures = failures } ∷ rest after [] (notification_of font why ∷ [])
 
 -- The run that has these, and those after it.
 abbrev pub runs_from : List ToldValue → SarifState → List Data → List Data → List Run
 runs_from [] state results failures = record { results = results; failures = failures } ∷ []
-runs_from (t ∷ ts) state results failures = run_step (runs_from ts) state (after_one state t) results failures t.font t.what
+runs_from (t ∷ ts) state results failures = run_step (runs_from ts) state (after_one state t) results failures t.font t.what t.reason
 
 -- The runs of a document that has reported these.
 abbrev pub runs_of : Option (List ℕ) → List ToldValue → List Run
@@ -121,3 +121,9 @@ pub record CountsGoOn (state : SarifState) (font : Option (List ℕ)) (l other :
 
 abbrev pub CountsAreOfTheirUnits : Type 0
 CountsAreOfTheirUnits = (state : SarifState) (font : Option (List ℕ)) (l other : LineValue) → CountsGoOn state font l other
+
+-- What is kept from line to line, and so what later lines are known by, doesn't depend on the reasons that are reported.
+abbrev pub ReasonsLeaveNoTrace : Type 0
+ReasonsLeaveNoTrace =
+    (state : SarifState) (t : ToldValue) (reason : Option ReasonValue) (line : List ℕ)
+    → after_telling state (record t { reason = reason }) line ≡ after_telling state t line

@@ -15,6 +15,7 @@ use Rattle.t1_forms.specs.Objects.{refusal_code_of}
 use Rattle.t1_forms.specs.PageValues.{PageValue, place_among}
 use Rattle.t1_forms.specs.Pages.{pages}
 use Rattle.t1_forms.specs.Shown.{hexadecimal_digit, shown}
+use Rattle.t1_forms.specs.Tellings.{ReasonValue}
 
 -- ---- rules
 
@@ -139,6 +140,11 @@ abbrev pub line_message : LineValue → List ℕ → List ℕ
 line_message (of_fault l) line = shown (behind_colon line)
 line_message (of_refusal code) line = shown line
 
+-- And then the reason, where there is one.
+abbrev pub and_reason : List ℕ → Option ReasonValue → List ℕ
+and_reason message None = message
+and_reason message (Some r) = message ++ (codes ": " ++ shown r.text)
+
 -- The unit that a line speaks of, after the font's name.
 abbrev pub place_unit : PlaceValue → List ℕ
 place_unit (at_key key index) = codes " font " ++ key_text_of key
@@ -157,11 +163,11 @@ unit_of font l = shown (unwrap_or font []) ++ line_unit l
 abbrev pub fingerprint : List ℕ → LineValue → ℕ → List ℕ
 fingerprint unit l count = unit ++ (32 ∷ (line_id l ++ (32 ∷ decimal count)))
 
-abbrev pub result_object : Option (List ℕ) → LineValue → List ℕ → List ℕ → Data
-result_object font l line print =
+abbrev pub result_object : Option (List ℕ) → LineValue → List ℕ → Option ReasonValue → List ℕ → Data
+result_object font l line reason print =
     object (member (codes "level") (string (line_level l))
     (member (codes "locations") (line_locations font l)
-    (member (codes "message") (text_object (line_message l line))
+    (member (codes "message") (text_object (and_reason (line_message l line) reason))
     (member (codes "partialFingerprints") (object (member (codes "t1check/v1") (string print) no_members))
     (member (codes "ruleId") (string (line_id l))
     (member (codes "ruleIndex") (number (unsigned (place_among pages (line_code l)))) no_members))))))

@@ -3,12 +3,12 @@
 ghost use Rattle.std.specs.Prelude.{◌≡◌, ◌++◌, ◌∷◌, [], IfNone, IfSome, option_map};
 ghost use Rattle.std.specs.List.{flat_map};
 ghost use Rattle.t1_io.specs.Devices.{Writes};
-ghost use Rattle.t1_forms.specs.Commands.{command, command_kind, command_of, file_property, level_kind, rule_command, title_code, title_text};
+ghost use Rattle.t1_forms.specs.Commands.{command, command_kind, command_of, file_property, level_kind, message_byte, rule_command, title_code, title_text, with_reason};
 ghost use Rattle.t1_forms.specs.Private.Escapes.{byte_in};
-ghost use Rattle.t1_forms.specs.Tellings.{told_value, what_value};
+ghost use Rattle.t1_forms.specs.Tellings.{reason_value, told_value, what_value};
 
 use crate::objects::{refusal_code, refusal_reason};
-use crate::{Told, What};
+use crate::{Told, ToldReason, What};
 use t1_io::{Broken, Sink, put_all, put_parts};
 use t1_lines::Line;
 use t1_rules::{Level, Rule, rule_code, rule_level, rule_text};
@@ -120,28 +120,47 @@ struct Head {
     text: &'static [u8],
 }
 
+/// Writes what is shown: a line, and the reason after it, where there is one.
+fn put_message<W: Sink>(
+    sink: &mut W,
+    line: &[u8],
+    reason: Option<&ToldReason<'_>>,
+) -> Result<(), Broken>
+    ensures { Writes (W.state sink.old) (W.state sink.new)
+        (flat_map message_byte (with_reason line.now (option_map (λ reason. reason_value reason.now) reason.entry))) result }
+{
+    put_escaped(sink, line, Part::Message)?;
+    let Some(reason) = reason else {
+        return Ok(());
+    };
+    put_all(sink, b": ")?;
+    put_escaped(sink, reason.text, Part::Message)
+}
+
 /// Writes a command with this head, of this font.
 fn put_command<W: Sink>(
     sink: &mut W,
     head: &Head,
     font: Option<&[u8]>,
     message: &[u8],
+    reason: Option<&ToldReason<'_>>,
 ) -> Result<(), Broken>
     ensures { Writes (W.state sink.old) (W.state sink.new)
-        (command head.now.kind.now (option_map (λ name. name.now) font.entry) head.now.code.now head.now.text.now message.now) result }
+        (command head.now.kind.now (option_map (λ name. name.now) font.entry) head.now.code.now head.now.text.now
+        (with_reason message.now (option_map (λ reason. reason_value reason.now) reason.entry))) result }
 {
     put_parts(sink, &[b"::", head.kind, b" "])?;
     put_file(sink, font)?;
     put_parts(sink, &[b"title=", head.code, b" "])?;
     put_escaped(sink, head.text, Part::Property)?;
     put_all(sink, b"::")?;
-    put_escaped(sink, message, Part::Message)?;
+    put_message(sink, message, reason)?;
     put_all(sink, b"\n")
 }
 
 /// Writes a command that shows a line of t1check at the font: an error, a warning or a notice of a fault, by its rule's level, an
-/// error where the font was refused or wasn't checked. A font has no lines of text, so line 1 is named. After a failure a prefix of
-/// the command went out.
+/// error where the font was refused or wasn't checked. After the line is the reason, where there is one. A font has no lines of text,
+/// so line 1 is named. After a failure a prefix of the command went out.
 pub fn write_command<W: Sink>(sink: &mut W, told: &Told<'_>) -> Result<(), Broken>
     ensures { Writes (W.state sink.old) (W.state sink.new) (command_of (told_value told.now) told.now.line.now) result }
 {
@@ -150,7 +169,7 @@ pub fn write_command<W: Sink>(sink: &mut W, told: &Told<'_>) -> Result<(), Broke
         code: code(&told.what),
         text: text(&told.what),
     };
-    put_command(sink, &head, told.font, told.line)
+    put_command(sink, &head, told.font, told.line, told.reason.as_ref())
 }
 
 /// Writes a command that shows a message of a rule at the font, by the rule's level and with its text as the title. After a
@@ -169,5 +188,5 @@ pub fn write_rule_command<W: Sink>(
         code: rule_code(rule).as_bytes(),
         text: rule_text(rule).as_bytes(),
     };
-    put_command(sink, &head, font, message)
+    put_command(sink, &head, font, message, None)
 }

@@ -1,6 +1,6 @@
 //! Laws above the definitions: each is the contract of a function that does nothing, but for calling the laws on which it rests.
 
-ghost use Rattle.t1_forms.specs.Laws.{ATextTellsOneLine, CommandsAreReadBack, DifferentTellingsHaveDifferentObjects, PartsStayInCommands, ShownNamesAreWords};
+ghost use Rattle.t1_forms.specs.Laws.{ATextTellsOneLine, AnObjectTellsOneLine, CommandsAreReadBack, DifferentTellingsHaveDifferentObjects, PartsStayInCommands, ShownNamesAreWords};
 
 use t1_lines::{a_text_is_one_line, no_line_stands_in_another};
 
@@ -20,9 +20,10 @@ pub fn shown_names_are_words()
 {}
 
 /// What is reported differently has different objects: an object says again which font, which place and which rule it is of, or which
-/// refusal, or why the font wasn't checked.
+/// refusal, or why the font wasn't checked; and the text and the object of the reason.
 pub fn different_tellings_have_different_objects()
-    ensures { DifferentTellingsHaveDifferentObjects }
+    ensures alike { DifferentTellingsHaveDifferentObjects }
+    ensures same { AnObjectTellsOneLine }
 {}
 
 /// What a command of GitHub shows, whatever bytes are in it, neither ends the command nor a property, and is read back as it was.

@@ -1,8 +1,9 @@
 //! The lines of t1check and t1check-all in the forms that other programs read: lines of JSON, SARIF 2.1.0, and the commands
 //! by which a workflow of GitHub reports a fault.
 //!
-//! [`read_told`] reads a line: that of one font, or with the font's name before it, or why a font wasn't checked. [`write_object`]
-//! writes it as an object in a line of its own, [`Sarif`] as a result in a document, [`write_command`] as a command.
+//! [`read_told`] reads a line: that of one font, or with the font's name before it, or why a font wasn't checked; [`read_reason`] that
+//! of a reason. [`write_object`] writes it as an object in a line of its own, [`Sarif`] as a result in a document, [`write_command`] as
+//! a command, each with the reason where there is one.
 //!
 //! What is promised, for all bytes:
 //!
@@ -31,6 +32,7 @@ mod laws;
 mod names;
 mod objects;
 mod pages;
+mod reason;
 mod sarif;
 mod sarif_laws;
 mod sarif_objects;
@@ -45,6 +47,7 @@ pub use laws::{
 };
 pub use names::shown;
 pub use objects::{object, write_object};
+pub use reason::{ToldReason, read_reason};
 pub use sarif::Sarif;
 pub use sarif_laws::{
     all_is_told_in_documents, documents_are_of_their_runs, fingerprints_stay, results_are_read_back,

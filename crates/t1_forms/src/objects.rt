@@ -1,15 +1,16 @@
 //! A line as an object of JSON.
 
-ghost use Rattle.std.specs.Prelude.{◌≡◌, IfOk, string_bytes};
-ghost use Rattle.serde_json.specs.Data.{string};
+ghost use Rattle.std.specs.Prelude.{◌≡◌, IfOk, option_map, string_bytes};
+ghost use Rattle.std.specs.Option.{option_map_or};
+ghost use Rattle.serde_json.specs.Data.{no_members, string};
 ghost use Rattle.serde_json.specs.View.{members_view, view};
 ghost use Rattle.t1_lines.specs.Lines.{at_key, at_step, at_waiver, place_value};
-ghost use Rattle.t1_forms.specs.Objects.{fault_members, list_of, members_of_all, object_line, object_of, refusal_code_of, refusal_reason_of, what_members, with_font};
+ghost use Rattle.t1_forms.specs.Objects.{fault_members, list_of, members_of_all, object_line, object_of, reason_object, refusal_code_of, refusal_reason_of, what_members, with_font};
 ghost use Rattle.t1_forms.specs.Shown.{shown};
-ghost use Rattle.t1_forms.specs.Tellings.{told_value, what_value};
+ghost use Rattle.t1_forms.specs.Tellings.{reason_value, told_value, what_value};
 ghost use Rattle.t1_forms.specs.Writing.{WritesLine};
 
-use crate::{FormatError, Told, What, shown};
+use crate::{FormatError, Told, ToldReason, What, shown};
 use serde_json::{Map, Value, put};
 use std::alloc::{AllocError, Global};
 use t1_io::{Sink, put_all};
@@ -217,17 +218,64 @@ fn what_members(alloc: Global, what: &What<'_>) -> Result<Map<String, Value>, Al
     Ok(members)
 }
 
-/// The object that a line means.
-///
-/// Its members: `unit` (`font`, `glyph`, `waiver`, `refused`, `unchecked`) and `text`; `file`, the font's name, where there is
-/// one; of a fault `number`, `code` and `level`, of a refusal `code` and `level`; in the font `key` and `index`, in a glyph `name`,
-/// `path` and `step`, of a waiver `name` and `waived`.
-pub fn object(alloc: Global, told: &Told<'_>) -> Result<Value, AllocError>
-    ensures { IfOk result (λ v. view v ≡ object_of (told_value told.now)) }
+/// The same members once more.
+fn copied(alloc: Global, members: &Map<String, Value>) -> Result<Map<String, Value>, AllocError>
+    ensures { IfOk result (λ m. members_view m.entries ≡ members_view members.now.entries) }
+{
+    let mut copies = Map::new(alloc);
+    for (key, member) in members.iter() {
+        put(&mut copies, alloc, key.as_str(), member.clone()?)?;
+    }
+    Ok(copies)
+}
+
+/// The numbers of a reason: no members where only its text is known.
+fn numbers(
+    alloc: Global,
+    numbers: Option<&Map<String, Value>>,
+) -> Result<Map<String, Value>, AllocError>
+    ensures { IfOk result (λ m. members_view m.entries
+        ≡ option_map_or (λ members. members_view members.now.entries) numbers.entry no_members) }
+{
+    match numbers {
+        Some(numbers) => copied(alloc, numbers),
+        None => Ok(Map::new(alloc)),
+    }
+}
+
+/// The object of a reason: its numbers and its text.
+fn reason_object(alloc: Global, reason: &ToldReason<'_>) -> Result<Value, AllocError>
+    ensures { IfOk result (λ v. view v ≡ reason_object (reason_value reason.now)) }
+{
+    let mut members = numbers(alloc, reason.numbers)?;
+    put(&mut members, alloc, "text", text(alloc, reason.text)?)?;
+    Ok(Value::Object(members))
+}
+
+/// The members of what is reported, with the font's name, where there is one.
+fn line_members(alloc: Global, told: &Told<'_>) -> Result<Map<String, Value>, AllocError>
+    ensures { IfOk result (λ m. members_view m.entries
+        ≡ with_font (option_map (λ name. name.now) told.now.font) (what_members (what_value told.now.what))) }
 {
     let mut members = what_members(alloc, &told.what)?;
     if let Some(font) = told.font {
         put(&mut members, alloc, "file", text(alloc, font)?)?;
+    }
+    Ok(members)
+}
+
+/// The object that a line means.
+///
+/// Its members: `unit` (`font`, `glyph`, `waiver`, `refused`, `unchecked`) and `text`; `file`, the font's name, where there is
+/// one; of a fault `number`, `code` and `level`, of a refusal `code` and `level`; in the font `key` and `index`, in a glyph `name`,
+/// `path` and `step`, of a waiver `name` and `waived`; `reason`, an object of the reason's numbers and its `text`, where there is
+/// one.
+pub fn object(alloc: Global, told: &Told<'_>) -> Result<Value, AllocError>
+    ensures { IfOk result (λ v. view v ≡ object_of (told_value told.now)) }
+{
+    let mut members = line_members(alloc, told)?;
+    if let Some(reason) = &told.reason {
+        put(&mut members, alloc, "reason", reason_object(alloc, reason)?)?;
     }
     Ok(Value::Object(members))
 }

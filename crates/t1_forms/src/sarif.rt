@@ -5,14 +5,14 @@ ghost use Rattle.serde_json.specs.Written.{comma_if, compact_text};
 ghost use Rattle.t1_lines.specs.Lines.{line_value};
 ghost use Rattle.t1_forms.specs.Sarif.{after_result, after_telling, begun, closing, counts_in, no_counts, opening, result_text, room_text, run_begin, run_end, sarif_state, telling_text, with_failure, with_room};
 ghost use Rattle.t1_forms.specs.SarifObjects.{notification_object};
-ghost use Rattle.t1_forms.specs.Tellings.{told_value};
+ghost use Rattle.t1_forms.specs.Tellings.{reason_value, told_value};
 ghost use Rattle.t1_forms.specs.Writing.{WritesLine};
 
 use crate::pages::COUNT;
 use crate::sarif_objects::{
     fingerprint, line_code, notification_text, place_of, result_text, tool_text, unit_of,
 };
-use crate::{FormatError, Told, What};
+use crate::{FormatError, Told, ToldReason, What};
 use std::alloc::{AllocError, Global};
 use t1_io::{Sink, put_all};
 use t1_lines::Line;
@@ -128,9 +128,11 @@ impl<'a> Sarif<'a> {
         font: Option<&[u8]>,
         line: &Line<'_>,
         text: &[u8],
+        reason: Option<&ToldReason<'_>>,
     ) -> Result<String, AllocError>
         ensures text { IfOk result (λ s. string_bytes s
-            ≡ result_text (sarif_state self.old) (option_map (λ name. name.now) font.entry) (line_value line.now) text.now) }
+            ≡ result_text (sarif_state self.old) (option_map (λ name. name.now) font.entry) (line_value line.now) text.now
+            (option_map (λ reason. reason_value reason.now) reason.entry)) }
         ensures state { OnOk result (sarif_state self.new
             ≡ after_result (sarif_state self.old) (option_map (λ name. name.now) font.entry) (line_value line.now)) }
     {
@@ -140,7 +142,7 @@ impl<'a> Sarif<'a> {
         let count = self.counts[place].saturating_add(1);
         self.counts[place] = count;
         let print = fingerprint(alloc, self.unit.as_str(), line, count)?;
-        let result = result_text(alloc, font, line, text, print.as_str())?;
+        let result = result_text(alloc, font, line, text, reason, print.as_str())?;
         let later = self.has_results;
         self.has_results = true;
         separated(alloc, later, result.as_str())
@@ -199,7 +201,13 @@ impl<'a> Sarif<'a> {
         ensures state { OnOk result (sarif_state self.new ≡ after_telling (sarif_state self.old) (told_value told.now) told.now.line.now) }
     {
         match &told.what {
-            What::Line(line) => self.result(alloc, told.font, line, told.line),
+            What::Line(line) => self.result(
+                alloc,
+                told.font,
+                line,
+                told.line,
+                told.reason.as_ref(),
+            ),
             What::Unchecked(_) => self.failure(alloc, told.font, told.line),
         }
     }

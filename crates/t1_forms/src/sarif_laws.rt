@@ -1,6 +1,6 @@
 //! Laws of documents of SARIF: each is the contract of a function that does nothing.
 
-ghost use Rattle.t1_forms.specs.SarifDocuments.{AllIsTold, CountsAreOfTheirUnits, DocumentsAreOfTheirRuns, MessagesHaveNoNumber, UrisAreReadBack};
+ghost use Rattle.t1_forms.specs.SarifDocuments.{AllIsTold, CountsAreOfTheirUnits, DocumentsAreOfTheirRuns, MessagesHaveNoNumber, ReasonsLeaveNoTrace, UrisAreReadBack};
 
 /// What `Sarif` writes from its beginning to its end is one document: runs with commas between them, each with its tool, its rules, the
 /// results of its lines and the fonts that weren't checked.
@@ -19,7 +19,8 @@ pub fn results_are_read_back()
     ensures uris { UrisAreReadBack }
 {}
 
-/// What a line is known by stays where lines of other codes, or of other units, come or go.
+/// What a line is known by stays where lines of other codes, or of other units, come or go, and where reasons are reported or not.
 pub fn fingerprints_stay()
-    ensures { CountsAreOfTheirUnits }
+    ensures counts { CountsAreOfTheirUnits }
+    ensures reasons { ReasonsLeaveNoTrace }
 {}

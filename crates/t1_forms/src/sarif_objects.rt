@@ -9,12 +9,13 @@ ghost use Rattle.t1_lines.specs.Lines.{at_step, line_value, place_value};
 ghost use Rattle.t1_forms.specs.PageValues.{page_value, place_among};
 ghost use Rattle.t1_forms.specs.Pages.{pages};
 ghost use Rattle.t1_forms.specs.Shown.{shown};
-ghost use Rattle.t1_forms.specs.SarifObjects.{behind_colon, fault_locations, fingerprint, font_locations, help_object, is_plain_in_uri, level_coded, line_code, level_object, line_id, line_level, line_locations, line_message, line_unit, logical_location, logical_locations, notification_object, one, page_members, page_object, physical_location, place_unit, result_object, sarif_level, text_object, tool_object, unit_of, uri_byte};
+ghost use Rattle.t1_forms.specs.Tellings.{reason_value};
+ghost use Rattle.t1_forms.specs.SarifObjects.{and_reason, behind_colon, fault_locations, fingerprint, font_locations, help_object, is_plain_in_uri, level_coded, line_code, level_object, line_id, line_level, line_locations, line_message, line_unit, logical_location, logical_locations, notification_object, one, page_members, page_object, physical_location, place_unit, result_object, sarif_level, text_object, tool_object, unit_of, uri_byte};
 
 use crate::names::hexadecimal_digit;
 use crate::objects::refusal_code;
 use crate::pages::{COUNT, Page, pages};
-use crate::{VERSION, shown};
+use crate::{ToldReason, VERSION, shown};
 use serde_json::{Map, Value, json, put};
 use std::alloc::{AllocError, Global};
 use t1_lines::{Line, Place};
@@ -394,6 +395,39 @@ fn line_message(alloc: Global, line: &Line<'_>, text: &[u8]) -> Result<String, A
     }
 }
 
+/// A message with the reason after it, where there is one.
+fn and_reason(
+    alloc: Global,
+    message: String,
+    reason: Option<&ToldReason<'_>>,
+) -> Result<String, AllocError>
+    ensures { IfOk result (λ s. string_bytes s
+        ≡ and_reason (string_bytes message) (option_map (λ reason. reason_value reason.now) reason.entry)) }
+{
+    let Some(reason) = reason else {
+        return Ok(message);
+    };
+    let text = shown(alloc, reason.text)?;
+    let mut whole = message;
+    whole.push_str(": ")?;
+    whole.push_str(text.as_str())?;
+    Ok(whole)
+}
+
+/// What is shown of a line and its reason.
+fn message(
+    alloc: Global,
+    line: &Line<'_>,
+    text: &[u8],
+    reason: Option<&ToldReason<'_>>,
+) -> Result<String, AllocError>
+    ensures { IfOk result (λ s. string_bytes s
+        ≡ and_reason (line_message (line_value line.now) text.now) (option_map (λ reason. reason_value reason.now) reason.entry)) }
+{
+    let message = line_message(alloc, line, text)?;
+    and_reason(alloc, message, reason)
+}
+
 /// The unit of a fault, after the font's name.
 fn place_unit(alloc: Global, place: &Place<'_>) -> Result<String, AllocError>
     ensures { IfOk result (λ s. string_bytes s ≡ place_unit (place_value place.now)) }
@@ -455,12 +489,14 @@ fn result_object(
     font: Option<&[u8]>,
     line: &Line<'_>,
     text: &[u8],
+    reason: Option<&ToldReason<'_>>,
     print: &str,
 ) -> Result<Value, AllocError>
     ensures { IfOk result (λ v. view v
-        ≡ result_object (option_map (λ name. name.now) font.entry) (line_value line.now) text.now print.now) }
+        ≡ result_object (option_map (λ name. name.now) font.entry) (line_value line.now) text.now
+        (option_map (λ reason. reason_value reason.now) reason.entry) print.now) }
 {
-    let message = line_message(alloc, line, text)?;
+    let message = message(alloc, line, text, reason)?;
     let mut members = Map::new(alloc);
     put(
         &mut members,
@@ -507,12 +543,14 @@ pub(crate) fn result_text(
     font: Option<&[u8]>,
     line: &Line<'_>,
     text: &[u8],
+    reason: Option<&ToldReason<'_>>,
     print: &str,
 ) -> Result<String, AllocError>
     ensures { IfOk result (λ s. string_bytes s
-        ≡ compact_text (result_object (option_map (λ name. name.now) font.entry) (line_value line.now) text.now print.now)) }
+        ≡ compact_text (result_object (option_map (λ name. name.now) font.entry) (line_value line.now) text.now
+        (option_map (λ reason. reason_value reason.now) reason.entry) print.now)) }
 {
-    let text = result_object(alloc, font, line, text, print)?.to_string(alloc)?;
+    let text = result_object(alloc, font, line, text, reason, print)?.to_string(alloc)?;
     Ok(text)
 }
 

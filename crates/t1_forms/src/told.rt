@@ -6,6 +6,7 @@ ghost use Rattle.t1_lines.specs.Lines.{LineValue, IsLine, line_value, spelled};
 ghost use Rattle.t1_forms.specs.Tellings.{IsNotTold, IsToldAs, IsUncheckedOnly, unchecked_line};
 ghost use Rattle.t1_forms.specs.Private.Searches.{IsLineBehind, IsOfLine, NoLine, NoReason};
 
+use crate::ToldReason;
 use t1_io::{Broken, Sink, put_parts};
 use t1_lines::{Line, read};
 
@@ -13,7 +14,7 @@ use t1_lines::{Line, read};
 const UNCHECKED: &[u8] = b"t1check: ";
 
 /// What is reported in a line.
-#[derive(Debug, PartialEq, Eq, Drop)]
+#[derive(Debug, PartialEq, Drop)]
 pub struct Told<'a> {
     /// The font's name, which is before `: `; none where t1check's own line is alone.
     pub font: Option<&'a [u8]>,
@@ -21,6 +22,8 @@ pub struct Told<'a> {
     pub what: What<'a>,
     /// The line of t1check, which is after the font's name.
     pub line: &'a [u8],
+    /// Why the place is broken, where that is reported too.
+    pub reason: Option<ToldReason<'a>>,
 }
 
 /// What t1check reports of a font.
@@ -65,6 +68,7 @@ fn line_of_font(text: &[u8]) -> Option<Told<'_>>
                 font: Some(font),
                 what: What::Line(read),
                 line,
+                reason: None,
             });
         }
     }
@@ -106,6 +110,7 @@ fn reason_of_font(text: &[u8]) -> Option<Told<'_>>
                 font: Some(font),
                 what: What::Unchecked(reason),
                 line,
+                reason: None,
             });
         }
     }
@@ -115,7 +120,7 @@ fn reason_of_font(text: &[u8]) -> Option<Told<'_>>
 /// Reads a line, without its end: None where it is none that t1check or t1check-all writes.
 ///
 /// A name may hold anything. A line of a report or a refusal goes before a reason why a font wasn't checked, and such a reason
-/// has no `: t1check: ` in it.
+/// has no `: t1check: ` in it. A line has no reason in it: [`crate::read_reason`] reads that of a reason.
 pub fn read_told(text: &[u8]) -> Option<Told<'_>>
     ensures spelled { IfSome result (IsToldAs text.now) }
     ensures unchecked { IfSome result (IsUncheckedOnly text.now) }
@@ -126,6 +131,7 @@ pub fn read_told(text: &[u8]) -> Option<Told<'_>>
             font: None,
             what: What::Line(line),
             line: text,
+            reason: None,
         });
     }
     if let Some(told) = line_of_font(text) {
@@ -139,6 +145,7 @@ pub fn read_told(text: &[u8]) -> Option<Told<'_>>
         font: None,
         what: What::Unchecked(reason),
         line: text,
+        reason: None,
     })
 }
 

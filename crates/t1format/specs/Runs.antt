@@ -1,11 +1,14 @@
--- What a run of t1format writes of a text and reports of it, line by line.
-use Rattle.std.specs.Prelude.{◌≡◌, ℕ, ◌+◌, ◌<◌, ◌==◌, List, [], ◌++◌, codes, length, Bool, Option, Some, None, option_map, string_bytes}
+-- What a run of t1format writes of a text and reports of it, line by line. A fault's line can have a reason's line after it.
+use Rattle.std.specs.Prelude.{◌≡◌, ℕ, ◌+◌, ◌<◌, ◌==◌, List, [], ◌++◌, codes, length, Bool, true, false, Option, Some, None, option_map, string_bytes}
 use Rattle.std.specs.Fmt.{decimal}
 use Rattle.std.specs.Io.BufRead.{drop_through, first_piece}
+use Rattle.serde_json.specs.Data.{no_members}
+use Rattle.t1_lines.specs.Lines.{of_fault, of_refusal}
 use Rattle.t1_forms.specs.Commands.{command_of}
 use Rattle.t1_forms.specs.Objects.{object_line}
+use Rattle.t1_forms.specs.ReasonLines.{IsReasonLine}
 use Rattle.t1_forms.specs.Sarif.{SarifState, after_telling, begun, closing, opening, sarif_state, telling_text}
-use Rattle.t1_forms.specs.Tellings.{IsNoLine, IsNotTold, IsWhat, ToldValue, of_unchecked, told_spelled, what_spelled}
+use Rattle.t1_forms.specs.Tellings.{IsNoLine, IsNotTold, IsWhat, ToldValue, WhatValue, of_line, of_unchecked, told_spelled, what_spelled}
 use Rattle.t1_io.specs.Devices.{Delivered, SinkState, Wrote}
 use Rattle.t1format.specs.declared.command_line.Form.{Form}
 use Rattle.t1format.specs.declared.command_line.Form.TheVariants as asked
@@ -59,11 +62,12 @@ after_in objects t line = objects
 after_in commands t line = commands
 after_in (document state) t line = document (after_telling state t line)
 
--- What a line is read as; why a font wasn't checked only where it is no line of a report or a refusal.
+-- What a line is read as; why a font wasn't checked only where it is no line of a report or a refusal. No reason is in a line.
 pub record IsReadAs (line : List ℕ) (t : ToldValue) : Type 0 where
   pub what : IsWhat t.what
   pub spelled : told_spelled t ≡ line
   pub unchecked : (reason : List ℕ) → t.what ≡ of_unchecked reason → IsNoLine line
+  pub plain : t.reason ≡ None
 
 -- A line that names no font is of the one that is given, where one is.
 abbrev pub font_or : Option (List ℕ) → Option (List ℕ) → Option (List ℕ)
@@ -71,30 +75,64 @@ font_or (Some name) font = Some name
 font_or None font = font
 
 abbrev pub of_font : Option (List ℕ) → ToldValue → ToldValue
-of_font font t = record { font = font_or t.font font; what = t.what }
+of_font font t = record { font = font_or t.font font; what = t.what; reason = t.reason }
+
+-- ---- reasons
+
+-- The lines of faults can have a reason's after them; so can those of waivers that aren't used.
+abbrev pub is_fault : WhatValue → Bool
+is_fault (of_line (of_fault l)) = true
+is_fault (of_line (of_refusal code)) = false
+is_fault (of_unchecked reason) = false
+
+-- A line that can only be a reason's.
+abbrev pub IsOnlyReason : List ℕ → List ℕ → Type 0
+IsOnlyReason line reason = IsNotTold line × IsReasonLine line reason
+
+-- A fault with a reason, of which only the text is known.
+abbrev pub explained : List ℕ → ToldValue → ToldValue
+explained reason t = record t { reason = Some (record { text = reason; numbers = no_members }) }
+
+-- ---- lines
 
 -- What is reported of a line that is none.
 abbrev pub passed_line : ℕ → List ℕ
 passed_line number = codes "t1format: line " ++ (decimal number ++ codes ": no line of t1check\n")
 
--- What is written of a line, and what is reported of it: its text, and nothing; or nothing, and its number.
-pub data IsOfLine (font : Option (List ℕ)) (writing next : Writing) (number : ℕ) (line written told : List ℕ) : Type 0 where
+-- What is written of a line, and what is reported of it: its text, and nothing; or nothing, and its number. The line after a fault's is no
+-- reason's.
+pub data IsOfLine (font : Option (List ℕ)) (writing next : Writing) (number : ℕ) (line after written told : List ℕ) : Type 0 where
   read :
-      (t : ToldValue) → IsReadAs line t → written ≡ text_in writing (of_font font t) (what_spelled t.what)
+      (t : ToldValue) → IsReadAs line t → (is_fault t.what ≡ true → (reason : List ℕ) → ¬ IsOnlyReason after reason) → written ≡ text_in writing (of_font font t) (what_spelled t.what)
       → next ≡ after_in writing (of_font font t) (what_spelled t.what) → told ≡ []
-      → IsOfLine font writing next number line written told
+      → IsOfLine font writing next number line after written told
   passed :
       IsNotTold line → written ≡ [] → next ≡ writing → told ≡ passed_line number
-      → IsOfLine font writing next number line written told
+      → IsOfLine font writing next number line after written told
+
+-- What is written of a fault's line and of its reason's after it.
+pub record IsOfBoth (font : Option (List ℕ)) (writing next : Writing) (line after written : List ℕ) : Type 0 where
+  pub fault : ToldValue
+  pub reason : List ℕ
+  pub is_read : IsReadAs line fault
+  pub is_fault_line : is_fault fault.what ≡ true
+  pub is_reason : IsOnlyReason after reason
+  pub text : written ≡ text_in writing (explained reason (of_font font fault)) (what_spelled fault.what)
+  pub then : next ≡ after_in writing (explained reason (of_font font fault)) (what_spelled fault.what)
 
 -- The same of the lines of a text, from one of a number on. Each ends with byte 10, or with the text.
 pub data AreOfLines (font : Option (List ℕ)) (last : Writing) : Writing → ℕ → List ℕ → List ℕ → List ℕ → Type 0 where
   none : (number : ℕ) → AreOfLines font last last number [] [] []
   line :
       (writing next : Writing) (number : ℕ) (text written told more more_told : List ℕ) → 0 < length text
-      → IsOfLine font writing next number (first_piece 10 text) written told
+      → IsOfLine font writing next number (first_piece 10 text) (first_piece 10 (drop_through 10 text)) written told
       → AreOfLines font last next (number + 1) (drop_through 10 text) more more_told
       → AreOfLines font last writing number text (written ++ more) (told ++ more_told)
+  both :
+      (writing next : Writing) (number : ℕ) (text written more more_told : List ℕ) → 0 < length text
+      → IsOfBoth font writing next (first_piece 10 text) (first_piece 10 (drop_through 10 text)) written
+      → AreOfLines font last next (number + 2) (drop_through 10 (drop_through 10 text)) more more_told
+      → AreOfLines font last writing number text (written ++ more) more_told
 
 -- Of all lines of a text this was written, and this reported. The run returns whether each was one.
 pub record AreWritten

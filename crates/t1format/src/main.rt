@@ -6,8 +6,9 @@
 //! {"code":"F01","file":"font.pfb","index":0,"key":"file","number":1,"text":"no end segment","unit":"font"}
 //! ```
 //!
-//! Each line is written when it was read, and takes memory only for itself. A line that is none is named on standard error and
-//! skipped; then the status is 3, as where memory ran out or a device failed.
+//! A line is written when it was read, that of a fault when the next one was, which may be its reason. It takes memory only for
+//! itself. A line that is none is named on standard error and skipped; then the status is 3, as where memory ran out or a device
+//! failed.
 #![tactic(auto)]
 
 mod command_line;

@@ -1,17 +1,19 @@
 //! The program's run: line by line.
 
-ghost use Rattle.std.specs.Prelude.{◌≡◌, ◌<◌, ◌^◌, ℕ, List, Some, IfOk, length, option_map};
-ghost use Rattle.t1_forms.specs.Tellings.{told_value};
+ghost use Rattle.std.specs.Prelude.{◌≡◌, ◌&&◌, ◌<◌, ◌+◌, ◌^◌, ℕ, List, Some, IfNone, IfOk, IfSome, length, option_map, true};
+ghost use Rattle.t1_forms.specs.Tellings.{told_value, what_value};
 ghost use Rattle.t1_io.specs.Devices.{Wrote};
-ghost use Rattle.t1format.specs.Runs.{AreWritten, IsRunOver, docs_of, font_of, of_font, passed_line, writing_of};
+ghost use Rattle.t1format.specs.Runs.{AreWritten, IsOnlyReason, IsRunOver, docs_of, explained, font_of, is_fault, of_font, passed_line, writing_of};
 ghost use Rattle.t1format.specs.Private.Lines.{IsDone, ReadsLine};
 
 use crate::command_line::Options;
 use crate::writer::Writer;
 use std::alloc::{AllocError, Global};
 use std::io::{BufRead, ErrorKind};
-use t1_forms::{FormatError, Told, read_told};
+use std::mem::swap;
+use t1_forms::{FormatError, Told, ToldReason, What, read_reason, read_told};
 use t1_io::{Broken, Sink, put_parts};
+use t1_lines::Line;
 use t1_run::Failure;
 
 /// Why the run ended before all lines were written.
@@ -44,7 +46,7 @@ impl From<Broken> for Stop {
     }
 }
 
-/// Reads the next line, without its end: false where there is none.
+/// Reads the next line, without its end: false where there is none, and then the line is empty.
 fn read_line<R: BufRead>(input: &mut R, line: &mut Vec<u8>) -> Result<bool, Stop>
     ensures { (text : List ℕ) → R.remaining input.old ≡ Some text →
         IfOk result (λ is. ReadsLine text line.new.items (R.remaining input.new) is) }
@@ -88,32 +90,141 @@ fn of_font<'a>(told: Told<'a>, font: Option<&'a [u8]>) -> Told<'a>
         font: told.font.or(font),
         what: told.what,
         line: told.line,
+        reason: told.reason,
     }
 }
 
-/// Writes a line, and returns whether it is one: what is none is named by its number and skipped.
-fn write_line<W: Sink, E: Sink>(
+/// Whether it is the line of a fault or of a waiver that isn't used: a reason's can be after it.
+fn is_fault(what: &What<'_>) -> bool
+    ensures { result ≡ is_fault (what_value what.now) }
+{
+    matches!(what, What::Line(Line::Fault(_)))
+}
+
+/// The reason in a line that can only be a reason's.
+fn only_reason(line: &[u8]) -> Option<&[u8]>
+    ensures some { IfSome result (λ reason. IsOnlyReason line.now reason.now) }
+    ensures none { IfNone result ((reason : List ℕ) → ¬ IsOnlyReason line.now reason) }
+{
+    let reason = read_reason(line)?;
+    match read_told(line) {
+        Some(_) => None,
+        None => Some(reason),
+    }
+}
+
+/// A fault with its reason.
+fn explained<'a>(told: Told<'a>, reason: &'a [u8]) -> Told<'a>
+    ensures told { told_value result ≡ explained reason.now (told_value told.entry) }
+    ensures line { result.line.now ≡ told.entry.line.now }
+{
+    Told {
+        font: told.font,
+        what: told.what,
+        line: told.line,
+        reason: Some(ToldReason {
+            text: reason,
+            numbers: None,
+        }),
+    }
+}
+
+/// What became of a line.
+#[derive(Clone, Copy)]
+enum Outcome {
+    /// It was written.
+    Written,
+    /// It was written with the reason in the line after it.
+    WithReason,
+    /// It is no line: it was named by its number and skipped.
+    Passed,
+}
+
+impl Outcome {
+    ghost use Rattle.t1format.specs.Private.Lines.{are_told, lines_of};
+
+    /// How many lines these are.
+    fn count(self) -> u64
+        ensures { result ≡ lines_of self }
+    {
+        match self {
+            Outcome::Written | Outcome::Passed => 1,
+            Outcome::WithReason => 2,
+        }
+    }
+
+    /// Whether they are lines of t1check.
+    fn are_told(self) -> bool
+        ensures { result ≡ are_told self }
+    {
+        match self {
+            Outcome::Written | Outcome::WithReason => true,
+            Outcome::Passed => false,
+        }
+    }
+
+    /// The same of these and of all lines before them.
+    fn are_all_told(self, before: bool) -> bool
+        ensures { result ≡ (before && are_told self) }
+    {
+        before && self.are_told()
+    }
+}
+
+/// The line that is next to be written, and room for the one after it.
+#[derive(Drop)]
+struct Lines {
+    line: Vec<u8>,
+    /// False where all lines were read.
+    is_line: bool,
+    after: Vec<u8>,
+}
+
+/// Writes the line that was read, with the reason in the line after it, where there is one. Then reads the next line.
+fn write_line<R: BufRead, W: Sink, E: Sink>(
     alloc: Global,
     writer: &mut Writer<'_>,
     font: Option<&[u8]>,
     number: u64,
-    line: &[u8],
+    lines: &mut Lines,
+    input: &mut R,
     out: &mut W,
     errors: &mut E,
-) -> Result<bool, Stop>
-    ensures { IfOk result (λ is. IsDone (option_map (λ name. name.now) font.entry) (writing_of writer.old) (writing_of writer.new) number line.now
-        (W.state out.old) (W.state out.new) (E.state errors.old) (E.state errors.new) is) }
+) -> Result<Outcome, Stop>
+    ensures { (text : List ℕ) → ReadsLine text lines.old.line.items (R.remaining input.old) true
+        → IfOk result (IsDone (option_map (λ name. name.now) font.entry) (writing_of writer.old) (writing_of writer.new) number text
+        lines.new.line.items (R.remaining input.new) lines.new.is_line
+        (W.state out.old) (W.state out.new) (E.state errors.old) (E.state errors.new)) }
 {
-    match read_told(line) {
-        Some(told) => {
-            writer.put(alloc, out, &of_font(told, font))?;
-            Ok(true)
-        }
-        None => {
-            tell_of_line(alloc, errors, number)?;
-            Ok(false)
-        }
+    let Some(read) = read_told(lines.line.as_slice()) else {
+        tell_of_line(alloc, errors, number)?;
+        lines.is_line = read_line(input, &mut lines.line)?;
+        return Ok(Outcome::Passed);
+    };
+    let is_fault = is_fault(&read.what);
+    let told = of_font(read, font);
+    if !is_fault {
+        writer.put(alloc, out, &told)?;
+        lines.is_line = read_line(input, &mut lines.line)?;
+        return Ok(Outcome::Written);
     }
+    let is_after = read_line(input, &mut lines.after)?;
+    if let Some(reason) = only_reason(lines.after.as_slice()) {
+        writer.put(alloc, out, &explained(told, reason))?;
+        lines.is_line = read_line(input, &mut lines.line)?;
+        return Ok(Outcome::WithReason);
+    }
+    writer.put(alloc, out, &told)?;
+    swap(&mut lines.line, &mut lines.after);
+    lines.is_line = is_after;
+    Ok(Outcome::Written)
+}
+
+/// So many lines later; it stays at the greatest number.
+fn later(number: u64, lines: u64) -> u64
+    ensures { number + lines < 2 ^ 64 → result ≡ number + lines }
+{
+    number.saturating_add(lines)
 }
 
 /// Writes each line of the input, up to its end, and returns whether each was one.
@@ -129,21 +240,28 @@ fn write_lines<R: BufRead, W: Sink, E: Sink>(
         → IfOk result (AreWritten (option_map (λ name. name.now) font.entry) (writing_of writer.old) (writing_of writer.new) text
         (W.state out.old) (W.state out.new) (E.state errors.old) (E.state errors.new)) }
 {
-    let mut line = Vec::new(alloc);
+    let mut lines = Lines {
+        line: Vec::new(alloc),
+        is_line: false,
+        after: Vec::new(alloc),
+    };
+    lines.is_line = read_line(input, &mut lines.line)?;
+    let mut number = 1;
     let mut are_lines = true;
-    for number in 1..u64::MAX {
-        if !read_line(input, &mut line)? {
+    for _turn in 0..u64::MAX {
+        if !lines.is_line {
             return Ok(are_lines);
         }
-        let is_line = write_line(alloc, writer, font, number, line.as_slice(), out, errors)?;
-        are_lines = are_lines && is_line;
+        let outcome = write_line(alloc, writer, font, number, &mut lines, input, out, errors)?;
+        number = later(number, outcome.count());
+        are_lines = outcome.are_all_told(are_lines);
     }
     // It isn't reached: a line takes a byte at least.
     Ok(are_lines)
 }
 
-/// Writes each line of the input in the form that is requested. Returns whether each was one: those that are none are named by
-/// their numbers and skipped.
+/// Writes each line of the input in the form that is requested, a fault's with the reason in the line after it. Returns whether
+/// each was one: those that are none are named by their numbers and skipped.
 pub fn run<R: BufRead, W: Sink, E: Sink>(
     alloc: Global,
     options: &Options,

@@ -2,29 +2,47 @@
 use Rattle.std.specs.Prelude.{◌≡◌, ℕ, ◌+◌, ◌==◌, ◌<◌, ◌≤◌, List, [], ◌++◌, Bool, true, false, Option, Some, length}
 use Rattle.std.specs.Io.BufRead.{drop_through, first_piece}
 use Rattle.t1_io.specs.Devices.{SinkState, Wrote}
-use Rattle.t1format.specs.Runs.{AreOfLines, IsOfLine, Writing}
+use Rattle.t1format.specs.Runs.{AreOfLines, Writing}
+use Rattle.t1format.specs.declared.running.Outcome.{Outcome}
+use Rattle.t1format.specs.declared.running.Outcome.TheVariants.{Passed, WithReason, Written}
 
 -- The first line of a text, which loses it; or there is none.
 pub data ReadsLine (text line : List ℕ) (left : Option (List ℕ)) (is : Bool) : Type 0 where
-  none : text ≡ [] → is ≡ false → ReadsLine text line left is
+  none : text ≡ [] → line ≡ [] → left ≡ Some [] → is ≡ false → ReadsLine text line left is
   some : 0 < length text → line ≡ first_piece 10 text → left ≡ Some (drop_through 10 text) → is ≡ true → ReadsLine text line left is
 
--- A line was written, or reported to be none.
+-- How many lines were read, and whether they were lines of t1check.
+abbrev pub lines_of : Outcome → ℕ
+lines_of Written = 1
+lines_of WithReason = 2
+lines_of Passed = 1
+
+abbrev pub are_told : Outcome → Bool
+are_told Written = true
+are_told WithReason = true
+are_told Passed = false
+
+-- Of the first line of a text, and of the reason's after it, this was written and reported. Then the line after them was read.
 pub record IsDone
-    (font : Option (List ℕ)) (writing next : Writing) (number : ℕ) (line : List ℕ) (out out' errors errors' : SinkState) (is_line : Bool) : Type 0 where
+    (font : Option (List ℕ)) (writing next : Writing) (number : ℕ) (text line : List ℕ) (left : Option (List ℕ)) (is : Bool)
+    (out out' errors errors' : SinkState) (outcome : Outcome) : Type 0 where
+  pub rest : List ℕ
+  pub ahead : ReadsLine rest line left is
   pub written : List ℕ
   pub told : List ℕ
-  pub of_line : IsOfLine font writing next number line written told
+  pub goes_on : (last : Writing) (more more_told : List ℕ) → AreOfLines font last next (number + lines_of outcome) rest more more_told
+      → AreOfLines font last writing number text (written ++ more) (told ++ more_told)
   pub wrote : Wrote out out' written
   pub said : Wrote errors errors' told
-  pub is : is_line ≡ (length told == 0)
+  pub is_told : are_told outcome ≡ (length told == 0)
+  pub count : lines_of outcome + length rest ≤ length text
 
--- The same of the lines before one of a number, given what is left of the text.
+-- The same of the lines before one of a number, which was read.
 pub record IsSoFar
-    (font : Option (List ℕ)) (writing now : Writing) (text : List ℕ) (number : ℕ) (left : Option (List ℕ)) (out out' errors errors' : SinkState)
-    (are_lines : Bool) : Type 0 where
+    (font : Option (List ℕ)) (writing now : Writing) (text : List ℕ) (number : ℕ) (line : List ℕ) (left : Option (List ℕ)) (is : Bool)
+    (out out' errors errors' : SinkState) (are_lines : Bool) : Type 0 where
   pub rest : List ℕ
-  pub is_left : left ≡ Some rest
+  pub ahead : ReadsLine rest line left is
   pub texts : List ℕ
   pub told : List ℕ
   pub goes_on : (last : Writing) (more more_told : List ℕ) → AreOfLines font last now number rest more more_told

@@ -31,14 +31,14 @@ returns-in_err-put_all g c =
     (PutFailed-second _ _ _ _ _ c.in_ok-put_parts-2.ensures
     (PutFailed-second _ _ _ _ _ c.in_ok-put_escaped.ensures (PutFailed-first _ _ _ _ c.in_err-put_all.ensures))))))
 
-pub returns-in_err-put_escaped-2 : goal.returns-in_err-put_escaped-2
-returns-in_err-put_escaped-2 g c =
-    (Writes-failed _ _ _ _ _ c.from_residual-in_err-put_escaped-2.ensures.1
+pub returns-in_err-put_message : goal.returns-in_err-put_message
+returns-in_err-put_message g c =
+    (Writes-failed _ _ _ _ _ c.from_residual-in_err-put_message.ensures.1
     (PutFailed-second _ _ _ _ _ c.in_ok-put_parts.ensures
     (PutFailed-second _ _ _ _ _ c.in_ok-put_file.ensures
     (PutFailed-second _ _ _ _ _ c.in_ok-put_parts-2.ensures
     (PutFailed-second _ _ _ _ _ c.in_ok-put_escaped.ensures
-    (PutFailed-second _ _ _ _ _ c.in_ok-put_all.ensures (PutFailed-first _ _ _ _ c.in_err-put_escaped-2.ensures)))))))
+    (PutFailed-second _ _ _ _ _ c.in_ok-put_all.ensures (PutFailed-first _ _ _ _ c.in_err-put_message.ensures)))))))
 
 pub returns : goal.returns
 returns g c =
@@ -46,4 +46,4 @@ returns g c =
     (Writes-then _ _ _ _ _ _ c.in_ok-put_file.ensures
     (Writes-then _ _ _ _ _ _ c.in_ok-put_parts-2.ensures
     (Writes-then _ _ _ _ _ _ c.in_ok-put_escaped.ensures
-    (Writes-then _ _ _ _ _ _ c.in_ok-put_all.ensures (Writes-then _ _ _ _ _ _ c.in_ok-put_escaped-2.ensures c.put_all-2.ensures))))))
+    (Writes-then _ _ _ _ _ _ c.in_ok-put_all.ensures (Writes-then _ _ _ _ _ _ c.in_ok-put_message.ensures c.put_all-2.ensures))))))

@@ -1,33 +1,28 @@
-use Rattle.std.proofs.Common.{◌≡◌, ◌∙◌, ◌&&◌, arith, subst}
-use Rattle.t1format.proofs.Runs.{all_written, one_more}
-use Rattle.t1format.specs.Private.Lines.{ReadsLine}
+use Rattle.std.proofs.Common.{◌≡◌, arith}
+use Rattle.t1format.proofs.Runs.{all_written, none_so_far, one_more}
 use Rattle.t1format.proofs.running.write_lines.Goals as goal
-use Rattle.t1format.proofs.running.write_lines.Goals.{then-are_lines, else-are_lines}
 
-pub returns-then-not-branch : goal.returns-then-not-branch
-returns-then-not-branch g c =
+pub loop-turn-init : goal.loop-turn-init
+loop-turn-init g c = λ text is few. (none_so_far _ _ _ _ _ _ _ _ (c.in_ok-lines.ensures text is), omega arith)
+
+pub returns-then-not-lines : goal.returns-then-not-lines
+returns-then-not-lines g c =
     λ text is few.
-    all_written _ _ _ _ _ _ _ _ _ _ _ _ _ (c.loop-number.invariant text is)
-    (λ rest left. subst (λ b. ReadsLine rest c.read_line.new.line.items (g.R.Read.remaining c.read_line.new.input) b)
-    c.if-not-branch.true (c.in_ok-read_line.ensures rest left))
+    let before = (c.loop-turn.invariant text is few).0 in
+    let ended = rw c.if-not-lines.true at before in
+    all_written _ _ _ _ _ _ _ _ _ _ _ _ ended
 
-pub loop-number-preserved : goal.loop-number-preserved
-loop-number-preserved g c =
-    λ text is.
-    let before = c.loop-number.invariant text is in
-    let both : c.if-are_lines.are_lines ≡ (c.loop-number.are_lines && c.in_ok-is_line.is_line) =
-    elim c.if-are_lines.branch [
-      | then-are_lines w ↦ rw w.if-are_lines.true w.are_lines-is
-      | else-are_lines w ↦ rw w.if-are_lines.false (w.are_lines-is ∙ w.if-are_lines.false)
-    ] in
-    let done = rw c.as_slice.ensures.value at c.in_ok-is_line.ensures in
-    rw both
-    (one_more _ _ _ _ _ _ _ _ _ _ _ _ _ _ _ _ _ before
-    (λ rest left. subst (λ b. ReadsLine rest c.read_line.new.line.items (g.R.Read.remaining c.read_line.new.input) b)
-    c.if-not-branch.false (c.in_ok-read_line.ensures rest left)) done)
+pub loop-turn-preserved : goal.loop-turn-preserved
+loop-turn-preserved g c =
+    λ text is few.
+    let before = c.loop-turn.invariant text is few in
+    let so_far = rw c.if-not-lines.false at before.0 in
+    let counts = rw c.count.ensures at c.later-number.ensures in
+    let more = one_more _ _ _ _ _ _ _ _ _ _ _ _ _ _ _ _ _ _ _ _ few so_far c.in_ok-outcome.ensures counts in
+    (rw c.are_all_told-are_lines.ensures more.0, omega (arith, before.1, more.1))
 
 pub returns : goal.returns
 returns g c =
     λ text is few.
-    let before = c.loop-number.invariant text is in
-    absurd (omega (arith, before.count, few, c.loop-number-test.false))
+    let before = c.loop-turn.invariant text is few in
+    absurd (omega (arith, before.0.count, before.1, few, c.loop-turn-test.false))
