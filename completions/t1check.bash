@@ -44,7 +44,7 @@ _t1check() {
         t1check-all)
             options='-j -q --edition --only --except --level --fail-on --no-waivers --write-waivers --force --baseline
                 --update-baseline --files-from --exclude --shard --format --docs --columns --colour --long
-                --no-settings --help --version'
+                --reasons --no-reasons --no-settings --help --version'
             ;;
         t1draw) options='--edition --waive --step --help' ;;
         t1format) options='--font --docs --help' ;;

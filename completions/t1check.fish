@@ -46,6 +46,8 @@ complete -c t1check-all -l docs -x -d 'Name the page of each rule below this URL
 complete -c t1check-all -l columns -x -d 'Write a line for each font and rule, cut to so many columns'
 complete -c t1check-all -l colour -d 'Colour these by level'
 complete -c t1check-all -l long -d 'Write each line of a report, also on a terminal'
+complete -c t1check-all -l reasons -d 'Tell with each line why it is there'
+complete -c t1check-all -l no-reasons -d 'Leave reasons out, also on a terminal'
 complete -c t1check-all -l no-settings -d 'Leave the settings file aside'
 complete -c t1check-all -s h -l help -d 'Print help'
 complete -c t1check-all -l version -d 'Print version and commit'

@@ -43,7 +43,7 @@ waived_by (Some text) = waivers_in text
 -- How a font is found by its file's bytes and the text of its waivers, where no read fails and memory doesn't run out.
 data IsSure (edition : Edition) (bytes : List ℕ) (text : Option (List ℕ)) (name : List ℕ) (outcome : Outcome) : Type 0 where
   sure_report :
-      (report : Report) → font_of bytes ≡ Ok report.font → waived_by text ≡ Ok report.waivers
+      (report : Report) → font_of bytes ≡ Ok report.font → waived_by text ≡ Ok report.waivers → report.edition ≡ edition
       → IsReport (checked report.font edition) report.waivers report.faults → 0 < length name → outcome ≡ reported report
       → IsSure edition bytes text name outcome
   sure_refused : (reason : Reason) → font_of bytes ≡ Err reason → outcome ≡ failed (failure_of reason) → IsSure edition bytes text name outcome
@@ -69,9 +69,9 @@ module _ (bytes_of : List ℕ → List ℕ) (text_of : List ℕ → Option (List
 
   sure : (outcome : Outcome) → IsFound edition (given_of (holding bytes_of text_of) name) outcome → IsChecked outcome
       → IsSure edition (bytes_of name) (text_of name) name outcome
-  sure outcome (reports report reads waives is same) checks =
+  sure outcome (reports report reads waives edition_is is same) checks =
       let read = read_is (Ok report.font) reads in
-      sure_report report read.1 (waived_is (Ok report.waivers) waives) is read.0 same
+      sure_report report read.1 (waived_is (Ok report.waivers) waives) edition_is is read.0 same
   sure outcome (refused reason reads same) checks = sure_refused reason (read_is (Err reason) reads).1 same
   sure outcome (waivers_refused font reads reason waives same) checks =
       sure_waivers font reason (read_is (Ok font) reads).1 (waived_is (Err reason) waives) same
@@ -81,8 +81,8 @@ module _ (bytes_of : List ℕ → List ℕ) (text_of : List ℕ → Option (List
 
 -- ---- the same is found again
 
-abbrev made : FontValue → List Waiver → List FaultValue → Outcome
-made font waivers faults = reported (record { font = font; waivers = waivers; faults = faults })
+abbrev made : FontValue → Edition → List Waiver → List FaultValue → Outcome
+made font edition waivers faults = reported (record { font = font; edition = edition; waivers = waivers; faults = faults })
 
 ok_same : {T E : Type 0} (a b : T) (r : Result T E) → r ≡ Ok a → r ≡ Ok b → a ≡ b
 ok_same a b (Ok c) is_a is_b = (let one : c ≡ a = cc in let other : c ≡ b = cc in sym one ∙ other)
@@ -97,31 +97,34 @@ either a b (Ok c) is_a is_b = cc
 either a b (Err c) is_a is_b = cc
 
 module _ (edition : Edition) (bytes : List ℕ) (text : Option (List ℕ)) (name : List ℕ) where
-  same_reports : (a b : Report) → a.font ≡ b.font → a.waivers ≡ b.waivers → IsReport (checked a.font edition) a.waivers a.faults
+  same_reports : (a b : Report) → a.font ≡ b.font → a.waivers ≡ b.waivers → a.edition ≡ edition → b.edition ≡ edition
+      → IsReport (checked a.font edition) a.waivers a.faults
       → IsReport (checked b.font edition) b.waivers b.faults → reported a ≡ reported b
-  same_reports a b fonts waivers is_a is_b =
+  same_reports a b fonts waivers edition_a edition_b is_a is_b =
       let of_font : IsReport (checked b.font edition) a.waivers a.faults =
       subst (λ (f : FontValue). IsReport (checked f edition) a.waivers a.faults) fonts is_a in
       let of_both : IsReport (checked b.font edition) b.waivers a.faults =
       subst (λ (ws : List Waiver). IsReport (checked b.font edition) ws a.faults) waivers of_font in
       let faults : a.faults ≡ b.faults = no_other_report (checked b.font edition) b.waivers a.faults b.faults of_both is_b in
-      ap (λ (f : FontValue). made f a.waivers a.faults) fonts ∙ ap (λ (ws : List Waiver). made b.font ws a.faults) waivers
-      ∙ ap (made b.font b.waivers) faults
+      ap (λ (f : FontValue). made f a.edition a.waivers a.faults) fonts
+      ∙ ap (λ (e : Edition). made b.font e a.waivers a.faults) (edition_a ∙ sym edition_b)
+      ∙ ap (λ (ws : List Waiver). made b.font b.edition ws a.faults) waivers ∙ ap (made b.font b.edition b.waivers) faults
 
   same_outcome : (a b : Outcome) → IsSure edition bytes text name a → IsSure edition bytes text name b → a ≡ b
-  same_outcome a b (sure_report r font waived is named at) (sure_report r' font' waived' is' named' at') =
-      at ∙ same_reports r r' (ok_same r.font r'.font (font_of bytes) font font') (ok_same r.waivers r'.waivers (waived_by text) waived waived') is is'
+  same_outcome a b (sure_report r font waived dated is named at) (sure_report r' font' waived' dated' is' named' at') =
+      at ∙ same_reports r r' (ok_same r.font r'.font (font_of bytes) font font') (ok_same r.waivers r'.waivers (waived_by text) waived waived')
+      dated dated' is is'
       ∙ sym at'
   same_outcome a b (sure_refused why font at) (sure_refused why' font' at') =
       at ∙ ap (λ (w : Reason). failed (failure_of w)) (err_same why why' (font_of bytes) font font') ∙ sym at'
   same_outcome a b (sure_waivers f why font waived at) (sure_waivers f' why' font' waived' at') =
       at ∙ ap (λ (w : Reason). failed (failure_of w)) (err_same why why' (waived_by text) waived waived') ∙ sym at'
-  same_outcome a b (sure_report r font waived is named at) (sure_refused why font' at') = absurd (either r.font why (font_of bytes) font font')
-  same_outcome a b (sure_report r font waived is named at) (sure_waivers f why font' waived' at') =
+  same_outcome a b (sure_report r font waived dated is named at) (sure_refused why font' at') = absurd (either r.font why (font_of bytes) font font')
+  same_outcome a b (sure_report r font waived dated is named at) (sure_waivers f why font' waived' at') =
       absurd (either r.waivers why (waived_by text) waived waived')
-  same_outcome a b (sure_refused why font at) (sure_report r font' waived is named at') = absurd (either r.font why (font_of bytes) font' font)
+  same_outcome a b (sure_refused why font at) (sure_report r font' waived dated is named at') = absurd (either r.font why (font_of bytes) font' font)
   same_outcome a b (sure_refused why font at) (sure_waivers f why' font' waived at') = absurd (either f why (font_of bytes) font' font)
-  same_outcome a b (sure_waivers f why font waived at) (sure_report r font' waived' is named at') =
+  same_outcome a b (sure_waivers f why font waived at) (sure_report r font' waived' dated is named at') =
       absurd (either r.waivers why (waived_by text) waived' waived)
   same_outcome a b (sure_waivers f why font waived at) (sure_refused why' font' at') = absurd (either f why' (font_of bytes) font font')
 
@@ -205,7 +208,7 @@ read_of bytes (Some text) font waivers is waived = record {
 readable_outcome : (rules : Mask) (edition : Edition) (bytes : List ℕ) (text : Option (List ℕ)) (name : List ℕ) (outcome : Outcome)
     → has_no_line_end name ≡ true → IsSure edition bytes text name outcome
     → AllByRecursion IsReadable (outcome_readings rules name outcome)
-readable_outcome rules edition bytes text name outcome in_line (sure_report report font waived is named same) =
+readable_outcome rules edition bytes text name outcome in_line (sure_report report font waived dated is named same) =
     subst (λ o. AllByRecursion IsReadable (outcome_readings rules name o)) (sym same) (
       reports_are_readable name report.font report.waivers report.faults edition rules (read_of bytes text report.font report.waivers font waived) is named
           in_line,

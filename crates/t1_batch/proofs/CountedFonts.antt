@@ -7,7 +7,7 @@ use Rattle.t1_batch.specs.Checks.ChecksFonts.{cut_short, whole}
 use Rattle.t1_batch.specs.Modes.{ModeValue, judges_of}
 use Rattle.t1_parts.specs.declared.part.Part.{Part}
 use Rattle.t1_char.specs.declared.edition.Edition.{Edition}
-use Rattle.t1_font.specs.Fonts.{FontValue}
+use Rattle.t1_report.specs.Checked.{CheckedFont, checked}
 use Rattle.t1_many.specs.Counting.{Counts, all_fonts, all_lines, fonts_of, lines_of}
 use Rattle.t1_many.specs.Files.{Files}
 use Rattle.t1_many.specs.Handing.{Handed, HandsOn, found_of, handed_of, is_told, line}
@@ -25,16 +25,16 @@ use Rattle.t1_summary.specs.declared.tally.Tally.{Tally}
 
 -- ---- how fonts were found is handed on once of each
 
-no_fonts : (name : List ℕ) (font : FontValue) (waivers : List Waiver) (faults : List FaultValue) → all_fonts (map (line name font waivers) faults) ≡ []
+no_fonts : (name : List ℕ) (font : CheckedFont) (waivers : List Waiver) (faults : List FaultValue) → all_fonts (map (line name font waivers) faults) ≡ []
 no_fonts name font waivers [] = refl
 no_fonts name font waivers (fault ∷ faults) = no_fonts name font waivers faults
 
 one_font : (judge : Report → FaultValue → Verdict) (name : List ℕ) (outcome : Outcome)
     → all_fonts (handed_of judge name outcome) ≡ found_of judge outcome ∷ []
 one_font judge name (reported report) =
-    flat_map-append fonts_of (map (line name report.font report.waivers) (filter (λ fault. is_told (judge report fault)) report.faults)) _
+    flat_map-append fonts_of (map (line name (checked report.font report.edition) report.waivers) (filter (λ fault. is_told (judge report fault)) report.faults)) _
     ∙ ap (λ (fs : List Found). fs ++ found_of judge (reported report) ∷ [])
-    (no_fonts name report.font report.waivers (filter (λ fault. is_told (judge report fault)) report.faults))
+    (no_fonts name (checked report.font report.edition) report.waivers (filter (λ fault. is_told (judge report fault)) report.faults))
 one_font judge name (failed reason) = refl
 
 fonts_are : (judges : List ℕ → Report → FaultValue → Verdict) (entries : List Entry)

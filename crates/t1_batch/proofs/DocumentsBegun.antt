@@ -5,7 +5,7 @@ use Rattle.t1_forms.specs.Writing.{WritesLine}
 use Rattle.t1_forms.specs.declared.error.FormatError.{FormatError}
 use Rattle.t1_forms.specs.declared.error.FormatError.TheVariants as errors
 use Rattle.t1_io.specs.Devices.{SinkState}
-use Rattle.t1_many_forms.specs.JsonLines.{IsLinePut}
+use Rattle.t1_many.specs.Plain.{IsLinePut}
 
 pub not_put : (X : Type 0) (a b : SinkState) (text : List ℕ) (error : FormatError) → WritesLine {X = X} a b text (Err error)
     → IsLinePut a b text (Some (lost_by error))

@@ -75,7 +75,7 @@ module _ (files more : Files) (includes : Includes files more) where
 
   found : (edition : Edition) (name : List ℕ) (outcome : Outcome) → IsFoundBy edition (given_of files name) outcome
       → IsFoundBy edition (given_of more name) outcome
-  found edition name outcome (reports report reads waives is_report is) =
+  found edition name outcome (reports report reads waives edition_is is_report is) =
       reports report (record {
         old = reads.old;
         new = reads.new;
@@ -83,7 +83,7 @@ module _ (files more : Files) (includes : Includes files more) where
         few = reads.few;
         read = reads.read;
         kept = reads.kept;
-      }) (waived name (Ok report.waivers) waives) is_report is
+      }) (waived name (Ok report.waivers) waives) edition_is is_report is
   found edition name outcome (refused reason reads is) =
       refused reason (record {
         old = reads.old;
@@ -137,39 +137,39 @@ module _ (files more : Files) (includes : Includes files more) where
   checks_too takes judges edition names old new Keeps result (cut_short count entries are lost stop hands why is) =
       cut_short count entries (entries_too edition _ entries are) lost stop hands why is
 
-  formatted_too : {T : Type 0} (writes : T → T → SinkState → SinkState → ToldValue → Option Lost → Type 0)
+  formatted_too : {T : Type 0} (reasons : Bool) (writes : T → T → SinkState → SinkState → ToldValue → Option Lost → Type 0)
       (finishes : T → SinkState → SinkState → Option Lost → Type 0) (unlisted : List ToldValue) (judges : List ℕ → Report → FaultValue → Verdict)
       (edition : Edition) (names : List (List ℕ)) (formatter : T) (old new : Devices) (Keeps : List Entry → Type 0) (result : Result Status Lost)
-      → WritesFormatted writes finishes unlisted judges files edition names formatter old new Keeps result
-      → WritesFormatted writes finishes unlisted judges more edition names formatter old new Keeps result
-  formatted_too writes finishes unlisted judges edition names formatter old new Keeps result
+      → WritesFormatted reasons writes finishes unlisted judges files edition names formatter old new Keeps result
+      → WritesFormatted reasons writes finishes unlisted judges more edition names formatter old new Keeps result
+  formatted_too reasons writes finishes unlisted judges edition names formatter old new Keeps result
       (formatted_written begins ended gives same status checks finished errors is) =
       formatted_written begins ended gives same status (checks_too _ judges edition names begins ended Keeps (Ok status) checks) finished errors is
-  formatted_too writes finishes unlisted judges edition names formatter old new Keeps result
+  formatted_too reasons writes finishes unlisted judges edition names formatter old new Keeps result
       (formatted_unfinished begins ended gives same status checks lost finished errors is) =
       formatted_unfinished begins ended gives same status (checks_too _ judges edition names begins ended Keeps (Ok status) checks) lost finished errors is
-  formatted_too writes finishes unlisted judges edition names formatter old new Keeps result
+  formatted_too reasons writes finishes unlisted judges edition names formatter old new Keeps result
       (formatted_stopped begins ended gives same lost checks new_is is) =
       formatted_stopped begins ended gives same lost (checks_too _ judges edition names begins ended Keeps (Err lost) checks) new_is is
-  formatted_too writes finishes unlisted judges edition names formatter old new Keeps result (formatted_unlistable left lost gives errors is) =
+  formatted_too reasons writes finishes unlisted judges edition names formatter old new Keeps result (formatted_unlistable left lost gives errors is) =
       formatted_unlistable left lost gives errors is
 
   pub written_too : (layout : LayoutValue) (unlisted : List ToldValue) (judges : List ℕ → Report → FaultValue → Verdict) (edition : Edition)
       (names : List (List ℕ)) (old new : Devices) (Keeps : List Entry → Type 0) (result : Result Status Lost)
       → WritesIn layout unlisted judges files edition names old new Keeps result → WritesIn layout unlisted judges more edition names old new Keeps result
-  written_too lines unlisted judges edition names old new Keeps result checks = checks_too _ judges edition names old new Keeps result checks
+  written_too (lines reasons) unlisted judges edition names old new Keeps result checks = checks_too _ judges edition names old new Keeps result checks
   written_too (groups terminal) unlisted judges edition names old new Keeps result (left, checks) =
       (left, checks_too _ judges edition names _ _ Keeps result checks)
-  written_too json_lines unlisted judges edition names old new Keeps result (formatter, wrote) =
-      (formatter, formatted_too _ _ unlisted judges edition names formatter old new Keeps result wrote)
-  written_too (sarif docs) unlisted judges edition names old new Keeps result (begun document behind opened is wrote) =
-      begun document behind opened is (formatted_too _ _ unlisted judges edition names document _ new Keeps result wrote)
-  written_too (sarif docs) unlisted judges edition names old new Keeps result (not_begun lost put errors is) = not_begun lost put errors is
-  written_too commands unlisted judges edition names old new Keeps result (commands_written formatter after begins flushed gives flushes (left, checks)) =
+  written_too (json_lines reasons) unlisted judges edition names old new Keeps result (formatter, wrote) =
+      (formatter, formatted_too _ _ _ unlisted judges edition names formatter old new Keeps result wrote)
+  written_too (sarif docs reasons) unlisted judges edition names old new Keeps result (begun document behind opened is wrote) =
+      begun document behind opened is (formatted_too _ _ _ unlisted judges edition names document _ new Keeps result wrote)
+  written_too (sarif docs reasons) unlisted judges edition names old new Keeps result (not_begun lost put errors is) = not_begun lost put errors is
+  written_too (commands reasons) unlisted judges edition names old new Keeps result (commands_written formatter after begins flushed gives flushes (left, checks)) =
       commands_written formatter after begins flushed gives flushes (left, checks_too _ judges edition names _ _ Keeps result checks)
-  written_too commands unlisted judges edition names old new Keeps result (commands_unflushed formatter after begins gives lost flushes errors is) =
+  written_too (commands reasons) unlisted judges edition names old new Keeps result (commands_unflushed formatter after begins gives lost flushes errors is) =
       commands_unflushed formatter after begins gives lost flushes errors is
-  written_too commands unlisted judges edition names old new Keeps result (commands_unlistable formatter left lost gives errors is) =
+  written_too (commands reasons) unlisted judges edition names old new Keeps result (commands_unlistable formatter left lost gives errors is) =
       commands_unlistable formatter left lost gives errors is
 
   -- a whole run

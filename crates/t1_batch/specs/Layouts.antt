@@ -6,36 +6,50 @@ use Rattle.t1_grouped.specs.declared.terminal.Terminal.{Terminal}
 use Rattle.t1_options.specs.declared.asked.Form.{Form}
 use Rattle.t1_options.specs.declared.asked.Form.TheVariants.{GitHub, JsonLines, Sarif}
 use Rattle.t1_options.specs.declared.asked.Options.{Options}
+use Rattle.t1_options.specs.declared.asked.Reasons.{Reasons}
+use Rattle.t1_options.specs.declared.asked.Reasons.TheVariants.{Each, LeftOut}
 
 -- A line for each fault, or on a terminal one for each font and rule; lines of JSON; a document of SARIF, by the URL of the page of all rules;
--- commands of GitHub.
+-- commands of GitHub. Each with reasons or without.
 pub data LayoutValue : Type 0 where
-  lines : LayoutValue
+  lines : (reasons : Bool) → LayoutValue
   groups : Terminal → LayoutValue
-  json_lines : LayoutValue
-  sarif : Option (List ℕ) → LayoutValue
-  commands : LayoutValue
+  json_lines : (reasons : Bool) → LayoutValue
+  sarif : (docs : Option (List ℕ)) (reasons : Bool) → LayoutValue
+  commands : (reasons : Bool) → LayoutValue
 
 abbrev pub layout_value : Layout → LayoutValue
-layout_value layouts.Lines = lines
+layout_value (layouts.Lines reasons) = lines reasons
 layout_value (layouts.Groups terminal) = groups terminal
-layout_value layouts.JsonLines = json_lines
-layout_value (layouts.Sarif docs) = sarif (option_map (λ s. s.now) docs)
-layout_value layouts.GitHub = commands
+layout_value (layouts.JsonLines reasons) = json_lines reasons
+layout_value (layouts.Sarif docs reasons) = sarif (option_map (λ s. s.now) docs) reasons
+layout_value (layouts.GitHub reasons) = commands reasons
+
+-- Each line has its reason.
+abbrev pub have_each : Reasons → Bool
+have_each Each = true
+have_each _ = false
+
+-- Lines that are written as one have the reason of the first.
+abbrev pub have_first : Reasons → Bool
+have_first LeftOut = false
+have_first _ = true
 
 -- A line for each font and rule is written where it is to be cut to some columns, and not all lines are requested.
-abbrev pub lines_or_groups : Bool → Option ℕ → Bool → LayoutValue
-lines_or_groups true columns colour = lines
-lines_or_groups false (Some columns) colour = groups (record { width = columns; has_colours = colour })
-lines_or_groups false None colour = lines
+abbrev pub lines_or_groups : Bool → Option ℕ → Bool → Reasons → LayoutValue
+lines_or_groups true columns colour reasons = lines (have_each reasons)
+lines_or_groups false (Some columns) colour reasons =
+    groups (record { width = columns; has_colours = colour; reasons = have_first reasons })
+lines_or_groups false None colour reasons = lines (have_each reasons)
 
 -- In a form for another program where one is requested.
-abbrev pub layout_by : Option Form → Option (List ℕ) → LayoutValue → LayoutValue
-layout_by None docs other = other
-layout_by (Some JsonLines) docs other = json_lines
-layout_by (Some Sarif) docs other = sarif docs
-layout_by (Some GitHub) docs other = commands
+abbrev pub layout_by : Option Form → Option (List ℕ) → Bool → LayoutValue → LayoutValue
+layout_by None docs reasons other = other
+layout_by (Some JsonLines) docs reasons other = json_lines reasons
+layout_by (Some Sarif) docs reasons other = sarif docs reasons
+layout_by (Some GitHub) docs reasons other = commands reasons
 
 abbrev pub layout_of : Options → LayoutValue
 layout_of options =
-    layout_by options.form (option_map string_bytes options.docs) (lines_or_groups options.long options.columns options.colour)
+    layout_by options.form (option_map string_bytes options.docs) (have_each options.reasons)
+    (lines_or_groups options.long options.columns options.colour options.reasons)

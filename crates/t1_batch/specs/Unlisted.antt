@@ -15,15 +15,15 @@ GivesEach {T} writes old new out out' (told ∷ more) lost =
 
 -- A name that isn't UTF-8 can't be given to the system, so none is given.
 abbrev pub undecoded : ToldValue
-undecoded = record { font = None; what = of_unchecked (codes "a name that is not UTF-8 is passed over") }
+undecoded = record { font = None; what = of_unchecked (codes "a name that is not UTF-8 is passed over"); reason = None }
 
 -- A name with a line end can't be in a line, so none is given.
 abbrev pub passed_over : ToldValue
-passed_over = record { font = None; what = of_unchecked (codes "a name with a line end is passed over") }
+passed_over = record { font = None; what = of_unchecked (codes "a name with a line end is passed over"); reason = None }
 
 -- A folder that wasn't searched whole.
 abbrev pub unsearched : List ℕ → ToldValue
-unsearched folder = record { font = Some folder; what = of_unchecked (codes "search failed") }
+unsearched folder = record { font = Some folder; what = of_unchecked (codes "search failed"); reason = None }
 
 -- Names that aren't UTF-8, names with a line end, and the folders.
 abbrev pub unlisted_told : ℕ → ℕ → List (List ℕ) → List ToldValue

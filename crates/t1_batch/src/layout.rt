@@ -1,34 +1,47 @@
 //! How what is selected is written.
 
 ghost use Rattle.std.specs.Prelude.{◌≡◌, option_map, string_bytes};
-ghost use Rattle.t1_batch.specs.Layouts.{layout_of, layout_value, lines_or_groups};
+ghost use Rattle.t1_batch.specs.Layouts.{have_each, have_first, layout_of, layout_value, lines_or_groups};
 
 use t1_grouped::Terminal;
-use t1_options::{Form, Options};
+use t1_options::{Form, Options, Reasons};
 
 /// How what is selected is written.
 #[derive(Clone, Copy, Debug)]
 pub enum Layout<'a> {
-    /// As `NAME: LINE`, a line for each fault.
-    Lines,
+    /// As `NAME: LINE`, a line for each fault, with their reasons or without.
+    Lines {
+        reasons: bool,
+    },
     /// As on a terminal, a line for each font and rule.
     Groups(Terminal),
     /// As lines of JSON.
-    JsonLines,
+    JsonLines {
+        reasons: bool,
+    },
     /// As a document of SARIF, by the URL of the page of all rules.
-    Sarif(Option<&'a str>),
+    Sarif {
+        docs: Option<&'a str>,
+        reasons: bool,
+    },
     /// As commands of GitHub, one for each font and rule.
-    GitHub,
+    GitHub {
+        reasons: bool,
+    },
 }
 
 /// The layout that options request.
 pub fn layout_of(options: &Options) -> Layout<'_>
     ensures { layout_value result ≡ layout_of options.now }
 {
+    let reasons = have_each(options.reasons);
     match options.form {
-        Some(Form::JsonLines) => Layout::JsonLines,
-        Some(Form::Sarif) => Layout::Sarif(docs_of(options)),
-        Some(Form::GitHub) => Layout::GitHub,
+        Some(Form::JsonLines) => Layout::JsonLines { reasons },
+        Some(Form::Sarif) => Layout::Sarif {
+            docs: docs_of(options),
+            reasons,
+        },
+        Some(Form::GitHub) => Layout::GitHub { reasons },
         None => without_form(options),
     }
 }
@@ -45,13 +58,30 @@ fn docs_of(options: &Options) -> Option<&str>
 
 /// The layout where no form is requested.
 fn without_form<'a>(options: &Options) -> Layout<'a>
-    ensures { layout_value result ≡ lines_or_groups options.now.long options.now.columns options.now.colour }
+    ensures { layout_value result ≡ lines_or_groups options.now.long options.now.columns options.now.colour options.now.reasons }
 {
     match options.columns {
         Some(columns) if !options.long => Layout::Groups(Terminal {
             width: columns as usize,
             has_colours: options.colour,
+            reasons: have_first(options.reasons),
         }),
-        _ => Layout::Lines,
+        _ => Layout::Lines {
+            reasons: have_each(options.reasons),
+        },
     }
+}
+
+/// Whether each line has its reason.
+fn have_each(reasons: Reasons) -> bool
+    ensures { result ≡ have_each reasons }
+{
+    matches!(reasons, Reasons::Each)
+}
+
+/// Whether lines that are written as one have the reason of the first.
+fn have_first(reasons: Reasons) -> bool
+    ensures { result ≡ have_first reasons }
+{
+    !matches!(reasons, Reasons::LeftOut)
 }

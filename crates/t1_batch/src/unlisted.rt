@@ -10,7 +10,7 @@ use std::alloc::Global;
 use t1_forms::{Told, What};
 use t1_io::Sink;
 use t1_many::Lost;
-use t1_many_forms::Formatter;
+use t1_many_forms::{Formatter, give};
 
 /// What of a list of fonts couldn't be listed.
 #[derive(Clone, Copy, Debug)]
@@ -61,6 +61,7 @@ fn give_undecoded<T: Formatter, W: Sink>(
         font: None,
         what: What::Unchecked(b"a name that is not UTF-8 is passed over"),
         line: b"t1check: a name that is not UTF-8 is passed over",
+        reason: None,
     };
     give_times(alloc, count, &told, formatter, out)
 }
@@ -79,6 +80,7 @@ fn give_passed_over<T: Formatter, W: Sink>(
         font: None,
         what: What::Unchecked(b"a name with a line end is passed over"),
         line: b"t1check: a name with a line end is passed over",
+        reason: None,
     };
     give_times(alloc, count, &told, formatter, out)
 }
@@ -112,12 +114,15 @@ fn give_unsearched<T: Formatter, W: Sink>(
         (map (λ folder. unsearched (string_bytes folder)) folders.now) (lost_of result) }
 {
     for folder in folders {
-        let told = Told {
-            font: Some(folder.as_bytes()),
-            what: What::Unchecked(b"search failed"),
-            line: b"t1check: search failed",
-        };
-        formatter.write(alloc, out, &told)?;
+        give(
+            alloc,
+            formatter,
+            out,
+            folder.as_bytes(),
+            What::Unchecked(b"search failed"),
+            b"t1check: search failed",
+            None,
+        )?;
     }
     Ok(())
 }

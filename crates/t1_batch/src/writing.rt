@@ -75,27 +75,37 @@ where
 {
     let mut out = out;
     match output.layout {
-        Layout::Lines => write_plain(alloc, fonts, selection, out, errors),
+        Layout::Lines { reasons } => write_plain(alloc, fonts, selection, reasons, out, errors),
         Layout::Groups(terminal) => write_groups(alloc, fonts, selection, terminal, out, errors),
-        Layout::JsonLines => {
+        Layout::JsonLines { reasons } => {
             write_formatted(
                 alloc,
                 fonts,
                 selection,
                 output.unlisted,
+                reasons,
                 JsonLines,
                 out,
                 errors,
             )
         }
-        Layout::GitHub => write_commands(alloc, fonts, selection, output.unlisted, out, errors),
-        Layout::Sarif(docs) => match Sarif::begin(alloc, &mut out, docs) {
+        Layout::GitHub { reasons } => write_commands(
+            alloc,
+            fonts,
+            selection,
+            output.unlisted,
+            reasons,
+            out,
+            errors,
+        ),
+        Layout::Sarif { docs, reasons } => match Sarif::begin(alloc, &mut out, docs) {
             Ok(document) => {
                 write_formatted(
                     alloc,
                     fonts,
                     selection,
                     output.unlisted,
+                    reasons,
                     document,
                     out,
                     errors,
@@ -111,6 +121,7 @@ fn write_plain<R, V, O, P, W, E>(
     alloc: Global,
     fonts: Fonts<'_, O, P>,
     selection: Selection<'_>,
+    reasons: bool,
     out: W,
     errors: E,
 ) -> Written<W, E>
@@ -124,13 +135,18 @@ where
     requires open_font { O.IsAlwaysCallable fonts.open_font }
     requires open_waivers { P.IsAlwaysCallable fonts.open_waivers }
     requires unbroken { (name : _) (file : R) → FnReturnsAt O.Fn fonts.open_font name (Ok file) → (R.state file).failed ≡ false }
-    ensures { WritesPlain (judges_of (mode_value selection.entry.mode) selection.entry.rules)
+    ensures { WritesPlain reasons (judges_of (mode_value selection.entry.mode) selection.entry.rules)
         (files_by R.state V.state (FnReturnsAt O.Fn fonts.entry.open_font) (FnReturnsAt P.Fn fonts.entry.open_waivers)) selection.entry.edition
         (map string_bytes fonts.entry.names.now)
         (record { out = W.state out; errors = E.state errors }) (record { out = W.state result.out; errors = E.state result.errors })
         (IsFound (mode_value selection.entry.mode) selection.entry.rules result.found) result.status }
 {
-    let checked = check_fonts(alloc, fonts, selection, Plain { out, errors });
+    let form = Plain {
+        reasons,
+        out,
+        errors,
+    };
+    let checked = check_fonts(alloc, fonts, selection, form);
     Written {
         status: checked.status,
         found: checked.found,
@@ -183,6 +199,7 @@ fn write_commands<R, V, O, P, W, E>(
     fonts: Fonts<'_, O, P>,
     selection: Selection<'_>,
     unlisted: Unlisted<'_>,
+    reasons: bool,
     out: W,
     errors: E,
 ) -> Written<W, E>
@@ -196,7 +213,7 @@ where
     requires open_font { O.IsAlwaysCallable fonts.open_font }
     requires open_waivers { P.IsAlwaysCallable fonts.open_waivers }
     requires unbroken { (name : _) (file : R) → FnReturnsAt O.Fn fonts.open_font name (Ok file) → (R.state file).failed ≡ false }
-    ensures { WritesCommands (unlisted_in unlisted.entry)
+    ensures { WritesCommands reasons (unlisted_in unlisted.entry)
         (judges_of (mode_value selection.entry.mode) selection.entry.rules)
         (files_by R.state V.state (FnReturnsAt O.Fn fonts.entry.open_font) (FnReturnsAt P.Fn fonts.entry.open_waivers)) selection.entry.edition
         (map string_bytes fonts.entry.names.now)
@@ -209,7 +226,14 @@ where
         return unwritten(alloc, lost, out, errors);
     }
     match out.flush() {
-        Ok(()) => write_groups(alloc, fonts, selection, GitHubGroups, out, errors),
+        Ok(()) => write_groups(
+            alloc,
+            fonts,
+            selection,
+            GitHubGroups { reasons },
+            out,
+            errors,
+        ),
         Err(_) => unwritten(alloc, Lost::Device, out, errors),
     }
 }
@@ -220,6 +244,7 @@ fn write_formatted<R, V, O, P, T, W, E>(
     fonts: Fonts<'_, O, P>,
     selection: Selection<'_>,
     unlisted: Unlisted<'_>,
+    reasons: bool,
     formatter: T,
     out: W,
     errors: E,
@@ -235,7 +260,7 @@ where
     requires open_font { O.IsAlwaysCallable fonts.open_font }
     requires open_waivers { P.IsAlwaysCallable fonts.open_waivers }
     requires unbroken { (name : _) (file : R) → FnReturnsAt O.Fn fonts.open_font name (Ok file) → (R.state file).failed ≡ false }
-    ensures { WritesFormatted T.writes T.finishes (unlisted_in unlisted.entry)
+    ensures { WritesFormatted reasons T.writes T.finishes (unlisted_in unlisted.entry)
         (judges_of (mode_value selection.entry.mode) selection.entry.rules)
         (files_by R.state V.state (FnReturnsAt O.Fn fonts.entry.open_font) (FnReturnsAt P.Fn fonts.entry.open_waivers)) selection.entry.edition
         (map string_bytes fonts.entry.names.now) formatter
@@ -247,7 +272,7 @@ where
     if let Err(lost) = give_unlisted(alloc, unlisted, &mut formatter, &mut out) {
         return unwritten(alloc, lost, out, errors);
     }
-    let form = Formatted::new(alloc, formatter, out, errors);
+    let form = Formatted::new(alloc, formatter, out, errors, reasons);
     let checked = check_fonts(alloc, fonts, selection, form);
     let (formatter, mut out, errors) = checked.form.into_parts();
     let status = finish_checked(alloc, formatter, &mut out, checked.status);

@@ -170,7 +170,7 @@ fn joins_lines(rt: HostRuntime) -> Result<(), Fail> {
     let left = join_left(
         rt.alloc(),
         &parts,
-        Layout::Lines,
+        Layout::Lines { reasons: false },
         &mut Out::new(&mut text),
         &mut Out::new(&mut told),
     )?;
@@ -201,7 +201,7 @@ fn joins_lines_of_json(rt: HostRuntime) -> Result<(), Fail> {
     let left = join_left(
         rt.alloc(),
         &parts,
-        Layout::JsonLines,
+        Layout::JsonLines { reasons: false },
         &mut Out::new(&mut text),
         &mut Out::new(&mut told),
     )?;
@@ -227,7 +227,7 @@ fn joins_commands(rt: HostRuntime) -> Result<(), Fail> {
     let left = join_left(
         rt.alloc(),
         &parts,
-        Layout::GitHub,
+        Layout::GitHub { reasons: false },
         &mut Out::new(&mut text),
         &mut Out::new(&mut told),
     )?;
@@ -265,7 +265,10 @@ fn writes_a_document_anew(rt: HostRuntime) -> Result<(), Fail> {
     let left = join_left(
         rt.alloc(),
         &parts,
-        Layout::Sarif(None),
+        Layout::Sarif {
+            docs: None,
+            reasons: false,
+        },
         &mut Out::new(&mut text),
         &mut Out::new(&mut told),
     )?;
@@ -292,7 +295,7 @@ fn leaves_nothing_where_the_output_fails(rt: HostRuntime) -> Result<(), Fail> {
     let left = join_left(
         rt.alloc(),
         &parts,
-        Layout::Lines,
+        Layout::Lines { reasons: false },
         &mut Fuse::sink(Out::new(&mut text), Limit::Bytes(46)),
         &mut Out::new(&mut told),
     )?;
@@ -330,7 +333,7 @@ fn reports_a_file_that_is_missing(rt: HostRuntime) -> Result<(), Fail> {
         names: names.as_slice(),
         parts: 1,
         output: Output {
-            layout: Layout::Lines,
+            layout: Layout::Lines { reasons: false },
             unlisted: Unlisted {
                 undecoded: 0,
                 passed_over: 0,

@@ -64,7 +64,7 @@ struct Asked<'a> {
 /// Lines are written as `NAME: LINE`, and all fonts could be listed.
 fn plain<'a>() -> Output<'a> {
     Output {
-        layout: Layout::Lines,
+        layout: Layout::Lines { reasons: false },
         unlisted: Unlisted {
             undecoded: 0,
             passed_over: 0,
@@ -386,7 +386,7 @@ fn reports_what_was_not_listed(rt: HostRuntime) -> Result<(), Fail> {
         codes: P03_ALONE,
         mode: Mode::Told,
         output: Output {
-            layout: Layout::JsonLines,
+            layout: Layout::JsonLines { reasons: false },
             unlisted: Unlisted {
                 undecoded: 1,
                 passed_over: 1,

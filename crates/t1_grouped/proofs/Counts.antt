@@ -1,12 +1,12 @@
 -- Lines are counted, each in the group of its rule.
-use Rattle.std.proofs.Common.{◌≡◌, ◌+◌, ◌==◌, ℕ, true, List, [], ◌∷◌, ◌++◌, ap, arith, cond, filter, inl, inr, length, map, refl, ◌∙◌}
+use Rattle.std.proofs.Common.{◌≡◌, ◌+◌, ◌==◌, ℕ, true, List, [], ◌∷◌, ◌++◌, ap, arith, cond, inl, inr, length, map, refl, sym, ◌∙◌}
 use Rattle.std.proofs.lemmas.Bool.{cases_Bool, eq-eqb}
-use Rattle.std.proofs.lemmas.List.{map-append}
+use Rattle.std.proofs.lemmas.List.{length-map, map-append, nil_from_length}
 use Rattle.std.proofs.lemmas.List.Elements.{filter-append}
 use Rattle.std.proofs.lemmas.List.Sums.{sum_by-cons}
 use Rattle.std.specs.List.{sum_by}
-use Rattle.t1_grouped.specs.Held.{HeldLine, units_of}
-use Rattle.t1_grouped.specs.Laws.{CountsSumToLines, LinesAreInTheirGroups}
+use Rattle.t1_grouped.specs.Held.{HeldLine, lines_of, reason_of, units_of}
+use Rattle.t1_grouped.specs.Laws.{CountsSumToLines, LinesAreInTheirGroups, ReasonsAreOfFirstLines}
 use Rattle.t1_rules.specs.Book.{number_of, rules}
 use Rattle.t1_rules.specs.declared.rule.Rule.{Rule}
 use Rattle.t1_rules.specs.declared.rule.Rule.TheVariants.{F01}
@@ -39,13 +39,20 @@ counts_sum (l ∷ held) =
     (λ rule. length (units_of rule (l ∷ held))) rules (λ rule. count_cons rule l held) in
     omega (arith, both, one_rule_counts l.rule, counts_sum held)
 
+lines_split : (before after : List HeldLine) (l : HeldLine)
+    → lines_of l.rule (before ++ l ∷ after) ≡ lines_of l.rule before ++ l ∷ lines_of l.rule after
+lines_split before after l =
+    let own : (number_of l.rule == number_of l.rule) ≡ true = eq-eqb (number_of l.rule) (number_of l.rule) refl in
+    filter-append (λ (m : HeldLine). number_of m.rule == number_of l.rule) before (l ∷ after)
+    ∙ ap (λ b. lines_of l.rule before ++ cond b (l ∷ lines_of l.rule after) (lines_of l.rule after)) own
+
 pub lines_are_in : LinesAreInTheirGroups
 lines_are_in before after l =
-    let own : (number_of l.rule == number_of l.rule) ≡ true = eq-eqb (number_of l.rule) (number_of l.rule) refl in
-    ap (map (λ (m : HeldLine). m.unit))
-    (filter-append (λ (m : HeldLine). number_of m.rule == number_of l.rule) before (l ∷ after)
-    ∙ ap (λ b. filter (λ (m : HeldLine). number_of m.rule == number_of l.rule) before
-    ++ cond b (l ∷ filter (λ (m : HeldLine). number_of m.rule == number_of l.rule) after)
-    (filter (λ (m : HeldLine). number_of m.rule == number_of l.rule) after)) own)
-    ∙ map-append (λ (m : HeldLine). m.unit) (filter (λ (m : HeldLine). number_of m.rule == number_of l.rule) before)
-    (l ∷ filter (λ (m : HeldLine). number_of m.rule == number_of l.rule) after)
+    ap (map (λ (m : HeldLine). m.unit)) (lines_split before after l)
+    ∙ map-append (λ (m : HeldLine). m.unit) (lines_of l.rule before) (l ∷ lines_of l.rule after)
+
+pub reasons_are_first : ReasonsAreOfFirstLines
+reasons_are_first before after l none =
+    let long = sym (length-map (lines_of l.rule before) (λ (m : HeldLine). m.unit)) ∙ ap length none in
+    ap reason_of (lines_split before after l)
+    ∙ ap (λ lines. reason_of (lines ++ l ∷ lines_of l.rule after)) (nil_from_length (lines_of l.rule before) long)

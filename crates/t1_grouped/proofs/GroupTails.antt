@@ -1,5 +1,5 @@
 -- What a group has of its lines is enough for its text.
-use Rattle.std.proofs.Common.{◌≡◌, ◌+◌, ◌-◌, ◌<◌, ◌≤◌, ◌==◌, ℕ, zero, suc, codes, decimal, nat_le, nat_lt, Bool, true, false, List, [], ◌∷◌, ◌++◌, None, ap, ap₂, arith, cond, inl, inr, length, length-append, append-nil, refl, subst, sym, take, ◌∙◌}
+use Rattle.std.proofs.Common.{◌≡◌, ◌+◌, ◌-◌, ◌<◌, ◌≤◌, ◌==◌, ℕ, zero, suc, codes, decimal, nat_le, nat_lt, Bool, true, false, List, [], ◌∷◌, ◌++◌, Option, None, ap, ap₂, arith, cond, inl, inr, length, length-append, append-nil, refl, subst, sym, take, ◌∙◌}
 use Rattle.std.proofs.lemmas.Bool.{cases_Bool, eqb-false, eqb-true, lt-leb}
 use Rattle.std.proofs.lemmas.List.{take-take}
 use Rattle.std.proofs.lemmas.List.Sums.{sum_by-append}
@@ -62,15 +62,15 @@ run_more room names name g is = elim (cases_Bool (length g.names == g.runs)) [
       }))
 ]
 
-run_count : (g : GroupValue) (name : List ℕ) → (with_run g name).count ≡ g.count
+pub run_count : (g : GroupValue) (name : List ℕ) → (with_run g name).count ≡ g.count
 run_count g name = elim (cases_Bool (length g.names == g.runs)) [
   | inl all ↦ elim (cases_Bool (nat_lt (width_of name) (g.left - 1))) [ inl fits ↦ rw all (rw fits refl) | inr wide ↦ rw all (rw wide refl) ]
   | inr some ↦ rw some refl
 ]
 
-pub line_more : (room : ℕ) (units : List NamedUnit) (u : NamedUnit) (g : GroupValue) → IsGroup room units g
-    → IsGroup room (units ++ u ∷ []) (added g u.number u.name)
-line_more room units u g is =
+pub line_more : (room : ℕ) (units : List NamedUnit) (u : NamedUnit) (reason : Option (List ℕ)) (g : GroupValue) → IsGroup room units g
+    → IsGroup room (units ++ u ∷ []) (added g u.number u.name reason)
+line_more room units u reason g is =
     let pushed = names_after_push None units u in
     elim (cases_Bool (begins_run (last_after None units) u.number)) [
       | inl begins ↦ (

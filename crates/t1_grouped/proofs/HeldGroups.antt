@@ -1,13 +1,14 @@
 -- Groups of lines that are held.
-use Rattle.std.proofs.Common.{◌≡◌, ◌≢◌, ◌-◌, ◌==◌, ℕ, Bool, true, false, List, [], ◌∷◌, ◌++◌, ap, append-nil, arith, cond, filter, inl, inr, length, map, refl, subst, sym, ◌∙◌}
+use Rattle.std.proofs.Common.{◌≡◌, ◌≢◌, ◌-◌, ◌==◌, ℕ, Bool, true, false, List, [], ◌∷◌, ◌++◌, Option, ap, append-nil, arith, cond, inl, inr, length, map, refl, subst, sym, ◌∙◌}
 use Rattle.std.proofs.lemmas.Bool.{cases_Bool, eq-eqb, eqb-false, eqb-true}
-use Rattle.std.proofs.lemmas.List.{get_or-replicate, get_or-set_other, get_or-set_same, length-replicate, length-set, map-append}
+use Rattle.std.proofs.lemmas.List.{get_or-replicate, get_or-set_other, get_or-set_same, length-map, length-replicate, length-set, map-append}
 use Rattle.std.proofs.lemmas.List.Elements.{filter-append}
 use Rattle.std.specs.List.{flat_map}
+use Rattle.t1_grouped.proofs.FirstReasons.{added_reason, reason_push}
 use Rattle.t1_grouped.proofs.GroupTails.{IsGroup, line_more, no_lines}
 use Rattle.t1_grouped.specs.GroupLines.{group_line, group_lines}
 use Rattle.t1_grouped.specs.Groups.{GroupValue, added, empty_group}
-use Rattle.t1_grouped.specs.Held.{HeldLine, by_level, held_text, is_same_level, of_level, units_of}
+use Rattle.t1_grouped.specs.Held.{HeldLine, by_level, first_reason, held_text, is_same_level, lines_of, of_level, reason_of, units_of}
 use Rattle.t1_grouped.specs.RuleGroups.{group_of, no_groups, with_line}
 use Rattle.t1_grouped.specs.Units.{NamedUnit, names_of}
 use Rattle.t1_rules.proofs.Lemmas.Book.{in_book, one_rule}
@@ -15,10 +16,11 @@ use Rattle.t1_rules.specs.Book.{last_number, level_of, number_of, rules}
 use Rattle.t1_rules.specs.declared.level.Level.TheVariants.{Must, Should, Tidy}
 use Rattle.t1_rules.specs.declared.rule.Rule.{Rule}
 
--- The groups of all rules have these lines.
+-- The groups of all rules have these lines, and the reasons of the first.
 pub record AreGroups (room : ℕ) (held : List HeldLine) (groups : List GroupValue) : Type 0 where
   pub all : length groups ≡ last_number
   pub each : (rule : Rule) → IsGroup room (units_of rule held) (group_of groups rule)
+  pub reasons : (rule : Rule) → (group_of groups rule).reason ≡ first_reason rule held
 
 pub none_held : (room : ℕ) → AreGroups room [] (no_groups room)
 none_held room = record {
@@ -26,63 +28,98 @@ none_held room = record {
   each = λ rule. (let book = in_book rule in
       subst (IsGroup room []) (sym (get_or-replicate last_number (number_of rule - 1) (empty_group room) (empty_group 0) (omega (arith, book.0, book.1))))
       (no_lines room));
+  reasons = λ rule. (let book = in_book rule in
+      ap (λ (g : GroupValue). g.reason)
+      (get_or-replicate last_number (number_of rule - 1) (empty_group room) (empty_group 0) (omega (arith, book.0, book.1))));
 }
 
 -- ---- a line more
 
-is_of : Rule → HeldLine → Bool
-is_of rule l = number_of l.rule == number_of rule
+lines_same : (rule : Rule) (held : List HeldLine) (l : HeldLine) → (number_of l.rule == number_of rule) ≡ true
+    → lines_of rule (held ++ l ∷ []) ≡ lines_of rule held ++ l ∷ []
+lines_same rule held l is =
+    filter-append (λ (m : HeldLine). number_of m.rule == number_of rule) held (l ∷ [])
+    ∙ ap (λ b. lines_of rule held ++ cond b (l ∷ []) []) is
+
+lines_other : (rule : Rule) (held : List HeldLine) (l : HeldLine) → (number_of l.rule == number_of rule) ≡ false
+    → lines_of rule (held ++ l ∷ []) ≡ lines_of rule held
+lines_other rule held l is =
+    filter-append (λ (m : HeldLine). number_of m.rule == number_of rule) held (l ∷ [])
+    ∙ ap (λ b. lines_of rule held ++ cond b (l ∷ []) []) is
+    ∙ append-nil (lines_of rule held)
 
 units_same : (rule : Rule) (held : List HeldLine) (l : HeldLine) → (number_of l.rule == number_of rule) ≡ true
     → units_of rule (held ++ l ∷ []) ≡ units_of rule held ++ l.unit ∷ []
 units_same rule held l is =
-    ap (map (λ (m : HeldLine). m.unit))
-    (filter-append (λ (m : HeldLine). number_of m.rule == number_of rule) held (l ∷ [])
-    ∙ ap (λ b. filter (λ (m : HeldLine). number_of m.rule == number_of rule) held ++ cond b (l ∷ []) []) is)
-    ∙ map-append (λ (m : HeldLine). m.unit) (filter (λ (m : HeldLine). number_of m.rule == number_of rule) held) (l ∷ [])
+    ap (map (λ (m : HeldLine). m.unit)) (lines_same rule held l is)
+    ∙ map-append (λ (m : HeldLine). m.unit) (lines_of rule held) (l ∷ [])
 
 units_other : (rule : Rule) (held : List HeldLine) (l : HeldLine) → (number_of l.rule == number_of rule) ≡ false
     → units_of rule (held ++ l ∷ []) ≡ units_of rule held
-units_other rule held l is =
-    ap (map (λ (m : HeldLine). m.unit))
-    (filter-append (λ (m : HeldLine). number_of m.rule == number_of rule) held (l ∷ [])
-    ∙ ap (λ b. filter (λ (m : HeldLine). number_of m.rule == number_of rule) held ++ cond b (l ∷ []) []) is
-    ∙ append-nil (filter (λ (m : HeldLine). number_of m.rule == number_of rule) held))
+units_other rule held l is = ap (map (λ (m : HeldLine). m.unit)) (lines_other rule held l is)
 
 module _ (room : ℕ) (held : List HeldLine) (groups : List GroupValue) (are : AreGroups room held groups) (l : HeldLine) where
-  more : GroupValue
-  more = added (group_of groups l.rule) l.unit.number l.unit.name
+  abbrev more : GroupValue
+  more = added (group_of groups l.rule) l.unit.number l.unit.name l.reason
 
-  own : IsGroup room (units_of l.rule (held ++ l ∷ [])) (group_of (with_line groups l.rule l.unit) l.rule)
-  own =
+  here : group_of (with_line groups l) l.rule ≡ more
+  here =
       let book = in_book l.rule in
-      let grown = line_more room (units_of l.rule held) l.unit (group_of groups l.rule) (are.each l.rule) in
-      let here = get_or-set_same groups (number_of l.rule - 1) (added (group_of groups l.rule) l.unit.number l.unit.name) (empty_group 0)
-      (omega (arith, book.0, book.1, are.all)) in
-      subst (λ g. IsGroup room (units_of l.rule (held ++ l ∷ [])) g) (sym here)
-      (subst (λ units. IsGroup room units (added (group_of groups l.rule) l.unit.number l.unit.name))
-      (sym (units_same l.rule held l (eq-eqb (number_of l.rule) (number_of l.rule) refl))) grown)
+      get_or-set_same groups (number_of l.rule - 1) more (empty_group 0) (omega (arith, book.0, book.1, are.all))
 
-  other : (rule : Rule) → (number_of l.rule == number_of rule) ≡ false
-      → IsGroup room (units_of rule (held ++ l ∷ [])) (group_of (with_line groups l.rule l.unit) rule)
-  other rule is =
+  there : (rule : Rule) → (number_of l.rule == number_of rule) ≡ false → group_of (with_line groups l) rule ≡ group_of groups rule
+  there rule is =
       let book = in_book l.rule in
       let its = in_book rule in
       let apart = eqb-false (number_of l.rule) (number_of rule) is in
       let elsewhere : number_of rule - 1 ≢ number_of l.rule - 1 = λ same. apart (omega (arith, same, book.0, its.0)) in
-      let there = get_or-set_other groups (number_of l.rule - 1) (number_of rule - 1) (added (group_of groups l.rule) l.unit.number l.unit.name)
-      (empty_group 0) elsewhere in
-      subst (λ g. IsGroup room (units_of rule (held ++ l ∷ [])) g) (sym there)
+      get_or-set_other groups (number_of l.rule - 1) (number_of rule - 1) more (empty_group 0) elsewhere
+
+  its_own : (number_of l.rule == number_of l.rule) ≡ true
+  its_own = eq-eqb (number_of l.rule) (number_of l.rule) refl
+
+  own : IsGroup room (units_of l.rule (held ++ l ∷ [])) (group_of (with_line groups l) l.rule)
+  own =
+      let grown = line_more room (units_of l.rule held) l.unit l.reason (group_of groups l.rule) (are.each l.rule) in
+      subst (λ g. IsGroup room (units_of l.rule (held ++ l ∷ [])) g) (sym here)
+      (subst (λ units. IsGroup room units more) (sym (units_same l.rule held l its_own)) grown)
+
+  other : (rule : Rule) → (number_of l.rule == number_of rule) ≡ false
+      → IsGroup room (units_of rule (held ++ l ∷ [])) (group_of (with_line groups l) rule)
+  other rule is =
+      subst (λ g. IsGroup room (units_of rule (held ++ l ∷ [])) g) (sym (there rule is))
       (subst (λ units. IsGroup room units (group_of groups rule)) (sym (units_other rule held l is)) (are.each rule))
 
-  pub line_held : AreGroups room (held ++ l ∷ []) (with_line groups l.rule l.unit)
+  own_reason : (group_of (with_line groups l) l.rule).reason ≡ first_reason l.rule (held ++ l ∷ [])
+  own_reason =
+      let lines = lines_of l.rule held in
+      let count = (are.each l.rule).count ∙ length-map lines (λ (m : HeldLine). m.unit) in
+      ap (λ (g : GroupValue). g.reason) here
+      ∙ added_reason (group_of groups l.rule) l.unit.number l.unit.name l.reason
+      ∙ ap (λ k. cond (k == 0) l.reason (group_of groups l.rule).reason) count
+      ∙ ap (λ r. cond (length lines == 0) l.reason r) (are.reasons l.rule)
+      ∙ sym (reason_push lines l)
+      ∙ ap reason_of (sym (lines_same l.rule held l its_own))
+
+  other_reason : (rule : Rule) → (number_of l.rule == number_of rule) ≡ false
+      → (group_of (with_line groups l) rule).reason ≡ first_reason rule (held ++ l ∷ [])
+  other_reason rule is =
+      ap (λ (g : GroupValue). g.reason) (there rule is) ∙ are.reasons rule ∙ ap reason_of (sym (lines_other rule held l is))
+
+  pub line_held : AreGroups room (held ++ l ∷ []) (with_line groups l)
   line_held = record {
-    all = length-set groups (number_of l.rule - 1) (added (group_of groups l.rule) l.unit.number l.unit.name) ∙ are.all;
+    all = length-set groups (number_of l.rule - 1) more ∙ are.all;
     each = λ rule. elim (cases_Bool (number_of l.rule == number_of rule)) [
       | inl is ↦ (
           let same = one_rule l.rule rule (eqb-true (number_of l.rule) (number_of rule) is) in
-          subst (λ r. IsGroup room (units_of r (held ++ l ∷ [])) (group_of (with_line groups l.rule l.unit) r)) same own)
+          subst (λ r. IsGroup room (units_of r (held ++ l ∷ [])) (group_of (with_line groups l) r)) same own)
       | inr is ↦ other rule is
+    ];
+    reasons = λ rule. elim (cases_Bool (number_of l.rule == number_of rule)) [
+      | inl is ↦ (
+          let same = one_rule l.rule rule (eqb-true (number_of l.rule) (number_of rule) is) in
+          subst (λ r. (group_of (with_line groups l) r).reason ≡ first_reason r (held ++ l ∷ [])) same own_reason)
+      | inr is ↦ other_reason rule is
     ];
   }
 
@@ -99,15 +136,17 @@ by_level_agree f g same =
 
 -- The lines of groups are those of the lines that are held.
 pub lines_are_held : (room : ℕ) (held : List HeldLine) (groups : List GroupValue) (line : Rule → GroupValue → List ℕ)
-    (line_of : Rule → ℕ → List (List ℕ) → List ℕ)
-    → ((rule : Rule) (units : List NamedUnit) (g : GroupValue) → IsGroup room units g → line rule g ≡ line_of rule (length units) (names_of units))
+    (line_of : Rule → ℕ → List (List ℕ) → Option (List ℕ) → List ℕ)
+    → ((rule : Rule) (units : List NamedUnit) (g : GroupValue) → IsGroup room units g
+    → line rule g ≡ line_of rule (length units) (names_of units) g.reason)
     → AreGroups room held groups → group_lines line groups ≡ held_text line_of held
 lines_are_held room held groups line line_of same are =
     by_level_agree (group_line line groups) _
     (λ rule. (let is = are.each rule in
     let units = units_of rule held in
     ap (λ k. cond (k == 0) [] (line rule (group_of groups rule))) is.count
-    ∙ ap (λ t. cond (length units == 0) [] t) (same rule units (group_of groups rule) is)))
+    ∙ ap (λ t. cond (length units == 0) [] t)
+    (same rule units (group_of groups rule) is ∙ ap (line_of rule (length units) (names_of units)) (are.reasons rule))))
 
 flat_map_none : {X : Type 0} (f : X → List ℕ) (xs : List X) → ((x : X) → f x ≡ []) → flat_map f xs ≡ []
 flat_map_none f [] none = refl

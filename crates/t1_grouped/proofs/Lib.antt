@@ -1,4 +1,5 @@
 pub mod Counts
+pub mod FirstReasons
 pub mod Fitting
 pub mod Greatest
 pub mod GroupTails

@@ -6,12 +6,13 @@ use Rattle.std.specs.Io.KnownBytes.{Appends}
 use Rattle.t1_forms.specs.Tellings.{unchecked_line}
 use Rattle.t1_grouped.proofs.GroupTails.{IsGroup, tail_is}
 use Rattle.t1_grouped.proofs.HeldGroups.{AreGroups, line_held, lines_are_held, none_held}
-use Rattle.t1_grouped.specs.Commands.{command_writing, group_command, message_room}
+use Rattle.t1_grouped.specs.Commands.{command_writing, group_command, group_message, message_room}
 use Rattle.t1_grouped.specs.GroupLines.{Writing, group_lines, rule_head}
 use Rattle.t1_grouped.specs.Grouping.{GroupedTakes, Grouping, IsTextPut, TellsFailure, TellsUnchecked, told, untold}
 use Rattle.t1_grouped.specs.Groups.{GroupValue}
 use Rattle.t1_grouped.specs.Held.{HeldLine, held_line, held_text}
-use Rattle.t1_grouped.specs.Terminals.{room_after, terminal_line, terminal_writing}
+use Rattle.t1_grouped.specs.RuleGroups.{with_line}
+use Rattle.t1_grouped.specs.Terminals.{room_after, terminal_lines, terminal_writing}
 use Rattle.t1_grouped.specs.Units.{NamedUnit, names_of}
 use Rattle.t1_grouped.specs.Widths.{width_of}
 use Rattle.t1_grouped.specs.Writings.{IsWritten, Wording, command_wording, failure_words, held_after, terminal_wording, text_after, text_of_one}
@@ -28,23 +29,27 @@ use Rattle.t1_summary.specs.declared.found.Found.{Found}
 
 -- A form writes of groups what is worded of their lines.
 pub record IsWorded (writing : Writing) (wording : Wording) : Type 0 where
+  pub reasons : writing.reasons ≡ wording.reasons
   pub line :
       (name : List ℕ) (rule : Rule) (units : List NamedUnit) (g : GroupValue) → IsGroup writing.room units g
-      → writing.line name rule g ≡ wording.line name rule (length units) (names_of units)
+      → writing.line name rule g ≡ wording.line name rule (length units) (names_of units) g.reason
   pub refusal : (name : List ℕ) (code : RefusalCode) → writing.refusal name code ≡ wording.refusal name code
   pub unchecked : (name reason : List ℕ) → writing.unchecked name reason ≡ wording.unchecked name reason
 
-pub terminal_worded : (width : ℕ) (has_colours : Bool) → IsWorded (terminal_writing width has_colours) (terminal_wording width has_colours)
-terminal_worded width has_colours = record {
-  line = λ name rule units g is. ap (terminal_line has_colours name rule)
+pub terminal_worded : (width : ℕ) (has_colours reasons : Bool)
+    → IsWorded (terminal_writing width has_colours reasons) (terminal_wording width has_colours reasons)
+terminal_worded width has_colours reasons = record {
+  reasons = refl;
+  line = λ name rule units g is. ap (λ t. terminal_lines has_colours name rule t g.reason)
       (tail_is width (room_after width name - width_of (rule_head rule)) units g is (omega arith));
   refusal = λ name code. refl;
   unchecked = λ name reason. refl;
 }
 
-pub commands_worded : IsWorded command_writing command_wording
-commands_worded = record {
-  line = λ name rule units g is. ap (λ t. group_command name rule (rule_head rule ++ t))
+pub commands_worded : (reasons : Bool) → IsWorded (command_writing reasons) (command_wording reasons)
+commands_worded reasons = record {
+  reasons = refl;
+  line = λ name rule units g is. ap (λ t. group_command name rule (group_message rule t g.reason))
       (tail_is message_room (message_room - width_of (rule_head rule)) units g is (omega arith));
   refusal = λ name code. refl;
   unchecked = λ name reason. refl;
@@ -135,11 +140,13 @@ module _ (writing : Writing) (wording : Wording) (is : IsWorded writing wording)
 
   -- it was taken
   one : (held : List HeldLine) (old new : Grouping) (handed : Handed) → AreGroups writing.room held old.groups → GroupedTakes writing old new handed None
-      → IsWritten old new (text_of_one wording held handed) (told_of handed) None × AreGroups writing.room (held_after held handed) new.groups
+      → IsWritten old new (text_of_one wording held handed) (told_of handed) None
+      × AreGroups writing.room (held_after wording.reasons held handed) new.groups
   one held old new (line name font waivers fault) are (silent, groups) = (
     (none-same old.out new.out silent.out, none-same old.errors new.errors silent.errors),
-    subst (AreGroups writing.room (held ++ held_line font waivers fault ∷ [])) (sym groups)
-        (line_held writing.room held old.groups are (held_line font waivers fault)),
+    subst (AreGroups writing.room (held ++ held_line wording.reasons font waivers fault ∷ []))
+        (sym (groups ∙ ap (λ reasons. with_line old.groups (held_line reasons font waivers fault)) is.reasons))
+        (line_held writing.room held old.groups are (held_line wording.reasons font waivers fault)),
   )
   one held old new (failure name reason) are (tells, groups) =
       (failure-out old new name reason None tells, subst (AreGroups writing.room held) (sym groups) are)
@@ -170,11 +177,12 @@ module _ (writing : Writing) (wording : Wording) (is : IsWorded writing wording)
       (none-same old.out new.out (ap (λ (g : Grouping). g.out) same), none-same old.errors new.errors (ap (λ (g : Grouping). g.errors) same))
   written held old new (handed ∷ more) lost are (inl (next, took, rest)) =
       let first = one held old next handed are took in
-      then-written old next new (text_of_one wording held handed) (text_after wording (held_after held handed) more) (told_of handed) (tellings more) lost
-      first.0 (written (held_after held handed) next new more lost first.1 rest)
+      then-written old next new (text_of_one wording held handed) (text_after wording (held_after wording.reasons held handed) more) (told_of handed)
+      (tellings more) lost first.0 (written (held_after wording.reasons held handed) next new more lost first.1 rest)
   written held old new (handed ∷ more) lost are (inr (reason, took, why)) =
       subst (IsWritten old new (text_after wording held (handed ∷ more)) (tellings (handed ∷ more))) (sym why)
-      (stopped old new (text_of_one wording held handed) (text_after wording (held_after held handed) more) (told_of handed) (tellings more) reason
+      (stopped old new (text_of_one wording held handed) (text_after wording (held_after wording.reasons held handed) more) (told_of handed)
+      (tellings more) reason
       (half held old new handed reason are took))
 
 -- after the last font nothing waits to be flushed

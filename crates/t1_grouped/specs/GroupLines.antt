@@ -1,5 +1,5 @@
 -- What is written of groups.
-use Rattle.std.specs.Prelude.{ℕ, ◌-◌, ◌==◌, if◌then◌else◌, List, [], ◌∷◌, codes}
+use Rattle.std.specs.Prelude.{ℕ, ◌-◌, ◌==◌, if◌then◌else◌, Bool, List, [], ◌∷◌, codes}
 use Rattle.std.specs.List.{concat}
 use Rattle.t1_grouped.specs.Groups.{GroupValue, tail_of}
 use Rattle.t1_grouped.specs.Held.{by_level}
@@ -21,10 +21,11 @@ rule_tail room rule g = tail_of (room - width_of (rule_head rule)) g
 abbrev pub rule_tail_of : ℕ → Rule → ℕ → List (List ℕ) → List ℕ
 rule_tail_of room rule count names = tail_text (room - width_of (rule_head rule)) count names
 
--- How a form writes: the room that it has at most for names; the line of a font's group; a refusal; and what it writes of a font that wasn't
--- checked for a reason.
+-- How a form writes: the room that it has at most for names; whether it writes reasons; the line of a font's group; a refusal; and what it
+-- writes of a font that wasn't checked for a reason.
 pub record Writing : Type 0 where
   pub room : ℕ
+  pub reasons : Bool
   pub line : List ℕ → Rule → GroupValue → List ℕ
   pub refusal : List ℕ → RefusalCode → List ℕ
   pub unchecked : List ℕ → List ℕ → List ℕ

@@ -62,6 +62,6 @@ WritesGroups writing old new name (Some Memory) = IsSilent old new
 -- One thing that is handed on.
 abbrev pub GroupedTakes : Writing → Grouping → Grouping → Handed → Option Lost → Type 0
 GroupedTakes writing old new (line name font waivers fault) lost =
-    KeepsLine old new (let l = held_line font waivers fault in with_line old.groups l.rule l.unit) lost
+    KeepsLine old new (with_line old.groups (held_line writing.reasons font waivers fault)) lost
 GroupedTakes writing old new (failure name reason) lost = TellsFailure writing old new name reason lost × (new.groups ≡ old.groups)
 GroupedTakes writing old new (done name found) lost = WritesGroups writing old new name lost

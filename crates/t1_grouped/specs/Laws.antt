@@ -1,7 +1,7 @@
 -- The statements of laws.
-use Rattle.std.specs.Prelude.{◌≡◌, ◌⊎◌, ◌≤◌, ℕ, false, List, ◌∷◌, ◌++◌, length}
+use Rattle.std.specs.Prelude.{◌≡◌, ◌⊎◌, ◌≤◌, ℕ, false, List, [], ◌∷◌, ◌++◌, length}
 use Rattle.std.specs.List.{sum_by}
-use Rattle.t1_grouped.specs.Held.{HeldLine, units_of}
+use Rattle.t1_grouped.specs.Held.{HeldLine, first_reason, units_of}
 use Rattle.t1_grouped.specs.Tails.{fits, greatest, tail_with}
 use Rattle.t1_grouped.specs.Terminals.{terminal_tail, terminal_text}
 use Rattle.t1_grouped.specs.Widths.{width_of}
@@ -18,7 +18,12 @@ LinesAreInTheirGroups =
     (before after : List HeldLine) (l : HeldLine)
     → units_of l.rule (before ++ l ∷ after) ≡ units_of l.rule before ++ l.unit ∷ units_of l.rule after
 
--- A line on a terminal, without colours, is as wide as the terminal at most, or it has no name.
+-- The reason of a group is that of the first line of its rule.
+abbrev pub ReasonsAreOfFirstLines : Type 0
+ReasonsAreOfFirstLines =
+    (before after : List HeldLine) (l : HeldLine) → units_of l.rule before ≡ [] → first_reason l.rule (before ++ l ∷ after) ≡ l.reason
+
+-- The line of a group on a terminal, without colours, is as wide as the terminal at most, or it has no name.
 abbrev pub LinesFitTerminals : Type 0
 LinesFitTerminals =
     (width : ℕ) (name : List ℕ) (rule : Rule) (count : ℕ) (names : List (List ℕ))

@@ -1,7 +1,7 @@
 -- The groups of all rules, in the order of their numbers.
 use Rattle.std.specs.Prelude.{ℕ, ◌-◌, List, Option, None, Some, map, replicate, slice_index_or, slice_set}
 use Rattle.t1_grouped.specs.Groups.{GroupValue, added, empty_group, group_value}
-use Rattle.t1_grouped.specs.Units.{NamedUnit}
+use Rattle.t1_grouped.specs.Held.{HeldLine}
 use Rattle.t1_grouped.specs.declared.groups.Groups.{Groups}
 use Rattle.t1_rules.specs.Book.{last_number, number_of}
 use Rattle.t1_rules.specs.declared.rule.Rule.{Rule}
@@ -20,6 +20,6 @@ values_of room (Some groups) = group_values groups
 abbrev pub group_of : List GroupValue → Rule → GroupValue
 group_of groups rule = slice_index_or groups (number_of rule - 1) (empty_group 0)
 
--- A line more, of this rule.
-abbrev pub with_line : List GroupValue → Rule → NamedUnit → List GroupValue
-with_line groups rule unit = slice_set groups (number_of rule - 1) (added (group_of groups rule) unit.number unit.name)
+-- A line more, in the group of its rule.
+abbrev pub with_line : List GroupValue → HeldLine → List GroupValue
+with_line groups l = slice_set groups (number_of l.rule - 1) (added (group_of groups l.rule) l.unit.number l.unit.name l.reason)

@@ -4,7 +4,7 @@ use Rattle.std.specs.Io.KnownBytes.{Appends}
 use Rattle.t1_grouped.specs.Commands.{command_line_of, refusal_command, unchecked_command}
 use Rattle.t1_grouped.specs.Grouping.{Grouping}
 use Rattle.t1_grouped.specs.Held.{HeldLine, held_line, held_text}
-use Rattle.t1_grouped.specs.Terminals.{terminal_line_of, terminal_refusal}
+use Rattle.t1_grouped.specs.Terminals.{terminal_lines_of, terminal_refusal}
 use Rattle.t1_io.specs.Devices.{AppendsFront}
 use Rattle.t1_lines.specs.declared.refusal.RefusalCode.{RefusalCode}
 use Rattle.t1_many.specs.Handing.{Handed, done, failure, line}
@@ -15,23 +15,30 @@ use Rattle.t1_rules.specs.declared.rule.Rule.{Rule}
 use Rattle.t1_run.specs.declared.failure.Failure.{Failure}
 use Rattle.t1_run.specs.declared.failure.Failure.TheVariants as failures
 
--- The line of a font's name and a rule, of how many lines there are, and the names of their units; a refusal; and what is written of a font
--- that wasn't checked for a reason.
+-- Whether reasons are written; the line of a font's name and a rule, of how many lines there are, the names of their units, and the reason
+-- of the first; a refusal; and what is written of a font that wasn't checked for a reason.
 pub record Wording : Type 0 where
-  pub line : List ℕ → Rule → ℕ → List (List ℕ) → List ℕ
+  pub reasons : Bool
+  pub line : List ℕ → Rule → ℕ → List (List ℕ) → Option (List ℕ) → List ℕ
   pub refusal : List ℕ → RefusalCode → List ℕ
   pub unchecked : List ℕ → List ℕ → List ℕ
 
 -- On a terminal of a width, and as commands of a workflow of GitHub.
-abbrev pub terminal_wording : ℕ → Bool → Wording
-terminal_wording width has_colours = record {
-  line = terminal_line_of width has_colours;
+abbrev pub terminal_wording : ℕ → Bool → Bool → Wording
+terminal_wording width has_colours reasons = record {
+  reasons = reasons;
+  line = terminal_lines_of width has_colours;
   refusal = terminal_refusal has_colours;
   unchecked = λ name reason. [];
 }
 
-abbrev pub command_wording : Wording
-command_wording = record { line = command_line_of; refusal = refusal_command; unchecked = unchecked_command }
+abbrev pub command_wording : Bool → Wording
+command_wording reasons = record {
+  reasons = reasons;
+  line = command_line_of;
+  refusal = refusal_command;
+  unchecked = unchecked_command;
+}
 
 -- Why there is no report of a font.
 abbrev pub failure_words : Wording → List ℕ → Failure → List ℕ
@@ -45,15 +52,15 @@ text_of_one wording held (line name font waivers fault) = []
 text_of_one wording held (failure name reason) = failure_words wording name reason
 text_of_one wording held (done name found) = held_text (wording.line name) held
 
-abbrev pub held_after : List HeldLine → Handed → List HeldLine
-held_after held (line name font waivers fault) = held ++ held_line font waivers fault ∷ []
-held_after held (failure name reason) = held
-held_after held (done name found) = []
+abbrev pub held_after : Bool → List HeldLine → Handed → List HeldLine
+held_after reasons held (line name font waivers fault) = held ++ held_line reasons font waivers fault ∷ []
+held_after reasons held (failure name reason) = held
+held_after reasons held (done name found) = []
 
 -- What is written of things that are handed on one after another.
 abbrev pub text_after : Wording → List HeldLine → List Handed → List ℕ
 text_after wording held [] = []
-text_after wording held (handed ∷ more) = text_of_one wording held handed ++ text_after wording (held_after held handed) more
+text_after wording held (handed ∷ more) = text_of_one wording held handed ++ text_after wording (held_after wording.reasons held handed) more
 
 -- One text was written, and another reported; or a prefix of each was, since memory ran out or a device failed.
 abbrev pub IsWritten : Grouping → Grouping → List ℕ → List ℕ → Option Lost → Type 0

@@ -1,10 +1,10 @@
 //! Lines that are added to the groups of a font.
 
-ghost use Rattle.std.specs.Prelude.{◌≡◌, IfOk, OnOk};
+ghost use Rattle.std.specs.Prelude.{◌≡◌, IfOk, OnOk, option_map};
 ghost use Rattle.t1_grouped.specs.Groups.{group_value};
 ghost use Rattle.t1_grouped.specs.TerminalNames.{terminal_name};
 ghost use Rattle.t1_grouped.specs.RuleGroups.{group_of, group_values, no_groups, with_line};
-ghost use Rattle.t1_grouped.specs.Held.{held_line};
+ghost use Rattle.t1_grouped.specs.Held.{line_with};
 ghost use Rattle.t1_report.specs.Faults.{fault_value};
 ghost use Rattle.t1_report.specs.Lines.{IsInFont};
 
@@ -13,6 +13,7 @@ use crate::groups::Groups;
 use crate::unit::{UnitNumber, unit_number, waiver_name};
 use std::alloc::{AllocError, Global};
 use t1_font::Font;
+use t1_reason_texts::ShortText;
 use t1_report::{Fault, Waivers};
 use t1_rules::{INDEXES, Rule, all_rules, key_text};
 
@@ -35,42 +36,47 @@ impl Groups {
         &self.groups[usize::from(rule.number() - 1)]
     }
 
-    /// Adds the line of a fault of a font.
+    /// Adds the line of a fault of a font, with its reason.
     pub(crate) fn add_fault(
         &mut self,
         alloc: Global,
         font: &Font<'_>,
         waivers: &Waivers<'_>,
         fault: &Fault,
+        reason: &Option<ShortText>,
     ) -> Result<(), AllocError>
         requires { IsInFont font.now waivers.now (fault_value fault.now) }
-        ensures { OnOk result (group_values self.new
-            ≡ (let l = held_line font.now waivers.now (fault_value fault.now) in with_line (group_values self.old) l.rule l.unit)) }
+        ensures { OnOk result (group_values self.new ≡ with_line (group_values self.old)
+            (line_with font.now waivers.now (fault_value fault.now) (option_map (λ t. t.bytes) reason.now))) }
     {
         let number = unit_number(font, fault);
         if fault.unit == 0 {
             let key = (fault.step / INDEXES) as u8;
-            self.add(alloc, fault.rule, number, key_text(key).as_bytes())
+            self.add(alloc, fault.rule, number, key_text(key).as_bytes(), reason)
         } else if fault.unit as usize == font.glyphs().len() + 1 {
             let name = waiver_name(alloc, waivers, fault.step)?;
-            self.add(alloc, fault.rule, number, name.as_slice())
+            self.add(alloc, fault.rule, number, name.as_slice(), reason)
         } else {
             let name = font.glyph_name((fault.unit - 1) as usize);
-            self.add(alloc, fault.rule, number, name)
+            self.add(alloc, fault.rule, number, name, reason)
         }
     }
 
-    /// Adds a line of a rule at a unit of this name.
+    /// Adds a line of a rule at a unit of this name, with its reason.
     fn add(
         &mut self,
         alloc: Global,
         rule: Rule,
         number: UnitNumber,
         name: &[u8],
+        reason: &Option<ShortText>,
     ) -> Result<(), AllocError>
-        ensures { OnOk result (group_values self.new
-            ≡ with_line (group_values self.old) rule (record { number = number; name = terminal_name name.now })) }
+        ensures { OnOk result (group_values self.new ≡ with_line (group_values self.old) (record {
+          rule = rule;
+          unit = record { number = number; name = terminal_name name.now };
+          reason = option_map (λ t. t.bytes) reason.now;
+        })) }
     {
-        self.groups[usize::from(rule.number() - 1)].add(alloc, number, name)
+        self.groups[usize::from(rule.number() - 1)].add(alloc, number, name, reason)
     }
 }

@@ -24,7 +24,11 @@ pub trait GroupForm {
     fn room(&self) -> usize
         ensures { result ≡ (writing self.now).room };
 
-    /// Appends the line of a group of the font of this name.
+    /// Whether the reason of a group's first line is written.
+    fn reasons(&self) -> bool
+        ensures { result ≡ (writing self.now).reasons };
+
+    /// Appends the line of a group of the font of this name, and the reason of its first line.
     fn push_line(
         &self,
         alloc: Global,

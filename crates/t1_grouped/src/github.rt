@@ -1,7 +1,13 @@
 //! Commands of a workflow of GitHub, one for a font and a rule.
 
-ghost use Rattle.std.specs.Prelude.{◌≡◌, ◌++◌, IfOk};
-ghost use Rattle.t1_grouped.specs.Commands.{command_writing};
+ghost use Rattle.std.specs.Prelude.{◌≡◌, ◌++◌, IfOk, None, OnOk, Some, option_map};
+ghost use Rattle.t1_forms.specs.Commands.{command_of};
+ghost use Rattle.t1_forms.specs.Tellings.{what_value};
+ghost use Rattle.t1_grouped.specs.Commands.{command_writing, group_message, message_reason, message_room};
+ghost use Rattle.t1_grouped.specs.GroupLines.{rule_tail};
+ghost use Rattle.t1_grouped.specs.Grouping.{IsTextPut};
+ghost use Rattle.t1_grouped.specs.Groups.{group_value};
+ghost use Rattle.t1_many.specs.Handing.{lost_of};
 
 use crate::form::GroupForm;
 use crate::group::Group;
@@ -19,13 +25,20 @@ const ROOM: usize = 120;
 
 /// A command for each font and rule, and one for each font that was refused or wasn't checked. GitHub shows ten commands of a step.
 #[derive(Clone, Copy, Debug)]
-pub struct GitHubGroups;
+pub struct GitHubGroups {
+    /// Whether the reason of the first fault is in the command, on a line of its own.
+    pub reasons: bool,
+}
 
 impl GroupForm for GitHubGroups {
-    ghost writing = { λ _. command_writing };
+    ghost writing = { λ commands. command_writing commands.reasons };
 
     fn room(&self) -> usize {
         ROOM
+    }
+
+    fn reasons(&self) -> bool {
+        self.reasons
     }
 
     fn push_line(
@@ -36,10 +49,7 @@ impl GroupForm for GitHubGroups {
         rule: Rule,
         group: &Group,
     ) -> Result<(), AllocError> {
-        let mut message = Vec::new(alloc);
-        push_head(&mut message, rule)?;
-        let tail = tail(alloc, ROOM, rule, group)?;
-        message.extend_from_slice(tail.as_slice())?;
+        let message = message_of(alloc, rule, group)?;
         let mut command = Text::new(alloc);
         if write_rule_command(
             &mut command,
@@ -65,12 +75,7 @@ impl GroupForm for GitHubGroups {
         let Ok(line) = line_of(alloc, b"refused: ", refusal_text(code).as_bytes()) else {
             return Err(Lost::Memory);
         };
-        let told = Told {
-            font: Some(name.as_bytes()),
-            what: What::Line(Line::Refusal(code)),
-            line: line.as_slice(),
-        };
-        Ok(write_command(sink, &told)?)
+        put_told(sink, name, What::Line(Line::Refusal(code)), line.as_slice())
     }
 
     fn put_unchecked<W: Sink>(
@@ -83,13 +88,52 @@ impl GroupForm for GitHubGroups {
         let Ok(line) = line_of(alloc, b"t1check: ", reason.as_bytes()) else {
             return Err(Lost::Memory);
         };
-        let told = Told {
-            font: Some(name.as_bytes()),
-            what: What::Unchecked(reason.as_bytes()),
-            line: line.as_slice(),
-        };
-        Ok(write_command(sink, &told)?)
+        let what = What::Unchecked(reason.as_bytes());
+        put_told(sink, name, what, line.as_slice())
     }
+}
+
+/// Writes the command of what is reported of a font in a line.
+fn put_told<'a, W: Sink>(
+    sink: &mut W,
+    name: &'a str,
+    what: What<'a>,
+    line: &'a [u8],
+) -> Result<(), Lost>
+    ensures { IsTextPut (W.state sink.old) (W.state sink.new)
+        (command_of (record { font = Some name.now; what = what_value what.entry; reason = None }) line.now) (lost_of result) }
+{
+    let told = Told {
+        font: Some(name.as_bytes()),
+        what,
+        line,
+        reason: None,
+    };
+    Ok(write_command(sink, &told)?)
+}
+
+/// What the command of a rule shows.
+fn message_of(alloc: Global, rule: Rule, group: &Group) -> Result<Vec<u8>, AllocError>
+    ensures { IfOk result (λ t. t.items
+        ≡ group_message rule (rule_tail message_room rule (group_value group.now)) (group_value group.now).reason) }
+{
+    let mut text = Vec::new(alloc);
+    push_head(&mut text, rule)?;
+    let tail = tail(alloc, ROOM, rule, group)?;
+    text.extend_from_slice(tail.as_slice())?;
+    push_reason(&mut text, group.reason())?;
+    Ok(text)
+}
+
+/// Appends the text of a reason, if there is one, on a line of its own.
+fn push_reason(text: &mut Vec<u8>, reason: Option<&str>) -> Result<(), AllocError>
+    ensures { OnOk result (text.new.items ≡ text.old.items ++ message_reason (option_map (λ t. t.now) reason.entry)) }
+{
+    let Some(reason) = reason else {
+        return Ok(());
+    };
+    text.extend_from_slice(b"\n")?;
+    text.extend_from_slice(reason.as_bytes())
 }
 
 /// The line that a command shows.

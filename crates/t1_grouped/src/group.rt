@@ -1,6 +1,6 @@
 //! The lines of a font that break one rule.
 
-ghost use Rattle.std.specs.Prelude.{◌≡◌, ◌++◌, ◌-◌, ◌==◌, ◌≤◌, IfOk, OnOk, length, map, string_bytes, take};
+ghost use Rattle.std.specs.Prelude.{◌≡◌, ◌++◌, ◌-◌, ◌==◌, ◌≤◌, IfOk, OnOk, length, map, option_map, string_bytes, take};
 ghost use Rattle.t1_grouped.specs.Groups.{added, empty_group, group_value, tail_at, tail_of, with_kept, with_run};
 ghost use Rattle.t1_grouped.specs.TerminalNames.{terminal_name};
 ghost use Rattle.t1_grouped.specs.Tails.{count_text, more_text, names_text};
@@ -10,8 +10,9 @@ use crate::unit::{UnitNumber, begins_run};
 use crate::width::width;
 use itoa::Buffer;
 use std::alloc::{AllocError, Global};
+use t1_reason_texts::ShortText;
 
-/// The lines of a font that break one rule: how many there are, and the names of the first units.
+/// The lines of a font that break one rule: how many there are, the names of the first units, and the reason of the first line.
 #[derive(Drop)]
 pub struct Group {
     count: u64,
@@ -19,6 +20,7 @@ pub struct Group {
     last: Option<UnitNumber>,
     names: Vec<String>,
     left: usize,
+    reason: Option<ShortText>,
 }
 
 impl Group {
@@ -32,6 +34,7 @@ impl Group {
             last: None,
             names: Vec::new(alloc),
             left: room,
+            reason: None,
         }
     }
 
@@ -42,20 +45,25 @@ impl Group {
         self.count == 0
     }
 
-    /// Adds a line at a unit of this name. It fails where memory runs out, and after 2^64 - 1 lines.
+    /// Adds a line at a unit of this name, and keeps its reason if it is the first. It fails where memory runs out, and after 2^64 - 1 lines.
     pub(crate) fn add(
         &mut self,
         alloc: Global,
         number: UnitNumber,
         name: &[u8],
+        reason: &Option<ShortText>,
     ) -> Result<(), AllocError>
-        ensures { OnOk result (group_value self.new ≡ added (group_value self.old) number (terminal_name name.now)) }
+        ensures { OnOk result (group_value self.new
+            ≡ added (group_value self.old) number (terminal_name name.now) (option_map (λ t. t.bytes) reason.now)) }
     {
         let Some(count) = self.count.checked_add(1) else {
             return Err(AllocError);
         };
         if begins_run(self.last, number) {
             self.add_run(alloc, name)?;
+        }
+        if self.count == 0 {
+            self.reason = *reason;
         }
         self.count = count;
         self.last = Some(number);
@@ -86,6 +94,16 @@ impl Group {
             self.left -= width + 2;
         }
         Ok(())
+    }
+
+    /// The text of the first line's reason, if it has one.
+    pub(crate) fn reason(&self) -> Option<&str>
+        ensures { option_map (λ t. t.now) result ≡ (group_value self.now).reason }
+    {
+        match &self.reason {
+            Some(text) => Some(text.as_str()),
+            None => None,
+        }
     }
 
     /// The count and as many names as the room has, and how many more there are.

@@ -1,10 +1,10 @@
 //! Lines that are kept until their font is done, and then written by groups.
 
-ghost use Rattle.std.specs.Prelude.{◌≡◌, ◌++◌, IfOk, None};
+ghost use Rattle.std.specs.Prelude.{◌≡◌, ◌++◌, ◌==◌, ◌&&◌, IfOk, None};
 ghost use Rattle.t1_grouped.specs.Grouping.{GroupedTakes, TellsUnchecked, WritesGroups};
 ghost use Rattle.t1_grouped.specs.GroupLines.{group_lines};
 ghost use Rattle.t1_grouped.specs.Held.{held_line};
-ghost use Rattle.t1_grouped.specs.RuleGroups.{group_values, values_of, with_line};
+ghost use Rattle.t1_grouped.specs.RuleGroups.{group_of, group_values, values_of, with_line};
 ghost use Rattle.t1_many.specs.Handing.{lost_of};
 ghost use Rattle.t1_report.specs.Faults.{fault_value};
 ghost use Rattle.t1_report.specs.Lines.{IsInFont};
@@ -16,8 +16,10 @@ use std::alloc::{AllocError, Global};
 use t1_font::Font;
 use t1_forms::tell_unchecked;
 use t1_io::{Sink, deliver};
-use t1_many::{Form, Lost};
+use t1_many::{Form, Lost, told_text};
+use t1_reasons::ReportReasons;
 use t1_report::{Fault, Waivers};
+use t1_rules::Rule;
 use t1_run::Failure;
 use t1_summary::Found;
 
@@ -106,9 +108,12 @@ impl<T: GroupForm, W: Sink, E: Sink> Form for Grouped<T, W, E> {
         font: &Font<'_>,
         waivers: &Waivers<'_>,
         fault: &Fault,
+        reasons: &mut ReportReasons<'_>,
     ) -> Result<(), Lost> {
         let groups = self.groups.take();
-        match with_fault(self.alloc, self.form.room(), groups, font, waivers, fault) {
+        match with_fault(
+            self.alloc, &self.form, groups, font, waivers, fault, reasons,
+        ) {
             Ok(groups) => {
                 self.groups = Some(groups);
                 Ok(())
@@ -132,22 +137,36 @@ impl<T: GroupForm, W: Sink, E: Sink> Form for Grouped<T, W, E> {
     }
 }
 
-/// The groups with the line of a fault, in groups of this room if there are none yet.
-fn with_fault(
+/// The groups with the line of a fault, in new groups if there are none yet. Only the reason of a rule's first line is requested.
+fn with_fault<T: GroupForm>(
     alloc: Global,
-    room: usize,
+    form: &T,
     groups: Option<Groups>,
     font: &Font<'_>,
     waivers: &Waivers<'_>,
     fault: &Fault,
+    reasons: &mut ReportReasons<'_>,
 ) -> Result<Groups, AllocError>
-    requires { IsInFont font.now waivers.now (fault_value fault.now) }
-    ensures { IfOk result (λ g. group_values g
-        ≡ (let l = held_line font.now waivers.now (fault_value fault.now) in with_line (values_of room groups) l.rule l.unit)) }
+    requires in_font { IsInFont font.now waivers.now (fault_value fault.now) }
+    requires font { reasons.old.value ≡ font.now }
+    ensures added { IfOk result (λ g. group_values g ≡ with_line (values_of (T.writing form.now).room groups)
+        (held_line (T.writing form.now).reasons reasons.old waivers.now (fault_value fault.now))) }
+    ensures same { reasons.new ≡ reasons.old }
 {
-    let mut groups = groups_of(alloc, room, groups)?;
-    groups.add_fault(alloc, font, waivers, fault)?;
+    let mut groups = groups_of(alloc, form.room(), groups)?;
+    let is_told = requests_reason(form, &groups, fault.rule);
+    let Ok(reason) = told_text(is_told, font, waivers, fault, reasons) else {
+        return Err(AllocError);
+    };
+    groups.add_fault(alloc, font, waivers, fault, &reason)?;
     Ok(groups)
+}
+
+/// Whether the reason of a line is requested: it is the first of its rule, and reasons are written.
+fn requests_reason<T: GroupForm>(form: &T, groups: &Groups, rule: Rule) -> bool
+    ensures { result ≡ ((group_of (group_values groups.now) rule).count == 0 && (T.writing form.now).reasons) }
+{
+    groups.group(rule).is_empty() && form.reasons()
 }
 
 /// The groups, or new ones.

@@ -2,7 +2,7 @@
 
 ghost use Rattle.std.specs.Prelude.{◌≡◌, List, [], ◌∷◌, ◌++◌, ℕ, Option, None, true};
 ghost use Rattle.t1_grouped.specs.Commands.{message_room};
-ghost use Rattle.t1_grouped.specs.Laws.{CountsSumToLines, LinesAreInTheirGroups, LinesFitTerminals, NoMoreNamesFit};
+ghost use Rattle.t1_grouped.specs.Laws.{CountsSumToLines, LinesAreInTheirGroups, LinesFitTerminals, NoMoreNamesFit, ReasonsAreOfFirstLines};
 ghost use Rattle.t1_grouped.specs.RuleGroups.{values_of};
 ghost use Rattle.t1_grouped.specs.Writings.{AreWritten, command_wording, terminal_wording};
 ghost use Rattle.t1_grouped.specs.declared.github.GitHubGroups.{GitHubGroups as GitHubValue};
@@ -19,11 +19,12 @@ use crate::terminal::Terminal;
 use t1_io::Sink;
 use t1_many::Form;
 
-/// Each line is in the group of its rule, and the numbers of lines of all rules sum to the lines.
-#[tactic(auto, using(crate::proofs::Counts::counts_sum, crate::proofs::Counts::lines_are_in))]
+/// Each line is in the group of its rule, the numbers of lines of all rules sum to the lines, and a group's reason is that of its first line.
+#[tactic(auto, using(crate::proofs::Counts::counts_sum, crate::proofs::Counts::lines_are_in, crate::proofs::Counts::reasons_are_first))]
 pub fn lines_are_counted()
     ensures sum { CountsSumToLines }
     ensures groups { LinesAreInTheirGroups }
+    ensures reasons { ReasonsAreOfFirstLines }
 {}
 
 /// A line on a terminal is as wide as the terminal at most, or has no name; and no more names fit than it has.
@@ -37,7 +38,7 @@ pub fn lines_fit_terminals()
 pub fn terminal_lines_are_written<W: Sink, E: Sink>()
     ensures { (old new : GroupedValue TerminalValue W E) (handed : List Handed) (lost : Option LostValue) → old.groups ≡ None
         → HandsOn ⟦<Grouped<Terminal, W, E> as Form>⟧.takes old new handed lost
-        → AreWritten (terminal_wording old.form.width old.form.has_colours)
+        → AreWritten (terminal_wording old.form.width old.form.has_colours old.form.reasons)
         (record { out = W.state old.out; errors = E.state old.errors; groups = values_of old.form.width old.groups })
         (record { out = W.state new.out; errors = E.state new.errors; groups = values_of old.form.width new.groups }) handed lost }
 {}
@@ -47,7 +48,7 @@ pub fn terminal_lines_are_written<W: Sink, E: Sink>()
 pub fn group_commands_are_written<W: Sink, E: Sink>()
     ensures { (old new : GroupedValue GitHubValue W E) (handed : List Handed) (lost : Option LostValue) → old.groups ≡ None
         → HandsOn ⟦<Grouped<GitHubGroups, W, E> as Form>⟧.takes old new handed lost
-        → AreWritten command_wording
+        → AreWritten (command_wording old.form.reasons)
         (record { out = W.state old.out; errors = E.state old.errors; groups = values_of message_room old.groups })
         (record { out = W.state new.out; errors = E.state new.errors; groups = values_of message_room new.groups }) handed lost }
 {}

@@ -13,12 +13,16 @@
 //! - Each byte that is written, by the lines that were handed on. If a device fails, or memory runs out, a prefix of it was written.
 //! - A name is a glyph's, a key's or a waiver's. Lines at one unit after one another have one name.
 //! - The numbers of lines of a font's groups sum to the lines of the font.
+//! - Where reasons are written, a group's is that of its first line.
 //! - A line on a terminal is as wide as the terminal at most, or has no name.
+//!
+//! Where reasons are written, that of a group's first line is below the group's line, unless it adds nothing. On a terminal it is three blanks
+//! and its text. In a command it is a further line of the message. Only the reason of a rule's first fault is requested.
 //!
 //! The memory that is taken doesn't grow with the lines: a group keeps names up to the width.
 //!
 //! ```
-//! let form = Terminal { width: 80, has_colours: false };
+//! let form = Terminal { width: 80, has_colours: false, reasons: false };
 //! let mut grouped = Grouped::new(alloc, form, out, errors)?;
 //! ```
 #![tactic(auto)]

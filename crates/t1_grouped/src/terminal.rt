@@ -1,8 +1,9 @@
 //! Lines on a terminal.
 
-ghost use Rattle.std.specs.Prelude.{◌≡◌, ◌++◌, IfOk, OnOk, string_bytes};
+ghost use Rattle.std.specs.Prelude.{◌≡◌, ◌++◌, IfOk, OnOk, option_map, string_bytes};
 ghost use Rattle.t1_grouped.specs.Groups.{group_value};
 ghost use Rattle.t1_grouped.specs.Terminals.{colour_of, coloured, name_part, terminal_refusal, terminal_writing};
+ghost use Rattle.t1_reason_texts.specs.Texts.{line_behind};
 
 use crate::form::GroupForm;
 use crate::group::Group;
@@ -15,20 +16,27 @@ use t1_lines::{RefusalCode, refusal_text};
 use t1_many::Lost;
 use t1_rules::{Level, Rule, rule_level};
 
-/// A line for each font and rule: `NAME: RULE TEXT × COUNT: NAMES`. Names have bytes that a terminal can't show as `\xNN`.
+/// A line for each font and rule: `NAME: RULE TEXT × COUNT: NAMES`, and the reason of the first fault below it. Names have bytes that a terminal
+/// can't show as `\xNN`.
 #[derive(Clone, Copy, Debug)]
 pub struct Terminal {
     /// The characters that a line has at most, unless those before the names are more.
     pub width: usize,
     /// Whether the level of a rule is shown by a colour.
     pub has_colours: bool,
+    /// Whether the reason of the first fault is below its line: three blanks and its text, which isn't cut.
+    pub reasons: bool,
 }
 
 impl GroupForm for Terminal {
-    ghost writing = { λ terminal. terminal_writing terminal.width terminal.has_colours };
+    ghost writing = { λ terminal. terminal_writing terminal.width terminal.has_colours terminal.reasons };
 
     fn room(&self) -> usize {
         self.width
+    }
+
+    fn reasons(&self) -> bool {
+        self.reasons
     }
 
     fn push_line(
@@ -47,7 +55,8 @@ impl GroupForm for Terminal {
         text.extend_from_slice(name.as_bytes())?;
         push_coloured(text, self.has_colours, rule_level(rule), head.as_slice())?;
         text.extend_from_slice(tail.as_slice())?;
-        text.extend_from_slice(b"\n")
+        text.extend_from_slice(b"\n")?;
+        push_behind(text, group.reason())
     }
 
     fn put_refusal<W: Sink>(
@@ -109,6 +118,18 @@ fn push_coloured(
     text.extend_from_slice(colour(level))?;
     text.extend_from_slice(part)?;
     text.extend_from_slice(b"\x1b[0m")
+}
+
+/// Appends the line of a reason's text, if there is one.
+fn push_behind(text: &mut Vec<u8>, reason: Option<&str>) -> Result<(), AllocError>
+    ensures { OnOk result (text.new.items ≡ text.old.items ++ line_behind (option_map (λ t. t.now) reason.entry)) }
+{
+    let Some(reason) = reason else {
+        return Ok(());
+    };
+    text.extend_from_slice(b"   ")?;
+    text.extend_from_slice(reason.as_bytes())?;
+    text.extend_from_slice(b"\n")
 }
 
 /// `NAME: refused: CODE TEXT`.

@@ -33,7 +33,7 @@ fn open_waivers<'a>(_name: &str) -> Option<io::Result<In<&'a [u8]>>> {
     None
 }
 
-/// Reports P01, P02, P03 and Z05 of fonts, one of each level and one of keys.
+/// Reports P01, P02, P03 and Z05 of fonts, one of each level and one of keys, and GE02, of which there is no more to say.
 fn tell<T: GroupForm + Drop, W: Sink + Drop, E: Sink + Drop>(
     alloc: Global,
     files: &[File<'_>],
@@ -47,7 +47,7 @@ fn tell<T: GroupForm + Drop, W: Sink + Drop, E: Sink + Drop>(
         owned.push(String::from_str(alloc, *name)?)?;
     }
     let mut telling = Telling {
-        rules: told_rules(&[b"P", b"Z05"], &[]),
+        rules: told_rules(&[b"P", b"Z05", b"GE02"], &[]),
         form: Grouped::new(alloc, form, out, errors),
     };
     Ok(tell_all(
@@ -94,6 +94,12 @@ fn on_terminal(
     Ok(text)
 }
 
+/// `0 500 hsbw`, `5 hmoveto`, `10 hlineto`, `endchar`, which breaks P02.
+const OPEN: &[u8] = b"\x8b\xf8\x88\x0d\x90\x16\x95\x06\x0e";
+
+/// `0 500 hsbw`, `10 hlineto`, which breaks P01, `closepath`, `endchar`, which breaks GE02, `closepath`.
+const AFTER_THE_END: &[u8] = b"\x8b\xf8\x88\x0d\x95\x06\x09\x0e\x09";
+
 /// The names of eight glyphs.
 const EIGHT: [&[u8]; 8] = [b"A", b"B", b"C", b"D", b"Eacute", b"F", b"G", b"H"];
 
@@ -138,6 +144,7 @@ f.pfb: P03 closepath without a path \xc3\x97 16: A, B, C, D, Eacute, F, G, H
         let terminal = Terminal {
             width,
             has_colours: false,
+            reasons: false,
         };
         let text = on_terminal(rt.alloc(), terminal, "f.pfb", font.as_slice())?;
         assert!(rt; text.as_slice() == lines);
@@ -152,6 +159,7 @@ fn shows_names(rt: HostRuntime) -> Result<(), Fail> {
     let terminal = Terminal {
         width: 62,
         has_colours: false,
+        reasons: false,
     };
     let wide = font(
         rt.alloc(),
@@ -175,6 +183,7 @@ a\\x09b.pfb: P03 closepath without a path \xc3\x97 6: A \xe2\x80\xa6 and 2 more
     let terminal = Terminal {
         width: 66,
         has_colours: false,
+        reasons: false,
     };
     let text = on_terminal(rt.alloc(), terminal, "f.pfb", odd.as_slice())?;
     let lines = b"\
@@ -203,6 +212,7 @@ fn shows_levels_by_colours(rt: HostRuntime) -> Result<(), Fail> {
     let terminal = Terminal {
         width: 80,
         has_colours: true,
+        reasons: false,
     };
     let status = tell(
         rt.alloc(),
@@ -238,7 +248,7 @@ fn writes_commands(rt: HostRuntime) -> Result<(), Fail> {
         rt.alloc(),
         &files,
         &["a,b: 50%\n.pfb", "cut.pfa", "absent.pfb"],
-        GitHubGroups,
+        GitHubGroups { reasons: false },
         Out::new(&mut text),
         Out::new(&mut told),
     )?;
@@ -255,6 +265,86 @@ fn writes_commands(rt: HostRuntime) -> Result<(), Fail> {
     Ok(())
 }
 
+/// Below a line is the reason of its first fault, in no colour: that of the first glyph, and of the first of two places. Where there is no
+/// more to say of a rule, nothing is below its line.
+#[test]
+fn shows_reasons_below(rt: HostRuntime) -> Result<(), Fail> {
+    let faulty = Sample::new(rt.alloc())?
+        .key(b"/BlueValues [-10 0 1 2 3 4] def")?
+        .glyph(b"A", AFTER_THE_END)?
+        .glyph(b"B", OPEN)?
+        .glyph(b"C", FOUR_FAULTS)?
+        .pfb()?;
+    let terminal = Terminal {
+        width: 60,
+        has_colours: false,
+        reasons: true,
+    };
+    let text = on_terminal(rt.alloc(), terminal, "f.pfb", faulty.as_slice())?;
+    let lines = b"\
+f.pfb: P01 drawing without a move \xc3\x97 2: A, C
+   no move so far
+f.pfb: Z05 zones too near \xc3\x97 2: BlueValues
+   from 0 to 1 is 1; 3 is needed
+f.pfb: P02 path not closed \xc3\x97 2: B, C
+   from 5 0 to 15 0
+f.pfb: GE02 tokens after the end \xc3\x97 1: A
+f.pfb: P03 closepath without a path \xc3\x97 2: C
+   nothing is drawn since step 6
+";
+    assert!(rt; text.as_slice() == lines.as_slice());
+    let coloured = Terminal {
+        width: 20,
+        has_colours: true,
+        reasons: true,
+    };
+    let open = Sample::new(rt.alloc())?.glyph(b"A", OPEN)?.pfb()?;
+    let text = on_terminal(rt.alloc(), coloured, "f.pfb", open.as_slice())?;
+    let lines = b"\
+f.pfb: \x1b[33mP02 path not closed\x1b[0m \xc3\x97 1: \xe2\x80\xa6 and 1 more
+   from 5 0 to 15 0
+";
+    assert!(rt; text.as_slice() == lines.as_slice());
+    Ok(())
+}
+
+/// In a command the reason of the first fault is on a line of its own. Each font has its own reasons.
+#[test]
+fn writes_reasons_in_commands(rt: HostRuntime) -> Result<(), Fail> {
+    let faulty = Sample::new(rt.alloc())?
+        .glyph(b"A", FOUR_FAULTS)?
+        .glyph(b"B", AFTER_THE_END)?
+        .pfb()?;
+    let open = Sample::new(rt.alloc())?.glyph(b"B", OPEN)?.pfb()?;
+    let files = [
+        ("f.pfb", faulty.as_slice()),
+        ("g.pfb", open.as_slice()),
+        ("cut.pfa", b"%!\n/FontType 1 def\n".as_slice()),
+    ];
+    let mut text = Vec::new(rt.alloc());
+    let mut told = Vec::new(rt.alloc());
+    let status = tell(
+        rt.alloc(),
+        &files,
+        &["f.pfb", "g.pfb", "cut.pfa"],
+        GitHubGroups { reasons: true },
+        Out::new(&mut text),
+        Out::new(&mut told),
+    )?;
+    assert_eq!(rt; status, Ok(Status::Refused));
+    let lines = b"\
+::error file=f.pfb,line=1,title=P01 drawing without a move::P01 drawing without a move \xc3\x97 2: A, B%0Ano move so far
+::warning file=f.pfb,line=1,title=P02 path not closed::P02 path not closed \xc3\x97 1: A%0Afrom 10 0 to 20 0
+::notice file=f.pfb,line=1,title=GE02 tokens after the end::GE02 tokens after the end \xc3\x97 1: B
+::notice file=f.pfb,line=1,title=P03 closepath without a path::P03 closepath without a path \xc3\x97 2: A%0Anothing is drawn since step 6
+::warning file=g.pfb,line=1,title=P02 path not closed::P02 path not closed \xc3\x97 1: B%0Afrom 5 0 to 15 0
+::error file=cut.pfa,line=1,title=E04 no eexec::refused: E04 no eexec
+";
+    assert!(rt; text.as_slice() == lines.as_slice());
+    assert!(rt; told.is_empty());
+    Ok(())
+}
+
 /// The output fails in its first line: the run stops there, and a prefix of the line went out.
 #[test]
 fn stops_where_the_output_fails(rt: HostRuntime) -> Result<(), Fail> {
@@ -265,6 +355,7 @@ fn stops_where_the_output_fails(rt: HostRuntime) -> Result<(), Fail> {
     let terminal = Terminal {
         width: 80,
         has_colours: false,
+        reasons: false,
     };
     let status = tell(
         rt.alloc(),
@@ -287,7 +378,7 @@ fn reports_what_was_not_checked(rt: HostRuntime) -> Result<(), Fail> {
     let mut told = Vec::new(rt.alloc());
     let mut form = Grouped::new(
         rt.alloc(),
-        GitHubGroups,
+        GitHubGroups { reasons: false },
         Out::new(&mut text),
         Out::new(&mut told),
     );

@@ -1,5 +1,5 @@
 -- Parts that left texts, joined.
-use Rattle.std.proofs.Common.{◌≡◌, ◌-◌, ◌<◌, ◌≤◌, ℕ, zero, suc, List, [], ◌∷◌, ◌++◌, map, Option, None, Some, Ok, inl, inr, refl, sym, ap, ap₂, subst, ◌∙◌, arith, append_assoc, append-nil}
+use Rattle.std.proofs.Common.{◌≡◌, ◌-◌, ◌<◌, ◌≤◌, ℕ, Bool, zero, suc, List, [], ◌∷◌, ◌++◌, map, Option, None, Some, Ok, inl, inr, refl, sym, ap, ap₂, subst, ◌∙◌, arith, append_assoc, append-nil}
 use Rattle.std.proofs.KnownBytes.{Appends-kept, Appends-nil, Appends-trans}
 use Rattle.std.proofs.lemmas.Grind.{flat_map-append}
 use Rattle.std.proofs.lemmas.List.{map-append}
@@ -41,6 +41,7 @@ use Rattle.t1_parts.proofs.WholeTexts.{a_text_is_one_part}
 use Rattle.t1_parts.specs.PartTexts.{part_text}
 use Rattle.t1_parts.specs.PartValues.{FontRows, PartValue, font_rows, part_value}
 use Rattle.t1_parts.specs.declared.part.Part.{Part}
+use Rattle.t1_report.specs.Checked.{checked}
 use Rattle.t1_report.specs.Faults.{FaultValue}
 use Rattle.t1_rules.specs.declared.mask.Mask.{Mask}
 use Rattle.t1_rules.specs.declared.rule.Rule.{Rule}
@@ -150,73 +151,75 @@ unlisted_before unlisted zero = []
 unlisted_before unlisted (suc n) = unlisted
 
 -- groups that are held after all of these
-abbrev held_all : List HeldLine → List Handed → List HeldLine
-held_all held [] = held
-held_all held (x ∷ xs) = held_all (held_after held x) xs
+abbrev held_all : Bool → List HeldLine → List Handed → List HeldLine
+held_all reasons held [] = held
+held_all reasons held (x ∷ xs) = held_all reasons (held_after reasons held x) xs
 
-held-append : (held : List HeldLine) (xs ys : List Handed) → held_all held (xs ++ ys) ≡ held_all (held_all held xs) ys
-held-append held [] ys = refl
-held-append held (x ∷ xs) ys = held-append (held_after held x) xs ys
+held-append : (reasons : Bool) (held : List HeldLine) (xs ys : List Handed)
+    → held_all reasons held (xs ++ ys) ≡ held_all reasons (held_all reasons held xs) ys
+held-append reasons held [] ys = refl
+held-append reasons held (x ∷ xs) ys = held-append reasons (held_after reasons held x) xs ys
 
-font_closed : (judges : Report → FaultValue → Verdict) (name : List ℕ) (outcome : Outcome) (held : List HeldLine)
-    → held_all held (handed_of judges name outcome) ≡ []
-font_closed judges name (reported report) held =
-    held-append held (lines_by (judges report) name report.font report.waivers report.faults)
+font_closed : (reasons : Bool) (judges : Report → FaultValue → Verdict) (name : List ℕ) (outcome : Outcome) (held : List HeldLine)
+    → held_all reasons held (handed_of judges name outcome) ≡ []
+font_closed reasons judges name (reported report) held =
+    held-append reasons held (lines_by (judges report) name (checked report.font report.edition) report.waivers report.faults)
     (done name (found_by (judges report) report.faults) ∷ [])
-font_closed judges name (failed reason) held = refl
+font_closed reasons judges name (failed reason) held = refl
 
-all_closed : (judges : List ℕ → Report → FaultValue → Verdict) (entries : List Entry) → held_all [] (all_handed judges entries) ≡ []
-all_closed judges [] = refl
-all_closed judges (e ∷ entries) =
-    held-append [] (handed_of (judges e.name) e.name e.outcome) (all_handed judges entries)
-    ∙ ap (λ (held : List HeldLine). held_all held (all_handed judges entries)) (font_closed (judges e.name) e.name e.outcome [])
-    ∙ all_closed judges entries
+all_closed : (reasons : Bool) (judges : List ℕ → Report → FaultValue → Verdict) (entries : List Entry)
+    → held_all reasons [] (all_handed judges entries) ≡ []
+all_closed reasons judges [] = refl
+all_closed reasons judges (e ∷ entries) =
+    held-append reasons [] (handed_of (judges e.name) e.name e.outcome) (all_handed judges entries)
+    ∙ ap (λ (held : List HeldLine). held_all reasons held (all_handed judges entries)) (font_closed reasons (judges e.name) e.name e.outcome [])
+    ∙ all_closed reasons judges entries
 
 after-append : (wording : Wording) (held : List HeldLine) (xs ys : List Handed)
-    → text_after wording held (xs ++ ys) ≡ text_after wording held xs ++ text_after wording (held_all held xs) ys
+    → text_after wording held (xs ++ ys) ≡ text_after wording held xs ++ text_after wording (held_all wording.reasons held xs) ys
 after-append wording held [] ys = refl
 after-append wording held (x ∷ xs) ys =
-    ap (λ (l : List ℕ). text_of_one wording held x ++ l) (after-append wording (held_after held x) xs ys)
-    ∙ sym (append_assoc (text_of_one wording held x) (text_after wording (held_after held x) xs) (text_after wording (held_all held (x ∷ xs)) ys))
+    ap (λ (l : List ℕ). text_of_one wording held x ++ l) (after-append wording (held_after wording.reasons held x) xs ys)
+    ∙ sym (append_assoc (text_of_one wording held x) (text_after wording (held_after wording.reasons held x) xs) (text_after wording (held_all wording.reasons held (x ∷ xs)) ys))
 
-whole-append : (wording : Wording) (xs ys : List Handed) → held_all [] xs ≡ []
+whole-append : (wording : Wording) (xs ys : List Handed) → held_all wording.reasons [] xs ≡ []
     → text_after wording [] xs ++ text_after wording [] ys ≡ text_after wording [] (xs ++ ys)
 whole-append wording xs ys closed =
     sym (after-append wording [] xs ys ∙ ap (λ (held : List HeldLine). text_after wording [] xs ++ text_after wording held ys) closed)
 
 -- what is written of two parts whose second one has nothing that couldn't be listed, or whose first one is none
 output-append : (layout : LayoutValue) (unlisted : List ToldValue) (n : ℕ) (xs ys : List Handed) (a b : List ℕ) → (n ≡ 0 → xs ≡ [])
-    → held_all [] xs ≡ [] → IsOutputOf layout (unlisted_before unlisted n) xs a → IsOutputOf layout (unlisted_at unlisted n) ys b
+    → ((reasons : Bool) → held_all reasons [] xs ≡ []) → IsOutputOf layout (unlisted_before unlisted n) xs a → IsOutputOf layout (unlisted_at unlisted n) ys b
     → IsOutputOf layout (unlisted_before unlisted (suc n)) (xs ++ ys) (a ++ b)
-output-append lines unlisted n xs ys a b none closed first second =
-    ap₂ (λ (l m : List ℕ). l ++ m) first second ∙ sym (flat_map-append text_of xs ys)
+output-append (lines reasons) unlisted n xs ys a b none closed first second =
+    ap₂ (λ (l m : List ℕ). l ++ m) first second ∙ sym (flat_map-append (text_of reasons) xs ys)
 output-append (groups terminal) unlisted n xs ys a b none closed first second =
-    ap₂ (λ (l m : List ℕ). l ++ m) first second ∙ whole-append (terminal_wording terminal.width terminal.has_colours) xs ys closed
-output-append json_lines unlisted zero xs ys a b none closed first second =
-    ap₂ (λ (l m : List ℕ). l ++ m) (first ∙ ap objects (none refl)) second
-    ∙ ap (λ (hs : List Handed). flat_map object_line unlisted ++ objects (hs ++ ys)) (sym (none refl))
-output-append json_lines unlisted (suc n) xs ys a b none closed first second =
-    ap₂ (λ (l m : List ℕ). l ++ m) first second ∙ append_assoc (flat_map object_line unlisted) (objects xs) (objects ys)
-    ∙ ap (λ (l : List ℕ). flat_map object_line unlisted ++ l) (sym (flat_map-append object_text xs ys))
-output-append commands unlisted zero xs ys a b none closed first second =
-    ap₂ (λ (l m : List ℕ). l ++ m) (first ∙ ap (text_after command_wording []) (none refl)) second
-    ∙ ap (λ (hs : List Handed). flat_map unlisted_command unlisted ++ text_after command_wording [] (hs ++ ys)) (sym (none refl))
-output-append commands unlisted (suc n) xs ys a b none closed first second =
+    ap₂ (λ (l m : List ℕ). l ++ m) first second ∙ whole-append (terminal_wording terminal.width terminal.has_colours terminal.reasons) xs ys (closed terminal.reasons)
+output-append (json_lines reasons) unlisted zero xs ys a b none closed first second =
+    ap₂ (λ (l m : List ℕ). l ++ m) (first ∙ ap (objects reasons) (none refl)) second
+    ∙ ap (λ (hs : List Handed). flat_map object_line unlisted ++ objects reasons (hs ++ ys)) (sym (none refl))
+output-append (json_lines reasons) unlisted (suc n) xs ys a b none closed first second =
+    ap₂ (λ (l m : List ℕ). l ++ m) first second ∙ append_assoc (flat_map object_line unlisted) (objects reasons xs) (objects reasons ys)
+    ∙ ap (λ (l : List ℕ). flat_map object_line unlisted ++ l) (sym (flat_map-append (object_text reasons) xs ys))
+output-append (commands reasons) unlisted zero xs ys a b none closed first second =
+    ap₂ (λ (l m : List ℕ). l ++ m) (first ∙ ap (text_after (command_wording reasons) []) (none refl)) second
+    ∙ ap (λ (hs : List Handed). flat_map unlisted_command unlisted ++ text_after (command_wording reasons) [] (hs ++ ys)) (sym (none refl))
+output-append (commands reasons) unlisted (suc n) xs ys a b none closed first second =
     ap₂ (λ (l m : List ℕ). l ++ m) first second
-    ∙ append_assoc (flat_map unlisted_command unlisted) (text_after command_wording [] xs) (text_after command_wording [] ys)
-    ∙ ap (λ (l : List ℕ). flat_map unlisted_command unlisted ++ l) (whole-append command_wording xs ys closed)
-output-append (sarif docs) unlisted n xs ys a b none closed first second = tt
+    ∙ append_assoc (flat_map unlisted_command unlisted) (text_after (command_wording reasons) [] xs) (text_after (command_wording reasons) [] ys)
+    ∙ ap (λ (l : List ℕ). flat_map unlisted_command unlisted ++ l) (whole-append (command_wording reasons) xs ys (closed reasons))
+output-append (sarif docs reasons) unlisted n xs ys a b none closed first second = tt
 
 all_listed : (unlisted : List ToldValue) (n : ℕ) → 0 < n → unlisted_before unlisted n ≡ unlisted
 all_listed unlisted zero never = absurd (omega (arith, never))
 all_listed unlisted (suc n) some = refl
 
 no_output : (layout : LayoutValue) → IsOutputOf layout [] [] []
-no_output lines = refl
+no_output (lines reasons) = refl
 no_output (groups terminal) = refl
-no_output json_lines = refl
-no_output commands = refl
-no_output (sarif docs) = tt
+no_output (json_lines reasons) = refl
+no_output (commands reasons) = refl
+no_output (sarif docs reasons) = tt
 
 no_readings : (mode : ModeValue) (rules : Mask) → AllZip IsTextOf [] (readings_of mode rules [])
 no_readings told rules = tt
@@ -304,7 +307,7 @@ module _ (files : Files) (left : FilesOfParts) (layout : LayoutValue) (unlisted 
       output_is = subst (λ (hs : List Handed). IsOutputOf layout (unlisted_before unlisted (suc n)) hs (joined output_of n ++ output_of n))
           (sym handed-append)
           (output-append layout unlisted n (handed_in have.entries) (handed_in texts_left.entries) (joined output_of n) (output_of n)
-          (λ zero_is. ap handed_in (have.none zero_is)) (all_closed judges have.entries) have.output_is texts_left.output_is);
+          (λ zero_is. ap handed_in (have.none zero_is)) (λ reasons. all_closed reasons judges have.entries) have.output_is texts_left.output_is);
       errors_are = ap₂ (λ (a b : List ℕ). a ++ b) have.errors_are texts_left.errors_are
           ∙ sym (ap tellings handed-append ∙ flat_map-append told_of (handed_in have.entries) (handed_in texts_left.entries));
       counts = have.counts ++ count_here ∷ [];

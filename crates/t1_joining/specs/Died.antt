@@ -8,11 +8,12 @@ use Rattle.t1_forms.specs.Tellings.{ToldValue, unchecked_line}
 use Rattle.t1_forms.specs.declared.sarif.Sarif.{Sarif as Document}
 use Rattle.t1_io.specs.Devices.{SinkState, Wrote}
 use Rattle.t1_joining.specs.Steps.{Then}
+use Rattle.t1_many.specs.Plain.{IsLinePut}
 use Rattle.t1_many.specs.declared.recipient.Lost.{Lost}
 use Rattle.t1_many_forms.specs.Commands.{command_written}
 use Rattle.t1_many_forms.specs.Documents.{end_written, telling_written}
 use Rattle.t1_many_forms.specs.Formatting.{told_unchecked}
-use Rattle.t1_many_forms.specs.JsonLines.{IsLinePut, object_written}
+use Rattle.t1_many_forms.specs.JsonLines.{object_written}
 use Rattle.t1_many_forms.specs.declared.github.GitHubCommands.{GitHubCommands as Commands}
 use Rattle.t1_many_forms.specs.declared.json_lines.JsonLines.{JsonLines as Objects}
 use Rattle.t1_parts.specs.PartValues.{PartValue}
@@ -58,8 +59,8 @@ pub data WritesAnew (docs : Option (List ℕ)) (told : List ToldValue) (old new 
 -- SARIF that was cut short isn't copied: one is written anew, which has what couldn't be listed too.
 abbrev pub WritesDied : LayoutValue → (SinkState → SinkState → Option Lost → Type 0) → List ToldValue → List ToldValue → SinkState → SinkState
     → Option Lost → Type 0
-WritesDied lines Copied unlisted died old new lost = Copied old new lost
+WritesDied (lines reasons) Copied unlisted died old new lost = Copied old new lost
 WritesDied (groups terminal) Copied unlisted died old new lost = Copied old new lost
-WritesDied json_lines Copied unlisted died old new lost = Then Copied (GivesAll {T = Objects} object_written died) old new lost
-WritesDied commands Copied unlisted died old new lost = Then Copied (GivesAll {T = Commands} command_written died) old new lost
-WritesDied (sarif docs) Copied unlisted died old new lost = WritesAnew docs (unlisted ++ died) old new lost
+WritesDied (json_lines reasons) Copied unlisted died old new lost = Then Copied (GivesAll {T = Objects} object_written died) old new lost
+WritesDied (commands reasons) Copied unlisted died old new lost = Then Copied (GivesAll {T = Commands} command_written died) old new lost
+WritesDied (sarif docs reasons) Copied unlisted died old new lost = WritesAnew docs (unlisted ++ died) old new lost

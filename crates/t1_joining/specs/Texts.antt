@@ -27,12 +27,13 @@ unlisted_command told = command_of told (what_spelled told.what)
 -- What is written of what couldn't be listed and of things that are handed on. A document of SARIF is written by one process alone, so nothing is
 -- said of parts of it.
 abbrev pub IsOutputOf : LayoutValue → List ToldValue → List Handed → List ℕ → Type 0
-IsOutputOf lines unlisted handed output = output ≡ texts handed
+IsOutputOf (lines reasons) unlisted handed output = output ≡ texts reasons handed
 IsOutputOf (groups terminal) unlisted handed output =
-    output ≡ text_after (terminal_wording terminal.width terminal.has_colours) [] handed
-IsOutputOf json_lines unlisted handed output = output ≡ flat_map object_line unlisted ++ objects handed
-IsOutputOf commands unlisted handed output = output ≡ flat_map unlisted_command unlisted ++ text_after command_wording [] handed
-IsOutputOf (sarif docs) unlisted handed output = Unit {0}
+    output ≡ text_after (terminal_wording terminal.width terminal.has_colours terminal.reasons) [] handed
+IsOutputOf (json_lines reasons) unlisted handed output = output ≡ flat_map object_line unlisted ++ objects reasons handed
+IsOutputOf (commands reasons) unlisted handed output =
+    output ≡ flat_map unlisted_command unlisted ++ text_after (command_wording reasons) [] handed
+IsOutputOf (sarif docs reasons) unlisted handed output = Unit {0}
 
 -- What fonts of these names leave whose files were checked once each, in order: their output, what is printed of them on standard error, and what
 -- was found in them.
@@ -46,11 +47,11 @@ pub record LeavesTexts (layout : LayoutValue) (unlisted : List ToldValue) (mode 
 
 -- The output went out, where its text has a definition.
 abbrev pub WentOut : LayoutValue → SinkState → SinkState → List ℕ → Type 0
-WentOut lines old new output = Appends old.written new.written output
+WentOut (lines reasons) old new output = Appends old.written new.written output
 WentOut (groups terminal) old new output = Appends old.written new.written output
-WentOut json_lines old new output = Appends old.written new.written output
-WentOut commands old new output = Appends old.written new.written output
-WentOut (sarif docs) old new output = Unit {0}
+WentOut (json_lines reasons) old new output = Appends old.written new.written output
+WentOut (commands reasons) old new output = Appends old.written new.written output
+WentOut (sarif docs reasons) old new output = Unit {0}
 
 -- Such texts were written and printed.
 pub record HasLeft (layout : LayoutValue) (unlisted : List ToldValue) (mode : ModeValue) (rules : Mask) (files : Files) (edition : Edition)

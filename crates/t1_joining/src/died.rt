@@ -19,10 +19,10 @@ use crate::files::copy_file;
 use std::alloc::{AllocError, Global};
 use std::io;
 use t1_batch::{Layout, Output, Unlisted, give_unlisted, lost_by};
-use t1_forms::{Sarif, Told, What, tell_unchecked};
+use t1_forms::{Sarif, What, tell_unchecked};
 use t1_io::{Broken, Sink, Source};
 use t1_many::Lost;
-use t1_many_forms::{Formatter, GitHubCommands, JsonLines};
+use t1_many_forms::{Formatter, GitHubCommands, JsonLines, give};
 use t1_parts::Part;
 use t1_summary::Found;
 
@@ -87,11 +87,11 @@ where
         (W.state out.old) (W.state out.new) (lost_of result) }
 {
     match output.layout {
-        Layout::Lines => copy_file(alloc, opens, number, Extent::WholeLines, out),
+        Layout::Lines { .. } => copy_file(alloc, opens, number, Extent::WholeLines, out),
         Layout::Groups(_) => copy_file(alloc, opens, number, Extent::WholeLines, out),
-        Layout::JsonLines => write_after(alloc, opens, number, JsonLines, died, out),
-        Layout::GitHub => write_after(alloc, opens, number, GitHubCommands, died, out),
-        Layout::Sarif(docs) => write_anew(alloc, docs, output.unlisted, died, out),
+        Layout::JsonLines { .. } => write_after(alloc, opens, number, JsonLines, died, out),
+        Layout::GitHub { .. } => write_after(alloc, opens, number, GitHubCommands, died, out),
+        Layout::Sarif { docs, .. } => write_anew(alloc, docs, output.unlisted, died, out),
     }
 }
 
@@ -184,12 +184,15 @@ fn give_each<T: Formatter, W: Sink>(
         (map (λ name. told_unchecked (string_bytes name) reason.now) names.now) (lost_of result) }
 {
     for name in names {
-        let told = Told {
-            font: Some(name.as_bytes()),
-            what: What::Unchecked(reason.as_bytes()),
-            line: line.as_bytes(),
-        };
-        formatter.write(alloc, out, &told)?;
+        give(
+            alloc,
+            formatter,
+            out,
+            name.as_bytes(),
+            What::Unchecked(reason.as_bytes()),
+            line.as_bytes(),
+            None,
+        )?;
     }
     Ok(())
 }

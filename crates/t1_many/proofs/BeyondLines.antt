@@ -30,7 +30,7 @@ module _ (p q : FaultValue → Verdict) (same : (fault : FaultValue) → p fault
   same_found [] = refl
   same_found (fault ∷ faults) = ap (λ v. found_with v (found_by p faults)) (same fault) ∙ ap (found_with (q fault)) (same_found faults)
 
-  same_handed : (name : List ℕ) (font : FontValue) (waivers : List Waiver) (faults : List FaultValue)
+  same_handed : (name : List ℕ) (font : CheckedFont) (waivers : List Waiver) (faults : List FaultValue)
       → lines_by p name font waivers faults ++ done name (found_by p faults) ∷ []
       ≡ lines_by q name font waivers faults ++ done name (found_by q faults) ∷ []
   same_handed name font waivers faults =
@@ -50,6 +50,6 @@ beyond takes no_other known found groups rules name font waivers a b taken (coun
     (count (group_of font.value fault) ∙ ap (λ (fs : List FaultValue). found_in font.value (told_faults rules fs) (group_of font.value fault)) one) in (
       faults,
       is,
-      subst (λ hs. HandsOn takes a b hs (lost_of taken)) (same_handed by_found (verdict_beyond known rules font.value faults) same name font.value waivers faults) handed,
+      subst (λ hs. HandsOn takes a b hs (lost_of taken)) (same_handed by_found (verdict_beyond known rules font.value faults) same name font waivers faults) handed,
       subst (λ f. IfOk taken (λ t. t ≡ f)) (same_found by_found (verdict_beyond known rules font.value faults) same faults) found_is,
     )

@@ -41,8 +41,8 @@ pub record Widens (given wider : Given) : Type 0 where
 
 found_by : (edition : Edition) (given wider : Given) (outcome : Outcome) → Widens given wider → IsFound edition given outcome
     → IsFound edition wider outcome
-found_by edition given wider outcome on (reports report read waived is same) =
-    reports report (on.reads _ read) (on.waives _ waived) is same
+found_by edition given wider outcome on (reports report read waived edition_is is same) =
+    reports report (on.reads _ read) (on.waives _ waived) edition_is is same
 found_by edition given wider outcome on (refused reason read same) = refused reason (on.reads _ read) same
 found_by edition given wider outcome on (waivers_refused font read reason waived same) =
     waivers_refused font (on.reads _ read) reason (on.waives _ waived) same
@@ -67,11 +67,11 @@ module _ {R : Type 0} (takes : R → R → Entry → Result Found Lost → Type 
   -- a report that was taken
   pub text_taken : (font : FontValue) (text : List ℕ) (waivers : List Waiver) (of : Edition) (a b : R) (taken : Result Found Lost)
       → of ≡ edition → waivers_of text ≡ Some waivers → (faults : List FaultValue) × IsReport (checked font of) waivers faults
-      × takes a b (record { name = name; outcome = reported (record { font = font; waivers = waivers; faults = faults }) }) taken
+      × takes a b (record { name = name; outcome = reported (record { font = font; edition = of; waivers = waivers; faults = faults }) }) taken
       → Checks takes edition name (of_text font text) a b (Ok taken)
   text_taken font text waivers of a b taken same read (faults, is, took) = (
-    record { font = font; waivers = waivers; faults = faults },
-    reports (record { font = font; waivers = waivers; faults = faults }) refl (ap as_waivers read)
+    record { font = font; edition = of; waivers = waivers; faults = faults },
+    reports (record { font = font; edition = of; waivers = waivers; faults = faults }) refl (ap as_waivers read) same
         (subst (λ (e : Edition). IsReport (checked font e) waivers faults) same is) refl,
     took,
   )

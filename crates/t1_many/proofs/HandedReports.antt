@@ -20,17 +20,17 @@ module _ {F : Type 0} (takes : F → F → Handed → Option Lost → Type 0) (n
     stopped_early lost (faults, is, handed, none) r at = (
       faults,
       is,
-      subst (HandsOn takes a b (lines_by judges name font.value waivers faults ++ done name (found_by judges faults) ∷ [])) (sym (lost_same r lost at))
-          (handed-stopped takes a b (lines_by judges name font.value waivers faults) _ lost handed),
+      subst (HandsOn takes a b (lines_by judges name font waivers faults ++ done name (found_by judges faults) ∷ [])) (sym (lost_same r lost at))
+          (handed-stopped takes a b (lines_by judges name font waivers faults) _ lost handed),
       no_ok r (λ l. l ≡ lost) (λ found. found ≡ found_by judges faults) at,
     )
 
     behind_lines : (c : F) (found : Found) (lost : Option Lost) (faults : List FaultValue)
-        → HandsOn takes a b (lines_by judges name font.value waivers faults) None → found ≡ found_by judges faults
+        → HandsOn takes a b (lines_by judges name font waivers faults) None → found ≡ found_by judges faults
         → takes b c (done name found) lost
-        → HandsOn takes a c (lines_by judges name font.value waivers faults ++ done name (found_by judges faults) ∷ []) lost
+        → HandsOn takes a c (lines_by judges name font waivers faults ++ done name (found_by judges faults) ∷ []) lost
     behind_lines c found lost faults handed same took =
-        handed-append takes a b c (lines_by judges name font.value waivers faults) _ lost handed
+        handed-append takes a b c (lines_by judges name font waivers faults) _ lost handed
         (subst (λ (f : Found). HandsOn takes b c (done name f ∷ []) lost) same (handed-one takes b c (done name found) lost took))
 
     -- or after all of them
@@ -40,7 +40,7 @@ module _ {F : Type 0} (takes : F → F → Handed → Option Lost → Type 0) (n
     stopped_late c found lost (faults, is, handed, same) took r at = (
       faults,
       is,
-      subst (HandsOn takes a c (lines_by judges name font.value waivers faults ++ done name (found_by judges faults) ∷ [])) (sym (lost_same r lost at))
+      subst (HandsOn takes a c (lines_by judges name font waivers faults ++ done name (found_by judges faults) ∷ [])) (sym (lost_same r lost at))
           (behind_lines c found (Some lost) faults handed same took),
       no_ok r (λ l. l ≡ lost) (λ f. f ≡ found_by judges faults) at,
     )

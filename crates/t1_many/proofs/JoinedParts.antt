@@ -23,7 +23,7 @@ pub handed : PartsAreHandedOn
 handed judges entries_of parts = each_joined (λ (entry : Entry). handed_of judges entry.name entry.outcome) entries_of parts
 
 pub written : PartsAreWritten
-written handed_of parts = (each_joined text_of handed_of parts, each_joined told_of handed_of parts)
+written reasons handed_of parts = (each_joined (text_of reasons) handed_of parts, each_joined told_of handed_of parts)
 
 pub status : PartsHaveTheStatus
 status founds_of zero = refl

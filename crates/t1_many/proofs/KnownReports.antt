@@ -40,7 +40,7 @@ module _ (p q : FaultValue → Verdict) where
   found_alike [] same = refl
   found_alike (fault ∷ faults) same = ap (λ v. found_with v (found_by p faults)) same.0 ∙ ap (found_with (q fault)) (found_alike faults same.1)
 
-  pub handed_alike : (name : List ℕ) (font : FontValue) (waivers : List Waiver) (faults : List FaultValue)
+  pub handed_alike : (name : List ℕ) (font : CheckedFont) (waivers : List Waiver) (faults : List FaultValue)
       → AllByRecursion (λ fault. p fault ≡ q fault) faults
       → lines_by p name font waivers faults ++ done name (found_by p faults) ∷ []
       ≡ lines_by q name font waivers faults ++ done name (found_by q faults) ∷ []
@@ -122,15 +122,15 @@ all_told font rules waivers faults there = all_some (IsInFont font waivers) (λ 
 -- ---- reports
 
 module _ {F : Type 0} (takes : F → F → Handed → Option Lost → Type 0) (rules : Mask) (name : List ℕ) where
-  abbrev entry : FontValue → List Waiver → List FaultValue → Entry
+  abbrev entry : CheckedFont → List Waiver → List FaultValue → Entry
   entry font waivers faults =
-      record { name = name; outcome = reported (record { font = font; waivers = waivers; faults = faults }) }
+      record { name = name; outcome = reported (record { font = font.value; edition = font.edition; waivers = waivers; faults = faults }) }
 
-  kept : (judges : Report → FaultValue → Verdict) (a b : F) (old new : List Reading) (reading : Reading) (font : FontValue)
+  kept : (judges : Report → FaultValue → Verdict) (a b : F) (old new : List Reading) (reading : Reading) (font : CheckedFont)
       (waivers : List Waiver) (faults : List FaultValue) (taken result : Result Found Lost)
-      → HandsFont takes judges a b (entry font waivers faults) taken → IsReading name font waivers (told_faults rules faults) reading
+      → HandsFont takes judges a b (entry font waivers faults) taken → IsReading name font.value waivers (told_faults rules faults) reading
       → Keeps old new reading taken result
-      → TakesOutcome takes judges rules a b old new name (reported (record { font = font; waivers = waivers; faults = faults })) result
+      → TakesOutcome takes judges rules a b old new name (reported (record { font = font.value; edition = font.edition; waivers = waivers; faults = faults })) result
   kept judges a b old new reading font waivers faults (Ok found) (Ok other) hands is (same, keeps) = (
     subst (λ (f : Found). HandsFont takes judges a b (entry font waivers faults) (Ok f)) (sym same) hands,
     reading,
@@ -150,18 +150,18 @@ module _ {F : Type 0} (takes : F → F → Handed → Option Lost → Type 0) (r
       → ((faults : List FaultValue) → AllByRecursion (IsInFont font.value waivers) faults → groups ≡ groups_of font.value faults
       → IsReading name font.value waivers faults reading)
       → (a b : F) (taken : Result Found Lost)
-      → HandsReport takes (as_known rules (record { font = font.value; waivers = waivers; faults = [] })) name font waivers a b taken
+      → HandsReport takes (as_known rules (record { font = font.value; edition = font.edition; waivers = waivers; faults = [] })) name font waivers a b taken
       → (old new : List Reading) (result : Result Found Lost) → Keeps old new reading taken result
       → (faults : List FaultValue) × IsReport font waivers faults
       × TakesOutcome takes (as_known rules) rules a b old new name
-      (reported (record { font = font.value; waivers = waivers; faults = faults })) result
+      (reported (record { font = font.value; edition = font.edition; waivers = waivers; faults = faults })) result
   report_anew no_other font waivers read found groups (counted, is, there, count, order) reading is_reading a b taken
       (faults, report, handed, found_is) old new result keeps =
       let one : counted ≡ faults = no_other font waivers counted faults is report in
       let told = all_told font.value rules waivers counted there in (
         faults,
         report,
-        kept (as_known rules) a b old new reading font.value waivers faults taken result (handed, found_is)
+        kept (as_known rules) a b old new reading font waivers faults taken result (handed, found_is)
             (subst (λ (fs : List FaultValue). IsReading name font.value waivers (told_faults rules fs) reading) one
             (is_reading (told_faults rules counted) told order)) keeps,
       )
@@ -179,7 +179,7 @@ module _ {F : Type 0} (takes : F → F → Handed → Option Lost → Type 0) (r
       → (old new : List Reading) (result : Result Found Lost) → Keeps old new reading taken result
       → (faults : List FaultValue) × IsReport font waivers faults
       × TakesOutcome takes (by_known counts rules name) rules a b old new name
-      (reported (record { font = font.value; waivers = waivers; faults = faults })) result
+      (reported (record { font = font.value; edition = font.edition; waivers = waivers; faults = faults })) result
   report_kept no_other font waivers read found known groups (counted, is, there, count, order) are_known reading is_reading a b taken
       (faults, report, handed, found_is) old new result keeps =
       let one : faults ≡ counted = no_other font waivers faults counted report is in
@@ -187,15 +187,15 @@ module _ {F : Type 0} (takes : F → F → Handed → Option Lost → Type 0) (r
       let same = same_verdicts font.value rules waivers read name counts known counted there (are_known (told_faults rules counted) told order) in
       let p = verdict_beyond known rules font.value counted in
       let q = verdict_known counts rules name font.value waivers counted in
-      let hands : HandsOn takes a b (lines_by q name font.value waivers counted ++ done name (found_by q counted) ∷ []) (lost_of taken) =
-      subst (λ hs. HandsOn takes a b hs (lost_of taken)) (handed_alike p q name font.value waivers counted same)
+      let hands : HandsOn takes a b (lines_by q name font waivers counted ++ done name (found_by q counted) ∷ []) (lost_of taken) =
+      subst (λ hs. HandsOn takes a b hs (lost_of taken)) (handed_alike p q name font waivers counted same)
       (subst (λ (fs : List FaultValue). HandsOn takes a b
-      (lines_by (verdict_beyond known rules font.value fs) name font.value waivers fs
+      (lines_by (verdict_beyond known rules font.value fs) name font waivers fs
       ++ done name (found_by (verdict_beyond known rules font.value fs) fs) ∷ []) (lost_of taken)) one handed) in
       let finds : IfOk taken (λ f. f ≡ found_by q counted) =
       subst (λ f. IfOk taken (λ t. t ≡ f)) (found_alike p q counted same)
       (subst (λ (fs : List FaultValue). IfOk taken (λ t. t ≡ found_by (verdict_beyond known rules font.value fs) fs)) one found_is) in (
         counted,
         is,
-        kept takes rules name (by_known counts rules name) a b old new reading font.value waivers counted taken result (hands, finds) (is_reading (told_faults rules counted) told order) keeps,
+        kept takes rules name (by_known counts rules name) a b old new reading font waivers counted taken result (hands, finds) (is_reading (told_faults rules counted) told order) keeps,
       )

@@ -22,6 +22,7 @@ pub mod Parts
 pub mod PlainLines
 pub mod Puts
 pub mod Quiet
+pub mod ReasonLines
 pub mod ReportLines
 pub mod Rows
 pub mod RowsRead

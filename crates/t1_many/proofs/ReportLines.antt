@@ -51,23 +51,23 @@ module _ (judges : FaultValue → Verdict) where
 
   module _ (name : List ℕ) (font : CheckedFont) (waivers : List Waiver) where
     abbrev lines : List FaultValue → List Handed
-    lines faults = lines_by judges name font.value waivers faults
+    lines faults = lines_by judges name font waivers faults
 
     lines-append : (xs ys : List FaultValue) → lines (xs ++ ys) ≡ lines xs ++ lines ys
     lines-append xs ys =
-        ap (map (line name font.value waivers)) (filter-append (λ (fault : FaultValue). is_told (judges fault)) xs ys)
-        ∙ map-append (line name font.value waivers) (filter (λ (fault : FaultValue). is_told (judges fault)) xs)
+        ap (map (line name font waivers)) (filter-append (λ (fault : FaultValue). is_told (judges fault)) xs ys)
+        ∙ map-append (line name font waivers) (filter (λ (fault : FaultValue). is_told (judges fault)) xs)
         (filter (λ (fault : FaultValue). is_told (judges fault)) ys)
 
     -- one more that is reported, and one that isn't
     lines-push : (xs : List FaultValue) (fault : FaultValue) (told : Bool) → is_told (judges fault) ≡ told
-        → lines (xs ++ fault ∷ []) ≡ lines xs ++ cond told (line name font.value waivers fault ∷ []) []
+        → lines (xs ++ fault ∷ []) ≡ lines xs ++ cond told (line name font waivers fault ∷ []) []
     lines-push xs fault true is =
         lines-append xs (fault ∷ [])
-        ∙ ap (λ t. lines xs ++ map (line name font.value waivers) (cond t (fault ∷ []) [])) is
+        ∙ ap (λ t. lines xs ++ map (line name font waivers) (cond t (fault ∷ []) [])) is
     lines-push xs fault false is =
         lines-append xs (fault ∷ [])
-        ∙ ap (λ t. lines xs ++ map (line name font.value waivers) (cond t (fault ∷ []) [])) is
+        ∙ ap (λ t. lines xs ++ map (line name font waivers) (cond t (fault ∷ []) [])) is
 
     -- So many faults were returned, and of those that are reported the lines were handed on.
     pub record HaveGone {F : Type 0} (takes : F → F → Handed → Option Lost → Type 0) (count : ℕ) (mark : Mark) (old new : F) (found : Found)
@@ -88,7 +88,7 @@ module _ (judges : FaultValue → Verdict) where
         found_more = ap (found_with (judges fault)) gone.found_is ∙ sym (found-push gone.given fault)
 
         -- a fault that is reported
-        pub one_gone : (c : F) → is_told (judges fault) ≡ true → takes b c (line name font.value waivers fault) None
+        pub one_gone : (c : F) → is_told (judges fault) ≡ true → takes b c (line name font waivers fault) None
             → HaveGone takes (count + 1) (mark_of fault) a c (found_with (judges fault) found)
         one_gone c is took = record {
           given = gone.given ++ fault ∷ [];
@@ -113,7 +113,7 @@ module _ (judges : FaultValue → Verdict) where
           (few_waivers : length waivers ≤ 1048576) (faults : List FaultValue) (report : IsReport font waivers faults) where
         -- it stopped in the line of a fault
         pub one_failed : (fault : FaultValue) (c : F) (reason : Lost) → is_told (judges fault) ≡ true → IsNext font waivers mark fault
-            → takes b c (line name font.value waivers fault) (Some reason) → HandsOn takes a c (lines faults) (Some reason)
+            → takes b c (line name font waivers fault) (Some reason) → HandsOn takes a c (lines faults) (Some reason)
         one_failed fault c reason is next broke =
             let given = gone.given ++ fault ∷ [] in
             let whole = begin_with font waivers few few_waivers starts fronts faults report given (count + 1) (mark_of fault)

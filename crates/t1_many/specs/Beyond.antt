@@ -30,6 +30,6 @@ abbrev pub HandsBeyond : {F : Type 0} → (F → F → Handed → Option Lost �
 HandsBeyond takes known rules name font waivers old new taken =
     (faults : List FaultValue) × IsReport font waivers faults
     × HandsOn takes old new
-    (lines_by (verdict_beyond known rules font.value faults) name font.value waivers faults
+    (lines_by (verdict_beyond known rules font.value faults) name font waivers faults
     ++ done name (found_by (verdict_beyond known rules font.value faults) faults) ∷ []) (lost_of taken)
     × IfOk taken (λ found. found ≡ found_by (verdict_beyond known rules font.value faults) faults)

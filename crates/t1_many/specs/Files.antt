@@ -29,7 +29,7 @@ pub record Given : Type 1 where
 pub data IsFound (edition : Edition) (given : Given) (outcome : Outcome) : Type 0 where
   reports :
       (report : Report) → given.Reads (Ok report.font) → given.Waives (Ok report.waivers)
-      → IsReport (checked report.font edition) report.waivers report.faults → outcome ≡ reported report
+      → report.edition ≡ edition → IsReport (checked report.font edition) report.waivers report.faults → outcome ≡ reported report
       → IsFound edition given outcome
   refused : (reason : Reason) → given.Reads (Err reason) → outcome ≡ failed (failure_of reason) → IsFound edition given outcome
   waivers_refused :

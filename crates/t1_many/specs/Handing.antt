@@ -1,13 +1,12 @@
 -- What is handed on of many fonts, and in which order.
 use Rattle.std.specs.Prelude.{◌≡◌, ◌⊎◌, ℕ, List, [], ◌∷◌, ◌++◌, filter, map, Bool, true, false, Option, None, Some, Result, Ok, Err, IfOk}
-use Rattle.t1_font.specs.Fonts.{FontValue}
 use Rattle.t1_many.specs.Outcomes.{Entry, Outcome, Report, failed, found_of_failure, reported}
 use Rattle.t1_summary.specs.declared.found.Found.{Found}
 use Rattle.t1_summary.specs.declared.found.Found.TheVariants.{Clean, Faulty, Known, Refused, Unchecked}
 use Rattle.t1_many.specs.declared.recipient.Lost.{Lost}
 use Rattle.t1_many.specs.declared.verdict.Verdict.{Verdict}
 use Rattle.t1_many.specs.declared.verdict.Verdict.TheVariants as verdicts
-use Rattle.t1_report.specs.Checked.{CheckedFont}
+use Rattle.t1_report.specs.Checked.{CheckedFont, checked}
 use Rattle.t1_report.specs.Faults.{FaultValue}
 use Rattle.t1_report.specs.Reports.{IsReport}
 use Rattle.t1_report.specs.Waivers.{Waiver}
@@ -16,7 +15,7 @@ use Rattle.t1_run.specs.declared.failure.Failure.{Failure}
 -- One thing that is handed on of a font: a line of its report, or why there is none; and, after all else of it, how it
 -- was found.
 pub data Handed : Type 0 where
-  line : (name : List ℕ) → FontValue → List Waiver → FaultValue → Handed
+  line : (name : List ℕ) → CheckedFont → List Waiver → FaultValue → Handed
   failure : (name : List ℕ) → Failure → Handed
   done : (name : List ℕ) → Found → Handed
 
@@ -56,13 +55,13 @@ found_by judges [] = Clean
 found_by judges (fault ∷ faults) = found_with (judges fault) (found_by judges faults)
 
 -- The lines of a font that are handed on.
-abbrev pub lines_by : (FaultValue → Verdict) → List ℕ → FontValue → List Waiver → List FaultValue → List Handed
+abbrev pub lines_by : (FaultValue → Verdict) → List ℕ → CheckedFont → List Waiver → List FaultValue → List Handed
 lines_by judges name font waivers faults = map (line name font waivers) (filter (λ fault. is_told (judges fault)) faults)
 
 -- All that is handed on of a font, by how its faults are judged.
 abbrev pub handed_of : (Report → FaultValue → Verdict) → List ℕ → Outcome → List Handed
 handed_of judges name (reported report) =
-    lines_by (judges report) name report.font report.waivers report.faults ++ done name (found_by (judges report) report.faults) ∷ []
+    lines_by (judges report) name (checked report.font report.edition) report.waivers report.faults ++ done name (found_by (judges report) report.faults) ∷ []
 handed_of judges name (failed reason) = failure name reason ∷ done name (found_of_failure reason) ∷ []
 
 abbrev pub found_of : (Report → FaultValue → Verdict) → Outcome → Found
@@ -81,7 +80,7 @@ abbrev pub HandsReport : {F : Type 0} → (F → F → Handed → Option Lost �
     → F → F → Result Found Lost → Type 0
 HandsReport takes judges name font waivers old new taken =
     (faults : List FaultValue) × IsReport font waivers faults
-    × HandsOn takes old new (lines_by judges name font.value waivers faults ++ done name (found_by judges faults) ∷ []) (lost_of taken)
+    × HandsOn takes old new (lines_by judges name font waivers faults ++ done name (found_by judges faults) ∷ []) (lost_of taken)
     × IfOk taken (λ found. found ≡ found_by judges faults)
 
 -- Why there is no report was handed on, and then how the font was found; or it stopped there.

@@ -1,5 +1,5 @@
 -- The statements of laws.
-use Rattle.std.specs.Prelude.{◌≡◌, ◌<◌, ◌≤◌, ◌^◌, ℕ, true, List, [], ◌∷◌, ◌++◌, Option, None, Some, length, map}
+use Rattle.std.specs.Prelude.{◌≡◌, ◌<◌, ◌≤◌, ◌^◌, ℕ, Bool, true, List, [], ◌∷◌, ◌++◌, Option, None, Some, length, map}
 use Rattle.std.specs.List.{AllByRecursion, flat_map}
 use Rattle.t1_font.specs.Fonts.{FontValue}
 use Rattle.t1_lines.specs.Lines.{FaultLineValue, IsFaultLine, PlaceValue, at_key, at_step, at_waiver, line_in}
@@ -46,13 +46,14 @@ KindsNameTheirRules = (l : FaultLineValue) → rule_of (kind_of l) ≡ code_of l
 -- What the plain form takes is printed, one thing after the other; if a write fails, a prefix of it.
 abbrev pub PlainIsWritten : Type 0
 PlainIsWritten =
-    (old new : Devices) (handed : List Handed) (lost : Option Lost) → HandsOn PlainTakes old new handed lost → IsWritten old new handed lost
+    (reasons : Bool) (old new : Devices) (handed : List Handed) (lost : Option Lost) → HandsOn (PlainTakes reasons) old new handed lost
+    → IsWritten reasons old new handed lost
 
 -- After the last font nothing waits to be flushed.
 abbrev pub PlainIsFlushed : Type 0
 PlainIsFlushed =
-    (old new : Devices) (handed : List Handed) (name : List ℕ) (found : Found)
-    → HandsOn PlainTakes old new (handed ++ done name found ∷ []) None → new.out.flushed ≡ true
+    (reasons : Bool) (old new : Devices) (handed : List Handed) (name : List ℕ) (found : Found)
+    → HandsOn (PlainTakes reasons) old new (handed ++ done name found ∷ []) None → new.out.flushed ≡ true
 
 -- Two faults of a font's report are of one group exactly where they are of one kind.
 abbrev pub GroupsAreKinds : Type 0
@@ -93,8 +94,8 @@ PartsAreHandedOn =
 -- So are its bytes in the plain form, and what is printed on standard error.
 abbrev pub PartsAreWritten : Type 0
 PartsAreWritten =
-    (handed_of : ℕ → List Handed) (parts : ℕ)
-    → (texts (joined handed_of parts) ≡ joined (λ part. texts (handed_of part)) parts)
+    (reasons : Bool) (handed_of : ℕ → List Handed) (parts : ℕ)
+    → (texts reasons (joined handed_of parts) ≡ joined (λ part. texts reasons (handed_of part)) parts)
     × (tellings (joined handed_of parts) ≡ joined (λ part. tellings (handed_of part)) parts)
 
 -- The status of all fonts is the greatest of the parts'.

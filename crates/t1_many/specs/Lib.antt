@@ -13,6 +13,7 @@ pub mod Outcomes
 pub mod Plain
 pub mod Private
 pub mod Readings
+pub mod Reasons
 pub mod RowValues
 pub mod Shards
 pub mod Statuses

@@ -1,5 +1,6 @@
 -- How the check of one font of many ends, and how the font was found.
 use Rattle.std.specs.Prelude.{◌≡◌, ◌≤◌, ℕ, List, length, Some, Result, Ok, Err}
+use Rattle.t1_char.specs.declared.edition.Edition.{Edition}
 use Rattle.t1_font.specs.Bounds.{most_glyphs}
 use Rattle.t1_font.specs.FontFiles.{font_in}
 use Rattle.t1_font.specs.Fonts.{FontValue}
@@ -24,9 +25,10 @@ pub record IsRead (font : FontValue) (waivers : List Waiver) : Type 0 where
   pub few : length font.glyphs ≤ most_glyphs
   pub few_waivers : length waivers ≤ largest_waivers
 
--- A report that was made: the faults of this font with these waivers.
+-- A report that was made: the faults of this font, by this edition, with these waivers.
 pub record Report : Type 0 where
   pub font : FontValue
+  pub edition : Edition
   pub waivers : List Waiver
   pub faults : List FaultValue
 
@@ -60,5 +62,5 @@ abbrev pub TakesReport : {R E : Type 0} → (R → R → Entry → Result Found 
 TakesReport takes name font waivers old new (Ok taken) =
     (faults : List FaultValue) × IsReport font waivers faults
     × takes old new
-    (record { name = name; outcome = reported (record { font = font.value; waivers = waivers; faults = faults }) }) taken
+    (record { name = name; outcome = reported (record { font = font.value; edition = font.edition; waivers = waivers; faults = faults }) }) taken
 TakesReport takes name font waivers old new (Err error) = new ≡ old

@@ -1,12 +1,17 @@
 -- The plain form: lines and refusals on the output, all else on standard error, each after the font's name.
-use Rattle.std.specs.Prelude.{◌≡◌, ◌⊎◌, ℕ, true, List, [], ◌∷◌, ◌++◌, codes, Option, None, Some}
+use Rattle.std.specs.Prelude.{◌≡◌, ◌⊎◌, ℕ, Bool, true, List, [], ◌∷◌, ◌++◌, codes, Option, None, Some}
 use Rattle.std.specs.Io.KnownBytes.{Appends}
 use Rattle.std.specs.List.{concat, flat_map}
 use Rattle.t1_io.specs.Devices.{AppendsFront, CallFailed, Flushed, PutFailed, SinkState, Wrote}
 use Rattle.t1_many.specs.Handing.{Handed, done, failure, line}
 use Rattle.t1_many.specs.declared.recipient.Lost.{Lost}
 use Rattle.t1_many.specs.declared.recipient.Lost.TheVariants.{Device, Memory}
+use Rattle.t1_many.specs.Reasons.{told_text}
+use Rattle.t1_reason_texts.specs.Texts.{line_behind}
+use Rattle.t1_report.specs.Checked.{CheckedFont}
+use Rattle.t1_report.specs.Faults.{FaultValue}
 use Rattle.t1_report.specs.Lines.{line_of}
+use Rattle.t1_report.specs.Waivers.{Waiver}
 use Rattle.t1_run.specs.Failures.{out_of_memory_line, read_failed_line, refusal_line}
 use Rattle.t1_run.specs.declared.failure.Failure.{Failure}
 use Rattle.t1_run.specs.declared.failure.Failure.TheVariants as failures
@@ -30,19 +35,24 @@ failure_told name (failures.Refused code) = []
 failure_told name failures.Broken = named name (read_failed_line checker)
 failure_told name failures.Memory = named name (out_of_memory_line checker)
 
+-- The line of a fault, after the font's name, and where reasons are reported that of its reason.
+abbrev pub fault_text : Bool → List ℕ → CheckedFont → List Waiver → FaultValue → List ℕ
+fault_text reasons name font waivers fault =
+    named name (line_of font.value waivers fault) ++ line_behind (told_text reasons font waivers fault)
+
 -- What is written on the output of a thing that is handed on, and what on standard error.
-abbrev pub text_of : Handed → List ℕ
-text_of (line name font waivers fault) = named name (line_of font waivers fault)
-text_of (failure name reason) = failure_text name reason
-text_of (done name found) = []
+abbrev pub text_of : Bool → Handed → List ℕ
+text_of reasons (line name font waivers fault) = fault_text reasons name font waivers fault
+text_of reasons (failure name reason) = failure_text name reason
+text_of reasons (done name found) = []
 
 abbrev pub told_of : Handed → List ℕ
 told_of (line name font waivers fault) = []
 told_of (failure name reason) = failure_told name reason
 told_of (done name found) = []
 
-abbrev pub texts : List Handed → List ℕ
-texts handed = flat_map text_of handed
+abbrev pub texts : Bool → List Handed → List ℕ
+texts reasons handed = flat_map (text_of reasons) handed
 
 abbrev pub tellings : List Handed → List ℕ
 tellings handed = flat_map told_of handed
@@ -60,6 +70,12 @@ IsPut old new text None = Wrote old new text
 IsPut old new text (Some Device) = PutFailed old new text
 IsPut old new text (Some Memory) = ⊥
 
+-- A line was put; or a put failed; or memory ran out, and nothing was put.
+abbrev pub IsLinePut : SinkState → SinkState → List ℕ → Option Lost → Type 0
+IsLinePut old new text None = Wrote old new text
+IsLinePut old new text (Some Device) = PutFailed old new text
+IsLinePut old new text (Some Memory) = new ≡ old
+
 -- What was put was flushed, or that failed.
 abbrev pub IsFlushed : SinkState → SinkState → Option Lost → Type 0
 IsFlushed old new None = Flushed old new
@@ -76,16 +92,17 @@ PutsFailure old new name failures.Memory lost =
     (new.out ≡ old.out) × IsPut old.errors new.errors (named name (out_of_memory_line checker)) lost
 
 -- One thing that is handed on. The output is flushed after each font.
-abbrev pub PlainTakes : Devices → Devices → Handed → Option Lost → Type 0
-PlainTakes old new (line name font waivers fault) lost =
-    IsPut old.out new.out (named name (line_of font waivers fault)) lost × (new.errors ≡ old.errors)
-PlainTakes old new (failure name reason) lost = PutsFailure old new name reason lost
-PlainTakes old new (done name found) lost = IsFlushed old.out new.out lost × (new.errors ≡ old.errors)
+abbrev pub PlainTakes : Bool → Devices → Devices → Handed → Option Lost → Type 0
+PlainTakes reasons old new (line name font waivers fault) lost =
+    IsLinePut old.out new.out (fault_text reasons name font waivers fault) lost × (new.errors ≡ old.errors)
+PlainTakes reasons old new (failure name reason) lost = PutsFailure old new name reason lost
+PlainTakes reasons old new (done name found) lost = IsFlushed old.out new.out lost × (new.errors ≡ old.errors)
 
--- All of these were printed; or a write failed, and a prefix of them was.
-abbrev pub IsWritten : Devices → Devices → List Handed → Option Lost → Type 0
-IsWritten old new handed None =
-    Appends old.out.written new.out.written (texts handed) × Appends old.errors.written new.errors.written (tellings handed)
-IsWritten old new handed (Some lost) =
-    AppendsFront old.out.written new.out.written (texts handed) × AppendsFront old.errors.written new.errors.written (tellings handed)
-    × ((new.out.failed ≡ true) ⊎ (new.errors.failed ≡ true))
+-- All of these were printed; or a write failed, or memory ran out, and a prefix of them was.
+abbrev pub IsWritten : Bool → Devices → Devices → List Handed → Option Lost → Type 0
+IsWritten reasons old new handed None =
+    Appends old.out.written new.out.written (texts reasons handed) × Appends old.errors.written new.errors.written (tellings handed)
+IsWritten reasons old new handed (Some lost) =
+    AppendsFront old.out.written new.out.written (texts reasons handed)
+    × AppendsFront old.errors.written new.errors.written (tellings handed)
+    × ((lost ≡ Memory) ⊎ (new.out.failed ≡ true) ⊎ (new.errors.failed ≡ true))

@@ -7,6 +7,7 @@ ghost use Rattle.t1_many.specs.Handing.{Handed};
 use crate::form::Form;
 use crate::recipient::Lost;
 use t1_font::Font;
+use t1_reasons::ReportReasons;
 use t1_report::{Fault, Waivers};
 use t1_run::Failure;
 use t1_summary::{Found, Tally};
@@ -31,8 +32,9 @@ impl<F: Form> Form for Counted<F> {
         font: &Font<'_>,
         waivers: &Waivers<'_>,
         fault: &Fault,
+        reasons: &mut ReportReasons<'_>,
     ) -> Result<(), Lost> {
-        self.form.line(name, font, waivers, fault)?;
+        self.form.line(name, font, waivers, fault, reasons)?;
         self.tally.add_line(fault.rule);
         Ok(())
     }

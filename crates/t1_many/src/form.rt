@@ -7,6 +7,7 @@ ghost use Rattle.t1_report.specs.Lines.{IsInFont};
 
 use crate::recipient::Lost;
 use t1_font::Font;
+use t1_reasons::ReportReasons;
 use t1_report::{Fault, Waivers};
 use t1_run::Failure;
 use t1_summary::Found;
@@ -18,16 +19,19 @@ pub trait Form {
     // It took one thing that was handed on, or stopped there for a reason.
     ghost takes: { Self → Self → Handed → Option Lost → Type 0 };
 
-    /// Takes the line of a fault of a font's report.
+    /// Takes the line of a fault of a font's report. Why it is there can be asked of `reasons`, which are the font's.
     fn line(
         &mut self,
         name: &str,
         font: &Font<'_>,
         waivers: &Waivers<'_>,
         fault: &Fault,
+        reasons: &mut ReportReasons<'_>,
     ) -> Result<(), Lost>
-        requires { IsInFont font.now waivers.now (fault_value fault.now) }
-        ensures { takes self.old self.new (line name.now font.now waivers.now (fault_value fault.now)) (lost_of result) };
+        requires in_font { IsInFont font.now waivers.now (fault_value fault.now) }
+        requires font { reasons.old.value ≡ font.now }
+        ensures took { takes self.old self.new (line name.now reasons.old waivers.now (fault_value fault.now)) (lost_of result) }
+        ensures same { reasons.new ≡ reasons.old };
 
     /// Takes why there is no report of a font.
     fn failure(&mut self, name: &str, reason: Failure) -> Result<(), Lost>

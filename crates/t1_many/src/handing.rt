@@ -13,6 +13,7 @@ use crate::found::found_of;
 use crate::recipient::Taken;
 use crate::verdict::Judge;
 use t1_font::Font;
+use t1_reasons::ReportReasons;
 use t1_report::{
     Waivers, Walk, each_font_has_a_report, faults_after_the_first_mark_are_the_report,
     marks_count_the_faults_given,
@@ -61,6 +62,7 @@ fn hand_lines<'a, F: Form, J: Judge>(
     faults_after_the_first_mark_are_the_report();
     marks_count_the_faults_given();
     let mut walk = Walk::begin(font, sidebearings, waivers);
+    let mut reasons = ReportReasons::new(font, sidebearings);
     let mut found = Found::Clean;
     for _fault in 0..u64::MAX {
         let Some(fault) = walk.next() else {
@@ -68,7 +70,7 @@ fn hand_lines<'a, F: Form, J: Judge>(
         };
         let verdict = judge.judge(font, &fault);
         if verdict.is_told() {
-            form.line(name, font, waivers, &fault)?;
+            form.line(name, font, waivers, &fault, &mut reasons)?;
         }
         found = verdict.found_with(found);
     }

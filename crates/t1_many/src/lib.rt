@@ -20,6 +20,7 @@ mod laws;
 mod one_font;
 mod plain;
 mod readings;
+mod reasons;
 mod recipient;
 mod row;
 mod status;
@@ -42,6 +43,7 @@ pub use laws::{
 };
 pub use plain::Plain;
 pub use readings::{Anew, Beyond, Reading};
+pub use reasons::{told_reason, told_text};
 pub use recipient::{Lost, Recipient, Taken};
 pub use row::{Row, read_row};
 pub use telling::{Telling, tell_all};

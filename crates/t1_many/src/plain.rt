@@ -1,25 +1,31 @@
 //! The plain form: `NAME: LINE`.
 
-ghost use Rattle.std.specs.Prelude.{◌≡◌};
+ghost use Rattle.std.specs.Prelude.{◌≡◌, option_map};
 ghost use Rattle.t1_many.specs.Plain.{IsPut, PlainTakes, PutsFailure, named};
+ghost use Rattle.t1_reason_texts.specs.Texts.{line_behind};
 ghost use Rattle.t1_report.specs.Faults.{fault_value};
 ghost use Rattle.t1_report.specs.Lines.{IsInFont, line_of};
 ghost use Rattle.t1_run.specs.Failures.{refusal_line};
 ghost use Rattle.t1_many.specs.Handing.{lost_of};
 
 use crate::form::Form;
+use crate::reasons::told_text;
 use crate::recipient::Lost;
 use t1_font::Font;
 use t1_io::{Sink, put_all, put_parts};
 use t1_lines::{RefusalCode, refusal_text};
+use t1_reason_texts::ShortText;
+use t1_reasons::ReportReasons;
 use t1_report::{Fault, Waivers, write_fault};
 use t1_run::Failure;
 use t1_summary::Found;
 
-/// Lines and refusals on the output, all else on standard error, each after the font's name. After each font the output
-/// is flushed.
+/// Lines and refusals on the output, all else on standard error, each after the font's name. Where reasons are reported, each
+/// stands behind its line. After each font the output is flushed.
 #[derive(Drop)]
 pub struct Plain<W: Sink, E: Sink> {
+    /// Whether reasons are reported.
+    pub reasons: bool,
     /// Standard output.
     pub out: W,
     /// Standard error.
@@ -27,7 +33,7 @@ pub struct Plain<W: Sink, E: Sink> {
 }
 
 impl<W: Sink, E: Sink> Form for Plain<W, E> {
-    ghost takes = { λ old new handed lost. PlainTakes
+    ghost takes = { λ old new handed lost. (new.reasons ≡ old.reasons) × PlainTakes old.reasons
         (record { out = W.state old.out; errors = E.state old.errors })
         (record { out = W.state new.out; errors = E.state new.errors }) handed lost };
 
@@ -37,8 +43,11 @@ impl<W: Sink, E: Sink> Form for Plain<W, E> {
         font: &Font<'_>,
         waivers: &Waivers<'_>,
         fault: &Fault,
+        reasons: &mut ReportReasons<'_>,
     ) -> Result<(), Lost> {
-        put_line(&mut self.out, name, font, waivers, fault)
+        let text = told_text(self.reasons, font, waivers, fault, reasons)?;
+        put_line(&mut self.out, name, font, waivers, fault)?;
+        put_behind(&mut self.out, text)
     }
 
     fn failure(&mut self, name: &str, reason: Failure) -> Result<(), Lost> {
@@ -69,6 +78,17 @@ fn put_line<W: Sink>(
 {
     put_parts(sink, &[name.as_bytes(), b": "])?;
     write_fault(sink, font, waivers, fault)?;
+    Ok(())
+}
+
+/// Puts the line of a reason's text, if there is one.
+fn put_behind<W: Sink>(sink: &mut W, text: Option<ShortText>) -> Result<(), Lost>
+    ensures { IsPut (W.state sink.old) (W.state sink.new) (line_behind (option_map (λ t. t.bytes) text)) (lost_of result) }
+{
+    let Some(text) = text else {
+        return Ok(());
+    };
+    put_parts(sink, &[b"   ", text.as_str().as_bytes(), b"\n"])?;
     Ok(())
 }
 

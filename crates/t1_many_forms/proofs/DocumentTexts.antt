@@ -1,5 +1,5 @@
 -- What is written as a document, and reported, of things that are handed on.
-use Rattle.std.proofs.Common.{◌≡◌, ◌⊎◌, ℕ, true, List, [], ◌∷◌, ◌++◌, Option, None, Some, inl, inr, refl, sym, ap, subst, ◌∙◌, append_assoc, append-nil}
+use Rattle.std.proofs.Common.{◌≡◌, ◌⊎◌, ℕ, Bool, true, List, [], ◌∷◌, ◌++◌, Option, None, Some, inl, inr, refl, sym, ap, subst, ◌∙◌, append_assoc, append-nil}
 use Rattle.std.proofs.KnownBytes.{Appends-nil, Appends-trans}
 use Rattle.std.specs.Io.KnownBytes.{Appends}
 use Rattle.t1_forms.specs.Sarif.{SarifState, closing, sarif_state, telling_text}
@@ -12,7 +12,7 @@ use Rattle.t1_many.specs.Plain.{tellings, told_of}
 use Rattle.t1_many.specs.declared.recipient.Lost.{Lost}
 use Rattle.t1_many.specs.declared.recipient.Lost.TheVariants.{Device, Memory}
 use Rattle.t1_many_forms.proofs.JsonTexts.{cause, front-all, front-first, front-none, front-second, kept, none-same}
-use Rattle.t1_many_forms.specs.Documents.{IsDocumentOf, all_values, telling_written, values_of}
+use Rattle.t1_many_forms.specs.Documents.{IsDocumentOf, all_values, failure_value, telling_written, values_of}
 use Rattle.t1_many_forms.specs.Formatting.{FormattedTakes, Formatting, Gives, GivesFailure, GivesUnchecked, given, no_memory, read_failed, out_of_memory, told, told_unchecked, untold}
 use Rattle.t1_run.specs.declared.failure.Failure.{Failure}
 use Rattle.t1_run.specs.declared.failure.Failure.TheVariants as failures
@@ -94,7 +94,7 @@ unchecked-one old new name reason lost (untold broke formatter same why) =
 
 failure-one : (old new : Formatting Sarif) (name : List ℕ) (reason : Failure) (lost : Option Lost)
     → GivesFailure telling_written old new name reason lost
-    → IsOne old new (values_of (failure name reason)) (told_of (failure name reason)) lost
+    → IsOne old new (failure_value name reason ∷ []) (told_of (failure name reason)) lost
 failure-one old new name (failures.Refused code) lost (gives, same) = given-one old new _ [] lost gives (none-same old.errors new.errors same)
 failure-one old new name failures.Broken lost gives = unchecked-one old new name read_failed lost gives
 failure-one old new name failures.Memory lost gives = unchecked-one old new name out_of_memory lost gives
@@ -107,78 +107,86 @@ none_after : (state : SarifState) → state ≡ state_after state []
 unfolding state_after
 none_after state = refl
 
-one : (old new : Formatting Sarif) (handed : Handed) (lost : Option Lost) → FormattedTakes telling_written old new handed lost
-    → IsOne old new (values_of handed) (told_of handed) lost
-one old new (line name font waivers fault) lost (gives, same) = given-one old new _ [] lost gives (none-same old.errors new.errors same)
-one old new (failure name reason) lost gives = failure-one old new name reason lost gives
-one old new (done name found) None (formatter, flushed, same) = (
-  subst (Appends old.out.written new.out.written) (no_part (sarif_state old.formatter)) (kept old.out.written new.out.written flushed.bytes),
-  ap sarif_state formatter ∙ none_after (sarif_state old.formatter),
-  none-same old.errors new.errors same,
-)
-one old new (done name found) (Some Device) (formatter, broke, same) = (
-  subst (AppendsFront old.out.written new.out.written) (no_part (sarif_state old.formatter))
-      (front-all old.out.written new.out.written [] (kept old.out.written new.out.written broke.bytes)),
-  front-all old.errors.written new.errors.written [] (none-same old.errors new.errors same),
-  inr (inl broke.failed),
-)
-one old new (done name found) (Some Memory) (formatter, never, same) = absurd never
+-- ---- things that are handed on
 
--- ---- all of them
+module _ (reasons : Bool) where
+  one : (old new : Formatting Sarif) (handed : Handed) (lost : Option Lost) → FormattedTakes reasons telling_written old new handed lost
+      → IsOne old new (values_of reasons handed) (told_of handed) lost
+  one old new (line name font waivers fault) lost (gives, same) = given-one old new _ [] lost gives (none-same old.errors new.errors same)
+  one old new (failure name reason) lost gives = failure-one old new name reason lost gives
+  one old new (done name found) None (formatter, flushed, same) = (
+    subst (Appends old.out.written new.out.written) (no_part (sarif_state old.formatter)) (kept old.out.written new.out.written flushed.bytes),
+    ap sarif_state formatter ∙ none_after (sarif_state old.formatter),
+    none-same old.errors new.errors same,
+  )
+  one old new (done name found) (Some Device) (formatter, broke, same) = (
+    subst (AppendsFront old.out.written new.out.written) (no_part (sarif_state old.formatter))
+        (front-all old.out.written new.out.written [] (kept old.out.written new.out.written broke.bytes)),
+    front-all old.errors.written new.errors.written [] (none-same old.errors new.errors same),
+    inr (inl broke.failed),
+  )
+  one old new (done name found) (Some Memory) (formatter, never, same) = absurd never
 
-more-written : (a b c : Formatting Sarif) (handed : Handed) (more : List Handed) (lost : Option Lost)
-    → IsOne a b (values_of handed) (told_of handed) None → IsDocumentOf b c more lost → IsDocumentOf a c (handed ∷ more) lost
-more-written a b c handed more None (first, after, first_told) ((text, is, out), errors) =
-    let part = part_text (sarif_state a.formatter) (values_of handed) in (
-      (
-        part ++ text,
-        append_assoc part text (closing (sarif_state c.formatter)) ∙ ap (λ x. part ++ x) is
-            ∙ ap (λ s. part ++ tellings_text s (all_values more)) after
-            ∙ sym (parts (sarif_state a.formatter) (values_of handed) (all_values more)),
-        Appends-trans a.out.written b.out.written c.out.written part text first out,
-      ),
-      Appends-trans a.errors.written b.errors.written c.errors.written (told_of handed) (tellings more) first_told errors,
-    )
-more-written a b c handed more (Some reason) (first, after, first_told) (out, errors, failed) =
-    let part = part_text (sarif_state a.formatter) (values_of handed) in (
-      subst (AppendsFront a.out.written c.out.written)
-          (ap (λ s. part ++ tellings_text s (all_values more)) after
-          ∙ sym (parts (sarif_state a.formatter) (values_of handed) (all_values more)))
-          (front-second a.out.written b.out.written c.out.written part (tellings_text (sarif_state b.formatter) (all_values more)) first out),
-      front-second a.errors.written b.errors.written c.errors.written (told_of handed) (tellings more) first_told errors,
-      failed,
-    )
+  more-written : (a b c : Formatting Sarif) (handed : Handed) (more : List Handed) (lost : Option Lost)
+      → IsOne a b (values_of reasons handed) (told_of handed) None → IsDocumentOf reasons b c more lost → IsDocumentOf reasons a c (handed ∷ more) lost
+  more-written a b c handed more None (first, after, first_told) ((text, is, out), errors) =
+      let part = part_text (sarif_state a.formatter) (values_of reasons handed) in (
+        (
+          part ++ text,
+          append_assoc part text (closing (sarif_state c.formatter)) ∙ ap (λ x. part ++ x) is
+              ∙ ap (λ s. part ++ tellings_text s (all_values reasons more)) after
+              ∙ sym (parts (sarif_state a.formatter) (values_of reasons handed) (all_values reasons more)),
+          Appends-trans a.out.written b.out.written c.out.written part text first out,
+        ),
+        Appends-trans a.errors.written b.errors.written c.errors.written (told_of handed) (tellings more) first_told errors,
+      )
+  more-written a b c handed more (Some reason) (first, after, first_told) (out, errors, failed) =
+      let part = part_text (sarif_state a.formatter) (values_of reasons handed) in (
+        subst (AppendsFront a.out.written c.out.written)
+            (ap (λ s. part ++ tellings_text s (all_values reasons more)) after
+            ∙ sym (parts (sarif_state a.formatter) (values_of reasons handed) (all_values reasons more)))
+            (front-second a.out.written b.out.written c.out.written part (tellings_text (sarif_state b.formatter) (all_values reasons more)) first out),
+        front-second a.errors.written b.errors.written c.errors.written (told_of handed) (tellings more) first_told errors,
+        failed,
+      )
 
-written : (old new : Formatting Sarif) (handed : List Handed) (lost : Option Lost) → HandsOn (FormattedTakes telling_written) old new handed lost
-    → IsDocumentOf old new handed lost
-written old new [] lost (same, none) =
-    subst (IsDocumentOf old new []) (sym none)
-    (subst (λ (d : Formatting Sarif). IsDocumentOf old d [] None) (sym same)
-    (([], refl, Appends-nil old.out.written), Appends-nil old.errors.written))
-written old new (handed ∷ more) lost (inl (next, took, rest)) =
-    more-written old next new handed more lost (one old next handed None took) (written next new more lost rest)
-written old new (handed ∷ more) lost (inr (reason, took, is)) =
-    let (out, errors, why) = one old new handed (Some reason) took in
-    let state = sarif_state old.formatter in
-    subst (IsDocumentOf old new (handed ∷ more)) (sym is) (
-      subst (AppendsFront old.out.written new.out.written) (sym (parts state (values_of handed) (all_values more)))
-          (front-first old.out.written new.out.written (part_text state (values_of handed))
-          (tellings_text (state_after state (values_of handed)) (all_values more)) out),
-      front-first old.errors.written new.errors.written (told_of handed) (tellings more) errors,
-      why,
-    )
+  written : (old new : Formatting Sarif) (handed : List Handed) (lost : Option Lost) → HandsOn (FormattedTakes reasons telling_written) old new handed lost
+      → IsDocumentOf reasons old new handed lost
+  written old new [] lost (same, none) =
+      subst (IsDocumentOf reasons old new []) (sym none)
+      (subst (λ (d : Formatting Sarif). IsDocumentOf reasons old d [] None) (sym same)
+      (([], refl, Appends-nil old.out.written), Appends-nil old.errors.written))
+  written old new (handed ∷ more) lost (inl (next, took, rest)) =
+      more-written old next new handed more lost (one old next handed None took) (written next new more lost rest)
+  written old new (handed ∷ more) lost (inr (reason, took, is)) =
+      let (out, errors, why) = one old new handed (Some reason) took in
+      let state = sarif_state old.formatter in
+      subst (IsDocumentOf reasons old new (handed ∷ more)) (sym is) (
+        subst (AppendsFront old.out.written new.out.written) (sym (parts state (values_of reasons handed) (all_values reasons more)))
+            (front-first old.out.written new.out.written (part_text state (values_of reasons handed))
+            (tellings_text (state_after state (values_of reasons handed)) (all_values reasons more)) out),
+        front-first old.errors.written new.errors.written (told_of handed) (tellings more) errors,
+        why,
+      )
 
 -- ---- a form, of which the formatter and the devices are seen
 
-module _ {F : Type 0} (view : F → Formatting Sarif) where
-  seen : (old new : F) (handed : List Handed) (lost : Option Lost)
-      → HandsOn (λ old new handed lost. FormattedTakes telling_written (view old) (view new) handed lost) old new handed lost
-      → HandsOn (FormattedTakes telling_written) (view old) (view new) handed lost
-  seen old new [] lost (same, none) = (ap view same, none)
-  seen old new (handed ∷ more) lost (inl (next, took, rest)) = inl (view next, took, seen next new more lost rest)
-  seen old new (handed ∷ more) lost (inr (reason, took, is)) = inr (reason, took, is)
+module _ {F : Type 0} (told_with : F → Bool) (view : F → Formatting Sarif) where
+  abbrev takes : F → F → Handed → Option Lost → Type 0
+  takes old new handed lost = (told_with new ≡ told_with old) × FormattedTakes (told_with old) telling_written (view old) (view new) handed lost
 
-  pub seen-document : (old new : F) (handed : List Handed) (lost : Option Lost)
-      → HandsOn (λ old new handed lost. FormattedTakes telling_written (view old) (view new) handed lost) old new handed lost
-      → IsDocumentOf (view old) (view new) handed lost
-  seen-document old new handed lost hands = written (view old) (view new) handed lost (seen old new handed lost hands)
+  seen : (old new : F) (handed : List Handed) (lost : Option Lost) → HandsOn takes old new handed lost
+      → HandsOn (FormattedTakes (told_with old) telling_written) (view old) (view new) handed lost
+  seen old new [] lost (same, none) = (ap view same, none)
+  seen old new (handed ∷ more) lost (inl (next, (same, took), rest)) =
+      inl (
+        view next,
+        took,
+        subst (λ (r : Bool). HandsOn (FormattedTakes r telling_written) (view next) (view new) more lost) same
+            (seen next new more lost rest),
+      )
+  seen old new (handed ∷ more) lost (inr (reason, (same, took), is)) = inr (reason, took, is)
+
+  pub seen-document : (old new : F) (handed : List Handed) (lost : Option Lost) → HandsOn takes old new handed lost
+      → IsDocumentOf (told_with old) (view old) (view new) handed lost
+  seen-document old new handed lost hands = written (told_with old) (view old) (view new) handed lost (seen old new handed lost hands)

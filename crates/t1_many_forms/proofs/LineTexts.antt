@@ -81,4 +81,4 @@ shorter items rest text n len is cut =
     cut ∙ ap (λ l. take (n - 1) l) is ∙ ap (λ k. take k (text ++ codes "\n")) less ∙ take-append_seam text (codes "\n")
 
 pub those_of_reports : LinesAreThoseOfReports
-those_of_reports name font waivers fault there = sym (line-written font waivers fault there)
+those_of_reports reasons name font waivers fault there = sym (line-written font.value waivers fault there)

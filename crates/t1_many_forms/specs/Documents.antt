@@ -1,5 +1,5 @@
 -- A document of SARIF: what is written of things that are handed on.
-use Rattle.std.specs.Prelude.{◌≡◌, ◌⊎◌, ℕ, true, List, [], ◌∷◌, ◌++◌, Option, None, Some}
+use Rattle.std.specs.Prelude.{◌≡◌, ◌⊎◌, ℕ, Bool, true, List, [], ◌∷◌, ◌++◌, Option, None, Some}
 use Rattle.std.specs.Io.KnownBytes.{Appends}
 use Rattle.std.specs.List.{flat_map}
 use Rattle.t1_forms.specs.Sarif.{SarifState, after_telling, closing, sarif_state, telling_text}
@@ -8,11 +8,10 @@ use Rattle.t1_forms.specs.Tellings.{ToldValue, what_spelled}
 use Rattle.t1_forms.specs.declared.sarif.Sarif.{Sarif}
 use Rattle.t1_io.specs.Devices.{AppendsFront, SinkState}
 use Rattle.t1_many.specs.Handing.{Handed, done, failure, line}
-use Rattle.t1_many.specs.Plain.{tellings}
+use Rattle.t1_many.specs.Plain.{IsLinePut, tellings}
 use Rattle.t1_many.specs.declared.recipient.Lost.{Lost}
 use Rattle.t1_many.specs.declared.recipient.Lost.TheVariants.{Memory}
 use Rattle.t1_many_forms.specs.Formatting.{Formatting, out_of_memory, read_failed, told_fault, told_refusal, told_unchecked}
-use Rattle.t1_many_forms.specs.JsonLines.{IsLinePut}
 use Rattle.t1_run.specs.declared.failure.Failure.{Failure}
 use Rattle.t1_run.specs.declared.failure.Failure.TheVariants as failures
 
@@ -37,22 +36,22 @@ failure_value name (failures.Refused code) = told_refusal name code
 failure_value name failures.Broken = told_unchecked name read_failed
 failure_value name failures.Memory = told_unchecked name out_of_memory
 
-abbrev pub values_of : Handed → List ToldValue
-values_of (line name font waivers fault) = told_fault name font waivers fault ∷ []
-values_of (failure name reason) = failure_value name reason ∷ []
-values_of (done name found) = []
+abbrev pub values_of : Bool → Handed → List ToldValue
+values_of reasons (line name font waivers fault) = told_fault reasons name font waivers fault ∷ []
+values_of reasons (failure name reason) = failure_value name reason ∷ []
+values_of reasons (done name found) = []
 
-abbrev pub all_values : List Handed → List ToldValue
-all_values handed = flat_map values_of handed
+abbrev pub all_values : Bool → List Handed → List ToldValue
+all_values reasons handed = flat_map (values_of reasons) handed
 
 -- What was written of all of these, and then what ends the document, is the text of what they report; and each was reported as in the plain
 -- form. Or a prefix of it was, since memory ran out or a device failed.
-abbrev pub IsDocumentOf : Formatting Sarif → Formatting Sarif → List Handed → Option Lost → Type 0
-IsDocumentOf old new handed None =
-    ((text : List ℕ) × (text ++ closing (sarif_state new.formatter) ≡ tellings_text (sarif_state old.formatter) (all_values handed))
+abbrev pub IsDocumentOf : Bool → Formatting Sarif → Formatting Sarif → List Handed → Option Lost → Type 0
+IsDocumentOf reasons old new handed None =
+    ((text : List ℕ) × (text ++ closing (sarif_state new.formatter) ≡ tellings_text (sarif_state old.formatter) (all_values reasons handed))
     × Appends old.out.written new.out.written text)
     × Appends old.errors.written new.errors.written (tellings handed)
-IsDocumentOf old new handed (Some lost) =
-    AppendsFront old.out.written new.out.written (tellings_text (sarif_state old.formatter) (all_values handed))
+IsDocumentOf reasons old new handed (Some lost) =
+    AppendsFront old.out.written new.out.written (tellings_text (sarif_state old.formatter) (all_values reasons handed))
     × AppendsFront old.errors.written new.errors.written (tellings handed)
     × ((lost ≡ Memory) ⊎ (new.out.failed ≡ true) ⊎ (new.errors.failed ≡ true))

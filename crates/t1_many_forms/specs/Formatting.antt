@@ -1,6 +1,5 @@
 -- What is given to a formatter of things that are handed on, and what is printed on standard error.
-use Rattle.std.specs.Prelude.{◌≡◌, ℕ, List, codes, Option, Some}
-use Rattle.t1_font.specs.Fonts.{FontValue}
+use Rattle.std.specs.Prelude.{◌≡◌, ℕ, Bool, List, codes, Option, None, Some}
 use Rattle.t1_forms.specs.Tellings.{ToldValue, of_line, of_unchecked, unchecked_line, what_spelled, what_value}
 use Rattle.t1_forms.specs.declared.told.Told.{Told}
 use Rattle.t1_io.specs.Devices.{PutFailed, SinkState, Wrote}
@@ -10,6 +9,9 @@ use Rattle.t1_many.specs.Handing.{Handed, done, failure, line}
 use Rattle.t1_many.specs.Plain.{IsFlushed}
 use Rattle.t1_many.specs.declared.recipient.Lost.{Lost}
 use Rattle.t1_many.specs.declared.recipient.Lost.TheVariants.{Device, Memory}
+use Rattle.t1_many.specs.Reasons.{told_reason}
+use Rattle.t1_reason_forms.specs.Told.{reason_told}
+use Rattle.t1_report.specs.Checked.{CheckedFont}
 use Rattle.t1_report.specs.Faults.{FaultValue}
 use Rattle.t1_report.specs.Waivers.{Waiver}
 use Rattle.t1_run.specs.declared.failure.Failure.{Failure}
@@ -19,15 +21,19 @@ use Rattle.t1_run.specs.declared.failure.Failure.TheVariants as failures
 abbrev pub HasItsLine : Told → Type 0
 HasItsLine told = told.line.now ≡ what_spelled (what_value told.what)
 
--- What is reported of the font of a name: the line of a fault, a refusal, or why it wasn't checked.
-abbrev pub told_fault : List ℕ → FontValue → List Waiver → FaultValue → ToldValue
-told_fault name font waivers fault = record { font = Some name; what = of_line (of_fault (line_in font waivers fault)) }
+-- What is reported of the font of a name: the line of a fault, with its reason where reasons are reported, a refusal, or why it wasn't checked.
+abbrev pub told_fault : Bool → List ℕ → CheckedFont → List Waiver → FaultValue → ToldValue
+told_fault reasons name font waivers fault = record {
+  font = Some name;
+  what = of_line (of_fault (line_in font.value waivers fault));
+  reason = reason_told font.value fault.rule (told_reason reasons font waivers fault);
+}
 
 abbrev pub told_refusal : List ℕ → RefusalCode → ToldValue
-told_refusal name code = record { font = Some name; what = of_line (of_refusal code) }
+told_refusal name code = record { font = Some name; what = of_line (of_refusal code); reason = None }
 
 abbrev pub told_unchecked : List ℕ → List ℕ → ToldValue
-told_unchecked name reason = record { font = Some name; what = of_unchecked reason }
+told_unchecked name reason = record { font = Some name; what = of_unchecked reason; reason = None }
 
 -- Why a font wasn't checked.
 abbrev pub read_failed : List ℕ
@@ -69,10 +75,10 @@ GivesFailure writes old new name failures.Broken lost = GivesUnchecked writes ol
 GivesFailure writes old new name failures.Memory lost = GivesUnchecked writes old new name out_of_memory lost
 
 -- One thing that is handed on. The output is flushed after each font.
-abbrev pub FormattedTakes : {T : Type 0} → (T → T → SinkState → SinkState → ToldValue → Option Lost → Type 0) → Formatting T → Formatting T
-    → Handed → Option Lost → Type 0
-FormattedTakes writes old new (line name font waivers fault) lost =
-    Gives writes old new (told_fault name font waivers fault) lost × (new.errors ≡ old.errors)
-FormattedTakes writes old new (failure name reason) lost = GivesFailure writes old new name reason lost
-FormattedTakes writes old new (done name found) lost =
+abbrev pub FormattedTakes : {T : Type 0} → Bool → (T → T → SinkState → SinkState → ToldValue → Option Lost → Type 0) → Formatting T
+    → Formatting T → Handed → Option Lost → Type 0
+FormattedTakes reasons writes old new (line name font waivers fault) lost =
+    Gives writes old new (told_fault reasons name font waivers fault) lost × (new.errors ≡ old.errors)
+FormattedTakes reasons writes old new (failure name reason) lost = GivesFailure writes old new name reason lost
+FormattedTakes reasons writes old new (done name found) lost =
     (new.formatter ≡ old.formatter) × IsFlushed old.out new.out lost × (new.errors ≡ old.errors)

@@ -8,12 +8,15 @@ ghost use Rattle.t1_many_forms.specs.Formatting.{FormattedTakes, GivesUnchecked}
 use crate::fault_line::fault_line;
 use crate::formatter::Formatter;
 use crate::line_text::LineText;
+use crate::telling::give;
 use std::alloc::Global;
 use t1_font::Font;
-use t1_forms::{Told, What, tell_unchecked};
+use t1_forms::{What, tell_unchecked};
 use t1_io::Sink;
 use t1_lines::{Line, RefusalCode};
-use t1_many::{Form, Lost};
+use t1_many::{Form, Lost, told_reason};
+use t1_reason_forms::{OwnReason, as_told};
+use t1_reasons::ReportReasons;
 use t1_report::{Fault, Waivers};
 use t1_run::Failure;
 use t1_summary::Found;
@@ -28,21 +31,25 @@ pub struct Formatted<T: Formatter, W: Sink, E: Sink> {
     pub out: W,
     /// Standard error.
     pub errors: E,
+    /// Whether reasons are reported.
+    pub reasons: bool,
     alloc: Global,
     text: LineText,
 }
 
 impl<T: Formatter, W: Sink, E: Sink> Formatted<T, W, E> {
     /// A form that was given nothing yet. The formatter has written what is before all else.
-    pub fn new(alloc: Global, formatter: T, out: W, errors: E) -> Formatted<T, W, E>
+    pub fn new(alloc: Global, formatter: T, out: W, errors: E, reasons: bool) -> Formatted<T, W, E>
         ensures formatter { result.formatter ≡ formatter }
         ensures out { result.out ≡ out }
         ensures errors { result.errors ≡ errors }
+        ensures reasons { result.reasons ≡ reasons }
     {
         Formatted {
             formatter,
             out,
             errors,
+            reasons,
             alloc,
             text: LineText::new(alloc),
         }
@@ -59,42 +66,50 @@ impl<T: Formatter, W: Sink, E: Sink> Formatted<T, W, E> {
 
     /// Prints on standard error that what has this name wasn't checked, as `NAME: t1check: REASON`, and then gives it to the formatter.
     pub fn unchecked(&mut self, name: &str, reason: &str) -> Result<(), Lost>
-        ensures { GivesUnchecked T.writes
+        ensures given { GivesUnchecked T.writes
             (record { formatter = self.old.formatter; out = W.state self.old.out; errors = E.state self.old.errors })
             (record { formatter = self.new.formatter; out = W.state self.new.out; errors = E.state self.new.errors })
             name.now reason.now (lost_of result) }
+        ensures reasons { self.new.reasons ≡ self.old.reasons }
     {
         tell_unchecked(&mut self.errors, name, reason)?;
         self.text.set_unchecked(reason)?;
-        let told = Told {
-            font: Some(name.as_bytes()),
-            what: What::Unchecked(reason.as_bytes()),
-            line: self.text.as_bytes(),
-        };
-        self.formatter.write(self.alloc, &mut self.out, &told)
+        give(
+            self.alloc,
+            &mut self.formatter,
+            &mut self.out,
+            name.as_bytes(),
+            What::Unchecked(reason.as_bytes()),
+            self.text.as_bytes(),
+            None,
+        )
     }
 
     /// Gives a refusal to the formatter.
     fn refused(&mut self, name: &str, code: RefusalCode) -> Result<(), Lost>
-        ensures { FormattedTakes T.writes
+        ensures given { FormattedTakes self.old.reasons T.writes
             (record { formatter = self.old.formatter; out = W.state self.old.out; errors = E.state self.old.errors })
             (record { formatter = self.new.formatter; out = W.state self.new.out; errors = E.state self.new.errors })
             (failure name.now (Refused code)) (lost_of result) }
+        ensures reasons { self.new.reasons ≡ self.old.reasons }
     {
         self.text.set_refusal(code)?;
-        let told = Told {
-            font: Some(name.as_bytes()),
-            what: What::Line(Line::Refusal(code)),
-            line: self.text.as_bytes(),
-        };
-        self.formatter.write(self.alloc, &mut self.out, &told)
+        give(
+            self.alloc,
+            &mut self.formatter,
+            &mut self.out,
+            name.as_bytes(),
+            What::Line(Line::Refusal(code)),
+            self.text.as_bytes(),
+            None,
+        )
     }
 }
 
 impl<T: Formatter, W: Sink, E: Sink> Form for Formatted<T, W, E> {
     ghost use Rattle.t1_many.specs.declared.recipient.Lost.{Lost};
 
-    ghost takes = { λ old new handed lost. FormattedTakes T.writes
+    ghost takes = { λ old new handed lost. (new.reasons ≡ old.reasons) × FormattedTakes old.reasons T.writes
         (record { formatter = old.formatter; out = W.state old.out; errors = E.state old.errors })
         (record { formatter = new.formatter; out = W.state new.out; errors = E.state new.errors }) handed lost };
 
@@ -104,14 +119,22 @@ impl<T: Formatter, W: Sink, E: Sink> Form for Formatted<T, W, E> {
         font: &Font<'_>,
         waivers: &Waivers<'_>,
         fault: &Fault,
+        reasons: &mut ReportReasons<'_>,
     ) -> Result<(), Lost> {
-        self.text.set_fault(font, waivers, fault)?;
-        let told = Told {
-            font: Some(name.as_bytes()),
-            what: What::Line(Line::Fault(fault_line(font, waivers, fault))),
-            line: self.text.as_bytes(),
+        let reason = told_reason(self.reasons, waivers, fault, reasons);
+        let Ok(reason) = OwnReason::of(self.alloc, font, fault.rule, reason) else {
+            return Err(Lost::Memory);
         };
-        self.formatter.write(self.alloc, &mut self.out, &told)
+        self.text.set_fault(font, waivers, fault)?;
+        give(
+            self.alloc,
+            &mut self.formatter,
+            &mut self.out,
+            name.as_bytes(),
+            What::Line(Line::Fault(fault_line(font, waivers, fault))),
+            self.text.as_bytes(),
+            as_told(&reason),
+        )
     }
 
     fn failure(&mut self, name: &str, reason: Failure) -> Result<(), Lost> {

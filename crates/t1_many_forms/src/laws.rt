@@ -27,7 +27,7 @@ pub fn lines_are_those_of_reports()
 pub fn json_lines_are_written<W: Sink, E: Sink>()
     ensures written { (old new : FormattedValue JsonLinesValue W E) (handed : List Handed) (lost : Option LostValue)
         → HandsOn ⟦<Formatted<JsonLines, W, E> as Form>⟧.takes old new handed lost
-        → AreObjects (record { formatter = old.formatter; out = W.state old.out; errors = E.state old.errors })
+        → AreObjects old.reasons (record { formatter = old.formatter; out = W.state old.out; errors = E.state old.errors })
         (record { formatter = new.formatter; out = W.state new.out; errors = E.state new.errors }) handed lost }
     ensures flushed { (old new : FormattedValue JsonLinesValue W E) (handed : List Handed) (name : List ℕ) (found : FoundValue)
         → HandsOn ⟦<Formatted<JsonLines, W, E> as Form>⟧.takes old new (handed ++ done name found ∷ []) None
@@ -39,6 +39,6 @@ pub fn json_lines_are_written<W: Sink, E: Sink>()
 pub fn documents_are_written<'a, W: Sink, E: Sink>()
     ensures { (old new : FormattedValue SarifValue W E) (handed : List Handed) (lost : Option LostValue)
         → HandsOn ⟦<Formatted<Sarif<'a>, W, E> as Form>⟧.takes old new handed lost
-        → IsDocumentOf (record { formatter = old.formatter; out = W.state old.out; errors = E.state old.errors })
+        → IsDocumentOf old.reasons (record { formatter = old.formatter; out = W.state old.out; errors = E.state old.errors })
         (record { formatter = new.formatter; out = W.state new.out; errors = E.state new.errors }) handed lost }
 {}

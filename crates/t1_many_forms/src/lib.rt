@@ -20,9 +20,11 @@ mod json_lines;
 mod laws;
 mod line_text;
 mod sarif;
+mod telling;
 
 pub use formatted::Formatted;
 pub use formatter::Formatter;
 pub use github::GitHubCommands;
 pub use json_lines::JsonLines;
 pub use laws::{documents_are_written, json_lines_are_written, lines_are_those_of_reports};
+pub use telling::give;

@@ -42,13 +42,24 @@ fn tell<F: Formatter + Drop, W: Sink + Drop, E: Sink + Drop>(
     out: W,
     errors: E,
 ) -> Result<Result<Status, Lost>, AllocError> {
+    let form = Formatted::new(alloc, formatter, out, errors, false);
+    tell_in(alloc, files, &[b"P03"], form)
+}
+
+/// Reports lines of these rules in a form.
+fn tell_in<F: Formatter + Drop, W: Sink + Drop, E: Sink + Drop>(
+    alloc: Global,
+    files: &[File<'_>],
+    only: &[&[u8]],
+    form: Formatted<F, W, E>,
+) -> Result<Result<Status, Lost>, AllocError> {
     let mut names = Vec::new(alloc);
     for name in ["faulty.pfb", "cut.pfa", "absent.pfb"] {
         names.push(String::from_str(alloc, name)?)?;
     }
     let mut telling = Telling {
-        rules: told_rules(&[b"P03"], &[]),
-        form: Formatted::new(alloc, formatter, out, errors),
+        rules: told_rules(only, &[]),
+        form,
     };
     let status = tell_all(
         alloc,
@@ -96,6 +107,52 @@ fn writes_lines_of_json(rt: HostRuntime) -> Result<(), Fail> {
 ";
     assert!(rt; text.as_slice() == lines.as_slice());
     assert!(rt; told.as_slice() == TOLD);
+    Ok(())
+}
+
+/// A line has its reason: its text, and in JSON also its numbers, if it has some. A refusal has none.
+#[test]
+fn writes_reasons(rt: HostRuntime) -> Result<(), Fail> {
+    let faulty = Sample::new(rt.alloc())?.glyph(b"A", FOUR_FAULTS)?.pfb()?;
+    let files = [
+        ("faulty.pfb", faulty.as_slice()),
+        ("cut.pfa", b"%!\n/FontType 1 def\n".as_slice()),
+    ];
+    let mut text = Vec::new(rt.alloc());
+    let mut told = Vec::new(rt.alloc());
+    let form = Formatted::new(
+        rt.alloc(),
+        JsonLines,
+        Out::new(&mut text),
+        Out::new(&mut told),
+        true,
+    );
+    let status = tell_in(rt.alloc(), &files, &[b"C05", b"P03"], form)?;
+    assert_eq!(rt; status, Ok(Status::Failed));
+    let lines = b"\
+{\"code\":\"C05\",\"file\":\"faulty.pfb\",\"level\":\"must\",\"name\":\"A\",\"number\":1,\"path\":[],\"reason\":{\"command\":\"hmoveto\",\"taken\":1,\"text\":\"hmoveto takes 1 number, 2 are on the stack\",\"there\":2},\"step\":3,\"text\":\"too many arguments\",\"unit\":\"glyph\"}
+{\"code\":\"P03\",\"file\":\"faulty.pfb\",\"level\":\"tidy\",\"name\":\"A\",\"number\":4,\"path\":[],\"reason\":{\"text\":\"nothing is drawn so far\"},\"step\":4,\"text\":\"closepath without a path\",\"unit\":\"glyph\"}
+{\"code\":\"E04\",\"file\":\"cut.pfa\",\"level\":\"must\",\"text\":\"no eexec\",\"unit\":\"refused\"}
+{\"file\":\"absent.pfb\",\"text\":\"read failed\",\"unit\":\"unchecked\"}
+";
+    assert!(rt; text.as_slice() == lines.as_slice());
+    text.clear();
+    told.clear();
+    let form = Formatted::new(
+        rt.alloc(),
+        GitHubCommands,
+        Out::new(&mut text),
+        Out::new(&mut told),
+        true,
+    );
+    let status = tell_in(rt.alloc(), &files, &[b"P03"], form)?;
+    assert_eq!(rt; status, Ok(Status::Failed));
+    let lines = b"\
+::notice file=faulty.pfb,line=1,title=P03 closepath without a path::4: glyph A - 4 P03 closepath without a path: nothing is drawn so far
+::error file=cut.pfa,line=1,title=E04 no eexec::refused: E04 no eexec
+::error file=absent.pfb,line=1,title=not checked::t1check: read failed
+";
+    assert!(rt; text.as_slice() == lines.as_slice());
     Ok(())
 }
 
@@ -196,6 +253,7 @@ fn reports_what_was_not_checked(rt: HostRuntime) -> Result<(), Fail> {
         JsonLines,
         Out::new(&mut text),
         Out::new(&mut told),
+        false,
     );
     let result = form.unchecked("fonts", "search failed");
     drop(form);

@@ -49,12 +49,14 @@ fn check<'a>(
     names: &[String],
     files: &'a [File<'a>],
     waivers: &'a [File<'a>],
+    reasons: bool,
 ) -> Answer {
     let mut text = Vec::new(alloc);
     let mut told = Vec::new(alloc);
     let mut telling = Telling {
         rules: told_rules(&[], &[b"C07"]),
         form: Plain {
+            reasons,
             out: Out::new(&mut text),
             errors: Out::new(&mut told),
         },
@@ -113,7 +115,7 @@ fn checks_fonts_one_after_another(rt: HostRuntime) -> Result<(), Fail> {
             "misspelled.pfb",
         ],
     )?;
-    let answer = check(rt.alloc(), names.as_slice(), &files, &waivers);
+    let answer = check(rt.alloc(), names.as_slice(), &files, &waivers, false);
     assert_eq!(rt; answer.status, Ok(Status::Failed));
     let lines = b"\
 faulty.pfb: 1: glyph A - 3 C05 too many arguments
@@ -129,5 +131,40 @@ absent.pfb: t1check: read failed
 locked.pfb: t1check: read failed
 ";
     assert!(rt; answer.told.as_slice() == unread.as_slice());
+    Ok(())
+}
+
+/// Behind each line stands its reason, also where a waiver leaves others out. Behind a refusal there is none.
+#[test]
+fn reports_reasons(rt: HostRuntime) -> Result<(), Fail> {
+    let faulty = Sample::new(rt.alloc())?.glyph(b"A", FOUR_FAULTS)?.pfb()?;
+    let files = [
+        ("faulty.pfb", faulty.as_slice()),
+        ("cut.pfa", b"%!\n/FontType 1 def\n".as_slice()),
+        ("waived.pfb", faulty.as_slice()),
+    ];
+    let waivers = [(
+        "waived.pfb",
+        b"A C05\nA C07\nA H02\nA W01\nB P03\n".as_slice(),
+    )];
+    let names = names_of(rt.alloc(), &["faulty.pfb", "cut.pfa", "waived.pfb"])?;
+    let answer = check(rt.alloc(), names.as_slice(), &files, &waivers, true);
+    assert_eq!(rt; answer.status, Ok(Status::Refused));
+    let lines = b"\
+faulty.pfb: 1: glyph A - 3 C05 too many arguments
+   hmoveto takes 1 number, 2 are on the stack
+faulty.pfb: 3: glyph A - 3 W01 hsbw or sbw not first
+   hmoveto is there
+faulty.pfb: 4: glyph A - 4 P03 closepath without a path
+   nothing is drawn so far
+cut.pfa: refused: E04 no eexec
+waived.pfb: 1: glyph A - 4 P03 closepath without a path
+   nothing is drawn so far
+waived.pfb: 2: waiver A H02 U01 waiver not used
+   no step of the glyph breaks this rule
+waived.pfb: 3: waiver B P03 U01 waiver not used
+   no glyph has this name
+";
+    assert!(rt; answer.text.as_slice() == lines.as_slice());
     Ok(())
 }

@@ -45,6 +45,7 @@ fn write(alloc: Global, font: &Font<'_>) -> Result<Written, Fail>
     let mut text = Vec::new(alloc);
     let mut told = Vec::new(alloc);
     let mut form = Plain {
+        reasons: false,
         out: Out::new(&mut text),
         errors: Out::new(&mut told),
     };

@@ -94,6 +94,7 @@ fn beyond(alloc: Global, names: &[String], five: &[u8], four: &[u8]) -> Answer {
         form: Counted {
             tally: Tally::new(),
             form: Plain {
+                reasons: false,
                 out: Out::new(&mut text),
                 errors: Out::new(&mut errors),
             },
@@ -129,6 +130,7 @@ fn anew(alloc: Global, names: &[String], five: &[u8], four: &[u8]) -> Answer {
         form: Counted {
             tally: Tally::new(),
             form: Plain {
+                reasons: false,
                 out: Out::new(&mut text),
                 errors: Out::new(&mut errors),
             },

@@ -53,6 +53,8 @@ rules =
     ∷ option_rule (codes "columns")
     ∷ flag_rule (codes "colour")
     ∷ flag_rule (codes "long")
+    ∷ flag_rule (codes "reasons")
+    ∷ flag_rule (codes "no-reasons")
     ∷ flag_rule (codes "no-settings")
     ∷ version_rule
     ∷ path_rule

@@ -25,6 +25,8 @@ pub record GivenValue : Type 0 where
   pub columns : Option Text
   pub colour : Bool
   pub long : Bool
+  pub reasons : Bool
+  pub no_reasons : Bool
   pub no_settings : Bool
   pub version : Bool
   pub paths : List Text
@@ -60,6 +62,8 @@ given_in rows = record {
   columns = first_of (codes "columns") rows;
   colour = is_in rows (codes "colour");
   long = is_in rows (codes "long");
+  reasons = is_in rows (codes "reasons");
+  no_reasons = is_in rows (codes "no-reasons");
   no_settings = is_in rows (codes "no-settings");
   version = is_in rows (codes "show-version");
   paths = values_in rows (codes "path");
@@ -92,6 +96,8 @@ given_value g = record {
   columns = option_map (λ s. s.now) g.columns;
   colour = g.colour;
   long = g.long;
+  reasons = g.reasons;
+  no_reasons = g.no_reasons;
   no_settings = g.no_settings;
   version = g.version;
   paths = map (λ s. s.now) g.paths.now;

@@ -14,6 +14,8 @@ use Rattle.t1_options.specs.Values.{edition_in, form_in, number_in, shard_in, ur
 use Rattle.t1_options.specs.declared.asked.KnownFaults.{KnownFaults}
 use Rattle.t1_options.specs.declared.asked.KnownFaults.TheVariants as faults
 use Rattle.t1_options.specs.declared.asked.Options.{Options}
+use Rattle.t1_options.specs.declared.asked.Reasons.{Reasons}
+use Rattle.t1_options.specs.declared.asked.Reasons.TheVariants as reasons
 use Rattle.t1_options.specs.declared.asked.Waivers.{Waivers}
 use Rattle.t1_options.specs.declared.asked.Waivers.TheVariants as waivers
 
@@ -22,6 +24,10 @@ abbrev pub waivers_of : GivenValue → Waivers
 waivers_of given =
     if given.write_waivers then (if given.force then waivers.Overwritten else waivers.Written)
     else (if given.no_waivers then waivers.LeftAside else waivers.Read)
+
+-- No reasons are printed where both options are given.
+abbrev pub reasons_of : GivenValue → Reasons
+reasons_of given = if given.no_reasons then reasons.LeftOut else (if given.reasons then reasons.Each else reasons.First)
 
 -- The file of known faults.
 abbrev pub file_of : KnownFaults → Option Text
@@ -52,6 +58,7 @@ pub record HasValues (given : GivenValue) (options : Options) : Type 0 where
   pub columns : options.columns ≡ option_and_then number_in given.columns
   pub colour : options.colour ≡ given.colour
   pub long : options.long ≡ given.long
+  pub reasons : options.reasons ≡ reasons_of given
   pub no_settings : options.no_settings ≡ given.no_settings
   pub paths : map string_bytes options.paths.items ≡ given.paths
 

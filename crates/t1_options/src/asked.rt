@@ -49,6 +49,8 @@ pub struct Options {
     pub colour: bool,
     /// Whether a line is printed for each fault, whatever `columns` says.
     pub long: bool,
+    /// Which reasons are printed.
+    pub reasons: Reasons,
     /// Whether a settings file is left aside.
     pub no_settings: bool,
     /// Fonts and folders.
@@ -66,6 +68,17 @@ pub enum Waivers {
     Written,
     /// It is written, also over one that is there. None is read.
     Overwritten,
+}
+
+/// Which reasons are printed.
+#[derive(Clone, Copy, Debug, PartialEq, Eq)]
+pub enum Reasons {
+    /// On a terminal that of the first of the lines that are printed as one; else none.
+    First,
+    /// That of each line, and on a terminal that of the first of those that are printed as one.
+    Each,
+    /// None.
+    LeftOut,
 }
 
 /// The file of known faults, by its name.

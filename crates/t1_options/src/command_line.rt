@@ -43,6 +43,8 @@ font NAME has its waivers, lines as `A H02`.
   --columns N        write a line for each font and rule, cut to N columns, as on a terminal
   --colour           colour these by the levels of their rules
   --long             write each line of a report, also on a terminal
+  --reasons          tell with each line why it is there
+  --no-reasons       leave reasons out, also on a terminal, where the first one of each line is told
   --no-settings      leave the settings file aside, .t1check.toml in the folder of the first PATH or above it
   --help, --version
 
@@ -128,6 +130,8 @@ fn command<'a>(alloc: Global) -> Result<Command<'a>, AllocError>
     let command = with(command, option(alloc, "columns", "N"))?;
     let command = with(command, flag(alloc, "colour"))?;
     let command = with(command, flag(alloc, "long"))?;
+    let command = with(command, flag(alloc, "reasons"))?;
+    let command = with(command, flag(alloc, "no-reasons"))?;
     let command = with(command, flag(alloc, "no-settings"))?;
     let command = with(command, version(alloc))?;
     with(command, path(alloc))

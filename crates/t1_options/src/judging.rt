@@ -3,10 +3,10 @@
 ghost use Rattle.std.specs.Prelude.{◌≡◌, ◌&&◌, IfErr, IfOk, is_some, map, option_map, string_bytes};
 ghost use Rattle.t1_options.specs.Choices.{codes_of, excepted};
 ghost use Rattle.t1_options.specs.Given.{given_value};
-ghost use Rattle.t1_options.specs.Options.{AreMeant, HasValues, file_of, is_anew, waivers_of};
+ghost use Rattle.t1_options.specs.Options.{AreMeant, HasValues, file_of, is_anew, reasons_of, waivers_of};
 ghost use Rattle.t1_options.specs.Words.{IsWrong};
 
-use crate::asked::{KnownFaults, Options, Waivers};
+use crate::asked::{KnownFaults, Options, Reasons, Waivers};
 use crate::checks::{Named, complaint_of};
 use crate::choices::{codes_of, excepted, failing_of, rules_of, words_of};
 use crate::complaint::usage_text;
@@ -80,6 +80,7 @@ fn options_of(
         columns: number(given.columns),
         colour: given.colour,
         long: given.long,
+        reasons: reasons_of(given),
         no_settings: given.no_settings,
         paths,
     })
@@ -99,6 +100,19 @@ fn waivers_of(given: &Given<'_>) -> Waivers
         Waivers::LeftAside
     } else {
         Waivers::Read
+    }
+}
+
+/// Which reasons are printed.
+fn reasons_of(given: &Given<'_>) -> Reasons
+    ensures { result ≡ reasons_of (given_value given.now) }
+{
+    if given.no_reasons {
+        Reasons::LeftOut
+    } else if given.reasons {
+        Reasons::Each
+    } else {
+        Reasons::First
     }
 }
 

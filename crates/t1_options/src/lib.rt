@@ -32,7 +32,7 @@ mod laws;
 mod texts;
 mod values;
 
-pub use asked::{Form, KnownFaults, Options, Request, Shard, Waivers};
+pub use asked::{Form, KnownFaults, Options, Reasons, Request, Shard, Waivers};
 pub use command_line::{HELP, options};
 pub use laws::{
     codes_choose_rules, levels_choose_rules, options_go_together, rules_are_known,

@@ -2,7 +2,7 @@
 
 use std::alloc::Global;
 use t1_char::Edition;
-use t1_options::{Form, KnownFaults, Options, Request, Shard, Waivers, options};
+use t1_options::{Form, KnownFaults, Options, Reasons, Request, Shard, Waivers, options};
 
 /// What options are expected, but for their rules.
 #[derive(Clone, Copy)]
@@ -23,6 +23,7 @@ pub(crate) struct Expected<'a> {
     pub(crate) columns: Option<u32>,
     pub(crate) colour: bool,
     pub(crate) long: bool,
+    pub(crate) reasons: Reasons,
     pub(crate) no_settings: bool,
     pub(crate) paths: &'a [&'a str],
 }
@@ -44,6 +45,7 @@ pub(crate) const PLAIN: Expected<'static> = Expected {
     columns: None,
     colour: false,
     long: false,
+    reasons: Reasons::First,
     no_settings: false,
     paths: &["a.pfb"],
 };
@@ -91,6 +93,7 @@ fn are_expected(options: &Options, expected: Expected<'_>) -> bool {
         && options.columns == expected.columns
         && options.colour == expected.colour
         && options.long == expected.long
+        && options.reasons == expected.reasons
         && options.no_settings == expected.no_settings
         && are(options.paths.as_slice(), expected.paths)
 }

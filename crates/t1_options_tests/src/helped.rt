@@ -32,6 +32,8 @@ font NAME has its waivers, lines as `A H02`.
   --columns N        write a line for each font and rule, cut to N columns, as on a terminal
   --colour           colour these by the levels of their rules
   --long             write each line of a report, also on a terminal
+  --reasons          tell with each line why it is there
+  --no-reasons       leave reasons out, also on a terminal, where the first one of each line is told
   --no-settings      leave the settings file aside, .t1check.toml in the folder of the first PATH or above it
   --help, --version
 

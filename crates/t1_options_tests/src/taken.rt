@@ -3,7 +3,7 @@
 use crate::expected::{Expected, PLAIN, gives};
 use std::process::Abort;
 use t1_char::Edition;
-use t1_options::{Form, Request, Shard, Waivers, options};
+use t1_options::{Form, Reasons, Request, Shard, Waivers, options};
 
 /// Words, and the options that they give.
 type Case = (&'static [&'static str], Expected<'static>);
@@ -252,6 +252,27 @@ const FORMS: &[Case] = &[
             colour: true,
             long: true,
             no_settings: true,
+            ..PLAIN
+        },
+    ),
+    (
+        &["t1check-all", "--reasons", "a.pfb"],
+        Expected {
+            reasons: Reasons::Each,
+            ..PLAIN
+        },
+    ),
+    (
+        &["t1check-all", "a.pfb", "--no-reasons"],
+        Expected {
+            reasons: Reasons::LeftOut,
+            ..PLAIN
+        },
+    ),
+    (
+        &["t1check-all", "--no-reasons", "--reasons", "a.pfb"],
+        Expected {
+            reasons: Reasons::LeftOut,
             ..PLAIN
         },
     ),

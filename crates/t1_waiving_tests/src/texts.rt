@@ -53,6 +53,7 @@ fn waive<'a>(alloc: Global, names: &[String], files: &'a [File<'a>]) -> (Answer,
     let mut waiving = Waiving {
         rules: told_rules(&[], &[b"C07"]),
         form: Plain {
+            reasons: false,
             out: Out::new(&mut text),
             errors: Out::new(&mut told),
         },
@@ -87,6 +88,7 @@ fn tell<'a>(
     let mut telling = Telling {
         rules: told_rules(&[], &[b"C07"]),
         form: Plain {
+            reasons: false,
             out: Out::new(&mut text),
             errors: Out::new(&mut told),
         },

@@ -30,6 +30,7 @@ fn waive(alloc: Global, font: &[u8]) -> Result<Kept, AllocError> {
     let mut waiving = Waiving {
         rules: told_rules(&[b"W01"], &[]),
         form: Plain {
+            reasons: false,
             out: Out::new(&mut text),
             errors: Out::new(&mut told),
         },

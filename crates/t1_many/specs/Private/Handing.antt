@@ -14,5 +14,5 @@ abbrev pub HandsLines : {F : Type 0} → (F → F → Handed → Option Lost →
     → F → F → Result Found Lost → Type 0
 HandsLines takes judges name font waivers old new taken =
     (faults : List FaultValue) × IsReport font waivers faults
-    × HandsOn takes old new (lines_by judges name font.value waivers faults) (lost_of taken)
+    × HandsOn takes old new (lines_by judges name font waivers faults) (lost_of taken)
     × IfOk taken (λ found. found ≡ found_by judges faults)

@@ -1,5 +1,5 @@
-use Rattle.std.proofs.Common.{ap, sym}
-use Rattle.t1_batch.proofs.FormMaps.{fonts-map}
+use Rattle.std.proofs.Common.{Bool, ap, sym}
+use Rattle.t1_batch.proofs.FormMaps.{fonts-kept}
 use Rattle.t1_batch.proofs.FormattedRuns.{formatted_ends}
 use Rattle.t1_batch.proofs.writing.write_formatted.Goals as goal
 use Rattle.t1_batch.specs.Writing.WritesFormatted.{unlistable}
@@ -12,7 +12,7 @@ returns-in-Err g c =
 
 pub returns : goal.returns
 returns g c =
-    formatted_ends g.T.Formatter.writes g.T.Formatter.finishes _ _ _ _ _ _ _ _ _
+    formatted_ends c.args.reasons g.T.Formatter.writes g.T.Formatter.finishes _ _ _ _ _ _ _ _ _
     (record {
       formatter = c.new-form.result.formatter;
       out = g.W.Sink.state c.new-form.result.out;
@@ -25,7 +25,8 @@ returns g c =
     })
     (rw (c.new-form.ensures.formatter, c.new-form.ensures.out) c.in_default.ensures)
     (ap g.E.Sink.state c.new-form.ensures.errors) (ap g.E.Sink.state c.into_parts-formatter.ensures.errors) _ _
-    (fonts-map (FormattedTakes g.T.Formatter.writes)
+    (rw c.new-form.ensures.reasons at
+    (fonts-kept (λ (reasons : Bool). FormattedTakes reasons g.T.Formatter.writes) (λ form. form.reasons)
     (λ form. record { formatter = form.formatter; out = g.W.Sink.state form.out; errors = g.E.Sink.state form.errors }) _ _ _ _ _ _ _ _
-    c.check_fonts-checked.ensures)
+    c.check_fonts-checked.ensures))
     (rw (sym c.into_parts-formatter.ensures.formatter, sym c.into_parts-formatter.ensures.out) c.finish_checked-status.ensures)

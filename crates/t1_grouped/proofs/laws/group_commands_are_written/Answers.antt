@@ -8,9 +8,10 @@ use Rattle.t1_grouped.specs.Writings.{command_wording}
 
 pub returns : goal.returns
 returns g c old new handed lost none hands =
-    written command_writing command_wording commands_worded []
+    let reasons = old.form.reasons in
+    written (command_writing reasons) (command_wording reasons) (commands_worded reasons) []
     (record { out = g.W.Sink.state old.out; errors = g.E.Sink.state old.errors; groups = values_of message_room old.groups })
     (record { out = g.W.Sink.state new.out; errors = g.E.Sink.state new.errors; groups = values_of message_room new.groups })
     handed lost (subst (AreGroups message_room []) (sym (ap (values_of message_room) none)) (none_held message_room))
-    (seen (λ f. f.form) (λ _. command_writing)
+    (seen (λ f. f.form) (λ t. command_writing t.reasons)
     (λ w f. record { out = g.W.Sink.state f.out; errors = g.E.Sink.state f.errors; groups = values_of w.room f.groups }) old new handed lost hands)

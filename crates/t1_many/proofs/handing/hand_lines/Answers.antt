@@ -1,9 +1,9 @@
-use Rattle.std.proofs.Common.{◌+◌, List, Option, ap, arith, subst, sym, ◌∙◌}
+use Rattle.std.proofs.Common.{◌+◌, List, Option, None, Some, ap, arith, subst, sym, ◌∙◌}
 use Rattle.t1_many.proofs.GivenFaults.{all_given}
 use Rattle.t1_many.proofs.ReportLines.{HaveGone, lost_same, most_gone, no_ok, none_gone, one_failed, one_gone, one_passed}
 use Rattle.t1_many.proofs.handing.hand_lines.Goals as goal
 use Rattle.t1_many.proofs.handing.hand_lines.Goals.{then-is_told+in_ok-line, else-is_told}
-use Rattle.t1_many.specs.Handing.{HandsOn, found_with, is_told, lines_by}
+use Rattle.t1_many.specs.Handing.{HandsOn, found_with, is_told, line, lines_by}
 use Rattle.t1_summary.specs.declared.found.Found.{Found}
 use Rattle.t1_many.specs.declared.recipient.Lost.{Lost}
 use Rattle.t1_many.specs.declared.verdict.Verdict.{Verdict}
@@ -19,14 +19,18 @@ pub loop-fault-init : goal.loop-fault-init
 loop-fault-init g c = record {
   font = c.begin-walk.ensures.font;
   waivers = c.begin-walk.ensures.waivers;
+  reasons = c.new-reasons.ensures;
   gone = none_gone _ _ _ _ g.F.Form.takes _ _ c.begin-walk.ensures.mark;
 }
 
-pub line-requires : goal.line-requires
-line-requires g c =
+pub line-requires-clause-in_font : goal.line-requires-clause-in_font
+line-requires-clause-in_font g c =
     subst (λ (waivers : List Waiver). IsInFont c.args.font.now waivers (fault_value c.in-Some.fault)) c.loop-fault.invariant.waivers
     (subst (λ (font : CheckedFont). IsInFont font.value c.loop-fault.walk.waivers (fault_value c.in-Some.fault))
     c.loop-fault.invariant.font c.in-Some.ensures.in_font)
+
+pub line-requires-clause-font : goal.line-requires-clause-font
+line-requires-clause-font g c = ap (λ (font : CheckedFont). font.value) c.loop-fault.invariant.reasons
 
 pub returns-in_err-line : goal.returns-in_err-line
 returns-in_err-line g c =
@@ -40,13 +44,16 @@ returns-in_err-line g c =
       some.0,
       some.1,
       subst (λ (lost : Option Lost). HandsOn g.F.Form.takes c.args.form.now c.line.new.self
-          (lines_by judges c.args.name.now c.args.font.now c.args.waivers.now some.0) lost)
+          (lines_by judges c.args.name.now font c.args.waivers.now some.0) lost)
           (sym (lost_same {T = Found} c.from_residual.result c.in_err-line.field-0.0 c.from_residual.ensures.1))
           (one_failed judges c.args.name.now font c.args.waivers.now g.F.Form.takes c.loop-fault._fault c.loop-fault.walk.mark c.args.form.now
           c.loop-fault.form c.loop-fault.found c.loop-fault.invariant.gone c.marks_count_the_faults_given.ensures.start
           c.marks_count_the_faults_given.ensures.given c.requires.few c.requires.few_waivers some.0 some.1 (fault_value c.in-Some.fault)
           c.line.new.self c.in_err-line.field-0.0
-          (ap is_told (sym c.judge-verdict.ensures) ∙ sym c.is_told.ensures ∙ c.if-is_told.true) next c.in_err-line.ensures),
+          (ap is_told (sym c.judge-verdict.ensures) ∙ sym c.is_told.ensures ∙ c.if-is_told.true) next
+          (subst (λ (f : CheckedFont). g.F.Form.takes c.loop-fault.form c.line.new.self
+          (line c.args.name.now f c.args.waivers.now (fault_value c.in-Some.fault)) (Some c.in_err-line.field-0.0)) c.loop-fault.invariant.reasons
+          c.in_err-line.ensures.took)),
       no_ok {T = Found} {E = Lost} c.from_residual.result _ _ c.from_residual.ensures.1,
     )
 
@@ -61,6 +68,10 @@ loop-fault-preserved g c =
     record {
       font = ap (λ (w : WalkView). w.font) c.in-Some.ensures.state ∙ c.loop-fault.invariant.font;
       waivers = ap (λ (w : WalkView). w.waivers) c.in-Some.ensures.state ∙ c.loop-fault.invariant.waivers;
+      reasons = elim c.if-is_told.branch [
+        | then-is_told+in_ok-line w ↦ w.reasons-is ∙ w.in_ok-line.ensures.same ∙ c.loop-fault.invariant.reasons
+        | else-is_told w ↦ w.reasons-is ∙ c.loop-fault.invariant.reasons
+      ];
       gone = subst (λ (mark : Mark). HaveGone judges c.args.name.now font c.args.waivers.now g.F.Form.takes (c.loop-fault._fault + 1) mark
           c.args.form.now c.if-is_told.form c.found_with-found.result)
           (sym (ap (λ (w : WalkView). w.mark) c.in-Some.ensures.state))
@@ -74,7 +85,10 @@ loop-fault-preserved g c =
                 (sym w.form-is)
                 (one_gone judges c.args.name.now font c.args.waivers.now g.F.Form.takes c.loop-fault._fault c.loop-fault.walk.mark c.args.form.now
                 c.loop-fault.form c.loop-fault.found c.loop-fault.invariant.gone (fault_value c.in-Some.fault) next w.line.new.self
-                (ap is_told (sym c.judge-verdict.ensures) ∙ sym c.is_told.ensures ∙ w.if-is_told.true) w.in_ok-line.ensures)
+                (ap is_told (sym c.judge-verdict.ensures) ∙ sym c.is_told.ensures ∙ w.if-is_told.true)
+                (subst (λ (f : CheckedFont). g.F.Form.takes c.loop-fault.form w.line.new.self
+                (line c.args.name.now f c.args.waivers.now (fault_value c.in-Some.fault)) None) c.loop-fault.invariant.reasons
+                w.in_ok-line.ensures.took))
             | else-is_told w ↦
                 subst (λ (form : g.row.F.Denot). HaveGone judges c.args.name.now font c.args.waivers.now g.F.Form.takes (c.loop-fault._fault + 1)
                 (mark_of (fault_value c.in-Some.fault)) c.args.form.now form (found_with (judges (fault_value c.in-Some.fault)) c.loop-fault.found))

@@ -31,5 +31,7 @@ returns c =
     let after_19 = c.in_ok-command-19.ensures ∙ ap₂ with_rule after_18 c.flag-5.ensures.rule in
     let after_20 = c.in_ok-command-20.ensures ∙ ap₂ with_rule after_19 c.flag-6.ensures.rule in
     let after_21 = c.in_ok-command-21.ensures ∙ ap₂ with_rule after_20 c.flag-7.ensures.rule in
-    let after_22 = c.in_ok-command-22.ensures ∙ ap₂ with_rule after_21 c.version.ensures.rule in
-    IfOk-weaker c.with-23.result _ _ (λ command added. added ∙ ap₂ with_rule after_22 c.path.ensures.rule) c.with-23.ensures
+    let after_22 = c.in_ok-command-22.ensures ∙ ap₂ with_rule after_21 c.flag-8.ensures.rule in
+    let after_23 = c.in_ok-command-23.ensures ∙ ap₂ with_rule after_22 c.flag-9.ensures.rule in
+    let after_24 = c.in_ok-command-24.ensures ∙ ap₂ with_rule after_23 c.version.ensures.rule in
+    IfOk-weaker c.with-25.result _ _ (λ command added. added ∙ ap₂ with_rule after_24 c.path.ensures.rule) c.with-25.ensures
