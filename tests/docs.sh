@@ -1,10 +1,10 @@
 #!/bin/sh
 # Compares the pages of docs/ and the README with the program. Names what differs; the last line counts both.
 #
-# - Each example below a rule's heading in docs/RULES.md has a case of tests/program: the rule's own for the first, and one with
-#   the same lines for a further one. The example's lines are those that the case wants. Where the example is of charstrings, the
-#   tokens that are written out are those that the program traces in the case's font: `A: ..` and `Subr 5: ..`. A line
-#   `X … (seven times) Y` stands for seven X and one Y.
+# - Each example below a rule's heading in docs/RULES.md, and that of several rules at once, has a case of tests/program: the rule's own for
+#   the first, and one with the same lines for another one. The example's lines are those that the case wants. Where the example is of
+#   charstrings, the tokens that are written out are those that the program traces in the case's font: `A: ..` and `Subr 5: ..`. A line
+#   `X … (seven times) Y` stands for seven X and one Y. The lines with the reasons below them are those that t1check-all writes of that font.
 # - Each rule and each refusal has its text in the table of its kind, and each rule in its heading too; the texts of refusals are those of
 #   t1_lines, in code and definition, and t1_font has those of a font's bytes. The pages that t1_forms keeps are those of docs/RULES.md.
 # - Each rule stands in all places that docs/ARCHITECTURE.md names for it; one that lacks rules is told with their codes. A file that has all
@@ -21,7 +21,7 @@
 # - Each link between the pages leads to a file, and to a heading where it names one. Each file of crates/, docs/ and tests/ that a page
 #   names is there.
 #
-# Where the program can't be built, which counts as a failure, examples are compared with the cases alone.
+# Where a program can't be built, which counts as a failure, examples are compared with the cases and with the other program alone.
 set -u
 LC_ALL=C
 export LC_ALL
@@ -55,9 +55,15 @@ built=yes
     built=''
     fail 'bin/t1check --help, which builds the program'
 }
+many_built=yes
+"$top/bin/t1check-all" --help >/dev/null || {
+    many_built=''
+    fail 'bin/t1check-all --help, which builds the program'
+}
 
-# The examples below the rules' headings, a line each: the rule's code, the example's number, then the line.
-# A line that goes on in the next one is joined, and repetitions are written out.
+# The examples below the rules' headings, a line each: the rule's code, the example's number, then the line; `Several` is the code of the
+# example of several rules. A line that goes on in the next one is joined, and repetitions are written out. A reason, which has the same
+# indentation, is a line of its own with three blanks: it comes after a line of the report.
 list_examples() {
     awk '
         function spread(text,    at, end, count, group, out) {
@@ -78,12 +84,17 @@ list_examples() {
         }
         /^##/ {
             flush()
-            code = $1 == "###" && $2 ~ /^[A-Z]+[0-9]+$/ && $2 !~ /^E[0-9]/ ? $2 : ""
+            code = $1 == "###" && ($2 ~ /^[A-Z]+[0-9]+$/ || $2 == "Several") && $2 !~ /^E[0-9]/ ? $2 : ""
             block = 0
             within = 0
             next
         }
         code == "" { next }
+        /^       / && held ~ /^[0-9]+: / {
+            flush()
+            held = substr($0, 5)
+            next
+        }
         /^       / && within { held = held " " spread(substr($0, 8)); next }
         /^    / {
             flush()
@@ -114,29 +125,66 @@ agree() {
     return 1
 }
 
-# The case of an example: the rule's own for the first, else the first one that wants the same lines.
+# Whether a case is of a font alone, or of one by an edition: other words make another report, or none.
+is_plain() {
+    sed -n 's/^word: //p' "$1" | tr '\n' ' ' | grep -qx '\(--edition [12] \)\{0,1\}[^ -][^ ]* \(--edition [12] \)\{0,1\}'
+}
+
+# The font of such a case.
+font_of() {
+    sed -n 's/^word: //p' "$1" | grep -vx -e --edition -e '[12]'
+}
+
+# The case of an example: the rule's own for the first, else the first plain one that wants the same lines.
 case_of() {
-    if [ "$2" -eq 1 ]; then
+    if [ "$2" -eq 1 ] && [ "$1" != Several ]; then
         printf '%s\n' "$cases/$1.case"
         return
     fi
     for candidate in "$cases"/*.case; do
-        sed -n 's/^out: //p' "$candidate" | cmp -s - "$scratch/lines" && printf '%s\n' "$candidate" && return
+        is_plain "$candidate" && sed -n 's/^out: //p' "$candidate" | cmp -s - "$scratch/lines" && printf '%s\n' "$candidate" && return
     done
 }
 
-# Compares an example, whose lines stand in $scratch/example.
+# The lines of the report on a case's font with their reasons, by the case's edition and with its waivers.
+report_with_reasons() {
+    font=$(font_of "$1")
+    edition=$(sed -n 's/^word: //p' "$1" | grep -x '[12]')
+    waivers=$(sed -n 's/^waivers: //p' "$1")
+    rm -rf "$scratch/fonts"
+    mkdir "$scratch/fonts" && cp "$cases/fonts/$font" "$scratch/fonts/$font" || exit 1
+    [ -z "$waivers" ] || printf '%b' "$waivers" >"$scratch/fonts/$font.waivers"
+    # A line begins with the font's name and a colon, a reason with blanks.
+    (cd "$scratch/fonts" && exec "$top/bin/t1check-all" -q --long --no-settings --reasons --edition "${edition:-1}" "$font" </dev/null) |
+        sed 's/^[^ :]*: //'
+}
+
+# Compares an example's lines and reasons, which are in $scratch/reasons, with those of its case's font.
+try_reasons() {
+    report_with_reasons "$3" >"$scratch/reported"
+    if cmp -s "$scratch/reported" "$scratch/reasons"; then
+        pass
+    else
+        fail "docs/RULES.md: example $2 of $1 has other lines with reasons than t1check-all writes of the font of ${3##*/}:" \
+            "$(diff "$scratch/reported" "$scratch/reasons" | sed -n "s/^< /without '/p; s/^> /with '/p" | sed "s/\$/'/" | tr '\n' ' ')"
+    fi
+}
+
+# Compares an example, whose lines are in $scratch/example.
 try_example() {
     sed -n '/^[0-9][0-9]*: /p' "$scratch/example" >"$scratch/lines"
-    grep -v '^[0-9][0-9]*: ' "$scratch/example" >"$scratch/charstrings"
+    grep '^[0-9][0-9]*: \|^   ' "$scratch/example" >"$scratch/reasons"
+    grep -v '^[0-9][0-9]*: \|^   ' "$scratch/example" >"$scratch/charstrings"
     case=$(case_of "$1" "$2")
     [ -f "$case" ] || { fail "docs/RULES.md: no case has the lines of example $2 of $1"; return; }
     sed -n 's/^out: //p' "$case" | cmp -s - "$scratch/lines" ||
         { fail "docs/RULES.md: example $2 of $1 has other lines than ${case##*/}"; return; }
-    case $1 in F* | Z*) pass; return ;; esac
+    is_plain "$case" || { fail "docs/RULES.md: example $2 of $1: ${case##*/} has words beside a font and an edition"; return; }
+    [ -z "$many_built" ] || [ ! -s "$scratch/lines" ] || try_reasons "$1" "$2" "$case"
+    case $1 in F* | Z* | Several) pass; return ;; esac
     case " $unread " in *" $1 "*) pass; return ;; esac
     [ -n "$built" ] || return
-    font=$(sed -n 's/^word: //p' "$case" | sed -n '$p')
+    font=$(font_of "$case")
     glyph=A
     while IFS= read -r line; do
         case $line in

@@ -1,16 +1,21 @@
 #!/bin/sh
-# Tries the lines that t1check-all writes on a terminal, one for each font and rule, at several widths and in colours, and that it writes
-# each line of a report elsewhere.
+# Tries the lines that t1check-all writes on a terminal, one for each font and rule with the reason of its first fault, at several widths and
+# in colours, and that it writes each line of a report elsewhere.
 
 # shellcheck source=tests/tools/common.sh
 . "$(dirname "$0")/common.sh"
 
+# A is 0 500 hsbw, a Subr with closepath, 50 hmoveto, 100 hlineto, endchar.
 wanted <<'END'
 glyphs.pfb: Z01 value of another kind × 1: StdHW
+   it is the number 30; a list of numbers is needed
 glyphs.pfb: GE01 no endchar × 1: B
 glyphs.pfb: Z07 zone too high for BlueScale × 1: BlueValues
+   zone 0 to 26, height 26 times BlueScale 0.039625 is 1.03025; less than 1 is needed
 glyphs.pfb: P02 path not closed × 1: A
+   from 50 0 to 150 0
 glyphs.pfb: P03 closepath without a path × 1: A
+   nothing is drawn so far
 --
 END
 for columns in 80 200; do
@@ -24,9 +29,15 @@ glyphs.pfb: P02 path not closed × 1: A
 glyphs.pfb: P03 closepath without a path × 1: … and 1 more
 --
 END
-try '40 columns' 1 "$all" -q --columns 200 --columns=40 glyphs.pfb
+try '40 columns' 1 "$all" -q --no-reasons --columns 200 --columns=40 glyphs.pfb
 cp "$fonts/clean.pfb" clean.pfb
-try '40 columns, in two parts' 1 "$all" -q -j2 --columns 40 glyphs.pfb clean.pfb
+try '40 columns, in two parts' 1 "$all" -q -j2 --reasons --columns 40 --no-reasons glyphs.pfb clean.pfb
+wanted <<'END'
+glyphs.pfb: P02 path not closed × 1: A
+   from 50 0 to 150 0
+--
+END
+try '40 columns and reasons, in two parts' 1 "$all" -q -j2 --only P02 --reasons --columns 40 glyphs.pfb clean.pfb
 limited "$all" -q glyphs.pfb >"$scratch/long"
 limited "$all" -q --columns 40 --long glyphs.pfb >"$scratch/long.cut"
 limited "$all" -q --columns 40 --format jsonl glyphs.pfb >"$scratch/objects.cut"
@@ -43,12 +54,15 @@ wanted <<'END'
 cut.pfa: ^[31mrefused: E03 segment cut short^[0m
 glyphs.pfb: ^[31mGE01 no endchar^[0m × 1: B
 glyphs.pfb: ^[33mP02 path not closed^[0m × 1: A
+   from 50 0 to 150 0
 glyphs.pfb: ^[36mP03 closepath without a path^[0m × 1: A
+   nothing is drawn so far
 --
 END
 try 'colours' 0 sh -c "'$all' -q --colour --columns 80 --only GE,P cut.pfa glyphs.pfb | tr '\033' '^'"
 wanted <<'END'
 glyphs.pfb: P03 closepath without a path × 1: A
+   nothing is drawn so far
 --
 1 font: 0 clean, 1 with faults, 0 refused, 0 not checked
       1 P03 closepath without a path (tidy)
@@ -70,7 +84,9 @@ if [ "$(limited script -qec 'echo here' /dev/null </dev/null 2>/dev/null | tr -d
     wanted <<'END'
 glyphs.pfb: GE01 no endchar × 1: B
 glyphs.pfb: P02 path not closed × 1: A
+   from 50 0 to 150 0
 glyphs.pfb: P03 closepath without a path × 1: … and 1 more
+   nothing is drawn so far
 --
 END
     on_terminal NO_COLOR=1 '' >"$scratch/shown"
@@ -78,7 +94,9 @@ END
     wanted <<'END'
 glyphs.pfb: ^[31mGE01 no endchar^[0m × 1: B
 glyphs.pfb: ^[33mP02 path not closed^[0m × 1: A
+   from 50 0 to 150 0
 glyphs.pfb: ^[36mP03 closepath without a path^[0m × 1: … and 1 more
+   nothing is drawn so far
 --
 END
     on_terminal NO_COLOR= '' >"$scratch/shown"
