@@ -21,7 +21,7 @@ END
 for jobs in 1 3; do
     try "reasons, $jobs at once" 1 "$all" -q -j "$jobs" --reasons glyphs.pfb
 done
-limited "$all" -q glyphs.pfb >"$scratch/lines"
+limited "$all" -q glyphs.pfb >"$scratch/plain"
 limited "$all" -q --reasons --no-reasons glyphs.pfb >"$scratch/without"
 limited "$all" -q --no-reasons glyphs.pfb >"$scratch/left"
 limited "$all" -q --reasons glyphs.pfb | grep -v '^   ' >"$scratch/alone"
@@ -29,7 +29,7 @@ wanted <<'END'
 --
 END
 for other in without left alone; do
-    try "lines $other" 0 cmp "$scratch/lines" "$scratch/$other"
+    try "lines $other" 0 cmp "$scratch/plain" "$scratch/$other"
 done
 
 cp edge.pfb second.pfb
