@@ -7,6 +7,7 @@ pub mod Answering
 pub mod Deciphering
 pub mod EditionLemmas
 pub mod Enciphered
+pub mod BehindEnd
 pub mod Executing
 pub mod Expanding
 pub mod Finishing

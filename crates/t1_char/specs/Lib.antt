@@ -5,6 +5,7 @@ pub mod Charstrings
 pub mod Commands
 pub mod Editions
 pub mod Effects
+pub mod Endings
 pub mod Laws
 pub mod Lending
 pub mod Lines

@@ -38,6 +38,7 @@ mod command;
 mod cursor;
 mod edition;
 mod effect;
+mod endings;
 mod expansion;
 mod frames;
 mod laws;
@@ -55,6 +56,7 @@ mod token_list;
 pub use argument::OthersubrCall;
 pub use command::{Command, command_name};
 pub use edition::Edition;
+pub use endings::token_behind_end;
 pub use expansion::expand;
 pub use laws::{
     machines_answer_in_order, quotients_are_cut_towards_zero, runs_go_step_by_step,
@@ -67,5 +69,5 @@ pub use numbers::{GREATEST, UNIT, cut_quotient, natural};
 pub use seacs::{steps_lack_seac, subrs_lack_seac};
 pub use stack::{MOST_NUMBERS, Stack};
 pub use step::{MOST_CALLS, Path, Step};
-pub use token::{CharToken, is_callothersubr, is_callsubr, is_end, is_return};
+pub use token::{CharToken, is_callothersubr, is_callsubr, is_end, is_finishing, is_return};
 pub use token_list::tokens;

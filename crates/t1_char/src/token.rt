@@ -4,6 +4,7 @@
 ghost use Rattle.std.specs.Prelude.{◌≡◌, ◌+◌, ◌*◌, ◌<◌};
 ghost use Rattle.t1_char.specs.Arguments.{is_callothersubr};
 ghost use Rattle.t1_char.specs.Commands.{command_of, escaped_of};
+ghost use Rattle.t1_char.specs.Effects.{is_finishing};
 ghost use Rattle.t1_char.specs.Steps.{is_callsubr, is_end, is_return};
 ghost use Rattle.t1_char.specs.Tokens.{escaped_code, plain_code, signed_of};
 
@@ -50,6 +51,14 @@ pub fn is_return(token: CharToken) -> bool
     ensures { result ≡ is_return token }
 {
     matches!(token, CharToken::Command(Command::Return))
+}
+
+/// Whether it finishes the glyph, in its own charstring or in a Subr.
+#[inline(always)]
+pub fn is_finishing(token: CharToken) -> bool
+    ensures { result ≡ is_finishing token }
+{
+    matches!(token, CharToken::Command(Command::Endchar | Command::Seac))
 }
 
 /// Whether it is the end of the charstring.

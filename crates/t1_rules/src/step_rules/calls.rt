@@ -11,10 +11,10 @@ ghost use Rattle.t1_rules.specs.StepRules.Calls.{calls_by_number, calls_missing,
 
 use crate::mask::Mask;
 use crate::rule::Rule;
-use crate::step_rules::tokens::is_finishing;
 use crate::watch::Watch;
 use t1_char::{
-    CharToken, Edition, MOST_CALLS, OthersubrCall, Step, is_callsubr, is_end, is_return,
+    CharToken, Edition, MOST_CALLS, OthersubrCall, Step, is_callsubr, is_end, is_finishing,
+    is_return,
 };
 
 /// Watches for S01 to S04, GE01 and GE02, which a step alone decides.

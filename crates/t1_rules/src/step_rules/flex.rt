@@ -101,13 +101,20 @@ impl FlexWatcher {
         self.in_flex
     }
 
-    /// Whether since the last start of a flex there were seven moves and seven points, as X04 requires at its end.
+    /// How many moves came since the last start of a flex: X04 counts them.
     #[inline(always)]
-    pub fn has_seven_pairs(&self) -> bool
-        ensures { (before : List StepView) → FlexStandsFor self.now before →
-            result ≡ (flex_moves before == 7 && flex_points before == 7) }
+    pub fn moves(&self) -> u32
+        ensures { (before : List StepView) → FlexStandsFor self.now before → result ≡ flex_moves before }
     {
-        (self.moves == 7) & (self.points == 7)
+        self.moves
+    }
+
+    /// How many points of a flex came since its last start.
+    #[inline(always)]
+    pub fn points(&self) -> u32
+        ensures { (before : List StepView) → FlexStandsFor self.now before → result ≡ flex_points before }
+    {
+        self.points
     }
 
     /// Whether the last steps neither ended a flex nor took a pop after that.

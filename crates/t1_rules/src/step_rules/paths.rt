@@ -15,10 +15,10 @@ use crate::mask::Mask;
 use crate::rule::Rule;
 use crate::step_rules::calls::ends_in_glyph;
 use crate::step_rules::tokens::{
-    clears, closes, ends_flex, is_finishing, is_line, is_move, sets_width, starts_flex,
+    clears, closes, ends_flex, is_line, is_move, sets_width, starts_flex,
 };
 use crate::watch::Watch;
-use t1_char::{CharToken, Edition, OthersubrCall, Step, is_callothersubr, is_end};
+use t1_char::{CharToken, Edition, OthersubrCall, Step, is_callothersubr, is_end, is_finishing};
 
 /// Watches for W01, W02 and P01 to P03.
 #[derive(Clone, Copy, Debug, PartialEq, Eq)]

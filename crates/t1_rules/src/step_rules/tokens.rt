@@ -2,7 +2,6 @@
 
 ghost use Rattle.std.specs.Prelude.{◌≡◌, true};
 ghost use Rattle.t1_char.specs.Arguments.{is_flex_end, is_flex_point, is_flex_start, is_hint_replacement, othersubr_call};
-ghost use Rattle.t1_char.specs.Effects.{is_finishing};
 ghost use Rattle.t1_char.specs.StepValues.{step_view};
 ghost use Rattle.t1_rules.specs.StepRules.Tokens.{clears, closes, is_command, is_hsbw, is_line, is_move, is_pop, is_setcurrentpoint, sets_point, sets_width};
 ghost use Rattle.t1_char.specs.Seacs.{is_seac};
@@ -15,13 +14,6 @@ pub(crate) fn is_command(token: CharToken) -> bool
     ensures { result ≡ is_command (λ command. true) token }
 {
     matches!(token, CharToken::Command(_))
-}
-
-/// Whether it finishes the glyph, in its own charstring or in a Subr.
-pub(crate) fn is_finishing(token: CharToken) -> bool
-    ensures { result ≡ is_finishing token }
-{
-    matches!(token, CharToken::Command(Command::Endchar | Command::Seac))
 }
 
 /// Whether it takes arguments from the bottom of the stack, which it then empties.

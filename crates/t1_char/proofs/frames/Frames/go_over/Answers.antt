@@ -1,4 +1,4 @@
-use Rattle.std.proofs.Common.{refl, ap, arith}
+use Rattle.std.proofs.Common.{ap, arith}
 use Rattle.t1_char.specs.Lines.{is_lines}
 use Rattle.t1_char.proofs.Advancing.{none_over}
 use Rattle.t1_char.proofs.frames.Frames.go_over.Goals as goal
