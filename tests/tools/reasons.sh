@@ -8,7 +8,7 @@
 # A is 0 500 hsbw, a Subr with closepath, 50 hmoveto, 100 hlineto, endchar; B has no endchar, of which there is no more to say.
 wanted <<'END'
 glyphs.pfb: 1: font BlueValues 1 Z07 zone too high for BlueScale
-   zone 0 to 26, height 26 times BlueScale 0.039625 is 1.03025; less than 1 is needed
+   zone 0 to 26, height 26 times BlueScale 0.039625 is 1.03025; less than 1 is needed; BlueScale 0.038461538 would do
 glyphs.pfb: 2: font StdHW 0 Z01 value of another kind
    it is the number 30; a list of numbers is needed
 glyphs.pfb: 3: glyph A 5 6 P03 closepath without a path
@@ -58,7 +58,7 @@ try 'reasons as github' 1 "$all" -q --reasons --format github --only P02 glyphs.
 limited "$all" -q --format sarif glyphs.pfb >"$scratch/sarif"
 limited "$all" -q --reasons --format sarif glyphs.pfb >"$scratch/told"
 wanted <<'END'
-"message":{"text":"font BlueValues 1 Z07 zone too high for BlueScale: zone 0 to 26, height 26 times BlueScale 0.039625 is 1.03025; less than 1 is needed"}
+"message":{"text":"font BlueValues 1 Z07 zone too high for BlueScale: zone 0 to 26, height 26 times BlueScale 0.039625 is 1.03025; less than 1 is needed; BlueScale 0.038461538 would do"}
 "message":{"text":"font StdHW 0 Z01 value of another kind: it is the number 30; a list of numbers is needed"}
 "message":{"text":"glyph A 5 6 P03 closepath without a path: nothing is drawn so far"}
 "message":{"text":"glyph A - 12 P02 path not closed: from 50 0 to 150 0"}

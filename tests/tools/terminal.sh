@@ -11,7 +11,7 @@ glyphs.pfb: Z01 value of another kind × 1: StdHW
    it is the number 30; a list of numbers is needed
 glyphs.pfb: GE01 no endchar × 1: B
 glyphs.pfb: Z07 zone too high for BlueScale × 1: BlueValues
-   zone 0 to 26, height 26 times BlueScale 0.039625 is 1.03025; less than 1 is needed
+   zone 0 to 26, height 26 times BlueScale 0.039625 is 1.03025; less than 1 is needed; BlueScale 0.038461538 would do
 glyphs.pfb: P02 path not closed × 1: A
    from 50 0 to 150 0
 glyphs.pfb: P03 closepath without a path × 1: A

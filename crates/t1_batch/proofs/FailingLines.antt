@@ -1,5 +1,5 @@
 -- Lines of some rules, found by the counts of a tally.
-use Rattle.std.proofs.Common.{◌≡◌, ◌&&◌, ◌||◌, ◌+◌, ◌-◌, ◌^◌, ℕ, nat_lt, nat_eq, min, Bool, true, false, cond, List, [], ◌∷◌, inl, inr, refl, sym, ap, ap₂, ◌∙◌, arith}
+use Rattle.std.proofs.Common.{◌≡◌, ◌&&◌, ◌||◌, ◌+◌, ◌-◌, ◌^◌, ℕ, nat_lt, nat_eq, Bool, true, false, cond, List, [], ◌∷◌, inl, inr, refl, sym, ap, ap₂, ◌∙◌, arith}
 use Rattle.std.proofs.lemmas.Bool.{cases_Bool}
 use Rattle.std.proofs.lemmas.Bool.Decides.{nat_tests}
 use Rattle.std.specs.List.{count_by, list_any}
@@ -7,13 +7,11 @@ use Rattle.t1_many.proofs.CountsOf.{count_cons}
 use Rattle.t1_rules.proofs.Lemmas.Book.{listed, one_rule}
 use Rattle.t1_rules.specs.Book.{number_of, rules}
 use Rattle.t1_rules.specs.Mask.{has}
-use Rattle.t1_rules.specs.declared.mask.Mask.{Mask}
 use Rattle.t1_rules.specs.declared.rule.Rule.{Rule}
 use Rattle.t1_options.proofs.Known.{any_of}
 use Rattle.t1_summary.proofs.TallyCounts.{tallies_count}
 use Rattle.t1_summary.specs.Classes.{capped, lines_of}
 use Rattle.t1_summary.specs.Tallies.{lines_in, tally_of}
-use Rattle.t1_summary.specs.declared.found.Found.{Found}
 use Rattle.t1_batch.specs.Endings.{any_failing}
 use Rattle.t1_batch.specs.Laws.{StatusesAreByLines}
 

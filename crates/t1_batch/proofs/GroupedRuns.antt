@@ -1,5 +1,5 @@
 -- Forms of groups, that are seen by what is known of them.
-use Rattle.std.proofs.Common.{◌≡◌, ℕ, List, Option, Result}
+use Rattle.std.proofs.Common.{◌≡◌, ℕ, List, Result}
 use Rattle.t1_batch.specs.Checks.{ChecksFonts, all_handed}
 use Rattle.t1_batch.specs.Checks.ChecksFonts.{cut_short, whole}
 use Rattle.t1_char.specs.declared.edition.Edition.{Edition}
@@ -7,7 +7,6 @@ use Rattle.t1_grouped.proofs.Written.{seen}
 use Rattle.t1_grouped.specs.GroupLines.{Writing}
 use Rattle.t1_grouped.specs.Grouping.{GroupedTakes, Grouping}
 use Rattle.t1_many.specs.Files.{Files}
-use Rattle.t1_many.specs.Handing.{Handed}
 use Rattle.t1_many.specs.Outcomes.{Entry, Report}
 use Rattle.t1_many.specs.declared.recipient.Lost.{Lost}
 use Rattle.t1_many.specs.declared.verdict.Verdict.{Verdict}

@@ -1,5 +1,5 @@
 -- How a run ends, by how the lines of its fonts ended.
-use Rattle.std.proofs.Common.{◌≡◌, Bool, List, ℕ, Option, Result, Ok, Err}
+use Rattle.std.proofs.Common.{◌≡◌, Bool, List, ℕ, Result, Ok, Err}
 use Rattle.t1_batch.specs.Layouts.{LayoutValue}
 use Rattle.t1_batch.specs.Endings.{WantedValue}
 use Rattle.t1_batch.specs.Checks.{IsFound}

@@ -151,7 +151,7 @@ page_18 = record {
   code = codes "Z05";
   anchor = codes "z05-zones-too-near";
   title = codes "zones too near";
-  text = codes "Level *should*: edges between the two zones may jump at small sizes.\n\nBlueFuzz widens each zone by so many units below and above. Two zones of a list have to lie D = 2 " ++ (195 ∷ 151 ∷ (codes " BlueFuzz + 1 units apart; else an\nedge may belong to both, and similar glyphs get different heights.\n\n    /BlueValues [-15 0 520 530 532 545] def\n    1: font BlueValues 4 Z05 zones too near\n       from 530 to 532 is 2; 3 is needed\n\n532 " ++ (226 ∷ 136 ∷ 146 ∷ (codes " 530 = 2, and D is 3.\n\nHow much it matters: where Z04 names the same place, mend that one. Elsewhere edges in the gap may jump.\n\nCure: make one zone of both, move them apart, or set `/BlueFuzz 0 def`, with which D is 1."))));
+  text = codes "Level *should*: edges between the two zones may jump at small sizes.\n\nBlueFuzz widens each zone by so many units below and above. Two zones of a list have to lie D = 2 " ++ (195 ∷ 151 ∷ (codes " BlueFuzz + 1 units apart; else an\nedge may belong to both, and similar glyphs get different heights.\n\n    /BlueValues [-15 0 520 530 532 545] def\n    1: font BlueValues 4 Z05 zones too near\n       from 530 to 532 is 2; 3 is needed; BlueFuzz 0.5 would do\n\n532 " ++ (226 ∷ 136 ∷ 146 ∷ (codes " 530 = 2, and D is 3.\n\nHow much it matters: where Z04 names the same place, mend that one. Elsewhere edges in the gap may jump.\n\nCure: make one zone of both, move them apart, or set `/BlueFuzz 0 def`, with which D is 1."))));
 }
 
 unfoldable pub page_19 : PageValue
@@ -159,7 +159,7 @@ page_19 = record {
   code = codes "Z06";
   anchor = codes "z06-zones-of-two-lists-too-near";
   title = codes "zones of two lists too near";
-  text = codes "Level *should*: edges between the two zones may jump at small sizes.\n\nThe same between a zone of OtherBlues and one of BlueValues, and between a zone of FamilyOtherBlues and one of FamilyBlues. A zone from\na to b and one from c to d are too near where c " ++ (226 ∷ 136 ∷ 146 ∷ (codes " b < D and a " ++ (226 ∷ 136 ∷ 146 ∷ (codes " d < D, whichever lies below. The line is at the zone of OtherBlues or\nFamilyOtherBlues, once for each such zone.\n\n    /BlueValues [-8 0] def\n    /OtherBlues [-20 -10] def\n    1: font OtherBlues 0 Z06 zones of two lists too near\n       zone -20 to -10 lies 2 below zone -8 to 0; 3 is needed\n\nc " ++ (226 ∷ 136 ∷ 146 ∷ (codes " b = " ++ (226 ∷ 136 ∷ 146 ∷ (codes "8 + 10 = 2, and D is 3. Cure: as for Z05; with `/BlueFuzz 0 def` this font breaks no rule. A zone that is in both lists is left out of\nOtherBlues, or FamilyOtherBlues."))))))));
+  text = codes "Level *should*: edges between the two zones may jump at small sizes.\n\nThe same between a zone of OtherBlues and one of BlueValues, and between a zone of FamilyOtherBlues and one of FamilyBlues. A zone from\na to b and one from c to d are too near where c " ++ (226 ∷ 136 ∷ 146 ∷ (codes " b < D and a " ++ (226 ∷ 136 ∷ 146 ∷ (codes " d < D, whichever lies below. The line is at the zone of OtherBlues or\nFamilyOtherBlues, once for each such zone.\n\n    /BlueValues [-8 0] def\n    /OtherBlues [-20 -10] def\n    1: font OtherBlues 0 Z06 zones of two lists too near\n       zone -20 to -10 lies 2 below zone -8 to 0; 3 is needed; BlueFuzz 0.5 would do\n\nc " ++ (226 ∷ 136 ∷ 146 ∷ (codes " b = " ++ (226 ∷ 136 ∷ 146 ∷ (codes "8 + 10 = 2, and D is 3. Cure: as for Z05; with `/BlueFuzz 0 def` this font breaks no rule. A zone that is in both lists is left out of\nOtherBlues, or FamilyOtherBlues."))))))));
 }
 
 unfoldable pub page_20 : PageValue
@@ -167,7 +167,7 @@ page_20 = record {
   code = codes "Z07";
   anchor = codes "z07-zone-too-high-for-bluescale";
   title = codes "zone too high for BlueScale";
-  text = codes "Level *should*: at some sizes round letters stand out where they shouldn't.\n\nBlueScale says, in pixels a unit, up to which size overshoots are suppressed: all edges of a zone are then put on one line. A zone that is a whole\npixel high at that size, or more, would lose a difference that could be shown, and heights jump where suppression ends.\n\n    /BlueValues [0 26] def\n    1: font BlueValues 1 Z07 zone too high for BlueScale\n       zone 0 to 26, height 26 times BlueScale 0.039625 is 1.03025; less than 1 is needed\n\n26 " ++ (195 ∷ 151 ∷ (codes " 0.039625 = 1.03025; a height of 25 gives 0.990625 and is right.\n\nHow much it matters: often only a digit was rounded. Of 147 such places in 1,454 real fonts, 109 had a height that times BlueScale gave at least 1\nand less than 1.001. There nothing is seen, and a BlueScale whose last digit is one lower ends the line.\n\nCure: make the zone lower, or BlueScale less than 1 divided by the\nheight of the highest zone, here `/BlueScale .038 def` (26 " ++ (195 ∷ 151 ∷ (codes " .038 = 0.988). Digits after the ninth decimal are cut: 24 " ++ (195 ∷ 151 ∷ (codes " 0.0416666667 is\n24 " ++ (195 ∷ 151 ∷ (codes " 0.041666666 here, 0.999999984, and below 1."))))))));
+  text = codes "Level *should*: at some sizes round letters stand out where they shouldn't.\n\nBlueScale says, in pixels a unit, up to which size overshoots are suppressed: all edges of a zone are then put on one line. A zone that is a whole\npixel high at that size, or more, would lose a difference that could be shown, and heights jump where suppression ends.\n\n    /BlueValues [0 26] def\n    1: font BlueValues 1 Z07 zone too high for BlueScale\n       zone 0 to 26, height 26 times BlueScale 0.039625 is 1.03025; less than 1 is needed; BlueScale 0.038461538 would do\n\n26 " ++ (195 ∷ 151 ∷ (codes " 0.039625 = 1.03025; a height of 25 gives 0.990625 and is right.\n\nHow much it matters: often only a digit was rounded. Of 147 such places in 1,454 real fonts, 109 had a height that times BlueScale gave at least 1\nand less than 1.001. There nothing is seen, and a BlueScale whose last digit is one lower ends the line.\n\nCure: make the zone lower, or BlueScale less than 1 divided by the\nheight of the highest zone, here `/BlueScale .038 def` (26 " ++ (195 ∷ 151 ∷ (codes " .038 = 0.988). Digits after the ninth decimal are cut: 24 " ++ (195 ∷ 151 ∷ (codes " 0.0416666667 is\n24 " ++ (195 ∷ 151 ∷ (codes " 0.041666666 here, 0.999999984, and below 1."))))))));
 }
 
 unfoldable pub page_21 : PageValue
@@ -207,7 +207,7 @@ page_25 = record {
   code = codes "C01";
   anchor = codes "c01-shorter-than-leniv";
   title = codes "shorter than lenIV";
-  text = codes "Level *must*: the glyph can't be decrypted.\n\nlenIV says how many random bytes come before each charstring, 4 where nothing else is said. A charstring that hasn't even these has\nno command, and some interpreters read past its end. Example: lenIV is 4, and `A` has three bytes.\n\n    /A 3 RD " ++ (226 ∷ 128 ∷ 166 ∷ (codes " ND\n    1: glyph A - 1 C01 shorter than lenIV\n    2: glyph A - 2 GE01 no endchar\n\nCure: compile the glyph again; where all glyphs have this line, mend lenIV (`/lenIV -1 def` says that charstrings aren't encrypted)."));
+  text = codes "Level *must*: the glyph can't be decrypted.\n\nlenIV says how many random bytes come before each charstring, 4 where nothing else is said. A charstring that hasn't even these has\nno command, and some interpreters read past its end. Example: lenIV is 4, and `A` has three bytes.\n\n    /A 3 RD " ++ (226 ∷ 128 ∷ 166 ∷ (codes " ND\n    1: glyph A - 1 C01 shorter than lenIV\n       3 bytes, lenIV is 4\n    2: glyph A - 2 GE01 no endchar\n\nCure: compile the glyph again; where all glyphs have this line, mend lenIV (`/lenIV -1 def` says that charstrings aren't encrypted)."));
 }
 
 unfoldable pub page_26 : PageValue
@@ -247,7 +247,7 @@ page_30 = record {
   code = codes "C06";
   anchor = codes "c06-more-than-24-numbers";
   title = codes "more than 24 numbers";
-  text = codes "Level *must*: an interpreter's stack overflows, and the glyph isn't drawn.\n\nAn interpreter's stack has 24 places. A further number stops it or is lost, or overwrites memory where the interpreter doesn't guard it.\nEach number past the 24th has its line. Here rlineto is given thirteen pairs of `10 20`, as a Type 2 charstring may have them.\n\n    A: 0 500 hsbw 0 hmoveto 10 20 " ++ (226 ∷ 128 ∷ 166 ∷ (codes " 10 20 rlineto closepath endchar\n    1: glyph A - 30 C06 more than 24 numbers\n    2: glyph A - 31 C06 more than 24 numbers\n    3: glyph A - 32 C05 too many arguments\n       rlineto takes 2 numbers, 24 are on the stack\n\nCure: give each command its own numbers, here thirteen times `10 20 rlineto`."));
+  text = codes "Level *must*: an interpreter's stack overflows, and the glyph isn't drawn.\n\nAn interpreter's stack has 24 places. A further number stops it or is lost, or overwrites memory where the interpreter doesn't guard it.\nEach number past the 24th has its line. Here rlineto is given thirteen pairs of `10 20`, as a Type 2 charstring may have them.\n\n    A: 0 500 hsbw 0 hmoveto 10 20 " ++ (226 ∷ 128 ∷ 166 ∷ (codes " 10 20 rlineto closepath endchar\n    1: glyph A - 30 C06 more than 24 numbers\n       the number 10 after 24 numbers, 24 at most\n    2: glyph A - 31 C06 more than 24 numbers\n       the number 20 after 24 numbers, 24 at most\n    3: glyph A - 32 C05 too many arguments\n       rlineto takes 2 numbers, 24 are on the stack\n\nCure: give each command its own numbers, here thirteen times `10 20 rlineto`."));
 }
 
 unfoldable pub page_31 : PageValue
@@ -263,7 +263,7 @@ page_32 = record {
   code = codes "C08";
   anchor = codes "c08-quotient-out-of-range";
   title = codes "quotient out of range";
-  text = codes "Level *must*: interpreters refuse the quotient, or cut it.\n\ndiv is there to write fractions, and what it gives has to be in the range of C07.\n\n    A: 0 500 hsbw 64002 2 div hmoveto endchar\n    1: glyph A - 6 C08 quotient out of range\n       64002 by 2\n\nCure: mend the numbers. The quotient is first cut to 1/65536: one that is less than 1/65536 past 32000 is 32000 then, and in range.";
+  text = codes "Level *must*: interpreters refuse the quotient, or cut it.\n\ndiv is there to write fractions, and what it gives has to be in the range of C07.\n\n    A: 0 500 hsbw 64002 2 div hmoveto endchar\n    1: glyph A - 6 C08 quotient out of range\n       64002 divided by 2\n\nCure: mend the numbers. The quotient is first cut to 1/65536: one that is less than 1/65536 past 32000 is 32000 then, and in range.";
 }
 
 unfoldable pub page_33 : PageValue
@@ -271,7 +271,7 @@ page_33 = record {
   code = codes "C09";
   anchor = codes "c09-division-by-zero";
   title = codes "division by zero";
-  text = codes "Level *must*: interpreters stop there, or go on with any number.\n\nAn interpreter stops with an error, or goes on with any number.\n\n    A: 0 500 hsbw 5 0 div hmoveto endchar\n    1: glyph A - 6 C09 division by zero\n       5 by 0\n\nCure: mend the divisor; mostly a number was lost, or a fraction was rounded to 0.";
+  text = codes "Level *must*: interpreters stop there, or go on with any number.\n\nAn interpreter stops with an error, or goes on with any number.\n\n    A: 0 500 hsbw 5 0 div hmoveto endchar\n    1: glyph A - 6 C09 division by zero\n       5 divided by 0\n\nCure: mend the divisor; mostly a number was lost, or a fraction was rounded to 0.";
 }
 
 unfoldable pub page_34 : PageValue
@@ -303,7 +303,7 @@ page_37 = record {
   code = codes "S04";
   anchor = codes "s04-subr-without-return";
   title = codes "Subr without return";
-  text = codes "Level *must*: interpreters stop at its end, or go on in the glyph.\n\nA Subr has to end with `return`, or end the glyph by endchar or seac. Without it an interpreter reads on after the Subr's bytes. The line\nis at the end of the bytes, which a trace writes as `end`; there is one for each call.\n\n    Subr 5: 100 hlineto\n    A: 0 500 hsbw 50 hmoveto 5 callsubr closepath endchar\n    1: glyph A 5 10 S04 Subr without return\n\nCure: write `return` at the Subr's end; where its bytes were cut, take it from its source again.";
+  text = codes "Level *must*: interpreters stop at its end, or go on in the glyph.\n\nA Subr has to end with `return`, or end the glyph by endchar or seac. Without it an interpreter reads on after the Subr's bytes. The line\nis at the end of the bytes, which a trace writes as `end`; there is one for each call.\n\n    Subr 5: 100 hlineto\n    A: 0 500 hsbw 50 hmoveto 5 callsubr closepath endchar\n    1: glyph A 5 10 S04 Subr without return\n       Subr 5 ends\n\nCure: write `return` at the Subr's end; where its bytes were cut, take it from its source again.";
 }
 
 unfoldable pub page_38 : PageValue
@@ -319,7 +319,7 @@ page_39 = record {
   code = codes "GE02";
   anchor = codes "ge02-tokens-after-the-end";
   title = codes "tokens after the end";
-  text = codes "Level *tidy*: an interpreter has ended the glyph before.\n\nWhat follows endchar or seac is never executed. Either it is left over, or endchar comes too early and the rest of the outline is\nmissing. In a Subr one `return` may follow, since some tools end each Subr so.\n\n    A: 0 500 hsbw endchar 50 hmoveto 100 hlineto closepath endchar\n    1: glyph A - 4 GE02 tokens after the end\n\nHow much it matters: what is left over does no harm, and 19 of 1,454 real fonts have it in 690 places. An endchar that comes too early loses a part\nof the glyph: look at it once.\n\nCure: leave out what follows, as an endchar after seac; or the endchar that comes too early.";
+  text = codes "Level *tidy*: an interpreter has ended the glyph before.\n\nWhat follows endchar or seac is never executed. Either it is left over, or endchar comes too early and the rest of the outline is\nmissing. In a Subr one `return` may follow, since some tools end each Subr so.\n\n    A: 0 500 hsbw endchar 50 hmoveto 100 hlineto closepath endchar\n    1: glyph A - 4 GE02 tokens after the end\n       the number 50 comes next\n\nHow much it matters: what is left over does no harm, and 19 of 1,454 real fonts have it in 690 places. An endchar that comes too early loses a part\nof the glyph: look at it once.\n\nCure: leave out what follows, as an endchar after seac; or the endchar that comes too early.";
 }
 
 unfoldable pub page_40 : PageValue
@@ -335,7 +335,7 @@ page_41 = record {
   code = codes "W02";
   anchor = codes "w02-hsbw-or-sbw-again";
   title = codes "hsbw or sbw again";
-  text = codes "Level *must*: interpreters draw the rest elsewhere, or refuse the glyph.\n\nA glyph has one width. A second hsbw sets the current point back as well, so that what is drawn after it moves. Where another clearing\ncommand comes before the only hsbw, there are two lines: W01 at that command, and W02 at hsbw.\n\n    A: 0 500 hsbw 0 600 hsbw endchar\n    1: glyph A - 6 W02 hsbw or sbw again\n       step 3 set it\n\nCure: keep the one that is right; a Subr that is called twice, or for several glyphs, shouldn't have it.";
+  text = codes "Level *must*: interpreters draw the rest elsewhere, or refuse the glyph.\n\nA glyph has one width. A second hsbw sets the current point back as well, so that what is drawn after it moves. Where another clearing\ncommand comes before the only hsbw, there are two lines: W01 at that command, and W02 at hsbw.\n\n    A: 0 500 hsbw 0 600 hsbw endchar\n    1: glyph A - 6 W02 hsbw or sbw again\n       step 3 set the width\n\nCure: keep the one that is right; a Subr that is called twice, or for several glyphs, shouldn't have it.";
 }
 
 unfoldable pub page_42 : PageValue
@@ -383,7 +383,7 @@ page_47 = record {
   code = codes "H03";
   anchor = codes "h03-stem-of-zero-width";
   title = codes "stem of zero width";
-  text = codes "Level *should*: the hint has no effect.\n\nSuch a stem has no stroke. Mostly a width was rounded to 0, or a number was lost: the width of `20 hstem` is 0 as well, with C04 beside it.\n\n    A: 0 500 hsbw 100 0 vstem endchar\n    1: glyph A - 6 H03 stem of zero width\n       at 100\n\nCure: write the stroke's width, or leave the stem out. Where one edge alone is to be held, give the stem a small width.";
+  text = codes "Level *should*: the hint has no effect.\n\nSuch a stem has no stroke. Mostly a width was rounded to 0, or a number was lost: the width of `20 hstem` is 0 as well, with C04 beside it.\n\n    A: 0 500 hsbw 100 0 vstem endchar\n    1: glyph A - 6 H03 stem of zero width\n       the stem is at 100\n\nCure: write the stroke's width, or leave the stem out. Where one edge alone is to be held, give the stem a small width.";
 }
 
 unfoldable pub page_48 : PageValue
@@ -423,7 +423,7 @@ page_52 = record {
   code = codes "X02";
   anchor = codes "x02-flex-call-outside-flex";
   title = codes "flex call outside flex";
-  text = codes "Level *must*: interpreters refuse the glyph, or move the point.\n\nA point or an end belongs to no flex: the start is missing, or the end occurs twice. Interpreters take points that were left in memory, or\nstop with an error.\n\n    A: 0 500 hsbw 0 2 callothersubr endchar\n    1: glyph A - 6 X02 flex call outside flex\n\nCure: write the start before the first of the seven moves; or leave the call out.";
+  text = codes "Level *must*: interpreters refuse the glyph, or move the point.\n\nA point or an end belongs to no flex: the start is missing, or the end occurs twice. Interpreters take points that were left in memory, or\nstop with an error.\n\n    A: 0 500 hsbw 0 2 callothersubr endchar\n    1: glyph A - 6 X02 flex call outside flex\n       OtherSubr 2 with no arguments, a point of a flex\n\nCure: write the start before the first of the seven moves; or leave the call out.";
 }
 
 unfoldable pub page_53 : PageValue
@@ -439,7 +439,7 @@ page_54 = record {
   code = codes "X04";
   anchor = codes "x04-flex-points-are-not-seven-pairs";
   title = codes "flex points are not seven pairs";
-  text = codes "Level *must*: interpreters draw other curves, or refuse the glyph.\n\nEach point comes after one move, and there are seven of both: a reference point, and six points of two curves. Interpreters draw from what\nthey have counted, so one too many or too few spoils the rest of the glyph. A move without its point has a line at each later point and at\nthe end. Here there are six of both.\n\n    A: 0 500 hsbw 0 hmoveto 0 1 callothersubr\n       1 hmoveto 0 2 callothersubr " ++ (226 ∷ 128 ∷ 166 ∷ (codes " (six times) 50 6 0 3 0 callothersubr pop pop setcurrentpoint closepath endchar\n    1: glyph A - 44 X04 flex points are not seven pairs\n\nCure: write a point after each move, and seven of both; a move that leads nowhere is `0 hmoveto`."));
+  text = codes "Level *must*: interpreters draw other curves, or refuse the glyph.\n\nEach point comes after one move, and there are seven of both: a reference point, and six points of two curves. Interpreters draw from what\nthey have counted, so one too many or too few spoils the rest of the glyph. A move without its point has a line at each later point and at\nthe end. Here there are six of both.\n\n    A: 0 500 hsbw 0 hmoveto 0 1 callothersubr\n       1 hmoveto 0 2 callothersubr " ++ (226 ∷ 128 ∷ 166 ∷ (codes " (six times) 50 6 0 3 0 callothersubr pop pop setcurrentpoint closepath endchar\n    1: glyph A - 44 X04 flex points are not seven pairs\n       6 moves and 6 points; 7 of each are needed\n\nCure: write a point after each move, and seven of both; a move that leads nowhere is `0 hmoveto`."));
 }
 
 unfoldable pub page_55 : PageValue
@@ -463,7 +463,7 @@ page_57 = record {
   code = codes "O01";
   anchor = codes "o01-unknown-othersubr";
   title = codes "unknown OtherSubr";
-  text = codes "Level *must*: interpreters do different things with the call.\n\nAn interpreter without PostScript doesn't know what the number means. It leaves the arguments for pop, or stops with an error, and the glyph\ndiffers between screen and paper. OtherSubrs 14 to 18, of multiple master fonts, are unknown here too.\n\n    A: 0 500 hsbw 0 4 callothersubr endchar\n    1: glyph A - 6 O01 unknown OtherSubr\n       OtherSubr 4 with 0 arguments\n\nCure: write what the OtherSubr does in commands of chapter 6; or mend the number.";
+  text = codes "Level *must*: interpreters do different things with the call.\n\nAn interpreter without PostScript doesn't know what the number means. It leaves the arguments for pop, or stops with an error, and the glyph\ndiffers between screen and paper. OtherSubrs 14 to 18, of multiple master fonts, are unknown here too.\n\n    A: 0 500 hsbw 0 4 callothersubr endchar\n    1: glyph A - 6 O01 unknown OtherSubr\n       OtherSubr 4 with no arguments\n\nCure: write what the OtherSubr does in commands of chapter 6; or mend the number.";
 }
 
 unfoldable pub page_58 : PageValue
@@ -479,7 +479,7 @@ page_59 = record {
   code = codes "O03";
   anchor = codes "o03-wrong-count-for-this-othersubr";
   title = codes "wrong count for this OtherSubr";
-  text = codes "Level *must*: interpreters take other numbers, or stop at the call.\n\nOtherSubr 0 takes three arguments, 1 and 2 take none, and 3 takes one. With another count it isn't executed as what it is: here it ends no\nflex.\n\n    A: 0 500 hsbw 0 0 callothersubr endchar\n    1: glyph A - 6 O03 wrong count for this OtherSubr\n       OtherSubr 0 with 0 arguments; it takes 3\n\nCure: write the count that belongs to the OtherSubr, and so many arguments.";
+  text = codes "Level *must*: interpreters take other numbers, or stop at the call.\n\nOtherSubr 0 takes three arguments, 1 and 2 take none, and 3 takes one. With another count it isn't executed as what it is: here it ends no\nflex.\n\n    A: 0 500 hsbw 0 0 callothersubr endchar\n    1: glyph A - 6 O03 wrong count for this OtherSubr\n       OtherSubr 0 with no arguments; it takes 3\n\nCure: write the count that belongs to the OtherSubr, and so many arguments.";
 }
 
 unfoldable pub page_60 : PageValue

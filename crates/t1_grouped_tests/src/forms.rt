@@ -285,10 +285,11 @@ fn shows_reasons_below(rt: HostRuntime) -> Result<(), Fail> {
 f.pfb: P01 drawing without a move \xc3\x97 2: A, C
    no move so far
 f.pfb: Z05 zones too near \xc3\x97 2: BlueValues
-   from 0 to 1 is 1; 3 is needed
+   from 0 to 1 is 1; 3 is needed; BlueFuzz 0 would do
 f.pfb: P02 path not closed \xc3\x97 2: B, C
    from 5 0 to 15 0
 f.pfb: GE02 tokens after the end \xc3\x97 1: A
+   closepath comes next
 f.pfb: P03 closepath without a path \xc3\x97 2: C
    nothing is drawn since step 6
 ";
@@ -335,7 +336,7 @@ fn writes_reasons_in_commands(rt: HostRuntime) -> Result<(), Fail> {
     let lines = b"\
 ::error file=f.pfb,line=1,title=P01 drawing without a move::P01 drawing without a move \xc3\x97 2: A, B%0Ano move so far
 ::warning file=f.pfb,line=1,title=P02 path not closed::P02 path not closed \xc3\x97 1: A%0Afrom 10 0 to 20 0
-::notice file=f.pfb,line=1,title=GE02 tokens after the end::GE02 tokens after the end \xc3\x97 1: B
+::notice file=f.pfb,line=1,title=GE02 tokens after the end::GE02 tokens after the end \xc3\x97 1: B%0Aclosepath comes next
 ::notice file=f.pfb,line=1,title=P03 closepath without a path::P03 closepath without a path \xc3\x97 2: A%0Anothing is drawn since step 6
 ::warning file=g.pfb,line=1,title=P02 path not closed::P02 path not closed \xc3\x97 1: B%0Afrom 5 0 to 15 0
 ::error file=cut.pfa,line=1,title=E04 no eexec::refused: E04 no eexec

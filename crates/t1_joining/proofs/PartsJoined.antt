@@ -1,5 +1,5 @@
 -- Parts that are joined, one after another.
-use Rattle.std.proofs.Common.{◌≡◌, ◌+◌, ◌<◌, ◌++◌, ◌∷◌, ◌∙◌, ℕ, Bool, List, [], map, replicate, Option, None, Result, Ok, Err, IfOk, refl, sym, ap, ap₂, subst, append-nil, add-one, arith}
+use Rattle.std.proofs.Common.{◌≡◌, ◌+◌, ◌<◌, ◌++◌, ◌∷◌, ◌∙◌, ℕ, Bool, List, [], map, replicate, None, Result, Ok, Err, IfOk, refl, sym, ap, ap₂, subst, append-nil, add-one, arith}
 use Rattle.std.proofs.lemmas.Grind.{flat_map-append}
 use Rattle.std.specs.List.{AllZip, flat_map}
 use Rattle.t1_batch.specs.Layouts.{LayoutValue}

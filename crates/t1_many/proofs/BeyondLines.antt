@@ -2,7 +2,6 @@
 use Rattle.std.proofs.Common.{◌≡◌, ℕ, nat_lt, List, [], ◌∷◌, ◌++◌, Option, Result, cond, map, refl, ap, subst, ◌∙◌}
 use Rattle.std.specs.List.{filter}
 use Rattle.std.specs.Result.{IfOk}
-use Rattle.t1_font.specs.Fonts.{FontValue}
 use Rattle.t1_many.specs.Beyond.{HandsBeyond, verdict_beyond, verdict_of}
 use Rattle.t1_many.specs.Groups.{CountsReport, found_in, group_of, told_faults}
 use Rattle.t1_many.specs.Handing.{Handed, HandsOn, HandsReport, done, found_by, found_with, is_told, line, lines_by, lost_of}

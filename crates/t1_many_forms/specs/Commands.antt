@@ -1,8 +1,8 @@
 -- Commands of a workflow of GitHub: what is written of what is reported.
-use Rattle.std.specs.Prelude.{Option, None, Some}
+use Rattle.std.specs.Prelude.{Option}
 use Rattle.t1_forms.specs.Commands.{command_of}
 use Rattle.t1_forms.specs.Tellings.{ToldValue, what_spelled}
-use Rattle.t1_io.specs.Devices.{PutFailed, SinkState, Wrote}
+use Rattle.t1_io.specs.Devices.{SinkState}
 use Rattle.t1_many.specs.declared.recipient.Lost.{Lost}
 use Rattle.t1_many.specs.Plain.{IsPut}
 

@@ -1,5 +1,5 @@
 -- The faults of the glyph: where their marks are, and their lines.
-use Rattle.std.specs.Prelude.{◌≡◌, ℕ, zero, suc, ◌+◌, ◌-◌, ◌&&◌, min, nat_le, if◌then◌else◌, Bool, Option, None, Some, List, [], ◌∷◌, ◌++◌, codes, take, unwrap_or}
+use Rattle.std.specs.Prelude.{◌≡◌, ℕ, ◌+◌, ◌-◌, ◌&&◌, min, nat_le, if◌then◌else◌, Bool, Option, None, Some, List, [], ◌∷◌, ◌++◌, codes, take, unwrap_or}
 use Rattle.std.specs.List.{count_by, flat_map}
 use Rattle.std.specs.Ordering.{int_eq}
 use Rattle.t1_char.specs.Editions.{limit_of}
@@ -11,7 +11,7 @@ use Rattle.t1_picture.specs.Drawings.{all_steps, texts_of}
 use Rattle.t1_picture.specs.Subjects.{Subject}
 use Rattle.t1_picture.specs.Texts.{legible_line}
 use Rattle.t1_reason_texts.specs.Texts.{reason_text, says_more}
-use Rattle.t1_reasons.specs.GlyphReasons.{reason_among}
+use Rattle.t1_reasons.specs.GlyphReasons.{glyph_reason}
 use Rattle.t1_reasons.specs.declared.reason.Reason.{Reason}
 use Rattle.t1_report.specs.Checked.{checked}
 use Rattle.t1_report.specs.Faults.{FaultValue}
@@ -21,7 +21,6 @@ use Rattle.t1_report.specs.Waivers.{Waiver, is_waived}
 use Rattle.t1_rules.specs.declared.rule.Rule.{Rule}
 use Rattle.t1_rules.specs.declared.step_rules.flex.Point.{Point}
 use Rattle.t1_rules.specs.Book.{number_of}
-use Rattle.t1_rules.specs.Components.{components_of}
 use Rattle.t1_rules.specs.StepRules.Flex.{current_point}
 
 -- The faults of the glyph with these waivers, in the order of the report.
@@ -73,9 +72,7 @@ marks_from s (Some mark) (fault ∷ faults) =
 
 -- Why a rule is broken at a step of the glyph, if it is.
 abbrev pub reason_in : Subject → Rule → ℕ → Option Reason
-reason_in s rule zero = None
-reason_in s rule (suc place) =
-    reason_among (limit_of s.edition) s.edition (components_of (limit_of s.edition) s.font) rule (steps_of s.font s.glyph) place
+reason_in s rule step = glyph_reason s.font s.edition s.glyph rule step
 
 abbrev pub reason_of : Subject → FaultValue → Option Reason
 reason_of s fault = reason_in s fault.rule fault.step

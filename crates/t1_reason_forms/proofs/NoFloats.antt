@@ -1,15 +1,16 @@
 -- No number of a reason is a float.
-use Rattle.std.proofs.Common.{◌≡◌, ℕ, List, Option, None, Some, false, refl}
-use Rattle.serde_json.specs.Data.{Data, Members, no_members, put}
+use Rattle.std.proofs.Common.{◌≡◌, ℕ, ℤ, pos, negsuc, List, Option, None, Some, false, refl}
+use Rattle.serde_json.specs.Data.{Data, no_members, number as of_number, put}
+use Rattle.serde_json.specs.Find.{of_integer}
 use Rattle.serde_json.specs.Written.{has_float, members_have_float}
 use Rattle.t1_font.specs.Fonts.{FontValue}
 use Rattle.t1_forms.proofs.Floats.{put_none}
-use Rattle.t1_reason_forms.specs.Members.{edges_data, found_data, found_members, one_member, point_data, reason_members, since_members, stem_data, three_members, two_members}
+use Rattle.t1_reason_forms.specs.Members.{edges_data, found_data, one_member, point_data, reason_members, since_members, stem_data, three_members, two_members}
 use Rattle.t1_reasons.specs.declared.reason.Edges.{Edges}
 use Rattle.t1_reasons.specs.declared.reason.Found.{Found}
 use Rattle.t1_reasons.specs.declared.reason.Found.TheVariants.{Absent, One, Other, Several}
 use Rattle.t1_reasons.specs.declared.reason.Reason.{Reason}
-use Rattle.t1_reasons.specs.declared.reason.Reason.TheVariants.{Argument, Arguments, Code, Codes, Count, Depth, Entry, Falling, Features, Form, Gap, Glyph, Glyphs, Ids, Kind, Limit, Miss, Nothing, Numbers, Open, Othersubr, Quotient, Sidebearings, Since, Stem, Stems, Subr, SubrEntry, Token, TooMany, Triple, Waiver, Width, Zone, Zones}
+use Rattle.t1_reasons.specs.declared.reason.Reason.TheVariants.{Argument, Arguments, Behind, Code, Codes, Count, Depth, Ending, Entry, Falling, Features, Form, Full, Gap, Glyph, Glyphs, Ids, Kind, Length, Limit, Miss, Nothing, Numbers, Open, Othersubr, Pairs, Quotient, Sidebearings, Since, Stem, Stems, Subr, SubrEntry, Token, TooMany, Triple, Waiver, Width, Zone, Zones}
 use Rattle.t1_rules.specs.declared.step_rules.flex.Point.{Point}
 use Rattle.t1_rules.specs.declared.step_rules.stems.Stem.{Stem as OneStem}
 
@@ -43,6 +44,10 @@ found_none (One number) = two_none _ _ _ _ refl refl
 found_none (Several count) = two_none _ _ _ _ refl refl
 found_none Other = one_none _ _ refl
 
+integer_none : (z : ℤ) → has_float (of_number (of_integer z)) ≡ false
+integer_none (pos n) = refl
+integer_none (negsuc n) = refl
+
 since_none : (step : Option ℕ) → members_have_float (since_members step) ≡ false
 since_none None = refl
 since_none (Some step) = one_none _ _ refl
@@ -52,6 +57,11 @@ unfolding reason_members
 no_floats font Nothing = refl
 no_floats font (Waiver unused) = refl
 no_floats font (Count command taken there) = three_none _ _ _ _ _ _ refl refl refl
+no_floats font (Full token there) = two_none _ _ _ _ refl refl
+no_floats font (Length bytes len_iv) = two_none _ _ _ _ refl (integer_none len_iv)
+no_floats font (Ending subr) = one_none _ _ refl
+no_floats font (Behind next) = one_none _ _ refl
+no_floats font (Pairs moves points ends) = three_none _ _ _ _ _ _ refl refl refl
 no_floats font (Argument place number) = two_none _ _ _ _ refl refl
 no_floats font (Quotient dividend divisor) = two_none _ _ _ _ refl refl
 no_floats font (Depth calls) = one_none _ _ refl

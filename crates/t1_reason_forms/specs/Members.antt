@@ -1,6 +1,7 @@
 -- The members that tell a reason: numbers of charstrings and dictionaries are exact decimals, as strings; counts are numbers.
-use Rattle.std.specs.Prelude.{ℕ, ℤ, Bool, Option, Some, None, List, codes}
+use Rattle.std.specs.Prelude.{ℕ, ℤ, Option, Some, None, List, codes}
 use Rattle.serde_json.specs.Data.{Data, Members, boolean, number as of_number, unsigned, string, object, no_members, put}
+use Rattle.serde_json.specs.Find.{of_integer}
 use Rattle.t1_char.specs.Commands.{name_of}
 use Rattle.t1_decimals.specs.Decimals.{coordinate_text}
 use Rattle.t1_font.specs.declared.encoding.Encoding.{Encoding}
@@ -13,7 +14,7 @@ use Rattle.t1_reasons.specs.declared.reason.EntryKind.TheVariants.{Number as One
 use Rattle.t1_reasons.specs.declared.reason.Found.{Found}
 use Rattle.t1_reasons.specs.declared.reason.Found.TheVariants.{Absent, One, Other, Several}
 use Rattle.t1_reasons.specs.declared.reason.Reason.{Reason}
-use Rattle.t1_reasons.specs.declared.reason.Reason.TheVariants.{Argument, Arguments, Code, Codes, Count, Depth, Entry, Falling, Features, Form, Gap, Glyph, Glyphs, Ids, Kind, Limit, Miss, Nothing, Numbers, Open, Othersubr, Quotient, Sidebearings, Since, Stem, Stems, Subr, SubrEntry, Token, TooMany, Triple, Waiver, Width, Zone, Zones}
+use Rattle.t1_reasons.specs.declared.reason.Reason.TheVariants.{Argument, Arguments, Behind, Code, Codes, Count, Depth, Ending, Entry, Falling, Features, Form, Full, Gap, Glyph, Glyphs, Ids, Kind, Length, Limit, Miss, Nothing, Numbers, Open, Othersubr, Pairs, Quotient, Sidebearings, Since, Stem, Stems, Subr, SubrEntry, Token, TooMany, Triple, Waiver, Width, Zone, Zones}
 use Rattle.t1_reason_texts.specs.declared.wide.Count.TheVariants.{Value}
 use Rattle.t1_reason_texts.specs.Decimals.{wide_text}
 use Rattle.t1_reason_texts.specs.FontTexts.{encoded_name, value_text}
@@ -88,6 +89,14 @@ reason_members font Nothing = no_members
 reason_members font (Waiver unused) = no_members
 reason_members font (Count command taken there) =
     three_members (codes "command") (string (name_of command)) (codes "taken") (count_data taken) (codes "there") (count_data there)
+reason_members font (Full token there) =
+    two_members (codes "token") (string (token_text token)) (codes "there") (count_data there)
+reason_members font (Length bytes len_iv) =
+    two_members (codes "bytes") (count_data bytes) (codes "lenIV") (of_number (of_integer len_iv))
+reason_members font (Ending subr) = one_member (codes "subr") (count_data subr)
+reason_members font (Behind next) = one_member (codes "next") (string (token_text next))
+reason_members font (Pairs moves points ends) =
+    three_members (codes "moves") (count_data moves) (codes "points") (count_data points) (codes "ends") (boolean ends)
 reason_members font (Argument place number) = two_members (codes "place") (count_data place) (codes "number") (coordinate_data number)
 reason_members font (Quotient dividend divisor) =
     two_members (codes "dividend") (coordinate_data dividend) (codes "divisor") (coordinate_data divisor)

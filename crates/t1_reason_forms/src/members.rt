@@ -1,6 +1,7 @@
 //! The members that tell a reason: numbers of charstrings and dictionaries are exact decimals, as strings; counts are numbers.
 
-ghost use Rattle.serde_json.specs.Data.{boolean, no_members, object, string};
+ghost use Rattle.serde_json.specs.Data.{boolean, no_members, number as of_number, object, string};
+ghost use Rattle.serde_json.specs.Find.{of_integer};
 ghost use Rattle.serde_json.specs.View.{members_view, view};
 ghost use Rattle.std.specs.Prelude.{◌≡◌, IfOk, codes};
 ghost use Rattle.t1_char.specs.Commands.{name_of};
@@ -222,6 +223,45 @@ fn argument_members(alloc: Global, place: u8, number: i64) -> Result<Members, Al
     let first = Value::from(place);
     let second = coordinate_value(alloc, number)?;
     two_members(alloc, "place", first, "number", second)
+}
+
+fn full_members(alloc: Global, token: CharToken, there: u8) -> Result<Members, AllocError>
+    ensures { IfOk result (λ m. members_view m.entries ≡ two_members (codes "token") (string (token_text token)) (codes "there") (count_data there)) }
+{
+    let first = token_value(alloc, token)?;
+    let second = Value::from(there);
+    two_members(alloc, "token", first, "there", second)
+}
+
+fn length_members(alloc: Global, bytes: usize, len_iv: i8) -> Result<Members, AllocError>
+    ensures { IfOk result (λ m. members_view m.entries ≡ two_members (codes "bytes") (count_data bytes) (codes "lenIV") (of_number (of_integer len_iv))) }
+{
+    let first = Value::from(bytes);
+    let second = Value::from(len_iv);
+    two_members(alloc, "bytes", first, "lenIV", second)
+}
+
+fn ending_members(alloc: Global, subr: u32) -> Result<Members, AllocError>
+    ensures { IfOk result (λ m. members_view m.entries ≡ one_member (codes "subr") (count_data subr)) }
+{
+    let first = Value::from(subr);
+    one_member(alloc, "subr", first)
+}
+
+fn behind_members(alloc: Global, next: CharToken) -> Result<Members, AllocError>
+    ensures { IfOk result (λ m. members_view m.entries ≡ one_member (codes "next") (string (token_text next))) }
+{
+    let first = token_value(alloc, next)?;
+    one_member(alloc, "next", first)
+}
+
+fn pairs_members(alloc: Global, moves: u32, points: u32, ends: bool) -> Result<Members, AllocError>
+    ensures { IfOk result (λ m. members_view m.entries ≡ three_members (codes "moves") (count_data moves) (codes "points") (count_data points) (codes "ends") (boolean ends)) }
+{
+    let first = Value::from(moves);
+    let second = Value::from(points);
+    let third = Value::Bool(ends);
+    three_members(alloc, "moves", first, "points", second, "ends", third)
 }
 
 fn quotient_members(alloc: Global, dividend: i64, divisor: i64) -> Result<Members, AllocError>
@@ -488,6 +528,15 @@ pub fn reason_members(
             taken,
             there,
         } => count_members(alloc, command, taken, there),
+        Reason::Full { token, there } => full_members(alloc, token, there),
+        Reason::Length { bytes, len_iv } => length_members(alloc, bytes, len_iv),
+        Reason::Ending { subr } => ending_members(alloc, subr),
+        Reason::Behind { next } => behind_members(alloc, next),
+        Reason::Pairs {
+            moves,
+            points,
+            ends,
+        } => pairs_members(alloc, moves, points, ends),
         Reason::Argument { place, number } => argument_members(alloc, place, number),
         Reason::Quotient { dividend, divisor } => quotient_members(alloc, dividend, divisor),
         Reason::Depth { calls } => depth_members(alloc, calls),

@@ -1,5 +1,6 @@
 -- No text has a byte below 32 or a colon.
 use Rattle.std.proofs.Common.{◌≡◌, ◌==◌, ◌∙◌, ◌++◌, not, if◌then◌else◌, ℕ, ℤ, Bool, true, false, Option, Some, None, List, [], ◌∷◌, nat_lt, refl, codes}
+use Rattle.std.specs.Int.{is_negative}
 use Rattle.std.specs.List.{list_all}
 use Rattle.std.proofs.lemmas.List.Folds.{list_all-append}
 use Rattle.t1_char.specs.declared.command.Command.{Command as Commands}
@@ -14,28 +15,38 @@ use Rattle.t1_reasons.specs.declared.reason.EntryKind.{EntryKind}
 use Rattle.t1_reasons.specs.declared.reason.EntryKind.TheVariants.{Number as OneNumber, Numbers as ManyNumbers}
 use Rattle.t1_reasons.specs.declared.reason.Found.{Found}
 use Rattle.t1_reasons.specs.declared.reason.Found.TheVariants.{Absent, One, Other, Several}
-use Rattle.t1_reasons.specs.declared.reason.Reason.TheVariants.{Argument, Arguments, Code, Codes, Count, Depth, Entry, Falling, Features, Form, Gap, Glyph, Glyphs, Ids, Kind, Limit, Miss, Nothing, Numbers, Open, Othersubr, Quotient, Sidebearings, Since, Stem, Stems, Subr, SubrEntry, Token, TooMany, Triple, Waiver, Width, Zone, Zones}
+use Rattle.t1_reasons.specs.declared.reason.Reason.TheVariants.{Argument, Arguments, Behind, Code, Codes, Count, Depth, Ending, Entry, Falling, Features, Form, Full, Gap, Glyph, Glyphs, Ids, Kind, Length, Limit, Miss, Nothing, Numbers, Open, Othersubr, Pairs, Quotient, Sidebearings, Since, Stem, Stems, Subr, SubrEntry, Token, TooMany, Triple, Waiver, Width, Zone, Zones}
 use Rattle.t1_reasons.specs.declared.reason.SetStem.{SetStem}
+use Rattle.t1_reasons.specs.Remedies.{fuzz_for_all, fuzz_for_both, scale_for_all}
 use Rattle.t1_reasons.specs.declared.waivers.Unused.{Unused}
 use Rattle.t1_reasons.specs.declared.waivers.Unused.TheVariants.{NoGlyph, Unbroken}
 use Rattle.t1_rules.specs.declared.rule.Rule.{Rule}
 use Rattle.t1_rules.specs.declared.step_rules.flex.Point.{Point}
 use Rattle.t1_rules.specs.declared.step_rules.stems.Stem.{Stem as OneStem}
-use Rattle.t1_rules.specs.declared.rule.Rule.TheVariants.{F03, K01, K03, W02}
+use Rattle.t1_rules.specs.declared.rule.Rule.TheVariants.{F03, K01, K03, O03, W02, X02}
 use Rattle.t1_decimals.specs.Decimals.{point_text}
 use Rattle.t1_reason_texts.specs.FontTexts.{code_names_text, counts_numbers, encoded_name, entry_name, entry_needed, entry_text, features_text, form_text, found_text, glyphs_text, ids_text, kind_text, past_words, several_text, subr_entry_text, twice_words, two_features_text, unused_text, value_text, wanted_words}
 use Rattle.t1_reason_texts.specs.Laws.{AreOneLine, is_plain}
 use Rattle.t1_reason_texts.specs.SeacTexts.{both_text, code_text, is_meant, meant_text, name_of_code, name_words, named_code_text, sidebearings_text}
-use Rattle.t1_reason_texts.specs.StepTexts.{argument_text, arguments_there_text, bound_words, call_text, count_text, depth_text, is_there, limit_text, middles_text, miss_text, off_words, open_text, or_more, quotient_text, since_after, since_before, since_none, since_text, span_text, stems_text, subr_text, takes_words, there_text, token_text, triple_text, widths_text}
+use Rattle.t1_reason_texts.specs.StepTexts.{argument_text, arguments_there_text, behind_text, bound_words, call_text, call_words, comes_next, count_text, depth_text, ending_text, full_text, is_there, length_text, limit_text, middle_text, middles_text, miss_text, needed_pairs, off_words, open_text, or_more, pairs_text, part_words, quotient_text, since_after, since_before, since_none, since_text, span_text, stems_of_three, stems_text, subr_text, takes_words, there_text, token_text, triple_text, widths_text}
 use Rattle.t1_reason_texts.specs.Texts.{reason_text}
-use Rattle.t1_reason_texts.specs.Words.{are_text, arguments_text, numbers_text}
-use Rattle.t1_reason_texts.specs.ZoneTexts.{above_text, apart_by, below_one, below_text, edges_text, falling_text, gap_text, height_text, meets_text, needed_text, too_many_text, width_text, zone_text, zones_text}
-use Rattle.t1_reason_texts.proofs.PlainParts.{either_same, plain_by, plain_command, plain_decimal, plain_either, plain_name, plain_signed, plain_wide}
+use Rattle.t1_reason_texts.specs.Words.{are_text, arguments_text, bytes_text, moves_text, numbers_text, points_text}
+use Rattle.t1_reason_texts.specs.ZoneTexts.{above_text, apart_by, below_one, below_text, does_words, edges_text, entry_does, falling_text, gap_text, height_text, meets_text, needed_text, too_many_text, width_text, zone_text, zones_text}
+use Rattle.t1_reason_texts.proofs.PlainParts.{append, either_same, plain_by, plain_command, plain_decimal, plain_either, plain_name, plain_signed, plain_wide}
 
 -- ---- words
 
 plain_numbers : (count : ℕ) → list_all is_plain (numbers_text count) ≡ true
 plain_numbers count = simp (plain_either, list_all-append is_plain, plain_decimal, either_same)
+
+plain_bytes : (count : ℕ) → list_all is_plain (bytes_text count) ≡ true
+plain_bytes count = simp (plain_either, list_all-append is_plain, plain_decimal, either_same)
+
+plain_moves : (count : ℕ) → list_all is_plain (moves_text count) ≡ true
+plain_moves count = simp (plain_either, list_all-append is_plain, plain_decimal, either_same)
+
+plain_points : (count : ℕ) → list_all is_plain (points_text count) ≡ true
+plain_points count = simp (plain_either, list_all-append is_plain, plain_decimal, either_same)
 
 plain_are : (count : ℕ) → list_all is_plain (are_text count) ≡ true
 plain_are count = simp (plain_either, list_all-append is_plain, plain_decimal, either_same)
@@ -61,6 +72,12 @@ plain_argument place number = simp (list_all-append is_plain, plain_decimal, pla
 plain_quotient : (dividend divisor : ℤ) → list_all is_plain (quotient_text dividend divisor) ≡ true
 plain_quotient dividend divisor = simp (list_all-append is_plain, plain_by)
 
+plain_ending : (subr : ℕ) → list_all is_plain (ending_text subr) ≡ true
+plain_ending subr = simp (list_all-append is_plain, plain_decimal)
+
+plain_length : (bytes : ℕ) (len_iv : ℤ) → list_all is_plain (length_text bytes len_iv) ≡ true
+plain_length bytes len_iv = simp (list_all-append is_plain, plain_bytes, plain_signed)
+
 plain_subr : (number : ℤ) (found : Bool) → list_all is_plain (subr_text number found) ≡ true
 plain_subr number true = plain_by 65536 number
 plain_subr number false = plain_by 65536 number
@@ -83,6 +100,23 @@ plain_is_there _ = refl
 
 plain_there : (rule : Rule) (token : CharToken) → list_all is_plain (there_text rule token) ≡ true
 plain_there rule token = simp (list_all-append is_plain, plain_token, plain_either, plain_is_there, either_same)
+
+plain_full : (token : CharToken) (there : ℕ) → list_all is_plain (full_text token there) ≡ true
+plain_full token there = simp (list_all-append is_plain, plain_token, plain_numbers)
+
+plain_comes : (token : CharToken) → list_all is_plain (comes_next token) ≡ true
+plain_comes (Unknown12 byte) = refl
+plain_comes _ = refl
+
+plain_behind : (token : CharToken) → list_all is_plain (behind_text token) ≡ true
+plain_behind token = simp (list_all-append is_plain, plain_token, plain_comes)
+
+plain_needed_pairs : (ends : Bool) → list_all is_plain (needed_pairs ends) ≡ true
+plain_needed_pairs true = refl
+plain_needed_pairs false = refl
+
+plain_pairs : (moves points : ℕ) (ends : Bool) → list_all is_plain (pairs_text moves points ends) ≡ true
+plain_pairs moves points ends = simp (list_all-append is_plain, plain_moves, plain_points, plain_needed_pairs)
 
 plain_before : (rule : Rule) → list_all is_plain (since_before rule) ≡ true
 plain_before W02 = refl
@@ -127,15 +161,30 @@ plain_widths one two three = simp (list_all-append is_plain, plain_by)
 plain_off : (one two three : OneStem) → list_all is_plain (off_words one two three) ≡ true
 plain_off one two three = simp (plain_either, either_same)
 
+plain_three : (one two three : OneStem) → list_all is_plain (stems_of_three one two three) ≡ true
+unfolding stems_of_three
+plain_three one two three = simp (list_all-append is_plain, plain_widths, plain_middles, plain_off)
+
+plain_middle : (one three : OneStem) → list_all is_plain (middle_text one three) ≡ true
+unfolding middle_text
+plain_middle one three = simp (list_all-append is_plain, plain_wide)
+
 plain_triple : (one two three : OneStem) → list_all is_plain (triple_text one two three) ≡ true
-plain_triple one two three = simp (list_all-append is_plain, plain_widths, plain_middles, plain_off)
+plain_triple one two three = simp (list_all-append is_plain, plain_three, plain_either, plain_middle, either_same)
 
 plain_takes : (number : ℤ) → list_all is_plain (takes_words number) ≡ true
 plain_takes number = simp (plain_either, either_same)
 
+plain_part : (number : ℤ) → list_all is_plain (part_words number) ≡ true
+plain_part number = simp (plain_either, either_same)
+
+plain_call_words : (rule : Rule) (number : ℤ) → list_all is_plain (call_words rule number) ≡ true
+plain_call_words O03 number = plain_takes number
+plain_call_words X02 number = plain_part number
+plain_call_words _ number = refl
+
 plain_call : (rule : Rule) (number count : ℤ) → list_all is_plain (call_text rule number count) ≡ true
-plain_call rule number count =
-    simp (list_all-append is_plain, plain_by, plain_arguments, plain_either, plain_takes, either_same)
+plain_call rule number count = simp (list_all-append is_plain, plain_by, plain_arguments, plain_call_words)
 
 plain_arguments_there : (count : ℤ) (there : ℕ) → list_all is_plain (arguments_there_text count there) ≡ true
 plain_arguments_there count there = simp (list_all-append is_plain, plain_by, plain_are)
@@ -297,6 +346,18 @@ plain_below_one = refl
 plain_zone : (bottom top scale : ℤ) → list_all is_plain (zone_text bottom top scale) ≡ true
 plain_zone bottom top scale = simp (list_all-append is_plain, plain_by, plain_height, plain_below_one)
 
+plain_entry_does : (entry : List ℕ) → list_all is_plain entry ≡ true → (number : ℤ) → list_all is_plain (entry_does entry number) ≡ true
+unfolding entry_does
+plain_entry_does entry is number = simp (list_all-append is_plain, is, plain_by)
+
+plain_does : (entry : List ℕ) → list_all is_plain entry ≡ true → (number : Option ℤ) → list_all is_plain (does_words entry number) ≡ true
+plain_does entry is None = refl
+plain_does entry is (Some number) = go (is_negative number)
+  where
+    go : (b : Bool) → list_all is_plain (if b then [] else entry_does entry number) ≡ true
+    go true = refl
+    go false = plain_entry_does entry is number
+
 plain_width : (width nearest : ℤ) → list_all is_plain (width_text width nearest) ≡ true
 plain_width width nearest = simp (list_all-append is_plain, plain_by)
 
@@ -312,6 +373,11 @@ pub are_one_line : AreOneLine
 unfolding reason_text
 are_one_line font rule Nothing = refl
 are_one_line font rule (Count command taken there) = plain_count command taken there
+are_one_line font rule (Full token there) = plain_full token there
+are_one_line font rule (Length bytes len_iv) = plain_length bytes len_iv
+are_one_line font rule (Ending subr) = plain_ending subr
+are_one_line font rule (Behind next) = plain_behind next
+are_one_line font rule (Pairs moves points ends) = plain_pairs moves points ends
 are_one_line font rule (Argument place number) = plain_argument place number
 are_one_line font rule (Quotient dividend divisor) = plain_quotient dividend divisor
 are_one_line font rule (Depth calls) = plain_depth calls
@@ -340,8 +406,11 @@ are_one_line font rule (Numbers count) = plain_numbers count
 are_one_line font rule (Glyph glyph) = plain_name (glyph_name font glyph)
 are_one_line font rule (Code code) = plain_code_names code (encoded_name font code)
 are_one_line font rule (Falling before number) = plain_falling before number
-are_one_line font rule (Gap top bottom distance) = plain_gap top bottom distance
-are_one_line font rule (Zones own other distance) = plain_zones own other distance
-are_one_line font rule (Zone bottom top scale) = plain_zone bottom top scale
+are_one_line font rule (Gap top bottom distance) =
+    append (gap_text top bottom distance) _ (plain_gap top bottom distance) (plain_does (codes "BlueFuzz") refl (fuzz_for_all font))
+are_one_line font rule (Zones own other distance) =
+    append (zones_text own other distance) _ (plain_zones own other distance) (plain_does (codes "BlueFuzz") refl (fuzz_for_both font))
+are_one_line font rule (Zone bottom top scale) =
+    append (zone_text bottom top scale) _ (plain_zone bottom top scale) (plain_does (codes "BlueScale") refl (scale_for_all font))
 are_one_line font rule (Width width nearest) = plain_width width nearest
 are_one_line font rule (Waiver unused) = plain_unused unused

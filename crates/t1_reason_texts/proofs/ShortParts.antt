@@ -1,5 +1,5 @@
 -- The parts of texts are short.
-use Rattle.std.proofs.Common.{◌≡◌, ◌<◌, ◌≤◌, ◌+◌, ◌-◌, ◌*◌, ◌/◌, ◌%◌, ◌^◌, ◌==◌, ◌+ℤ◌, if◌then◌else◌, ℕ, zero, suc, ℤ, pos, negsuc, Bool, true, false, List, [], ◌∷◌, length, length-append, nat_lt, refl, inl, inr, arith, unsigned_abs, decimal}
+use Rattle.std.proofs.Common.{◌≡◌, ◌<◌, ◌≤◌, ◌+◌, ◌-◌, ◌*◌, ◌/◌, ◌%◌, ◌^◌, ◌==◌, ◌+ℤ◌, ◌-ℤ◌, if◌then◌else◌, ℕ, zero, suc, ℤ, pos, negsuc, Bool, true, false, List, [], ◌∷◌, length, length-append, nat_lt, refl, inl, inr, arith, unsigned_abs, decimal}
 use Rattle.std.specs.Fmt.{digits, digits_onto, digit_glyph, sign_text, signed_decimal}
 use Rattle.std.proofs.lemmas.Bool.{cases_Bool, ltb-false}
 use Rattle.std.specs.Int.{is_negative}
@@ -88,11 +88,23 @@ short_long_value z small = by_whole 1000000000 20 z (omega arith) (short_long (u
 pub short_int_coordinate : (z : ℤ) → unsigned_abs z ≤ 2 ^ 31 → length (decimal_by 65536 z) ≤ 28
 short_int_coordinate z small = by_whole 65536 10 z (omega arith) (short_int (unsigned_abs z / 65536) (omega (arith, small)))
 
-pub short_wide : (one : ℕ) (z : ℤ) → 0 < one → length (wide_by one z) ≤ 84
+wide_whole : (one most : ℕ) (z : ℤ) → 0 < one → length (decimal (unsigned_abs z / one)) ≤ most → length (wide_by one z) ≤ most + 20
 unfolding wide_by
-short_wide one z some =
+wide_whole one most z some whole =
     let part = short_wide_fraction one (unsigned_abs z % one) some (mod-lt (unsigned_abs z) some) in
-    simp length-append (omega (arith, short_sign (is_negative z), part, short_decimal (unsigned_abs z / one)))
+    simp length-append (omega (arith, short_sign (is_negative z), part, whole))
+
+pub short_wide : (one : ℕ) (z : ℤ) → 0 < one → length (wide_by one z) ≤ 84
+short_wide one z some = wide_whole one 64 z some (short_decimal (unsigned_abs z / one))
+
+pub short_long_wide : (z : ℤ) → unsigned_abs z ≤ 2 ^ 65 → length (wide_by 1000000000 z) ≤ 40
+short_long_wide z small = wide_whole 1000000000 20 z (omega arith) (short_long (unsigned_abs z / 1000000000) (omega (arith, small)))
+
+pub short_middle : (z : ℤ) → unsigned_abs z ≤ 2 ^ 64 → length (wide_by 131072 z) ≤ 40
+short_middle z small = wide_whole 131072 20 z (omega arith) (short_long (unsigned_abs z / 131072) (omega (arith, small)))
+
+pub short_mean : (z : ℤ) → unsigned_abs z ≤ 2 ^ 64 → length (wide_by 262144 z) ≤ 40
+short_mean z small = wide_whole 262144 20 z (omega arith) (short_long (unsigned_abs z / 262144) (omega (arith, small)))
 
 pub short_command : (command : Command) → length (name_of command) ≤ 15
 short_command Hstem = omega arith
@@ -126,3 +138,14 @@ abs_sum (pos a) (pos b) = omega arith
 abs_sum (pos a) (negsuc b) = grind (arith, ints)
 abs_sum (negsuc a) (pos b) = grind (arith, ints)
 abs_sum (negsuc a) (negsuc b) = omega arith
+
+abs_less : (b : ℤ) → unsigned_abs (pos 0 -ℤ b) ≡ unsigned_abs b
+abs_less (pos zero) = refl
+abs_less (pos (suc b)) = grind (arith, ints)
+abs_less (negsuc b) = grind (arith, ints)
+
+-- So is their difference.
+pub abs_difference : (a b : ℤ) → unsigned_abs (a -ℤ b) ≤ unsigned_abs a + unsigned_abs b
+abs_difference a b =
+    let turned : a -ℤ b ≡ a +ℤ (pos 0 -ℤ b) = grind (arith, ints) in
+    rw turned (omega (arith, abs_sum a (pos 0 -ℤ b), abs_less b))

@@ -1,5 +1,8 @@
 -- No text is longer than 400 bytes.
-use Rattle.std.proofs.Common.{◌≤◌, ◌^◌, ◌==◌, ◌++◌, ◌-ℤ◌, ◌+ℤ◌, ◌*ℤ◌, not, if◌then◌else◌, int_le, int_lt, ℕ, ℤ, pos, Bool, true, false, Option, Some, None, List, [], ◌∷◌, length, length-append, nat_lt, arith, codes, unsigned_abs, decimal}
+use Rattle.std.proofs.Common.{◌≤◌, ◌^◌, ◌==◌, ◌++◌, ◌-ℤ◌, ◌+ℤ◌, ◌*ℤ◌, ◌≡◌, not, if◌then◌else◌, int_le, int_lt, ℕ, ℤ, pos, Bool, true, false, Option, Some, None, List, [], ◌∷◌, length, length-append, nat_lt, arith, codes, unsigned_abs, decimal}
+use Rattle.std.specs.Int.{is_negative}
+use Rattle.std.specs.Ordering.{int_eq}
+use Rattle.std.proofs.lemmas.Int.{ints}
 use Rattle.t1_char.specs.declared.command.Command.{Command as Commands}
 use Rattle.t1_char.specs.declared.command.Command.TheVariants.{Callothersubr}
 use Rattle.t1_char.specs.declared.token.CharToken.{CharToken}
@@ -12,32 +15,42 @@ use Rattle.t1_reasons.specs.declared.reason.EntryKind.{EntryKind}
 use Rattle.t1_reasons.specs.declared.reason.EntryKind.TheVariants.{Number as OneNumber, Numbers as ManyNumbers}
 use Rattle.t1_reasons.specs.declared.reason.Found.{Found}
 use Rattle.t1_reasons.specs.declared.reason.Found.TheVariants.{Absent, One, Other, Several}
-use Rattle.t1_reasons.specs.declared.reason.Reason.TheVariants.{Argument, Arguments, Code, Codes, Count, Depth, Entry, Falling, Features, Form, Gap, Glyph, Glyphs, Ids, Kind, Limit, Miss, Nothing, Numbers, Open, Othersubr, Quotient, Sidebearings, Since, Stem, Stems, Subr, SubrEntry, Token, TooMany, Triple, Waiver, Width, Zone, Zones}
+use Rattle.t1_reasons.specs.declared.reason.Reason.TheVariants.{Argument, Arguments, Behind, Code, Codes, Count, Depth, Ending, Entry, Falling, Features, Form, Full, Gap, Glyph, Glyphs, Ids, Kind, Length, Limit, Miss, Nothing, Numbers, Open, Othersubr, Pairs, Quotient, Sidebearings, Since, Stem, Stems, Subr, SubrEntry, Token, TooMany, Triple, Waiver, Width, Zone, Zones}
 use Rattle.t1_reasons.specs.declared.reason.SetStem.{SetStem}
+use Rattle.t1_reasons.specs.Remedies.{fuzz_for_all, fuzz_for_both, scale_for_all}
 use Rattle.t1_reasons.specs.declared.waivers.Unused.{Unused}
 use Rattle.t1_reasons.specs.declared.waivers.Unused.TheVariants.{NoGlyph, Unbroken}
 use Rattle.t1_rules.specs.declared.rule.Rule.{Rule}
 use Rattle.t1_rules.specs.declared.step_rules.flex.Point.{Point}
 use Rattle.t1_rules.specs.declared.step_rules.stems.Stem.{Stem as OneStem}
-use Rattle.t1_rules.specs.declared.rule.Rule.TheVariants.{F03, K01, K03, W02}
+use Rattle.t1_rules.specs.declared.rule.Rule.TheVariants.{F03, K01, K03, O03, W02, X02}
 use Rattle.t1_decimals.specs.Decimals.{decimal_by, point_text}
 use Rattle.t1_reason_texts.specs.FontTexts.{code_names_text, counts_numbers, encoded_name, entry_name, entry_needed, entry_text, features_text, form_text, found_text, glyphs_text, ids_text, kind_text, past_words, subr_entry_text, twice_words, two_features_text, unused_text, value_text, wanted_words}
 use Rattle.t1_reason_texts.specs.declared.wide.Count.TheVariants.{Coordinate}
 use Rattle.t1_reason_texts.specs.Decimals.{wide_by, wide_text}
-use Rattle.t1_reason_texts.specs.Laws.{AreShort, IsOfTypesEdges, IsOfTypesStem}
+use Rattle.t1_reason_texts.specs.Laws.{AreShort, IsOfTypesDoes, IsOfTypesEdges, IsOfTypesStem, IsOfTypesZone}
 use Rattle.t1_reason_texts.specs.Names.{shown_name}
 use Rattle.t1_rules.specs.StepRules.Stems.{lower, twice_middle, upper}
 use Rattle.t1_reason_texts.specs.SeacTexts.{accent_text, both_text, code_text, is_meant, meant_text, name_of_code, name_words, named_code_text, sidebearings_text}
-use Rattle.t1_reason_texts.specs.StepTexts.{are_same_points, are_same_stems, argument_text, arguments_there_text, bound_words, count_text, depth_text, is_counted, is_there, limit_text, middles_text, miss_text, off_words, open_text, or_more, othersubr_text, pair_text, quotient_text, share, since_after, since_before, since_none, since_text, span_text, stems_text, subr_text, takes_words, there_text, token_text, triple_text, twins_text, widths_text}
+use Rattle.t1_reason_texts.specs.StepTexts.{are_same_points, are_same_stems, argument_text, arguments_there_text, behind_text, bound_words, call_text, call_words, comes_next, count_text, depth_text, ending_text, full_text, is_there, length_text, limit_text, middle_text, middle_words, middles_text, miss_text, needed_pairs, off_words, open_text, or_more, othersubr_text, pair_text, pairs_text, part_words, quotient_text, share, since_after, since_before, since_none, since_text, span_text, stems_of_three, stems_text, subr_text, takes_words, there_text, token_text, triple_text, twins_text, widths_text}
 use Rattle.t1_reason_texts.specs.Texts.{reason_text}
-use Rattle.t1_reason_texts.specs.Words.{are_text, arguments_text, numbers_text}
-use Rattle.t1_reason_texts.specs.ZoneTexts.{above_text, apart_by, apart_text, below_one, below_text, edges_text, falling_text, gap_text, height_text, meets_text, needed_text, too_many_text, width_text, zone_text, zones_text}
-use Rattle.t1_reason_texts.proofs.ShortParts.{abs_sum, length_either, short_by, short_command, short_coordinate, short_decimal, short_int_coordinate, short_long_value, short_name, short_signed, short_wide}
+use Rattle.t1_reason_texts.specs.Words.{are_text, arguments_text, bytes_text, moves_text, numbers_text, points_text}
+use Rattle.t1_reason_texts.specs.ZoneTexts.{above_text, apart_by, apart_text, below_one, below_text, does_words, edges_text, entry_does, falling_text, gap_text, height_text, meets_text, needed_text, too_many_text, width_text, zone_text, zones_text}
+use Rattle.t1_reason_texts.proofs.ShortParts.{abs_difference, abs_sum, length_either, short_by, short_command, short_coordinate, short_decimal, short_int_coordinate, short_long_value, short_long_wide, short_mean, short_middle, short_name, short_signed, short_wide}
 
 -- ---- words
 
 short_numbers : (count : ℕ) → length (numbers_text count) ≤ 72
 short_numbers count = simp (length_either, length-append) (grind (arith, short_decimal count))
+
+short_bytes : (count : ℕ) → length (bytes_text count) ≤ 70
+short_bytes count = simp (length_either, length-append) (grind (arith, short_decimal count))
+
+short_moves : (count : ℕ) → length (moves_text count) ≤ 70
+short_moves count = simp (length_either, length-append) (grind (arith, short_decimal count))
+
+short_points : (count : ℕ) → length (points_text count) ≤ 71
+short_points count = simp (length_either, length-append) (grind (arith, short_decimal count))
 
 short_are : (count : ℕ) → length (are_text count) ≤ 68
 short_are count = simp (length_either, length-append) (grind (arith, short_decimal count))
@@ -65,6 +78,12 @@ short_quotient : (dividend divisor : ℤ) → length (quotient_text dividend div
 short_quotient dividend divisor =
     simp length-append (omega (arith, short_by 65536 dividend (omega arith), short_by 65536 divisor (omega arith)))
 
+short_ending : (subr : ℕ) → length (ending_text subr) ≤ 400
+short_ending subr = simp length-append (omega (arith, short_decimal subr))
+
+short_length : (bytes : ℕ) (len_iv : ℤ) → length (length_text bytes len_iv) ≤ 400
+short_length bytes len_iv = simp length-append (omega (arith, short_bytes bytes, short_signed len_iv))
+
 short_subr : (number : ℤ) (found : Bool) → length (subr_text number found) ≤ 400
 short_subr number true = omega (arith, short_by 65536 number (omega arith))
 short_subr number false = omega (arith, short_by 65536 number (omega arith))
@@ -88,11 +107,29 @@ short_is_there _ = omega arith
 short_there : (rule : Rule) (token : CharToken) → length (there_text rule token) ≤ 400
 short_there rule token = simp (length_either, length-append) (grind (arith, short_token token, short_is_there token))
 
+short_full : (token : CharToken) (there : ℕ) → length (full_text token there) ≤ 400
+short_full token there = simp length-append (omega (arith, short_token token, short_numbers there))
+
+short_comes : (token : CharToken) → length (comes_next token) ≤ 11
+short_comes (Unknown12 byte) = omega arith
+short_comes _ = omega arith
+
+short_behind : (token : CharToken) → length (behind_text token) ≤ 400
+short_behind token = simp length-append (omega (arith, short_token token, short_comes token))
+
+short_needed_pairs : (ends : Bool) → length (needed_pairs ends) ≤ 46
+short_needed_pairs true = omega arith
+short_needed_pairs false = omega arith
+
+short_pairs : (moves points : ℕ) (ends : Bool) → length (pairs_text moves points ends) ≤ 400
+short_pairs moves points ends =
+    simp length-append (omega (arith, short_moves moves, short_points points, short_needed_pairs ends))
+
 short_before : (rule : Rule) → length (since_before rule) ≤ 29
 short_before W02 = omega arith
 short_before _ = omega arith
 
-short_after : (rule : Rule) → length (since_after rule) ≤ 7
+short_after : (rule : Rule) → length (since_after rule) ≤ 14
 short_after W02 = omega arith
 short_after _ = omega arith
 
@@ -159,14 +196,20 @@ short_stems : (own : OneStem) (other : SetStem) → IsOfTypesStem own → IsOfTy
 unfolding stems_text
 short_stems own other is_own is_other = short_stems_by (are_same_stems own other.stem) own other is_own is_other
 
-short_middles : (one two three : OneStem) → length (middles_text one two three) ≤ 254
+-- Twice the middle of a stem.
+abs_middle : (stem : OneStem) → IsOfTypesStem stem → unsigned_abs (twice_middle stem) ≤ 2 ^ 33
+abs_middle stem is =
+    let twice : pos 2 *ℤ stem.position ≡ stem.position +ℤ stem.position = grind (arith, ints) in
+    rw twice (omega (arith, abs_sum (stem.position +ℤ stem.position) stem.width, abs_sum stem.position stem.position, is.position, is.width))
+
+short_middles : (one two three : OneStem) → IsOfTypesStem one → IsOfTypesStem two → IsOfTypesStem three → length (middles_text one two three) ≤ 122
 unfolding middles_text
-short_middles one two three =
+short_middles one two three is_one is_two is_three =
     simp length-append (omega (
       arith,
-      short_wide 131072 (twice_middle one) (omega arith),
-      short_wide 131072 (twice_middle two) (omega arith),
-      short_wide 131072 (twice_middle three) (omega arith),
+      short_middle (twice_middle one) (omega (arith, abs_middle one is_one)),
+      short_middle (twice_middle two) (omega (arith, abs_middle two is_two)),
+      short_middle (twice_middle three) (omega (arith, abs_middle three is_three)),
     ))
 
 short_widths : (one two three : OneStem) → IsOfTypesStem one → IsOfTypesStem two → IsOfTypesStem three → length (widths_text one two three) ≤ 86
@@ -182,9 +225,35 @@ short_widths one two three is_one is_two is_three =
 short_off : (one two three : OneStem) → length (off_words one two three) ≤ 17
 short_off one two three = simp length_either (grind arith)
 
+short_three : (one two three : OneStem) → IsOfTypesStem one → IsOfTypesStem two → IsOfTypesStem three → length (stems_of_three one two three) ≤ 242
+unfolding stems_of_three
+short_three one two three is_one is_two is_three =
+    simp length-append (omega (
+      arith,
+      short_widths one two three is_one is_two is_three,
+      short_middles one two three is_one is_two is_three,
+      short_off one two three,
+    ))
+
+short_middle_text : (one three : OneStem) → IsOfTypesStem one → IsOfTypesStem three → length (middle_text one three) ≤ 58
+unfolding middle_text
+short_middle_text one three is_one is_three =
+    let both : unsigned_abs (twice_middle one +ℤ twice_middle three) ≤ 2 ^ 64 =
+    omega (arith, abs_sum (twice_middle one) (twice_middle three), abs_middle one is_one, abs_middle three is_three) in
+    simp length-append (omega (arith, short_mean (twice_middle one +ℤ twice_middle three) both))
+
+short_middle_words : (b : Bool) (one three : OneStem) → IsOfTypesStem one → IsOfTypesStem three → length (if b then middle_text one three else []) ≤ 58
+short_middle_words true one three is_one is_three = short_middle_text one three is_one is_three
+short_middle_words false one three is_one is_three = omega arith
+
 short_triple : (one two three : OneStem) → IsOfTypesStem one → IsOfTypesStem two → IsOfTypesStem three → length (triple_text one two three) ≤ 400
 short_triple one two three is_one is_two is_three =
-    simp length-append (omega (arith, short_widths one two three is_one is_two is_three, short_middles one two three, short_off one two three))
+    omega (
+      arith,
+      length-append (stems_of_three one two three) (middle_words one three),
+      short_three one two three is_one is_two is_three,
+      short_middle_words (int_eq one.width three.width) one three is_one is_three,
+    )
 
 short_takes : (number : ℤ) → length (takes_words number) ≤ 15
 short_takes number = simp length_either (grind arith)
@@ -194,9 +263,17 @@ short_othersubr number count =
     let first = length-append (decimal_by 65536 number) (codes " with " ++ arguments_text count) in
     omega (arith, first, short_by 65536 number (omega arith), short_arguments count)
 
-short_call_by : (b : Bool) (number count : ℤ) → length (othersubr_text number count ++ (if b then takes_words number else [])) ≤ 400
-short_call_by true number count = omega (arith, length-append (othersubr_text number count) (takes_words number), short_othersubr number count, short_takes number)
-short_call_by false number count = omega (arith, length-append (othersubr_text number count) [], short_othersubr number count)
+short_part : (number : ℤ) → length (part_words number) ≤ 19
+short_part number = simp length_either (grind arith)
+
+short_call_words : (rule : Rule) (number : ℤ) → length (call_words rule number) ≤ 19
+short_call_words O03 number = omega (arith, short_takes number)
+short_call_words X02 number = short_part number
+short_call_words _ number = omega arith
+
+short_call : (rule : Rule) (number count : ℤ) → length (call_text rule number count) ≤ 400
+short_call rule number count =
+    omega (arith, length-append (othersubr_text number count) (call_words rule number), short_othersubr number count, short_call_words rule number)
 
 short_arguments_there : (count : ℤ) (there : ℕ) → length (arguments_there_text count there) ≤ 400
 short_arguments_there count there =
@@ -368,22 +445,50 @@ short_falling : (before number : ℤ) → length (falling_text before number) �
 short_falling before number =
     omega (arith, length-append (value_text number) (codes " comes after " ++ value_text before), short_value number, short_value before)
 
+short_long_distance : (distance : ℤ) → unsigned_abs distance ≤ 2 ^ 65 → length (needed_text distance) ≤ 52
+short_long_distance distance is =
+    omega (arith, length-append (wide_by 1000000000 distance) (codes " is needed"), short_long_wide distance is)
+
 short_distance : (distance : ℤ) → length (needed_text distance) ≤ 96
 short_distance distance =
     omega (arith, length-append (wide_by 1000000000 distance) (codes " is needed"), short_wide 1000000000 distance (omega arith))
 
-short_gap : (top bottom distance : ℤ) → length (gap_text top bottom distance) ≤ 400
-short_gap top bottom distance =
+short_gap : (top bottom distance : ℤ) → unsigned_abs top ≤ 2 ^ 63 → unsigned_abs bottom ≤ 2 ^ 63 → length (gap_text top bottom distance) ≤ 269
+short_gap top bottom distance is_top is_bottom =
     omega (
       arith,
       length-append (value_text top) (codes " to " ++ (value_text bottom ++ (codes " is " ++ (wide_by 1000000000 (bottom -ℤ top) ++ needed_text distance)))),
       length-append (value_text bottom) (codes " is " ++ (wide_by 1000000000 (bottom -ℤ top) ++ needed_text distance)),
       length-append (wide_by 1000000000 (bottom -ℤ top)) (needed_text distance),
-      short_value top,
-      short_value bottom,
+      short_long_value top (omega (arith, is_top)),
+      short_long_value bottom (omega (arith, is_bottom)),
       short_wide 1000000000 (bottom -ℤ top) (omega arith),
       short_distance distance,
     )
+
+-- What would do, after a text.
+short_entry_does : (entry : List ℕ) (number : ℤ) → length entry ≤ 9 → unsigned_abs number ≤ 2 ^ 63 → length (entry_does entry number) ≤ 59
+unfolding entry_does
+short_entry_does entry number few is =
+    omega (
+      arith,
+      length-append entry (codes " " ++ (value_text number ++ codes " would do")),
+      length-append (value_text number) (codes " would do"),
+      few,
+      short_long_value number (omega (arith, is)),
+    )
+
+short_does : (entry : List ℕ) (number : Option ℤ) → length entry ≤ 9 → IsOfTypesDoes number → length (does_words entry number) ≤ 59
+short_does entry None few is = omega arith
+short_does entry (Some number) few is = go (is_negative number)
+  where
+    go : (b : Bool) → length (if b then [] else entry_does entry number) ≤ 59
+    go true = omega arith
+    go false = short_entry_does entry number few is
+
+with_does : (text : List ℕ) (entry : List ℕ) (number : Option ℤ) → length text ≤ 341 → length entry ≤ 9 → IsOfTypesDoes number
+    → length (text ++ does_words entry number) ≤ 400
+with_does text entry number short few is = omega (arith, length-append text (does_words entry number), short, short_does entry number few is)
 
 short_edges : (edges : Edges) → IsOfTypesEdges edges → length (edges_text edges) ≤ 80
 short_edges edges is =
@@ -431,24 +536,26 @@ short_apart : (own other : Edges) (below above : ℤ) → IsOfTypesEdges own →
 unfolding apart_by
 short_apart own other below above is_own is_other = short_one_of (int_le (pos 0) below) (int_le (pos 0) above) own other below above is_own is_other
 
-short_zones : (own other : Edges) (distance : ℤ) → IsOfTypesEdges own → IsOfTypesEdges other → length (zones_text own other distance) ≤ 400
-short_zones own other distance is_own is_other =
+short_zones : (own other : Edges) (distance : ℤ) → IsOfTypesEdges own → IsOfTypesEdges other → unsigned_abs distance ≤ 2 ^ 65
+    → length (zones_text own other distance) ≤ 322
+short_zones own other distance is_own is_other is_distance =
     omega (
       arith,
       length-append (apart_text own other) (needed_text distance),
       short_apart own other (other.lower -ℤ own.upper) (own.lower -ℤ other.upper) is_own is_other,
-      short_distance distance,
+      short_long_distance distance is_distance,
     )
 
-short_height : (bottom top scale : ℤ) → unsigned_abs scale ≤ 2 ^ 63 → length (height_text bottom top scale) ≤ 234
+short_height : (bottom top scale : ℤ) → IsOfTypesZone bottom top scale → length (height_text bottom top scale) ≤ 190
 unfolding height_text
-short_height bottom top scale is_scale =
+short_height bottom top scale is =
+    let height : unsigned_abs (top -ℤ bottom) ≤ 2 ^ 65 = omega (arith, abs_difference top bottom, is.lower, is.upper) in
     omega (
       arith,
       length-append (wide_by 1000000000 (top -ℤ bottom)) (codes " times BlueScale " ++ (value_text scale ++ (codes " is " ++ wide_by 1000000000000000000 ((top -ℤ bottom) *ℤ scale)))),
       length-append (value_text scale) (codes " is " ++ wide_by 1000000000000000000 ((top -ℤ bottom) *ℤ scale)),
-      short_wide 1000000000 (top -ℤ bottom) (omega arith),
-      short_long_value scale (omega (arith, is_scale)),
+      short_long_wide (top -ℤ bottom) height,
+      short_long_value scale (omega (arith, is.scale)),
       short_wide 1000000000000000000 ((top -ℤ bottom) *ℤ scale) (omega arith),
     )
 
@@ -456,17 +563,16 @@ short_below_one : length below_one ≤ 23
 unfolding below_one
 short_below_one = omega arith
 
-short_zone : (bottom top scale : ℤ) → unsigned_abs bottom ≤ 2 ^ 63 → unsigned_abs top ≤ 2 ^ 63 → unsigned_abs scale ≤ 2 ^ 63
-    → length (zone_text bottom top scale) ≤ 400
-short_zone bottom top scale is_bottom is_top is_scale =
+short_zone : (bottom top scale : ℤ) → IsOfTypesZone bottom top scale → length (zone_text bottom top scale) ≤ 300
+short_zone bottom top scale is =
     omega (
       arith,
       length-append (value_text bottom) (codes " to " ++ (value_text top ++ (codes ", " ++ (height_text bottom top scale ++ below_one)))),
       length-append (value_text top) (codes ", " ++ (height_text bottom top scale ++ below_one)),
       length-append (height_text bottom top scale) below_one,
-      short_long_value bottom (omega (arith, is_bottom)),
-      short_long_value top (omega (arith, is_top)),
-      short_height bottom top scale is_scale,
+      short_long_value bottom (omega (arith, is.lower)),
+      short_long_value top (omega (arith, is.upper)),
+      short_height bottom top scale is,
       short_below_one,
     )
 
@@ -492,6 +598,11 @@ pub are_short : AreShort
 unfolding reason_text
 are_short font rule Nothing is = omega arith
 are_short font rule (Count command taken there) is = short_count command taken there
+are_short font rule (Full token there) is = short_full token there
+are_short font rule (Length bytes len_iv) is = short_length bytes len_iv
+are_short font rule (Ending subr) is = short_ending subr
+are_short font rule (Behind next) is = short_behind next
+are_short font rule (Pairs moves points ends) is = short_pairs moves points ends
 are_short font rule (Argument place number) is = short_argument place number
 are_short font rule (Quotient dividend divisor) is = short_quotient dividend divisor
 are_short font rule (Depth calls) is = short_depth calls
@@ -503,7 +614,7 @@ are_short font rule (Stems own other) is = short_stems own other is.0 is.1
 are_short font rule (Stem stem) is = omega (arith, short_by 65536 stem.position (omega arith))
 are_short font rule (Triple one two three) is = short_triple one two three is.0 is.1 is.2
 are_short font rule (Miss named pen) is = short_miss named pen
-are_short font rule (Othersubr number count) is = short_call_by (is_counted rule) number count
+are_short font rule (Othersubr number count) is = short_call rule number count
 are_short font rule (Arguments count there) is = short_arguments_there count there
 are_short font rule (Codes base accent) is = short_meant (is_meant font rule base) (is_meant font rule accent) rule base accent
 are_short font rule (Sidebearings told own) is = short_sidebearings told own
@@ -520,8 +631,12 @@ are_short font rule (Numbers count) is = omega (arith, short_numbers count)
 are_short font rule (Glyph glyph) is = omega (arith, short_name (glyph_name font glyph))
 are_short font rule (Code code) is = short_code_names code (encoded_name font code)
 are_short font rule (Falling before number) is = short_falling before number
-are_short font rule (Gap top bottom distance) is = short_gap top bottom distance
-are_short font rule (Zones own other distance) is = short_zones own other distance is.0 is.1
-are_short font rule (Zone bottom top scale) is = short_zone bottom top scale is.0 is.1 is.2
+are_short font rule (Gap top bottom distance) is =
+    with_does (gap_text top bottom distance) (codes "BlueFuzz") (fuzz_for_all font) (omega (arith, short_gap top bottom distance is.0 is.1)) (omega arith) is.2
+are_short font rule (Zones own other distance) is =
+    with_does (zones_text own other distance) (codes "BlueFuzz") (fuzz_for_both font) (omega (arith, short_zones own other distance is.0 is.1 is.2))
+    (omega arith) is.3
+are_short font rule (Zone bottom top scale) is =
+    with_does (zone_text bottom top scale) (codes "BlueScale") (scale_for_all font) (omega (arith, short_zone bottom top scale is.0)) (omega arith) is.1
 are_short font rule (Width width nearest) is = short_width width nearest
 are_short font rule (Waiver unused) is = short_unused unused

@@ -5,13 +5,14 @@ use Rattle.std.specs.Fmt.{decimal, sign_text}
 use Rattle.t1_decimals.specs.Decimals.{places}
 use Rattle.t1_reason_texts.specs.declared.wide.Count.{Count}
 use Rattle.t1_reason_texts.specs.declared.wide.Wide.{Wide}
-use Rattle.t1_reason_texts.specs.declared.wide.Count.TheVariants.{Coordinate, Middle, Product, Value}
+use Rattle.t1_reason_texts.specs.declared.wide.Count.TheVariants.{Coordinate, Mean, Middle, Product, Value}
 
--- How many make one: a coordinate counts 1/65536, twice the middle of a stem 1/131072, a number of a dictionary 10^-9, and a
--- product of two of these 10^-18.
+-- How many make one: a coordinate counts 1/65536, twice the middle of a stem 1/131072, the sum of two of these, which is four times
+-- their mean, 1/262144, a number of a dictionary 10^-9, and a product of two of these 10^-18.
 abbrev pub parts_of : Count → ℕ
 parts_of Coordinate = 65536
 parts_of Middle = 131072
+parts_of Mean = 262144
 parts_of Value = 1000000000
 parts_of Product = 1000000000000000000
 

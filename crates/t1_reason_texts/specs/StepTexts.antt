@@ -10,11 +10,11 @@ use Rattle.t1_char.specs.declared.token.CharToken.TheVariants.{Number, Command, 
 use Rattle.t1_char.specs.Commands.{name_of}
 use Rattle.t1_decimals.specs.Decimals.{coordinate_text, point_text}
 use Rattle.t1_reasons.specs.declared.reason.SetStem.{SetStem}
-use Rattle.t1_reason_texts.specs.declared.wide.Count.TheVariants.{Coordinate, Middle}
+use Rattle.t1_reason_texts.specs.declared.wide.Count.TheVariants.{Coordinate, Mean, Middle}
 use Rattle.t1_reason_texts.specs.Decimals.{wide_text}
-use Rattle.t1_reason_texts.specs.Words.{are_text, arguments_text, numbers_text}
+use Rattle.t1_reason_texts.specs.Words.{are_text, arguments_text, bytes_text, moves_text, numbers_text, points_text}
 use Rattle.t1_rules.specs.declared.rule.Rule.{Rule}
-use Rattle.t1_rules.specs.declared.rule.Rule.TheVariants.{C03, W02, P01, P03, H01, X01, X03, O03, K06}
+use Rattle.t1_rules.specs.declared.rule.Rule.TheVariants.{C03, W02, P01, P03, H01, X01, X02, X03, O03, K06}
 use Rattle.t1_rules.specs.declared.step_rules.flex.Point.{Point}
 use Rattle.t1_rules.specs.declared.step_rules.stems.Stem.{Stem}
 use Rattle.t1_rules.specs.StepRules.Stems.{lower, twice_middle, upper}
@@ -38,7 +38,15 @@ argument_text place number =
     codes "argument " ++ (decimal place ++ (codes " is " ++ (coordinate_text number ++ (codes ", " ++ bound_words number))))
 
 abbrev pub quotient_text : ℤ → ℤ → List ℕ
-quotient_text dividend divisor = coordinate_text dividend ++ (codes " by " ++ coordinate_text divisor)
+quotient_text dividend divisor = coordinate_text dividend ++ (codes " divided by " ++ coordinate_text divisor)
+
+-- The Subr whose charstring ends.
+abbrev pub ending_text : ℕ → List ℕ
+ending_text subr = codes "Subr " ++ (decimal subr ++ codes " ends")
+
+-- How long a charstring is, and lenIV.
+abbrev pub length_text : ℕ → ℤ → List ℕ
+length_text bytes len_iv = bytes_text bytes ++ (codes ", lenIV is " ++ signed_decimal len_iv)
 
 abbrev pub subr_text : ℤ → Bool → List ℕ
 subr_text number found = if found then codes "Subr " ++ coordinate_text number else codes "there is no Subr " ++ coordinate_text number
@@ -72,6 +80,18 @@ says_token _ = false
 abbrev pub there_text : Rule → CharToken → List ℕ
 there_text rule token = token_text token ++ (if says_token rule then [] else is_there token)
 
+-- A token that comes to a full stack.
+abbrev pub full_text : CharToken → ℕ → List ℕ
+full_text token there = token_text token ++ (codes " after " ++ (numbers_text there ++ codes ", 24 at most"))
+
+-- A token that comes behind the end of the glyph.
+abbrev pub comes_next : CharToken → List ℕ
+comes_next (Unknown12 byte) = codes " come next"
+comes_next _ = codes " comes next"
+
+abbrev pub behind_text : CharToken → List ℕ
+behind_text token = token_text token ++ comes_next token
+
 -- ---- steps before
 
 -- What is said before and after the number of a step.
@@ -86,7 +106,7 @@ since_before K06 = codes "an outline or a stem at step "
 since_before _ = codes "since step "
 
 abbrev pub since_after : Rule → List ℕ
-since_after W02 = codes " set it"
+since_after W02 = codes " set the width"
 since_after _ = []
 
 -- What is said where there was no such step.
@@ -109,6 +129,14 @@ abbrev pub open_text : Point → Point → List ℕ
 open_text start pen =
     if are_same_points start pen then codes "ends where it began, without closepath"
     else codes "from " ++ (point_text start ++ (codes " to " ++ point_text pen))
+
+-- The moves and the points of a flex.
+abbrev pub needed_pairs : Bool → List ℕ
+needed_pairs true = codes "; 7 of each are needed"
+needed_pairs false = codes " before this point; it needs a move of its own"
+
+abbrev pub pairs_text : ℕ → ℕ → Bool → List ℕ
+pairs_text moves points ends = moves_text moves ++ (codes " and " ++ (points_text points ++ needed_pairs ends))
 
 abbrev pub miss_text : Point → Point → List ℕ
 miss_text named pen = codes "the pen is at " ++ (point_text pen ++ (codes ", the end names " ++ point_text named))
@@ -138,7 +166,7 @@ unfoldable pub stems_text : Stem → SetStem → List ℕ
 stems_text own other = if are_same_stems own other.stem then twins_text own other.step else pair_text own other
 
 abbrev pub stem_text : Stem → List ℕ
-stem_text stem = codes "at " ++ coordinate_text stem.position
+stem_text stem = codes "the stem is at " ++ coordinate_text stem.position
 
 -- How far the second middle is from half-way between the others, in units of 1/262144.
 abbrev pub off_middle : Stem → Stem → Stem → ℤ
@@ -159,9 +187,19 @@ unfoldable pub widths_text : Stem → Stem → Stem → List ℕ
 widths_text one two three =
     coordinate_text one.width ++ (codes " " ++ (coordinate_text two.width ++ (codes " " ++ coordinate_text three.width)))
 
-abbrev pub triple_text : Stem → Stem → Stem → List ℕ
-triple_text one two three =
+-- The middle that would do, where the outer widths are equal.
+unfoldable pub middle_text : Stem → Stem → List ℕ
+middle_text one three = codes "; middle " ++ (wide_text Mean (twice_middle one +ℤ twice_middle three) ++ codes " would do")
+
+abbrev pub middle_words : Stem → Stem → List ℕ
+middle_words one three = if int_eq one.width three.width then middle_text one three else []
+
+unfoldable pub stems_of_three : Stem → Stem → Stem → List ℕ
+stems_of_three one two three =
     codes "widths " ++ (widths_text one two three ++ (codes ", middles " ++ (middles_text one two three ++ off_words one two three)))
+
+abbrev pub triple_text : Stem → Stem → Stem → List ℕ
+triple_text one two three = stems_of_three one two three ++ middle_words one three
 
 -- ---- OtherSubrs
 
@@ -174,12 +212,18 @@ takes_words number =
     if int_eq number (pos 0) then codes "; it takes 3"
     else (if int_eq number (pos 196608) then codes "; it takes 1" else codes "; it takes none")
 
-abbrev pub is_counted : Rule → Bool
-is_counted O03 = true
-is_counted _ = false
+-- Which call of a flex comes outside one: its end, or a point.
+abbrev pub part_words : ℤ → List ℕ
+part_words number = if int_eq number (pos 0) then codes ", the end of a flex" else codes ", a point of a flex"
+
+-- What is said after a call.
+abbrev pub call_words : Rule → ℤ → List ℕ
+call_words O03 number = takes_words number
+call_words X02 number = part_words number
+call_words _ number = []
 
 abbrev pub call_text : Rule → ℤ → ℤ → List ℕ
-call_text rule number count = othersubr_text number count ++ (if is_counted rule then takes_words number else [])
+call_text rule number count = othersubr_text number count ++ call_words rule number
 
 abbrev pub arguments_there_text : ℤ → ℕ → List ℕ
 arguments_there_text count there = codes "the count is " ++ (coordinate_text count ++ (codes ", " ++ (are_text there ++ codes " there")))

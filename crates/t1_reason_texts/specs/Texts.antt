@@ -1,19 +1,25 @@
 -- The text of a reason: a function of the font, the rule and the reason. A reason that adds nothing has the empty text.
-use Rattle.std.specs.Prelude.{ℕ, not, nat_lt, if◌then◌else◌, Bool, true, false, List, [], ◌∷◌, codes, Option, Some, None}
+use Rattle.std.specs.Prelude.{ℕ, not, nat_lt, if◌then◌else◌, Bool, true, false, List, [], ◌∷◌, ◌++◌, codes, Option, Some, None}
 use Rattle.std.specs.List.{concat}
 use Rattle.t1_font.specs.Fonts.{FontValue, glyph_name}
 use Rattle.t1_reasons.specs.declared.reason.Reason.{Reason}
-use Rattle.t1_reasons.specs.declared.reason.Reason.TheVariants.{Argument, Arguments, Code, Codes, Count, Depth, Entry, Falling, Features, Form, Gap, Glyph, Glyphs, Ids, Kind, Limit, Miss, Nothing, Numbers, Open, Othersubr, Quotient, Sidebearings, Since, Stem, Stems, Subr, SubrEntry, Token, TooMany, Triple, Waiver, Width, Zone, Zones}
+use Rattle.t1_reasons.specs.declared.reason.Reason.TheVariants.{Argument, Arguments, Behind, Code, Codes, Count, Depth, Ending, Entry, Falling, Features, Form, Full, Gap, Glyph, Glyphs, Ids, Kind, Length, Limit, Miss, Nothing, Numbers, Open, Othersubr, Pairs, Quotient, Sidebearings, Since, Stem, Stems, Subr, SubrEntry, Token, TooMany, Triple, Waiver, Width, Zone, Zones}
+use Rattle.t1_reasons.specs.Remedies.{fuzz_for_all, fuzz_for_both, scale_for_all}
 use Rattle.t1_reason_texts.specs.FontTexts.{code_names_text, encoded_name, entry_text, features_text, form_text, glyph_text, glyphs_text, ids_text, kind_text, subr_entry_text, unused_text}
 use Rattle.t1_reason_texts.specs.SeacTexts.{codes_text, sidebearings_text}
-use Rattle.t1_reason_texts.specs.StepTexts.{argument_text, arguments_there_text, call_text, count_text, depth_text, limit_text, miss_text, open_text, quotient_text, since_text, stem_text, stems_text, subr_text, there_text, triple_text}
+use Rattle.t1_reason_texts.specs.StepTexts.{argument_text, arguments_there_text, behind_text, call_text, count_text, depth_text, ending_text, full_text, length_text, limit_text, miss_text, open_text, pairs_text, quotient_text, since_text, stem_text, stems_text, subr_text, there_text, triple_text}
 use Rattle.t1_reason_texts.specs.Words.{numbers_text}
-use Rattle.t1_reason_texts.specs.ZoneTexts.{falling_text, gap_text, too_many_text, width_text, zone_text, zones_text}
+use Rattle.t1_reason_texts.specs.ZoneTexts.{does_words, falling_text, gap_text, too_many_text, width_text, zone_text, zones_text}
 use Rattle.t1_rules.specs.declared.rule.Rule.{Rule}
 
 unfoldable pub reason_text : FontValue → Rule → Reason → List ℕ
 reason_text font rule Nothing = []
 reason_text font rule (Count command taken there) = count_text command taken there
+reason_text font rule (Full token there) = full_text token there
+reason_text font rule (Length bytes len_iv) = length_text bytes len_iv
+reason_text font rule (Ending subr) = ending_text subr
+reason_text font rule (Behind next) = behind_text next
+reason_text font rule (Pairs moves points ends) = pairs_text moves points ends
 reason_text font rule (Argument place number) = argument_text place number
 reason_text font rule (Quotient dividend divisor) = quotient_text dividend divisor
 reason_text font rule (Depth calls) = depth_text calls
@@ -42,9 +48,9 @@ reason_text font rule (Numbers count) = numbers_text count
 reason_text font rule (Glyph glyph) = glyph_text (glyph_name font glyph)
 reason_text font rule (Code code) = code_names_text code (encoded_name font code)
 reason_text font rule (Falling before number) = falling_text before number
-reason_text font rule (Gap upper lower distance) = gap_text upper lower distance
-reason_text font rule (Zones own other distance) = zones_text own other distance
-reason_text font rule (Zone lower upper scale) = zone_text lower upper scale
+reason_text font rule (Gap upper lower distance) = gap_text upper lower distance ++ does_words (codes "BlueFuzz") (fuzz_for_all font)
+reason_text font rule (Zones own other distance) = zones_text own other distance ++ does_words (codes "BlueFuzz") (fuzz_for_both font)
+reason_text font rule (Zone lower upper scale) = zone_text lower upper scale ++ does_words (codes "BlueScale") (scale_for_all font)
 reason_text font rule (Width width nearest) = width_text width nearest
 reason_text font rule (Waiver unused) = unused_text unused
 

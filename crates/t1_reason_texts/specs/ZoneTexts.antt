@@ -1,5 +1,6 @@
 -- The texts of reasons of zones and stem widths. Their numbers count 10^-9.
-use Rattle.std.specs.Prelude.{ℕ, ℤ, pos, ◌-ℤ◌, ◌*ℤ◌, int_le, List, ◌++◌, codes, if◌then◌else◌}
+use Rattle.std.specs.Prelude.{ℕ, ℤ, pos, ◌-ℤ◌, ◌*ℤ◌, int_le, Option, Some, None, List, [], ◌++◌, codes, if◌then◌else◌}
+use Rattle.std.specs.Int.{is_negative}
 use Rattle.std.specs.Fmt.{decimal}
 use Rattle.t1_reasons.specs.declared.reason.Edges.{Edges}
 use Rattle.t1_reason_texts.specs.declared.zone_texts.ApartText.{ApartText}
@@ -67,3 +68,11 @@ zone_text lower upper scale =
 
 abbrev pub width_text : ℤ → ℤ → List ℕ
 width_text width nearest = value_text width ++ (codes " is none of the snaps; " ++ (value_text nearest ++ codes " is nearest"))
+
+-- The entry that would do with this number, where there is one from 0 on.
+unfoldable pub entry_does : List ℕ → ℤ → List ℕ
+entry_does entry number = codes "; " ++ (entry ++ (codes " " ++ (value_text number ++ codes " would do")))
+
+abbrev pub does_words : List ℕ → Option ℤ → List ℕ
+does_words entry None = []
+does_words entry (Some number) = if is_negative number then [] else entry_does entry number

@@ -3,12 +3,12 @@
 ghost use Rattle.std.specs.Prelude.{◌≡◌, ◌+ℤ◌, ◌-ℤ◌, ◌*ℤ◌, Some, pos};
 ghost use Rattle.std.specs.Int.{int_max, int_min};
 ghost use Rattle.t1_rules.specs.Watches.{IsWithin, reach};
-ghost use Rattle.t1_reason_texts.specs.StepTexts.{are_same_points, are_same_stems, argument_text, arguments_there_text, bound_words, call_text, count_text, depth_text, is_counted, is_half_off, is_there, limit_text, middles_text, miss_text, off_middle, off_words, open_text, or_more, othersubr_text, pair_text, quotient_text, says_token, share, since_after, since_before, since_none, since_text, span_text, stem_text, stems_text, subr_text, takes_words, there_text, token_text, triple_text, twins_text, widths_text};
-ghost use Rattle.t1_reason_texts.specs.declared.wide.Count.TheVariants.{Middle};
+ghost use Rattle.t1_reason_texts.specs.StepTexts.{are_same_points, are_same_stems, argument_text, arguments_there_text, behind_text, bound_words, call_text, call_words, comes_next, count_text, depth_text, ending_text, full_text, is_half_off, is_there, length_text, limit_text, middle_text, middles_text, needed_pairs, miss_text, off_middle, off_words, open_text, or_more, othersubr_text, pair_text, pairs_text, part_words, quotient_text, says_token, share, since_after, since_before, since_none, since_text, span_text, stem_text, stems_of_three, stems_text, subr_text, takes_words, there_text, token_text, triple_text, twins_text, widths_text};
+ghost use Rattle.t1_reason_texts.specs.declared.wide.Count.TheVariants.{Mean, Middle};
 ghost use Rattle.t1_rules.specs.StepRules.Stems.{twice_middle};
 
 use crate::wide::{Count, Wide, difference};
-use crate::words::{Are, Arguments, Numbers, small_coordinate};
+use crate::words::{Are, Arguments, Bytes, Moves, Numbers, Points, small_coordinate};
 use std::fmt;
 use t1_char::{CharToken, Command, command_name};
 use t1_decimals::{Coordinates, coordinate};
@@ -86,7 +86,7 @@ impl fmt::Display for QuotientText {
     fn fmt<W: fmt::Write>(&self, f: &mut fmt::Formatter<W>) -> fmt::Result {
         let dividend = coordinate(self.dividend);
         let divisor = coordinate(self.divisor);
-        write!(f, "{dividend} by {divisor}")
+        write!(f, "{dividend} divided by {divisor}")
     }
 }
 
@@ -106,6 +106,36 @@ impl fmt::Display for DepthText {
         } else {
             write!(f, "{calls} Subrs are being executed")
         }
+    }
+}
+
+/// The Subr whose charstring ends.
+#[derive(Clone, Copy)]
+pub(crate) struct EndingText(pub(crate) u32);
+
+impl fmt::Display for EndingText {
+    ghost output = { λ t. Some (ending_text t.0) };
+
+    fn fmt<W: fmt::Write>(&self, f: &mut fmt::Formatter<W>) -> fmt::Result {
+        let subr = self.0;
+        write!(f, "Subr {subr} ends")
+    }
+}
+
+/// How long a charstring is, and lenIV.
+#[derive(Clone, Copy)]
+pub(crate) struct LengthText {
+    pub(crate) bytes: usize,
+    pub(crate) len_iv: i8,
+}
+
+impl fmt::Display for LengthText {
+    ghost output = { λ t. Some (length_text t.bytes t.len_iv) };
+
+    fn fmt<W: fmt::Write>(&self, f: &mut fmt::Formatter<W>) -> fmt::Result {
+        let bytes = Bytes(self.bytes);
+        let len_iv = self.len_iv;
+        write!(f, "{bytes}, lenIV is {len_iv}")
     }
 }
 
@@ -189,6 +219,46 @@ impl fmt::Display for ThereText {
     }
 }
 
+/// A token that comes to a full stack.
+#[derive(Clone, Copy)]
+pub(crate) struct FullText {
+    pub(crate) token: CharToken,
+    pub(crate) there: u8,
+}
+
+impl fmt::Display for FullText {
+    ghost output = { λ t. Some (full_text t.token t.there) };
+
+    fn fmt<W: fmt::Write>(&self, f: &mut fmt::Formatter<W>) -> fmt::Result {
+        let token = TokenText(self.token);
+        let numbers = Numbers(usize::from(self.there));
+        write!(f, "{token} after {numbers}, 24 at most")
+    }
+}
+
+/// A token that comes behind the end of the glyph.
+#[derive(Clone, Copy)]
+pub(crate) struct BehindText(pub(crate) CharToken);
+
+fn comes_next(token: CharToken) -> &'static str
+    ensures { result.now ≡ comes_next token }
+{
+    match token {
+        CharToken::Unknown12(_) => " come next",
+        _ => " comes next",
+    }
+}
+
+impl fmt::Display for BehindText {
+    ghost output = { λ t. Some (behind_text t.0) };
+
+    fn fmt<W: fmt::Write>(&self, f: &mut fmt::Formatter<W>) -> fmt::Result {
+        let token = TokenText(self.0);
+        let comes = comes_next(self.0);
+        write!(f, "{token}{comes}")
+    }
+}
+
 /// A step before.
 #[derive(Clone, Copy)]
 pub(crate) struct SinceText {
@@ -216,7 +286,7 @@ fn since_after(rule: Rule) -> &'static str
     ensures { result.now ≡ since_after rule }
 {
     match rule {
-        Rule::W02 => " set it",
+        Rule::W02 => " set the width",
         _ => "",
     }
 }
@@ -275,6 +345,35 @@ impl fmt::Display for OpenText {
         } else {
             write!(f, "from {start} to {pen}")
         }
+    }
+}
+
+/// The moves and the points of a flex.
+#[derive(Clone, Copy)]
+pub(crate) struct PairsText {
+    pub(crate) moves: u32,
+    pub(crate) points: u32,
+    pub(crate) ends: bool,
+}
+
+fn needed_pairs(ends: bool) -> &'static str
+    ensures { result.now ≡ needed_pairs ends }
+{
+    if ends {
+        "; 7 of each are needed"
+    } else {
+        " before this point; it needs a move of its own"
+    }
+}
+
+impl fmt::Display for PairsText {
+    ghost output = { λ t. Some (pairs_text t.moves t.points t.ends) };
+
+    fn fmt<W: fmt::Write>(&self, f: &mut fmt::Formatter<W>) -> fmt::Result {
+        let moves = Moves(self.moves);
+        let points = Points(self.points);
+        let needed = needed_pairs(self.ends);
+        write!(f, "{moves} and {points}{needed}")
     }
 }
 
@@ -404,7 +503,7 @@ impl fmt::Display for StemText {
 
     fn fmt<W: fmt::Write>(&self, f: &mut fmt::Formatter<W>) -> fmt::Result {
         let position = small_coordinate(self.0.position);
-        write!(f, "at {position}")
+        write!(f, "the stem is at {position}")
     }
 }
 
@@ -515,9 +614,18 @@ impl fmt::Display for WidthsText {
     }
 }
 
-impl fmt::Display for TripleText {
-    ghost output = { λ t. Some (triple_text t.one t.two t.three) };
+/// The widths of three stems, and their middles.
+#[derive(Clone, Copy)]
+struct ThreeStemsText {
+    one: Stem,
+    two: Stem,
+    three: Stem,
+}
 
+impl fmt::Display for ThreeStemsText {
+    ghost output = { λ t. Some (stems_of_three t.one t.two t.three) };
+
+    #[tactic(auto, unfolding(crate::specs::StepTexts::stems_of_three))]
     fn fmt<W: fmt::Write>(&self, f: &mut fmt::Formatter<W>) -> fmt::Result {
         let widths = WidthsText {
             one: self.one,
@@ -531,6 +639,55 @@ impl fmt::Display for TripleText {
         };
         let off = off_words(self.one, self.two, self.three);
         write!(f, "widths {widths}, middles {middles}{off}")
+    }
+}
+
+/// The middle that would do between two stems.
+#[derive(Clone, Copy)]
+struct MiddleText {
+    one: Stem,
+    three: Stem,
+}
+
+/// Half-way between the middles of two stems.
+fn half_way(one: Stem, three: Stem) -> Wide
+    ensures number { result.number ≡ twice_middle one +ℤ twice_middle three }
+    ensures count { result.count ≡ Mean }
+{
+    Wide {
+        number: i128::from(sum(twice_middle(one), twice_middle(three))),
+        count: Count::Mean,
+    }
+}
+
+impl fmt::Display for MiddleText {
+    ghost output = { λ t. Some (middle_text t.one t.three) };
+
+    #[tactic(auto, unfolding(crate::specs::StepTexts::middle_text))]
+    fn fmt<W: fmt::Write>(&self, f: &mut fmt::Formatter<W>) -> fmt::Result {
+        let middle = half_way(self.one, self.three);
+        write!(f, "; middle {middle} would do")
+    }
+}
+
+impl fmt::Display for TripleText {
+    ghost output = { λ t. Some (triple_text t.one t.two t.three) };
+
+    fn fmt<W: fmt::Write>(&self, f: &mut fmt::Formatter<W>) -> fmt::Result {
+        let stems = ThreeStemsText {
+            one: self.one,
+            two: self.two,
+            three: self.three,
+        };
+        let middle = MiddleText {
+            one: self.one,
+            three: self.three,
+        };
+        if self.one.width == self.three.width {
+            write!(f, "{stems}{middle}")
+        } else {
+            write!(f, "{stems}")
+        }
     }
 }
 
@@ -561,11 +718,26 @@ fn takes_words(number: i64) -> &'static str
     }
 }
 
-/// Whether a rule speaks of the count that an OtherSubr takes.
-fn is_counted(rule: Rule) -> bool
-    ensures { result ≡ is_counted rule }
+/// Which call of a flex comes outside one.
+fn part_words(number: i64) -> &'static str
+    ensures { result.now ≡ part_words number }
 {
-    matches!(rule, Rule::O03)
+    if number == 0 {
+        ", the end of a flex"
+    } else {
+        ", a point of a flex"
+    }
+}
+
+/// What is said after a call.
+fn call_words(rule: Rule, number: i64) -> &'static str
+    ensures { result.now ≡ call_words rule number }
+{
+    match rule {
+        Rule::O03 => takes_words(number),
+        Rule::X02 => part_words(number),
+        _ => "",
+    }
 }
 
 impl fmt::Display for OthersubrText {
@@ -586,12 +758,8 @@ impl fmt::Display for CallText {
             number: self.number,
             count: self.count,
         };
-        if is_counted(self.rule) {
-            let takes = takes_words(self.number);
-            write!(f, "{call}{takes}")
-        } else {
-            write!(f, "{call}")
-        }
+        let words = call_words(self.rule, self.number);
+        write!(f, "{call}{words}")
     }
 }
 

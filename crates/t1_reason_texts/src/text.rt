@@ -9,16 +9,19 @@ use crate::font_texts::{
 };
 use crate::seac_texts::{CodesText, SidebearingsText, is_meant};
 use crate::step_texts::{
-    ArgumentText, ArgumentsThereText, CallText, CountText, DepthText, LimitText, MissText,
-    OpenText, QuotientText, SinceText, StemText, StemsText, SubrText, ThereText, TripleText,
+    ArgumentText, ArgumentsThereText, BehindText, CallText, CountText, DepthText, EndingText,
+    FullText, LengthText, LimitText, MissText, OpenText, PairsText, QuotientText, SinceText,
+    StemText, StemsText, SubrText, ThereText, TripleText,
 };
 use crate::words::Numbers;
-use crate::zone_texts::{FallingText, GapText, TooManyText, WidthText, ZoneText, ZonesText};
+use crate::zone_texts::{
+    DoesText, FallingText, GapText, TooManyText, WidthText, ZoneText, ZonesText,
+};
 use arrayvec::ArrayString;
 use std::fmt;
 use std::fmt::Write;
 use t1_font::Font;
-use t1_reasons::Reason;
+use t1_reasons::{Reason, fuzz_across, fuzz_that_does, scale_that_does};
 use t1_rules::Rule;
 
 /// Why a rule is broken at a place, written by `Display`: one line, without its end, in the font's units.
@@ -83,6 +86,34 @@ impl fmt::Display for ReasonText<'_, '_> {
                     command,
                     taken,
                     there,
+                };
+                write!(f, "{text}")
+            }
+            Reason::Full { token, there } => {
+                let text = FullText { token, there };
+                write!(f, "{text}")
+            }
+            Reason::Length { bytes, len_iv } => {
+                let text = LengthText { bytes, len_iv };
+                write!(f, "{text}")
+            }
+            Reason::Ending { subr } => {
+                let text = EndingText(subr);
+                write!(f, "{text}")
+            }
+            Reason::Behind { next } => {
+                let text = BehindText(next);
+                write!(f, "{text}")
+            }
+            Reason::Pairs {
+                moves,
+                points,
+                ends,
+            } => {
+                let text = PairsText {
+                    moves,
+                    points,
+                    ends,
                 };
                 write!(f, "{text}")
             }
@@ -230,7 +261,11 @@ impl fmt::Display for ReasonText<'_, '_> {
                     lower,
                     distance,
                 };
-                write!(f, "{text}")
+                let does = DoesText {
+                    entry: "BlueFuzz",
+                    number: fuzz_that_does(self.font),
+                };
+                write!(f, "{text}{does}")
             }
             Reason::Zones {
                 own,
@@ -242,7 +277,11 @@ impl fmt::Display for ReasonText<'_, '_> {
                     other,
                     distance,
                 };
-                write!(f, "{text}")
+                let does = DoesText {
+                    entry: "BlueFuzz",
+                    number: fuzz_across(self.font),
+                };
+                write!(f, "{text}{does}")
             }
             Reason::Zone {
                 lower,
@@ -254,7 +293,11 @@ impl fmt::Display for ReasonText<'_, '_> {
                     upper,
                     scale,
                 };
-                write!(f, "{text}")
+                let does = DoesText {
+                    entry: "BlueScale",
+                    number: scale_that_does(self.font),
+                };
+                write!(f, "{text}{does}")
             }
             Reason::Width { width, nearest } => {
                 let text = WidthText { width, nearest };

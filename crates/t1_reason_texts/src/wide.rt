@@ -5,7 +5,7 @@ ghost use Rattle.t1_reason_texts.specs.Decimals.{difference_of, parts_of, produc
 
 use std::fmt;
 
-/// How many decimal places 10^-18 has; 1/65536 and 1/131072 have fewer.
+/// How many decimal places 10^-18 and 1/262144 have; the others have fewer.
 const MOST_PLACES: usize = 18;
 
 /// What a number counts.
@@ -15,6 +15,8 @@ pub enum Count {
     Coordinate,
     /// 1/131072, as twice the middle of a stem does.
     Middle,
+    /// 1/262144, as the sum of two of these does, which is four times their mean.
+    Mean,
     /// 10^-9, as numbers of dictionaries do.
     Value,
     /// 10^-18, as a product of two of these does.
@@ -44,6 +46,7 @@ impl Count {
         match self {
             Count::Coordinate => size / 65_536,
             Count::Middle => size / 131_072,
+            Count::Mean => size / 262_144,
             Count::Value => size / 1_000_000_000,
             Count::Product => size / 1_000_000_000_000_000_000,
         }
@@ -57,6 +60,7 @@ impl Count {
         match self {
             Count::Coordinate => size % 65_536,
             Count::Middle => size % 131_072,
+            Count::Mean => size % 262_144,
             Count::Value => size % 1_000_000_000,
             Count::Product => size % 1_000_000_000_000_000_000,
         }

@@ -2,7 +2,7 @@
 
 ghost use Rattle.std.specs.Prelude.{◌≡◌, Some};
 ghost use Rattle.t1_decimals.specs.Decimals.{coordinate_of};
-ghost use Rattle.t1_reason_texts.specs.Words.{are_text, arguments_text, numbers_text};
+ghost use Rattle.t1_reason_texts.specs.Words.{are_text, arguments_text, bytes_text, moves_text, numbers_text, points_text};
 
 use std::fmt;
 use t1_char::UNIT;
@@ -12,11 +12,23 @@ use t1_decimals::{Exact, coordinate};
 #[derive(Clone, Copy)]
 pub(crate) struct Numbers(pub(crate) usize);
 
+/// `no bytes`, `1 byte`, `3 bytes`.
+#[derive(Clone, Copy)]
+pub(crate) struct Bytes(pub(crate) usize);
+
+/// `no moves`, `1 move`, `3 moves`.
+#[derive(Clone, Copy)]
+pub(crate) struct Moves(pub(crate) u32);
+
+/// `no points`, `1 point`, `3 points`.
+#[derive(Clone, Copy)]
+pub(crate) struct Points(pub(crate) u32);
+
 /// `none is`, `1 is`, `3 are`.
 #[derive(Clone, Copy)]
 pub(crate) struct Are(pub(crate) u8);
 
-/// `1 argument`, `3 arguments`, of a count in units of 1/65536.
+/// `no arguments`, `1 argument`, `3 arguments`, of a count in units of 1/65536.
 #[derive(Clone, Copy)]
 pub(crate) struct Arguments(pub(crate) i64);
 
@@ -42,6 +54,51 @@ impl fmt::Display for Numbers {
     }
 }
 
+impl fmt::Display for Bytes {
+    ghost output = { λ bytes. Some (bytes_text bytes.0) };
+
+    fn fmt<W: fmt::Write>(&self, f: &mut fmt::Formatter<W>) -> fmt::Result {
+        let count = self.0;
+        if count == 0 {
+            write!(f, "no bytes")
+        } else if count == 1 {
+            write!(f, "1 byte")
+        } else {
+            write!(f, "{count} bytes")
+        }
+    }
+}
+
+impl fmt::Display for Moves {
+    ghost output = { λ moves. Some (moves_text moves.0) };
+
+    fn fmt<W: fmt::Write>(&self, f: &mut fmt::Formatter<W>) -> fmt::Result {
+        let count = self.0;
+        if count == 0 {
+            write!(f, "no moves")
+        } else if count == 1 {
+            write!(f, "1 move")
+        } else {
+            write!(f, "{count} moves")
+        }
+    }
+}
+
+impl fmt::Display for Points {
+    ghost output = { λ points. Some (points_text points.0) };
+
+    fn fmt<W: fmt::Write>(&self, f: &mut fmt::Formatter<W>) -> fmt::Result {
+        let count = self.0;
+        if count == 0 {
+            write!(f, "no points")
+        } else if count == 1 {
+            write!(f, "1 point")
+        } else {
+            write!(f, "{count} points")
+        }
+    }
+}
+
 impl fmt::Display for Are {
     ghost output = { λ are. Some (are_text are.0) };
 
@@ -61,7 +118,9 @@ impl fmt::Display for Arguments {
     ghost output = { λ arguments. Some (arguments_text arguments.0) };
 
     fn fmt<W: fmt::Write>(&self, f: &mut fmt::Formatter<W>) -> fmt::Result {
-        if self.0 == UNIT {
+        if self.0 == 0 {
+            write!(f, "no arguments")
+        } else if self.0 == UNIT {
             write!(f, "1 argument")
         } else {
             let count = coordinate(self.0);

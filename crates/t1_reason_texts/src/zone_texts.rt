@@ -1,7 +1,7 @@
 //! The texts of reasons of zones and stem widths. Their numbers count 10^-9.
 
 ghost use Rattle.std.specs.Prelude.{◌≡◌, Some};
-ghost use Rattle.t1_reason_texts.specs.ZoneTexts.{above_text, apart_by, apart_of, below_one, below_text, edges_text, falling_text, gap_text, height_text, meets_text, needed_text, too_many_text, width_text, zone_text, zones_text};
+ghost use Rattle.t1_reason_texts.specs.ZoneTexts.{above_text, apart_by, apart_of, below_one, below_text, does_words, edges_text, entry_does, falling_text, gap_text, height_text, meets_text, needed_text, too_many_text, width_text, zone_text, zones_text};
 
 use crate::wide::{Count, Wide, difference, wide_difference, wide_product};
 use crate::words::Numbers;
@@ -290,5 +290,50 @@ impl fmt::Display for WidthText {
         let width = value(self.width);
         let nearest = value(self.nearest);
         write!(f, "{width} is none of the snaps; {nearest} is nearest")
+    }
+}
+
+/// The entry that would do with a number, where there is one from 0 on.
+#[derive(Clone, Copy)]
+pub(crate) struct DoesText {
+    pub(crate) entry: &'static str,
+    pub(crate) number: Option<i64>,
+}
+
+/// The same of a number.
+#[derive(Clone, Copy)]
+struct EntryDoesText {
+    entry: &'static str,
+    number: i64,
+}
+
+impl fmt::Display for EntryDoesText {
+    ghost output = { λ t. Some (entry_does t.entry.now t.number) };
+
+    #[tactic(auto, unfolding(crate::specs::ZoneTexts::entry_does))]
+    fn fmt<W: fmt::Write>(&self, f: &mut fmt::Formatter<W>) -> fmt::Result {
+        let entry = self.entry;
+        let number = value(self.number);
+        write!(f, "; {entry} {number} would do")
+    }
+}
+
+impl fmt::Display for DoesText {
+    ghost output = { λ t. Some (does_words t.entry.now t.number) };
+
+    fn fmt<W: fmt::Write>(&self, f: &mut fmt::Formatter<W>) -> fmt::Result {
+        match self.number {
+            None => Ok(()),
+            Some(number) => {
+                if number < 0 {
+                    return Ok(());
+                }
+                let does = EntryDoesText {
+                    entry: self.entry,
+                    number,
+                };
+                write!(f, "{does}")
+            }
+        }
     }
 }

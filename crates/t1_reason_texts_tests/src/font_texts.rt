@@ -221,7 +221,7 @@ const ROWS: &[Row] = &[
             lower: 707 * ONE,
             distance: 3_000_000_000,
         },
-        "from 705 to 707 is 2; 3 is needed",
+        "from 705 to 707 is 2; 3 is needed; BlueFuzz 1 would do",
     ),
     (
         Rule::Z05,
@@ -230,7 +230,7 @@ const ROWS: &[Row] = &[
             lower: 521 * ONE,
             distance: 3_000_000_000,
         },
-        "from 705 to 521 is -184; 3 is needed",
+        "from 705 to 521 is -184; 3 is needed; BlueFuzz 1 would do",
     ),
     (
         Rule::Z06,
@@ -245,7 +245,7 @@ const ROWS: &[Row] = &[
             },
             distance: 3_000_000_000,
         },
-        "zone -22 to -3 lies 2 below zone -1 to 9; 3 is needed",
+        "zone -22 to -3 lies 2 below zone -1 to 9; 3 is needed; BlueFuzz 0.5 would do",
     ),
     (
         Rule::Z06,
@@ -260,7 +260,7 @@ const ROWS: &[Row] = &[
             },
             distance: 1_000_000_002,
         },
-        "zone 10 to 20 lies 0.5 above zone 0 to 9.5; 1.000000002 is needed",
+        "zone 10 to 20 lies 0.5 above zone 0 to 9.5; 1.000000002 is needed; BlueFuzz 0.5 would do",
     ),
     (
         Rule::Z06,
@@ -275,7 +275,7 @@ const ROWS: &[Row] = &[
             },
             distance: 3_000_000_000,
         },
-        "zone -8 to 2 overlaps zone -1 to 9; 3 is needed",
+        "zone -8 to 2 overlaps zone -1 to 9; 3 is needed; BlueFuzz 0.5 would do",
     ),
     (
         Rule::Z07,
@@ -284,7 +284,7 @@ const ROWS: &[Row] = &[
             upper: 0,
             scale: 45_460_000,
         },
-        "zone -22 to 0, height 22 times BlueScale 0.04546 is 1.00012; less than 1 is needed",
+        "zone -22 to 0, height 22 times BlueScale 0.04546 is 1.00012; less than 1 is needed; BlueScale 0.052631578 would do",
     ),
     (
         Rule::Z07,
@@ -293,7 +293,7 @@ const ROWS: &[Row] = &[
             upper: 25_300_000_001,
             scale: 39_625_000,
         },
-        "zone 0 to 25.300000001, height 25.300000001 times BlueScale 0.039625 is 1.002512500039625; less than 1 is needed",
+        "zone 0 to 25.300000001, height 25.300000001 times BlueScale 0.039625 is 1.002512500039625; less than 1 is needed; BlueScale 0.052631578 would do",
     ),
     (
         Rule::Z11,

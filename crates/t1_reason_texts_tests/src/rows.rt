@@ -9,11 +9,12 @@ use t1_reasons::Reason;
 use t1_rules::Rule;
 use t1_samples::{FontFile, font_of};
 
-/// A font with a custom Encoding and glyphs of odd names.
+/// A font with a custom Encoding, zones, and glyphs of odd names.
 const CLEAR: &str =
     "%!\n/FontType 1 def /PaintType 0 def /Encoding 256 array dup 65 /Aacute put dup 66 /C:\\def put def eexec\n";
 
-const PRIVATE: &str = "/password 5839 def /MinFeature {16 16} def \
+const PRIVATE: &str =
+    "/password 5839 def /MinFeature {16 16} def /BlueValues [-1 9 12 20] def /OtherBlues [-22 -3] def \
 /CharStrings 6 dict dup begin /.notdef 0 RD  ND /A 0 RD  ND /abcdefghijklmnopqrstuvwxyzabcdefghijklmnopqrstuvwxyz12345678 0 RD  ND \
 /abcdefghijklmnopqrstuvwxyzabcdefghijklmnopqrstuvwxyz123456789 0 RD  ND /Utilde 0 RD  ND / 0 RD  ND end";
 

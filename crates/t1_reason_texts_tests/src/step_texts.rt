@@ -12,7 +12,31 @@ const UNIT: i32 = 65_536;
 const LONG: i64 = 65_536;
 
 const ROWS: &[Row] = &[
-    (Rule::C01, Reason::Nothing, ""),
+    (Rule::C02, Reason::Nothing, ""),
+    (
+        Rule::C01,
+        Reason::Length {
+            bytes: 3,
+            len_iv: 4,
+        },
+        "3 bytes, lenIV is 4",
+    ),
+    (
+        Rule::C01,
+        Reason::Length {
+            bytes: 1,
+            len_iv: 64,
+        },
+        "1 byte, lenIV is 64",
+    ),
+    (
+        Rule::C01,
+        Reason::Length {
+            bytes: 0,
+            len_iv: 4,
+        },
+        "no bytes, lenIV is 4",
+    ),
     (
         Rule::C04,
         Reason::Count {
@@ -50,6 +74,87 @@ const ROWS: &[Row] = &[
         "endchar takes no numbers, 3 are on the stack",
     ),
     (
+        Rule::C06,
+        Reason::Full {
+            token: CharToken::Number(20),
+            there: 24,
+        },
+        "the number 20 after 24 numbers, 24 at most",
+    ),
+    (
+        Rule::C06,
+        Reason::Full {
+            token: CharToken::Command(Command::Pop),
+            there: 24,
+        },
+        "pop after 24 numbers, 24 at most",
+    ),
+    (Rule::S04, Reason::Ending { subr: 812 }, "Subr 812 ends"),
+    (
+        Rule::GE02,
+        Reason::Behind {
+            next: CharToken::Command(Command::Return),
+        },
+        "return comes next",
+    ),
+    (
+        Rule::GE02,
+        Reason::Behind {
+            next: CharToken::Number(-5),
+        },
+        "the number -5 comes next",
+    ),
+    (
+        Rule::GE02,
+        Reason::Behind {
+            next: CharToken::Unknown12(99),
+        },
+        "bytes 12 99 come next",
+    ),
+    (
+        Rule::X02,
+        Reason::Othersubr {
+            number: 2 * LONG,
+            count: 0,
+        },
+        "OtherSubr 2 with no arguments, a point of a flex",
+    ),
+    (
+        Rule::X02,
+        Reason::Othersubr {
+            number: 0,
+            count: 3 * LONG,
+        },
+        "OtherSubr 0 with 3 arguments, the end of a flex",
+    ),
+    (
+        Rule::X04,
+        Reason::Pairs {
+            moves: 6,
+            points: 7,
+            ends: true,
+        },
+        "6 moves and 7 points; 7 of each are needed",
+    ),
+    (
+        Rule::X04,
+        Reason::Pairs {
+            moves: 1,
+            points: 1,
+            ends: false,
+        },
+        "1 move and 1 point before this point; it needs a move of its own",
+    ),
+    (
+        Rule::X04,
+        Reason::Pairs {
+            moves: 0,
+            points: 0,
+            ends: true,
+        },
+        "no moves and no points; 7 of each are needed",
+    ),
+    (
         Rule::C07,
         Reason::Argument {
             place: 3,
@@ -71,7 +176,7 @@ const ROWS: &[Row] = &[
             dividend: 64_000 * LONG,
             divisor: LONG,
         },
-        "64000 by 1",
+        "64000 divided by 1",
     ),
     (
         Rule::C09,
@@ -79,7 +184,7 @@ const ROWS: &[Row] = &[
             dividend: 5 * LONG,
             divisor: 0,
         },
-        "5 by 0",
+        "5 divided by 0",
     ),
     (
         Rule::S01,
@@ -149,7 +254,11 @@ const ROWS: &[Row] = &[
         },
         "bytes 12 99 are there",
     ),
-    (Rule::W02, Reason::Since { step: Some(3) }, "step 3 set it"),
+    (
+        Rule::W02,
+        Reason::Since { step: Some(3) },
+        "step 3 set the width",
+    ),
     (
         Rule::W02,
         Reason::Since { step: None },
@@ -278,7 +387,7 @@ const ROWS: &[Row] = &[
                 width: 0,
             },
         },
-        "at -15",
+        "the stem is at -15",
     ),
     (
         Rule::H04,
@@ -296,7 +405,7 @@ const ROWS: &[Row] = &[
                 width: 63 * UNIT,
             },
         },
-        "widths 63 126 63, middles -37.5 347 732.5, half a unit off",
+        "widths 63 126 63, middles -37.5 347 732.5, half a unit off; middle 347.5 would do",
     ),
     (
         Rule::H04,
@@ -352,7 +461,7 @@ const ROWS: &[Row] = &[
             number: 3 * LONG,
             count: 0,
         },
-        "OtherSubr 3 with 0 arguments; it takes 1",
+        "OtherSubr 3 with no arguments; it takes 1",
     ),
     (
         Rule::O03,

@@ -1,45 +1,45 @@
 -- Laws of reasons.
-use Rattle.std.proofs.Common.{◌≡◌, ℕ, suc, arith, ◌&&◌, ◌||◌, Bool, true, false, Option, Some, None, is_some, List, [], ◌∷◌, ◌++◌, length, refl, sym, ap, ◌∙◌, ℤ, map, take, ◌-◌, ◌*◌, ◌≤◌, nat_le, not, pos}
+use Rattle.std.proofs.Common.{◌≡◌, ℕ, suc, arith, ◌&&◌, ◌||◌, Bool, true, false, Option, Some, None, is_some, List, [], ◌∷◌, ◌++◌, length, refl, sym, ap, ◌∙◌, ℤ, map, take, ◌-◌, ◌*◌, ◌≤◌, ◌==◌, nat_le, not, pos}
 use Rattle.std.specs.Prelude.{if◌then◌else◌, ◌+◌}
 use Rattle.std.specs.Option.{option_or}
 use Rattle.std.specs.List.{find, flat_map, list_any, Contains}
 use Rattle.std.proofs.lemmas.Bool.{leb-true}
 use Rattle.std.proofs.lemmas.Int.{ints}
 use Rattle.std.proofs.lemmas.List.Folds.{find-append}
-use Rattle.std.proofs.Math.Bool.{and-false}
+use Rattle.std.proofs.Math.Bool.{and-false, and-true}
 use Rattle.t1_char.specs.declared.command.Command.{Command as Commands}
 use Rattle.t1_char.specs.declared.command.Command.TheVariants.{Vstem, Vstem3}
 use Rattle.t1_char.specs.declared.edition.Edition.{Edition}
 use Rattle.t1_char.specs.declared.token.CharToken.{CharToken}
 use Rattle.t1_char.specs.declared.token.CharToken.TheVariants.{Command}
-use Rattle.t1_char.specs.Arguments.{is_callothersubr, is_flex_end, is_whole}
+use Rattle.t1_char.specs.Arguments.{is_callothersubr, is_flex_end, is_flex_point, is_whole}
 use Rattle.t1_char.specs.Numbers.{natural, unit}
 use Rattle.t1_char.specs.Stacks.{from_top}
 use Rattle.t1_char.specs.Commands.{arguments_of}
 use Rattle.t1_char.specs.Steps.{StepView, is_return}
 use Rattle.t1_char.specs.Seacs.{is_seac}
 use Rattle.t1_rules.specs.declared.rule.Rule.{Rule}
-use Rattle.t1_rules.specs.declared.rule.Rule.TheVariants.{C03, C04, C05, C07, C08, C09, S01, S02, S03, H02, H03, H04, X05, O01, O02, O03, K01, K02, K05}
+use Rattle.t1_rules.specs.declared.rule.Rule.TheVariants.{C03, C04, C05, C06, C07, C08, C09, S01, S02, S03, H02, H03, H04, X04, X05, O01, O02, O03, K01, K02, K05}
 use Rattle.t1_rules.specs.declared.sidebearings.Component.{Component}
 use Rattle.t1_rules.specs.declared.step_rules.stems.Stem.{Stem}
 use Rattle.t1_rules.specs.Book.{number_of}
 use Rattle.t1_rules.specs.StepRules.{argument_rules, breaks, call_rules, path_rules, stem_rules, flex_rules, othersubr_rules, seac_rules, component_rules, step_rules, charstring_rules}
-use Rattle.t1_rules.specs.StepRules.Arguments.{divides, divides_by_zero, divides_past, has_argument_past, has_too_few_arguments, has_too_many_arguments, is_more_than, is_past, one_is_past, wanted_by}
+use Rattle.t1_rules.specs.StepRules.Arguments.{divides, divides_by_zero, divides_past, has_argument_past, has_too_few_arguments, has_too_many_arguments, is_more_than, is_past, one_is_past, overflows, wanted_by}
 use Rattle.t1_rules.specs.StepRules.Othersubrs.{calls_by_numbers, calls_unknown, has_bad_count, has_good_count, has_wrong_count, is_effective, is_flex_or_hints, is_good_count, is_up_to}
 use Rattle.t1_rules.specs.StepRules.Calls.{calls_by_number, calls_missing, calls_too_deep, returns_from_glyph}
-use Rattle.t1_rules.specs.StepRules.Flex.{current_point, end_point, ends_elsewhere, is_elsewhere}
+use Rattle.t1_rules.specs.StepRules.Flex.{counts_no_pairs, current_point, end_point, ends_elsewhere, flex_moves, flex_points, is_elsewhere}
 use Rattle.t1_rules.specs.StepRules.Paths.{in_flex}
 use Rattle.t1_rules.specs.StepRules.Seac.{accent, accent_sidebearing, differs_in_sidebearing, has_no_code as no_code, has_unnamed_code, is_another}
 use Rattle.t1_rules.specs.StepRules.Stems.{has_no_width, is_stem, is_triple, sets_unequal, sets_without_width, hint_set, lies_across, one_overlaps, overlap_by, sets_overlapping, stands_upright, stems_meet, stems_of, two_overlap}
 use Rattle.t1_rules.specs.StepRules.Tokens.{is_command, is_unknown}
 use Rattle.t1_rules.proofs.Lemmas.StepRules.{row_decides}
 use Rattle.t1_reasons.specs.declared.reason.Reason.{Reason}
-use Rattle.t1_reasons.specs.declared.reason.Reason.TheVariants.{Argument, Stem as StemAlone, Count, Sidebearings, Stems, Token}
+use Rattle.t1_reasons.specs.declared.reason.Reason.TheVariants.{Argument, Stem as StemAlone, Count, Pairs, Sidebearings, Stems, Token}
 use Rattle.t1_reasons.specs.declared.reason.SetStem.{SetStem}
 use Rattle.t1_reasons.specs.Backgrounds.{background_of}
 use Rattle.t1_reasons.specs.HintSets.{stems_set}
 use Rattle.t1_reasons.specs.Laws.{ReasonsAreAgainstTheirRules, StepsBreakWhereThereIsAReason}
-use Rattle.t1_reasons.specs.StepReasons.{arguments_in, beside, calls_at, codes_at, has_no_code, has_no_name, is_by_zero, is_outermost, is_past_quotient, is_too_deep, is_unknown_othersubr, is_unknown_token, known_calls_at, quotients_at, returns_at, compared_row, compares, count_of, counts_in, first_in_row, has_fewer, has_more, is_any, is_bad_count, is_lacking_subr, is_miscounted, is_miss, is_overlap, is_past_range, is_told_otherwise, is_uneven, is_widthless, misses_at, only_where, othersubrs_at, own_stems, pairs, pairs_with, placed_from, placed_of, reason_row, row_of, sidebearings_at, single_stems_at, stems_at, subrs_at, told_at, told_by, takes, triples_at, wants_in, with_own}
+use Rattle.t1_reasons.specs.StepReasons.{additions_at, are_no_pairs, brings, is_full, pairs_at, arguments_in, beside, calls_at, codes_at, has_no_code, has_no_name, is_by_zero, is_outermost, is_past_quotient, is_too_deep, is_unknown_othersubr, is_unknown_token, known_calls_at, quotients_at, returns_at, compared_row, compares, count_of, counts_in, first_in_row, has_fewer, has_more, is_any, is_bad_count, is_lacking_subr, is_miscounted, is_miss, is_overlap, is_past_range, is_told_otherwise, is_uneven, is_widthless, misses_at, only_where, othersubrs_at, own_stems, pairs, pairs_with, placed_from, placed_of, reason_row, row_of, sidebearings_at, single_stems_at, stems_at, subrs_at, told_at, told_by, takes, triples_at, wants_in, with_own}
 use Rattle.t1_reasons.proofs.Hints.{plain, plain_hints, plain_set}
 
 -- ---- the first such
@@ -183,6 +183,24 @@ both_ways true false true = refl
 both_ways true false false = refl
 both_ways false b c = refl
 
+spread : (p e f a b : Bool) → (((p && a) || (e && b)) && f) ≡ (((p && f) && a) || ((e && f) && b))
+spread p e true a b = rw (and-true p, and-true e) (and-true ((p && a) || (e && b)))
+spread p e false a b = rw (and-false p, and-false e) (and-false ((p && a) || (e && b)))
+
+unpaired : (before : List StepView) (step : StepView) → counts_no_pairs before step ≡ is_some (find are_no_pairs (pairs_at before step))
+unpaired before step =
+    spread (is_flex_point step) (is_flex_end step) (in_flex before) (not (flex_moves before == flex_points before + 1))
+    (not (flex_moves before == 7 && flex_points before == 7))
+    ∙ sym (such_in_both are_no_pairs (only_where (is_flex_point step && in_flex before) (Pairs (flex_moves before) (flex_points before) false))
+    (only_where (is_flex_end step && in_flex before) (Pairs (flex_moves before) (flex_points before) true))
+    ∙ rw (
+      such_where (is_flex_point step && in_flex before) are_no_pairs (Pairs (flex_moves before) (flex_points before) false),
+      such_where (is_flex_end step && in_flex before) are_no_pairs (Pairs (flex_moves before) (flex_points before) true),
+    ) refl)
+
+overfull : (step : StepView) → overflows step ≡ is_some (find is_full (additions_at step))
+overfull step = sym (such_where (brings step) is_full _)
+
 missed : (before : List StepView) (step : StepView) → ends_elsewhere before step ≡ is_some (find is_miss (misses_at before step))
 missed before step =
     both_ways (is_flex_end step) (is_elsewhere (end_point step) (current_point before)) (in_flex before)
@@ -271,6 +289,8 @@ compared_decides edition components C04 before step e =
     row_decides 29 (charstring_rules edition components) 3 _ refl refl refl refl before step ∙ fewer_counted step.token step.stack
 compared_decides edition components C05 before step e =
     row_decides 30 (charstring_rules edition components) 4 _ refl refl refl refl before step ∙ more_counted step.token step.stack
+compared_decides edition components C06 before step e =
+    row_decides 31 (charstring_rules edition components) 5 _ refl refl refl refl before step ∙ overfull step
 compared_decides edition components C07 before step e =
     row_decides 32 (charstring_rules edition components) 6 _ refl refl refl refl before step ∙ past_argument step.token step.stack
 compared_decides edition components C08 before step e =
@@ -289,6 +309,8 @@ compared_decides edition components H03 before step e =
     row_decides 48 (charstring_rules edition components) 22 _ refl refl refl refl before step ∙ widthless step
 compared_decides edition components H04 before step e =
     row_decides 49 (charstring_rules edition components) 23 _ refl refl refl refl before step ∙ uneven step
+compared_decides edition components X04 before step e =
+    row_decides 55 (charstring_rules edition components) 29 _ refl refl refl refl before step ∙ unpaired before step
 compared_decides edition components X05 before step e =
     row_decides 56 (charstring_rules edition components) 30 _ refl refl refl refl before step ∙ missed before step
 compared_decides edition components O01 before step e =

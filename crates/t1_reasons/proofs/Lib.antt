@@ -1,4 +1,5 @@
 mod Backgrounds
+mod Endings
 mod FaultLaws
 mod Finds
 mod FontLaws

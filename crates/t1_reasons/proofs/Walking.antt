@@ -15,6 +15,7 @@ use Rattle.t1_char.specs.Editions.{limit_of}
 use Rattle.t1_char.specs.Steps.{NumberedStep, StepView, steps_of}
 use Rattle.t1_char.specs.Turns.{MachineView, answered, counted_after, ended, is_told, limit_or_end, limited, step_of_number, step_or_end, stepped, turn_at}
 use Rattle.t1_char.proofs.TurnsTaken.{IsStepped, answered_over, stepped_is}
+use Rattle.t1_font.specs.Fonts.{FontValue}
 use Rattle.t1_rules.specs.Watches.{most_steps}
 use Rattle.t1_rules.specs.declared.mask.Mask.{Mask}
 use Rattle.t1_rules.specs.declared.rule.Rule.{Rule}
@@ -26,9 +27,8 @@ use Rattle.t1_rules.specs.Book.{number_of}
 use Rattle.t1_rules.specs.Mask.{has}
 use Rattle.t1_rules.specs.StepRules.{StepRule, breaks, charstring_rules, component_rules, step_rules}
 use Rattle.t1_reasons.specs.declared.steps_before.StepsBefore.{StepsBefore}
-use Rattle.t1_reasons.specs.GlyphReasons.{IsAnswer, IsBegun, IsInHand, IsOfSameGlyph, IsWatched, is_step, limit_reason, next_reason, reason_among, reason_at, reason_at_place, steps_in}
+use Rattle.t1_reasons.specs.GlyphReasons.{IsAnswer, IsBegun, IsInHand, IsOfSameGlyph, IsWatched, is_step, limit_reason, next_reason, reason_among, reason_at, reason_at_place, steps_in, told_reason}
 use Rattle.t1_reasons.specs.Standing.{AreBroken, StepsStandFor}
-use Rattle.t1_reasons.specs.StepReasons.{step_reason}
 
 pub few_steps : (m : MachineView) (n : ℕ) → length (take n (steps_in m)) < most_steps
 few_steps m n = omega (arith, length-take n (steps_in m), length-take (limit_of m.edition) (steps_of m.font m.glyph), limit_is_small m.edition)
@@ -254,14 +254,14 @@ before_below (suc limit) zero steps less = refl
 before_below (suc limit) (suc place) [] less = refl
 before_below (suc limit) (suc place) (s ∷ ss) less = ap (λ xs. s ∷ xs) (before_below limit place ss (omega arith))
 
-among_below : (limit : ℕ) (edition : Edition) (components : List Component) (rule : Rule) (steps : List StepView) (place : ℕ) → place < limit
-    → reason_among limit edition components rule steps place ≡ reason_at_place edition components rule (take limit steps) place
-among_below limit edition components rule steps place less =
+among_below : (limit : ℕ) (font : FontValue) (glyph : ℕ) (edition : Edition) (components : List Component) (rule : Rule) (steps : List StepView) (place : ℕ) → place < limit
+    → reason_among limit font glyph edition components rule steps place ≡ reason_at_place font glyph edition components rule (take limit steps) place
+among_below limit font glyph edition components rule steps place less =
     rw (lt-ltb place limit less, got_below limit place steps less, before_below limit place steps less) refl
 
-none_among : (limit : ℕ) (edition : Edition) (components : List Component) (rule : Rule) (steps : List StepView) (place : ℕ)
-    → length (take limit steps) ≤ place → (place ≡ limit → length steps ≤ limit) → reason_among limit edition components rule steps place ≡ None
-none_among limit edition components rule steps place past short = go (nat_lt place limit) refl
+none_among : (limit : ℕ) (font : FontValue) (glyph : ℕ) (edition : Edition) (components : List Component) (rule : Rule) (steps : List StepView) (place : ℕ)
+    → length (take limit steps) ≤ place → (place ≡ limit → length steps ≤ limit) → reason_among limit font glyph edition components rule steps place ≡ None
+none_among limit font glyph edition components rule steps place past short = go (nat_lt place limit) refl
   where
     none_at : (b : Bool) → (place == limit) ≡ b → (c : Bool) → nat_lt place (length steps) ≡ c
         → (if b && c then limit_reason limit rule else None) ≡ None
@@ -272,21 +272,21 @@ none_among limit edition components rule steps place past short = go (nat_lt pla
         absurd (omega (arith, at, short at, ltb-true place (length steps) less))
 
     go : (b : Bool) → nat_lt place limit ≡ b
-        → (if b then reason_at_place edition components rule steps place
+        → (if b then reason_at_place font glyph edition components rule steps place
         else (if place == limit && nat_lt place (length steps) then limit_reason limit rule else None)) ≡ None
     go true is =
         let none : slice_get steps place ≡ None =
         none_there place steps (omega (arith, past, length-take limit steps, ltb-true place limit is)) in
-        ap (next_reason edition components rule (take place steps)) none
+        ap (next_reason font glyph edition components rule (take place steps)) none
     go false is = none_at (place == limit) refl (nat_lt place (length steps)) refl
 
-limit_among : (limit : ℕ) (edition : Edition) (components : List Component) (rule : Rule) (steps : List StepView) (place : ℕ)
-    → place ≡ limit → limit < length steps → reason_among limit edition components rule steps place ≡ limit_reason limit rule
-limit_among limit edition components rule steps place at long =
-    ap (reason_among limit edition components rule steps) at ∙ go (nat_lt limit limit) refl (limit == limit) refl (nat_lt limit (length steps)) refl
+limit_among : (limit : ℕ) (font : FontValue) (glyph : ℕ) (edition : Edition) (components : List Component) (rule : Rule) (steps : List StepView) (place : ℕ)
+    → place ≡ limit → limit < length steps → reason_among limit font glyph edition components rule steps place ≡ limit_reason limit rule
+limit_among limit font glyph edition components rule steps place at long =
+    ap (reason_among limit font glyph edition components rule steps) at ∙ go (nat_lt limit limit) refl (limit == limit) refl (nat_lt limit (length steps)) refl
   where
     go : (a : Bool) → nat_lt limit limit ≡ a → (b : Bool) → (limit == limit) ≡ b → (c : Bool) → nat_lt limit (length steps) ≡ c
-        → (if a then reason_at_place edition components rule steps limit else (if b && c then limit_reason limit rule else None))
+        → (if a then reason_at_place font glyph edition components rule steps limit else (if b && c then limit_reason limit rule else None))
         ≡ limit_reason limit rule
     go true less b same c more = absurd (omega (arith, ltb-true limit limit less))
     go false less false same c more = let no : (limit == limit) ≡ true = grind arith in cc
@@ -296,7 +296,7 @@ limit_among limit edition components rule steps place at long =
 -- The reason of the step in hand.
 pub reason_in_hand : (m : MachineView) (rule : Rule) → 0 < m.counted → m.counted ≤ length (steps_in m) → IsInHand m
     → reason_at m rule m.counted
-    ≡ step_reason m.edition (components_of (limit_of m.edition) m.font) rule (take (m.counted - 1) (steps_in m)) m.step.step
+    ≡ told_reason m.font m.glyph m.edition (components_of (limit_of m.edition) m.font) rule (take (m.counted - 1) (steps_in m)) m.step.step
 reason_in_hand m rule some few hand =
     let place = m.counted - 1 in
     let number : m.counted ≡ suc place = omega arith in
@@ -307,28 +307,28 @@ reason_in_hand m rule some few hand =
     let below : place < limit_of m.edition = omega (arith, few, length-take (limit_of m.edition) (steps_of m.font m.glyph)) in
     let components = components_of (limit_of m.edition) m.font in
     ap (reason_at m rule) number
-    ∙ among_below (limit_of m.edition) m.edition components rule (steps_of m.font m.glyph) place below
-    ∙ ap (next_reason m.edition components rule (take place (steps_in m))) there
-    ∙ ap (step_reason m.edition components rule (take place (steps_in m))) (sym same)
+    ∙ among_below (limit_of m.edition) m.font m.glyph m.edition components rule (steps_of m.font m.glyph) place below
+    ∙ ap (next_reason m.font m.glyph m.edition components rule (take place (steps_in m))) there
+    ∙ ap (told_reason m.font m.glyph m.edition components rule (take place (steps_in m))) (sym same)
 
 -- Past the steps there is none.
 pub no_reason_past : (m : MachineView) (rule : Rule) (number : ℕ) → length (steps_in m) + 1 < number → reason_at m rule number ≡ None
 no_reason_past m rule zero past = absurd (omega arith)
 no_reason_past m rule (suc place) past =
-    none_among (limit_of m.edition) m.edition (components_of (limit_of m.edition) m.font) rule (steps_of m.font m.glyph) place (omega arith)
+    none_among (limit_of m.edition) m.font m.glyph m.edition (components_of (limit_of m.edition) m.font) rule (steps_of m.font m.glyph) place (omega arith)
     (λ at. omega (arith, past, at, length-take (limit_of m.edition) (steps_of m.font m.glyph)))
 
 pub no_reason_at_the_end : (m : MachineView) (rule : Rule) (number : ℕ) → number ≡ length (steps_in m) + 1
     → length (steps_of m.font m.glyph) ≤ limit_of m.edition → reason_at m rule number ≡ None
 no_reason_at_the_end m rule zero past short = absurd (omega arith)
 no_reason_at_the_end m rule (suc place) past short =
-    none_among (limit_of m.edition) m.edition (components_of (limit_of m.edition) m.font) rule (steps_of m.font m.glyph) place (omega arith) (λ at. short)
+    none_among (limit_of m.edition) m.font m.glyph m.edition (components_of (limit_of m.edition) m.font) rule (steps_of m.font m.glyph) place (omega arith) (λ at. short)
 
 pub reason_past_the_limit : (m : MachineView) (rule : Rule) (number : ℕ) → number ≡ length (steps_in m) + 1
     → limit_of m.edition < length (steps_of m.font m.glyph) → reason_at m rule number ≡ limit_reason (limit_of m.edition) rule
 reason_past_the_limit m rule zero past long = absurd (omega arith)
 reason_past_the_limit m rule (suc place) past long =
-    limit_among (limit_of m.edition) m.edition (components_of (limit_of m.edition) m.font) rule (steps_of m.font m.glyph) place
+    limit_among (limit_of m.edition) m.font m.glyph m.edition (components_of (limit_of m.edition) m.font) rule (steps_of m.font m.glyph) place
     (omega (arith, past, long, length-take (limit_of m.edition) (steps_of m.font m.glyph))) long
 
 pub same_reason : (old new : MachineView) (rule : Rule) (number : ℕ) → IsOfSameGlyph old new → reason_at new rule number ≡ reason_at old rule number
@@ -338,8 +338,10 @@ same_reason old new rule (suc place) same = rw (same.font, same.glyph, same.edit
 pub same_of_same : (a b c : MachineView) → IsOfSameGlyph a b → IsOfSameGlyph b c → IsOfSameGlyph a c
 same_of_same a b c one two = record { font = two.font ∙ one.font; glyph = two.glyph ∙ one.glyph; edition = two.edition ∙ one.edition }
 
-pub begun_on : (old new : MachineView) (glyph : ℕ) (edition : Edition) → IsOfSameGlyph old new → IsBegun old glyph edition → IsBegun new glyph edition
-begun_on old new glyph edition same begun = record {
+pub begun_on : (old new : MachineView) (font : FontValue) (glyph : ℕ) (edition : Edition) → IsOfSameGlyph old new
+    → IsBegun old font glyph edition → IsBegun new font glyph edition
+begun_on old new font glyph edition same begun = record {
+  font_is = same.font ∙ begun.font_is;
   glyph_is = same.glyph ∙ begun.glyph_is;
   edition_is = same.edition ∙ begun.edition_is;
   there = rw same.font begun.there;

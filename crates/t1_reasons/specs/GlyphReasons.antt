@@ -1,5 +1,5 @@
 -- Why a glyph breaks a rule at a step.
-use Rattle.std.specs.Prelude.{◌≡◌, ℕ, zero, suc, ◌+◌, ◌-◌, ◌<◌, ◌≤◌, ◌==◌, ◌&&◌, nat_lt, if◌then◌else◌, Bool, true, false, Option, Some, None, List, length, slice_get, take}
+use Rattle.std.specs.Prelude.{◌≡◌, ℕ, zero, suc, ◌+◌, ◌-◌, ◌<◌, ◌≤◌, ◌==◌, ◌&&◌, nat_lt, if◌then◌else◌, Bool, true, false, Option, Some, None, List, length, option_map, slice_get, take}
 use Rattle.t1_char.specs.declared.edition.Edition.{Edition}
 use Rattle.t1_char.specs.declared.machine.Answer.{Answer}
 use Rattle.t1_char.specs.declared.machine.Answer.TheVariants.{Step, Ended, Limit}
@@ -18,33 +18,39 @@ use Rattle.t1_rules.specs.StepRules.{step_rules}
 use Rattle.t1_reasons.specs.declared.reason.Reason.{Reason}
 use Rattle.t1_reasons.specs.declared.reason.Reason.TheVariants.{Limit as PastLimit}
 use Rattle.t1_reasons.specs.declared.steps_before.StepsBefore.{StepsBefore}
+use Rattle.t1_reasons.specs.CharstringReasons.{told_of_step}
 use Rattle.t1_reasons.specs.Standing.{AreBroken, StepsStandFor}
 use Rattle.t1_reasons.specs.StepReasons.{step_reason}
 
--- Of the step at a place of a list, given those before it; none where there is no step.
-abbrev pub next_reason : Edition → List Component → Rule → List StepView → Option StepView → Option Reason
-next_reason edition components rule before None = None
-next_reason edition components rule before (Some step) = step_reason edition components rule before step
+-- Of a step of a glyph, given those before it, with what its charstring tells.
+abbrev pub told_reason : FontValue → ℕ → Edition → List Component → Rule → List StepView → StepView → Option Reason
+told_reason font glyph edition components rule before step =
+    option_map (told_of_step font glyph rule step) (step_reason edition components rule before step)
 
-abbrev pub reason_at_place : Edition → List Component → Rule → List StepView → ℕ → Option Reason
-reason_at_place edition components rule steps place =
-    next_reason edition components rule (take place steps) (slice_get steps place)
+-- Of the step at a place of a list; none where there is no step.
+abbrev pub next_reason : FontValue → ℕ → Edition → List Component → Rule → List StepView → Option StepView → Option Reason
+next_reason font glyph edition components rule before None = None
+next_reason font glyph edition components rule before (Some step) = told_reason font glyph edition components rule before step
+
+abbrev pub reason_at_place : FontValue → ℕ → Edition → List Component → Rule → List StepView → ℕ → Option Reason
+reason_at_place font glyph edition components rule steps place =
+    next_reason font glyph edition components rule (take place steps) (slice_get steps place)
 
 -- The first step past the limit breaks the rule on that, and no other.
 abbrev pub limit_reason : ℕ → Rule → Option Reason
 limit_reason limit L01 = Some (PastLimit limit)
 limit_reason limit _ = None
 
-abbrev pub reason_among : ℕ → Edition → List Component → Rule → List StepView → ℕ → Option Reason
-reason_among limit edition components rule steps place =
-    if nat_lt place limit then reason_at_place edition components rule steps place
+abbrev pub reason_among : ℕ → FontValue → ℕ → Edition → List Component → Rule → List StepView → ℕ → Option Reason
+reason_among limit font glyph edition components rule steps place =
+    if nat_lt place limit then reason_at_place font glyph edition components rule steps place
     else (if place == limit && nat_lt place (length steps) then limit_reason limit rule else None)
 
 -- Of a step of a glyph, by its number from 1.
 abbrev pub glyph_reason : FontValue → Edition → ℕ → Rule → ℕ → Option Reason
 glyph_reason font edition glyph rule zero = None
 glyph_reason font edition glyph rule (suc place) =
-    reason_among (limit_of edition) edition (components_of (limit_of edition) font) rule (steps_of font glyph) place
+    reason_among (limit_of edition) font glyph edition (components_of (limit_of edition) font) rule (steps_of font glyph) place
 
 abbrev pub reason_at : MachineView → Rule → ℕ → Option Reason
 reason_at m rule number = glyph_reason m.font m.edition m.glyph rule number
@@ -73,8 +79,9 @@ pub record IsWatched (m : MachineView) (steps : StepsBefore) (watchers : Watches
       → AreBroken (step_rules m.edition) mask (take (m.counted - 1) (steps_in m)) m.step.step
   pub answer : IsAnswer last m
 
--- The machine executes this glyph by this edition, and the font has that glyph.
-pub record IsBegun (m : MachineView) (glyph : ℕ) (edition : Edition) : Type 0 where
+-- The machine executes this glyph of the font by this edition, and the font has that glyph.
+pub record IsBegun (m : MachineView) (font : FontValue) (glyph : ℕ) (edition : Edition) : Type 0 where
+  pub font_is : m.font ≡ font
   pub glyph_is : m.glyph ≡ glyph
   pub edition_is : m.edition ≡ edition
   pub there : glyph < length m.font.glyphs

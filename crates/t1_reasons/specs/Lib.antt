@@ -1,5 +1,6 @@
 pub mod Backgrounds
 pub mod Carried
+pub mod CharstringReasons
 pub mod FaultReasons
 pub mod FontReasons
 pub mod GlyphReasons

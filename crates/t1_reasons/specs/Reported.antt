@@ -1,5 +1,5 @@
 -- Why a fault of a report is there.
-use Rattle.std.specs.Prelude.{ℕ, ◌==◌, ◌-◌, ◌+◌, ◌/◌, ◌%◌, if◌then◌else◌, Option, Some, None, List, length, slice_get}
+use Rattle.std.specs.Prelude.{◌≡◌, true, is_some, ℕ, ◌==◌, ◌-◌, ◌+◌, ◌/◌, ◌%◌, if◌then◌else◌, Option, Some, None, List, length, slice_get}
 use Rattle.t1_font.specs.Fonts.{FontValue}
 use Rattle.t1_reasons.specs.FontReasons.{font_reason}
 use Rattle.t1_reasons.specs.GlyphReasons.{glyph_reason}
@@ -8,6 +8,7 @@ use Rattle.t1_reasons.specs.declared.reason.Reason.{Reason}
 use Rattle.t1_reasons.specs.declared.reason.Reason.TheVariants.{Waiver as WaiverReason}
 use Rattle.t1_report.specs.Checked.{CheckedFont}
 use Rattle.t1_report.specs.Faults.{FaultValue}
+use Rattle.t1_report.specs.Reports.{IsTold, place_of}
 use Rattle.t1_report.specs.Waivers.{Waiver}
 use Rattle.t1_rules.specs.Keys.{index_count}
 use Rattle.t1_rules.specs.declared.rule.Rule.{Rule}
@@ -27,3 +28,9 @@ fault_reason font waivers fault =
     if fault.unit == 0 then key_reason font.value fault.rule fault.step
     else (if fault.unit == length font.value.glyphs + 1 then waiver_reason font.value (slice_get waivers (fault.step - 1))
     else glyph_reason font.value font.edition (fault.unit - 1) fault.rule fault.step)
+
+-- Each fault of a report has a reason.
+abbrev pub ReportedFaultsHaveReasons : Type 0
+ReportedFaultsHaveReasons =
+    (font : CheckedFont) (waivers : List Waiver) (fault : FaultValue) → IsTold font waivers (place_of fault) →
+    is_some (fault_reason font waivers fault) ≡ true

@@ -1,20 +1,20 @@
 -- Why a step breaks a rule. Some rules compare numbers: a reason is the first of what they compare, the candidates, that is against
 -- the rule, and the rule's test sees the numbers of a candidate alone. The other rules tell where they are broken, and of what.
-use Rattle.std.specs.Prelude.{ℕ, ℤ, ◌+◌, ◌-◌, take, ◌==◌, ◌&&◌, ◌||◌, not, is_none, Bool, true, false, nat_lt, if◌then◌else◌, Option, Some, None, List, [], ◌∷◌, ◌++◌, length, map}
+use Rattle.std.specs.Prelude.{ℕ, ℤ, ◌+◌, ◌-◌, take, ◌==◌, ◌&&◌, ◌||◌, not, is_none, Bool, true, false, nat_le, nat_lt, if◌then◌else◌, Option, Some, None, List, [], ◌∷◌, ◌++◌, length, map, slice_get}
 use Rattle.std.specs.List.{find, flat_map}
 use Rattle.std.specs.Ordering.{int_eq}
 use Rattle.t1_char.specs.declared.command.Command.{Command as Commands}
 use Rattle.t1_char.specs.declared.edition.Edition.{Edition}
 use Rattle.t1_char.specs.declared.token.CharToken.{CharToken}
 use Rattle.t1_char.specs.declared.token.CharToken.TheVariants.{Command}
-use Rattle.t1_char.specs.Arguments.{argument, is_flex_end, is_whole}
+use Rattle.t1_char.specs.Arguments.{argument, is_flex_end, is_flex_point, is_whole}
 use Rattle.t1_char.specs.Commands.{arguments_of}
-use Rattle.t1_char.specs.Stacks.{from_top}
+use Rattle.t1_char.specs.Stacks.{from_top, most_numbers}
 use Rattle.t1_char.specs.Effects.{most_calls}
-use Rattle.t1_char.specs.Steps.{StepView, is_return}
+use Rattle.t1_char.specs.Steps.{StepView, is_number, is_return}
 use Rattle.t1_char.specs.Seacs.{is_seac}
 use Rattle.t1_rules.specs.declared.rule.Rule.{Rule}
-use Rattle.t1_rules.specs.declared.rule.Rule.TheVariants.{C03, C04, C05, C07, C08, C09, S01, S02, S03, W01, W02, P01, P02, P03, H01, H02, H03, H04, R01, R02, X01, X03, X05, O01, O02, O03, K01, K02, K03, K04, K05, K06, K07}
+use Rattle.t1_rules.specs.declared.rule.Rule.TheVariants.{C03, C04, C05, C06, C07, C08, C09, S01, S02, S03, S04, W01, W02, P01, P02, P03, H01, H02, H03, H04, R01, R02, X01, X02, X03, X04, X05, O01, O02, O03, K01, K02, K03, K04, K05, K06, K07}
 use Rattle.t1_rules.specs.declared.sidebearings.Component.{Component}
 use Rattle.t1_rules.specs.declared.step_rules.stems.Stem.{Stem}
 use Rattle.t1_rules.specs.Book.{number_of}
@@ -22,17 +22,17 @@ use Rattle.t1_rules.specs.StepRules.{breaks, charstring_rules}
 use Rattle.t1_rules.specs.StepRules.Arguments.{divides, is_past, is_zero, quotient_is_past, wanted_by}
 use Rattle.t1_rules.specs.StepRules.Othersubrs.{calls_by_numbers, has_good_count, is_flex_or_hints, is_good_count, is_known}
 use Rattle.t1_rules.specs.StepRules.Calls.{calls_by_number}
-use Rattle.t1_rules.specs.StepRules.Flex.{current_point, end_point, is_elsewhere}
+use Rattle.t1_rules.specs.StepRules.Flex.{current_point, end_point, flex_moves, flex_points, is_elsewhere}
 use Rattle.t1_rules.specs.StepRules.Paths.{in_flex}
 use Rattle.t1_rules.specs.StepRules.Seac.{accent, accent_sidebearing, is_unnamed, seac_code}
 use Rattle.t1_rules.specs.StepRules.Stems.{are_unequal, has_no_width, is_stem, is_triple, stem_at, lies_across, overlap_by, stands_upright, stems_of}
-use Rattle.t1_rules.specs.StepRules.Tokens.{is_command, is_unknown}
+use Rattle.t1_rules.specs.StepRules.Tokens.{is_command, is_pop, is_unknown}
 use Rattle.t1_reasons.specs.declared.background.Background.{Background}
 use Rattle.t1_reasons.specs.declared.reason.Reason.{Reason}
 use Rattle.t1_reasons.specs.declared.reason.SetStem.{SetStem}
 use Rattle.t1_reasons.specs.Backgrounds.{background_of}
 use Rattle.t1_reasons.specs.HintSets.{all_set_at, stems_set}
-use Rattle.t1_reasons.specs.declared.reason.Reason.TheVariants.{Argument, Arguments, Codes, Count, Depth, Miss, Nothing, Open, Othersubr, Quotient, Sidebearings, Since, Stem as StemAlone, Stems, Subr, Token, Triple}
+use Rattle.t1_reasons.specs.declared.reason.Reason.TheVariants.{Argument, Arguments, Codes, Count, Depth, Ending, Full, Miss, Nothing, Open, Othersubr, Pairs, Quotient, Sidebearings, Since, Stem as StemAlone, Stems, Subr, Token, Triple}
 
 -- ---- candidates
 
@@ -58,6 +58,13 @@ wants_in _ stack = []
 
 abbrev pub wants_at : StepView → List Reason
 wants_at step = wants_in step.token step.stack
+
+-- A token that brings one more number to the stack, and how many are there.
+abbrev pub brings : StepView → Bool
+brings step = is_number step.token || (is_pop step.token && nat_lt 0 step.waiting)
+
+abbrev pub additions_at : StepView → List Reason
+additions_at step = only_where (brings step) (Full step.token (length step.stack))
 
 -- The arguments of a command, with their places.
 abbrev pub placed_from : ℕ → List ℤ → List Reason
@@ -139,6 +146,12 @@ stems_at before step =
     if is_command lies_across step.token then pairs_with (own_stems before step) (stems_set lies_across before)
     else (if is_command stands_upright step.token then pairs_with (own_stems before step) (stems_set stands_upright before) else [])
 
+-- The moves and the points of a flex so far, where one of its points is given, and where it ends.
+abbrev pub pairs_at : List StepView → StepView → List Reason
+pairs_at before step =
+    only_where (is_flex_point step && in_flex before) (Pairs (flex_moves before) (flex_points before) false)
+    ++ only_where (is_flex_end step && in_flex before) (Pairs (flex_moves before) (flex_points before) true)
+
 -- Where the end of a flex says that it is, and where the pen is.
 abbrev pub misses_at : List StepView → StepView → List Reason
 misses_at before step = only_where (is_flex_end step && in_flex before) (Miss (end_point step) (current_point before))
@@ -164,6 +177,11 @@ abbrev pub has_fewer : Reason → Bool
 has_fewer (Count command taken there) = nat_lt there taken
 has_fewer _ = false
 
+-- The stack is full.
+abbrev pub is_full : Reason → Bool
+is_full (Full token there) = there == most_numbers
+is_full _ = false
+
 abbrev pub is_past_range : Reason → Bool
 is_past_range (Argument place number) = is_past number
 is_past_range _ = false
@@ -187,6 +205,14 @@ is_lacking_subr _ = false
 abbrev pub is_overlap : Edition → Reason → Bool
 is_overlap edition (Stems own other) = overlap_by edition own other.stem
 is_overlap edition _ = false
+
+-- A point comes after its move, and the end after seven of each.
+abbrev pub are_pairs : ℕ → ℕ → Bool → Bool
+are_pairs moves points ends = if ends then moves == 7 && points == 7 else moves == points + 1
+
+abbrev pub are_no_pairs : Reason → Bool
+are_no_pairs (Pairs moves points ends) = not (are_pairs moves points ends)
+are_no_pairs _ = false
 
 abbrev pub is_miss : Reason → Bool
 is_miss (Miss named pen) = is_elsewhere named pen
@@ -244,8 +270,18 @@ is_any reason = true
 
 -- ---- rules that compare no numbers
 
+-- The Subr that ends.
+abbrev pub ending_of : Option ℕ → Reason
+ending_of None = Nothing
+ending_of (Some subr) = Ending subr
+
+-- The call of an OtherSubr, where its number and its count are there.
+abbrev pub call_of : List ℤ → Reason
+call_of stack = if nat_le 2 (length stack) then Othersubr (from_top stack 0) (from_top stack 1) else Nothing
+
 -- What such a rule says of a step that breaks it: an earlier step, the token, or the numbers that it speaks of.
 abbrev pub told_by : Rule → Background → StepView → Reason
+told_by S04 background step = ending_of (slice_get step.path (length step.path - 1))
 told_by W01 background step = Token step.token
 told_by W02 background step = Since background.width
 told_by P01 background step = Since background.closed
@@ -255,6 +291,7 @@ told_by H01 background step = Since background.drawn
 told_by R01 background step = Token step.token
 told_by R02 background step = Token step.token
 told_by X01 background step = Since background.flex
+told_by X02 background step = call_of step.stack
 told_by X03 background step = Since background.flex
 told_by K03 background step = Codes (argument step.stack 3) (argument step.stack 4)
 told_by K04 background step = Codes (argument step.stack 3) (argument step.stack 4)
@@ -277,6 +314,7 @@ abbrev pub compares : Rule → Bool
 compares C03 = true
 compares C04 = true
 compares C05 = true
+compares C06 = true
 compares C07 = true
 compares C08 = true
 compares C09 = true
@@ -286,6 +324,7 @@ compares S03 = true
 compares H02 = true
 compares H03 = true
 compares H04 = true
+compares X04 = true
 compares X05 = true
 compares O01 = true
 compares O02 = true
@@ -299,6 +338,7 @@ abbrev pub compared_row : Edition → List Component → Rule → ReasonRow
 compared_row edition components C03 = reason_row (λ before step. tokens_at step) is_unknown_token
 compared_row edition components C04 = reason_row (λ before step. wants_at step) has_fewer
 compared_row edition components C05 = reason_row (λ before step. counts_at step) has_more
+compared_row edition components C06 = reason_row (λ before step. additions_at step) is_full
 compared_row edition components C07 = reason_row (λ before step. arguments_at step) is_past_range
 compared_row edition components C08 = reason_row (λ before step. quotients_at step) is_past_quotient
 compared_row edition components C09 = reason_row (λ before step. quotients_at step) is_by_zero
@@ -308,6 +348,7 @@ compared_row edition components S03 = reason_row (λ before step. returns_at ste
 compared_row edition components H02 = reason_row stems_at (is_overlap edition)
 compared_row edition components H03 = reason_row (λ before step. single_stems_at step) is_widthless
 compared_row edition components H04 = reason_row (λ before step. triples_at step) is_uneven
+compared_row edition components X04 = reason_row pairs_at are_no_pairs
 compared_row edition components X05 = reason_row misses_at is_miss
 compared_row edition components O01 = reason_row (λ before step. known_calls_at step) is_unknown_othersubr
 compared_row edition components O02 = reason_row (λ before step. othersubrs_at step) is_bad_count

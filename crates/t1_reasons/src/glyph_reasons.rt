@@ -8,6 +8,7 @@ ghost use Rattle.t1_rules.specs.Components.{AreOf};
 ghost use Rattle.t1_rules.specs.Private.Standing.{WatchesStandFor};
 ghost use Rattle.t1_rules.specs.StepRules.{step_rules};
 
+use crate::charstring_reasons::told_of_step;
 use crate::reason::Reason;
 use crate::steps_before::StepsBefore;
 use std::marker::Model;
@@ -19,6 +20,7 @@ use t1_rules::{Mask, Rule, Sidebearings, Watch, Watches};
 /// asked for an earlier step. It takes no memory and can't fail.
 #[derive(Drop)]
 pub struct GlyphReasons<'a> {
+    font: &'a Font<'a>,
     glyph: usize,
     edition: Edition,
     machine: Machine<'a>,
@@ -41,7 +43,7 @@ impl<'a> Model for GlyphReasons<'a> {
     ghost view = { λ r. r.machine };
 
     ghost invariant = { λ r. IsWatched r.machine r.before r.watches r.broken r.answer
-        × IsBegun r.machine r.glyph r.edition };
+        × IsBegun r.machine r.font.now r.glyph r.edition };
 }
 
 impl<'a> GlyphReasons<'a> {
@@ -54,6 +56,7 @@ impl<'a> GlyphReasons<'a> {
         ensures counted { result.counted ≡ 0 }
     {
         GlyphReasons {
+            font,
             glyph,
             edition,
             machine: Machine::start(font, glyph, edition),
@@ -101,7 +104,8 @@ impl<'a> GlyphReasons<'a> {
             Answer::Step => {
                 let step = self.machine.current();
                 let broken = self.broken.join(sidebearings.see(step));
-                self.before.reason(rule, step, sidebearings, broken)
+                let reason = self.before.reason(rule, step, sidebearings, broken);
+                told_of_step(self.font, self.glyph, rule, step, reason)
             }
             Answer::Ended => None,
             Answer::Limit => limit_reason(sidebearings.edition(), rule),

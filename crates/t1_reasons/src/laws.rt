@@ -1,9 +1,11 @@
 //! Laws of reasons, each on a call that does nothing.
 
+ghost use Rattle.t1_reasons.specs.CharstringReasons.{EndsAreFollowedAsTold};
 ghost use Rattle.t1_reasons.specs.FaultReasons.{FaultsHaveReasons, ReportedPlacesHaveReasons};
 ghost use Rattle.t1_reasons.specs.PathStarts.{PathsBeginWhereThePenWasLeft};
-ghost use Rattle.t1_reasons.specs.Remedies.{FuzzDoesForAll, NumbersDo, ScaleDoesForAll};
+ghost use Rattle.t1_reasons.specs.Remedies.{FuzzDoesForAll, FuzzDoesForBoth, NumbersDo, ScaleDoesForAll};
 ghost use Rattle.t1_reasons.specs.UnusedWaivers.{WaiversAreUnusedForAReason};
+ghost use Rattle.t1_reasons.specs.Reported.{ReportedFaultsHaveReasons};
 ghost use Rattle.t1_reasons.specs.Laws.{FontReasonsAreAgainstTheirRules, FontsBreakWhereThereIsAReason, HintSetsAreThoseOfTheBook, ReasonsAreAgainstTheirRules, ScalesDo, StepsBreakWhereThereIsAReason, ToldStepsAreTheLast};
 
 /// A step breaks a rule exactly where it has a reason.
@@ -52,6 +54,12 @@ pub fn reported_places_have_reasons()
     ensures { ReportedPlacesHaveReasons }
 {}
 
+/// Each fault of a report has a reason: in the font, in a glyph, or of a waiver that isn't used.
+#[tactic(auto, using(crate::proofs::FaultLaws::reported_faults_have_reasons))]
+pub fn reported_faults_have_reasons()
+    ensures { ReportedFaultsHaveReasons }
+{}
+
 /// The BlueScale that would do does for all zones of a font, and no greater one.
 pub fn scale_does_for_all()
     ensures { ScaleDoesForAll }
@@ -81,4 +89,16 @@ pub fn paths_begin_where_the_pen_was_left()
 /// The BlueFuzz that would do does for all zones beside one another, and no greater one.
 pub fn fuzz_does_for_all()
     ensures { FuzzDoesForAll }
+{}
+
+/// The BlueFuzz that would do for all low zones beside high ones does, and no greater one.
+#[tactic(auto, using(crate::proofs::RemedyLaws::fuzz_does_for_both))]
+pub fn fuzz_does_for_both()
+    ensures { FuzzDoesForBoth }
+{}
+
+/// What the reason of GE02 names is what comes behind the step in its charstring.
+#[tactic(auto, using(crate::proofs::Endings::ends_are_followed_as_told))]
+pub fn ends_are_followed_as_told()
+    ensures { EndsAreFollowedAsTold }
 {}

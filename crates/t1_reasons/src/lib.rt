@@ -27,6 +27,7 @@
 #![tactic(auto)]
 
 mod background;
+mod charstring_reasons;
 mod font_reasons;
 mod glyph_reasons;
 mod hint_sets;
@@ -41,13 +42,14 @@ mod waivers;
 pub use font_reasons::font_reason;
 pub use glyph_reasons::GlyphReasons;
 pub use laws::{
-    faults_have_reasons, font_reasons_are_against_their_rules, fonts_break_where_there_is_a_reason,
-    fuzz_does_for_all, hint_sets_are_those_of_the_book, numbers_do,
-    paths_begin_where_the_pen_was_left, reasons_are_against_their_rules,
-    reported_places_have_reasons, scale_does_for_all, scales_do,
-    steps_break_where_there_is_a_reason, told_steps_are_the_last, waivers_are_unused_for_a_reason,
+    ends_are_followed_as_told, faults_have_reasons, font_reasons_are_against_their_rules,
+    fonts_break_where_there_is_a_reason, fuzz_does_for_all, fuzz_does_for_both,
+    hint_sets_are_those_of_the_book, numbers_do, paths_begin_where_the_pen_was_left,
+    reasons_are_against_their_rules, reported_faults_have_reasons, reported_places_have_reasons,
+    scale_does_for_all, scales_do, steps_break_where_there_is_a_reason, told_steps_are_the_last,
+    waivers_are_unused_for_a_reason,
 };
 pub use reason::{Edges, EntryKind, Found, Reason, SetStem};
-pub use remedies::{fuzz_that_does, scale_that_does};
+pub use remedies::{fuzz_across, fuzz_that_does, scale_that_does};
 pub use reported::ReportReasons;
 pub use waivers::{Unused, unused_reason};

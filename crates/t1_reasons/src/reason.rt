@@ -17,6 +17,16 @@ pub enum Reason {
         taken: u8,
         there: u8,
     },
+    /// The token that brings one more number to the stack, and how many are there: C06.
+    Full {
+        token: CharToken,
+        there: u8,
+    },
+    /// How many bytes a charstring has, and how many random bytes lenIV says that there are: C01.
+    Length {
+        bytes: usize,
+        len_iv: i8,
+    },
     /// An argument, by its place from 1: C07.
     Argument {
         place: u8,
@@ -35,6 +45,14 @@ pub enum Reason {
     Subr {
         number: i64,
         found: bool,
+    },
+    /// The Subr whose charstring ends: S04.
+    Ending {
+        subr: u32,
+    },
+    /// What comes behind the end of the glyph: GE02.
+    Behind {
+        next: CharToken,
     },
     /// The token of the step: C03, W01, R01, R02.
     Token {
@@ -65,12 +83,18 @@ pub enum Reason {
         two: Stem,
         three: Stem,
     },
+    /// How many moves and points came in a flex, and whether it ends here: X04.
+    Pairs {
+        moves: u32,
+        points: u32,
+        ends: bool,
+    },
     /// Where the end of a flex says that it is, and where the pen is: X05.
     Miss {
         named: Point,
         pen: Point,
     },
-    /// The number of an OtherSubr, and the count of arguments that it is called with: O01, O03.
+    /// The number of an OtherSubr, and the count of arguments that it is called with: X02, O01, O03.
     Othersubr {
         number: i64,
         count: i64,

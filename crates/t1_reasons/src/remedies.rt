@@ -1,9 +1,11 @@
 //! What would do in the place of what breaks a rule: Type 1 Font Format 1.1, chapter 5.
 
 ghost use Rattle.std.specs.Prelude.{◌≡◌, ◌-ℤ◌, Some};
+ghost use Rattle.t1_rules.specs.FontRules.Zones.{high_of};
 ghost use Rattle.t1_reasons.specs.FontReasons.{scale_for, zones_in};
-ghost use Rattle.t1_reasons.specs.Remedies.{fuzz_for, fuzz_for_all, fuzz_from, gaps_in, lesser, scale_for_all, scale_from};
+ghost use Rattle.t1_reasons.specs.Remedies.{fuzz_for, fuzz_for_all, fuzz_for_both, fuzz_from, gap_between, gaps_across, gaps_across_at, gaps_beside, gaps_in, lesser, scale_for_all, scale_from};
 
+use crate::reason::Edges;
 use t1_font::{BILLION, Font, Key};
 use t1_rules::numbers_at;
 
@@ -65,6 +67,77 @@ fn fuzz_from(bound: Option<i64>, numbers: &[i64]) -> Option<i64>
     best
 }
 
+/// Returns the greatest BlueFuzz by which no low zone of the font is too near to a high one (Z06), in units of 10^-9. It is None where
+/// there are no two such zones, and below 0 where none from 0 on does.
+pub fn fuzz_across(font: &Font<'_>) -> Option<i64>
+    ensures { result ≡ fuzz_for_both font.now }
+{
+    let own = fuzz_between(None, font, Key::OtherBlues, Key::BlueValues);
+    fuzz_between(own, font, Key::FamilyOtherBlues, Key::FamilyBlues)
+}
+
+/// The greatest BlueFuzz that does for the zones of a list of low ones and of a list of high ones, and isn't above another bound.
+fn fuzz_between(bound: Option<i64>, font: &Font<'_>, low: Key, high: Key) -> Option<i64>
+    requires { high ≡ high_of low }
+    ensures { result ≡ fuzz_from bound (gaps_across_at font.now low) }
+{
+    fuzz_among(bound, numbers_at(font, low), numbers_at(font, high))
+}
+
+/// The same by their numbers.
+fn fuzz_among(bound: Option<i64>, lows: &[i64], highs: &[i64]) -> Option<i64>
+    ensures { result ≡ fuzz_from bound (gaps_across (zones_in lows.now) (zones_in highs.now)) }
+{
+    let mut best = bound;
+    let mut rest = lows;
+    while let [lower, upper, after @ ..] = rest {
+        let own = Edges {
+            lower: *lower,
+            upper: *upper,
+        };
+        best = fuzz_beside(best, own, highs);
+        rest = after;
+    }
+    best
+}
+
+/// The same for one low zone.
+fn fuzz_beside(bound: Option<i64>, own: Edges, highs: &[i64]) -> Option<i64>
+    ensures { result ≡ fuzz_from bound (gaps_beside own (zones_in highs.now)) }
+{
+    let mut best = bound;
+    let mut rest = highs;
+    while let [lower, upper, after @ ..] = rest {
+        let other = Edges {
+            lower: *lower,
+            upper: *upper,
+        };
+        best = fuzz_of_two(best, own, other);
+        rest = after;
+    }
+    best
+}
+
+/// The same for two zones, whichever is the lower one.
+fn fuzz_of_two(bound: Option<i64>, own: Edges, other: Edges) -> Option<i64>
+    ensures { result ≡ lesser bound (Some (fuzz_for (gap_between own other))) }
+{
+    let below = gap(own.upper, other.lower);
+    let above = gap(other.upper, own.lower);
+    if below < above {
+        fuzz_under(bound, other.upper, own.lower)
+    } else {
+        fuzz_under(bound, own.upper, other.lower)
+    }
+}
+
+/// How far the lower edge of a zone is above the upper edge of another.
+fn gap(upper: i64, lower: i64) -> i128
+    ensures { result ≡ lower -ℤ upper }
+{
+    i128::from(lower) - i128::from(upper)
+}
+
 /// The same for one gap.
 fn fuzz_under(bound: Option<i64>, upper: i64, lower: i64) -> Option<i64>
     ensures { result ≡ lesser bound (Some (fuzz_for (lower -ℤ upper))) }
@@ -76,7 +149,7 @@ fn fuzz_under(bound: Option<i64>, upper: i64, lower: i64) -> Option<i64>
 fn fuzz_for(upper: i64, lower: i64) -> i64
     ensures { result ≡ fuzz_for (lower -ℤ upper) }
 {
-    let rest = i128::from(lower) - i128::from(upper) - i128::from(BILLION);
+    let rest = gap(upper, lower) - i128::from(BILLION);
     if rest < 0 {
         return -1;
     }

@@ -1,25 +1,26 @@
 //! Reasons that a step alone has, or with its background, a hint set or the components.
 
-ghost use Rattle.std.specs.Prelude.{◌≡◌, ◌≤◌, [], ◌∷◌, length, map, take};
+ghost use Rattle.std.specs.Prelude.{◌≡◌, ◌≤◌, ◌-◌, [], ◌∷◌, length, map, slice_get, take};
 ghost use Rattle.std.specs.List.{find, flat_map};
 ghost use Rattle.t1_char.specs.StepValues.{step_view};
-ghost use Rattle.t1_reasons.specs.StepReasons.{calls_at, codes_at, depth_of, is_miscounted, takes, has_no_code, has_no_name, is_by_zero, is_outermost, is_past_quotient, is_too_deep, is_unknown_othersubr, is_unknown_token, known_calls_at, quotients_at, returns_at, tokens_at, compares, is_any, only_where, told_by, arguments_at, has_fewer, is_bad_count, is_past_range, is_uneven, is_widthless, triples_at, othersubrs_at, placed_from, single_stems_at, wants_at, beside, counts_at, has_more, is_lacking_subr, is_overlap, is_told_otherwise, pairs, pairs_with, sidebearings_at, subrs_at};
+ghost use Rattle.t1_reasons.specs.StepReasons.{additions_at, brings, call_of, calls_at, ending_of, is_full, codes_at, depth_of, is_miscounted, takes, has_no_code, has_no_name, is_by_zero, is_outermost, is_past_quotient, is_too_deep, is_unknown_othersubr, is_unknown_token, known_calls_at, quotients_at, returns_at, tokens_at, compares, is_any, only_where, told_by, arguments_at, has_fewer, is_bad_count, is_past_range, is_uneven, is_widthless, triples_at, othersubrs_at, placed_from, single_stems_at, wants_at, beside, counts_at, has_more, is_lacking_subr, is_overlap, is_told_otherwise, pairs, pairs_with, sidebearings_at, subrs_at};
 ghost use Rattle.t1_char.specs.Arguments.{argument, is_whole};
 ghost use Rattle.t1_char.specs.Commands.{arguments_of};
 ghost use Rattle.t1_rules.specs.StepRules.Seac.{is_unnamed};
 ghost use Rattle.t1_char.specs.Stacks.{most_numbers};
+ghost use Rattle.t1_char.specs.Steps.{is_number};
 ghost use Rattle.t1_reasons.specs.declared.reason.Reason.TheVariants.{Arguments, Codes, Othersubr, Quotient, Stem as StemAlone};
 ghost use Rattle.t1_rules.specs.StepRules.Arguments.{is_past, quotient_is_past, wanted_by};
 ghost use Rattle.t1_rules.specs.StepRules.Othersubrs.{is_flex_or_hints, is_good_count, is_known};
 ghost use Rattle.t1_rules.specs.StepRules.Stems.{stem_at, lies_across, stands_upright};
-ghost use Rattle.t1_rules.specs.StepRules.Tokens.{is_command, is_div};
+ghost use Rattle.t1_rules.specs.StepRules.Tokens.{is_command, is_div, is_pop};
 
 use crate::background::Background;
 use crate::hint_sets::{is_triple, set_stem};
 use crate::reason::{Reason, SetStem};
 use t1_char::{
-    CharToken, Command, Edition, GREATEST, MOST_CALLS, Step, UNIT, cut_quotient, is_callothersubr,
-    is_callsubr, is_return, natural,
+    CharToken, Command, Edition, GREATEST, MOST_CALLS, MOST_NUMBERS, Step, UNIT, cut_quotient,
+    is_callothersubr, is_callsubr, is_return, natural,
 };
 use t1_rules::{
     Rule, Sidebearings, Stem, accent_code, are_unequal, base_code, is_seac, standard_name,
@@ -34,6 +35,7 @@ pub(crate) fn compares(rule: Rule) -> bool
         Rule::C03
             | Rule::C04
             | Rule::C05
+            | Rule::C06
             | Rule::C07
             | Rule::C08
             | Rule::C09
@@ -43,6 +45,7 @@ pub(crate) fn compares(rule: Rule) -> bool
             | Rule::H02
             | Rule::H03
             | Rule::H04
+            | Rule::X04
             | Rule::X05
             | Rule::O01
             | Rule::O02
@@ -74,6 +77,7 @@ fn told_by(rule: Rule, background: &Background, step: &Step) -> Reason
     ensures { result ≡ told_by rule background.now (step_view step.now) }
 {
     match rule {
+        Rule::S04 => ending_of(step),
         Rule::W01 | Rule::R01 | Rule::R02 => Reason::Token { token: step.token },
         Rule::W02 => Reason::Since {
             step: background.width,
@@ -91,6 +95,7 @@ fn told_by(rule: Rule, background: &Background, step: &Step) -> Reason
         Rule::X01 | Rule::X03 => Reason::Since {
             step: background.flex,
         },
+        Rule::X02 => call_of(step),
         Rule::K03 | Rule::K04 | Rule::K07 => Reason::Codes {
             base: step.argument(3),
             accent: step.argument(4),
@@ -99,6 +104,29 @@ fn told_by(rule: Rule, background: &Background, step: &Step) -> Reason
             step: background.outlined,
         },
         _ => Reason::Nothing,
+    }
+}
+
+/// The Subr whose charstring ends.
+fn ending_of(step: &Step) -> Reason
+    ensures { result ≡ ending_of (slice_get (step_view step.now).path (length (step_view step.now).path - 1)) }
+{
+    match step.path.as_slice().last() {
+        Some(subr) => Reason::Ending { subr: *subr },
+        None => Reason::Nothing,
+    }
+}
+
+/// The call of an OtherSubr.
+fn call_of(step: &Step) -> Reason
+    ensures { result ≡ call_of (step_view step.now).stack }
+{
+    if step.stack.len() < 2 {
+        return Reason::Nothing;
+    }
+    Reason::Othersubr {
+        number: step.stack.from_top(0),
+        count: step.stack.from_top(1),
     }
 }
 
@@ -381,6 +409,39 @@ fn wanted_by(command: Command) -> u8
             _ => 0,
         },
     }
+}
+
+/// Why a step breaks C06.
+pub(crate) fn addition_reason(step: &Step) -> Option<Reason>
+    ensures { result ≡ find is_full (additions_at (step_view step.now)) }
+{
+    if !brings(step) || step.stack.len() != MOST_NUMBERS {
+        return None;
+    }
+    // This can't fail: there are at most 24 numbers.
+    Some(Reason::Full {
+        token: step.token,
+        there: step.stack.len() as u8,
+    })
+}
+
+/// Whether a step brings one more number to the stack.
+fn brings(step: &Step) -> bool
+    ensures { result ≡ brings (step_view step.now) }
+{
+    is_number(step.token) | (is_pop(step.token) & (step.waiting > 0))
+}
+
+fn is_number(token: CharToken) -> bool
+    ensures { result ≡ is_number token }
+{
+    matches!(token, CharToken::Number(_))
+}
+
+fn is_pop(token: CharToken) -> bool
+    ensures { result ≡ is_pop token }
+{
+    matches!(token, CharToken::Command(Command::Pop))
 }
 
 /// Why a step breaks C07.

@@ -8,8 +8,8 @@ ghost use Rattle.t1_char.specs.StepValues.{step_view};
 ghost use Rattle.t1_char.specs.Arguments.{is_flex_end};
 ghost use Rattle.t1_reasons.specs.HintSets.{all_set_at};
 ghost use Rattle.t1_reasons.specs.Standing.{AreBroken, StepsStandFor};
-ghost use Rattle.t1_reasons.specs.StepReasons.{compared_row, first_in_row, is_miss, is_overlap, misses_at, pairs_with, stems_at, step_reason};
-ghost use Rattle.t1_reasons.specs.declared.reason.Reason.TheVariants.{Miss};
+ghost use Rattle.t1_reasons.specs.StepReasons.{are_no_pairs, are_pairs, compared_row, first_in_row, is_miss, is_overlap, misses_at, only_where, pairs_at, pairs_with, stems_at, step_reason};
+ghost use Rattle.t1_reasons.specs.declared.reason.Reason.TheVariants.{Miss, Pairs};
 ghost use Rattle.t1_rules.specs.StepRules.{charstring_rules};
 ghost use Rattle.t1_rules.specs.StepRules.Flex.{end_point};
 ghost use Rattle.t1_rules.specs.StepRules.Stems.{stems_of};
@@ -19,10 +19,10 @@ use crate::background::Background;
 use crate::hint_sets::{HintSets, is_triple, set_stem};
 use crate::reason::{Reason, SetStem};
 use crate::step_reasons::{
-    argument_reason, code_reason, compares, count_reason, depth_reason, lies_across, name_reason,
-    othersubr_reason, overlap_among, quotient_reason, return_reason, sidebearing_reason,
-    stands_upright, subr_reason, token_reason, told_where, triple_reason, unknown_reason,
-    want_reason, width_reason, wrong_count_reason, zero_reason,
+    addition_reason, argument_reason, code_reason, compares, count_reason, depth_reason,
+    lies_across, name_reason, othersubr_reason, overlap_among, quotient_reason, return_reason,
+    sidebearing_reason, stands_upright, subr_reason, token_reason, told_where, triple_reason,
+    unknown_reason, want_reason, width_reason, wrong_count_reason, zero_reason,
 };
 use t1_char::{Edition, Step};
 use t1_rules::{FlexWatcher, Mask, Point, Rule, Sidebearings, Watch};
@@ -99,6 +99,7 @@ impl StepsBefore {
             Rule::C03 => token_reason(step),
             Rule::C04 => want_reason(step),
             Rule::C05 => count_reason(step),
+            Rule::C06 => addition_reason(step),
             Rule::C07 => argument_reason(step),
             Rule::C08 => quotient_reason(step),
             Rule::C09 => zero_reason(step),
@@ -108,6 +109,7 @@ impl StepsBefore {
             Rule::H02 => self.stem_reason(step),
             Rule::H03 => width_reason(step),
             Rule::H04 => triple_reason(step),
+            Rule::X04 => self.pairs_reason(step),
             Rule::X05 => self.miss_reason(step),
             Rule::O01 => unknown_reason(step),
             Rule::O02 => othersubr_reason(step),
@@ -155,6 +157,19 @@ impl StepsBefore {
         }
     }
 
+    /// Why the step breaks X04.
+    fn pairs_reason(&self, step: &Step) -> Option<Reason>
+        ensures { (edition : Editions) (before : List StepView) → StepsStandFor edition self.now before →
+            result ≡ find are_no_pairs (pairs_at before (step_view step.now)) }
+    {
+        let in_flex = self.flex.is_in_flex();
+        let moves = self.flex.moves();
+        let points = self.flex.points();
+        let at_point = no_pairs_where(step.gives_flex_point() & in_flex, moves, points, false);
+        let at_end = no_pairs_where(step.ends_flex() & in_flex, moves, points, true);
+        at_point.or(at_end)
+    }
+
     /// Why the step breaks X05.
     fn miss_reason(&self, step: &Step) -> Option<Reason>
         ensures { (edition : Editions) (before : List StepView) → StepsStandFor edition self.now before →
@@ -165,6 +180,32 @@ impl StepsBefore {
         } else {
             None
         }
+    }
+}
+
+/// The moves and the points of a flex, where they are looked at and aren't the pairs that they should be.
+fn no_pairs_where(is_looked_at: bool, moves: u32, points: u32, ends: bool) -> Option<Reason>
+    ensures { result ≡ find are_no_pairs (only_where is_looked_at (Pairs moves points ends)) }
+{
+    if is_looked_at && !are_pairs(moves, points, ends) {
+        Some(Reason::Pairs {
+            moves,
+            points,
+            ends,
+        })
+    } else {
+        None
+    }
+}
+
+/// Whether a point comes after its move, or the end after seven of each.
+fn are_pairs(moves: u32, points: u32, ends: bool) -> bool
+    ensures { result ≡ are_pairs moves points ends }
+{
+    if ends {
+        (moves == 7) & (points == 7)
+    } else {
+        u64::from(moves) == u64::from(points) + 1
     }
 }
 

@@ -3,8 +3,8 @@
 use std::alloc::Global;
 use std::test::Fail;
 use t1_reasons::{
-    Edges, EntryKind, Found, Reason, Unused, font_reason, fuzz_that_does, scale_that_does,
-    unused_reason,
+    Edges, EntryKind, Found, Reason, Unused, font_reason, fuzz_across, fuzz_that_does,
+    scale_that_does, unused_reason,
 };
 use t1_rules::Rule;
 use t1_samples::{Sample, font_of, opened};
@@ -189,27 +189,51 @@ fn reasons_at_entries(rt: HostRuntime) -> Result<(), Fail> {
     Ok(())
 }
 
-/// Zones, and the greatest BlueScale and BlueFuzz that do for them.
-const REMEDIES: &[(&str, Option<i64>, Option<i64>)] = &[
-    ("/BlueValues [] def", None, None),
-    ("/BlueValues [0 28] def", Some(35_714_285), None),
+/// Zones, and the greatest BlueScale that does for them, BlueFuzz for those of a list, and BlueFuzz for low zones and high ones.
+const REMEDIES: &[(&str, Option<i64>, Option<i64>, Option<i64>)] = &[
+    ("/BlueValues [] def", None, None, None),
+    ("/BlueValues [0 28] def", Some(35_714_285), None, None),
     (
         "/BlueValues [0 28 40 50] def /OtherBlues [-50 -20] def",
         Some(33_333_333),
         Some(5_500_000_000),
+        Some(9_500_000_000),
     ),
-    ("/BlueValues [0 5 5.5 10] def", Some(199_999_999), Some(-1)),
-    ("/FamilyBlues [0 5 6 10] def", Some(199_999_999), Some(0)),
+    (
+        "/BlueValues [0 5 5.5 10] def",
+        Some(199_999_999),
+        Some(-1),
+        None,
+    ),
+    (
+        "/FamilyBlues [0 5 6 10] def",
+        Some(199_999_999),
+        Some(0),
+        None,
+    ),
+    (
+        "/FamilyBlues [-1 9] def /FamilyOtherBlues [-22 -3 12 20] def",
+        Some(52_631_578),
+        Some(7_000_000_000),
+        Some(500_000_000),
+    ),
+    (
+        "/FamilyBlues [-1 9] def /FamilyOtherBlues [-22 -3 5 8] def",
+        Some(52_631_578),
+        Some(3_500_000_000),
+        Some(-1),
+    ),
 ];
 
 #[test]
 fn what_would_do(rt: HostRuntime) -> Result<(), Fail> {
-    for (lines, scale, fuzz) in REMEDIES {
+    for (lines, scale, fuzz, across) in REMEDIES {
         let sample = Sample::new(rt.alloc())?.key(lines.as_bytes())?;
         let mut file = opened(rt.alloc(), &sample)?;
         let font = font_of(rt.alloc(), &mut file)?;
         assert_eq!(rt; scale_that_does(&font), *scale, "{lines}");
         assert_eq!(rt; fuzz_that_does(&font), *fuzz, "{lines}");
+        assert_eq!(rt; fuzz_across(&font), *across, "{lines}");
         assert_eq!(rt; unused_reason(&font, b"A"), Unused::NoGlyph);
         assert_eq!(rt;
             unused_reason(&font, b".notdef"),

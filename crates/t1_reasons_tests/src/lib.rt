@@ -7,12 +7,8 @@
 //! |---|---|
 //! | `steps` | reasons at the steps of a glyph, by both editions, in any order |
 //! | `entries` | reasons at the entries of a font |
-//!
-//! `assembly` writes charstrings that are given as words.
 #![tactic(auto)]
 
-#[cfg(test)]
-mod assembly;
 #[cfg(test)]
 mod entries;
 #[cfg(test)]

@@ -1,13 +1,12 @@
 //! Reasons at the steps of a glyph: Type 1 Font Format 1.1, chapters 6 and 8.
 
-use crate::assembly::charstring;
 use std::alloc::Global;
 use std::test::Fail;
 use t1_char::{CharToken, Command, Edition};
 use t1_font::Font;
 use t1_reasons::{GlyphReasons, Reason, SetStem};
 use t1_rules::{Point, Rule, Sidebearings, Stem};
-use t1_samples::{Sample, font_of, opened};
+use t1_samples::{Sample, assembled, font_of, opened};
 
 /// One, in units of 1/65536.
 const ONE: i64 = 65_536;
@@ -19,8 +18,11 @@ const UNIT: i32 = 65_536;
 /// and the reason.
 type Row = (&'static str, u32, Rule, Option<Reason>);
 
-/// Subr 4 gives seven points of a flex, each after a move by 1 to the right; Subr 5 returns.
-const SUBRS: [(u32, &str); 2] = [
+/// Subr 2 ends the glyph, and numbers come behind; Subr 3 ends without return; Subr 4 gives seven points of a flex, each after a move
+/// by 1 to the right; Subr 5 returns.
+const SUBRS: [(u32, &str); 4] = [
+    (2, "endchar 50 60 70"),
+    (3, "1 hmoveto"),
     (
         4,
         "1 hmoveto 0 2 callothersubr 1 hmoveto 0 2 callothersubr 1 hmoveto 0 2 callothersubr \
@@ -126,11 +128,46 @@ const TOKENS: &[Row] = &[
         Rule::W02,
         Some(Reason::Since { step: Some(3) }),
     ),
+    // The stack has room for 24 numbers.
+    (
+        "T: 0 500 hsbw 1 1 1 1 1 1 1 1 1 1 1 1 1 1 1 1 1 1 1 1 1 1 1 1 77 hmoveto endchar",
+        28,
+        Rule::C06,
+        Some(Reason::Full {
+            token: CharToken::Number(77),
+            there: 24,
+        }),
+    ),
+    (
+        "T: 0 500 hsbw 1 1 1 1 1 1 1 1 1 1 1 1 1 1 1 1 1 1 1 1 1 1 1 77 hmoveto endchar",
+        27,
+        Rule::C06,
+        None,
+    ),
+    // Subr 3 ends without return. Subr 5 returns.
+    (
+        "T: 0 500 hsbw 3 callsubr endchar",
+        8,
+        Rule::S04,
+        Some(Reason::Ending { subr: 3 }),
+    ),
+    ("T: 0 500 hsbw 5 callsubr endchar", 6, Rule::S04, None),
     (
         "T: 0 500 hsbw endchar closepath",
         4,
         Rule::GE02,
-        Some(Reason::Nothing),
+        Some(Reason::Behind {
+            next: CharToken::Command(Command::Closepath),
+        }),
+    ),
+    // Subr 2 ends the glyph, and three numbers come behind.
+    (
+        "T: 0 500 hsbw 2 callsubr",
+        6,
+        Rule::GE02,
+        Some(Reason::Behind {
+            next: CharToken::Number(50),
+        }),
     ),
     ("T: 0 500 hsbw endchar", 4, Rule::GE02, None),
     ("T: 0 500 hsbw endchar", 9, Rule::GE02, None),
@@ -301,6 +338,49 @@ const OUTLINES: &[Row] = &[
          pop pop setcurrentpoint closepath endchar",
         52,
         Rule::X05,
+        None,
+    ),
+    // A point and an end outside flex.
+    (
+        "T: 0 500 hsbw 0 hmoveto 0 2 callothersubr endchar",
+        8,
+        Rule::X02,
+        Some(Reason::Othersubr {
+            number: 2 * ONE,
+            count: 0,
+        }),
+    ),
+    // A point without a move of its own, and an end after six of both.
+    (
+        "T: 0 500 hsbw 0 1 callothersubr 1 hmoveto 0 2 callothersubr 0 2 callothersubr endchar",
+        14,
+        Rule::X04,
+        Some(Reason::Pairs {
+            moves: 1,
+            points: 1,
+            ends: false,
+        }),
+    ),
+    (
+        "T: 0 500 hsbw 0 1 callothersubr 1 hmoveto 0 2 callothersubr 1 hmoveto 0 2 callothersubr endchar",
+        16,
+        Rule::X04,
+        None,
+    ),
+    (
+        "T: 0 500 hsbw 0 1 callothersubr 1 hmoveto 0 2 callothersubr 50 1 0 3 0 callothersubr endchar",
+        17,
+        Rule::X04,
+        Some(Reason::Pairs {
+            moves: 1,
+            points: 1,
+            ends: true,
+        }),
+    ),
+    (
+        "T: 0 500 hsbw 0 1 callothersubr 4 callsubr 50 7 0 3 0 callothersubr endchar",
+        50,
+        Rule::X04,
         None,
     ),
     (
@@ -515,11 +595,11 @@ const CALLS: &[Row] = &[
 fn sample_of(alloc: Global, glyphs: &str) -> Result<Sample, Fail> {
     let mut sample = Sample::new(alloc)?;
     for (number, words) in SUBRS {
-        sample = sample.subr(number, charstring(alloc, words)?.as_slice())?;
+        sample = sample.subr(number, assembled(alloc, words)?.as_slice())?;
     }
     for glyph in glyphs.split('|') {
         if let Some((name, words)) = glyph.split_once(':') {
-            sample = sample.glyph(name.trim().as_bytes(), charstring(alloc, words)?.as_slice())?;
+            sample = sample.glyph(name.trim().as_bytes(), assembled(alloc, words)?.as_slice())?;
         }
     }
     Ok(sample)

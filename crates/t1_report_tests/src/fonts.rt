@@ -1,9 +1,8 @@
 //! Fonts whose Subrs and glyphs are written as words, and Subrs that the glyphs of several tests call.
 
-use crate::assembly::charstring;
 use std::alloc::Global;
 use std::test::Fail;
-use t1_samples::Sample;
+use t1_samples::{Sample, assembled};
 
 /// A sound font with these Subrs: each a number, a colon and words, with a bar before the next.
 fn with_subrs(alloc: Global, subrs: &str) -> Result<Sample, Fail> {
@@ -19,7 +18,7 @@ fn with_subr(alloc: Global, sample: Sample, subr: &str) -> Result<Sample, Fail> 
     match subr.split_once(':') {
         Some((number, words)) => {
             let number = number.trim().parse::<u32>()?;
-            let code = charstring(alloc, words)?;
+            let code = assembled(alloc, words)?;
             Ok(sample.subr(number, code.as_slice())?)
         }
         None => Ok(sample),
@@ -39,7 +38,7 @@ pub(super) fn with_glyphs(alloc: Global, subrs: &str, glyphs: &str) -> Result<Sa
 fn with_glyph(alloc: Global, sample: Sample, glyph: &str) -> Result<Sample, Fail> {
     match glyph.split_once(':') {
         Some((name, words)) => {
-            let code = charstring(alloc, words)?;
+            let code = assembled(alloc, words)?;
             Ok(sample.glyph(name.trim().as_bytes(), code.as_slice())?)
         }
         None => Ok(sample),

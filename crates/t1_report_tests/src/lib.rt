@@ -18,13 +18,11 @@
 //! | `machines`, `walks`, `marks`, `units`, `waivers` | the same one at a time, from any mark on, of one unit, and with waivers |
 //! | `hostile` | fonts that are made to take long |
 //!
-//! `assembly`, `fonts` and `reports` are what they share.
+//! `fonts` and `reports` are what they share.
 #![tactic(auto)]
 
 #[cfg(test)]
 mod arguments;
-#[cfg(test)]
-mod assembly;
 #[cfg(test)]
 mod calls;
 #[cfg(test)]

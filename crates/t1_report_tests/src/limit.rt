@@ -1,10 +1,9 @@
 //! Glyphs of more than 100,000 steps, L01: a limit of the rule book's own. No chapter of the standard has one.
 
-use crate::assembly::charstring;
 use crate::reports::faults_of_sample;
 use std::alloc::{AllocError, Global};
 use std::test::Fail;
-use t1_samples::{Sample, add_times};
+use t1_samples::{Sample, add_times, assembled};
 
 /// A Subr of so many times dotsection, and return.
 fn long_subr(alloc: Global, times: usize) -> Result<Vec<u8>, AllocError> {
@@ -18,7 +17,7 @@ fn long_subr(alloc: Global, times: usize) -> Result<Vec<u8>, AllocError> {
 fn calling_glyph(alloc: Global, end: &str) -> Result<Vec<u8>, Fail> {
     let calls = "5 callsubr 5 callsubr 5 callsubr 5 callsubr 5 callsubr 5 callsubr";
     let words = format!(in alloc; "0 500 hsbw {calls} {calls} {end}")?;
-    charstring(alloc, words.as_str())
+    assembled(alloc, words.as_str())
 }
 
 /// A font with this Subr 5.

@@ -4,13 +4,13 @@
 //! - [`Sample`] writes the clear text and the private text of a small font with the one glyph `.notdef`,
 //!   and with what a test adds: keys, an Encoding, Subrs, glyphs.
 //! - [`FontFile`] puts two texts into a file, PFB or PFA, the private text encrypted.
-//! - [`eexec`] and [`charstring`] encrypt.
+//! - [`assembled`] makes a charstring of words, as a trace writes them; [`eexec`] and [`charstring`] encrypt.
 //! - [`opened`] and [`font_of`] read a font back; [`long_glyph`] has one of many steps.
 //! - [`add_fault`] lists the rules that a font breaks, as the tables of all tests do.
 //!
 //! What is promised: what is encrypted is what the standard's formula says, and deciphering it yields the bytes
 //! again. Each call returns, and fails only when out of memory. `opened` and `font_of` also fail where t1_font
-//! refuses the bytes.
+//! refuses the bytes, `assembled` at a word that is neither.
 //!
 //! ```
 //! let file = Sample::new(alloc)?
@@ -21,6 +21,7 @@
 //! ```
 #![tactic(auto)]
 
+mod assembly;
 mod cipher;
 mod faults;
 mod file;
@@ -28,6 +29,7 @@ mod long;
 mod reading;
 mod sample;
 
+pub use assembly::assembled;
 pub use cipher::{charstring, eexec};
 pub use faults::add_fault;
 pub use file::{END_SEGMENT, FontFile, TRAILER};

@@ -1,4 +1,4 @@
-use Rattle.std.proofs.Common.{List, [], ap, map, string_bytes, sym, ◌∙◌}
+use Rattle.std.proofs.Common.{List, [], ap, map, string_bytes, ◌∙◌}
 use Rattle.std.proofs.lemmas.Result.{IfOk-weaker}
 use Rattle.clap.specs.Words.{Text}
 use Rattle.t1_many.specs.Choice.{is_told}

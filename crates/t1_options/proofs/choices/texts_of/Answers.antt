@@ -1,4 +1,4 @@
-use Rattle.std.proofs.Common.{String, Global, rules, string_bytes, tests}
+use Rattle.std.proofs.Common.{rules, string_bytes, tests}
 use Rattle.std.proofs.lemmas.Iterator.{YieldsList-from_map_by, YieldsList-from_slice}
 use Rattle.std.proofs.lemmas.Iterator.Consumers.{YieldsList-at, map_from_collect}
 use Rattle.t1_options.proofs.choices.texts_of.Goals as goal

@@ -1,4 +1,4 @@
-use Rattle.std.proofs.Common.{List, Option, None, Some, option_map, refl, subst, sym, ℕ}
+use Rattle.std.proofs.Common.{List, Option, None, Some, refl, subst, sym, ℕ}
 use Rattle.t1_font.specs.Fonts.{FontValue}
 use Rattle.t1_many.proofs.ReasonLines.{both_put, half_put}
 use Rattle.t1_many.proofs.ReportLines.{lost_same}

@@ -33,7 +33,7 @@ invariant_of-self c =
     (λ edition before stands few. subst (λ (s : StepView). AreBroken (step_rules edition) c.see-self-inside.result before s) step
     (c.see-self-inside.ensures.answer edition before stands few)) in (
       subst (λ (a : Answer). IsWatched new c.see_in_hand.new.before c.see-self-inside.new.self c.see-self-inside.result a) (sym is) watched,
-      begun_on old new _ _ same c.self.invariant.1,
+      begun_on old new _ _ _ same c.self.invariant.1,
     )
 
 pub invariant_of-self-else-is_step : goal.invariant_of-self-else-is_step
@@ -48,7 +48,7 @@ invariant_of-self-else-is_step c =
     let other : answer ≡ Step → ⊥ = no_step answer (sym c.is_step-2.ensures ∙ c.if-is_step.false) in (
       over_watched old new c.see_in_hand.new.before c.self.inside.watches c.self.inside.broken answer same few other c.go_on-self-inside.ensures.asked
           c.see_in_hand.ensures c.self.invariant.0.watches,
-      begun_on old new _ _ same c.self.invariant.1,
+      begun_on old new _ _ _ same c.self.invariant.1,
     )
 
 pub returns-else-is_step-clause-over : goal.returns-else-is_step-clause-over

@@ -27,9 +27,16 @@ returns-in-Step c =
     let broken : AreBroken (charstring_rules m.edition c.args.sidebearings.now.components) c.join-broken.result before (step_view c.current-step.result.now) =
     both_kinds m.edition c.args.sidebearings.now.components c.self.inside.broken c.see.result c.join-broken.result before (step_view c.current-step.result.now)
     c.join-broken.ensures own (c.see.ensures before) in
-    subst (λ (x : MachineView). c.reason.result ≡ reason_at x c.args.rule x.counted) c.self.view_is
-    (c.reason.ensures m.edition before c.self.invariant.0.kept (few_steps m (m.counted - 1)) broken
-    ∙ rw (components, step) (sym (reason_in_hand m c.args.rule some within c.self.invariant.0.in_hand)))
+    subst (λ (x : MachineView). c.told_of_step.result ≡ reason_at x c.args.rule x.counted) c.self.view_is
+    (c.told_of_step.ensures
+    ∙ rw (
+      c.reason-reason.ensures m.edition before c.self.invariant.0.kept (few_steps m (m.counted - 1)) broken,
+      components,
+      step,
+      ← c.self.invariant.1.font_is,
+      ← c.self.invariant.1.glyph_is,
+    )
+    (sym (reason_in_hand m c.args.rule some within c.self.invariant.0.in_hand)))
 
 pub returns-in-Ended : goal.returns-in-Ended
 returns-in-Ended c =

@@ -5,3 +5,6 @@ returns-in-H02 c = λ edition before st short. rw c.in-H02.is (c.stem_reason.ens
 
 pub returns-in-X05 : goal.returns-in-X05
 returns-in-X05 c = λ edition before st short. rw c.in-X05.is (c.miss_reason.ensures edition before st)
+
+pub returns-in-X04 : goal.returns-in-X04
+returns-in-X04 c = λ edition before st short. rw c.in-X04.is (c.pairs_reason.ensures edition before st)

@@ -1,9 +1,9 @@
-//! Charstrings, given as words.
+//! Charstrings, given as words: Type 1 Font Format 1.1, chapter 6.
 
 use std::alloc::Global;
 use std::test::Fail;
 
-/// The commands: Type 1 Font Format 1.1, chapter 6.
+/// The commands.
 const COMMANDS: [(&str, &[u8]); 25] = [
     ("hstem", b"\x01"),
     ("vstem", b"\x03"),
@@ -32,8 +32,8 @@ const COMMANDS: [(&str, &[u8]); 25] = [
     ("setcurrentpoint", b"\x0c\x21"),
 ];
 
-/// The charstring of these words: names of commands, numbers, and `#` with a number for a single byte.
-pub(super) fn charstring(alloc: Global, words: &str) -> Result<Vec<u8>, Fail> {
+/// Returns the plain charstring of these words: names of commands, numbers, and `#` with a number for a single byte.
+pub fn assembled(alloc: Global, words: &str) -> Result<Vec<u8>, Fail> {
     let mut bytes = Vec::new(alloc);
     for word in words.split_whitespace() {
         add_word(&mut bytes, word)?;
