@@ -1,0 +1,5 @@
+pub mod DrawnTexts
+pub mod GivenLines
+pub mod Objects
+pub mod PieceLaws
+pub mod Readings

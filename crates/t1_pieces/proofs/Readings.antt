@@ -1,0 +1,127 @@
+-- What the bytes of a font and of waivers are read as, and why they aren't.
+use Rattle.std.proofs.Common.{◌≡◌, ◌∙◌, ◌<◌, ◌≤◌, ℕ, nat_lt, true, false, List, Option, None, Some, Result, Ok, Err, IfErr, IfOk, length, inl, inr, ap, arith, refl, subst, sym}
+use Rattle.std.proofs.lemmas.Bool.Decides.{nat_tests}
+use Rattle.std.specs.Result.{IsErrAnd}
+use Rattle.t1_char.specs.declared.edition.Edition.{Edition}
+use Rattle.t1_font.specs.FontFiles.{IsUnread, font_in}
+use Rattle.t1_font.specs.Fonts.{FontValue}
+use Rattle.t1_font.specs.declared.unread.Unread.{Unread}
+use Rattle.t1_lines.specs.RefusalCodes.{refusal_code_of}
+use Rattle.t1_lines.specs.declared.refusal.Reason.{Reason}
+use Rattle.t1_lines.specs.declared.refusal.Reason.TheVariants.{Font, FontTooLarge, Waivers, WaiversTooLarge}
+use Rattle.t1_lines.specs.declared.refusal.RefusalCode.{RefusalCode}
+use Rattle.t1_report.specs.Checked.{checked}
+use Rattle.t1_report.specs.WaiverViews.{IsReadAs}
+use Rattle.t1_report.specs.Waivers.{Waiver, waivers_of}
+use Rattle.t1_report.specs.declared.marks.Mark.{Mark}
+use Rattle.t1_report.specs.declared.waivers.WaiverError.{WaiverError}
+use Rattle.t1_report.specs.declared.waivers.WaiverError.TheVariants as errors
+use Rattle.t1_run.proofs.FilesRead.{font_of-small}
+use Rattle.t1_run.specs.Failures.{failure_of, refused_by}
+use Rattle.t1_run.specs.FontFiles.{font_of, with_reason}
+use Rattle.t1_run.specs.WaiverFiles.{as_waivers, waivers_in}
+use Rattle.t1_run.specs.declared.failure.Failure.{Failure}
+use Rattle.t1_run.specs.declared.failure.Failure.TheVariants.{Memory, Refused}
+use Rattle.t1_pieces.specs.Pieces.{IsPiece, IsReadPiece, IsRefusalBy, IsWaivedPiece}
+use Rattle.t1_pieces.specs.Pieces.IsRefusalFor.{refused}
+use Rattle.t1_pieces.specs.Reading.{IsFailureFor, IsFailureOf}
+use Rattle.t1_pieces.specs.declared.form.Form.{Form}
+use Rattle.t1_pieces.specs.declared.piece.Piece.{Piece}
+
+-- ---- failures
+
+-- A `?` that failed.
+pub failed_so : {X : Type 0} (result : Result X Failure) (failure : Failure) (P : Failure → Type 0) → IsErrAnd result (λ f. f ≡ failure)
+    → P failure → IfErr result P
+failed_so (Ok x) failure P is holds = absurd is
+failed_so (Err f) failure P is holds = subst P (sym is) holds
+
+pub by_memory : {A : Type 0} (read : Result A Reason) (failure : Failure) → failure ≡ Memory → IsFailureOf read failure
+by_memory (Ok value) failure is = is
+by_memory (Err reason) failure is = inr is
+
+pub fails_for : {A : Type 0} (read : Result A Reason) (reason : Reason) (failure : Failure) → read ≡ Err reason → failure ≡ failure_of reason
+    → IsFailureOf read failure
+fails_for {A} read reason failure is so = subst (λ (r : Result A Reason). IsFailureOf r failure) (sym is) (inl so)
+
+-- Of the font before the waivers.
+pub font_first : (read : Result FontValue Reason) (waived : Result (List Waiver) Reason) (failure : Failure) → IsFailureOf read failure
+    → IsFailureFor read waived failure
+font_first (Ok font) waived failure is = by_memory waived failure is
+font_first (Err reason) waived failure is = is
+
+pub waivers_next : {X : Type 0} (result : Result X Failure) (font : FontValue) (read : Result FontValue Reason)
+    (waived : Result (List Waiver) Reason) → read ≡ Ok font → IfErr result (IsFailureOf waived) → IfErr result (IsFailureFor read waived)
+waivers_next (Ok x) font read waived is failed = tt
+waivers_next (Err failure) font read waived is failed =
+    subst (λ (r : Result FontValue Reason). IsFailureFor r waived failure) (sym is) failed
+
+-- ---- a font
+
+pub unread_fails : (read : Result FontValue Unread) (unread : Unread) → IsUnread unread read
+    → IsFailureOf (with_reason read) (failure_of (Font unread))
+unread_fails read unread (inl memory) = by_memory (with_reason read) (failure_of (Font unread)) (ap (λ (u : Unread). failure_of (Font u)) memory)
+unread_fails read unread (inr is) = fails_for (with_reason read) (Font unread) (failure_of (Font unread)) (ap with_reason is) refl
+
+pub font_fails : (bytes : List ℕ) (unread : Unread) → length bytes ≤ 16777216 → IsUnread unread (font_in bytes)
+    → IsFailureOf (font_of bytes) (failure_of (Font unread))
+font_fails bytes unread small is =
+    subst (λ (r : Result FontValue Reason). IsFailureOf r (failure_of (Font unread))) (sym (font_of-small bytes small))
+    (unread_fails (font_in bytes) unread is)
+
+-- ---- waivers
+
+waivers_in-small : (text : List ℕ) → length text ≤ 1048576 → waivers_in text ≡ as_waivers (waivers_of text)
+unfolding waivers_in
+waivers_in-small text small =
+    let fits : nat_lt 1048576 (length text) ≡ false = grind (arith, nat_tests) in
+    rw fits refl
+
+pub waivers_in-large : (text : List ℕ) → 1048576 < length text → waivers_in text ≡ Err WaiversTooLarge
+unfolding waivers_in
+waivers_in-large text large =
+    let exceeds : nat_lt 1048576 (length text) ≡ true = grind (arith, nat_tests) in
+    rw exceeds refl
+
+pub waivers_read : (text : List ℕ) (waivers : List Waiver) → length text ≤ 1048576 → waivers_of text ≡ Some waivers → waivers_in text ≡ Ok waivers
+waivers_read text waivers small is = waivers_in-small text small ∙ ap as_waivers is
+
+pub waivers_fail : {W : Type 0} (value : W → List Waiver) (text : List ℕ) (error : WaiverError) → length text ≤ 1048576
+    → IsReadAs value (waivers_of text) (Err error) → IsFailureOf (waivers_in text) (failure_of (Waivers error))
+waivers_fail value text errors.Malformed small none =
+    fails_for (waivers_in text) (Waivers errors.Malformed) (failure_of (Waivers errors.Malformed))
+    (waivers_in-small text small ∙ ap as_waivers none) refl
+waivers_fail value text errors.Memory small any = by_memory (waivers_in text) (failure_of (Waivers errors.Memory)) refl
+
+-- ---- what is handed over
+
+pub read_piece : (result : Result Piece Failure) (form : Form) (edition : Edition) (font : FontValue) (read : Result FontValue Reason)
+    (waived : Result (List Waiver) Reason) (mark mark' : Mark) (room : List ℕ) → read ≡ Ok font
+    → IfOk result (IsWaivedPiece form (checked font edition) waived mark mark' room)
+    → IfOk result (IsReadPiece form edition read waived mark mark' room)
+read_piece (Ok piece) form edition font read waived mark mark' room is given = (font, (is, given))
+read_piece (Err failure) form edition font read waived mark mark' room is given = tt
+
+by_code : (code : RefusalCode) (found : Option RefusalCode) → refused_by found ≡ Refused code → found ≡ Some code
+by_code code None is = cc
+by_code code (Some c) is = cc
+
+pub coded : (reason : Reason) (code : RefusalCode) → failure_of reason ≡ Refused code → refusal_code_of reason ≡ Some code
+coded reason code is = by_code code (refusal_code_of reason) is
+
+pub never : (failure : Failure) (code : RefusalCode) → failure ≡ Refused code → failure ≡ Memory → ⊥
+never failure code is memory = cc
+
+pub refused_piece : (form : Form) (edition : Edition) (read : Result FontValue Reason) (waived : Result (List Waiver) Reason) (mark mark' : Mark)
+    (room : List ℕ) (piece : Piece) (failure : Failure) (code : RefusalCode) → IsFailureFor read waived failure → failure ≡ Refused code
+    → mark' ≡ mark → IsRefusalBy code room piece → IsPiece form edition read waived mark mark' room piece
+refused_piece form edition (Err reason) waived mark mark' room piece failure code (inl so) is kept by =
+    refused code (coded reason code (sym so ∙ is)) by kept
+refused_piece form edition (Err reason) waived mark mark' room piece failure code (inr memory) is kept by =
+    absurd (never failure code is memory)
+refused_piece form edition (Ok font) (Err reason) mark mark' room piece failure code (inl so) is kept by =
+    refused code (coded reason code (sym so ∙ is)) by kept
+refused_piece form edition (Ok font) (Err reason) mark mark' room piece failure code (inr memory) is kept by =
+    absurd (never failure code is memory)
+refused_piece form edition (Ok font) (Ok waivers) mark mark' room piece failure code memory is kept by =
+    absurd (never failure code is memory)

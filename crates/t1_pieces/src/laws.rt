@@ -1,0 +1,16 @@
+//! Laws above the definitions: each is the contract of a function that does nothing, but for calling the laws on which
+//! it rests.
+
+ghost use Rattle.t1_pieces.specs.Laws.{CallsEnd, JoinedAreTheReport, LinesFit};
+
+use t1_report::marks_count_the_faults_given;
+
+/// What is handed over from the mark of four zeros on, until no line is left, is the report. A room that holds each line
+/// of the report is never too small. There is at most one call more than the report has faults.
+pub fn pieces_are_the_report()
+    ensures joined { JoinedAreTheReport }
+    ensures fit { LinesFit }
+    ensures end { CallsEnd }
+{
+    marks_count_the_faults_given();
+}

@@ -1,0 +1,35 @@
+//! A font's report for a host that isn't Rattle: from bytes to bytes, piece by piece.
+//!
+//! [`lines`] hands over as many whole lines as a room holds, and goes on from a [`Mark`](t1_report::Mark) at the next call.
+//! What is made of the bytes of a font and of waivers is what t1check makes of them, by the same definitions.
+//!
+//! What is promised, for all bytes:
+//!
+//! - For rooms that hold each line of the report, the pieces joined are the report ([`pieces_are_the_report`]).
+//! - A room that doesn't hold the next line leaves the mark as it was.
+//! - A font or waivers are refused exactly where t1check refuses them, by the same code and text.
+//! - Memory doesn't grow with the number of lines.
+#![tactic(auto)]
+
+mod drawing;
+mod drawn;
+mod filling;
+mod form;
+mod laws;
+mod piece;
+mod reading;
+mod refusal;
+mod request;
+mod room;
+mod text;
+mod wish;
+mod writer;
+
+pub use drawing::picture;
+pub use drawn::Drawn;
+pub use form::Form;
+pub use laws::pieces_are_the_report;
+pub use piece::Piece;
+pub use reading::lines;
+pub use request::Request;
+pub use wish::Wish;

@@ -1,0 +1,102 @@
+//! From the bytes of a font and of waivers to lines.
+
+ghost use Rattle.std.specs.Prelude.{◌≡◌, IfErr, IfOk, Ok, OnErr, length};
+ghost use Rattle.t1_report.specs.Checked.{checked};
+ghost use Rattle.t1_run.specs.FontFiles.{font_of, with_reason};
+ghost use Rattle.t1_run.specs.WaiverFiles.{waivers_in};
+ghost use Rattle.t1_pieces.specs.Pieces.{IsPiece, IsReadPiece, IsWaivedPiece};
+ghost use Rattle.t1_pieces.specs.Reading.{IsFailureFor, IsFailureOf};
+
+use crate::filling::fill;
+use crate::piece::Piece;
+use crate::refusal::refuse;
+use crate::request::Request;
+use std::alloc::Global;
+use t1_font::{Font, OpenFont};
+use t1_lines::Reason;
+use t1_report::{LARGEST_WAIVERS, Mark, Waivers};
+use t1_rules::Sidebearings;
+use t1_run::{Failure, LARGEST_FILE};
+
+/// Hands over the lines of a font's report after a mark, as many as the room holds, and moves the mark to the last of
+/// them. Of the mark of four zeros they are the first lines.
+pub fn lines(alloc: Global, request: &Request<'_>, mark: &mut Mark, room: &mut [u8]) -> Piece
+    ensures piece { IsPiece request.now.form request.now.edition (font_of request.now.font.now) (waivers_in request.now.waivers.now) mark.old
+        mark.new room.new result }
+    ensures length { length room.new ≡ length room.old }
+{
+    match lines_of_file(alloc, request, mark, room) {
+        Ok(piece) => piece,
+        Err(Failure::Refused(code)) => refuse(code, room),
+        Err(_) => Piece::Memory,
+    }
+}
+
+/// Reads the font, and hands over lines of its report.
+fn lines_of_file(
+    alloc: Global,
+    request: &Request<'_>,
+    mark: &mut Mark,
+    room: &mut [u8],
+) -> Result<Piece, Failure>
+    ensures piece { IfOk result (IsReadPiece request.now.form request.now.edition (font_of request.now.font.now)
+        (waivers_in request.now.waivers.now) mark.old mark.new room.new) }
+    ensures failed { IfErr result (IsFailureFor (font_of request.now.font.now) (waivers_in request.now.waivers.now)) }
+    ensures mark { OnErr result (mark.new ≡ mark.old) }
+    ensures length { length room.new ≡ length room.old }
+{
+    let mut file = open(alloc, request.font)?;
+    let font = file.font(alloc)?;
+    let piece = lines_of_font(alloc, &font, request, mark, room);
+    font.let_go();
+    piece
+}
+
+/// Reads the waivers, and hands over lines of a font's report.
+fn lines_of_font(
+    alloc: Global,
+    font: &Font<'_>,
+    request: &Request<'_>,
+    mark: &mut Mark,
+    room: &mut [u8],
+) -> Result<Piece, Failure>
+    ensures piece { IfOk result (IsWaivedPiece request.now.form (checked font.now request.now.edition)
+        (waivers_in request.now.waivers.now) mark.old mark.new room.new) }
+    ensures failed { IfErr result (IsFailureOf (waivers_in request.now.waivers.now)) }
+    ensures mark { OnErr result (mark.new ≡ mark.old) }
+    ensures length { length room.new ≡ length room.old }
+{
+    let waivers = read_waivers(alloc, request.waivers)?;
+    let sidebearings = Sidebearings::prepare(alloc, font, request.edition)?;
+    Ok(fill(
+        alloc,
+        request.form,
+        &*font,
+        &sidebearings,
+        &waivers,
+        mark,
+        room,
+    ))
+}
+
+/// Joins the segments of a font's file. More than 16,777,216 bytes are refused, by E05.
+pub(crate) fn open(alloc: Global, bytes: &[u8]) -> Result<OpenFont, Failure>
+    ensures opened { IfOk result (λ file. with_reason file ≡ font_of bytes.now) }
+    ensures failed { IfErr result (IsFailureOf (font_of bytes.now)) }
+{
+    if bytes.len() > LARGEST_FILE {
+        return Err(Failure::from(Reason::FontTooLarge));
+    }
+    Ok(OpenFont::open(alloc, bytes)?)
+}
+
+/// Reads the waivers of a text. More than 1,048,576 bytes are refused, by E15.
+pub(crate) fn read_waivers(alloc: Global, text: &[u8]) -> Result<Waivers<'_>, Failure>
+    ensures read { IfOk result (λ waivers. waivers_in text.now ≡ Ok waivers) }
+    ensures failed { IfErr result (IsFailureOf (waivers_in text.now)) }
+{
+    if text.len() > LARGEST_WAIVERS {
+        return Err(Failure::from(Reason::WaiversTooLarge));
+    }
+    Ok(Waivers::read(alloc, text)?)
+}

@@ -1,0 +1,21 @@
+//! Why there is no report.
+
+ghost use Rattle.std.specs.Prelude.{◌≡◌, length};
+ghost use Rattle.t1_pieces.specs.Pieces.{IsRefusalBy};
+
+use crate::piece::Piece;
+use crate::room::put_after;
+use t1_lines::{RefusalCode, refusal_text};
+
+/// Puts the text of a refusal at the beginning of a room.
+pub(crate) fn refuse(code: RefusalCode, room: &mut [u8]) -> Piece
+    ensures refusal { IsRefusalBy code room.new result }
+    ensures length { length room.new ≡ length room.old }
+{
+    let text = refusal_text(code).as_bytes();
+    if text.len() > room.len() {
+        return Piece::NoRoom;
+    }
+    put_after(room, 0, text);
+    Piece::Refused(text.len())
+}

@@ -1,0 +1,86 @@
+//! Writes lines in a form.
+
+ghost use Rattle.std.specs.Prelude.{◌≡◌, IfOk, true};
+ghost use Rattle.t1_report.specs.Checked.{checked};
+ghost use Rattle.t1_report.specs.Faults.{fault_value};
+ghost use Rattle.t1_report.specs.Lines.{IsInFont};
+ghost use Rattle.t1_rules.specs.Components.{AreOf};
+ghost use Rattle.t1_pieces.specs.Forms.{line_as};
+
+use crate::form::Form;
+use crate::text::Text;
+use std::alloc::{AllocError, Global};
+use t1_font::Font;
+use t1_many::Form as LineForm;
+use t1_many_forms::{Formatted, JsonLines};
+use t1_reasons::ReportReasons;
+use t1_report::{Fault, Waivers};
+use t1_rules::Sidebearings;
+
+/// Writes one line after another, each in the place of the one before.
+#[derive(Drop)]
+pub(crate) struct LineWriter<'a> {
+    form: Form<'a>,
+    /// Writes objects. Its output has the line in each form.
+    objects: Formatted<JsonLines, Text, Text>,
+    reasons: ReportReasons<'a>,
+    ghost has_reasons: { objects.reasons ≡ true },
+}
+
+impl<'a> LineWriter<'a> {
+    /// Nothing is written.
+    pub(crate) fn new(
+        alloc: Global,
+        form: Form<'a>,
+        font: &'a Font<'a>,
+        sidebearings: &'a Sidebearings,
+    ) -> LineWriter<'a>
+        requires { AreOf font.now sidebearings.now }
+        ensures form { result.form ≡ form.entry }
+        ensures reasons { result.reasons ≡ checked font.now sidebearings.now.edition }
+    {
+        let out = Text::new(alloc);
+        let errors = Text::new(alloc);
+        LineWriter {
+            form,
+            objects: Formatted::new(alloc, JsonLines, out, errors, true),
+            reasons: ReportReasons::new(font, sidebearings),
+        }
+    }
+
+    /// Writes the line of a fault of the font.
+    pub(crate) fn set_line(
+        &mut self,
+        font: &Font<'_>,
+        waivers: &Waivers<'_>,
+        fault: &Fault,
+    ) -> Result<(), AllocError>
+        requires in_font { IsInFont font.now waivers.now (fault_value fault.now) }
+        requires font { self.old.reasons.value ≡ font.now }
+        ensures line { IfOk result (λ _. self.new.objects.out.bytes.items
+            ≡ line_as self.old.form self.old.reasons waivers.now (fault_value fault.now)) }
+        ensures form { self.new.form ≡ self.old.form }
+        ensures reasons { self.new.reasons ≡ self.old.reasons }
+    {
+        match self.form {
+            Form::Text => self.objects.out.set_fault(font, waivers, fault),
+            Form::Object(name) => {
+                self.objects.out.clear();
+                match self
+                    .objects
+                    .line(name, font, waivers, fault, &mut self.reasons)
+                {
+                    Ok(()) => Ok(()),
+                    Err(_) => Err(AllocError),
+                }
+            }
+        }
+    }
+
+    /// What is written.
+    pub(crate) fn as_bytes(&self) -> &[u8]
+        ensures { result.now ≡ self.now.objects.out.bytes.items }
+    {
+        self.objects.out.as_bytes()
+    }
+}

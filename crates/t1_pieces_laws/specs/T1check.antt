@@ -1,0 +1,45 @@
+-- The statements of laws: of the same bytes t1check writes the same.
+use Rattle.std.specs.Prelude.{◌≡◌, ℕ, true, List, None, Some, Result, Ok, Err}
+use Rattle.t1_answer.specs.Answers.{Answer, IsAnswer}
+use Rattle.t1_answer.specs.Waived.{asks_waivers}
+use Rattle.t1_answer.specs.declared.asked.Options.{Options}
+use Rattle.t1_font.specs.Fonts.{FontValue}
+use Rattle.t1_lines.specs.RefusalCodes.{refusal_code_of}
+use Rattle.t1_lines.specs.declared.refusal.Reason.{Reason}
+use Rattle.t1_lines.specs.declared.refusal.RefusalCode.{RefusalCode}
+use Rattle.t1_pieces.specs.Forms.{lines_as}
+use Rattle.t1_pieces.specs.declared.form.Form.TheVariants.{Text}
+use Rattle.t1_report.specs.Checked.{checked}
+use Rattle.t1_report.specs.Faults.{FaultValue}
+use Rattle.t1_report.specs.Reports.{IsReport}
+use Rattle.t1_report.specs.Waivers.{Waiver}
+use Rattle.t1_run.specs.Failures.{refusal_line}
+use Rattle.t1_run.specs.FontFiles.{font_of}
+use Rattle.t1_run.specs.WaiverFiles.{waivers_in}
+
+-- Options of t1check that request a whole report, with waivers.
+pub record AskAll (options : Options) : Type 0 where
+  pub after : options.after ≡ 0
+  pub max : options.max ≡ None
+  pub trace : options.trace ≡ None
+  pub waivers : asks_waivers options ≡ true
+
+-- Of bytes that are read t1check writes the lines of the report.
+abbrev pub T1checkWritesThem : Type 0
+T1checkWritesThem =
+    (options : Options) (bytes text : List ℕ) (font : FontValue) (waivers : List Waiver) (faults : List FaultValue) (answer : Answer)
+    → AskAll options → font_of bytes ≡ Ok font → waivers_in text ≡ Ok waivers
+    → IsReport (checked font options.edition) waivers faults → IsAnswer options bytes text answer
+    → answer.output ≡ lines_as Text (checked font options.edition) waivers faults
+
+-- For the reason why they aren't it prints the same code and text.
+abbrev pub IsRefusedFor : {A B : Type 0} → Result A Reason → Result B Reason → Reason → Type 0
+IsRefusedFor (Err why) waived reason = why ≡ reason
+IsRefusedFor (Ok font) (Err why) reason = why ≡ reason
+IsRefusedFor (Ok font) (Ok waivers) reason = ⊥
+
+abbrev pub T1checkRefusesThem : Type 0
+T1checkRefusesThem =
+    (options : Options) (bytes text : List ℕ) (reason : Reason) (code : RefusalCode) (answer : Answer)
+    → AskAll options → IsRefusedFor (font_of bytes) (waivers_in text) reason → refusal_code_of reason ≡ Some code
+    → IsAnswer options bytes text answer → answer.told ≡ refusal_line code

@@ -1,0 +1,61 @@
+-- What the numbers of a host mean.
+use Rattle.std.specs.Prelude.{◌≡◌, ℕ, ◌==◌, if◌then◌else◌, List, Option, None, Some}
+use Rattle.std.specs.Str.{IsUtf8}
+use Rattle.t1_char.specs.declared.edition.Edition.{Edition}
+use Rattle.t1_char.specs.declared.edition.Edition.TheVariants.{One, Two}
+use Rattle.t1_pieces.specs.declared.drawn.Drawn.{Drawn}
+use Rattle.t1_pieces.specs.declared.drawn.Drawn.TheVariants as drawn
+use Rattle.t1_pieces.specs.declared.form.Form.{Form}
+use Rattle.t1_pieces.specs.declared.form.Form.TheVariants.{Object, Text}
+use Rattle.t1_pieces.specs.declared.piece.Piece.{Piece}
+use Rattle.t1_pieces.specs.declared.piece.Piece.TheVariants.{Last, Memory, More, NoRoom, Refused}
+use Rattle.t1_report.specs.declared.marks.Mark.{Mark}
+use Rattle.t1_web.specs.declared.HostMark.{HostMark}
+
+abbrev pub edition_of : ℕ → Edition
+edition_of n = if n == 2 then Two else One
+
+-- 0 is t1check's line, any other number an object of the font of a name; there is none where the name isn't UTF-8.
+abbrev pub IsFormOf : ℕ → List ℕ → Option Form → Type 0
+IsFormOf n name None = (¬ (n ≡ 0)) × ¬ (IsUtf8 name)
+IsFormOf n name (Some Text) = n ≡ 0
+IsFormOf n name (Some (Object font)) = (¬ (n ≡ 0)) × (font.now ≡ name)
+
+abbrev pub mark_of : HostMark → Mark
+mark_of mark = record { number = mark.number; unit = mark.unit; step = mark.step; rule = mark.rule }
+
+-- The status of what was handed over; web/host.mjs has the same numbers.
+abbrev pub status_of : Piece → ℕ
+status_of (Last n) = 0
+status_of (More n) = 1
+status_of NoRoom = 2
+status_of (Refused n) = 3
+status_of Memory = 4
+
+-- How many bytes of the room were handed over.
+abbrev pub bytes_of : Piece → ℕ
+bytes_of (Last n) = n
+bytes_of (More n) = n
+bytes_of NoRoom = 0
+bytes_of (Refused n) = n
+bytes_of Memory = 0
+
+-- ---- pictures
+
+abbrev pub step_of : ℕ → Option ℕ
+step_of n = if n == 0 then None else Some n
+
+abbrev pub drawn_status : Drawn → ℕ
+drawn_status (drawn.Picture n) = 0
+drawn_status (drawn.NoRoom n) = 2
+drawn_status (drawn.Refused n) = 3
+drawn_status drawn.Memory = 4
+drawn_status drawn.NoGlyph = 5
+
+-- How many bytes of the room were handed over; where it is too small, how many are to be.
+abbrev pub drawn_bytes : Drawn → ℕ
+drawn_bytes (drawn.Picture n) = n
+drawn_bytes (drawn.NoRoom n) = n
+drawn_bytes (drawn.Refused n) = n
+drawn_bytes drawn.NoGlyph = 0
+drawn_bytes drawn.Memory = 0

@@ -1,0 +1,102 @@
+//! The exports of a WebAssembly module by which a page checks fonts, from bytes to bytes.
+//!
+//! Each export takes the bytes of a font and of waivers, and room for what it hands over. It returns a status, of which
+//! `specs/Statuses.antt` has the numbers, and says how many bytes it handed over. Any edition but 2 is the first.
+//!
+//! What is promised: what [`t1_pieces`] promises of its calls. A host that isn't Rattle is checked by nothing: it has to pass
+//! addresses of memory that is its own, with their lengths, and none twice.
+#![tactic(auto)]
+
+mod numbers;
+
+ghost use Rattle.t1_web.specs.Answers.{AreHandedOver, IsPictureHandedOver};
+ghost use Rattle.t1_web.specs.Numbers.{edition_of, mark_of, step_of};
+
+use crate::numbers::{
+    bytes_of, drawn_bytes, drawn_status, edition_of, form_of, status_of, step_of,
+};
+use std::alloc::Global;
+use t1_pieces::{Request, Wish, lines, picture};
+use t1_report::Mark;
+
+/// How far a report was handed over, as a host keeps it between calls: zeros first.
+#[repr(C)]
+pub struct HostMark {
+    /// How many lines were handed over.
+    pub number: u64,
+    pub unit: u32,
+    pub step: u32,
+    pub rule: u8,
+}
+
+/// The status where a name isn't UTF-8.
+const NO_NAME: u32 = 6;
+
+/// Hands over whole lines of a font's report after a mark, as many as the room holds, and moves the mark to the last of
+/// them. With the form 0 they are t1check's, with any other objects of JSON of the font of a name.
+#[unsafe(no_mangle)]
+pub extern "C" fn t1_web_lines(
+    alloc: Global,
+    font: &[u8],
+    waivers: &[u8],
+    edition: u32,
+    form: u32,
+    name: &[u8],
+    mark: &mut HostMark,
+    room: &mut [u8],
+    written: &mut usize,
+) -> u32
+    ensures { AreHandedOver form name.now (edition_of edition) font.now waivers.now (mark_of mark.old) (mark_of mark.new) room.new
+        written.new result }
+{
+    let Some(form) = form_of(form, name) else {
+        *written = 0;
+        return NO_NAME;
+    };
+    let request = Request {
+        font,
+        waivers,
+        edition: edition_of(edition),
+        form,
+    };
+    let mut reached = Mark {
+        number: mark.number,
+        unit: mark.unit,
+        step: mark.step,
+        rule: mark.rule,
+    };
+    let piece = lines(alloc, &request, &mut reached, room);
+    mark.number = reached.number;
+    mark.unit = reached.unit;
+    mark.step = reached.step;
+    mark.rule = reached.rule;
+    *written = bytes_of(piece);
+    status_of(piece)
+}
+
+/// Hands over the picture of the glyph of a name, up to a step or, with the step 0, as a whole. Where the room doesn't hold it, the count is
+/// that of its bytes.
+#[unsafe(no_mangle)]
+pub extern "C" fn t1_web_picture(
+    alloc: Global,
+    font: &[u8],
+    waivers: &[u8],
+    edition: u32,
+    glyph: &[u8],
+    step: u64,
+    room: &mut [u8],
+    written: &mut usize,
+) -> u32
+    ensures { IsPictureHandedOver (edition_of edition) glyph.now (step_of step) font.now waivers.now room.new written.new result }
+{
+    let wish = Wish {
+        font,
+        waivers,
+        edition: edition_of(edition),
+        glyph,
+        step: step_of(step),
+    };
+    let drawn = picture(alloc, &wish, room);
+    *written = drawn_bytes(drawn);
+    drawn_status(drawn)
+}

@@ -1,0 +1,85 @@
+//! What the numbers of a host mean.
+
+ghost use Rattle.std.specs.Prelude.{◌≡◌};
+ghost use Rattle.t1_web.specs.Numbers.{IsFormOf, bytes_of, drawn_bytes, drawn_status, edition_of, status_of, step_of};
+
+use t1_char::Edition;
+use t1_pieces::{Drawn, Form, Piece};
+
+/// The edition that a host names.
+pub(crate) fn edition_of(number: u32) -> Edition
+    ensures { result ≡ edition_of number }
+{
+    if number == 2 {
+        Edition::Two
+    } else {
+        Edition::One
+    }
+}
+
+/// The form that a host names: 0 is t1check's line, any other number an object of the font of a name. None where the name isn't
+/// UTF-8.
+pub(crate) fn form_of(number: u32, name: &[u8]) -> Option<Form<'_>>
+    ensures { IsFormOf number name.now result }
+{
+    if number == 0 {
+        return Some(Form::Text);
+    }
+    match str::from_utf8(name) {
+        Ok(name) => Some(Form::Object(name)),
+        Err(_) => None,
+    }
+}
+
+/// The status of what was handed over.
+pub(crate) fn status_of(piece: Piece) -> u32
+    ensures { result ≡ status_of piece }
+{
+    match piece {
+        Piece::Last(_) => 0,
+        Piece::More(_) => 1,
+        Piece::NoRoom => 2,
+        Piece::Refused(_) => 3,
+        Piece::Memory => 4,
+    }
+}
+
+/// How many bytes were handed over.
+pub(crate) fn bytes_of(piece: Piece) -> usize
+    ensures { result ≡ bytes_of piece }
+{
+    match piece {
+        Piece::Last(count) | Piece::More(count) | Piece::Refused(count) => count,
+        Piece::NoRoom | Piece::Memory => 0,
+    }
+}
+
+/// The step that a host names: 0 is none.
+pub(crate) fn step_of(number: u64) -> Option<u64>
+    ensures { result ≡ step_of number }
+{
+    if number == 0 { None } else { Some(number) }
+}
+
+/// The status of what was handed over of a picture.
+pub(crate) fn drawn_status(drawn: Drawn) -> u32
+    ensures { result ≡ drawn_status drawn }
+{
+    match drawn {
+        Drawn::Picture(_) => 0,
+        Drawn::NoRoom(_) => 2,
+        Drawn::Refused(_) => 3,
+        Drawn::Memory => 4,
+        Drawn::NoGlyph => 5,
+    }
+}
+
+/// How many bytes were handed over of a picture, or are to be.
+pub(crate) fn drawn_bytes(drawn: Drawn) -> usize
+    ensures { result ≡ drawn_bytes drawn }
+{
+    match drawn {
+        Drawn::Picture(count) | Drawn::NoRoom(count) | Drawn::Refused(count) => count,
+        Drawn::NoGlyph | Drawn::Memory => 0,
+    }
+}
