@@ -1,0 +1,130 @@
+// Between the module's exports and JavaScript: bytes go in as an address and a length, and a status and bytes come out.
+// crates/t1_web says what each export does. The page has a copy of this file in its worker.
+
+// How a call ended; crates/t1_web/specs/Statuses.antt has the same numbers.
+const LAST = 0, MORE = 1, NO_ROOM = 2, REFUSED = 3, MEMORY = 4, NO_GLYPH = 5, BAD_NAME = 6;
+
+// The forms of lines.
+const FORMS = { text: 0, json: 1 };
+
+// How much is handed over at once, if the next line isn't longer.
+const ROOM = 1 << 20;
+const MARK_SIZE = 24, COUNT_SIZE = 8;
+const NOTHING = new Uint8Array();
+
+class OutOfMemory extends Error {}
+
+// An instance of the module, and what lies in its memory.
+class Call {
+  constructor(module) {
+    this.exports = new WebAssembly.Instance(module, {}).exports;
+    this.written = this.room(COUNT_SIZE);
+    this.size = 0;
+    this.widen(ROOM);
+  }
+
+  room(size) {
+    const at = this.exports.web_room(BigInt(size));
+    if (!at) throw new OutOfMemory();
+    return at;
+  }
+
+  // Puts bytes into the memory: the two words by which an export takes them.
+  put(bytes) {
+    const at = this.room(bytes.length);
+    this.bytes(at, bytes.length).set(bytes);
+    return [at, BigInt(bytes.length)];
+  }
+
+  // Bytes of the memory, until it grows.
+  bytes(at, length) {
+    return new Uint8Array(this.exports.memory.buffer, Number(at), length);
+  }
+
+  number(at) {
+    return Number(new DataView(this.exports.memory.buffer).getBigUint64(Number(at), true));
+  }
+
+  // Room for at least so many bytes, in place of that before.
+  widen(size) {
+    if (this.size > 0) this.exports.web_free(this.out);
+    this.size = 0;
+    this.out = this.room(size);
+    this.size = size;
+  }
+
+  // Calls an export with the room, which grows until it holds what is next.
+  call(name, ...words) {
+    for (;;) {
+      const status = this.exports[name](...words, this.out, BigInt(this.size), this.written);
+      if (status !== NO_ROOM) return status;
+      this.widen(Math.max(this.size * 2, this.number(this.written)));
+    }
+  }
+
+  // A copy of what was handed over.
+  handed() {
+    return this.bytes(this.out, this.number(this.written)).slice();
+  }
+
+  // What is returned where there is no report and no picture.
+  ended(status) {
+    if (status === NO_GLYPH) return { kind: 'no glyph' };
+    if (status === MEMORY) return { kind: 'memory' };
+    if (status === BAD_NAME) throw new TypeError('the name is not UTF-8');
+    if (status !== REFUSED) throw new Error(`status ${status}`);
+    const text = new TextDecoder().decode(this.handed());
+    return { kind: 'refused', code: text.slice(0, 3), text: text.slice(4) };
+  }
+}
+
+// Whatever a function returns; or that memory ran out, where an error says so. An engine throws a RangeError for memory of its own.
+function unlessMemory(work) {
+  try {
+    return work();
+  } catch (error) {
+    if (error instanceof OutOfMemory || error instanceof RangeError) return { kind: 'memory' };
+    throw error;
+  }
+}
+
+// Whether a font was given with all that it needs, in words for an export.
+function words(call, font, waivers, edition) {
+  return [...call.put(font), ...call.put(waivers), edition];
+}
+
+export async function compile(bytes) {
+  return WebAssembly.compile(bytes);
+}
+
+// Yields the lines of a font's report, many at a time: as t1check writes them, or as t1check-all's lines of JSON of the font of a name.
+// Returns { kind: 'report', status }, status 1 where there was a line; or { kind: 'refused', code, text }; or { kind: 'memory' }.
+export function* lines(module, font, { waivers = NOTHING, edition = 1, form = 'text', name = '' } = {}) {
+  let call, given, mark;
+  const failed = unlessMemory(() => {
+    call = new Call(module);
+    mark = call.room(MARK_SIZE);
+    call.bytes(mark, MARK_SIZE).fill(0);
+    given = [...words(call, font, waivers, edition), FORMS[form], ...call.put(new TextEncoder().encode(name)), mark];
+  });
+  if (failed) return failed;
+  for (;;) {
+    const piece = unlessMemory(() => {
+      const status = call.call('t1_web_lines', ...given);
+      return status === LAST || status === MORE ? { status, bytes: call.handed() } : call.ended(status);
+    });
+    if (piece.kind) return piece;
+    if (piece.bytes.length > 0) yield piece.bytes;
+    if (piece.status === LAST) return { kind: 'report', status: call.number(mark) > 0 ? 1 : 0 };
+  }
+}
+
+// Draws the glyph of a name, up to a step or, with step 0, as a whole.
+// Returns { kind: 'picture', svg }; or { kind: 'refused', code, text }, { kind: 'no glyph' } or { kind: 'memory' }.
+export function picture(module, font, { waivers = NOTHING, edition = 1, glyph, step = 0 }) {
+  return unlessMemory(() => {
+    const call = new Call(module);
+    const status = call.call('t1_web_picture', ...words(call, font, waivers, edition), ...call.put(glyph), BigInt(step));
+    return status === LAST ? { kind: 'picture', svg: call.handed() } : call.ended(status);
+  });
+}
