@@ -6,3 +6,5 @@
 
 #[cfg(test)]
 mod lines;
+#[cfg(test)]
+mod pictures;

@@ -19,7 +19,7 @@ const REPORT: &str = "\
 ";
 
 /// A font with this glyph A.
-fn with_glyph(alloc: Global, glyph: &[u8]) -> Result<Vec<u8>, AllocError> {
+pub(super) fn with_glyph(alloc: Global, glyph: &[u8]) -> Result<Vec<u8>, AllocError> {
     Sample::new(alloc)?.glyph(b"A", glyph)?.pfb()
 }
 
@@ -34,7 +34,7 @@ fn request<'a>(font: &'a [u8], waivers: &'a [u8]) -> Request<'a> {
 }
 
 /// The first bytes of a room.
-fn front(room: &[u8], count: usize) -> &[u8] {
+pub(super) fn front(room: &[u8], count: usize) -> &[u8] {
     match room.split_at_checked(count) {
         Some((front, _)) => front,
         None => room,
@@ -93,6 +93,29 @@ fn a_room_that_is_too_small_says_so(rt: HostRuntime) -> Result<(), Fail> {
             text.is_empty() && last == Piece::NoRoom,
             "in rooms of {size}: {last:?}"
         );
+    }
+    Ok(())
+}
+
+/// Two lines of the font f.pfb as objects, where C07 and W01 are waived.
+const OBJECTS: &str = "\
+{\"code\":\"C05\",\"file\":\"f.pfb\",\"level\":\"must\",\"name\":\"A\",\"number\":1,\"path\":[],\"reason\":{\"command\":\"hmoveto\",\"taken\":1,\"text\":\"hmoveto takes 1 number, 2 are on the stack\",\"there\":2},\"step\":3,\"text\":\"too many arguments\",\"unit\":\"glyph\"}
+{\"code\":\"P03\",\"file\":\"f.pfb\",\"level\":\"tidy\",\"name\":\"A\",\"number\":2,\"path\":[],\"reason\":{\"text\":\"nothing is drawn so far\"},\"step\":4,\"text\":\"closepath without a path\",\"unit\":\"glyph\"}
+";
+
+#[test]
+fn lines_are_objects_too(rt: HostRuntime) -> Result<(), Fail> {
+    let font = with_glyph(rt.alloc(), FOUR_FAULTS)?;
+    let request = Request {
+        font: font.as_slice(),
+        waivers: b"A C07\nA W01\n",
+        edition: Edition::One,
+        form: Form::Object("f.pfb"),
+    };
+    for size in [300, 1_000] {
+        let (text, last) = joined(rt.alloc(), &request, size)?;
+        assert!(rt; text.as_slice() == OBJECTS.as_bytes(), "{text:?}");
+        assert!(rt; matches!(last, Piece::Last(_)), "{last:?}");
     }
     Ok(())
 }
