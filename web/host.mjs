@@ -1,7 +1,7 @@
 // Between the module's exports and JavaScript: bytes go in as an address and a length, and a status and bytes come out.
 // crates/t1_web says what each export does. The page has a copy of this file in its worker.
 
-// How a call ended; crates/t1_web/specs/Statuses.antt has the same numbers.
+// How a call ended; crates/t1_web/specs/Numbers.antt has the same numbers.
 const LAST = 0, MORE = 1, NO_ROOM = 2, REFUSED = 3, MEMORY = 4, NO_GLYPH = 5, BAD_NAME = 6;
 
 // The forms of lines.
@@ -88,7 +88,7 @@ function unlessMemory(work) {
   }
 }
 
-// Whether a font was given with all that it needs, in words for an export.
+// A font, its waivers and the edition, in words for an export.
 function words(call, font, waivers, edition) {
   return [...call.put(font), ...call.put(waivers), edition];
 }
