@@ -138,9 +138,9 @@ impl Watches {
         ensures { result ≡ true → IsSteady self.now }
     {
         self.paths.is_steady()
-            && self.stems.is_steady()
-            && self.flex.is_steady()
-            && self.seac.is_steady()
+            & self.stems.is_steady()
+            & self.flex.is_steady()
+            & self.seac.is_steady()
     }
 
     /// Keeps what such steps change: the current point, and what is drawn.

@@ -12,7 +12,7 @@ ghost use Rattle.t1_char.specs.declared.edition.Edition.TheVariants.{Two};
 
 use crate::violations::broken_at;
 use crate::walk::found::Found;
-use t1_char::{CharToken, Command, Drawn, Edition, Machine, Passing, Way};
+use t1_char::{Edition, Machine, Passing};
 use t1_font::{Font, copy_of};
 use t1_rules::{Mask, Sidebearings, Watch, Watches};
 
@@ -100,9 +100,8 @@ fn next_broken(
     ensures glyph { machine.new.glyph ≡ machine.old.glyph }
 {
     let mut on = machine.counted() <= sidebearings.edition().step_limit();
-    let mut misses = 0;
     while on {
-        let far = machine.go_far(passing_by(watches, misses));
+        let far = machine.go_far(passing_by(watches));
         watches.go(far.way);
         if far.answer.is_over() {
             return None;
@@ -118,51 +117,20 @@ fn next_broken(
                 rules,
             });
         }
-        misses = misses_after(misses, far.way, step.token);
         on = !is_past;
     }
     None
 }
 
-/// How many steps in a row have no line before machines look for none, until one is returned. A hostile glyph has many moves
-/// or calls, and to look for a line after each costs time.
-const MOST_MISSES: u32 = 32;
-
-/// Counts the steps in a row without a line.
-#[inline(always)]
-fn misses_after(misses: u32, way: Way, token: CharToken) -> u32 {
-    if !matches!(way.drawn, Drawn::Nothing) || misses >= MOST_MISSES && is_line(token) {
-        0
-    } else {
-        misses.wrapping_add(1)
-    }
-}
-
-/// Whether a line or a curve is drawn.
-#[inline(always)]
-fn is_line(token: CharToken) -> bool {
-    matches!(
-        token,
-        CharToken::Command(
-            Command::Rlineto
-                | Command::Hlineto
-                | Command::Vlineto
-                | Command::Rrcurveto
-                | Command::Vhcurveto
-                | Command::Hvcurveto
-        )
-    )
-}
-
 /// What becomes of the steps that come next: numbers are passed, unless a rule speaks of them, and lines in the midst of a
 /// path.
 #[inline(always)]
-fn passing_by(watches: &Watches, misses: u32) -> Passing
+fn passing_by(watches: &Watches) -> Passing
     ensures { IsFit result watches.now }
 {
     if !watches.is_calm() {
         Passing::Told
-    } else if misses < MOST_MISSES && watches.is_steady() {
+    } else if watches.is_steady() {
         Passing::Lines
     } else {
         Passing::Numbers

@@ -12,7 +12,6 @@ use Rattle.t1_report.specs.Checked.{step_limit}
 use Rattle.t1_report.specs.Private.Units.{IsQuiet, executed}
 use Rattle.t1_report.specs.Private.Reporting.{HaveSeen}
 use Rattle.t1_report.proofs.walk.glyph_run.next_broken.Goals as goal
-use Rattle.t1_report.proofs.walk.glyph_run.next_broken.Goals.{After-misses_after-misses}
 
 -- The glyph is over.
 abbrev gone : (c : goal.Then-is_over) → GoneFar (executed c.args.machine.now) c.args.machine.now.glyph c.args.unit (c.args.machine.now.counted + 1)
@@ -137,7 +136,7 @@ returns-then-has_rules-clause-run c =
     (c.broken_at-rules.ensures.seen (take n (steps_of font.value glyph)) next)))
 
 -- No rule is broken at it.
-abbrev turn_quiet : (c : After-misses_after-misses) → IsTurn (executed c.args.machine.now) c.args.machine.now.glyph c.args.unit (c.args.machine.now.counted + 1)
+abbrev turn_quiet : (c : goal.Else-has_rules) → IsTurn (executed c.args.machine.now) c.args.machine.now.glyph c.args.unit (c.args.machine.now.counted + 1)
     c.loop-on.machine.counted c.go_far-far.new.self.counted c.go.new.self c.current-step.result.now
 turn_quiet c =
     turn_far c.passing_by.result c.loop-on.machine c.go_far-far.new.self c.go_far-far.result.answer c.go_far-far.result.way c.current-step.result.now
@@ -149,7 +148,7 @@ turn_quiet c =
     (sym c.is_over.ensures ∙ c.if-is_over.false) c.current-step.ensures c.go_far-far.ensures.asked c.go.ensures
 
 -- Whether it is past the limit.
-abbrev past_is : (c : After-misses_after-misses) → c.is_limit-is_past.result ≡ nat_lt (step_limit (executed c.args.machine.now)) c.current-step.result.now.number
+abbrev past_is : (c : goal.Else-has_rules) → c.is_limit-is_past.result ≡ nat_lt (step_limit (executed c.args.machine.now)) c.current-step.result.now.number
 past_is c =
     c.is_limit-is_past.ensures
     ∙ past_far c.passing_by.result c.loop-on.machine c.go_far-far.new.self c.go_far-far.result.answer c.go_far-far.result.way c.current-step.result.now
