@@ -4,12 +4,16 @@
 // How a call ended; crates/t1_web/specs/Numbers.antt has the same numbers.
 const LAST = 0, MORE = 1, NO_ROOM = 2, REFUSED = 3, MEMORY = 4, NO_GLYPH = 5, BAD_NAME = 6;
 
-// The forms of lines.
-const FORMS = { text: 0, json: 1 };
+// The forms of a report: the export that hands it over, its words for the form, and how many bytes are kept between two calls.
+const FORMS = {
+  text: { name: 't1_web_lines', words: [0], size: 24 },
+  json: { name: 't1_web_lines', words: [1], size: 24 },
+  sarif: { name: 't1_web_document', words: [], size: 712 },
+};
 
 // How much is handed over at once, if the next line isn't longer.
 const ROOM = 1 << 20;
-const MARK_SIZE = 24, COUNT_SIZE = 8;
+const COUNT_SIZE = 8;
 const NOTHING = new Uint8Array();
 
 class OutOfMemory extends Error {}
@@ -97,25 +101,26 @@ export async function compile(bytes) {
   return WebAssembly.compile(bytes);
 }
 
-// Yields the lines of a font's report, many at a time: as t1check writes them, or as t1check-all's lines of JSON of the font of a name.
-// Returns { kind: 'report', status }, status 1 where there was a line; or { kind: 'refused', code, text }; or { kind: 'memory' }.
-export function* lines(module, font, { waivers = NOTHING, edition = 1, form = 'text', name = '' } = {}) {
-  let call, given, mark;
+// Yields a font's report, many lines at a time: as t1check writes it, or as t1check-all's lines of JSON or document of SARIF of the font of a name.
+// Returns { kind: 'report', status }, of lines with status 1 where there was one; or { kind: 'refused', code, text }; or { kind: 'memory' }.
+export function* report(module, font, { waivers = NOTHING, edition = 1, form = 'text', name = '' } = {}) {
+  const way = FORMS[form];
+  let call, given, reached;
   const failed = unlessMemory(() => {
     call = new Call(module);
-    mark = call.room(MARK_SIZE);
-    call.bytes(mark, MARK_SIZE).fill(0);
-    given = [...words(call, font, waivers, edition), FORMS[form], ...call.put(new TextEncoder().encode(name)), mark];
+    reached = call.room(way.size);
+    call.bytes(reached, way.size).fill(0);
+    given = [...words(call, font, waivers, edition), ...way.words, ...call.put(new TextEncoder().encode(name)), reached];
   });
   if (failed) return failed;
   for (;;) {
     const piece = unlessMemory(() => {
-      const status = call.call('t1_web_lines', ...given);
+      const status = call.call(way.name, ...given);
       return status === LAST || status === MORE ? { status, bytes: call.handed() } : call.ended(status);
     });
     if (piece.kind) return piece;
     if (piece.bytes.length > 0) yield piece.bytes;
-    if (piece.status === LAST) return { kind: 'report', status: call.number(mark) > 0 ? 1 : 0 };
+    if (piece.status === LAST) return { kind: 'report', status: call.number(reached) > 0 ? 1 : 0 };
   }
 }
 

@@ -2,7 +2,7 @@
 // t1check on any system that has node, by the module that web/build.sh makes: the same output and the same status as t1check with these
 // options, unless memory runs out.
 import fs from 'node:fs';
-import { compile, lines } from './host.mjs';
+import { compile, report } from './host.mjs';
 
 const USAGE = 'usage: t1check.mjs [--edition N] [--waive FILE] [--after K] [--max M] [FILE]\n';
 const CLEAN = 0, FAULTS = 1, REFUSED = 2, FAILED = 3;
@@ -148,10 +148,10 @@ async function run(words) {
   const module = await compiled();
   if (waivers === undefined) {
     // A font that is refused is refused first.
-    reportOf(drained(lines(module, font, { edition }), () => true));
+    reportOf(drained(report(module, font, { edition }), () => true));
     throw failed('read failed');
   }
-  return choose(lines(module, font, { waivers, edition }), after, max) ? FAULTS : CLEAN;
+  return choose(report(module, font, { waivers, edition }), after, max) ? FAULTS : CLEAN;
 }
 
 try {

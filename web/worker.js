@@ -20,7 +20,7 @@ async function unpack(packed) {
 const answers = {
   // The first faults of a report, each as the object of its JSON line. `isWhole` says whether there are no others.
   check(module, { font, waivers, edition }) {
-    const pieces = lines(module, font, { waivers, edition, form: 'json' });
+    const pieces = report(module, font, { waivers, edition, form: 'json' });
     const decoder = new TextDecoder();
     const faults = [];
     for (let bytes = 0; ; ) {
@@ -38,7 +38,7 @@ const answers = {
   // A whole report in one of its forms. Each piece goes into a Blob as soon as it is there, which the browser keeps outside this worker's
   // memory, on disk if it is large.
   write(module, { font, waivers, edition, form, name }, tell) {
-    const pieces = lines(module, font, { waivers, edition, form, name });
+    const pieces = report(module, font, { waivers, edition, form, name });
     const written = [];
     for (let bytes = 0, told = 0; ; ) {
       const { done, value } = pieces.next();

@@ -49,10 +49,18 @@ function nameOf(line) {
 // The report as text, with waivers or without.
 function tryReport(name, font, edition, words, waivers = NONE) {
   const native = run('t1check', ['--edition', String(edition), ...words, font]);
-  const { bytes, end } = whole(host.lines(module, fs.readFileSync(font), { waivers, edition, form: 'text' }));
+  const { bytes, end } = whole(host.report(module, fs.readFileSync(font), { waivers, edition, form: 'text' }));
   same(`${name}: text, edition ${edition}`, bytes, native.out);
   same(`${name}: how it ends, edition ${edition}`, end, endOf(native));
   return native;
+}
+
+// The document of SARIF.
+function tryDocument(font, edition) {
+  const name = path.basename(font);
+  const { bytes, end } = whole(host.report(module, fs.readFileSync(font), { waivers: NONE, edition, form: 'sarif', name }));
+  if (end.kind === 'refused') return;
+  same(`${name}: SARIF, edition ${edition}`, bytes, run('t1check_all', formWords('sarif', edition, name), { cwd: path.dirname(font) }).out);
 }
 
 // The first pictures of glyphs with faults: whole, and up to a fault's step.
@@ -84,6 +92,7 @@ for (const edition of EDITIONS) {
       const waivers = Buffer.from([...waived, 'no.such.glyph L01\n'].join(''), 'latin1');
       tryReport(`${name} with waivers`, font, edition, ['--waive', made('waivers', waivers)], waivers);
     }
+    tryDocument(font, edition);
     if (host.picture) tryPictures(name, font, edition, report);
   }
   // JSON lines of all fonts by one run.
@@ -93,7 +102,7 @@ for (const edition of EDITIONS) {
     const written = run('t1check_all', [...formWords('jsonl', edition, names[0]), ...names.slice(1)], { cwd: fonts }).out;
     for (const line of written.toString().split('\n').filter(Boolean)) native.set(JSON.parse(line).file, `${native.get(JSON.parse(line).file)}${line}\n`);
     for (const name of names) {
-      const { bytes, end } = whole(host.lines(module, fs.readFileSync(path.join(fonts, name)), { waivers: NONE, edition, form: 'json', name }));
+      const { bytes, end } = whole(host.report(module, fs.readFileSync(path.join(fonts, name)), { waivers: NONE, edition, form: 'json', name }));
       if (end.kind === 'refused') {
         const { code, text } = JSON.parse(native.get(name));
         same(`${name}: its refusal as JSON`, end, { kind: 'refused', code, text });
@@ -107,11 +116,11 @@ for (const edition of EDITIONS) {
 // Refusals of sizes and waivers, which no file in tests/ has.
 const letter = fontOfTests('letter.pfb');
 const SMALL = { waivers: NONE, edition: 1, form: 'text' };
-same('16 MiB', whole(host.lines(module, largeFont(16777216), SMALL)).end, { kind: 'report', status: 0 });
-same('a byte more', whole(host.lines(module, largeFont(16777217), SMALL)).end, { kind: 'refused', code: 'E05', text: 'file too large' });
+same('16 MiB', whole(host.report(module, largeFont(16777216), SMALL)).end, { kind: 'report', status: 0 });
+same('a byte more', whole(host.report(module, largeFont(16777217), SMALL)).end, { kind: 'refused', code: 'E05', text: 'file too large' });
 const REFUSED_WAIVERS = [['E14', 'waivers malformed', Buffer.from('A B\n')], ['E15', 'waivers past their limit', Buffer.alloc(1048577, 10)]];
 for (const [code, text, waivers] of REFUSED_WAIVERS) {
-  same(code, whole(host.lines(module, fs.readFileSync(letter), { ...SMALL, waivers })).end, { kind: 'refused', code, text });
+  same(code, whole(host.report(module, fs.readFileSync(letter), { ...SMALL, waivers })).end, { kind: 'refused', code, text });
 }
 if (host.picture) {
   const answer = host.picture(module, fs.readFileSync(letter), { waivers: NONE, edition: 1, glyph: Buffer.from('no.such.glyph'), step: 0 });
@@ -120,7 +129,7 @@ if (host.picture) {
 
 // Ten million lines in pieces: the first ones, and memory that doesn't grow.
 {
-  const pieces = host.lines(module, faultyFont(), SMALL);
+  const pieces = host.report(module, faultyFont(), SMALL);
   let bytes = 0;
   let piece;
   for (let count = 0; count < 50; count += 1) {
@@ -142,8 +151,8 @@ for (const name of ['letter.pfb', 'zones_and_glyphs.pfb']) {
   const report = { waivers: NONE, edition: 1 };
   const many = linesOf(run('t1check_all', ['-q', '--no-settings', '--long', font]).out);
   same(`${name}: t1check-all has t1check's lines`, many.map((line) => line.slice(`${font}: `.length)), wanted);
-  same(`${name}: the module's text has them`, linesOf(whole(host.lines(module, bytes, { ...report, form: 'text' })).bytes), wanted);
-  const objects = linesOf(whole(host.lines(module, bytes, { ...report, form: 'json' })).bytes);
+  same(`${name}: the module's text has them`, linesOf(whole(host.report(module, bytes, { ...report, form: 'text' })).bytes), wanted);
+  const objects = linesOf(whole(host.report(module, bytes, { ...report, form: 'json' })).bytes);
   same(`${name}: the module's JSON has them`, objects.map((line) => lineOf(JSON.parse(line))), wanted);
   same(`${name}: t1check.mjs has them`, linesOf(spawnSync(process.execPath, [path.join(top, 'web', 't1check.mjs'), font]).stdout), wanted);
   if (fs.existsSync(path.join(top, 'crates/example/out/example'))) same(`${name}: the example has them`, wanted.map(() => exampleOf(font)), wanted);

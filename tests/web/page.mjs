@@ -251,8 +251,9 @@ const tests = {
     const wanted = {
       txt: run('t1check', [font]).out,
       jsonl: run('t1check_all', formWords('jsonl', 1, path.basename(font)), { cwd }).out,
+      sarif: run('t1check_all', formWords('sarif', 1, path.basename(font)), { cwd }).out,
     };
-    for (const [text, ending] of [['Text', 'txt'], ['JSON', 'jsonl']]) {
+    for (const [text, ending] of [['Text', 'txt'], ['JSON', 'jsonl'], ['SARIF', 'sarif']]) {
       const { name, bytes } = await downloaded(page, '#downloads button', text);
       same(`the report as ${text}: its name`, name, `zones_and_glyphs.pfb.${ending}`);
       same(`the report as ${text}`, bytes, wanted[ending]);
@@ -260,6 +261,8 @@ const tests = {
     await page.js("writing.call = async () => ({ kind: 'memory' })");
     await page.click('#downloads button', 'JSON');
     await page.untilText('#said', "isn't written");
+    await page.click('#downloads button', 'SARIF');
+    await page.untilText('#said', 'JSON lines take less memory');
     await page.js('delete writing.call');
   },
 

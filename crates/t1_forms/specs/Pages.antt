@@ -351,7 +351,7 @@ page_43 = record {
   code = codes "P02";
   anchor = codes "p02-path-not-closed";
   title = codes "path not closed";
-  text = codes "Level *should*: a filled path looks the same, and one that is stroked stays open.\n\nclosepath is missing. A path that is filled is closed all the same, but where outlines are stroked (PaintType 2) the corner at its beginning\nstays open. After the last path it has to be there as well, before endchar.\n\n    A: 0 500 hsbw 50 hmoveto 100 hlineto endchar\n    1: glyph A - 8 P02 path not closed\n       from 50 0 to 150 0\n\nCure: write closepath before the command that the line names.";
+  text = codes "Level *should*: a filled path looks the same, and one that is stroked stays open.\n\nclosepath is missing. A path that is filled is closed all the same, but where outlines are stroked (PaintType 2) the corner at its beginning\nstays open. After the last path it has to be there as well, before endchar. The reason says where the path's first line or curve begins, and where\nits last one ends.\n\n    A: 0 500 hsbw 50 hmoveto 100 hlineto endchar\n    1: glyph A - 8 P02 path not closed\n       from 50 0 to 150 0\n\nCure: write closepath before the command that the line names.";
 }
 
 unfoldable pub page_44 : PageValue
@@ -375,7 +375,7 @@ page_46 = record {
   code = codes "H02";
   anchor = codes "h02-stems-overlap";
   title = codes "stems overlap";
-  text = codes "Level *should*: one of the stems has no effect, or both are moved against one another.\n\nOf two stems that overlap a rasteriser can't say which one an edge belongs to: it drops one, or moves an edge twice. Stems that only touch\ndon't overlap. A stem is compared with those of its own command, and with the first 96 of its direction since the glyph's beginning or the last\nhint replacement. Here the first stem covers 0 to 20, the second 15 to 35.\n\n    A: 0 500 hsbw 0 20 hstem 15 20 hstem endchar\n    1: glyph A - 9 H02 stems overlap\n       15 to 35 and 0 to 20, set at step 6, share 5\n\nA stem whose width is exactly -20 or -21 is compared by these numbers in edition 1, and overlaps nothing in edition 2. With\n`10 -20 hstem` for the second stem, which covers -10 to 10, the line is there in edition 1 alone.\n\nCure: put stems that overlap into hint sets of their own, by hint replacement; or leave one out. A Subr of stems that is called without a\nhint replacement adds them to those that hold. Where stems of one edge are meant, check by edition 2.";
+  text = codes "Level *should*: one of the stems has no effect, or both are moved against one another.\n\nOf two stems that overlap a rasteriser can't say which one an edge belongs to: it drops one, or moves an edge twice. Stems that only touch\ndon't overlap. A stem is compared with those of its own command, and with the first 96 of its direction since the glyph's beginning or the last\nhint replacement. The reason has the earliest of these that overlaps, and the step that set it, which may be the same. Here the first stem covers\n0 to 20, the second 15 to 35.\n\n    A: 0 500 hsbw 0 20 hstem 15 20 hstem endchar\n    1: glyph A - 9 H02 stems overlap\n       15 to 35 and 0 to 20, set at step 6, share 5\n\nA stem whose width is exactly -20 or -21 is compared by these numbers in edition 1, and overlaps nothing in edition 2. With\n`10 -20 hstem` for the second stem, which covers -10 to 10, the line is there in edition 1 alone.\n\nCure: put stems that overlap into hint sets of their own, by hint replacement; or leave one out. A Subr of stems that is called without a\nhint replacement adds them to those that hold. Where stems of one edge are meant, check by edition 2.";
 }
 
 unfoldable pub page_47 : PageValue
@@ -391,7 +391,7 @@ page_48 = record {
   code = codes "H04";
   anchor = codes "h04-unequal-stem3";
   title = codes "unequal stem3";
-  text = codes "Level *should*: the strokes may be drawn unequal at small sizes.\n\nhstem3 and vstem3 are for three strokes that a rasteriser keeps evenly apart, as those of `m` or of the sign `" ++ (226 ∷ 137 ∷ 161 ∷ (codes "`: the outer two have to be\nequally wide, and the middle of the second has to be half-way between their middles. Otherwise it evens out what isn't even. Here the widths\nare 30 and 40, and the middles 65, 165 and 270.\n\n    A: 0 500 hsbw 50 30 150 30 250 40 vstem3 endchar\n    1: glyph A - 10 H04 unequal stem3\n       widths 30 30 40, middles 65 165 270\n\nHow much it matters: often a middle was rounded. Of 195 such places in 1,454 real fonts, 169 had outer strokes of equal width and a middle at most\nhalf a unit off.\n\nCure: mend the numbers where the strokes are even, here `250 30` for the third; otherwise write three stems, each by a command of its own."));
+  text = codes "Level *should*: the strokes may be drawn unequal at small sizes.\n\nhstem3 and vstem3 are for three strokes that a rasteriser keeps evenly apart, as those of `m` or of the sign `" ++ (226 ∷ 137 ∷ 161 ∷ (codes "`: the outer two have to be\nequally wide, and the middle of the second has to be half-way between their middles. Otherwise it evens out what isn't even. The three are taken\nin the order in which they are written. Here the widths are 30, 30 and 40, and the middles 65, 165 and 270.\n\n    A: 0 500 hsbw 50 30 150 30 250 40 vstem3 endchar\n    1: glyph A - 10 H04 unequal stem3\n       widths 30 30 40, middles 65 165 270\n\nHow much it matters: often a middle was rounded. Of 195 such places in 1,454 real fonts, 169 had outer strokes of equal width and a middle at most\nhalf a unit off.\n\nCure: mend the numbers where the strokes are even, here `250 30` for the third; otherwise write three stems, each by a command of its own."));
 }
 
 unfoldable pub page_49 : PageValue
@@ -447,7 +447,7 @@ page_55 = record {
   code = codes "X05";
   anchor = codes "x05-flex-ends-elsewhere";
   title = codes "flex ends elsewhere";
-  text = codes "Level *must*: what comes after the curves is drawn elsewhere by some interpreters.\n\nThe end names the point where the flex ends, in the glyph's own coordinates, as hsbw and all moves, lines and curves before have led there.\nAn interpreter that draws the flex as a line takes this point, another one adds up the moves: if they differ, what follows is shifted, on one\ndevice and not on another. Here the seven moves lead to 7 0, and the end says 8 0.\n\n    A: 0 500 hsbw 0 hmoveto 0 1 callothersubr\n       1 hmoveto 0 2 callothersubr " ++ (226 ∷ 128 ∷ 166 ∷ (codes " (seven times) 50 8 0 3 0 callothersubr pop pop setcurrentpoint closepath endchar\n    1: glyph A - 49 X05 flex ends elsewhere\n       the pen is at 7 0, the end names 8 0\n\nCure: write the point where the reason says that the pen is, here `50 7 0`. The picture of the glyph, `t1draw A font.pfb`, says so too. Later flexes\nof the glyph were mostly counted on from the wrong point: their ends have this line then, and are mended in the same way. Where the path doesn't end\nwhere it began with the points that you have counted, the point was right: mend a move of the flex.\n\nhsbw begins at the sidebearing and 0, and closepath leaves the current point where it is. Where moves have fractions, by div, the point has to be\ntheir exact sum. To find the point by hand, begin with hsbw's first number and 0 (sbw's first two), and go through the glyph's trace,\n`t1check --trace A font.pfb`: rmoveto and rlineto add both numbers, hmoveto and hlineto the first to x, vmoveto and vlineto the first to y, rrcurveto\nits three pairs; vhcurveto adds its second and fourth number to x and its first and third to y, hvcurveto its first and second to x and its third and\nfourth to y. After the end of a flex count on from the point that it names, which setcurrentpoint sets."));
+  text = codes "Level *must*: what comes after the curves is drawn elsewhere by some interpreters.\n\nThe end names the point where the flex ends, in the glyph's own coordinates, as hsbw and all moves, lines and curves before have led there.\nAn interpreter that draws the flex as a line takes this point, another one adds up the moves: if they differ, what follows is shifted, on one\ndevice and not on another. Here the seven moves lead to 7 0, and the end says 8 0.\n\n    A: 0 500 hsbw 0 hmoveto 0 1 callothersubr\n       1 hmoveto 0 2 callothersubr " ++ (226 ∷ 128 ∷ 166 ∷ (codes " (seven times) 50 8 0 3 0 callothersubr pop pop setcurrentpoint closepath endchar\n    1: glyph A - 49 X05 flex ends elsewhere\n       the pen is at 7 0, the end names 8 0\n\nCure: write the point where the reason says that the pen is, here `50 7 0`. The picture of the glyph, `t1draw A font.pfb`, says so too. Later flexes\nof the glyph were mostly counted on from the wrong point: their ends have this line then, and are mended in the same way. If with the new points the\npath no longer ends where it began, the old point was right: mend a move of the flex.\n\nhsbw begins at the sidebearing and 0, and closepath leaves the current point where it is. Where moves have fractions, by div, the point has to be\ntheir exact sum. To find the point by hand, begin with hsbw's first number and 0 (sbw's first two), and go through the glyph's trace,\n`t1check --trace A font.pfb`: rmoveto and rlineto add both numbers, hmoveto and hlineto the first to x, vmoveto and vlineto the first to y, rrcurveto\nits three pairs; vhcurveto adds its second and fourth number to x and its first and third to y, hvcurveto its first and second to x and its third and\nfourth to y. After the end of a flex count on from the point that it names, which setcurrentpoint sets."));
 }
 
 unfoldable pub page_56 : PageValue

@@ -62,6 +62,10 @@ no_counts = replicate (page_count + 1) 0
 abbrev pub begun : Option (List ℕ) → SarifState
 begun docs = record { docs = docs; has_results = false; unit = []; counts = no_counts; failures = []; failure_count = 0 }
 
+-- A document whose last result is of this unit, where each font was checked.
+abbrev pub resumed : Option (List ℕ) → List ℕ → List ℕ → SarifState
+resumed docs unit counts = record { docs = docs; has_results = true; unit = unit; counts = counts; failures = []; failure_count = 0 }
+
 abbrev pub document_begin : List ℕ
 document_begin = codes "{\"$schema\":\"https://json.schemastore.org/sarif-2.1.0.json\",\"version\":\"2.1.0\",\"runs\":["
 

@@ -48,7 +48,7 @@ pub use laws::{
 pub use names::shown;
 pub use objects::{object, write_object};
 pub use reason::{ToldReason, read_reason};
-pub use sarif::Sarif;
+pub use sarif::{RESULT_COUNTS, Sarif};
 pub use sarif_laws::{
     all_is_told_in_documents, documents_are_of_their_runs, fingerprints_stay, results_are_read_back,
 };

@@ -3,8 +3,8 @@
 ghost use Rattle.std.specs.Prelude.{◌≡◌, ◌++◌, ◌<◌, ◌∷◌, IfOk, OnOk, option_map, string_bytes};
 ghost use Rattle.serde_json.specs.Written.{comma_if, compact_text};
 ghost use Rattle.t1_lines.specs.Lines.{line_value};
-ghost use Rattle.t1_forms.specs.Sarif.{after_result, after_telling, begun, closing, counts_in, no_counts, opening, result_text, room_text, run_begin, run_end, sarif_state, telling_text, with_failure, with_room};
-ghost use Rattle.t1_forms.specs.SarifObjects.{notification_object};
+ghost use Rattle.t1_forms.specs.Sarif.{after_result, after_telling, begun, closing, counts_in, no_counts, opening, result_text, resumed, room_text, run_begin, run_end, sarif_state, telling_text, with_failure, with_room};
+ghost use Rattle.t1_forms.specs.SarifObjects.{notification_object, unit_of};
 ghost use Rattle.t1_forms.specs.Tellings.{reason_value, told_value};
 ghost use Rattle.t1_forms.specs.Writing.{WritesLine};
 
@@ -21,7 +21,7 @@ use t1_lines::Line;
 const MOST_FAILURES: usize = 1000;
 
 /// The places of codes among the pages, and one after them for a code that has none.
-const PLACES: usize = COUNT + 1;
+pub const RESULT_COUNTS: usize = COUNT + 1;
 
 /// A document that is being written.
 ///
@@ -36,7 +36,7 @@ pub struct Sarif<'a> {
     /// The unit of the last result.
     unit: String,
     /// How many results there were of each code since the unit began.
-    counts: [u64; PLACES],
+    counts: [u64; RESULT_COUNTS],
     /// Why fonts weren't checked, as text.
     failures: String,
     failure_count: usize,
@@ -104,10 +104,40 @@ impl<'a> Sarif<'a> {
             docs,
             has_results: false,
             unit: String::new(alloc),
-            counts: [0; PLACES],
+            counts: [0; RESULT_COUNTS],
             failures: String::new(alloc),
             failure_count: 0,
         })
+    }
+
+    /// Goes on with a document whose last result is that of this line, where each font was checked. `counts` are those
+    /// [after it](Sarif::counts).
+    pub fn resume(
+        alloc: Global,
+        docs: Option<&'a str>,
+        counts: &[u64; RESULT_COUNTS],
+        font: Option<&[u8]>,
+        line: &Line<'_>,
+    ) -> Result<Sarif<'a>, AllocError>
+        ensures { IfOk result (λ s. sarif_state s
+            ≡ resumed (option_map (λ docs. docs.now) docs.entry) (unit_of (option_map (λ name. name.now) font.entry) (line_value line.now)) counts.now) }
+    {
+        let unit = unit_of(alloc, font, line)?;
+        Ok(Sarif {
+            docs,
+            has_results: true,
+            unit,
+            counts: *counts,
+            failures: String::new(alloc),
+            failure_count: 0,
+        })
+    }
+
+    /// How many results there were of each code since the unit of the last one began, by the code's place among the pages.
+    pub fn counts(&self) -> &[u64; RESULT_COUNTS]
+        ensures { result.now ≡ (sarif_state self.now).counts }
+    {
+        &self.counts
     }
 
     /// Goes on to a unit: in another one each code is counted anew.
@@ -117,7 +147,7 @@ impl<'a> Sarif<'a> {
     {
         if unit.as_str() != self.unit.as_str() {
             self.unit = unit;
-            self.counts = [0; PLACES];
+            self.counts = [0; RESULT_COUNTS];
         }
     }
 

@@ -5,7 +5,7 @@ ghost use Rattle.t1_many.specs.Handing.{Handed, failure, lost_of};
 ghost use Rattle.t1_run.specs.declared.failure.Failure.TheVariants.{Refused};
 ghost use Rattle.t1_many_forms.specs.Formatting.{FormattedTakes, GivesUnchecked};
 
-use crate::fault_line::fault_line;
+use crate::faults::fault_line;
 use crate::formatter::Formatter;
 use crate::line_text::LineText;
 use crate::telling::give;

@@ -12,7 +12,7 @@
 //! What is promised: each byte that is written, and what is printed on standard error.
 #![tactic(auto)]
 
-mod fault_line;
+mod faults;
 mod formatted;
 mod formatter;
 mod github;
@@ -22,6 +22,7 @@ mod line_text;
 mod sarif;
 mod telling;
 
+pub use faults::fault_line;
 pub use formatted::Formatted;
 pub use formatter::Formatter;
 pub use github::GitHubCommands;

@@ -38,7 +38,7 @@ line_length (Object name) font waivers fault =
     let whole = length-append (compact_text (object_of (told_fault true name.now font waivers fault))) (codes "\n") in
     omega (arith, whole)
 
-led_on : (font : CheckedFont) (waivers : List Waiver) (mark reached : Mark) (given : List FaultValue) (fault : FaultValue)
+pub led_on : (font : CheckedFont) (waivers : List Waiver) (mark reached : Mark) (given : List FaultValue) (fault : FaultValue)
     → LeadTo font waivers mark given reached → IsNext font waivers reached fault → LeadTo font waivers mark (given ++ fault ∷ []) (mark_of fault)
 led_on font waivers mark reached [] fault led next = (subst (λ (m : Mark). IsNext font waivers m fault) (sym led) next, refl)
 led_on font waivers mark reached (f ∷ given) fault (first, led) next = (first, led_on font waivers (mark_of f) reached given fault led next)

@@ -1,3 +1,6 @@
+pub mod DocumentLaws
+pub mod DocumentPlaces
+pub mod DocumentResults
 pub mod DrawnTexts
 pub mod GivenLines
 pub mod Objects

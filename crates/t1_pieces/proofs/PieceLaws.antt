@@ -7,16 +7,14 @@ use Rattle.std.specs.List.{All, flat_map}
 use Rattle.t1_report.specs.Checked.{CheckedFont}
 use Rattle.t1_report.specs.Faults.{FaultValue}
 use Rattle.t1_report.specs.Laws.Walks.{AllAreGivenAtLast, GivenAreTheFront, LeadTo, MarksGoOnCounting, NoneIsGivenAtFirst}
-use Rattle.t1_report.specs.Reports.{IsReport}
 use Rattle.t1_report.specs.Waivers.{Waiver}
-use Rattle.t1_report.specs.Walks.{IsNext, IsSoFar, first_mark, mark_of}
+use Rattle.t1_report.specs.Walks.{IsNext, first_mark, mark_of}
 use Rattle.t1_report.specs.declared.marks.Mark.{Mark}
 use Rattle.t1_pieces.specs.Forms.{line_as, lines_as}
 use Rattle.t1_pieces.specs.Laws.{AreCalls, Call, CallsEnd, JoinedAreTheReport, LinesFit, handed_by}
-use Rattle.t1_pieces.specs.Pieces.{AreGiven, IsPieceOf}
 use Rattle.t1_pieces.specs.declared.form.Form.{Form}
 
-led_more : (font : CheckedFont) (waivers : List Waiver) (mark middle last : Mark) (given more : List FaultValue)
+pub led_more : (font : CheckedFont) (waivers : List Waiver) (mark middle last : Mark) (given more : List FaultValue)
     → LeadTo font waivers mark given middle → LeadTo font waivers middle more last → LeadTo font waivers mark (given ++ more) last
 led_more font waivers mark middle last [] more led on = subst (λ (m : Mark). LeadTo font waivers m more last) (sym led) on
 led_more font waivers mark middle last (f ∷ given) more (next, led) on =

@@ -8,7 +8,7 @@ use Rattle.t1_font.specs.Fonts.{FontValue}
 use Rattle.t1_font.specs.declared.unread.Unread.{Unread}
 use Rattle.t1_lines.specs.RefusalCodes.{refusal_code_of}
 use Rattle.t1_lines.specs.declared.refusal.Reason.{Reason}
-use Rattle.t1_lines.specs.declared.refusal.Reason.TheVariants.{Font, FontTooLarge, Waivers, WaiversTooLarge}
+use Rattle.t1_lines.specs.declared.refusal.Reason.TheVariants.{Font, Waivers, WaiversTooLarge}
 use Rattle.t1_lines.specs.declared.refusal.RefusalCode.{RefusalCode}
 use Rattle.t1_report.specs.Checked.{checked}
 use Rattle.t1_report.specs.WaiverViews.{IsReadAs}
@@ -22,11 +22,13 @@ use Rattle.t1_run.specs.FontFiles.{font_of, with_reason}
 use Rattle.t1_run.specs.WaiverFiles.{as_waivers, waivers_in}
 use Rattle.t1_run.specs.declared.failure.Failure.{Failure}
 use Rattle.t1_run.specs.declared.failure.Failure.TheVariants.{Memory, Refused}
+use Rattle.t1_pieces.specs.Documents.{IsDocumentPiece}
 use Rattle.t1_pieces.specs.Pieces.{IsPiece, IsReadPiece, IsRefusalBy, IsWaivedPiece}
 use Rattle.t1_pieces.specs.Pieces.IsRefusalFor.{refused}
 use Rattle.t1_pieces.specs.Reading.{IsFailureFor, IsFailureOf}
 use Rattle.t1_pieces.specs.declared.form.Form.{Form}
 use Rattle.t1_pieces.specs.declared.piece.Piece.{Piece}
+use Rattle.t1_pieces.specs.declared.stage.Reached.{Reached}
 
 -- ---- failures
 
@@ -124,4 +126,19 @@ refused_piece form edition (Ok font) (Err reason) mark mark' room piece failure 
 refused_piece form edition (Ok font) (Err reason) mark mark' room piece failure code (inr memory) is kept by =
     absurd (never failure code is memory)
 refused_piece form edition (Ok font) (Ok waivers) mark mark' room piece failure code memory is kept by =
+    absurd (never failure code is memory)
+
+pub refused_document : (name : List ℕ) (edition : Edition) (read : Result FontValue Reason) (waived : Result (List Waiver) Reason)
+    (reached reached' : Reached) (room : List ℕ) (piece : Piece) (failure : Failure) (code : RefusalCode) → IsFailureFor read waived failure
+    → failure ≡ Refused code → reached' ≡ reached → IsRefusalBy code room piece
+    → IsDocumentPiece name edition read waived reached reached' room piece
+refused_document name edition (Err reason) waived reached reached' room piece failure code (inl so) is kept by =
+    refused code (coded reason code (sym so ∙ is)) by kept
+refused_document name edition (Err reason) waived reached reached' room piece failure code (inr memory) is kept by =
+    absurd (never failure code is memory)
+refused_document name edition (Ok font) (Err reason) reached reached' room piece failure code (inl so) is kept by =
+    refused code (coded reason code (sym so ∙ is)) by kept
+refused_document name edition (Ok font) (Err reason) reached reached' room piece failure code (inr memory) is kept by =
+    absurd (never failure code is memory)
+refused_document name edition (Ok font) (Ok waivers) reached reached' room piece failure code memory is kept by =
     absurd (never failure code is memory)

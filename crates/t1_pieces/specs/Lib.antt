@@ -1,3 +1,6 @@
+pub mod DocumentLaws
+pub mod DocumentParts
+pub mod Documents
 pub mod Drawings
 pub mod Forms
 pub mod Laws

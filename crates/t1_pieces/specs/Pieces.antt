@@ -48,8 +48,8 @@ IsRefusalBy code room NoRoom = length room < length (refusal_text_of code)
 IsRefusalBy code room (Refused n) = (n ≤ length room) × (take n room ≡ refusal_text_of code)
 IsRefusalBy code room Memory = ⊥
 
--- A call refuses for this reason, or memory ran out. The mark stays.
-pub data IsRefusalFor (reason : Reason) (mark mark' : Mark) (room : List ℕ) (piece : Piece) : Type 0 where
+-- A call refuses for this reason, or memory ran out. The mark, or how far a document was handed over, stays.
+pub data IsRefusalFor {P : Type 0} (reason : Reason) (mark mark' : P) (room : List ℕ) (piece : Piece) : Type 0 where
   refused :
       (code : RefusalCode) → refusal_code_of reason ≡ Some code → IsRefusalBy code room piece → mark' ≡ mark
       → IsRefusalFor reason mark mark' room piece

@@ -72,7 +72,7 @@ fn fill_from(
 }
 
 /// What is handed over where so many bytes are used and the next line doesn't fit.
-fn full(used: usize) -> Piece
+pub(crate) fn full(used: usize) -> Piece
     ensures none { used ≡ 0 → result ≡ NoRoom }
     ensures some { 0 < used → result ≡ More used }
 {

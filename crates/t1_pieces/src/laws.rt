@@ -1,6 +1,7 @@
 //! Laws above the definitions: each is the contract of a function that does nothing, but for calling the laws on which
 //! it rests.
 
+ghost use Rattle.t1_pieces.specs.DocumentLaws.{DocumentCallsEnd, JoinedAreTheDocument, PartsFit};
 ghost use Rattle.t1_pieces.specs.Laws.{CallsEnd, JoinedAreTheReport, LinesFit};
 
 use t1_report::marks_count_the_faults_given;
@@ -11,6 +12,16 @@ pub fn pieces_are_the_report()
     ensures joined { JoinedAreTheReport }
     ensures fit { LinesFit }
     ensures end { CallsEnd }
+{
+    marks_count_the_faults_given();
+}
+
+/// The same of documents: what is handed over, until no result is left, is the document that t1check-all writes of the font.
+/// A room that holds each of its parts is never too small.
+pub fn pieces_are_the_document()
+    ensures joined { JoinedAreTheDocument }
+    ensures fit { PartsFit }
+    ensures end { DocumentCallsEnd }
 {
     marks_count_the_faults_given();
 }

@@ -13,9 +13,12 @@
 //! - Memory doesn't grow with the number of lines.
 #![tactic(auto)]
 
+mod document_writer;
+mod documents;
 mod drawing;
 mod drawn;
 mod filling;
+mod filling_documents;
 mod form;
 mod laws;
 mod piece;
@@ -23,15 +26,17 @@ mod reading;
 mod refusal;
 mod request;
 mod room;
-mod text;
+mod stage;
 mod wish;
 mod writer;
 
+pub use documents::{DocumentRequest, document};
 pub use drawing::picture;
 pub use drawn::Drawn;
 pub use form::Form;
-pub use laws::pieces_are_the_report;
+pub use laws::{pieces_are_the_document, pieces_are_the_report};
 pub use piece::Piece;
 pub use reading::lines;
 pub use request::Request;
+pub use stage::{Reached, Stage};
 pub use wish::Wish;

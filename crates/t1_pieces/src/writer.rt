@@ -8,14 +8,14 @@ ghost use Rattle.t1_rules.specs.Components.{AreOf};
 ghost use Rattle.t1_pieces.specs.Forms.{line_as};
 
 use crate::form::Form;
-use crate::text::Text;
 use std::alloc::{AllocError, Global};
 use t1_font::Font;
 use t1_many::Form as LineForm;
 use t1_many_forms::{Formatted, JsonLines};
 use t1_reasons::ReportReasons;
-use t1_report::{Fault, Waivers};
+use t1_report::{Fault, Waivers, write_fault};
 use t1_rules::Sidebearings;
+use t1_text::Text;
 
 /// Writes one line after another, each in the place of the one before.
 #[derive(Drop)]
@@ -62,19 +62,15 @@ impl<'a> LineWriter<'a> {
         ensures form { self.new.form ≡ self.old.form }
         ensures reasons { self.new.reasons ≡ self.old.reasons }
     {
-        match self.form {
-            Form::Text => self.objects.out.set_fault(font, waivers, fault),
-            Form::Object(name) => {
-                self.objects.out.clear();
-                match self
-                    .objects
-                    .line(name, font, waivers, fault, &mut self.reasons)
-                {
-                    Ok(()) => Ok(()),
-                    Err(_) => Err(AllocError),
-                }
-            }
-        }
+        self.objects.out.clear();
+        let is_written = match self.form {
+            Form::Text => write_fault(&mut self.objects.out, font, waivers, fault).is_ok(),
+            Form::Object(name) => self
+                .objects
+                .line(name, font, waivers, fault, &mut self.reasons)
+                .is_ok(),
+        };
+        if is_written { Ok(()) } else { Err(AllocError) }
     }
 
     /// What is written.

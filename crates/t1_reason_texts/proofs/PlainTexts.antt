@@ -111,9 +111,10 @@ plain_comes _ = refl
 plain_behind : (token : CharToken) → list_all is_plain (behind_text token) ≡ true
 plain_behind token = simp (list_all-append is_plain, plain_token, plain_comes)
 
-plain_needed_pairs : (ends : Bool) → list_all is_plain (needed_pairs ends) ≡ true
-plain_needed_pairs true = refl
-plain_needed_pairs false = refl
+plain_needed_pairs : (ends late : Bool) → list_all is_plain (needed_pairs ends late) ≡ true
+plain_needed_pairs true late = refl
+plain_needed_pairs false true = refl
+plain_needed_pairs false false = refl
 
 plain_pairs : (moves points : ℕ) (ends : Bool) → list_all is_plain (pairs_text moves points ends) ≡ true
 plain_pairs moves points ends = simp (list_all-append is_plain, plain_moves, plain_points, plain_needed_pairs)

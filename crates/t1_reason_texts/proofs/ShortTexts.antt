@@ -117,13 +117,14 @@ short_comes _ = omega arith
 short_behind : (token : CharToken) → length (behind_text token) ≤ 400
 short_behind token = simp length-append (omega (arith, short_token token, short_comes token))
 
-short_needed_pairs : (ends : Bool) → length (needed_pairs ends) ≤ 46
-short_needed_pairs true = omega arith
-short_needed_pairs false = omega arith
+short_needed_pairs : (ends late : Bool) → length (needed_pairs ends late) ≤ 54
+short_needed_pairs true late = omega arith
+short_needed_pairs false true = omega arith
+short_needed_pairs false false = omega arith
 
 short_pairs : (moves points : ℕ) (ends : Bool) → length (pairs_text moves points ends) ≤ 400
 short_pairs moves points ends =
-    simp length-append (omega (arith, short_moves moves, short_points points, short_needed_pairs ends))
+    simp length-append (omega (arith, short_moves moves, short_points points, short_needed_pairs ends (nat_lt points moves)))
 
 short_before : (rule : Rule) → length (since_before rule) ≤ 29
 short_before W02 = omega arith

@@ -1,5 +1,5 @@
 -- The texts of reasons that steps have.
-use Rattle.std.specs.Prelude.{ℕ, ℤ, pos, ◌-ℤ◌, ◌+ℤ◌, ◌*ℤ◌, ◌==◌, ◌&&◌, ◌||◌, Bool, true, false, Option, Some, None, List, [], ◌++◌, codes, if◌then◌else◌}
+use Rattle.std.specs.Prelude.{ℕ, ℤ, pos, ◌-ℤ◌, ◌+ℤ◌, ◌*ℤ◌, ◌==◌, nat_lt, ◌&&◌, ◌||◌, Bool, true, false, Option, Some, None, List, [], ◌++◌, codes, if◌then◌else◌}
 use Rattle.std.specs.Int.{int_max, int_min, is_negative}
 use Rattle.std.specs.Ordering.{int_eq}
 use Rattle.std.specs.Fmt.{decimal, signed_decimal}
@@ -130,13 +130,14 @@ open_text start pen =
     if are_same_points start pen then codes "ends where it began, without closepath"
     else codes "from " ++ (point_text start ++ (codes " to " ++ point_text pen))
 
--- The moves and the points of a flex.
-abbrev pub needed_pairs : Bool → List ℕ
-needed_pairs true = codes "; 7 of each are needed"
-needed_pairs false = codes " before this point; it needs a move of its own"
+-- The moves and the points of a flex. Where a point comes too late, moves before it have none.
+abbrev pub needed_pairs : Bool → Bool → List ℕ
+needed_pairs true late = codes "; 7 of each are needed"
+needed_pairs false true = codes " before this point; each move needs a point of its own"
+needed_pairs false false = codes " before this point; it needs a move of its own"
 
 abbrev pub pairs_text : ℕ → ℕ → Bool → List ℕ
-pairs_text moves points ends = moves_text moves ++ (codes " and " ++ (points_text points ++ needed_pairs ends))
+pairs_text moves points ends = moves_text moves ++ (codes " and " ++ (points_text points ++ needed_pairs ends (nat_lt points moves)))
 
 abbrev pub miss_text : Point → Point → List ℕ
 miss_text named pen = codes "the pen is at " ++ (point_text pen ++ (codes ", the end names " ++ point_text named))

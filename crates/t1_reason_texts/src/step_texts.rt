@@ -356,11 +356,14 @@ pub(crate) struct PairsText {
     pub(crate) ends: bool,
 }
 
-fn needed_pairs(ends: bool) -> &'static str
-    ensures { result.now ≡ needed_pairs ends }
+/// What is missing at the end of a flex, or at a point, which is late where moves before it have no point.
+fn needed_pairs(ends: bool, late: bool) -> &'static str
+    ensures { result.now ≡ needed_pairs ends late }
 {
     if ends {
         "; 7 of each are needed"
+    } else if late {
+        " before this point; each move needs a point of its own"
     } else {
         " before this point; it needs a move of its own"
     }
@@ -372,7 +375,7 @@ impl fmt::Display for PairsText {
     fn fmt<W: fmt::Write>(&self, f: &mut fmt::Formatter<W>) -> fmt::Result {
         let moves = Moves(self.moves);
         let points = Points(self.points);
-        let needed = needed_pairs(self.ends);
+        let needed = needed_pairs(self.ends, self.points < self.moves);
         write!(f, "{moves} and {points}{needed}")
     }
 }

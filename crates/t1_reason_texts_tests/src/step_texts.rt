@@ -148,6 +148,15 @@ const ROWS: &[Row] = &[
     (
         Rule::X04,
         Reason::Pairs {
+            moves: 3,
+            points: 1,
+            ends: false,
+        },
+        "3 moves and 1 point before this point; each move needs a point of its own",
+    ),
+    (
+        Rule::X04,
+        Reason::Pairs {
             moves: 0,
             points: 0,
             ends: true,

@@ -32,7 +32,21 @@ impl Text {
         }
     }
 
+    /// Nothing is written any more.
+    pub fn clear(&mut self)
+        ensures { (⟦<Text as Sink>⟧.state self.new).written ≡ Some [] }
+    {
+        self.bytes.clear();
+    }
+
     /// The bytes that were written.
+    pub fn as_bytes(&self) -> &[u8]
+        ensures { (⟦<Text as Sink>⟧.state self.now).written ≡ Some result.now }
+    {
+        self.bytes.as_slice()
+    }
+
+    /// The same, as a vector.
     pub fn into_bytes(self) -> Vec<u8>
         ensures { (⟦<Text as Sink>⟧.state self).written ≡ Some result.items }
     {

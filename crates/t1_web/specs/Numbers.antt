@@ -10,7 +10,11 @@ use Rattle.t1_pieces.specs.declared.form.Form.TheVariants.{Object, Text}
 use Rattle.t1_pieces.specs.declared.piece.Piece.{Piece}
 use Rattle.t1_pieces.specs.declared.piece.Piece.TheVariants.{Last, Memory, More, NoRoom, Refused}
 use Rattle.t1_report.specs.declared.marks.Mark.{Mark}
+use Rattle.t1_pieces.specs.declared.stage.Reached.{Reached}
+use Rattle.t1_pieces.specs.declared.stage.Stage.{Stage}
+use Rattle.t1_pieces.specs.declared.stage.Stage.TheVariants.{Beginning, Nothing, Results}
 use Rattle.t1_web.specs.declared.HostMark.{HostMark}
+use Rattle.t1_web.specs.declared.HostReached.{HostReached}
 
 abbrev pub edition_of : ℕ → Edition
 edition_of n = if n == 2 then Two else One
@@ -23,6 +27,21 @@ IsFormOf n name (Some (Object font)) = (¬ (n ≡ 0)) × (font.now ≡ name)
 
 abbrev pub mark_of : HostMark → Mark
 mark_of mark = record { number = mark.number; unit = mark.unit; step = mark.step; rule = mark.rule }
+
+abbrev pub stage_of : ℕ → Stage
+stage_of n = if n == 0 then Nothing else (if n == 1 then Beginning else Results)
+
+abbrev pub stage_number : Stage → ℕ
+stage_number Nothing = 0
+stage_number Beginning = 1
+stage_number Results = 2
+
+abbrev pub reached_of : HostReached → Reached
+reached_of reached = record {
+  stage = stage_of reached.stage;
+  mark = record { number = reached.number; unit = reached.unit; step = reached.step; rule = reached.rule };
+  counts = reached.counts;
+}
 
 -- The status of what was handed over; web/host.mjs has the same numbers.
 abbrev pub status_of : Piece → ℕ

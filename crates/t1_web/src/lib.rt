@@ -9,14 +9,16 @@
 
 mod numbers;
 
-ghost use Rattle.t1_web.specs.Answers.{AreHandedOver, IsPictureHandedOver};
-ghost use Rattle.t1_web.specs.Numbers.{edition_of, mark_of, step_of};
+ghost use Rattle.t1_web.specs.Answers.{AreHandedOver, IsDocumentHandedOver, IsPictureHandedOver};
+ghost use Rattle.t1_web.specs.Numbers.{edition_of, mark_of, reached_of, step_of};
 
 use crate::numbers::{
-    bytes_of, drawn_bytes, drawn_status, edition_of, form_of, status_of, step_of,
+    bytes_of, drawn_bytes, drawn_status, edition_of, form_of, stage_number, stage_of, status_of,
+    step_of,
 };
 use std::alloc::Global;
-use t1_pieces::{Request, Wish, lines, picture};
+use t1_forms::RESULT_COUNTS;
+use t1_pieces::{DocumentRequest, Reached, Request, Wish, document, lines, picture};
 use t1_report::Mark;
 
 /// How far a report was handed over, as a host keeps it between calls: zeros first.
@@ -27,6 +29,20 @@ pub struct HostMark {
     pub unit: u32,
     pub step: u32,
     pub rule: u8,
+}
+
+/// How far a document was handed over, as a host keeps it between calls: zeros first.
+#[repr(C)]
+pub struct HostReached {
+    /// The mark before the last result.
+    pub number: u64,
+    pub unit: u32,
+    pub step: u32,
+    pub rule: u8,
+    /// 0 where nothing was handed over, 1 where no result was.
+    pub stage: u8,
+    /// How many results there were of each code since the unit of the last one began.
+    pub counts: [u64; RESULT_COUNTS],
 }
 
 /// The status where a name isn't UTF-8.
@@ -72,6 +88,53 @@ pub extern "C" fn t1_web_lines(
     mark.rule = reached.rule;
     *written = bytes_of(piece);
     status_of(piece)
+}
+
+/// Hands over the document of SARIF of the font of a name from a place on, whole results, as many as the room holds, and moves the place to the
+/// last of them.
+#[unsafe(no_mangle)]
+pub extern "C" fn t1_web_document(
+    alloc: Global,
+    font: &[u8],
+    waivers: &[u8],
+    edition: u32,
+    name: &[u8],
+    reached: &mut HostReached,
+    room: &mut [u8],
+    written: &mut usize,
+) -> u32
+    ensures { IsDocumentHandedOver name.now (edition_of edition) font.now waivers.now (reached_of reached.old) (reached_of reached.new)
+        room.new written.new result }
+{
+    let Ok(name) = str::from_utf8(name) else {
+        *written = 0;
+        return NO_NAME;
+    };
+    let request = DocumentRequest {
+        font,
+        waivers,
+        edition: edition_of(edition),
+        name,
+    };
+    let mut place = Reached {
+        stage: stage_of(reached.stage),
+        mark: Mark {
+            number: reached.number,
+            unit: reached.unit,
+            step: reached.step,
+            rule: reached.rule,
+        },
+        counts: reached.counts,
+    };
+    let part = document(alloc, &request, &mut place, room);
+    reached.stage = stage_number(place.stage);
+    reached.number = place.mark.number;
+    reached.unit = place.mark.unit;
+    reached.step = place.mark.step;
+    reached.rule = place.mark.rule;
+    reached.counts = place.counts;
+    *written = bytes_of(part);
+    status_of(part)
 }
 
 /// Hands over the picture of the glyph of a name, up to a step or, with the step 0, as a whole. Where the room doesn't hold it, the count is

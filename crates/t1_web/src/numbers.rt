@@ -1,10 +1,10 @@
 //! What the numbers of a host mean.
 
 ghost use Rattle.std.specs.Prelude.{◌≡◌};
-ghost use Rattle.t1_web.specs.Numbers.{IsFormOf, bytes_of, drawn_bytes, drawn_status, edition_of, status_of, step_of};
+ghost use Rattle.t1_web.specs.Numbers.{IsFormOf, bytes_of, drawn_bytes, drawn_status, edition_of, stage_number, stage_of, status_of, step_of};
 
 use t1_char::Edition;
-use t1_pieces::{Drawn, Form, Piece};
+use t1_pieces::{Drawn, Form, Piece, Stage};
 
 /// The edition that a host names.
 pub(crate) fn edition_of(number: u32) -> Edition
@@ -28,6 +28,28 @@ pub(crate) fn form_of(number: u32, name: &[u8]) -> Option<Form<'_>>
     match str::from_utf8(name) {
         Ok(name) => Some(Form::Object(name)),
         Err(_) => None,
+    }
+}
+
+/// The stage that a host names.
+pub(crate) fn stage_of(number: u8) -> Stage
+    ensures { result ≡ stage_of number }
+{
+    match number {
+        0 => Stage::Nothing,
+        1 => Stage::Beginning,
+        _ => Stage::Results,
+    }
+}
+
+/// The number of a stage.
+pub(crate) fn stage_number(stage: Stage) -> u8
+    ensures { result ≡ stage_number stage }
+{
+    match stage {
+        Stage::Nothing => 0,
+        Stage::Beginning => 1,
+        Stage::Results => 2,
     }
 }
 

@@ -5,6 +5,8 @@
 #![tactic(auto)]
 
 #[cfg(test)]
+mod documents;
+#[cfg(test)]
 mod lines;
 #[cfg(test)]
 mod pictures;

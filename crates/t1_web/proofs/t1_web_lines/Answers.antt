@@ -1,4 +1,4 @@
-use Rattle.std.proofs.Common.{Some, subst}
+use Rattle.std.proofs.Common.{subst}
 use Rattle.t1_web.specs.Answers.{handed}
 use Rattle.t1_web.specs.Numbers.{IsFormOf}
 use Rattle.t1_web.proofs.t1_web_lines.Goals as goal

@@ -1,5 +1,4 @@
 use Rattle.std.proofs.Common.{◌∙◌, ap, arith, sym}
-use Rattle.t1_font.specs.declared.unread.Unread.{Unread}
 use Rattle.t1_lines.specs.declared.refusal.Reason.TheVariants.{Font, FontTooLarge}
 use Rattle.t1_pieces.proofs.Readings.{failed_so, fails_for, font_fails}
 use Rattle.t1_pieces.proofs.reading.open.Goals as goal

@@ -12,11 +12,7 @@ use t1_report::{Fault, Waivers};
 use t1_rules::{INDEXES, Rule};
 
 /// What the line of a fault says.
-pub(crate) fn fault_line<'a>(
-    font: &'a Font<'_>,
-    waivers: &'a Waivers<'_>,
-    fault: &Fault,
-) -> FaultLine<'a>
+pub fn fault_line<'a>(font: &'a Font<'_>, waivers: &'a Waivers<'_>, fault: &Fault) -> FaultLine<'a>
     requires { IsInFont font.now waivers.now (fault_value fault.now) }
     ensures { fault_line_value result ≡ line_in font.now waivers.now (fault_value fault.now) }
 {

@@ -1,0 +1,20 @@
+use Rattle.std.proofs.Common.{◌≡◌, ◌-◌, length, take}
+use Rattle.t1_forms.specs.Sarif.{sarif_state}
+use Rattle.t1_pieces.proofs.DocumentResults.{AreSoFar}
+use Rattle.t1_pieces.proofs.filling_documents.fill_results.Given as goal
+
+abbrev pub invariant-loop-fault : goal.invariant-loop-fault
+invariant-loop-fault l = record {
+  font : l.walk.font ≡ l.fn.walk.font;
+  waivers : l.walk.waivers ≡ l.waivers;
+  name : l.writer.name.now ≡ l.fn.writer.name.now;
+  reasons : l.writer.reasons ≡ l.fn.walk.font;
+  kept : l.reached ≡ l.fn.reached;
+  size : length l.room ≡ length l.fn.room;
+  first : l.used ≡ 0 → l.fn.used ≡ 0;
+  so_far : AreSoFar (record { name = l.fn.writer.name.now; font = l.fn.walk.font; waivers = l.waivers }) (take l.fn.used l.fn.room)
+      (sarif_state l.fn.writer.results.formatter) l.fn.walk.mark l.fn.at l.at l.walk.mark (sarif_state l.writer.results.formatter) l.room l.used;
+}
+
+abbrev pub decreases-loop-fault : goal.decreases-loop-fault
+decreases-loop-fault l = length l.room - l.used

@@ -1,0 +1,98 @@
+//! Handing over a document of SARIF.
+
+ghost use Rattle.std.specs.Prelude.{◌≡◌, IfErr, IfOk, OnErr, length};
+ghost use Rattle.t1_report.specs.Checked.{checked};
+ghost use Rattle.t1_run.specs.FontFiles.{font_of};
+ghost use Rattle.t1_run.specs.WaiverFiles.{waivers_in};
+ghost use Rattle.t1_pieces.specs.Documents.{IsDocumentPiece, IsReadDocumentPiece, IsWaivedDocumentPiece};
+ghost use Rattle.t1_pieces.specs.Reading.{IsFailureFor, IsFailureOf};
+
+use crate::filling_documents::fill_document;
+use crate::piece::Piece;
+use crate::reading::{open, read_waivers};
+use crate::refusal::refuse;
+use crate::stage::Reached;
+use std::alloc::Global;
+use t1_char::Edition;
+use t1_font::Font;
+use t1_rules::Sidebearings;
+use t1_run::Failure;
+
+/// A font whose report is a document.
+#[derive(Clone, Copy, Debug)]
+pub struct DocumentRequest<'a> {
+    /// The bytes of the font's file.
+    pub font: &'a [u8],
+    /// The text of waivers; without waivers it is empty.
+    pub waivers: &'a [u8],
+    /// The edition of the rule book.
+    pub edition: Edition,
+    /// The font's name, as results have it.
+    pub name: &'a str,
+}
+
+/// Hands over the document of SARIF 2.1.0 that t1check-all writes of one font, with reasons, from a place on: whole results,
+/// as many as the room holds. The place is moved to the last of them.
+pub fn document(
+    alloc: Global,
+    request: &DocumentRequest<'_>,
+    reached: &mut Reached,
+    room: &mut [u8],
+) -> Piece
+    ensures piece { IsDocumentPiece request.now.name.now request.now.edition (font_of request.now.font.now)
+        (waivers_in request.now.waivers.now) reached.old reached.new room.new result }
+    ensures length { length room.new ≡ length room.old }
+{
+    match document_of_file(alloc, request, reached, room) {
+        Ok(piece) => piece,
+        Err(Failure::Refused(code)) => refuse(code, room),
+        Err(_) => Piece::Memory,
+    }
+}
+
+/// Reads the font, and hands over its document.
+fn document_of_file(
+    alloc: Global,
+    request: &DocumentRequest<'_>,
+    reached: &mut Reached,
+    room: &mut [u8],
+) -> Result<Piece, Failure>
+    ensures piece { IfOk result (IsReadDocumentPiece request.now.name.now request.now.edition (font_of request.now.font.now)
+        (waivers_in request.now.waivers.now) reached.old reached.new room.new) }
+    ensures failed { IfErr result (IsFailureFor (font_of request.now.font.now) (waivers_in request.now.waivers.now)) }
+    ensures reached { OnErr result (reached.new ≡ reached.old) }
+    ensures length { length room.new ≡ length room.old }
+{
+    let mut file = open(alloc, request.font)?;
+    let font = file.font(alloc)?;
+    let piece = document_of_font(alloc, &font, request, reached, room);
+    font.let_go();
+    piece
+}
+
+/// Reads the waivers, and hands over a font's document.
+fn document_of_font(
+    alloc: Global,
+    font: &Font<'_>,
+    request: &DocumentRequest<'_>,
+    reached: &mut Reached,
+    room: &mut [u8],
+) -> Result<Piece, Failure>
+    ensures piece { IfOk result (IsWaivedDocumentPiece request.now.name.now (checked font.now request.now.edition)
+        (waivers_in request.now.waivers.now) reached.old reached.new room.new) }
+    ensures failed { IfErr result (IsFailureOf (waivers_in request.now.waivers.now)) }
+    ensures reached { OnErr result (reached.new ≡ reached.old) }
+    ensures length { length room.new ≡ length room.old }
+{
+    let waivers = read_waivers(alloc, request.waivers)?;
+    let sidebearings = Sidebearings::prepare(alloc, font, request.edition)?;
+    Ok(fill_document(
+        alloc,
+        request.name,
+        &*font,
+        &sidebearings,
+        &waivers,
+        reached,
+        room,
+    ))
+}

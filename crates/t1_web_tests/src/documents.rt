@@ -1,0 +1,126 @@
+//! A document of SARIF, in pieces.
+
+use crate::lines::{front, with_glyph};
+use std::alloc::{AllocError, Global};
+use std::test::Fail;
+use t1_char::Edition;
+use t1_forms::{RESULT_COUNTS, Sarif};
+use t1_io::Out;
+use t1_pieces::{DocumentRequest, Piece, Reached, Stage, document};
+use t1_report::Mark;
+
+/// The glyph of 0, 500, hsbw, closepath, closepath, endchar.
+const TWO_FAULTS: &[u8] = b"\x8b\xf8\x88\x0d\x09\x09\x0e";
+
+/// The results of both closepaths of the font f.pfb. docs/RULES.md has P03 as the 45th of its pages.
+const RESULTS: [&str; 2] = [
+    "{\"level\":\"note\",\
+\"locations\":[{\"logicalLocations\":[{\"kind\":\"glyph\",\"name\":\"A\"},{\"kind\":\"step\",\"name\":\"4\"}],\
+\"physicalLocation\":{\"artifactLocation\":{\"uri\":\"f.pfb\"},\"region\":{\"startLine\":1}}}],\
+\"message\":{\"text\":\"glyph A - 4 P03 closepath without a path: nothing is drawn so far\"},\
+\"partialFingerprints\":{\"t1check/v1\":\"f.pfb glyph A P03 1\"},\"ruleId\":\"P03\",\"ruleIndex\":44}",
+    ",{\"level\":\"note\",\
+\"locations\":[{\"logicalLocations\":[{\"kind\":\"glyph\",\"name\":\"A\"},{\"kind\":\"step\",\"name\":\"5\"}],\
+\"physicalLocation\":{\"artifactLocation\":{\"uri\":\"f.pfb\"},\"region\":{\"startLine\":1}}}],\
+\"message\":{\"text\":\"glyph A - 5 P03 closepath without a path: nothing is drawn since step 4\"},\
+\"partialFingerprints\":{\"t1check/v1\":\"f.pfb glyph A P03 2\"},\"ruleId\":\"P03\",\"ruleIndex\":44}",
+];
+
+/// What is after them.
+const END: &str = "],\"invocations\":[{\"executionSuccessful\":true,\"toolExecutionNotifications\":[]}]}]}\n";
+
+/// Nothing was handed over.
+const FIRST: Reached = Reached {
+    stage: Stage::Nothing,
+    mark: Mark {
+        number: 0,
+        unit: 0,
+        step: 0,
+        rule: 0,
+    },
+    counts: [0; RESULT_COUNTS],
+};
+
+/// What is before all results, as every document has it.
+fn opening(alloc: Global) -> Result<Vec<u8>, AllocError> {
+    let mut text = Vec::new(alloc);
+    match Sarif::begin(alloc, &mut Out::new(&mut text), None) {
+        Ok(_) => Ok(text),
+        Err(_) => Err(AllocError),
+    }
+}
+
+/// A request for the document of f.pfb.
+fn request<'a>(font: &'a [u8], waivers: &'a [u8]) -> DocumentRequest<'a> {
+    DocumentRequest {
+        font,
+        waivers,
+        edition: Edition::One,
+        name: "f.pfb",
+    }
+}
+
+/// Each part comes as soon as a room holds it, and none in a room of a byte less.
+#[test]
+fn a_document_goes_on_where_it_was_left(rt: HostRuntime) -> Result<(), Fail> {
+    let font = with_glyph(rt.alloc(), TWO_FAULTS)?;
+    let request = request(font.as_slice(), b"");
+    let opening = opening(rt.alloc())?;
+    let mut reached = FIRST;
+    for part in [
+        opening.as_slice(),
+        RESULTS[0].as_bytes(),
+        RESULTS[1].as_bytes(),
+        END.as_bytes(),
+    ] {
+        let mut room = Vec::from_elem(rt.alloc(), 0u8, part.len())?;
+        let (less, _) = room
+            .as_mut_slice()
+            .split_at_mut(part.len().saturating_sub(1));
+        let piece = document(rt.alloc(), &request, &mut reached, less);
+        assert!(rt; piece == Piece::NoRoom, "{piece:?}");
+        let piece = document(rt.alloc(), &request, &mut reached, room.as_mut_slice());
+        let last = part.len() == END.len();
+        let wanted = if last {
+            Piece::Last(part.len())
+        } else {
+            Piece::More(part.len())
+        };
+        assert!(rt; piece == wanted, "{piece:?}, wanted {wanted:?}");
+        assert!(rt; room.as_slice() == part, "{room:?}");
+    }
+    Ok(())
+}
+
+#[test]
+fn a_large_room_gets_a_whole_document(rt: HostRuntime) -> Result<(), Fail> {
+    let font = with_glyph(rt.alloc(), TWO_FAULTS)?;
+    let mut wanted = opening(rt.alloc())?;
+    for part in [RESULTS[0], RESULTS[1], END] {
+        wanted.extend_from_slice(part.as_bytes())?;
+    }
+    let mut room = Vec::from_elem(rt.alloc(), 0u8, wanted.len())?;
+    let piece = document(
+        rt.alloc(),
+        &request(font.as_slice(), b""),
+        &mut { FIRST },
+        room.as_mut_slice(),
+    );
+    assert!(rt; piece == Piece::Last(wanted.len()), "{piece:?}");
+    assert!(rt; room.as_slice() == wanted.as_slice(), "{room:?}");
+    Ok(())
+}
+
+#[test]
+fn what_is_refused_has_no_document(rt: HostRuntime) -> Result<(), Fail> {
+    let mut room = Vec::from_elem(rt.alloc(), 0u8, 64)?;
+    let piece = document(
+        rt.alloc(),
+        &request(b"%!\n/FontType 1 def\n", b""),
+        &mut { FIRST },
+        room.as_mut_slice(),
+    );
+    assert!(rt; piece == Piece::Refused(12), "{piece:?}");
+    assert!(rt; front(room.as_slice(), 12) == b"E04 no eexec".as_slice(), "{room:?}");
+    Ok(())
+}
