@@ -27,7 +27,8 @@ const RESULTS: [&str; 2] = [
 ];
 
 /// What is after them.
-const END: &str = "],\"invocations\":[{\"executionSuccessful\":true,\"toolExecutionNotifications\":[]}]}]}\n";
+const END: &str =
+    "],\"invocations\":[{\"executionSuccessful\":true,\"toolExecutionNotifications\":[]}]}]}\n";
 
 /// Nothing was handed over.
 const FIRST: Reached = Reached {
@@ -121,6 +122,9 @@ fn what_is_refused_has_no_document(rt: HostRuntime) -> Result<(), Fail> {
         room.as_mut_slice(),
     );
     assert!(rt; piece == Piece::Refused(12), "{piece:?}");
-    assert!(rt; front(room.as_slice(), 12) == b"E04 no eexec".as_slice(), "{room:?}");
+    assert!(rt;
+        front(room.as_slice(), 12) == b"E04 no eexec".as_slice(),
+        "{room:?}"
+    );
     Ok(())
 }
