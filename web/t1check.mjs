@@ -115,7 +115,8 @@ function choose(pieces, after, max) {
   const result = drained(pieces, (piece) => {
     let start = 0, end = 0;
     while (end < piece.length && written < max) {
-      end = piece.indexOf(LINE_END, end) + 1;
+      const lineEnd = piece.indexOf(LINE_END, end);
+      end = lineEnd < 0 ? piece.length : lineEnd + 1;
       if (skipped < after) {
         skipped++;
         start = end;
