@@ -61,6 +61,21 @@ fn request<'a>(font: &'a [u8], waivers: &'a [u8]) -> DocumentRequest<'a> {
     }
 }
 
+/// Whether a room of a byte less than a text gets nothing, and a room of its size gets it.
+fn is_next(
+    alloc: Global,
+    request: &DocumentRequest<'_>,
+    reached: &mut Reached,
+    text: &[u8],
+    wanted: Piece,
+) -> Result<bool, AllocError> {
+    let mut less = Vec::from_elem(alloc, 0u8, text.len().saturating_sub(1))?;
+    let none = document(alloc, request, reached, less.as_mut_slice());
+    let mut room = Vec::from_elem(alloc, 0u8, text.len())?;
+    let piece = document(alloc, request, reached, room.as_mut_slice());
+    Ok(none == Piece::NoRoom && piece == wanted && room.as_slice() == text)
+}
+
 /// Each part comes as soon as a room holds it, and none in a room of a byte less.
 #[test]
 fn a_document_goes_on_where_it_was_left(rt: HostRuntime) -> Result<(), Fail> {
@@ -68,28 +83,29 @@ fn a_document_goes_on_where_it_was_left(rt: HostRuntime) -> Result<(), Fail> {
     let request = request(font.as_slice(), b"");
     let opening = opening(rt.alloc())?;
     let mut reached = FIRST;
-    for part in [
-        opening.as_slice(),
-        RESULTS[0].as_bytes(),
-        RESULTS[1].as_bytes(),
-        END.as_bytes(),
-    ] {
-        let mut room = Vec::from_elem(rt.alloc(), 0u8, part.len())?;
-        let (less, _) = room
-            .as_mut_slice()
-            .split_at_mut(part.len().saturating_sub(1));
-        let piece = document(rt.alloc(), &request, &mut reached, less);
-        assert!(rt; piece == Piece::NoRoom, "{piece:?}");
-        let piece = document(rt.alloc(), &request, &mut reached, room.as_mut_slice());
-        let last = part.len() == END.len();
-        let wanted = if last {
-            Piece::Last(part.len())
-        } else {
-            Piece::More(part.len())
-        };
-        assert!(rt; piece == wanted, "{piece:?}, wanted {wanted:?}");
-        assert!(rt; room.as_slice() == part, "{room:?}");
+    let piece = Piece::More(opening.len());
+    assert!(rt;
+        is_next(
+            rt.alloc(),
+            &request,
+            &mut reached,
+            opening.as_slice(),
+            piece
+        )?,
+        "the beginning"
+    );
+    for result in RESULTS {
+        let piece = Piece::More(result.len());
+        assert!(rt;
+            is_next(rt.alloc(), &request, &mut reached, result.as_bytes(), piece)?,
+            "{result}"
+        );
     }
+    let piece = Piece::Last(END.len());
+    assert!(rt;
+        is_next(rt.alloc(), &request, &mut reached, END.as_bytes(), piece)?,
+        "the end"
+    );
     Ok(())
 }
 
