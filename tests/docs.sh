@@ -4,18 +4,18 @@
 # - Each example below a rule's heading in docs/RULES.md, and that of several rules at once, has a case of tests/program: the rule's own for
 #   the first, and one with the same lines for another one. The example's lines are those that the case wants. Where the example is of
 #   charstrings, the tokens that are written out are those that the program traces in the case's font: `A: ..` and `Subr 5: ..`. A line
-#   `X … (seven times) Y` stands for seven X and one Y. The lines with the reasons below them are those that t1check-all writes of that font.
+#   `X … (seven times) Y` means seven X and one Y. The lines with the reasons below them are those that t1check-all writes of that font.
 # - Each rule and each refusal has its text in the table of its kind, and each rule in its heading too; the texts of refusals are those of
 #   t1_lines, in code and definition, and t1_font has those of a font's bytes. The pages that t1_forms keeps are those of docs/RULES.md.
-# - Each rule stands in all places that docs/ARCHITECTURE.md names for it; one that lacks rules is told with their codes. A file that has all
-#   of them is named there. The definitions in a rule's row of docs/RULES.md are in the files that stand behind them, and the first of them
-#   is cited where specs/ says what breaks the rule. Above each row in specs/ stands a source.
-# - Each word of the definitions that a clause of a public function cites has a row in docs/DEFINITIONS.md, or stands in the last column of a
+# - Each rule is in all places that docs/ARCHITECTURE.md names for it; one that lacks rules is printed with their codes. A file that has all
+#   of them is named there. The definitions in a rule's row of docs/RULES.md are in the files that follow them, and the first of them
+#   is cited where specs/ says what breaks the rule. Above each row in specs/ is a source.
+# - Each word of the definitions that a clause of a public function cites has a row in docs/DEFINITIONS.md, or is in the last column of a
 #   rule's row in docs/RULES.md, where the README's first promise rests on it: in the files that has_rows below takes. Of each other word that
 #   such a clause cites, the file that defines it is linked from docs/DEFINITIONS.md. Each word of a row is defined in the file that the row
 #   names, and that file is linked. Left out are words of laws and types that the code declares. Public are all functions of a program, and of
 #   a library those of the modules of which it hands on more than a constant; one that isn't handed on itself may cite words of private functions.
-#   These stand in specs/Private, and no definition elsewhere rests on them; there the relations of watchers and pens stand in Standing, with
+#   These are in specs/Private, and no definition elsewhere rests on them; there the relations of watchers and pens are in Standing, with
 #   nothing else.
 # - The README's lines for an editor are lines of crates/example.
 # - Each link between the pages leads to a file, and to a heading where it names one. Each file of crates/, docs/ and tests/ that a page
@@ -263,7 +263,7 @@ for words in 'src/pages.rt' 'specs/Pages.antt specs'; do
     fi
 done
 
-# The places in which each rule stands.
+# The places in which each rule is.
 specs=$top/crates/t1_rules/specs
 told=$top/crates/t1_report/specs/Reports.antt
 tests=$top/crates/t1_rules_tests/src
@@ -517,7 +517,7 @@ sed -n 's/^\[\(t1[a-z_]*\)\/\([A-Za-z\/]*\)\]: \.\.\/crates\/\1\/specs\/\2\.antt
     grep -o '](\.\./crates/[^)]*\.antt)' "$top/docs/DEFINITIONS.md" | sed 's/^](\.\.\/crates\///; s/\/specs\//\//; s/\.antt)$//'
 } | grep -v '/Private/' | sort -u >"$scratch/linked"
 list_public >"$scratch/public"
-# A word of specs/Private that a public contract cites has no row, no link to its file counts, and so it is told.
+# A word of specs/Private that a public contract cites has no row, no link to its file counts, and so it is printed.
 # shellcheck disable=SC2046
 list_cited $(cat "$scratch/public") >"$scratch/cited"
 while read -r file word; do
@@ -558,7 +558,7 @@ while read -r file word; do
 done <"$scratch/defining"
 
 # No definition outside specs/Private rests on a word of it, and so no clause of a public function does by another word; but for the
-# relations of watchers and pens, which stand in Standing, by their names and alone.
+# relations of watchers and pens, which are in Standing, by their names and alone.
 grep 'specs\.Private\.' "$top"/crates/*/specs/*.antt "$top"/crates/*/specs/[!P]*/*.antt | grep -v 'specs\.Private\.Standing\.' >"$scratch/resting"
 while IFS= read -r line; do
     fail "${line#"$top"/}: rests on a word of specs/Private"
@@ -573,7 +573,7 @@ while IFS= read -r word; do
 done <"$scratch/relations"
 [ "$(wc -l <"$scratch/relations")" -eq 8 ] || fail "the relations of watchers and pens aren't read"
 
-# The README's lines for an editor stand in the example.
+# The README's lines for an editor are in the example.
 sed -n '/^## In an editor$/,/^## /s/^    //p' "$top/README.md" >"$scratch/editor"
 while IFS= read -r line; do
     if grep -qF -e "$line" "$top/crates/example/src/main.rt"; then

@@ -6,12 +6,12 @@
 # A case is a file of lines `KEY: VALUE`, and runs in the folder fonts beside it, for 60 seconds at most:
 #   word: WORD      one more word of the command line; \0NNN in it is a byte, in octal
 #   waivers: TEXT   the last words are --waive and a file of this text; \n, \r, \t and \0NNN in it are bytes.
-#                   Where more than one such line stands, each is tried in a run of its own
-#   empty: N        N empty lines stand in front of that text
-#   same: WORDS     one more run, in which these words stand behind all others, is wanted to answer the same
+#                   Where there is more than one such line, each is tried in a run of its own
+#   empty: N        N empty lines are before that text
+#   same: WORDS     one more run, in which these words follow all others, is wanted to answer the same
 #   unused: N       one more run, with a waiver of a glyph that no font has, gives one more line, numbered N
-#   input: NAME     standard input: a file, or `closed`; without this line nothing stands on it
-#   rest: LINE      one more line that has to be left on standard input behind the run
+#   input: NAME     standard input: a file, or `closed`; without this line nothing is on it
+#   rest: LINE      one more line that has to be left on standard input after the run
 #   output: WHERE   standard output: `full` (a device that takes no byte) or `closed`; else it is compared
 #   errors: WHERE   the same of standard error
 #   memory: N       the run gets N kilobytes of address space; `least`: as many as the program needs to begin at all
@@ -20,7 +20,7 @@
 #   picture: NAME   the file beside the case that standard output has to be, byte for byte
 #   has: LINE       a line that standard output has to have; it may have others
 #   hasnot: LINE    a line that it must not have
-#   count: N        how many lines it has to have, where `has` lines stand
+#   count: N        how many lines it has to have, where there are `has` lines
 #   err: LINE       one more wanted line of standard error
 set -u
 LC_ALL=C
@@ -52,7 +52,7 @@ least_memory() {
     echo "$kilobytes"
 }
 
-# Runs the program as the case says, and answers its status: CASE [WORD..], words behind the case's own.
+# Runs the program as the case says, and answers its status: CASE [WORD..], words after the case's own.
 run_program() {
     input=$(lines input "$1") output=$(lines output "$1") errors=$(lines errors "$1") memory=$(lines memory "$1")
     rm -f "$scratch/out" "$scratch/err" "$scratch/rest"
@@ -113,7 +113,7 @@ is_picture() {
     return 1
 }
 
-# Whether each line that the output has to have stands in it, none that it must not have, and as many as wanted.
+# Whether each line that the output has to have is in it, none that it must not have, and as many as wanted.
 has_lines() {
     lines has "$1" >"$scratch/lines"
     while IFS= read -r line; do
@@ -133,7 +133,7 @@ has_lines() {
     return 1
 }
 
-# Whether a run gives what the case wants: CASE [WORD..], words behind the case's own.
+# Whether a run gives what the case wants: CASE [WORD..], words after the case's own.
 answers() {
     run_program "$@"
     status=$?
@@ -170,7 +170,7 @@ answers_the_same() {
     done <"$scratch/same"
 }
 
-# Whether a run with a waiver that isn't used gives that line behind the others, where the case says its number.
+# Whether a run with a waiver that isn't used gives that line after the others, where the case says its number.
 tells_unused() {
     number=$(lines unused "$1")
     [ -n "$number" ] || return 0

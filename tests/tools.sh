@@ -1,5 +1,5 @@
 #!/bin/sh
-# Tries the tools that stand beside the program in bin/: runs each script of tests/tools, in the order of their names, or those alone that
+# Tries the tools that are beside the program in bin/: runs each script of tests/tools, in the order of their names, or those alone that
 # are named, as `tests/tools.sh names install`. A script there tries one subject: it compares whole answers, standard output, standard
 # error and status, with what was written there by hand. Names what differs and what is skipped; the last line counts passed and failed.
 set -u

@@ -184,7 +184,7 @@ lower_memory() {
 
 # ---- the page
 
-# A line {{NAME}} of page.html stands for the text NAME.
+# A line {{NAME}} of page.html means the text NAME.
 make_page() {
     mkdir -p "$scratch/parts"
     gzip -9 -n -c "$out/$crate.wasm" | base64 -w 0 >"$scratch/parts/$crate"

@@ -45,7 +45,7 @@ edge20.pfb: 1: waiver A C05 U01 waiver not used
 END
 try 'edition 2 with waivers' 1 "$all" -q --edition 2 edge20.pfb
 
-# Levels: H02 is should. What is told stays, and so do refusals, which are must.
+# Levels: H02 is should. What is reported stays, and so do refusals, which are must.
 wanted <<'END'
 edge.pfb: 1: glyph A - 9 H02 stems overlap
 --
@@ -98,7 +98,7 @@ wanted <<'END'
 END
 try 'what an update of a level keeps' 0 cat known
 
-# Shards: what they write one behind the other is what one run writes.
+# Shards: what they write one after another is what one run writes.
 limited "$all" -q "$fonts" >whole 2>/dev/null
 : >joined
 for part in 1 2 3 4 5; do

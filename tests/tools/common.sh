@@ -1,6 +1,6 @@
 #!/bin/sh
 # What the scripts of tests/tools share, each of which reads this in first: how an answer is compared and counted, a time limit, made fonts,
-# a script in the place of t1check-all's program, a parser of JSON, and a folder to install into. They then stand in a folder of their own,
+# a script in the place of t1check-all's program, a parser of JSON, and a folder to install into. They are then in a folder of their own,
 # $scratch; the last line of each is `finish`.
 # shellcheck disable=SC2034
 set -u
@@ -12,7 +12,7 @@ fonts=$top/tests/program/fonts
 all=$top/bin/t1check-all
 explain=$top/bin/t1explain
 format=$top/bin/t1format
-# Status 3 tells tests/tools.sh to stop: without the programs no script here can try anything. There is no time limit, since this may build.
+# Status 3 makes tests/tools.sh stop: without the programs no script here can try anything. There is no time limit, since this may build.
 for tool in t1check t1check-all t1format t1draw; do
     if ! "$top/bin/$tool" --help >/dev/null; then
         echo "failed: bin/$tool --help, which builds the program"
@@ -40,7 +40,7 @@ limited() {
     timeout -k 5 60 "$@"
 }
 
-# The answer that is wanted, on standard input: the output, and behind a line `--` the standard error.
+# The answer that is wanted, on standard input: the output, and after a line `--` the standard error.
 wanted() {
     cat >"$scratch/wanted"
 }

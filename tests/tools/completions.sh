@@ -147,7 +147,7 @@ for tool in t1check t1check-all t1draw t1format; do
 done
 
 if command -v zsh >/dev/null && limited zsh -fc 'zmodload zsh/zpty' 2>/dev/null; then
-    # Keys as a user types them: each Tab puts the next completion in, and control-G tells the line.
+    # Keys as a user types them: each Tab puts the next completion in, and control-G prints the line.
     cat >"$scratch/ask.zsh" <<'END'
 zmodload zsh/zpty
 zpty shell zsh -fi

@@ -76,7 +76,7 @@ wanted <<'END'
 END
 if [ -n "$reader" ]; then
     try 'jsonl by a parser' 0 sh -c "'$reader' '$scratch/read' '$scratch/odd.jsonl' lines | grep -c '^[0-6]\.unit '"
-    # Where the rules' pages are is told of each rule, with --docs alone.
+    # Where the rules' pages are is written for each rule, with --docs alone.
     wanted <<'END'
 --
 END
@@ -99,7 +99,7 @@ END
 fi
 cd "$scratch" || exit 1
 
-# Where nothing is told, or a part of the list has no font, a document is written and nothing else.
+# Where nothing is reported, or a part of the list has no font, a document is written and nothing else.
 wanted <<'END'
 --
 END
@@ -140,7 +140,7 @@ for jobs in 2 7; do
     try "sarif, $jobs at once" 0 cmp whole.sarif joined.sarif
 done
 
-# What was not even found is told in the form, too.
+# What was not even found is in the form, too.
 wanted <<'END'
 {"text":"a name with a line end is passed over","unit":"unchecked"}
 {"code":"Z05","file":"one.pfb","index":4,"key":"BlueValues","level":"should","number":1,"text":"zones too near","unit":"font"}
@@ -175,7 +175,7 @@ END
 try "a word that isn't UTF-8, and a name with a line end, as jsonl" 3 \
     sh -c 'cd "$1" && "$0" -q --format jsonl "$(printf "b\377d.pfb")" .' "$all" "$lines"
 
-# Shards in a form: one behind the other they are the whole, of which each line has one.
+# Shards in a form: one after another they are the whole, of which each line has one.
 limited "$all" -q "$fonts" >whole 2>/dev/null
 limited "$all" -q --format jsonl "$fonts" >whole.jsonl 2>/dev/null
 : >joined

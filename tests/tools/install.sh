@@ -6,7 +6,7 @@
 
 leave_home
 
-# Installing, from a copy of what is to be put, so that nothing else of the repository is needed. In the place of man and zsh stand
+# Installing, from a copy of what is to be put, so that nothing else of the repository is needed. In the place of man and zsh are
 # two that name the folders which they look through.
 copy=$scratch/copy
 mkdir -p "$copy/docs" "$scratch/shells"

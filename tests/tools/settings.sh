@@ -1,6 +1,6 @@
 #!/bin/sh
 # Tries the settings file of t1check-all: where it is found, what its entries do and what replaces them, in one part and in several, and what is
-# told of a file that is wrong.
+# printed of a file that is wrong.
 
 # shellcheck source=tests/tools/common.sh
 . "$(dirname "$0")/common.sh"

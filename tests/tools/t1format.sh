@@ -6,7 +6,7 @@
 
 find_reader
 
-# As try, of t1format on lines that stand in lines.in: NAME STATUS WORD...
+# As try, of t1format on lines that are in lines.in: NAME STATUS WORD...
 printf '#!/bin/sh\nexec "%s" "$@" <lines.in\n' "$format" >"$scratch/form"
 chmod +x "$scratch/form"
 try_form() {
@@ -96,7 +96,7 @@ wanted <<'END'
 END
 try_form 'lines of one font as commands' 0 --font one,two.pfb github
 
-# A line that is none is told and passed over, and all others are written.
+# A line that is none is printed and skipped, and all others are written.
 cat >lines.in <<'END'
 a.pfb: 1: font file 0 F01 no end segment
 1 font: 0 clean, 1 with faults, 0 refused, 0 not checked
@@ -353,7 +353,7 @@ else
     echo 'skipped: t1format on a full device, since there is no /dev/full'
 fi
 
-# Usage faults of t1format, whose words are not compared: nothing is written, something is told.
+# Usage faults of t1format, whose words are not compared: nothing is written, something is printed.
 for words in '' 'json' 'jsonl sarif' '--form jsonl' 'jsonl --font' 'sarif --docs' 'jsonl --font a --font b'; do
     # shellcheck disable=SC2086
     limited "$format" $words </dev/null >"$scratch/out" 2>"$scratch/err"

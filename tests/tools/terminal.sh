@@ -48,7 +48,7 @@ END
 try 'each line, whatever the columns' 0 cmp "$scratch/long" "$scratch/long.cut"
 try 'a form, whatever the columns' 0 cmp "$scratch/objects" "$scratch/objects.cut"
 
-# The summary counts lines of reports, and a refusal is coloured as what must be. ESC stands as ^.
+# The summary counts lines of reports, and a refusal is coloured as what must be. ESC is written as ^.
 cp "$fonts/E03.bin" cut.pfa
 wanted <<'END'
 cut.pfa: ^[31mrefused: E03 segment cut short^[0m

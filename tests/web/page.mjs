@@ -392,7 +392,7 @@ const CUT = `${ELEMENTS}.filter((it) => !it.closest('select')).filter((it) => {
   return left < 0 || right > document.documentElement.clientWidth + 0.5 || isBlock && it.scrollWidth > it.clientWidth + 1;
 }).map((it) => it.tagName + '#' + it.id + ' ' + it.innerText.slice(0, 30))`;
 
-// The texts whose colour is too near to that behind them, by WCAG's formula.
+// The texts whose colour is too near to their ground's, by WCAG's formula.
 const FAINT = `(() => {
   const parts = (colour) => colour.match(/[\\d.]+/g).map(Number);
   const linear = (it) => (it <= 0.04045 ? it / 12.92 : ((it + 0.055) / 1.055) ** 2.4);

@@ -2,12 +2,13 @@
 
 use std::alloc::Global;
 use std::test::Fail;
+use t1_font::Encoding;
 use t1_reasons::{
     Edges, EntryKind, Found, Reason, Unused, font_reason, fuzz_across, fuzz_that_does,
     scale_that_does, unused_reason,
 };
 use t1_rules::Rule;
-use t1_samples::{Sample, font_of, opened};
+use t1_samples::{NOTDEF, Sample, font_of, opened};
 
 /// One, in units of 10^-9.
 const ONE: i64 = 1_000_000_000;
@@ -28,6 +29,61 @@ const ENTRIES: &[Row] = &[
         }),
     ),
     ("/UniqueID 16777215 def", Rule::F05, 5, 0, None),
+    // A radix number, the same.
+    (
+        "/UniqueID 16#1000000 def",
+        Rule::F05,
+        5,
+        0,
+        Some(Reason::Entry {
+            found: Found::One {
+                number: 16_777_216 * ONE,
+            },
+        }),
+    ),
+    ("/UniqueID 16#FFFFFF def", Rule::F05, 5, 0, None),
+    (
+        "/password 5838 def",
+        Rule::F07,
+        6,
+        0,
+        Some(Reason::Entry {
+            found: Found::One { number: 5838 * ONE },
+        }),
+    ),
+    (
+        "/password [5839] def",
+        Rule::F07,
+        6,
+        0,
+        Some(Reason::Entry {
+            found: Found::Several { count: 1 },
+        }),
+    ),
+    ("/password 5839 def", Rule::F07, 6, 0, None),
+    (
+        "/MinFeature {16 17} def",
+        Rule::F08,
+        7,
+        0,
+        Some(Reason::Features {
+            found: Found::Several { count: 2 },
+            one: 16 * ONE,
+            two: 17 * ONE,
+        }),
+    ),
+    (
+        "/MinFeature 16 def",
+        Rule::F08,
+        7,
+        0,
+        Some(Reason::Features {
+            found: Found::One { number: 16 * ONE },
+            one: 0,
+            two: 0,
+        }),
+    ),
+    ("/MinFeature [16 16] def", Rule::F08, 7, 0, None),
     (
         "/BlueScale [1] def",
         Rule::Z01,
@@ -39,6 +95,17 @@ const ENTRIES: &[Row] = &[
         }),
     ),
     ("/BlueScale .04 def", Rule::Z01, 13, 0, None),
+    (
+        "/StdHW 31 def",
+        Rule::Z01,
+        16,
+        0,
+        Some(Reason::Kind {
+            found: Found::One { number: 31 * ONE },
+            wanted: EntryKind::Numbers,
+        }),
+    ),
+    ("/StdHW [31] def", Rule::Z01, 16, 0, None),
     (
         "/BlueValues [0 1 5 6 10 11 15 16 20 21 25 26 30 31 35] def",
         Rule::Z02,
@@ -55,6 +122,39 @@ const ENTRIES: &[Row] = &[
         9,
         0,
         Some(Reason::Numbers { count: 15 }),
+    ),
+    // Fourteen numbers, as many as there may be: no odd count, and the last two of the seven zones are too near.
+    (
+        "/BlueValues [0 1 5 6 10 11 15 16 20 21 25 26 28 31] def",
+        Rule::Z02,
+        9,
+        14,
+        None,
+    ),
+    (
+        "/BlueValues [0 1 5 6 10 11 15 16 20 21 25 26 28 31] def",
+        Rule::Z03,
+        9,
+        0,
+        None,
+    ),
+    (
+        "/BlueValues [0 1 5 6 10 11 15 16 20 21 25 26 28 31] def",
+        Rule::Z05,
+        9,
+        12,
+        Some(Reason::Gap {
+            upper: 26 * ONE,
+            lower: 28 * ONE,
+            distance: 3_000_000_000,
+        }),
+    ),
+    (
+        "/BlueValues [0 1 5 6 10 11 15 16 20 21 25 26 29 31] def",
+        Rule::Z05,
+        9,
+        12,
+        None,
     ),
     (
         "/BlueValues [0 -.000000001] def",
@@ -103,6 +203,44 @@ const ENTRIES: &[Row] = &[
         0,
         None,
     ),
+    // The last low zone and the last of six high ones.
+    (
+        "/BlueValues [0 9 100 110 200 210 300 310 400 410 500 510 600 610] def /OtherBlues [-50 -40 -30 -20 612 620] def",
+        Rule::Z06,
+        10,
+        4,
+        Some(Reason::Zones {
+            own: Edges {
+                lower: 612 * ONE,
+                upper: 620 * ONE,
+            },
+            other: Edges {
+                lower: 600 * ONE,
+                upper: 610 * ONE,
+            },
+            distance: 3_000_000_000,
+        }),
+    ),
+    (
+        "/BlueValues [0 9 100 110 200 210 300 310 400 410 500 510 600 610] def /OtherBlues [-50 -40 -30 -20 613 620] def",
+        Rule::Z06,
+        10,
+        4,
+        None,
+    ),
+    // BlueScale is .039625 where nothing is said: 25 units are not too high, 26 are.
+    ("/BlueValues [0 25] def", Rule::Z07, 9, 1, None),
+    (
+        "/BlueValues [0 26] def",
+        Rule::Z07,
+        9,
+        1,
+        Some(Reason::Zone {
+            lower: 0,
+            upper: 26 * ONE,
+            scale: 39_625_000,
+        }),
+    ),
     (
         "/BlueValues [0 28] def /BlueScale .03572 def",
         Rule::Z07,
@@ -129,6 +267,31 @@ const ENTRIES: &[Row] = &[
         Some(Reason::Entry {
             found: Found::Several { count: 2 },
         }),
+    ),
+    ("/StdHW [31] def", Rule::Z08, 16, 0, None),
+    (
+        "/StemSnapH [1 2 3 4 5 6 7 8 9 10 11 12 13] def",
+        Rule::Z09,
+        18,
+        12,
+        Some(Reason::TooMany {
+            count: 13,
+            most: 12,
+        }),
+    ),
+    (
+        "/StemSnapH [1 2 3 4 5 6 7 8 9 10 11 12] def",
+        Rule::Z09,
+        18,
+        12,
+        None,
+    ),
+    (
+        "/StdHW [31] def /StemSnapH [31 31] def",
+        Rule::Z10,
+        18,
+        1,
+        None,
     ),
     (
         "/StdHW [31] def /StemSnapH [31 30] def",
@@ -185,6 +348,145 @@ fn reasons_at_entries(rt: HostRuntime) -> Result<(), Fail> {
     for (lines, rule, key, index, reason) in ENTRIES {
         let found = reason_of(rt.alloc(), lines, *rule, *key, *index)?;
         assert_eq!(rt; found, *reason, "{lines}");
+    }
+    Ok(())
+}
+
+/// Lines of the clear text, which has no Encoding but for these, and of the Private dictionary; the rule, the key and the index
+/// that are asked for; and the reason. The font has the glyphs .notdef and, twice, B, and the Subrs 5, twice, and 6 in an array of six.
+type ClearRow = (&'static str, &'static str, Rule, u8, u32, Option<Reason>);
+
+const CLEAR_ENTRIES: &[ClearRow] = &[
+    (
+        "/FontType 1.000000001 def\n",
+        "",
+        Rule::F03,
+        1,
+        0,
+        Some(Reason::Entry {
+            found: Found::One { number: ONE + 1 },
+        }),
+    ),
+    ("/FontType 1.0 def\n", "", Rule::F03, 1, 0, None),
+    (
+        "/PaintType 1 def\n",
+        "",
+        Rule::F04,
+        2,
+        0,
+        Some(Reason::Entry {
+            found: Found::One { number: ONE },
+        }),
+    ),
+    ("/PaintType 2 def\n", "", Rule::F04, 2, 0, None),
+    (
+        "/UniqueID 5 def\n",
+        "/UniqueID 6 def",
+        Rule::F06,
+        5,
+        0,
+        Some(Reason::Ids {
+            clear: 5 * ONE,
+            private: 6 * ONE,
+        }),
+    ),
+    (
+        "/UniqueID 6 def\n",
+        "/UniqueID 6 def",
+        Rule::F06,
+        5,
+        0,
+        None,
+    ),
+    (
+        "",
+        "",
+        Rule::F11,
+        4,
+        0,
+        Some(Reason::Form {
+            encoding: Encoding::Absent,
+        }),
+    ),
+    (
+        "/Encoding 5 def\n",
+        "",
+        Rule::F11,
+        4,
+        0,
+        Some(Reason::Form {
+            encoding: Encoding::Other,
+        }),
+    ),
+    (
+        "/Encoding StandardEncoding def\n",
+        "",
+        Rule::F11,
+        4,
+        0,
+        None,
+    ),
+    (
+        "/Encoding 256 array\ndup 65 /A put\ndup 66 /B put\nreadonly def\n",
+        "",
+        Rule::F13,
+        4,
+        65,
+        Some(Reason::Code { code: 65 }),
+    ),
+    (
+        "/Encoding 256 array\ndup 65 /A put\ndup 66 /B put\nreadonly def\n",
+        "",
+        Rule::F13,
+        4,
+        66,
+        None,
+    ),
+    (
+        "",
+        "",
+        Rule::F14,
+        20,
+        5,
+        Some(Reason::SubrEntry {
+            number: 5,
+            twice: true,
+            size: 6,
+        }),
+    ),
+    (
+        "",
+        "",
+        Rule::F14,
+        20,
+        6,
+        Some(Reason::SubrEntry {
+            number: 6,
+            twice: false,
+            size: 6,
+        }),
+    ),
+    ("", "", Rule::F14, 20, 4, None),
+    ("", "", Rule::F10, 21, 1, Some(Reason::Glyph { glyph: 1 })),
+    ("", "", Rule::F10, 21, 0, None),
+    ("", "", Rule::F09, 21, 0, None),
+];
+
+#[test]
+fn reasons_of_what_the_clear_text_says(rt: HostRuntime) -> Result<(), Fail> {
+    for (clear, lines, rule, key, index, reason) in CLEAR_ENTRIES {
+        let sample = Sample::new(rt.alloc())?
+            .encoding(clear.as_bytes())?
+            .key(lines.as_bytes())?
+            .subr(5, b"\x0b")?
+            .subr(5, b"\x0b")?
+            .subr(6, b"\x0b")?
+            .glyph(b"B", NOTDEF)?
+            .glyph(b"B", NOTDEF)?;
+        let mut file = opened(rt.alloc(), &sample)?;
+        let font = font_of(rt.alloc(), &mut file)?;
+        let found = font_reason(&font, *rule, *key, *index);
+        assert_eq!(rt; found, *reason, "{clear} {lines}");
     }
     Ok(())
 }

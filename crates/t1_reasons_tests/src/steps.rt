@@ -19,8 +19,15 @@ const UNIT: i32 = 65_536;
 type Row = (&'static str, u32, Rule, Option<Reason>);
 
 /// Subr 2 ends the glyph, and numbers come behind; Subr 3 ends without return; Subr 4 gives seven points of a flex, each after a move
-/// by 1 to the right; Subr 5 returns.
-const SUBRS: [(u32, &str); 4] = [
+/// by 1 to the right; Subr 5 returns; Subr 1 calls itself; Subr 0 sets nineteen stems of one place.
+const SUBRS: [(u32, &str); 6] = [
+    (
+        0,
+        "1000 10 hstem 1000 10 hstem 1000 10 hstem 1000 10 hstem 1000 10 hstem 1000 10 hstem 1000 10 hstem \
+         1000 10 hstem 1000 10 hstem 1000 10 hstem 1000 10 hstem 1000 10 hstem 1000 10 hstem 1000 10 hstem \
+         1000 10 hstem 1000 10 hstem 1000 10 hstem 1000 10 hstem 1000 10 hstem return",
+    ),
+    (1, "1 callsubr"),
     (2, "endchar 50 60 70"),
     (3, "1 hmoveto"),
     (
@@ -81,6 +88,40 @@ const TOKENS: &[Row] = &[
         Rule::C08,
         None,
     ),
+    // Half a unit past 32000, and 32000.
+    (
+        "T: 0 500 hsbw 64001 2 div hmoveto endchar",
+        6,
+        Rule::C08,
+        Some(Reason::Quotient {
+            dividend: 64001 * ONE,
+            divisor: 2 * ONE,
+        }),
+    ),
+    (
+        "T: 0 500 hsbw 64000 2 div hmoveto endchar",
+        6,
+        Rule::C08,
+        None,
+    ),
+    ("T: 0 500 hsbw 5 1 div hmoveto endchar", 6, Rule::C09, None),
+    // A number of five bytes that has one.
+    ("T: 0 500 hsbw #255 #1", 4, Rule::C02, Some(Reason::Nothing)),
+    ("T: 0 500 hsbw 1", 4, Rule::C02, None),
+    ("T: 0 500 hsbw", 4, Rule::GE01, Some(Reason::Nothing)),
+    ("T: 0 500 hsbw endchar", 4, Rule::GE01, None),
+    // The eleventh call, and the tenth.
+    (
+        "T: 0 500 hsbw 1 callsubr endchar",
+        25,
+        Rule::S02,
+        Some(Reason::Depth { calls: 10 }),
+    ),
+    ("T: 0 500 hsbw 1 callsubr endchar", 23, Rule::S02, None),
+    ("T: 0 500 hsbw 5 callsubr endchar", 6, Rule::S03, None),
+    ("T: 0 500 hsbw endchar", 3, Rule::C03, None),
+    ("T: 0 500 hsbw endchar", 3, Rule::W01, None),
+    ("T: 0 500 hsbw endchar", 3, Rule::W02, None),
     (
         "T: 0 500 hsbw 5 0 div hmoveto endchar",
         6,
@@ -340,6 +381,195 @@ const OUTLINES: &[Row] = &[
         Rule::X05,
         None,
     ),
+    // A position and a width of half a unit: 10 to 30.5 and 30 to 50, then 30.5 to 50.5.
+    (
+        "T: 0 500 hsbw 10 41 2 div hstem 30 20 hstem endchar",
+        11,
+        Rule::H02,
+        Some(Reason::Stems {
+            own: Stem {
+                position: 30 * UNIT,
+                width: 20 * UNIT,
+            },
+            other: SetStem {
+                stem: Stem {
+                    position: 10 * UNIT,
+                    width: 20 * UNIT + UNIT / 2,
+                },
+                step: 8,
+            },
+        }),
+    ),
+    (
+        "T: 0 500 hsbw 10 41 2 div hstem 61 2 div 20 hstem endchar",
+        13,
+        Rule::H02,
+        None,
+    ),
+    // A stem of width -19 reaches down to -19, and another one only to it.
+    (
+        "T: 0 500 hsbw 0 -19 hstem -20 2 hstem endchar",
+        9,
+        Rule::H02,
+        Some(Reason::Stems {
+            own: Stem {
+                position: -20 * UNIT,
+                width: 2 * UNIT,
+            },
+            other: SetStem {
+                stem: Stem {
+                    position: 0 * UNIT,
+                    width: -19 * UNIT,
+                },
+                step: 6,
+            },
+        }),
+    ),
+    (
+        "T: 0 500 hsbw 0 -19 hstem -21 2 hstem endchar",
+        9,
+        Rule::H02,
+        None,
+    ),
+    // After 95 stems one more is compared, after 96 no more.
+    (
+        "T: 0 500 hsbw 0 callsubr 0 callsubr 0 callsubr 0 callsubr 0 callsubr 0 20 hstem 5 2 hstem endchar",
+        309,
+        Rule::H02,
+        Some(Reason::Stems {
+            own: Stem {
+                position: 5 * UNIT,
+                width: 2 * UNIT,
+            },
+            other: SetStem {
+                stem: Stem {
+                    position: 0 * UNIT,
+                    width: 20 * UNIT,
+                },
+                step: 306,
+            },
+        }),
+    ),
+    (
+        "T: 0 500 hsbw 0 callsubr 0 callsubr 0 callsubr 0 callsubr 0 callsubr 1000 10 hstem 0 20 hstem 5 2 hstem endchar",
+        312,
+        Rule::H02,
+        None,
+    ),
+    ("T: 0 500 hsbw 7 1 hstem endchar", 6, Rule::H03, None),
+    // The third stem is half a unit off.
+    (
+        "T: 0 500 hsbw 0 10 20 10 81 2 div 10 hstem3 endchar",
+        12,
+        Rule::H04,
+        Some(Reason::Triple {
+            one: Stem {
+                position: 0 * UNIT,
+                width: 10 * UNIT,
+            },
+            two: Stem {
+                position: 20 * UNIT,
+                width: 10 * UNIT,
+            },
+            three: Stem {
+                position: 40 * UNIT + UNIT / 2,
+                width: 10 * UNIT,
+            },
+        }),
+    ),
+    (
+        "T: 0 500 hsbw 5 hlineto endchar",
+        5,
+        Rule::P01,
+        Some(Reason::Since { step: None }),
+    ),
+    (
+        "T: 0 500 hsbw 0 hmoveto 5 hlineto closepath 7 hlineto endchar",
+        10,
+        Rule::P01,
+        Some(Reason::Since { step: Some(8) }),
+    ),
+    (
+        "T: 0 500 hsbw 0 hmoveto 5 hlineto closepath endchar",
+        7,
+        Rule::P01,
+        None,
+    ),
+    (
+        "T: 0 500 hsbw 0 hmoveto 5 hlineto closepath endchar",
+        9,
+        Rule::P02,
+        None,
+    ),
+    (
+        "T: 0 500 hsbw 0 hmoveto 5 hlineto closepath endchar",
+        8,
+        Rule::P03,
+        None,
+    ),
+    (
+        "T: 0 500 hsbw 0 hmoveto 1 2 hstem 5 hlineto closepath endchar",
+        8,
+        Rule::H01,
+        None,
+    ),
+    (
+        "T: 0 500 hsbw 5 1 3 callothersubr endchar",
+        8,
+        Rule::R01,
+        Some(Reason::Token {
+            token: CharToken::Command(Command::Endchar),
+        }),
+    ),
+    (
+        "T: 0 500 hsbw 5 1 3 callothersubr pop hmoveto endchar",
+        9,
+        Rule::R02,
+        Some(Reason::Token {
+            token: CharToken::Command(Command::Hmoveto),
+        }),
+    ),
+    (
+        "T: 0 500 hsbw 5 1 3 callothersubr pop callsubr endchar",
+        8,
+        Rule::R01,
+        None,
+    ),
+    (
+        "T: 0 500 hsbw 5 1 3 callothersubr pop callsubr endchar",
+        9,
+        Rule::R02,
+        None,
+    ),
+    (
+        "T: 0 500 hsbw 0 1 callothersubr 1 2 hstem endchar",
+        9,
+        Rule::X03,
+        Some(Reason::Since { step: Some(6) }),
+    ),
+    (
+        "T: 0 500 hsbw 0 1 callothersubr 1 hmoveto endchar",
+        8,
+        Rule::X03,
+        None,
+    ),
+    (
+        "T: 0 500 hsbw 1 2 setcurrentpoint endchar",
+        6,
+        Rule::X06,
+        Some(Reason::Nothing),
+    ),
+    // Three moves before the first point.
+    (
+        "T: 0 500 hsbw 0 1 callothersubr 1 hmoveto 1 hmoveto 1 hmoveto 0 2 callothersubr endchar",
+        15,
+        Rule::X04,
+        Some(Reason::Pairs {
+            moves: 3,
+            points: 0,
+            ends: false,
+        }),
+    ),
     // A point and an end outside flex.
     (
         "T: 0 500 hsbw 0 hmoveto 0 2 callothersubr endchar",
@@ -555,6 +785,84 @@ const CALLS: &[Row] = &[
             number: 3 * ONE,
             count: 2 * ONE,
         }),
+    ),
+    (
+        "T: 0 500 hsbw 0 12 callothersubr endchar",
+        6,
+        Rule::O01,
+        None,
+    ),
+    (
+        "T: 0 500 hsbw 1 1 3 callothersubr pop callsubr endchar",
+        7,
+        Rule::O03,
+        None,
+    ),
+    (
+        "T: 0 500 hsbw pop endchar",
+        4,
+        Rule::O04,
+        Some(Reason::Nothing),
+    ),
+    (
+        "T: 0 500 hsbw 1 1 3 callothersubr pop callsubr endchar",
+        8,
+        Rule::O04,
+        None,
+    ),
+    ("T: 0 500 hsbw 0 0 0 65 255 seac", 9, Rule::K01, None),
+    ("T: 0 500 hsbw 0 0 0 65 193 seac", 9, Rule::K02, None),
+    (
+        "A: 0 500 hsbw endchar | T: 0 500 hsbw 0 0 0 65 193 seac",
+        9,
+        Rule::K03,
+        Some(Reason::Codes {
+            base: 65 * UNIT,
+            accent: 193 * UNIT,
+        }),
+    ),
+    (
+        "A: 0 500 hsbw endchar | grave: 0 300 hsbw endchar | T: 0 500 hsbw 0 0 0 65 193 seac",
+        9,
+        Rule::K03,
+        None,
+    ),
+    (
+        "A: 0 500 hsbw 0 0 0 66 193 seac | grave: 0 300 hsbw endchar | T: 0 500 hsbw 0 0 0 65 193 seac",
+        9,
+        Rule::K04,
+        Some(Reason::Codes {
+            base: 65 * UNIT,
+            accent: 193 * UNIT,
+        }),
+    ),
+    (
+        "A: 0 500 hsbw endchar | grave: 0 300 hsbw endchar | T: 0 500 hsbw 0 0 0 65 193 seac",
+        9,
+        Rule::K04,
+        None,
+    ),
+    (
+        "T: 0 500 hsbw 5 hmoveto 0 0 0 65 193 seac",
+        11,
+        Rule::K06,
+        Some(Reason::Since { step: Some(5) }),
+    ),
+    ("T: 0 500 hsbw 0 0 0 65 193 seac", 9, Rule::K06, None),
+    (
+        "A: endchar | grave: 0 300 hsbw endchar | T: 0 500 hsbw 0 0 0 65 193 seac",
+        9,
+        Rule::K07,
+        Some(Reason::Codes {
+            base: 65 * UNIT,
+            accent: 193 * UNIT,
+        }),
+    ),
+    (
+        "A: 0 500 hsbw endchar | grave: 0 300 hsbw endchar | T: 0 500 hsbw 0 0 0 65 193 seac",
+        9,
+        Rule::K07,
+        None,
     ),
     (
         "T: 0 500 hsbw 0 0 0 65 256 seac",
