@@ -223,6 +223,7 @@ const tests = {
     await page.click('#use-waivers');
     await page.until(CHECKED);
     same('with these', await status(), '2 faults');
+    same('those that were given', (await downloaded(page, '#save-waivers')).bytes.toString(), 'D H02\n');
     await page.until("document.querySelector('#picture').naturalWidth > 0");
     const drawn = run('t1draw', ['--waive', path.join(folder, name), 'D', letter]);
     same('the picture with waivers', (await downloaded(page, '#save-picture')).bytes, drawn.out);
@@ -241,7 +242,7 @@ const tests = {
     await page.untilText('#font', '3 faults');
     same('a font that is chosen again has none', await status(), '3 faults');
     await page.drop('#drop', [made('other.pfb.waivers', 'D H02\n')]);
-    await page.untilText('#said', 'other.pfb.waivers is of no font that is here.');
+    await page.untilText('#said', 'other.pfb.waivers is of no font that is here; those of a.pfb are a.pfb.waivers.');
   },
 
   async downloads(page) {
