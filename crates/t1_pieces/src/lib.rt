@@ -1,15 +1,17 @@
 //! A font's report and pictures for a host that isn't Rattle: from bytes to bytes, a report piece by piece.
 //!
 //! [`lines`] hands over as many whole lines as a room holds, as text or as objects of JSON, and goes on from a
-//! [`Mark`](t1_report::Mark) at the next call. [`picture`] hands over the picture of a glyph.
+//! [`Mark`](t1_report::Mark) at the next call. [`document`] hands over a document of SARIF in the same way, from a place
+//! ([`Reached`]) on, and [`picture`] the picture of a glyph.
 //! What is made of the bytes of a font and of waivers is what t1check makes of them, by the same definitions.
 //!
 //! What is promised, for all bytes:
 //!
-//! - For rooms that hold each line of the report, the pieces joined are the report ([`pieces_are_the_report`]).
-//! - A room that doesn't hold the next line leaves the mark as it was.
+//! - For rooms that hold each line of the report, the pieces joined are the report ([`pieces_are_the_report`]). For those
+//!   that hold each part of a document, they are the document ([`pieces_are_the_document`]).
+//! - A room that doesn't hold the next line or part leaves the mark, or the place, as it was.
 //! - A font or waivers are refused exactly where t1check refuses them, by the same code and text.
-//! - A picture is the one that t1draw makes. A room that doesn't hold it is told its size.
+//! - A picture is the one that t1draw makes. For a room that doesn't hold it the size is returned.
 //! - Memory doesn't grow with the number of lines.
 #![tactic(auto)]
 
