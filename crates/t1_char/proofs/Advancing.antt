@@ -13,7 +13,7 @@ use Rattle.t1_char.specs.declared.machine.Numbers.{Numbers}
 use Rattle.t1_char.specs.declared.machine.Numbers.TheVariants as numbers_of
 use Rattle.t1_char.specs.Asking.{IsAskedBehind}
 use Rattle.t1_char.specs.Turns.{TurnValue}
-use Rattle.t1_char.specs.Lines.{IsAskedFarBehind, PassesSteps, PassesStep, is_lines, no_way}
+use Rattle.t1_char.specs.Lines.{IsAskedFarBehind, PassesSteps, PassesStep, leads, no_way}
 use Rattle.t1_char.specs.Passing.{ArePassed, IsPassed}
 use Rattle.t1_char.specs.Steps.{StepView, step_at}
 use Rattle.t1_char.specs.Private.Advancing.{GoesFar, HasGoneFar}
@@ -29,32 +29,32 @@ use Rattle.t1_char.proofs.MachineSteps.{drop_next, get_there, gone_over, is_with
 abbrev pub frames_at : Frames → Cursor → List ℤ → Frames
 frames_at f cursor stack = record f { current = cursor; step = record f.step { stack = stack } }
 
-step_more : (lines : Bool) (limit : ℕ) (steps : List StepView) (font : FontValue) (n taken : ℕ) (before way : Way) (f new : Frames)
-    → HasGoneFar lines limit steps font n taken before f → PassesStep lines limit steps (n + taken) before way
-    → IsBehind limit steps font (n + taken + 1) new → HasGoneFar lines limit steps font n (suc taken) way new
-step_more lines limit steps font n taken before way f new so_far one behind =
+step_more : (what : Passing) (limit : ℕ) (steps : List StepView) (font : FontValue) (n taken : ℕ) (before way : Way) (f new : Frames)
+    → HasGoneFar what limit steps font n taken before f → PassesStep what limit steps (n + taken) before way
+    → IsBehind limit steps font (n + taken + 1) new → HasGoneFar what limit steps font n (suc taken) way new
+step_more what limit steps font n taken before way f new so_far one behind =
     let same : n + taken + 1 ≡ n + suc taken = omega arith in
     record { passed = (before, (so_far.passed, one)); behind = subst (λ m. IsBehind limit steps font m new) same behind }
 
-number_more : (lines : Bool) (limit : ℕ) (steps : List StepView) (font : FontValue) (n taken : ℕ) (before way : Way) (f : Frames) (cursor : Cursor) (stack : List ℤ)
-    → HasGoneFar lines limit steps font n taken before f → PassesNumber f.current cursor f.step.stack stack → way ≡ before → n + taken < limit
-    → HasGoneFar lines limit steps font n (suc taken) way (frames_at f cursor stack)
-number_more lines limit steps font n taken before way f cursor stack so_far number same near =
+number_more : (what : Passing) (limit : ℕ) (steps : List StepView) (font : FontValue) (n taken : ℕ) (before way : Way) (f : Frames) (cursor : Cursor) (stack : List ℤ)
+    → HasGoneFar what limit steps font n taken before f → PassesNumber f.current cursor f.step.stack stack → way ≡ before → n + taken < limit
+    → HasGoneFar what limit steps font n (suc taken) way (frames_at f cursor stack)
+number_more what limit steps font n taken before way f cursor stack so_far number same near =
     let one = gone_over limit steps font (n + taken) f (frames_at f cursor stack) so_far.behind
     (goes_over_one font f (frames_at f cursor stack) number refl refl refl) near in
-    step_more lines limit steps font n taken before way f (frames_at f cursor stack) so_far (inl (one.passed, same)) one.behind
+    step_more what limit steps font n taken before way f (frames_at f cursor stack) so_far (inl (one.passed, same)) one.behind
 
-command_more : (lines : Bool) (limit : ℕ) (steps : List StepView) (font : FontValue) (n taken : ℕ) (before way : Way) (f : Frames) (cursor : Cursor) (stack : List ℤ)
-    → HasGoneFar lines limit steps font n taken before f → lines ≡ true → PassesCommand f.current cursor f.step.stack stack before way → n + taken < limit
-    → HasGoneFar lines limit steps font n (suc taken) way (frames_at f cursor stack)
-command_more lines limit steps font n taken before way f cursor stack so_far on line near =
+command_more : (what : Passing) (limit : ℕ) (steps : List StepView) (font : FontValue) (n taken : ℕ) (before way : Way) (f : Frames) (cursor : Cursor) (stack : List ℤ)
+    → HasGoneFar what limit steps font n taken before f → leads what ≡ true → PassesCommand what f.current cursor f.step.stack stack before way → n + taken < limit
+    → HasGoneFar what limit steps font n (suc taken) way (frames_at f cursor stack)
+command_more what limit steps font n taken before way f cursor stack so_far on line near =
     let new : Frames = frames_at f cursor stack in
     let t : CharToken = Command line.command in
     let step : StepView = step_at font f.step.path.items t (tokens_left cursor) (state_in f) in
     let rest : List StepView = steps_behind font new in
     let there = sym so_far.behind.steps_are ∙ token_over font f new t line.token line.plain refl refl refl in
     let one_more : n + taken + 1 ≡ suc (n + taken) = omega arith in
-    step_more lines limit steps font n taken before way f new so_far
+    step_more what limit steps font n taken before way f new so_far
     (inr (
       on,
       record {
@@ -73,10 +73,10 @@ command_more lines limit steps font n taken before way f cursor stack so_far on 
       within = is_within (n + taken) steps rest step there;
     })
 
-row_over : (lines : Bool) (limit : ℕ) (steps : List StepView) (font : FontValue) (n : ℕ) (f : Frames) (taken : ℕ) (ahead behind : Cursor) (stack : List ℤ) (way : Way)
-    → ahead ≡ f.current → IsBehind limit steps font n f → PassesRow lines taken ahead behind f.step.stack stack way → n + taken ≤ limit
-    → HasGoneFar lines limit steps font n taken way (frames_at f behind stack)
-row_over lines limit steps font n f zero ahead behind stack way is at row near =
+row_over : (what : Passing) (limit : ℕ) (steps : List StepView) (font : FontValue) (n : ℕ) (f : Frames) (taken : ℕ) (ahead behind : Cursor) (stack : List ℤ) (way : Way)
+    → ahead ≡ f.current → IsBehind limit steps font n f → PassesRow what taken ahead behind f.step.stack stack way → n + taken ≤ limit
+    → HasGoneFar what limit steps font n taken way (frames_at f behind stack)
+row_over what limit steps font n f zero ahead behind stack way is at row near =
     let same : n ≡ n + 0 = omega arith in
     record {
       passed = row.1.1;
@@ -84,43 +84,43 @@ row_over lines limit steps font n f zero ahead behind stack way is at row near =
           (subst (λ cursor. IsBehind limit steps font (n + 0) (frames_at f cursor f.step.stack)) (sym (row.0 ∙ is))
           (subst (λ m. IsBehind limit steps font m f) same at));
     }
-row_over lines limit steps font n f (suc taken) ahead behind stack way is at row near =
+row_over what limit steps font n f (suc taken) ahead behind stack way is at row near =
     let between : Cursor = row.0 in
     let so_far : List ℤ = row.1.0 in
     let before : Way = row.1.1.0 in
     let here : Frames = frames_at f between so_far in
     by_one here before
-    (row_over lines limit steps font n f taken ahead between so_far before is at row.1.1.1.0 (omega (arith, near))) row.1.1.1.1
+    (row_over what limit steps font n f taken ahead between so_far before is at row.1.1.1.0 (omega (arith, near))) row.1.1.1.1
   where
-    by_one : (here : Frames) (before : Way) → HasGoneFar lines limit steps font n taken before here
-        → PassesOne lines here.current behind here.step.stack stack before way
-        → HasGoneFar lines limit steps font n (suc taken) way (frames_at here behind stack)
+    by_one : (here : Frames) (before : Way) → HasGoneFar what limit steps font n taken before here
+        → PassesOne what here.current behind here.step.stack stack before way
+        → HasGoneFar what limit steps font n (suc taken) way (frames_at here behind stack)
     by_one here before gone (inl number) =
-        number_more lines limit steps font n taken before way here behind stack gone number.0 number.1 (omega (arith, near))
+        number_more what limit steps font n taken before way here behind stack gone number.0 number.1 (omega (arith, near))
     by_one here before gone (inr line) =
-        command_more lines limit steps font n taken before way here behind stack gone line.0 line.1 (omega (arith, near))
+        command_more what limit steps font n taken before way here behind stack gone line.0 line.1 (omega (arith, near))
 
-pub lines_over : (lines : Bool) (limit : ℕ) (font : FontValue) (n : ℕ) (f : Frames) (taken : ℕ) (ahead behind : Cursor) (stack : List ℤ) (way : Way)
-    → ahead ≡ f.current → PassesRow lines taken ahead behind f.step.stack stack way → n + taken ≤ limit
-    → GoesFar lines limit font n f taken way (frames_at f behind stack)
-lines_over lines limit font n f taken ahead behind stack way is row near = λ steps at.
-    row_over lines limit steps font n f taken ahead behind stack way is at row near
+pub lines_over : (what : Passing) (limit : ℕ) (font : FontValue) (n : ℕ) (f : Frames) (taken : ℕ) (ahead behind : Cursor) (stack : List ℤ) (way : Way)
+    → ahead ≡ f.current → PassesRow what taken ahead behind f.step.stack stack way → n + taken ≤ limit
+    → GoesFar what limit font n f taken way (frames_at f behind stack)
+lines_over what limit font n f taken ahead behind stack way is row near = λ steps at.
+    row_over what limit steps font n f taken ahead behind stack way is at row near
 
 -- None.
-pub none_over : (lines : Bool) (limit : ℕ) (font : FontValue) (n : ℕ) (f : Frames) → GoesFar lines limit font n f 0 no_way f
-none_over lines limit font n f = λ steps at.
+pub none_over : (what : Passing) (limit : ℕ) (font : FontValue) (n : ℕ) (f : Frames) → GoesFar what limit font n f 0 no_way f
+none_over what limit font n f = λ steps at.
     let same : n ≡ n + 0 = omega arith in
     record { passed = refl; behind = subst (λ m. IsBehind limit steps font m f) same at }
 
--- Where no line is passed, numbers alone are.
-pub all_numbers : (limit : ℕ) (steps : List StepView) (n taken : ℕ) (way : Way) → PassesSteps false limit steps n taken way → ArePassed limit steps n (n + taken)
-all_numbers limit steps n zero way passes = λ k from to. absurd (omega (arith, from, to))
-all_numbers limit steps n (suc taken) way passes =
-    one_more limit steps n taken passes.0 way (all_numbers limit steps n taken passes.0 passes.1.0) passes.1.1
+-- Where no command is passed, numbers alone are.
+pub all_numbers : (what : Passing) → leads what ≡ false → (limit : ℕ) (steps : List StepView) (n taken : ℕ) (way : Way) → PassesSteps what limit steps n taken way → ArePassed limit steps n (n + taken)
+all_numbers what none limit steps n zero way passes = λ k from to. absurd (omega (arith, from, to))
+all_numbers what none limit steps n (suc taken) way passes =
+    one_more limit steps n taken passes.0 way (all_numbers what none limit steps n taken passes.0 passes.1.0) passes.1.1
   where
     one_more : (limit : ℕ) (steps : List StepView) (n taken : ℕ) (before way : Way) → ArePassed limit steps n (n + taken)
-        → PassesStep false limit steps (n + taken) before way → ArePassed limit steps n (n + suc taken)
-    one_more limit steps n taken before way so_far (inr line) = let no : false ≡ true = line.0 in cc
+        → PassesStep what limit steps (n + taken) before way → ArePassed limit steps n (n + suc taken)
+    one_more limit steps n taken before way so_far (inr line) = let no : false ≡ true = sym none ∙ line.0 in cc
     one_more limit steps n taken before way so_far (inl number) = λ k from to.
         elim (cases_lt k (n + taken)) [
           | inl less ↦ so_far k from less
@@ -129,15 +129,15 @@ all_numbers limit steps n (suc taken) way passes =
               subst (IsPassed limit steps) same number.0
         ]
 
--- How a machine was called where no line is passed.
-pub asked_numbers : (numbers : Numbers) (what : Passing) (limit : ℕ) (steps : List StepView) (n calls : ℕ) (answer : TurnValue) (way : Way) → is_lines what ≡ false
+-- How a machine was called where no command is passed.
+pub asked_numbers : (numbers : Numbers) (what : Passing) (limit : ℕ) (steps : List StepView) (n calls : ℕ) (answer : TurnValue) (way : Way) → leads what ≡ false
     → (numbers ≡ numbers_of.Told → what ≡ passing.Told)
     → IsAskedFarBehind what limit steps n calls answer way → IsAskedBehind numbers limit steps n calls answer
 asked_numbers numbers what limit steps n calls answer way none told asked =
     record {
       before = n + asked.taken;
       least = omega arith;
-      passed = all_numbers limit steps n asked.taken way (subst (λ lines. PassesSteps lines limit steps n asked.taken way) none asked.passed);
+      passed = all_numbers what none limit steps n asked.taken way asked.passed;
       told = λ is. omega (arith, asked.told (told is));
       turn = asked.turn;
       counted = asked.counted;

@@ -15,7 +15,7 @@ use Rattle.t1_char.specs.AnswerViews.{answer_view}
 use Rattle.t1_char.specs.declared.lines.Passing.{Passing}
 use Rattle.t1_char.specs.declared.lines.Passing.TheVariants as passing
 use Rattle.t1_char.specs.declared.lines.Way.{Way}
-use Rattle.t1_char.specs.Lines.{IsAskedFarBehind, is_lines, no_way}
+use Rattle.t1_char.specs.Lines.{IsAskedFarBehind, no_way}
 use Rattle.t1_char.specs.Private.Cursors.{tokens_left}
 use Rattle.t1_char.specs.Rests.{Frame, frame, rest_of}
 use Rattle.t1_char.specs.Private.Frames.{callers_of, state_in, left_behind, step_here, steps_behind, steps_from}
@@ -234,7 +234,7 @@ asked_far_none what limit steps font n answer f answers =
     }
 
 pub asked_far : (what : Passing) (limit : ℕ) (steps : List StepView) (font : FontValue) (n before taken : ℕ) (way : Way) (f : Frames) (answer : Answer) (new : Frames)
-    → before ≡ n + taken → HasGoneFar (is_lines what) limit steps font n taken way f → (what ≡ passing.Told → before ≡ n)
+    → before ≡ n + taken → HasGoneFar what limit steps font n taken way f → (what ≡ passing.Told → before ≡ n)
     → Answers limit steps font before answer new
     → IsAskedFarBehind what limit steps n (before + 1) (answer_view answer (step_value new.step)) way
 asked_far what limit steps font n before taken way f answer new is over told answers =
@@ -247,22 +247,22 @@ asked_far what limit steps font n before taken way f answer new is over told ans
     }
 
 -- The current step was executed, steps were passed, and the next was read.
-pub record HasRead (lines : Bool) (limit : ℕ) (steps : List StepView) (font : FontValue) (n before : ℕ) (way : Way) (new : Frames) : Type 0 where
+pub record HasRead (what : Passing) (limit : ℕ) (steps : List StepView) (font : FontValue) (n before : ℕ) (way : Way) (new : Frames) : Type 0 where
   pub taken : ℕ
   pub taken_is : before ≡ n + taken
   pub passed : Frames
-  pub gone : HasGoneFar lines limit steps font n taken way passed
+  pub gone : HasGoneFar what limit steps font n taken way passed
   pub behind : IsBehind limit steps font before passed
   pub next : IsNext font before passed new
 
-pub has_read : (lines : Bool) (limit own : ℕ) (steps : List StepView) (font : FontValue) (n before : ℕ) (way : Way) (answer : Answer)
+pub has_read : (what : Passing) (limit own : ℕ) (steps : List StepView) (font : FontValue) (n before : ℕ) (way : Way) (answer : Answer)
     (f executed new : Frames) → own ≡ limit → answer ≡ Step → IsAt limit steps font n answer f
     → steps_from font f ≡ step_here font f ∷ steps_behind font executed → length executed.step.path.items ≡ length executed.callers.items
-    → Advances lines own font n executed before way new → HasRead lines limit steps font n before way new
-has_read lines limit own steps font n before way answer f executed new limit_is is at executed_is even advances =
-    let over : Advances lines limit font n executed before way new =
-    subst (λ k. Advances lines k font n executed before way new) limit_is advances in
-    let gone : HasGoneFar lines limit steps font n over.taken way over.passed =
+    → Advances what own font n executed before way new → HasRead what limit steps font n before way new
+has_read what limit own steps font n before way answer f executed new limit_is is at executed_is even advances =
+    let over : Advances what limit font n executed before way new =
+    subst (λ k. Advances what k font n executed before way new) limit_is advances in
+    let gone : HasGoneFar what limit steps font n over.taken way over.passed =
     over.over steps (behind_executed limit steps font n f executed (still_goes_on limit steps font n answer f is at) executed_is even) in
     record {
       taken = over.taken;

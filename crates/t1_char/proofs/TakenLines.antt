@@ -1,20 +1,24 @@
--- Numbers and lines that are taken one after another.
+-- Numbers, and lines or moves, that are taken one after another.
 use Rattle.std.proofs.Common.{◌≡◌, inl, inr, ℕ, zero, suc, ℤ, ◌+◌, ◌-◌, ◌<◌, ◌≤◌, Bool, true, false, Option, Some, None, if◌then◌else◌, List, [], ◌∷◌, length, take, length-take, refl, sym, ap, subst, ◌∙◌, arith}
 use Rattle.std.proofs.lemmas.Int.{ints}
 use Rattle.t1_char.specs.declared.command.Command.{Command as Commands}
-use Rattle.t1_char.specs.declared.command.Command.TheVariants.{Rlineto, Hlineto, Vlineto, Rrcurveto, Vhcurveto, Hvcurveto, Closepath}
+use Rattle.t1_char.specs.declared.command.Command.TheVariants.{Rlineto, Hlineto, Vlineto, Rrcurveto, Vhcurveto, Hvcurveto, Closepath, Rmoveto, Hmoveto, Vmoveto}
 use Rattle.t1_char.specs.declared.cursor.Cursor.{Cursor}
 use Rattle.t1_char.specs.declared.cursor.Ahead.{Ahead}
+use Rattle.t1_char.specs.declared.lines.Drawn.{Drawn}
+use Rattle.t1_char.specs.declared.lines.Drawn.TheVariants.{Nothing, Moved, Open, Closed}
+use Rattle.t1_char.specs.declared.lines.Passing.{Passing}
+use Rattle.t1_char.specs.declared.lines.Passing.TheVariants as passing
 use Rattle.t1_char.specs.declared.lines.Way.{Way}
 use Rattle.t1_char.specs.declared.taking.Lines.{Lines}
 use Rattle.t1_char.specs.declared.taking.Stop.{Stop}
 use Rattle.t1_char.specs.declared.token.CharToken.TheVariants.{Command, Short}
-use Rattle.t1_char.specs.Lines.{ClosesPath, IsWayNear, further, is_closed, is_line_command, no_way}
+use Rattle.t1_char.specs.Lines.{ClosesPath, IsWayNear, drawn_after, further, goes_on_from, is_led, leads, moves_in, no_way, way_by}
 use Rattle.t1_char.specs.Stacks.{most_numbers}
 use Rattle.t1_char.specs.Tokens.{more_of, token_at, tokens_behind, tokens_of}
 use Rattle.t1_char.specs.Private.Cursors.{AtFirst, bytes_left, cursor_of, tokens_left}
 use Rattle.t1_char.specs.Private.Plain.{IsPlainEffect}
-use Rattle.t1_char.specs.Private.Taking.{Finishes, IsLineFirst, IsTakingLines, IsTokenRead, PassesCommand, PassesNumbers, PassesOne, PassesRow, StopsAt, Takes, TakesLines, closepath_byte, left_of, lines_cursor, stop_cursor}
+use Rattle.t1_char.specs.Private.Taking.{Finishes, IsLedFirst, IsTakingLines, IsTokenRead, PassesCommand, PassesNumbers, PassesOne, PassesRow, StopsAt, Takes, TakesLines, closepath_byte, left_of, lines_cursor, stop_cursor}
 
 near_none : IsWayNear 0 no_way
 near_none = record {
@@ -22,29 +26,29 @@ near_none = record {
   y = record { low = omega (arith, ints); high = omega (arith, ints) };
 }
 
-pub path_none : (room : ℕ) (ahead : Ahead) → most_numbers ≤ room
-    → IsTakingLines room ahead [] [] 0 (cursor_of ahead) no_way × (0 + most_numbers ≤ room)
-path_none room ahead enough = (
-  record { passes = (refl, (refl, refl)); near = near_none; room_is = omega arith; short = refl; unclosed = refl },
+pub path_none : (what : Passing) (room : ℕ) (ahead : Ahead) → most_numbers ≤ room
+    → IsTakingLines what room ahead [] [] 0 (cursor_of ahead) no_way × (0 + most_numbers ≤ room)
+path_none what room ahead enough = (
+  record { passes = (refl, (refl, refl)); near = near_none; room_is = omega arith; short = refl; from = refl; few = omega arith },
   omega (arith, enough),
 )
 
-row_numbers : (lines : Bool) (n k : ℕ) (a m b : Cursor) (s t u : List ℤ) (way : Way) → PassesRow lines n a m s t way → PassesNumbers k m b t u
-    → PassesRow lines (n + k) a b s u way
-row_numbers lines n zero a m b s t u way row passes =
+row_numbers : (what : Passing) (n k : ℕ) (a m b : Cursor) (s t u : List ℤ) (way : Way) → PassesRow what n a m s t way → PassesNumbers k m b t u
+    → PassesRow what (n + k) a b s u way
+row_numbers what n zero a m b s t u way row passes =
     let same : n ≡ n + 0 = omega arith in
-    subst (λ i. PassesRow lines i a b s u way) same
-    (subst (λ x. PassesRow lines n a x s u way) (sym passes.0)
-    (subst (λ x. PassesRow lines n a m s x way) (sym passes.1) row))
-row_numbers lines n (suc k) a m b s t u way row passes =
-    let so_far : PassesRow lines (n + k) a passes.0 s passes.1.0 way = row_numbers lines n k a m passes.0 s t passes.1.0 way row passes.1.1.0 in
-    let one : PassesOne lines passes.0 b passes.1.0 u way way = inl (passes.1.1.1, refl) in
+    subst (λ i. PassesRow what i a b s u way) same
+    (subst (λ x. PassesRow what n a x s u way) (sym passes.0)
+    (subst (λ x. PassesRow what n a m s x way) (sym passes.1) row))
+row_numbers what n (suc k) a m b s t u way row passes =
+    let so_far : PassesRow what (n + k) a passes.0 s passes.1.0 way = row_numbers what n k a m passes.0 s t passes.1.0 way row passes.1.1.0 in
+    let one : PassesOne what passes.0 b passes.1.0 u way way = inl (passes.1.1.1, refl) in
     let same : suc (n + k) ≡ n + suc k = omega arith in
-    subst (λ i. PassesRow lines i a b s u way) same (row_one lines (n + k) a passes.0 b s passes.1.0 u way way so_far one)
+    subst (λ i. PassesRow what i a b s u way) same (row_one what (n + k) a passes.0 b s passes.1.0 u way way so_far one)
   where
-    row_one : (lines : Bool) (n : ℕ) (a m b : Cursor) (s t u : List ℤ) (before way : Way) → PassesRow lines n a m s t before
-        → PassesOne lines m b t u before way → PassesRow lines (suc n) a b s u way
-    row_one lines n a m b s t u before way row one = (m, (t, (before, (row, one))))
+    row_one : (what : Passing) (n : ℕ) (a m b : Cursor) (s t u : List ℤ) (before way : Way) → PassesRow what n a m s t before
+        → PassesOne what m b t u before way → PassesRow what (suc n) a b s u way
+    row_one what n a m b s t u before way row one = (m, (t, (before, (row, one))))
 
 near_more : (n k : ℕ) (way : Way) → IsWayNear n way → IsWayNear (n + k) way
 near_more n k way near = record {
@@ -52,29 +56,65 @@ near_more n k way near = record {
   y = record { low = omega (arith, ints, near.y.low); high = omega (arith, ints, near.y.high) };
 }
 
-pub path_numbers : (room : ℕ) (ahead left : Ahead) (new : List ℤ) (passed : ℕ) (way : Way) (stop : Stop)
-    → IsTakingLines room ahead [] [] passed (cursor_of left) way → passed + most_numbers ≤ room → (takes : Takes left [] new stop)
-    → stop.len ≡ length new → stop.len ≤ most_numbers → IsTakingLines room ahead [] new (passed + stop.len) takes.before way
-path_numbers room ahead left new passed way stop so_far enough takes is few =
+pub path_numbers : (what : Passing) (room : ℕ) (ahead left : Ahead) (new : List ℤ) (passed : ℕ) (way : Way) (stop : Stop)
+    → IsTakingLines what room ahead [] [] passed (cursor_of left) way → passed + most_numbers ≤ room → (takes : Takes left [] new stop)
+    → stop.len ≡ length new → stop.len ≤ most_numbers → IsTakingLines what room ahead [] new (passed + stop.len) takes.before way
+path_numbers what room ahead left new passed way stop so_far enough takes is few =
     let count : takes.count ≡ stop.len = omega (arith, takes.more, is) in
     record {
-      passes = subst (λ k. PassesRow true (passed + k) (cursor_of ahead) takes.before [] new way) count
-          (row_numbers true passed takes.count (cursor_of ahead) (cursor_of left) takes.before [] [] new way so_far.passes takes.passes);
+      passes = subst (λ k. PassesRow what (passed + k) (cursor_of ahead) takes.before [] new way) count
+          (row_numbers what passed takes.count (cursor_of ahead) (cursor_of left) takes.before [] [] new way so_far.passes takes.passes);
       near = near_more passed stop.len way so_far.near;
       room_is = omega (arith, enough, few);
       short = takes.near refl;
-      unclosed = so_far.unclosed;
+      from = so_far.from;
+      few = omega (arith, so_far.few);
     }
 
--- A line empties the stack.
-line_effect : (command : Commands) → is_line_command command ≡ true → (old : List ℤ) → IsPlainEffect (Command command) old []
-line_effect Rlineto is old = λ named depth waiting. refl
-line_effect Hlineto is old = λ named depth waiting. refl
-line_effect Vlineto is old = λ named depth waiting. refl
-line_effect Rrcurveto is old = λ named depth waiting. refl
-line_effect Vhcurveto is old = λ named depth waiting. refl
-line_effect Hvcurveto is old = λ named depth waiting. refl
-line_effect _ is old = let no : false ≡ true = is in cc
+-- A line empties the stack, and so does a move.
+led_effect : (what : Passing) (command : Commands) → is_led what command ≡ true → (old : List ℤ) → IsPlainEffect (Command command) old []
+led_effect passing.Lines command is old = line_effect command is
+  where
+    line_effect : (command : Commands) → is_led passing.Lines command ≡ true → IsPlainEffect (Command command) old []
+    line_effect Rlineto is = λ named depth waiting. refl
+    line_effect Hlineto is = λ named depth waiting. refl
+    line_effect Vlineto is = λ named depth waiting. refl
+    line_effect Rrcurveto is = λ named depth waiting. refl
+    line_effect Vhcurveto is = λ named depth waiting. refl
+    line_effect Hvcurveto is = λ named depth waiting. refl
+    line_effect _ is = let no : false ≡ true = is in cc
+led_effect passing.Moves command is old = move_effect command is
+  where
+    move_effect : (command : Commands) → is_led passing.Moves command ≡ true → IsPlainEffect (Command command) old []
+    move_effect Rmoveto is = λ named depth waiting. refl
+    move_effect Hmoveto is = λ named depth waiting. refl
+    move_effect Vmoveto is = λ named depth waiting. refl
+    move_effect _ is = let no : false ≡ true = is in cc
+led_effect passing.Told command is old = let no : false ≡ true = is in cc
+led_effect passing.Numbers command is old = let no : false ≡ true = is in cc
+
+-- After it such a command can come again.
+still_from : (what : Passing) (drawn : Drawn) (command : Commands) → is_led what command ≡ true → goes_on_from what drawn ≡ true → (v : List ℤ)
+    → goes_on_from what (drawn_after drawn (way_by command v).drawn) ≡ true
+still_from passing.Lines drawn command is from v = by_line command is
+  where
+    by_line : (command : Commands) → is_led passing.Lines command ≡ true → goes_on_from passing.Lines (drawn_after drawn (way_by command v).drawn) ≡ true
+    by_line Rlineto is = refl
+    by_line Hlineto is = refl
+    by_line Vlineto is = refl
+    by_line Rrcurveto is = refl
+    by_line Vhcurveto is = refl
+    by_line Hvcurveto is = refl
+    by_line _ is = let no : false ≡ true = is in cc
+still_from passing.Moves drawn command is from v = by_move command is
+  where
+    by_move : (command : Commands) → is_led passing.Moves command ≡ true → goes_on_from passing.Moves (drawn_after drawn (way_by command v).drawn) ≡ true
+    by_move Rmoveto is = refl
+    by_move Hmoveto is = refl
+    by_move Vmoveto is = refl
+    by_move _ is = let no : false ≡ true = is in cc
+still_from passing.Told drawn command is from v = let no : false ≡ true = is in cc
+still_from passing.Numbers drawn command is from v = let no : false ≡ true = is in cc
 
 -- The token of a first byte that alone writes it.
 first_token : (first : ℕ) (before ahead : Cursor) → AtFirst first before ahead → more_of first ≡ 0
@@ -86,64 +126,68 @@ first_token first before ahead at none =
     ∙ ap (λ n. token_at first (bytes_left ahead) ∷ tokens_behind n (bytes_left ahead)) none
     ∙ ap (λ b. token_at first (bytes_left ahead) ∷ (if b then Short ∷ tokens_of (bytes_left ahead) else tokens_of (bytes_left ahead))) (sym at.behind_short)
 
-line_read : (first : Option ℕ) (before ahead : Cursor) (numbers : List ℤ) (so_far one way : Way) → StopsAt first before ahead
-    → IsLineFirst first numbers one → is_closed so_far.drawn ≡ false → way ≡ further so_far one → PassesCommand before ahead numbers [] so_far way
-line_read None before ahead numbers so_far one way at line unclosed is = absurd line
-line_read (Some first) before ahead numbers so_far one way at line unclosed is =
-    let this = line.0 (bytes_left ahead) in
-    record {
-      command = this.command;
-      token = first_token first before ahead at line.1 ∙ ap (λ t. t ∷ tokens_left ahead) this.token_is;
-      plain = line_effect this.command this.is.line numbers;
-      goes_on = inl (record { is = this.is; unclosed = unclosed; way = is ∙ ap (further so_far) this.way_is });
-    }
+led_read : (what : Passing) (first : Option ℕ) (before ahead : Cursor) (numbers : List ℤ) (so_far one way : Way) → StopsAt first before ahead
+    → IsLedFirst what first numbers one → goes_on_from what so_far.drawn ≡ true → way ≡ further so_far one
+    → PassesCommand what before ahead numbers [] so_far way × (goes_on_from what way.drawn ≡ true)
+led_read what None before ahead numbers so_far one way at led from is = absurd led
+led_read what (Some first) before ahead numbers so_far one way at led from is =
+    let this = led.0 (bytes_left ahead) in (
+      record {
+        command = this.command;
+        token = first_token first before ahead at led.1 ∙ ap (λ t. t ∷ tokens_left ahead) this.token_is;
+        plain = led_effect what this.command this.is.led numbers;
+        goes_on = inl (record { is = this.is; from = from; way = is ∙ ap (further so_far) this.way_is });
+      },
+      ap (λ w. goes_on_from what w.drawn) (is ∙ ap (further so_far) this.way_is) ∙ still_from what so_far.drawn this.command this.is.led from numbers,
+    )
 
 -- A closepath right after a line.
-close_read : (before ahead : Cursor) (numbers : List ℤ) (so_far way : Way) → AtFirst closepath_byte before ahead → ClosesPath Closepath numbers so_far way
-    → PassesCommand before ahead numbers [] so_far way
-close_read before ahead numbers so_far way at close = record {
+close_read : (what : Passing) (before ahead : Cursor) (numbers : List ℤ) (so_far way : Way) → AtFirst closepath_byte before ahead → ClosesPath Closepath numbers so_far way
+    → PassesCommand what before ahead numbers [] so_far way
+close_read what before ahead numbers so_far way at close = record {
   command = Closepath;
   token = first_token closepath_byte before ahead at refl;
   plain = λ named depth waiting. refl;
   goes_on = inr close;
 }
 
-row_more : (n : ℕ) (a m b : Cursor) (s t u : List ℤ) (before way : Way) → PassesRow true n a m s t before
-    → PassesCommand m b t u before way → PassesRow true (suc n) a b s u way
-row_more n a m b s t u before way row one = (m, (t, (before, (row, inr (refl, one)))))
+row_more : (what : Passing) → leads what ≡ true → (n : ℕ) (a m b : Cursor) (s t u : List ℤ) (before way : Way) → PassesRow what n a m s t before
+    → PassesCommand what m b t u before way → PassesRow what (suc n) a b s u way
+row_more what on n a m b s t u before way row one = (m, (t, (before, (row, inr (on, one)))))
 
-pub path_line : (room : ℕ) (ahead : Ahead) (numbers : List ℤ) (passed : ℕ) (before : Cursor) (so_far one way : Way) (stop : Stop)
-    → IsTakingLines room ahead [] numbers passed before so_far → StopsAt stop.first before (stop_cursor stop) → IsLineFirst stop.first numbers one
-    → way ≡ further so_far one → IsWayNear (passed + 1) way → most_numbers < room - passed
-    → IsTakingLines room ahead [] [] (passed + 1) (cursor_of (left_of stop.left stop.cipher)) way × (passed + 1 + most_numbers ≤ room)
-path_line room ahead numbers passed before so_far one way stop round at line is near enough =
-    let same : suc passed ≡ passed + 1 = omega arith in (
+pub path_line : (what : Passing) → leads what ≡ true → (room : ℕ) (ahead : Ahead) (numbers : List ℤ) (passed : ℕ) (before : Cursor) (so_far one way : Way) (stop : Stop)
+    → IsTakingLines what room ahead [] numbers passed before so_far → StopsAt stop.first before (stop_cursor stop) → IsLedFirst what stop.first numbers one
+    → way ≡ further so_far one → IsWayNear (passed + 1) way → moves_in way.drawn ≤ passed + 1 → most_numbers < room - passed
+    → IsTakingLines what room ahead [] [] (passed + 1) (cursor_of (left_of stop.left stop.cipher)) way × (passed + 1 + most_numbers ≤ room)
+path_line what on room ahead numbers passed before so_far one way stop round at led is near few enough =
+    let same : suc passed ≡ passed + 1 = omega arith in
+    let read = led_read what stop.first before (stop_cursor stop) numbers so_far one way at led round.from is in (
       record {
-        passes = subst (λ n. PassesRow true n (cursor_of ahead) (stop_cursor stop) [] [] way) same
-            (row_more passed (cursor_of ahead) before (stop_cursor stop) [] numbers [] so_far way round.passes
-            (line_read stop.first before (stop_cursor stop) numbers so_far one way at line round.unclosed is));
+        passes = subst (λ n. PassesRow what n (cursor_of ahead) (stop_cursor stop) [] [] way) same
+            (row_more what on passed (cursor_of ahead) before (stop_cursor stop) [] numbers [] so_far way round.passes read.0);
         near = near;
         room_is = omega (arith, enough);
         short = refl;
-        unclosed = ap (λ w. is_closed w.drawn) is;
+        from = read.1;
+        few = few;
       },
       omega (arith, enough),
     )
 
 -- The path ends at the next token, or after a closepath.
-pub path_all : (room : ℕ) (ahead : Ahead) (cells numbers : List ℤ) (passed : ℕ) (before : Cursor) (way : Way) (stop : Stop) (lines : Lines)
-    → IsTakingLines room ahead [] numbers passed before way → StopsAt stop.first before (stop_cursor stop) → numbers ≡ take stop.len cells
-    → Finishes stop passed way lines → TakesLines true ahead [] (take lines.len cells) lines
-path_all room ahead cells numbers passed before way stop lines round at is (inl there) =
+pub path_all : (what : Passing) → leads what ≡ true → (room : ℕ) (ahead : Ahead) (cells numbers : List ℤ) (passed : ℕ) (before : Cursor) (way : Way) (stop : Stop) (lines : Lines)
+    → IsTakingLines what room ahead [] numbers passed before way → StopsAt stop.first before (stop_cursor stop) → numbers ≡ take stop.len cells
+    → Finishes stop passed way lines → TakesLines what ahead [] (take lines.len cells) lines
+path_all what on room ahead cells numbers passed before way stop lines round at is (inl there) =
     record {
       before = before;
-      passes = subst (λ n. PassesRow true lines.passed (cursor_of ahead) before [] (take n cells) lines.way) (sym there.len)
-          (subst (λ ns. PassesRow true lines.passed (cursor_of ahead) before [] ns lines.way) is
-          (subst (λ n. PassesRow true n (cursor_of ahead) before [] numbers lines.way) (sym there.passed_is)
-          (subst (λ w. PassesRow true passed (cursor_of ahead) before [] numbers w) (sym there.way_is) round.passes)));
+      passes = subst (λ n. PassesRow what lines.passed (cursor_of ahead) before [] (take n cells) lines.way) (sym there.len)
+          (subst (λ ns. PassesRow what lines.passed (cursor_of ahead) before [] ns lines.way) is
+          (subst (λ n. PassesRow what n (cursor_of ahead) before [] numbers lines.way) (sym there.passed_is)
+          (subst (λ w. PassesRow what passed (cursor_of ahead) before [] numbers w) (sym there.way_is) round.passes)));
       token = there.token before at;
     }
-path_all room ahead cells numbers passed before way stop lines round at is (inr behind) =
+path_all what on room ahead cells numbers passed before way stop lines round at is (inr behind) =
     let none : numbers ≡ [] = is ∙ ap (λ n. take n cells) behind.alone in
     let first : AtFirst closepath_byte before (stop_cursor stop) = subst (λ f. StopsAt f before (stop_cursor stop)) behind.first at in
     let close : ClosesPath Closepath numbers way lines.way =
@@ -151,10 +195,10 @@ path_all room ahead cells numbers passed before way stop lines round at is (inr 
     let count : suc passed ≡ lines.passed = omega (arith, behind.passed_is) in
     record {
       before = stop_cursor stop;
-      passes = subst (λ n. PassesRow true lines.passed (cursor_of ahead) (stop_cursor stop) [] (take n cells) lines.way) (sym behind.len)
-          (subst (λ n. PassesRow true n (cursor_of ahead) (stop_cursor stop) [] [] lines.way) count
-          (row_more passed (cursor_of ahead) before (stop_cursor stop) [] numbers [] way lines.way round.passes
-          (close_read before (stop_cursor stop) numbers way lines.way first close)));
+      passes = subst (λ n. PassesRow what lines.passed (cursor_of ahead) (stop_cursor stop) [] (take n cells) lines.way) (sym behind.len)
+          (subst (λ n. PassesRow what n (cursor_of ahead) (stop_cursor stop) [] [] lines.way) count
+          (row_more what on passed (cursor_of ahead) before (stop_cursor stop) [] numbers [] way lines.way round.passes
+          (close_read what before (stop_cursor stop) numbers way lines.way first close)));
       token = behind.token;
     }
 
@@ -175,16 +219,16 @@ path_len passed way stop lines cells is (inl there) = subst (λ n. n ≡ length 
 path_len passed way stop lines cells is (inr behind) = subst (λ n. n ≡ length (take n cells)) (sym behind.len) refl
 
 -- Numbers alone.
-pub front_all : (lines : Bool) (ahead : Ahead) (old new : List ℤ) (at : Stop) (stop : Lines) → (takes : Takes ahead old new at)
-    → stop.passed ≡ takes.count → stop.way ≡ no_way → IsTokenRead stop.token takes.before (lines_cursor stop) → TakesLines lines ahead old new stop
-front_all lines ahead old new at stop takes passed_is way_is read =
+pub front_all : (what : Passing) (ahead : Ahead) (old new : List ℤ) (at : Stop) (stop : Lines) → (takes : Takes ahead old new at)
+    → stop.passed ≡ takes.count → stop.way ≡ no_way → IsTokenRead stop.token takes.before (lines_cursor stop) → TakesLines what ahead old new stop
+front_all what ahead old new at stop takes passed_is way_is read =
     let none : 0 + takes.count ≡ takes.count = omega arith in
     record {
       before = takes.before;
-      passes = subst (λ n. PassesRow lines n (cursor_of ahead) takes.before old new stop.way) (sym passed_is)
-          (subst (λ w. PassesRow lines takes.count (cursor_of ahead) takes.before old new w) (sym way_is)
-          (subst (λ n. PassesRow lines n (cursor_of ahead) takes.before old new no_way) none
-          (row_numbers lines 0 takes.count (cursor_of ahead) (cursor_of ahead) takes.before old old new no_way (refl, (refl, refl)) takes.passes)));
+      passes = subst (λ n. PassesRow what n (cursor_of ahead) takes.before old new stop.way) (sym passed_is)
+          (subst (λ w. PassesRow what takes.count (cursor_of ahead) takes.before old new w) (sym way_is)
+          (subst (λ n. PassesRow what n (cursor_of ahead) takes.before old new no_way) none
+          (row_numbers what 0 takes.count (cursor_of ahead) (cursor_of ahead) takes.before old old new no_way (refl, (refl, refl)) takes.passes)));
       token = read;
     }
 

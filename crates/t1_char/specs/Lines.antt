@@ -1,11 +1,11 @@
--- Lines, curves and closepaths that a machine can pass with the numbers before them, and how far these lead.
+-- Lines, curves and closepaths, or moves, that a machine can pass with the numbers before them, and how far these lead.
 -- Type 1 Font Format 1.1, chapter 6.
 use Rattle.std.specs.Prelude.{◌≡◌, ◌⊎◌, ℕ, zero, suc, ℤ, pos, ◌+◌, ◌<◌, ◌*◌, ◌^◌, ◌+ℤ◌, ◌≤ℤ◌, ◌||◌, int_lt, Bool, true, false, Some, List, [], length, slice_get}
 use Rattle.std.specs.List.{list_any}
 use Rattle.t1_char.specs.declared.command.Command.{Command as Commands}
-use Rattle.t1_char.specs.declared.command.Command.TheVariants.{Rlineto, Hlineto, Vlineto, Rrcurveto, Vhcurveto, Hvcurveto, Closepath}
+use Rattle.t1_char.specs.declared.command.Command.TheVariants.{Rlineto, Hlineto, Vlineto, Rrcurveto, Vhcurveto, Hvcurveto, Closepath, Rmoveto, Hmoveto, Vmoveto}
 use Rattle.t1_char.specs.declared.lines.Drawn.{Drawn}
-use Rattle.t1_char.specs.declared.lines.Drawn.TheVariants.{Nothing, Open, Closed}
+use Rattle.t1_char.specs.declared.lines.Drawn.TheVariants.{Nothing, Moved, Open, Closed}
 use Rattle.t1_char.specs.declared.lines.Way.{Way}
 use Rattle.t1_char.specs.declared.lines.Passing.{Passing}
 use Rattle.t1_char.specs.declared.lines.Passing.TheVariants as passing
@@ -27,28 +27,60 @@ is_line_command Vhcurveto = true
 is_line_command Hvcurveto = true
 is_line_command _ = false
 
+abbrev pub is_move_command : Commands → Bool
+is_move_command Rmoveto = true
+is_move_command Hmoveto = true
+is_move_command Vmoveto = true
+is_move_command _ = false
+
+-- Which commands are passed, and whether any is, but for a closepath after a line.
+abbrev pub is_led : Passing → Commands → Bool
+is_led passing.Lines command = is_line_command command
+is_led passing.Moves command = is_move_command command
+is_led _ command = false
+
+abbrev pub leads : Passing → Bool
+leads passing.Lines = true
+leads passing.Moves = true
+leads _ = false
+
 -- A number past 32000 in absolute value.
 abbrev pub is_far : ℤ → Bool
 is_far z = int_lt greatest z || int_lt z least
 
--- The way of a line, of no step, of a line after others, and of lines with the closepath after them.
+-- The way of a line, of a move, of no step, of one way after another, and of lines with the closepath after them.
 abbrev pub way_at : ℤ → ℤ → Way
 way_at x y = record { x = x; y = y; drawn = Open }
+
+abbrev pub move_to : ℤ → ℤ → Way
+move_to x y = record { x = x; y = y; drawn = Moved 1 }
 
 abbrev pub no_way : Way
 no_way = record { x = pos 0; y = pos 0; drawn = Nothing }
 
+abbrev pub moves_in : Drawn → ℕ
+moves_in (Moved n) = n
+moves_in _ = 0
+
+abbrev pub drawn_after : Drawn → Drawn → Drawn
+drawn_after before (Moved m) = Moved (moves_in before + m)
+drawn_after before after = after
+
 abbrev pub further : Way → Way → Way
-further one other = way_at (one.x +ℤ other.x) (one.y +ℤ other.y)
+further one other = record { x = one.x +ℤ other.x; y = one.y +ℤ other.y; drawn = drawn_after one.drawn other.drawn }
 
 abbrev pub closed : Way → Way
 closed way = record way { drawn = Closed }
 
-abbrev pub is_closed : Drawn → Bool
-is_closed Closed = true
-is_closed _ = false
+-- Whether a command can be passed after what was drawn: a line neither after a closepath nor after a move, a move after moves alone.
+abbrev pub goes_on_from : Passing → Drawn → Bool
+goes_on_from what Nothing = true
+goes_on_from passing.Moves (Moved n) = true
+goes_on_from passing.Moves _ = false
+goes_on_from what Open = true
+goes_on_from what _ = false
 
--- How far a line or a curve leads: by the sum of its pairs.
+-- How far a line, a curve or a move leads: by the sum of its pairs.
 abbrev pub way_by : Commands → List ℤ → Way
 way_by Rlineto v = way_at (argument v 0) (argument v 1)
 way_by Hlineto v = way_at (argument v 0) (pos 0)
@@ -56,18 +88,21 @@ way_by Vlineto v = way_at (pos 0) (argument v 0)
 way_by Vhcurveto v = way_at (argument v 1 +ℤ argument v 3) (argument v 0 +ℤ argument v 2)
 way_by Hvcurveto v = way_at (argument v 0 +ℤ argument v 1) (argument v 2 +ℤ argument v 3)
 way_by Rrcurveto v = way_at (argument v 0 +ℤ argument v 2 +ℤ argument v 4) (argument v 1 +ℤ argument v 3 +ℤ argument v 5)
+way_by Rmoveto v = move_to (argument v 0) (argument v 1)
+way_by Hmoveto v = move_to (argument v 0) (pos 0)
+way_by Vmoveto v = move_to (pos 0) (argument v 0)
 way_by _ v = no_way
 
--- A line or a curve with exactly its arguments, none past 32000.
-pub record IsLine (command : Commands) (stack : List ℤ) : Type 0 where
-  pub line : is_line_command command ≡ true
+-- A line, a curve or a move, whichever is passed, with exactly its arguments, none past 32000.
+pub record IsLed (what : Passing) (command : Commands) (stack : List ℤ) : Type 0 where
+  pub led : is_led what command ≡ true
   pub count : arguments_of command ≡ Some (length stack)
   pub near : list_any is_far stack ≡ false
 
--- A line, where the path isn't closed, leads from one way to another.
-pub record LeadsOn (command : Commands) (stack : List ℤ) (before after : Way) : Type 0 where
-  pub is : IsLine command stack
-  pub unclosed : is_closed before.drawn ≡ false
+-- Such a command, where it can come, leads from one way to another.
+pub record LeadsOn (what : Passing) (command : Commands) (stack : List ℤ) (before after : Way) : Type 0 where
+  pub is : IsLed what command stack
+  pub from : goes_on_from what before.drawn ≡ true
   pub way : after ≡ further before (way_by command stack)
 
 -- A closepath without a number comes right after a line.
@@ -77,38 +112,34 @@ pub record ClosesPath (command : Commands) (stack : List ℤ) (before after : Wa
   pub drawn : before.drawn ≡ Open
   pub way : after ≡ closed before
 
-abbrev pub GoesOn : Commands → List ℤ → Way → Way → Type 0
-GoesOn command stack before after = LeadsOn command stack before after ⊎ ClosesPath command stack before after
+abbrev pub GoesOn : Passing → Commands → List ℤ → Way → Way → Type 0
+GoesOn what command stack before after = LeadsOn what command stack before after ⊎ ClosesPath command stack before after
 
 -- After k steps comes such a command, within the limit.
-pub record IsCommandPassed (limit : ℕ) (steps : List StepView) (k : ℕ) (before after : Way) : Type 0 where
+pub record IsCommandPassed (what : Passing) (limit : ℕ) (steps : List StepView) (k : ℕ) (before after : Way) : Type 0 where
   pub step : StepView
   pub command : Commands
   pub there : slice_get steps k ≡ Some step
   pub token : step.token ≡ Command command
   pub near : k < limit
-  pub goes_on : GoesOn command step.stack before after
+  pub goes_on : GoesOn what command step.stack before after
 
--- After k steps comes a number that the stack has room for, or, where lines are passed, such a command.
-abbrev pub PassesStep : Bool → ℕ → List StepView → ℕ → Way → Way → Type 0
-PassesStep lines limit steps k before after =
-    (IsPassed limit steps k × (after ≡ before)) ⊎ ((lines ≡ true) × IsCommandPassed limit steps k before after)
+-- After k steps comes a number that the stack has room for, or, where commands are passed, such a command.
+abbrev pub PassesStep : Passing → ℕ → List StepView → ℕ → Way → Way → Type 0
+PassesStep what limit steps k before after =
+    (IsPassed limit steps k × (after ≡ before)) ⊎ ((leads what ≡ true) × IsCommandPassed what limit steps k before after)
 
 -- So many steps after the first n are such, and lead so far.
-abbrev pub PassesSteps : Bool → ℕ → List StepView → ℕ → ℕ → Way → Type 0
-PassesSteps lines limit steps n zero way = way ≡ no_way
-PassesSteps lines limit steps n (suc k) way =
-    (before : Way) × (PassesSteps lines limit steps n k before × PassesStep lines limit steps (n + k) before way)
-
-abbrev pub is_lines : Passing → Bool
-is_lines passing.Lines = true
-is_lines _ = false
+abbrev pub PassesSteps : Passing → ℕ → List StepView → ℕ → ℕ → Way → Type 0
+PassesSteps what limit steps n zero way = way ≡ no_way
+PassesSteps what limit steps n (suc k) way =
+    (before : Way) × (PassesSteps what limit steps n k before × PassesStep what limit steps (n + k) before way)
 
 -- After n calls a machine passes some steps. It returns what the call after these returns, and this counts as one
 -- call more.
 pub record IsAskedFarBehind (what : Passing) (limit : ℕ) (steps : List StepView) (n calls : ℕ) (answer : TurnValue) (way : Way) : Type 0 where
   pub taken : ℕ
-  pub passed : PassesSteps (is_lines what) limit steps n taken way
+  pub passed : PassesSteps what limit steps n taken way
   pub told : what ≡ passing.Told → taken ≡ 0
   pub turn : answer ≡ turn_at limit steps (n + taken)
   pub counted : calls ≡ counted_after limit steps (n + taken)

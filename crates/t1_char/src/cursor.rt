@@ -139,6 +139,19 @@ impl<'a> Cursor<'a> {
         }
     }
 
+    /// What is left, where it isn't short.
+    pub(crate) fn ahead(&self) -> Option<Ahead<'a>>
+        ensures { IfSome result (λ ahead. cursor_of ahead ≡ self.now) }
+    {
+        if self.short {
+            return None;
+        }
+        Some(Ahead {
+            left: self.left,
+            cipher: self.cipher,
+        })
+    }
+
     /// What is left, where it is neither enciphered nor short and begins with a number: before a command nothing is passed.
     #[inline(always)]
     pub(crate) fn unenciphered(&self) -> Option<Ahead<'a>>

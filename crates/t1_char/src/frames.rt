@@ -11,18 +11,17 @@ ghost use Rattle.t1_char.specs.Private.Cursors.{AtFirst, behind_token, cursor_of
 ghost use Rattle.t1_char.specs.Private.Advancing.{Advances, ReadsToken};
 ghost use Rattle.t1_char.specs.Private.Taking.{IsTokenRead};
 ghost use Rattle.t1_char.specs.declared.cursor.Cursor.{Cursor};
-ghost use Rattle.t1_char.specs.Lines.{is_lines};
 ghost use Rattle.t1_char.specs.Stacks.{most_numbers};
 ghost use Rattle.t1_char.specs.Private.Frames.{IsReady, state_in, step_here, steps_behind, steps_from};
 ghost use Rattle.t1_char.specs.declared.edition.Edition.TheVariants.{Two};
 ghost use Rattle.t1_char.specs.Editions.{limit_of};
-ghost use Rattle.t1_char.specs.declared.lines.Passing.TheVariants.{Told};
+ghost use Rattle.t1_char.specs.declared.lines.Passing.TheVariants.{Told, Moves};
 
 use crate::action::Action;
 use crate::charstrings::{code_at, cursor_at};
 use crate::cursor::{Ahead, Cursor};
 use crate::effect::{Waiting, apply, apply_plain};
-use crate::lines::{Passing, Way, is_any, is_lines};
+use crate::lines::{Passing, Way, is_any, is_moves};
 use crate::stack::{MOST_NUMBERS, Stack};
 use crate::step::{MOST_CALLS, Step, is_last, named_at};
 use crate::subr::Subr;
@@ -176,7 +175,7 @@ impl<'a> Frames<'a> {
         requires counted { counted ≤ limit }
         requires few { limit ≤ limit_of Two }
         requires even { length self.old.step.path.items ≡ length self.old.callers.items }
-        ensures over { Advances (is_lines passing) limit font.now counted self.old result.before result.way self.new }
+        ensures over { Advances passing limit font.now counted self.old result.before result.way self.new }
         ensures told { passing ≡ Told → result.before ≡ counted }
         ensures near { result.before ≤ limit }
     {
@@ -190,15 +189,19 @@ impl<'a> Frames<'a> {
     fn go_over(&mut self, passing: Passing, font: &'a Font<'a>, counted: u32, limit: u32) -> Gone
         requires counted { counted ≤ limit }
         requires few { limit ≤ limit_of Two }
-        ensures over { ReadsToken (is_lines passing) limit font.now counted self.old result.before result.way self.new }
+        ensures over { ReadsToken passing limit font.now counted self.old result.before result.way self.new }
         ensures path { self.new.step.path.items ≡ self.old.step.path.items }
         ensures callers { self.new.callers.items ≡ self.old.callers.items }
         ensures told { passing ≡ Told → result.before ≡ counted }
         ensures near { result.before ≤ limit }
     {
         if has_room(counted, limit) && is_any(passing) {
+            if is_moves(passing) {
+                let before = self.go_over_moves(font, counted, limit);
+                return self.gone(before);
+            }
             if let Some(ahead) = self.current.enciphered() {
-                return self.go_over_far(ahead, font, counted, limit, is_lines(passing));
+                return self.go_over_far(ahead, font, counted, limit, passing);
             }
             if !self.step.stack.is_full() {
                 if let Some(ahead) = self.current.unenciphered() {
@@ -207,16 +210,9 @@ impl<'a> Frames<'a> {
                         font,
                         counted,
                         limit,
-                        is_lines(passing),
+                        passing,
                     );
-                    return Gone {
-                        before,
-                        way: Way {
-                            x: self.way.x,
-                            y: self.way.y,
-                            drawn: self.way.drawn,
-                        },
-                    };
+                    return self.gone(before);
                 }
             }
         }
@@ -225,6 +221,51 @@ impl<'a> Frames<'a> {
             before: counted,
             way: Way::NONE,
         }
+    }
+
+    /// How many steps were executed, and the way that is kept.
+    #[inline(always)]
+    fn gone(&self, before: u32) -> Gone
+        ensures before { result.before ≡ before }
+        ensures way { result.way ≡ self.now.way }
+    {
+        Gone {
+            before,
+            way: Way {
+                x: self.way.x,
+                y: self.way.y,
+                drawn: self.way.drawn,
+            },
+        }
+    }
+
+    /// The same far from the limit, where moves are passed. It keeps the way, and returns how many steps are before the one
+    /// that it reads.
+    #[inline(never)]
+    fn go_over_moves(&mut self, font: &'a Font<'a>, counted: u32, limit: u32) -> u32
+        requires far { counted + most_numbers ≤ limit }
+        requires few { limit ≤ limit_of Two }
+        ensures over { ReadsToken Moves limit font.now counted self.old result self.new.way self.new }
+        ensures path { self.new.step.path.items ≡ self.old.step.path.items }
+        ensures callers { self.new.callers.items ≡ self.old.callers.items }
+        ensures near { result ≤ limit }
+    {
+        if self.step.stack.is_empty() {
+            if let Some(ahead) = self.current.ahead() {
+                let stop = self.step.stack.take_moves(ahead, limit - counted);
+                self.current = Cursor {
+                    left: stop.left,
+                    cipher: stop.cipher,
+                    short: false,
+                };
+                self.take_token(stop.token);
+                self.way = stop.way;
+                return counted + stop.passed;
+            }
+        }
+        self.read_token();
+        self.way = Way::NONE;
+        counted
     }
 
     /// The same of a charstring without encryption far from the limit, where numbers are passed. It keeps the way, and returns how
@@ -236,18 +277,18 @@ impl<'a> Frames<'a> {
         font: &'a Font<'a>,
         counted: u32,
         limit: u32,
-        lines: bool,
+        passing: Passing,
     ) -> u32
         requires ahead { plain_cursor left ≡ self.old.current }
         requires far { counted + most_numbers ≤ limit }
         requires few { limit ≤ limit_of Two }
-        ensures over { ReadsToken lines limit font.now counted self.old result self.new.way self.new }
+        ensures over { ReadsToken passing limit font.now counted self.old result self.new.way self.new }
         ensures path { self.new.step.path.items ≡ self.old.step.path.items }
         ensures callers { self.new.callers.items ≡ self.old.callers.items }
         ensures near { result ≤ limit }
     {
         let ahead = Ahead { left, cipher: None };
-        let gone = self.go_over_far(ahead, font, counted, limit, lines);
+        let gone = self.go_over_far(ahead, font, counted, limit, passing);
         self.way.x = gone.way.x;
         self.way.y = gone.way.y;
         self.way.drawn = gone.way.drawn;
@@ -262,17 +303,17 @@ impl<'a> Frames<'a> {
         font: &'a Font<'a>,
         counted: u32,
         limit: u32,
-        lines: bool,
+        passing: Passing,
     ) -> Gone
         requires ahead { cursor_of ahead ≡ self.old.current }
         requires far { counted + most_numbers ≤ limit }
         requires few { limit ≤ limit_of Two }
-        ensures over { ReadsToken lines limit font.now counted self.old result.before result.way self.new }
+        ensures over { ReadsToken passing limit font.now counted self.old result.before result.way self.new }
         ensures path { self.new.step.path.items ≡ self.old.step.path.items }
         ensures callers { self.new.callers.items ≡ self.old.callers.items }
         ensures near { result.before ≤ limit }
     {
-        let stop = self.step.stack.take_lines(ahead, limit - counted, lines);
+        let stop = self.step.stack.take_lines(ahead, limit - counted, passing);
         self.current = Cursor {
             left: stop.left,
             cipher: stop.cipher,

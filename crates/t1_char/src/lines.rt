@@ -1,14 +1,14 @@
-//! Lines, curves and closepaths that a machine passes: Type 1 Font Format 1.1, chapter 6.
+//! Lines, curves and closepaths, or moves, that a machine passes: Type 1 Font Format 1.1, chapter 6.
 
-ghost use Rattle.std.specs.Prelude.{◌≡◌, ◌+ℤ◌, ◌+◌, ◌<◌, ℕ, List, false, true, IfSome};
+ghost use Rattle.std.specs.Prelude.{◌≡◌, ◌+ℤ◌, ◌+◌, ◌<◌, ◌≤◌, ℕ, List, false, true, IfSome};
 ghost use Rattle.std.specs.List.{list_any};
 ghost use Rattle.t1_char.specs.declared.lines.Drawn.TheVariants.{Open};
-ghost use Rattle.t1_char.specs.declared.lines.Passing.TheVariants.{Told};
+ghost use Rattle.t1_char.specs.declared.lines.Passing.TheVariants.{Told, Lines, Moves};
 ghost use Rattle.t1_char.specs.Arguments.{argument};
 ghost use Rattle.t1_char.specs.Tokens.{more_of, token_at};
-ghost use Rattle.t1_char.specs.Private.Taking.{IsLineOf};
+ghost use Rattle.t1_char.specs.Private.Taking.{IsLedBy};
 ghost use Rattle.t1_char.specs.Private.Sums.{SumFits};
-ghost use Rattle.t1_char.specs.Lines.{IsLine, IsWayNear, IsWithin, argument_reach, is_line_command, is_lines, way_reach, closed, further, is_far, way_at, way_by};
+ghost use Rattle.t1_char.specs.Lines.{IsLed, IsWayNear, IsWithin, argument_reach, closed, drawn_after, further, is_far, is_led, leads, move_to, moves_in, way_at, way_by, way_reach};
 
 use crate::command::Command;
 
@@ -21,14 +21,24 @@ pub enum Passing {
     Numbers,
     /// And lines and curves with exactly their arguments, none past 32000, and a closepath right after these.
     Lines,
+    /// Numbers, and moves with exactly their arguments, none past 32000.
+    Moves,
 }
 
 /// Whether lines are passed.
 #[inline(always)]
 pub(crate) fn is_lines(passing: Passing) -> bool
-    ensures { result ≡ is_lines passing }
+    ensures { result ≡ true → passing ≡ Lines }
 {
     matches!(passing, Passing::Lines)
+}
+
+/// Whether moves are passed.
+#[inline(always)]
+pub(crate) fn is_moves(passing: Passing) -> bool
+    ensures { result ≡ true → passing ≡ Moves }
+{
+    matches!(passing, Passing::Moves)
 }
 
 /// Whether steps are passed.
@@ -43,6 +53,8 @@ pub(crate) fn is_any(passing: Passing) -> bool
 #[derive(Clone, Copy, Debug, PartialEq, Eq)]
 pub enum Drawn {
     Nothing,
+    /// Moves alone, so many.
+    Moved(u32),
     /// Lines and curves.
     Open,
     /// Lines and curves, and the closepath after them.
@@ -57,6 +69,32 @@ pub struct Way {
     pub drawn: Drawn,
 }
 
+impl Drawn {
+    /// How many moves there are.
+    #[inline(always)]
+    fn moves(self) -> u32
+        ensures { result ≡ moves_in self }
+    {
+        match self {
+            Drawn::Moved(count) => count,
+            _ => 0,
+        }
+    }
+
+    /// What is drawn with this after it.
+    #[inline(always)]
+    fn further(self, other: Drawn) -> Drawn
+        requires few { moves_in self < 16777216 }
+        requires one { moves_in other ≤ 1 }
+        ensures { result ≡ drawn_after self other }
+    {
+        match other {
+            Drawn::Moved(count) => Drawn::Moved(self.moves() + count),
+            _ => other,
+        }
+    }
+}
+
 impl Way {
     /// The way of no step.
     pub(crate) const NONE: Way = Way {
@@ -65,19 +103,22 @@ impl Way {
         drawn: Drawn::Nothing,
     };
 
-    /// Returns this way with a line after it.
+    /// Returns this way with that of one more command after it.
     #[inline(always)]
     pub(crate) fn further(self, other: Way, count: u32) -> Way
         requires few { count < 16777216 }
         requires near { IsWayNear count self }
+        requires moves { moves_in self.drawn ≤ count }
         requires one { IsWayNear 1 other }
+        requires once { moves_in other.drawn ≤ 1 }
         ensures value { result ≡ further self other }
         ensures near { IsWayNear (count + 1) result }
+        ensures moves { moves_in result.drawn ≤ count + 1 }
     {
         Way {
             x: sum(self.x, other.x),
             y: sum(self.y, other.y),
-            drawn: Drawn::Open,
+            drawn: self.drawn.further(other.drawn),
         }
     }
 
@@ -106,9 +147,10 @@ impl Way {
 #[inline(always)]
 pub(crate) fn line_at(first: u8, numbers: &[i64]) -> Option<Way>
     requires { list_any is_far numbers.now ≡ false }
-    ensures line { IfSome result (λ way. (rest : List ℕ) → IsLineOf (token_at first rest) numbers.now way) }
+    ensures line { IfSome result (λ way. (rest : List ℕ) → IsLedBy Lines (token_at first rest) numbers.now way) }
     ensures more { IfSome result (λ way. more_of first ≡ 0) }
     ensures near { IfSome result (λ way. IsWayNear 1 way) }
+    ensures moves { IfSome result (λ way. moves_in way.drawn ≡ 0) }
 {
     match first {
         5 => line_way(Command::Rlineto, numbers),
@@ -125,9 +167,10 @@ pub(crate) fn line_at(first: u8, numbers: &[i64]) -> Option<Way>
 #[inline(always)]
 fn line_way(command: Command, numbers: &[i64]) -> Option<Way>
     requires { list_any is_far numbers.now ≡ false }
-    ensures line { IfSome result (λ way. IsLine command numbers.now) }
+    ensures line { IfSome result (λ way. IsLed Lines command numbers.now) }
     ensures value { IfSome result (λ way. way ≡ way_by command numbers.now) }
     ensures near { IfSome result (λ way. IsWayNear 1 way) }
+    ensures moves { IfSome result (λ way. moves_in way.drawn ≡ 0) }
 {
     match command {
         Command::Rlineto if has_just_its_arguments(Command::Rlineto, numbers) => {
@@ -149,6 +192,60 @@ fn line_way(command: Command, numbers: &[i64]) -> Option<Way>
             Some(way_at(three(numbers, 0, 2, 4), three(numbers, 1, 3, 5)))
         }
         _ => None,
+    }
+}
+
+/// How far the move leads that a byte alone writes, if it has just its arguments.
+#[inline(always)]
+pub(crate) fn move_at(first: u8, numbers: &[i64]) -> Option<Way>
+    requires { list_any is_far numbers.now ≡ false }
+    ensures led { IfSome result (λ way. (rest : List ℕ) → IsLedBy Moves (token_at first rest) numbers.now way) }
+    ensures more { IfSome result (λ way. more_of first ≡ 0) }
+    ensures near { IfSome result (λ way. IsWayNear 1 way) }
+    ensures moves { IfSome result (λ way. moves_in way.drawn ≡ 1) }
+{
+    match first {
+        4 => move_way(Command::Vmoveto, numbers),
+        21 => move_way(Command::Rmoveto, numbers),
+        22 => move_way(Command::Hmoveto, numbers),
+        _ => None,
+    }
+}
+
+/// How far a move leads, if it has just its arguments.
+#[inline(always)]
+fn move_way(command: Command, numbers: &[i64]) -> Option<Way>
+    requires { list_any is_far numbers.now ≡ false }
+    ensures led { IfSome result (λ way. IsLed Moves command numbers.now) }
+    ensures value { IfSome result (λ way. way ≡ way_by command numbers.now) }
+    ensures near { IfSome result (λ way. IsWayNear 1 way) }
+    ensures moves { IfSome result (λ way. moves_in way.drawn ≡ 1) }
+{
+    match command {
+        Command::Rmoveto if has_just_its_arguments(Command::Rmoveto, numbers) => {
+            Some(move_to(one(numbers, 0), one(numbers, 1)))
+        }
+        Command::Hmoveto if has_just_its_arguments(Command::Hmoveto, numbers) => {
+            Some(move_to(one(numbers, 0), 0))
+        }
+        Command::Vmoveto if has_just_its_arguments(Command::Vmoveto, numbers) => {
+            Some(move_to(0, one(numbers, 0)))
+        }
+        _ => None,
+    }
+}
+
+#[inline(always)]
+fn move_to(x: i64, y: i64) -> Way
+    requires x { IsWithin way_reach x }
+    requires y { IsWithin way_reach y }
+    ensures value { result ≡ move_to x y }
+    ensures near { IsWayNear 1 result }
+{
+    Way {
+        x,
+        y,
+        drawn: Drawn::Moved(1),
     }
 }
 
@@ -218,11 +315,12 @@ fn three(numbers: &[i64], one: usize, two: usize, three: usize) -> i64
     )
 }
 
-/// Whether a line or a curve takes exactly so many numbers.
+/// Whether a command takes exactly so many numbers.
 #[inline(always)]
 fn has_just_its_arguments(command: Command, numbers: &[i64]) -> bool
     requires { list_any is_far numbers.now ≡ false }
-    ensures { result ≡ true → is_line_command command ≡ true → IsLine command numbers.now }
+    ensures line { result ≡ true → is_led Lines command ≡ true → IsLed Lines command numbers.now }
+    ensures moves { result ≡ true → is_led Moves command ≡ true → IsLed Moves command numbers.now }
 {
     match command.arguments() {
         Some(count) => usize::from(count) == numbers.len(),

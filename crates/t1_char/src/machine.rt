@@ -3,7 +3,7 @@
 ghost use Rattle.std.specs.Prelude.{◌≡◌, ◌<◌, ◌≤◌, ◌+◌, length};
 ghost use Rattle.t1_char.specs.Editions.{limit_of};
 ghost use Rattle.t1_char.specs.Asking.{IsAsked};
-ghost use Rattle.t1_char.specs.Lines.{IsAskedFar, is_lines};
+ghost use Rattle.t1_char.specs.Lines.{IsAskedFar, leads};
 ghost use Rattle.t1_char.specs.declared.machine.Numbers.TheVariants.{Told};
 ghost use Rattle.t1_char.specs.declared.lines.Passing.TheVariants as passing;
 ghost use Rattle.std.specs.Prelude.{false};
@@ -99,7 +99,7 @@ pub struct Machine<'a> {
 /// The same without lines.
 #[inline(always)]
 fn passing_of(numbers: Numbers) -> Passing
-    ensures lines { is_lines result ≡ false }
+    ensures leads { leads result ≡ false }
     ensures told { numbers ≡ Told → result ≡ passing.Told }
 {
     match numbers {
@@ -211,7 +211,7 @@ impl<'a> Machine<'a> {
         far.answer
     }
 
-    /// The same with lines, and the way of the passed ones.
+    /// The same with lines or moves, and the way of the passed ones.
     #[inline(always)]
     pub fn go_far(&mut self, passing: Passing) -> Far
         ensures asked { IsAskedFar passing self.old self.new (answer_view result.answer self.new.step) result.way }

@@ -2,10 +2,12 @@
 
 ghost use Rattle.std.specs.Prelude.{◌≡◌, ◌≤◌, ◌<◌, [], length, nat_eq, nat_le};
 ghost use Rattle.t1_char.specs.Stacks.{from_top, most_numbers, put, without};
+ghost use Rattle.t1_char.specs.declared.lines.Passing.TheVariants.{Moves};
 ghost use Rattle.t1_char.specs.Private.Taking.{TakesLines};
 
 use crate::cursor::Ahead;
-use crate::taking::{Lines, take_lines};
+use crate::lines::Passing;
+use crate::taking::{Lines, take_lines, take_path};
 use std::marker::Model;
 
 /// The most numbers that a stack holds: Type 1 Font Format 1.1, chapter 6.
@@ -100,16 +102,30 @@ impl Stack {
         }
     }
 
-    /// Takes the numbers that come next while there is room, and with `lines` also the lines and curves after them:
+    /// Takes the numbers that come next while there is room, and where lines are passed also these and curves after them:
     /// `room` steps at most.
     #[inline(always)]
-    pub(crate) fn take_lines<'a>(&mut self, ahead: Ahead<'a>, room: u32, lines: bool) -> Lines<'a>
+    pub(crate) fn take_lines<'a>(&mut self, ahead: Ahead<'a>, room: u32, passing: Passing) -> Lines<'a>
         requires room { most_numbers ≤ room }
         requires limited { room < 16777216 }
-        ensures takes { TakesLines lines ahead.entry self.old self.new result }
+        ensures takes { TakesLines passing ahead.entry self.old self.new result }
         ensures near { result.passed ≤ room }
     {
-        let stop = take_lines(&mut self.cells, self.len, ahead, room, lines);
+        let stop = take_lines(&mut self.cells, self.len, ahead, room, passing);
+        self.len = stop.len;
+        stop
+    }
+
+    /// Takes the moves that come next with their numbers: `room` steps at most. There is no number yet.
+    #[inline(always)]
+    pub(crate) fn take_moves<'a>(&mut self, ahead: Ahead<'a>, room: u32) -> Lines<'a>
+        requires none { self.old ≡ [] }
+        requires room { most_numbers ≤ room }
+        requires limited { room < 16777216 }
+        ensures takes { TakesLines Moves ahead.entry self.old self.new result }
+        ensures near { result.passed ≤ room }
+    {
+        let stop = take_path(&mut self.cells, ahead, room, Passing::Moves);
         self.len = stop.len;
         stop
     }

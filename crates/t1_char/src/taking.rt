@@ -1,17 +1,18 @@
-//! Numbers and lines that are taken from a charstring in a row: Type 1 Font Format 1.1, chapter 6. What is left of the
+//! Numbers, and lines or moves, that are taken from a charstring in a row: Type 1 Font Format 1.1, chapter 6. What is left of the
 //! charstring is copied field by field, so that it stays in registers.
 
-ghost use Rattle.std.specs.Prelude.{◌≡◌, ◌+◌, ◌<◌, ◌≤◌, [], Bool, IfSome, false, length, take, true, Some};
+ghost use Rattle.std.specs.Prelude.{◌≡◌, ◌+◌, ◌<◌, ◌≤◌, [], IfSome, false, length, take, true, Some};
 ghost use Rattle.std.specs.List.{list_any};
-ghost use Rattle.t1_char.specs.Lines.{IsWayNear, IsWithin, is_far};
+ghost use Rattle.t1_char.specs.Lines.{IsWayNear, IsWithin, is_far, leads, moves_in};
+ghost use Rattle.t1_char.specs.declared.lines.Passing.{Passing as Passings};
 ghost use Rattle.t1_char.specs.Numbers.{units};
 ghost use Rattle.t1_char.specs.Stacks.{most_numbers, put};
 ghost use Rattle.t1_char.specs.Private.Cursors.{cursor_of};
-ghost use Rattle.t1_char.specs.Private.Taking.{Finishes, IsLineFirst, IsTokenRead, StopsAt, Takes, TakesLines, closepath_byte, lines_cursor, stop_cursor};
+ghost use Rattle.t1_char.specs.Private.Taking.{Finishes, IsLedFirst, IsTokenRead, StopsAt, Takes, TakesLines, closepath_byte, lines_cursor, stop_cursor};
 ghost use Rattle.t1_char.specs.declared.cursor.Cursor.{Cursor};
 
 use crate::cursor::Ahead;
-use crate::lines::{Way, line_at};
+use crate::lines::{Passing, Way, is_lines, line_at, move_at};
 use crate::numbers::UNIT;
 use crate::stack::MOST_NUMBERS;
 use crate::token::CharToken;
@@ -119,26 +120,26 @@ pub(crate) struct Lines<'a> {
     pub(crate) way: Way,
 }
 
-/// Takes the numbers that come next, as long as there is room, and with `lines` the lines and curves after them, as long as
-/// there is room for a full stack of steps more.
+/// Takes the numbers that come next, as long as there is room, and where lines are passed these and curves after them, as
+/// long as there is room for a full stack of steps more.
 #[inline(always)]
 pub(crate) fn take_lines<'a>(
     cells: &mut [i64; MOST_NUMBERS],
     len: usize,
     ahead: Ahead<'a>,
     room: u32,
-    lines: bool,
+    passing: Passing,
 ) -> Lines<'a>
     requires few { len ≤ most_numbers }
     requires room { most_numbers ≤ room }
     requires limited { room < 16777216 }
-    ensures takes { TakesLines lines ahead.entry (take len cells.old) (take result.len cells.new) result }
+    ensures takes { TakesLines passing ahead.entry (take len cells.old) (take result.len cells.new) result }
     ensures few { result.len ≤ most_numbers }
     ensures len { result.len ≡ length (take result.len cells.new) }
     ensures near { result.passed ≤ room }
 {
-    if lines && len == 0 {
-        take_path(cells, ahead, room)
+    if is_lines(passing) && len == 0 {
+        take_path(cells, ahead, room, Passing::Lines)
     } else {
         take_front(cells, len, ahead)
     }
@@ -148,7 +149,7 @@ pub(crate) fn take_lines<'a>(
 #[inline(always)]
 fn take_front<'a>(cells: &mut [i64; MOST_NUMBERS], len: usize, ahead: Ahead<'a>) -> Lines<'a>
     requires few { len ≤ most_numbers }
-    ensures takes { (lines : Bool) → TakesLines lines ahead.entry (take len cells.old) (take result.len cells.new) result }
+    ensures takes { (what : Passings) → TakesLines what ahead.entry (take len cells.old) (take result.len cells.new) result }
     ensures few { result.len ≤ most_numbers }
     ensures len { result.len ≡ length (take result.len cells.new) }
     ensures near { result.passed ≤ most_numbers }
@@ -158,13 +159,19 @@ fn take_front<'a>(cells: &mut [i64; MOST_NUMBERS], len: usize, ahead: Ahead<'a>)
     finish(stop, passed, Way::NONE)
 }
 
-/// Takes lines and curves with the numbers before them, as long as there is room for a full stack of steps more, and the
-/// closepath after them.
+/// Takes lines and curves, or moves, with the numbers before them, as long as there is room for a full stack of steps more,
+/// and the closepath after lines.
 #[inline(always)]
-fn take_path<'a>(cells: &mut [i64; MOST_NUMBERS], ahead: Ahead<'a>, room: u32) -> Lines<'a>
+pub(crate) fn take_path<'a>(
+    cells: &mut [i64; MOST_NUMBERS],
+    ahead: Ahead<'a>,
+    room: u32,
+    passing: Passing,
+) -> Lines<'a>
+    requires leads { leads passing ≡ true }
     requires room { most_numbers ≤ room }
     requires limited { room < 16777216 }
-    ensures takes { TakesLines true ahead.entry [] (take result.len cells.new) result }
+    ensures takes { TakesLines passing ahead.entry [] (take result.len cells.new) result }
     ensures few { result.len ≤ most_numbers }
     ensures len { result.len ≡ length (take result.len cells.new) }
     ensures near { result.passed ≤ room }
@@ -178,7 +185,7 @@ fn take_path<'a>(cells: &mut [i64; MOST_NUMBERS], ahead: Ahead<'a>, room: u32) -
     loop {
         let stop = take_numbers(cells, 0, ahead);
         passed += stop.len as u32;
-        match line_of(stop.first, &cells[..stop.len]) {
+        match led_by(passing, stop.first, &cells[..stop.len]) {
             Some(one) if room - passed > MOST_NUMBERS as u32 => {
                 way = way.further(one, passed);
                 passed += 1;
@@ -246,16 +253,18 @@ fn stop_at<'a>(ahead: Ahead<'a>) -> Stop<'a>
     }
 }
 
-/// How far the line leads that has this first byte, if there is one.
+/// How far the line or the move leads that has this first byte, if there is one that is passed.
 #[inline(always)]
-fn line_of(first: Option<u8>, numbers: &[i64]) -> Option<Way>
+fn led_by(passing: Passing, first: Option<u8>, numbers: &[i64]) -> Option<Way>
     requires { list_any is_far numbers.now ≡ false }
-    ensures line { IfSome result (λ way. IsLineFirst first numbers.now way) }
+    ensures led { IfSome result (λ way. IsLedFirst passing first numbers.now way) }
     ensures near { IfSome result (λ way. IsWayNear 1 way) }
+    ensures moves { IfSome result (λ way. moves_in way.drawn ≤ 1) }
 {
-    match first {
-        Some(first) => line_at(first, numbers),
-        None => None,
+    match (passing, first) {
+        (Passing::Lines, Some(first)) => line_at(first, numbers),
+        (Passing::Moves, Some(first)) => move_at(first, numbers),
+        _ => None,
     }
 }
 

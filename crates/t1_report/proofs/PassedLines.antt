@@ -1,4 +1,4 @@
--- Numbers, lines and closepaths that a machine passes, while the watchers are calm, or in the midst of a path.
+-- Numbers, lines, closepaths and moves that a machine passes, while the watchers are calm, or in the midst of a path.
 use Rattle.std.proofs.Common.{◌≡◌, ℕ, ℤ, zero, suc, ◌+◌, ◌-◌, ◌<◌, ◌≤◌, inl, inr, Bool, true, false, List, [], ◌∷◌, ◌++◌, length, length-take, take, refl, sym, ap, subst, ◌∙◌, le-ltb, lt-ltb, nat_lt, arith}
 use Rattle.std.proofs.lemmas.Int.{ints}
 use Rattle.std.proofs.lemmas.Bool.{cases_lt}
@@ -7,9 +7,9 @@ use Rattle.t1_char.specs.declared.command.Command.{Command as Commands}
 use Rattle.t1_char.specs.declared.lines.Passing.{Passing}
 use Rattle.t1_char.specs.declared.lines.Passing.TheVariants as passing
 use Rattle.t1_char.specs.declared.edition.Edition.{Edition}
-use Rattle.t1_char.specs.declared.command.Command.TheVariants.{Closepath}
+use Rattle.t1_char.specs.declared.command.Command.TheVariants.{Closepath, Rlineto}
 use Rattle.t1_char.specs.declared.lines.Drawn.{Drawn}
-use Rattle.t1_char.specs.declared.lines.Drawn.TheVariants.{Nothing, Open, Closed}
+use Rattle.t1_char.specs.declared.lines.Drawn.TheVariants.{Nothing, Moved, Open, Closed}
 use Rattle.t1_char.specs.declared.lines.Way.{Way}
 use Rattle.t1_char.specs.Seacs.{is_seac}
 use Rattle.t1_char.specs.declared.machine.Answer.{Answer}
@@ -19,7 +19,7 @@ use Rattle.t1_char.specs.declared.step.Step.{Step}
 use Rattle.t1_char.specs.declared.token.CharToken.TheVariants.{Command}
 use Rattle.t1_char.specs.AnswerViews.{answer_view, is_limit, is_over}
 use Rattle.t1_char.specs.Editions.{limit_of}
-use Rattle.t1_char.specs.Lines.{GoesOn, IsAskedFar, IsCommandPassed, LeadsOn, PassesStep, PassesSteps, closed, further, is_closed, is_lines, no_way, way_by}
+use Rattle.t1_char.specs.Lines.{GoesOn, IsAskedFar, IsCommandPassed, LeadsOn, PassesStep, PassesSteps, closed, drawn_after, further, goes_on_from, is_led, leads, no_way, way_by}
 use Rattle.t1_char.specs.Passing.{IsPassed}
 use Rattle.t1_char.specs.Steps.{StepView, steps_of}
 use Rattle.t1_char.specs.StepValues.{step_value}
@@ -34,10 +34,10 @@ use Rattle.t1_rules.specs.Components.{components_of}
 use Rattle.t1_rules.specs.StepRules.{StepRule, breaks, breaks_next, component_rules, step_rules}
 use Rattle.t1_rules.specs.Private.Standing.{WatchesStandFor}
 use Rattle.t1_rules.specs.StepRules.Flex.{at}
-use Rattle.t1_rules.specs.Steady.{IsSteady, closed_on, drawn_on, led_by, moved_on, point_on}
+use Rattle.t1_rules.specs.Steady.{IsSteady, IsUndrawn, closed_on, drawn_on, led_by, moved_on, point_on}
 use Rattle.t1_rules.specs.Watches.{IsCalm, IsNear, most_steps}
 use Rattle.t1_rules.proofs.Lemmas.Flex.{plus_origin}
-use Rattle.t1_rules.proofs.Lemmas.Lines.{IsDrawn, line_open, line_token, no_fault_at_close, no_fault_at_line, stays_at_close, stays_at_line}
+use Rattle.t1_rules.proofs.Lemmas.Lines.{IsDrawn, line_open, line_token, move_once, move_token, no_fault_at_close, no_fault_at_line, no_fault_at_move, stays_at_close, stays_at_line, stays_at_move}
 use Rattle.t1_report.specs.Checked.{CheckedFont, step_limit}
 use Rattle.t1_report.specs.Reports.{is_broken, rules_of}
 use Rattle.t1_report.specs.Laws.PassedLines.{PassedLinesBreakNoRule, WatchersMoveOnByLines}
@@ -53,18 +53,37 @@ use Rattle.t1_report.proofs.RunSteps.{IsRunAt, IsTold, count_at_end, run_at, tol
 calm_on : (w : Watches) (way : Way) → IsCalm w → IsCalm (moved_on w way)
 calm_on w way calm = by_drawn way.drawn
   where
-    by_drawn : (drawn : Drawn) → IsCalm (record (led_by drawn w) { flex = record w.flex { point = point_on w.flex.point way } })
+    by_drawn : (drawn : Drawn) → IsCalm (record (led_by drawn w) { flex = record (led_by drawn w).flex { point = point_on w.flex.point way } })
     by_drawn Nothing = record { replaced = calm.replaced; hints_popped = calm.hints_popped; ended = calm.ended; popped = calm.popped; popped_twice = calm.popped_twice }
+    by_drawn (Moved n) = record { replaced = calm.replaced; hints_popped = calm.hints_popped; ended = calm.ended; popped = calm.popped; popped_twice = calm.popped_twice }
     by_drawn Open = record { replaced = calm.replaced; hints_popped = calm.hints_popped; ended = calm.ended; popped = calm.popped; popped_twice = calm.popped_twice }
     by_drawn Closed = record { replaced = calm.replaced; hints_popped = calm.hints_popped; ended = calm.ended; popped = calm.popped; popped_twice = calm.popped_twice }
 
-steady_on : (w : Watches) (way : Way) → is_closed way.drawn ≡ false → IsSteady w → IsSteady (moved_on w way)
-steady_on w way unclosed steady = by_drawn way.drawn unclosed
+-- Nothing comes right after a closepath.
+not_from : (what : Passing) → goes_on_from what Closed ≡ true → ⊥
+not_from passing.Told is = let no : false ≡ true = is in cc
+not_from passing.Numbers is = let no : false ≡ true = is in cc
+not_from passing.Lines is = let no : false ≡ true = is in cc
+not_from passing.Moves is = let no : false ≡ true = is in cc
+
+steady_on : (what : Passing) (w : Watches) (way : Way) → goes_on_from what way.drawn ≡ true → IsSteady w → IsSteady (moved_on w way)
+steady_on what w way from steady = by_drawn way.drawn from
   where
-    by_drawn : (drawn : Drawn) → is_closed drawn ≡ false → IsSteady (record (led_by drawn w) { flex = record w.flex { point = point_on w.flex.point way } })
+    by_drawn : (drawn : Drawn) → goes_on_from what drawn ≡ true → IsSteady (record (led_by drawn w) { flex = record (led_by drawn w).flex { point = point_on w.flex.point way } })
     by_drawn Nothing is = record { begun = steady.begun; path_flex = steady.path_flex; moved = steady.moved; stem_flex = steady.stem_flex; flex = steady.flex; seac_flex = steady.seac_flex }
+    by_drawn (Moved n) is = record { begun = steady.begun; path_flex = steady.path_flex; moved = steady.moved; stem_flex = steady.stem_flex; flex = steady.flex; seac_flex = steady.seac_flex }
     by_drawn Open is = record { begun = steady.begun; path_flex = steady.path_flex; moved = steady.moved; stem_flex = steady.stem_flex; flex = steady.flex; seac_flex = steady.seac_flex }
-    by_drawn Closed is = let no : true ≡ false = is in cc
+    by_drawn Closed is = absurd (not_from what is)
+
+undrawn_on : (w : Watches) (way : Way) → goes_on_from passing.Moves way.drawn ≡ true → IsUndrawn w → IsUndrawn (moved_on w way)
+undrawn_on w way from undrawn = by_drawn way.drawn from
+  where
+    by_drawn : (drawn : Drawn) → goes_on_from passing.Moves drawn ≡ true
+        → IsUndrawn (record (led_by drawn w) { flex = record (led_by drawn w).flex { point = point_on w.flex.point way } })
+    by_drawn Nothing is = record { drawn = undrawn.drawn; outlined = undrawn.outlined }
+    by_drawn (Moved n) is = record { drawn = undrawn.drawn; outlined = undrawn.outlined }
+    by_drawn Open is = let no : false ≡ true = is in cc
+    by_drawn Closed is = let no : false ≡ true = is in cc
 
 drawn_by : (w : Watches) (way : Way) → way.drawn ≡ Open → IsDrawn (moved_on w way)
 drawn_by w way is = record {
@@ -89,25 +108,56 @@ is_open_way _ = false
 not_open : (drawn : Drawn) → drawn ≡ Open → is_open_way drawn ≡ false → ⊥
 not_open drawn is not = let no : true ≡ false = sym (ap is_open_way is) ∙ not in cc
 
-moved_twice : (w : Watches) (one other : Way) → is_closed one.drawn ≡ false → other.drawn ≡ Open
-    → moved_on (moved_on w one) other ≡ moved_on w (further one other)
-moved_twice w one other unclosed is = by_drawn one.drawn unclosed other.drawn is
-  where
-    by_drawn : (first : Drawn) → is_closed first ≡ false → (second : Drawn) → second ≡ Open
-        → record (led_by second (record (led_by first w) { flex = record w.flex { point = point_on w.flex.point one } }))
-        { flex = record w.flex { point = point_on (point_on w.flex.point one) other } }
-        ≡ moved_on w (further one other)
-    by_drawn Nothing unclosed Open is = ap (λ point. record (drawn_on w) { flex = record w.flex { point = point } }) (further_on w.flex.point one other)
-    by_drawn Open unclosed Open is = ap (λ point. record (drawn_on w) { flex = record w.flex { point = point } }) (further_on w.flex.point one other)
-    by_drawn Closed unclosed second is = let no : true ≡ false = unclosed in cc
-    by_drawn Nothing unclosed Nothing is = absurd (not_open Nothing is refl)
-    by_drawn Nothing unclosed Closed is = absurd (not_open Closed is refl)
-    by_drawn Open unclosed Nothing is = absurd (not_open Nothing is refl)
-    by_drawn Open unclosed Closed is = absurd (not_open Closed is refl)
+-- The watchers that are moved on twice, by what was drawn first and then.
+twice_drawn : Watches → Way → Way → Drawn → Drawn → Watches
+twice_drawn w one other first second =
+    let so_far = record (led_by first w) { flex = record (led_by first w).flex { point = point_on w.flex.point one } } in
+    record (led_by second so_far) { flex = record (led_by second so_far).flex { point = point_on so_far.flex.point other } }
 
+once_drawn : Watches → Way → Way → Drawn → Watches
+once_drawn w one other drawn =
+    record (led_by drawn w) { flex = record (led_by drawn w).flex { point = point_on w.flex.point (further one other) } }
+
+moved_twice : (w : Watches) (one other : Way) → goes_on_from passing.Lines one.drawn ≡ true → other.drawn ≡ Open
+    → moved_on (moved_on w one) other ≡ moved_on w (further one other)
+unfolding twice_drawn once_drawn
+moved_twice w one other from is = by_drawn one.drawn from other.drawn is
+  where
+    by_drawn : (first : Drawn) → goes_on_from passing.Lines first ≡ true → (second : Drawn) → second ≡ Open
+        → twice_drawn w one other first second ≡ once_drawn w one other (drawn_after first second)
+    by_drawn Nothing from Open is = ap (λ point. record (drawn_on w) { flex = record w.flex { point = point } }) (further_on w.flex.point one other)
+    by_drawn Open from Open is = ap (λ point. record (drawn_on w) { flex = record w.flex { point = point } }) (further_on w.flex.point one other)
+    by_drawn (Moved n) from second is = let no : false ≡ true = from in cc
+    by_drawn Closed from second is = let no : false ≡ true = from in cc
+    by_drawn Nothing from Nothing is = absurd (not_open Nothing is refl)
+    by_drawn Nothing from (Moved n) is = absurd (not_open (Moved n) is refl)
+    by_drawn Nothing from Closed is = absurd (not_open Closed is refl)
+    by_drawn Open from Nothing is = absurd (not_open Nothing is refl)
+    by_drawn Open from (Moved n) is = absurd (not_open (Moved n) is refl)
+    by_drawn Open from Closed is = absurd (not_open Closed is refl)
+
+one_more_move : (m n : ℕ) → m + n + 1 ≡ m + (n + 1)
+one_more_move m n = omega arith
+
+-- The same by a move.
+moved_once_more : (w : Watches) (one other : Way) → goes_on_from passing.Moves one.drawn ≡ true → other.drawn ≡ Moved 1
+    → moved_on (moved_on w one) other ≡ moved_on w (further one other)
+unfolding twice_drawn once_drawn
+moved_once_more w one other from is =
+    subst (λ second. twice_drawn w one other one.drawn second ≡ once_drawn w one other (drawn_after one.drawn second)) (sym is) (by_drawn one.drawn from)
+  where
+    by_drawn : (first : Drawn) → goes_on_from passing.Moves first ≡ true
+        → twice_drawn w one other first (Moved 1) ≡ once_drawn w one other (drawn_after first (Moved 1))
+    by_drawn Nothing from =
+        ap (λ point. record w { flex = record w.flex { moves = w.flex.moves + 1; point = point } }) (further_on w.flex.point one other)
+    by_drawn (Moved n) from =
+        ap (λ moves. record w { flex = record w.flex { moves = moves; point = point_on (point_on w.flex.point one) other } }) (one_more_move w.flex.moves n)
+        ∙ ap (λ point. record w { flex = record w.flex { moves = w.flex.moves + (n + 1); point = point } }) (further_on w.flex.point one other)
+    by_drawn Open from = let no : false ≡ true = from in cc
+    by_drawn Closed from = let no : false ≡ true = from in cc
 moved_closed : (w : Watches) (way : Way) → way.drawn ≡ Open → closed_on (moved_on w way) ≡ moved_on w (closed way)
 moved_closed w way is =
-    ap (λ drawn. closed_on (record (led_by drawn w) { flex = record w.flex { point = point_on w.flex.point way } })) is
+    ap (λ drawn. closed_on (record (led_by drawn w) { flex = record (led_by drawn w).flex { point = point_on w.flex.point way } })) is
 
 -- No rule is broken at a line in the midst of a path, nor at a closepath.
 no_component_fault : (components : List Component) (n : ℕ) (before : List StepView) (t : StepView) → is_seac t.token ≡ false
@@ -115,11 +165,11 @@ no_component_fault : (components : List Component) (n : ℕ) (before : List Step
 unfolding component_rules
 no_component_fault components n before t no_seac = rw (no_seac) refl
 
-none_at_command : (font : CheckedFont) (glyph k n : ℕ) (before after : Way) → glyph < length font.value.glyphs
-    → (passed : IsCommandPassed (step_limit font) (steps_of font.value glyph) k before after) → is_seac passed.step.token ≡ false
+none_at_command : (what : Passing) (font : CheckedFont) (glyph k n : ℕ) (before after : Way) → glyph < length font.value.glyphs
+    → (passed : IsCommandPassed what (step_limit font) (steps_of font.value glyph) k before after) → is_seac passed.step.token ≡ false
     → breaks (step_rules font.edition) n (take k (steps_of font.value glyph)) passed.step ≡ false
     → is_broken font (glyph + 1) (k + 1) n ≡ false
-none_at_command font glyph k n before after there passed no_seac none =
+none_at_command what font glyph k n before after there passed no_seac none =
     let all : List StepView = steps_of font.value glyph in
     let components = components_of (step_limit font) font.value in
     at_step font (glyph + 1) (k + 1) glyph k n refl refl there
@@ -130,13 +180,22 @@ none_at_command font glyph k n before after there passed no_seac none =
     (sym none) (sym (no_component_fault components n (take k all) passed.step no_seac)))
 
 none_at_line : (edition : Edition) (before : List StepView) (w : Watches) (n : ℕ) (step : StepView) (command : Commands) (so_far way : Way)
-    → step.token ≡ Command command → LeadsOn command step.stack so_far way → IsCalm w → IsSteady w → WatchesStandFor edition w before
+    → step.token ≡ Command command → LeadsOn passing.Lines command step.stack so_far way → IsCalm w → IsSteady w → WatchesStandFor edition w before
     → breaks (step_rules edition) n before step ≡ false
 unfolding WatchesStandFor
 none_at_line edition before w n step command so_far way token leads calm steady st =
     let behind_none = calm_is_behind_none edition w before st calm in
     no_fault_at_line edition n before step command token leads.is behind_none.0 behind_none.1
     (sym st.0.begun ∙ steady.begun) (sym st.0.in_flex ∙ steady.path_flex) (sym st.0.moved ∙ steady.moved)
+
+none_at_move : (edition : Edition) (before : List StepView) (w : Watches) (n : ℕ) (step : StepView) (command : Commands) (so_far way : Way)
+    → step.token ≡ Command command → LeadsOn passing.Moves command step.stack so_far way → IsCalm w → IsSteady w → IsUndrawn w
+    → WatchesStandFor edition w before → breaks (step_rules edition) n before step ≡ false
+unfolding WatchesStandFor
+none_at_move edition before w n step command so_far way token leads calm steady undrawn st =
+    let behind_none = calm_is_behind_none edition w before st calm in
+    no_fault_at_move edition n before step command token leads.is behind_none.0 behind_none.1
+    (sym st.0.begun ∙ steady.begun) (sym st.0.in_flex ∙ steady.path_flex) (sym st.0.drawn ∙ undrawn.drawn)
 
 none_at_close : (edition : Edition) (before : List StepView) (w : Watches) (n : ℕ) (step : StepView) → step.token ≡ Command Closepath
     → step.stack ≡ [] → IsCalm w → IsSteady w → IsDrawn w → WatchesStandFor edition w before → breaks (step_rules edition) n before step ≡ false
@@ -173,13 +232,13 @@ over_number font glyph n taken w before way there so_far calm passed same =
       ];
     }
 
-over_command : (font : CheckedFont) (glyph n taken : ℕ) (w after : Watches) (before way : Way) → glyph < length font.value.glyphs
-    → PassedOver font glyph n taken w before → (passed : IsCommandPassed (step_limit font) (steps_of font.value glyph) (n + taken) before way)
+over_command : (what : Passing) (font : CheckedFont) (glyph n taken : ℕ) (w after : Watches) (before way : Way) → glyph < length font.value.glyphs
+    → PassedOver font glyph n taken w before → (passed : IsCommandPassed what (step_limit font) (steps_of font.value glyph) (n + taken) before way)
     → is_seac passed.step.token ≡ false
     → ((r : ℕ) → breaks (step_rules font.edition) r (take (n + taken) (steps_of font.value glyph)) passed.step ≡ false)
     → WatchesStandFor font.edition after (take (n + taken) (steps_of font.value glyph) ++ passed.step ∷ []) → after ≡ moved_on w way
     → PassedOver font glyph n (suc taken) w way
-over_command font glyph n taken w after before way there so_far passed no_seac none stands same =
+over_command what font glyph n taken w after before way there so_far passed no_seac none stands same =
     let all : List StepView = steps_of font.value glyph in
     let k : ℕ = n + taken in
     let next : k + 1 ≡ n + suc taken = omega arith in
@@ -192,48 +251,76 @@ over_command font glyph n taken w after before way there so_far passed no_seac n
         | inr here ↦
             let at : k ≡ i = omega (arith, here, to) in
             subst (λ j. is_broken font (glyph + 1) (j + 1) r ≡ false) at
-            (none_at_command font glyph k r before way there passed no_seac (none r))
+            (none_at_command what font glyph k r before way there passed no_seac (none r))
       ];
     }
 
-over_one : (font : CheckedFont) (glyph n taken : ℕ) (w : Watches) (before way : Way) → glyph < length font.value.glyphs
+over_line : (font : CheckedFont) (glyph n taken : ℕ) (w : Watches) (before way : Way) → glyph < length font.value.glyphs
     → PassedOver font glyph n taken w before → IsCalm w → IsSteady w
-    → (passed : IsCommandPassed (step_limit font) (steps_of font.value glyph) (n + taken) before way)
-    → GoesOn passed.command passed.step.stack before way → PassedOver font glyph n (suc taken) w way
-over_one font glyph n taken w before way there so_far calm steady passed (inl leads) =
+    → (passed : IsCommandPassed passing.Lines (step_limit font) (steps_of font.value glyph) (n + taken) before way)
+    → LeadsOn passing.Lines passed.command passed.step.stack before way → PassedOver font glyph n (suc taken) w way
+over_line font glyph n taken w before way there so_far calm steady passed leads =
     let now_calm : IsCalm (moved_on w before) = calm_on w before calm in
-    let now_steady : IsSteady (moved_on w before) = steady_on w before leads.unclosed steady in
+    let now_steady : IsSteady (moved_on w before) = steady_on passing.Lines w before leads.from steady in
     let one : Way = way_by passed.command passed.step.stack in
-    let no_seac : is_seac passed.step.token ≡ false = ap is_seac passed.token ∙ (line_token passed.command leads.is.line).seac in
-    over_command font glyph n taken w (moved_on (moved_on w before) one) before way there so_far passed no_seac
+    let no_seac : is_seac passed.step.token ≡ false = ap is_seac passed.token ∙ (line_token passed.command leads.is.led).seac in
+    over_command passing.Lines font glyph n taken w (moved_on (moved_on w before) one) before way there so_far passed no_seac
     (λ r. none_at_line font.edition (take (n + taken) (steps_of font.value glyph)) (moved_on w before) r passed.step passed.command before way
     passed.token leads now_calm now_steady so_far.stands)
     (stays_at_line font.edition (moved_on w before) (take (n + taken) (steps_of font.value glyph)) passed.step passed.command passed.token
-    leads.is.line now_calm now_steady so_far.stands)
-    (moved_twice w before one leads.unclosed (line_open passed.command leads.is.line passed.step.stack) ∙ ap (moved_on w) (sym leads.way))
-over_one font glyph n taken w before way there so_far calm steady passed (inr closes) =
+    leads.is.led now_calm now_steady so_far.stands)
+    (moved_twice w before one leads.from (line_open passed.command leads.is.led passed.step.stack) ∙ ap (moved_on w) (sym leads.way))
+
+over_move : (font : CheckedFont) (glyph n taken : ℕ) (w : Watches) (before way : Way) → glyph < length font.value.glyphs
+    → PassedOver font glyph n taken w before → IsCalm w → IsSteady w → IsUndrawn w
+    → (passed : IsCommandPassed passing.Moves (step_limit font) (steps_of font.value glyph) (n + taken) before way)
+    → LeadsOn passing.Moves passed.command passed.step.stack before way → PassedOver font glyph n (suc taken) w way
+over_move font glyph n taken w before way there so_far calm steady undrawn passed leads =
     let now_calm : IsCalm (moved_on w before) = calm_on w before calm in
-    let now_steady : IsSteady (moved_on w before) = steady_on w before (ap is_closed closes.drawn) steady in
+    let now_steady : IsSteady (moved_on w before) = steady_on passing.Moves w before leads.from steady in
+    let now_undrawn : IsUndrawn (moved_on w before) = undrawn_on w before leads.from undrawn in
+    let one : Way = way_by passed.command passed.step.stack in
+    let no_seac : is_seac passed.step.token ≡ false = ap is_seac passed.token ∙ (move_token passed.command leads.is.led).seac in
+    over_command passing.Moves font glyph n taken w (moved_on (moved_on w before) one) before way there so_far passed no_seac
+    (λ r. none_at_move font.edition (take (n + taken) (steps_of font.value glyph)) (moved_on w before) r passed.step passed.command before way
+    passed.token leads now_calm now_steady now_undrawn so_far.stands)
+    (stays_at_move font.edition (moved_on w before) (take (n + taken) (steps_of font.value glyph)) passed.step passed.command passed.token
+    leads.is.led now_calm now_steady now_undrawn so_far.stands)
+    (moved_once_more w before one leads.from (move_once passed.command leads.is.led passed.step.stack) ∙ ap (moved_on w) (sym leads.way))
+
+over_one : (what : Passing) (font : CheckedFont) (glyph n taken : ℕ) (w : Watches) (before way : Way) → glyph < length font.value.glyphs
+    → PassedOver font glyph n taken w before → IsCalm w → IsSteady w → (what ≡ passing.Moves → IsUndrawn w)
+    → (passed : IsCommandPassed what (step_limit font) (steps_of font.value glyph) (n + taken) before way)
+    → GoesOn what passed.command passed.step.stack before way → PassedOver font glyph n (suc taken) w way
+over_one passing.Lines font glyph n taken w before way there so_far calm steady undrawn passed (inl leads) =
+    over_line font glyph n taken w before way there so_far calm steady passed leads
+over_one passing.Moves font glyph n taken w before way there so_far calm steady undrawn passed (inl leads) =
+    over_move font glyph n taken w before way there so_far calm steady (undrawn refl) passed leads
+over_one passing.Told font glyph n taken w before way there so_far calm steady undrawn passed (inl leads) = let no : false ≡ true = leads.is.led in cc
+over_one passing.Numbers font glyph n taken w before way there so_far calm steady undrawn passed (inl leads) = let no : false ≡ true = leads.is.led in cc
+over_one what font glyph n taken w before way there so_far calm steady undrawn passed (inr closes) =
+    let now_calm : IsCalm (moved_on w before) = calm_on w before calm in
+    let now_steady : IsSteady (moved_on w before) = steady_on passing.Lines w before (ap (goes_on_from passing.Lines) closes.drawn) steady in
     let token : passed.step.token ≡ Command Closepath = passed.token ∙ ap Command closes.closes in
-    over_command font glyph n taken w (closed_on (moved_on w before)) before way there so_far passed (ap is_seac token)
+    over_command what font glyph n taken w (closed_on (moved_on w before)) before way there so_far passed (ap is_seac token)
     (λ r. none_at_close font.edition (take (n + taken) (steps_of font.value glyph)) (moved_on w before) r passed.step token closes.alone
     now_calm now_steady (drawn_by w before closes.drawn) so_far.stands)
     (stays_at_close font.edition (moved_on w before) (take (n + taken) (steps_of font.value glyph)) passed.step token now_calm now_steady
     (drawn_by w before closes.drawn) so_far.stands)
     (moved_closed w before closes.drawn ∙ ap (moved_on w) (sym closes.way))
 
-over_step : (font : CheckedFont) (glyph n taken : ℕ) (w : Watches) (lines : Bool) (before way : Way) → glyph < length font.value.glyphs
-    → PassedOver font glyph n taken w before → IsCalm w → (lines ≡ true → IsSteady w)
-    → PassesStep lines (step_limit font) (steps_of font.value glyph) (n + taken) before way → PassedOver font glyph n (suc taken) w way
-over_step font glyph n taken w lines before way there so_far calm steady (inl number) =
+over_step : (font : CheckedFont) (glyph n taken : ℕ) (w : Watches) (what : Passing) (before way : Way) → glyph < length font.value.glyphs
+    → PassedOver font glyph n taken w before → IsCalm w → (leads what ≡ true → IsSteady w) → (what ≡ passing.Moves → IsUndrawn w)
+    → PassesStep what (step_limit font) (steps_of font.value glyph) (n + taken) before way → PassedOver font glyph n (suc taken) w way
+over_step font glyph n taken w what before way there so_far calm steady undrawn (inl number) =
     over_number font glyph n taken w before way there so_far calm number.0 number.1
-over_step font glyph n taken w lines before way there so_far calm steady (inr line) =
-    over_one font glyph n taken w before way there so_far calm (steady line.0) line.1 line.1.goes_on
+over_step font glyph n taken w what before way there so_far calm steady undrawn (inr line) =
+    over_one what font glyph n taken w before way there so_far calm (steady line.0) undrawn line.1 line.1.goes_on
 
-pub passes_over : (font : CheckedFont) (glyph n taken : ℕ) (w : Watches) (lines : Bool) (way : Way) → glyph < length font.value.glyphs
-    → (0 < taken → IsCalm w) → (lines ≡ true → IsSteady w) → WatchesStandFor font.edition w (take n (steps_of font.value glyph))
-    → PassesSteps lines (step_limit font) (steps_of font.value glyph) n taken way → PassedOver font glyph n taken w way
-passes_over font glyph n zero w lines way there calm steady st passes =
+pub passes_over : (font : CheckedFont) (glyph n taken : ℕ) (w : Watches) (what : Passing) (way : Way) → glyph < length font.value.glyphs
+    → (0 < taken → IsCalm w) → (leads what ≡ true → IsSteady w) → (what ≡ passing.Moves → IsUndrawn w) → WatchesStandFor font.edition w (take n (steps_of font.value glyph))
+    → PassesSteps what (step_limit font) (steps_of font.value glyph) n taken way → PassedOver font glyph n taken w way
+passes_over font glyph n zero w what way there calm steady undrawn st passes =
     let same : n ≡ n + 0 = omega arith in
     let where_from : w ≡ moved_on w way = sym (ap (moved_on w) passes ∙ moved_nowhere w) in
     record {
@@ -241,24 +328,25 @@ passes_over font glyph n zero w lines way there calm steady st passes =
           (subst (λ (v : Watches). WatchesStandFor font.edition v (take n (steps_of font.value glyph))) where_from st);
       quiet = λ k r from to. absurd (omega (arith, from, to));
     }
-passes_over font glyph n (suc taken) w lines way there calm steady st passes =
-    over_step font glyph n taken w lines passes.0 way there
-    (passes_over font glyph n taken w lines passes.0 there (λ some. calm (omega arith)) steady st passes.1.0) (calm (omega arith)) steady passes.1.1
+passes_over font glyph n (suc taken) w what way there calm steady undrawn st passes =
+    over_step font glyph n taken w what passes.0 way there
+    (passes_over font glyph n taken w what passes.0 there (λ some. calm (omega arith)) steady undrawn st passes.1.0) (calm (omega arith)) steady undrawn
+    passes.1.1
 
 -- They are there, and within the limit.
 record AreThere (limit : ℕ) (all : List StepView) (n taken : ℕ) : Type 0 where
   near : n + taken ≤ limit
   within : n + taken ≤ length (take limit all) + 1
 
-step_there : (lines : Bool) (limit : ℕ) (all : List StepView) (k : ℕ) (before way : Way) → PassesStep lines limit all k before way → (k < limit) × (k < length all)
-step_there lines limit all k before way (inl number) = (number.0.near, slice_get_within all k number.0.step number.0.there)
-step_there lines limit all k before way (inr line) = (line.1.near, slice_get_within all k line.1.step line.1.there)
+step_there : (what : Passing) (limit : ℕ) (all : List StepView) (k : ℕ) (before way : Way) → PassesStep what limit all k before way → (k < limit) × (k < length all)
+step_there what limit all k before way (inl number) = (number.0.near, slice_get_within all k number.0.step number.0.there)
+step_there what limit all k before way (inr line) = (line.1.near, slice_get_within all k line.1.step line.1.there)
 
-are_there : (lines : Bool) (limit : ℕ) (all : List StepView) (n taken : ℕ) (way : Way) → PassesSteps lines limit all n taken way → n ≤ limit
+are_there : (what : Passing) (limit : ℕ) (all : List StepView) (n taken : ℕ) (way : Way) → PassesSteps what limit all n taken way → n ≤ limit
     → n ≤ length (take limit all) + 1 → AreThere limit all n taken
-are_there lines limit all n zero way passes near few = record { near = omega (arith, near); within = omega (arith, few) }
-are_there lines limit all n (suc taken) way passes near few =
-    let last = step_there lines limit all (n + taken) passes.0 way passes.1.1 in
+are_there what limit all n zero way passes near few = record { near = omega (arith, near); within = omega (arith, few) }
+are_there what limit all n (suc taken) way passes near few =
+    let last = step_there what limit all (n + taken) passes.0 way passes.1.1 in
     record { near = omega (arith, last.0); within = omega (arith, last.0, last.1, length-take limit all) }
 
 turns_there : (font : CheckedFont) (glyph n : ℕ) (limit : ℕ) → n ≤ length (take (step_limit font) (steps_of font.value glyph)) + 1 → n ≤ turns_of_glyph font glyph
@@ -274,30 +362,39 @@ fit_calm : (what : Passing) (w : Watches) (taken : ℕ) → IsFit what w → (wh
 fit_calm passing.Told w taken fit told some = absurd (omega (arith, told refl, some))
 fit_calm passing.Numbers w taken fit told some = fit
 fit_calm passing.Lines w taken fit told some = fit.0
+fit_calm passing.Moves w taken fit told some = fit.0
 
-fit_steady : (what : Passing) (w : Watches) → IsFit what w → is_lines what ≡ true → IsSteady w
+fit_steady : (what : Passing) (w : Watches) → IsFit what w → leads what ≡ true → IsSteady w
 fit_steady passing.Told w fit is = let no : false ≡ true = is in cc
 fit_steady passing.Numbers w fit is = let no : false ≡ true = is in cc
 fit_steady passing.Lines w fit is = fit.1
+fit_steady passing.Moves w fit is = fit.1.0
+
+fit_undrawn : (what : Passing) (w : Watches) → IsFit what w → what ≡ passing.Moves → IsUndrawn w
+fit_undrawn passing.Told w fit is = let no : false ≡ true = ap leads is in cc
+fit_undrawn passing.Numbers w fit is = let no : false ≡ true = ap leads is in cc
+fit_undrawn passing.Lines w fit is = let no : false ≡ true = sym (ap (λ p. is_led p Rlineto) is) in cc
+fit_undrawn passing.Moves w fit is = fit.1.1
 
 -- After the steps that a machine passed.
 pub record GoneFar (font : CheckedFont) (glyph unit from before : ℕ) (w : Watches) : Type 0 where
   pub stands : StandsBehind font glyph unit from before w
   pub near : before ≤ step_limit font
+  pub moves : w.flex.moves < most_steps
   pub point : (n : ℕ) × (IsNear n w.flex.point × (n < most_steps))
 
 gone_of : (what : Passing) (font : CheckedFont) (glyph unit from n taken : ℕ) (w : Watches) (way : Way) → IsFit what w → (what ≡ passing.Told → taken ≡ 0)
     → unit ≡ glyph + 1 → glyph < length font.value.glyphs → n ≤ step_limit font → IsRunAt font glyph n w → IsQuiet font unit from (n + 1)
-    → PassesSteps (is_lines what) (step_limit font) (steps_of font.value glyph) n taken way
+    → PassesSteps what (step_limit font) (steps_of font.value glyph) n taken way
     → GoneFar font glyph unit from (n + taken) (moved_on w way)
 unfolding WatchesStandFor
 gone_of what font glyph unit from n taken w way fit told at there near run quiet passes =
     let all : List StepView = steps_of font.value glyph in
     let limit : ℕ = step_limit font in
     let over : PassedOver font glyph n taken w way =
-    passes_over font glyph n taken w (is_lines what) way there (fit_calm what w taken fit told) (fit_steady what w fit)
+    passes_over font glyph n taken w what way there (fit_calm what w taken fit told) (fit_steady what w fit) (fit_undrawn what w fit)
     (run.seen_are (omega (arith, near, length-take n all))) passes in
-    let those : AreThere limit all n taken = are_there (is_lines what) limit all n taken way passes near (turns_few font glyph n run.counted_few) in
+    let those : AreThere limit all n taken = are_there what limit all n taken way passes near (turns_few font glyph n run.counted_few) in
     let few : length (take (n + taken) all) < most_steps = omega (arith, those.near, length-take (n + taken) all, limit_few font.edition) in
     record {
       stands = record {
@@ -312,16 +409,17 @@ gone_of what font glyph unit from n taken w way fit told at there near run quiet
         ];
       };
       near = those.near;
+      moves = omega (arith, over.stands.1.1.0.few_moves, few);
       point = (length (take (n + taken) all), (over.stands.1.1.0.near, few));
     }
 
 -- The same of a machine.
 of_machine : (what : Passing) (m : MachineView) (font : CheckedFont) (glyph taken : ℕ) (way : Way) → executed m ≡ font → m.glyph ≡ glyph
-    → PassesSteps (is_lines what) (limit_of m.edition) (steps_of m.font m.glyph) m.counted taken way
-    → PassesSteps (is_lines what) (step_limit font) (steps_of font.value glyph) m.counted taken way
+    → PassesSteps what (limit_of m.edition) (steps_of m.font m.glyph) m.counted taken way
+    → PassesSteps what (step_limit font) (steps_of font.value glyph) m.counted taken way
 of_machine what m font glyph taken way of_font of_glyph passes =
-    subst (λ (f : CheckedFont). PassesSteps (is_lines what) (step_limit f) (steps_of f.value glyph) m.counted taken way) of_font
-    (subst (λ g. PassesSteps (is_lines what) (limit_of m.edition) (steps_of m.font g) m.counted taken way) of_glyph passes)
+    subst (λ (f : CheckedFont). PassesSteps what (step_limit f) (steps_of f.value glyph) m.counted taken way) of_font
+    (subst (λ g. PassesSteps what (limit_of m.edition) (steps_of m.font g) m.counted taken way) of_glyph passes)
 
 pub gone_far : (what : Passing) (m new : MachineView) (answer : TurnValue) (way : Way) (w : Watches) (font : CheckedFont) (glyph unit from : ℕ)
     → IsFit what w → executed m ≡ font → m.glyph ≡ glyph → unit ≡ glyph + 1 → IsRun m w → IsQuiet font unit from (m.counted + 1)
@@ -334,16 +432,16 @@ gone_far what m new answer way w font glyph unit from fit of_font of_glyph at ru
 
 -- Two laws.
 pub passed_lines_break_none : PassedLinesBreakNoRule
-passed_lines_break_none font glyph from count place n w way is least less =
-    let over = passes_over font glyph from count w true way is.there (λ any. is.calm) (λ on. is.steady) is.seen is.passed in
+passed_lines_break_none font glyph from count place n what w way is least less =
+    let over = passes_over font glyph from count w what way is.there (λ any. is.calm) (λ on. is.steady) is.undrawn is.seen is.passed in
     let unit_is : glyph + 1 ≡ suc glyph = omega arith in
     let step_is : place + 1 ≡ suc place = omega arith in
     subst (λ unit. is_broken font unit (suc place) n ≡ false) unit_is
     (subst (λ step. is_broken font (glyph + 1) step n ≡ false) step_is (over.quiet place n least less))
 
 pub watchers_move_on : WatchersMoveOnByLines
-watchers_move_on font glyph from count w way is =
-    (passes_over font glyph from count w true way is.there (λ any. is.calm) (λ on. is.steady) is.seen is.passed).stands
+watchers_move_on font glyph from count what w way is =
+    (passes_over font glyph from count w what way is.there (λ any. is.calm) (λ on. is.steady) is.undrawn is.seen is.passed).stands
 
 -- What the machine returned after them: a step, or the first past the limit.
 told_far : (what : Passing) (m new : MachineView) (answer : Answer) (way : Way) (step : Step) (font : CheckedFont) (glyph : ℕ) → executed m ≡ font

@@ -11,7 +11,7 @@ ghost use Rattle.t1_rules.specs.StepRules.{breaks, step_rules};
 ghost use Rattle.t1_rules.specs.Private.Seeing.{CanSee, Sees};
 ghost use Rattle.t1_rules.specs.Private.Standing.{WatchesStandFor};
 ghost use Rattle.t1_rules.specs.Watches.{IsCalm, IsNear, most_steps};
-ghost use Rattle.t1_rules.specs.Steady.{IsSteady, drawn_on, moved_on, point_on};
+ghost use Rattle.t1_rules.specs.Steady.{IsSteady, IsUndrawn, drawn_on, moved_on, point_on};
 ghost use Rattle.t1_rules.specs.StepRules.Tokens.{IsCommand};
 
 use crate::mask::Mask;
@@ -143,15 +143,26 @@ impl Watches {
             & self.seac.is_steady()
     }
 
-    /// Keeps what such steps change: the current point, and what is drawn.
+    /// Whether moves came last, with nothing drawn since. Then moves break no rule in such a path, if they have exactly
+    /// their arguments, none past 32000.
+    #[inline(always)]
+    pub fn is_moving(&self) -> bool
+        ensures { result ≡ true → IsUndrawn self.now }
+    {
+        self.paths.is_moving() && self.seac.is_outlined()
+    }
+
+    /// Keeps what such steps change: the current point, what is drawn, and how many moves there were.
     #[inline(always)]
     pub fn go(&mut self, way: Way)
-        requires { (n : ℕ) × (IsNear n (point_on self.old.flex.point way) × (n < most_steps)) }
+        requires near { (n : ℕ) × (IsNear n (point_on self.old.flex.point way) × (n < most_steps)) }
+        requires few { (moved_on self.old way).flex.moves < most_steps }
         ensures { self.new ≡ moved_on self.old way }
     {
         self.flex.go(way);
         match way.drawn {
             Drawn::Nothing => {}
+            Drawn::Moved(count) => self.flex.count_moves(count),
             Drawn::Open => self.draw(),
             Drawn::Closed => {
                 self.draw();
@@ -240,6 +251,8 @@ impl Watches {
                 step,
             ),
             Command::Pop => self.see_each(CharToken::Command(Command::Pop), step),
+            Command::Div => self.see_each(CharToken::Command(Command::Div), step),
+            Command::Dotsection => self.see_each(CharToken::Command(Command::Dotsection), step),
             Command::Setcurrentpoint => self.see_each(
                 CharToken::Command(Command::Setcurrentpoint),
                 step,

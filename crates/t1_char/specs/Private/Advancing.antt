@@ -1,7 +1,8 @@
 -- Frames that go on to the next step.
-use Rattle.std.specs.Prelude.{◌≡◌, ℕ, ◌+◌, ◌∷◌, Bool, List}
+use Rattle.std.specs.Prelude.{◌≡◌, ℕ, ◌+◌, ◌∷◌, List}
 use Rattle.t1_font.specs.Fonts.{FontValue}
 use Rattle.t1_char.specs.declared.frames.Frames.{Frames}
+use Rattle.t1_char.specs.declared.lines.Passing.{Passing}
 use Rattle.t1_char.specs.declared.lines.Way.{Way}
 use Rattle.t1_char.specs.Lines.{PassesSteps}
 use Rattle.t1_char.specs.Steps.{StepView}
@@ -11,21 +12,21 @@ use Rattle.t1_char.specs.Private.Frames.{IsReady, step_here, steps_behind, steps
 use Rattle.t1_char.specs.Private.Machines.{IsBehind}
 
 -- So many steps after the first n were passed: executed, and not returned.
-pub record HasGoneFar (lines : Bool) (limit : ℕ) (steps : List StepView) (font : FontValue) (n taken : ℕ) (way : Way) (new : Frames) : Type 0 where
-  pub passed : PassesSteps lines limit steps n taken way
+pub record HasGoneFar (what : Passing) (limit : ℕ) (steps : List StepView) (font : FontValue) (n taken : ℕ) (way : Way) (new : Frames) : Type 0 where
+  pub passed : PassesSteps what limit steps n taken way
   pub behind : IsBehind limit steps font (n + taken) new
 
 -- The same for frames after n steps, whatever glyph they execute.
-abbrev pub GoesFar : Bool → ℕ → FontValue → ℕ → Frames → ℕ → Way → Frames → Type 0
-GoesFar lines limit font n f taken way new =
-    (steps : List StepView) → IsBehind limit steps font n f → HasGoneFar lines limit steps font n taken way new
+abbrev pub GoesFar : Passing → ℕ → FontValue → ℕ → Frames → ℕ → Way → Frames → Type 0
+GoesFar what limit font n f taken way new =
+    (steps : List StepView) → IsBehind limit steps font n f → HasGoneFar what limit steps font n taken way new
 
 -- Steps were passed, and the token after them was read.
-pub record ReadsToken (lines : Bool) (limit : ℕ) (font : FontValue) (n : ℕ) (f : Frames) (m : ℕ) (way : Way) (new : Frames) : Type 0 where
+pub record ReadsToken (what : Passing) (limit : ℕ) (font : FontValue) (n : ℕ) (f : Frames) (m : ℕ) (way : Way) (new : Frames) : Type 0 where
   pub taken : ℕ
   pub taken_is : m ≡ n + taken
   pub passed : Frames
-  pub over : GoesFar lines limit font n f taken way passed
+  pub over : GoesFar what limit font n f taken way passed
   pub token : tokens_left passed.current ≡ new.step.token ∷ behind_token new.step.token (tokens_left new.current)
   pub path : new.step.path.items ≡ passed.step.path.items
   pub callers : new.callers.items ≡ passed.callers.items
@@ -40,9 +41,9 @@ pub record IsNext (font : FontValue) (n : ℕ) (f new : Frames) : Type 0 where
   pub number : new.step.number ≡ n + 1
 
 -- Steps were passed, and the step after them was read.
-pub record Advances (lines : Bool) (limit : ℕ) (font : FontValue) (n : ℕ) (f : Frames) (m : ℕ) (way : Way) (new : Frames) : Type 0 where
+pub record Advances (what : Passing) (limit : ℕ) (font : FontValue) (n : ℕ) (f : Frames) (m : ℕ) (way : Way) (new : Frames) : Type 0 where
   pub taken : ℕ
   pub taken_is : m ≡ n + taken
   pub passed : Frames
-  pub over : GoesFar lines limit font n f taken way passed
+  pub over : GoesFar what limit font n f taken way passed
   pub next : IsNext font m passed new

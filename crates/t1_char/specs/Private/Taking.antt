@@ -1,9 +1,10 @@
--- Numbers and lines that are taken from a charstring in a row.
+-- Numbers and commands that are taken from a charstring in a row.
 use Rattle.std.specs.Prelude.{◌≡◌, ◌⊎◌, ℕ, zero, suc, ℤ, ◌+◌, ◌≤◌, Bool, true, false, Option, Some, None, List, ◌∷◌, length, take}
 use Rattle.t1_char.specs.declared.command.Command.{Command as Commands}
 use Rattle.t1_char.specs.declared.cursor.Cursor.{Cursor}
 use Rattle.t1_char.specs.declared.cursor.Ahead.{Ahead}
 use Rattle.t1_char.specs.declared.lines.Drawn.TheVariants.{Open}
+use Rattle.t1_char.specs.declared.lines.Passing.{Passing}
 use Rattle.t1_char.specs.declared.lines.Way.{Way}
 use Rattle.t1_char.specs.declared.taking.Lines.{Lines}
 use Rattle.t1_char.specs.declared.taking.Next.{Next}
@@ -12,7 +13,7 @@ use Rattle.t1_char.specs.declared.taking.Stop.{Stop}
 use Rattle.t1_char.specs.declared.token.CharToken.{CharToken}
 use Rattle.t1_char.specs.declared.token.CharToken.TheVariants.{Command}
 use Rattle.std.specs.List.{list_any}
-use Rattle.t1_char.specs.Lines.{is_closed, is_far, GoesOn, IsLine, IsWayNear, closed, no_way, way_by}
+use Rattle.t1_char.specs.Lines.{GoesOn, IsLed, IsWayNear, closed, goes_on_from, is_far, leads, moves_in, no_way, way_by}
 use Rattle.std.specs.Borrow.{Bor}
 use Rattle.t1_seal.specs.declared.cipher.Cipher.{Cipher}
 use Rattle.t1_char.specs.Stacks.{most_numbers}
@@ -59,39 +60,39 @@ pub record IsTaking (ahead : Ahead) (old : List ℤ) (cells : List ℤ) (len : �
   pub room : len ≤ most_numbers
   pub near : list_any is_far old ≡ false → list_any is_far (take len cells) ≡ false
 
--- A token is a line, and leads so far.
-pub record IsLineOf (token : CharToken) (numbers : List ℤ) (way : Way) : Type 0 where
+-- A token is a command that is passed, and leads so far.
+pub record IsLedBy (what : Passing) (token : CharToken) (numbers : List ℤ) (way : Way) : Type 0 where
   pub command : Commands
   pub token_is : token ≡ Command command
-  pub is : IsLine command numbers
+  pub is : IsLed what command numbers
   pub way_is : way ≡ way_by command numbers
 
 abbrev pub closepath_byte : ℕ
 closepath_byte = 9
 
--- The first byte is that of a line, which it alone writes.
-abbrev pub IsLineFirst : Option ℕ → List ℤ → Way → Type 0
-IsLineFirst None numbers way = ⊥
-IsLineFirst (Some first) numbers way = ((rest : List ℕ) → IsLineOf (token_at first rest) numbers way) × (more_of first ≡ 0)
+-- The first byte is that of such a command, which it alone writes.
+abbrev pub IsLedFirst : Passing → Option ℕ → List ℤ → Way → Type 0
+IsLedFirst what None numbers way = ⊥
+IsLedFirst what (Some first) numbers way = ((rest : List ℕ) → IsLedBy what (token_at first rest) numbers way) × (more_of first ≡ 0)
 
--- A line or a closepath was read and executed.
-pub record PassesCommand (ahead behind : Cursor) (old new : List ℤ) (before after : Way) : Type 0 where
+-- Such a command or a closepath was read and executed.
+pub record PassesCommand (what : Passing) (ahead behind : Cursor) (old new : List ℤ) (before after : Way) : Type 0 where
   pub command : Commands
   pub token : tokens_left ahead ≡ Command command ∷ tokens_left behind
   pub plain : IsPlainEffect (Command command) old new
-  pub goes_on : GoesOn command old before after
+  pub goes_on : GoesOn what command old before after
 
--- A number was, or, where lines are passed, such a command.
-abbrev pub PassesOne : Bool → Cursor → Cursor → List ℤ → List ℤ → Way → Way → Type 0
-PassesOne lines ahead behind old new before after =
-    (PassesNumber ahead behind old new × (after ≡ before)) ⊎ ((lines ≡ true) × PassesCommand ahead behind old new before after)
+-- A number was, or, where commands are passed, such a command.
+abbrev pub PassesOne : Passing → Cursor → Cursor → List ℤ → List ℤ → Way → Way → Type 0
+PassesOne what ahead behind old new before after =
+    (PassesNumber ahead behind old new × (after ≡ before)) ⊎ ((leads what ≡ true) × PassesCommand what ahead behind old new before after)
 
 -- So many were, one after another.
-abbrev pub PassesRow : Bool → ℕ → Cursor → Cursor → List ℤ → List ℤ → Way → Type 0
-PassesRow lines zero ahead behind old new way = (behind ≡ ahead) × ((new ≡ old) × (way ≡ no_way))
-PassesRow lines (suc n) ahead behind old new way =
+abbrev pub PassesRow : Passing → ℕ → Cursor → Cursor → List ℤ → List ℤ → Way → Type 0
+PassesRow what zero ahead behind old new way = (behind ≡ ahead) × ((new ≡ old) × (way ≡ no_way))
+PassesRow what (suc n) ahead behind old new way =
     (between : Cursor) × ((stack : List ℤ) × ((before : Way) ×
-    (PassesRow lines n ahead between old stack before × PassesOne lines between behind stack new before way)))
+    (PassesRow what n ahead between old stack before × PassesOne what between behind stack new before way)))
 
 -- The next token was read, or its first byte, 255, or nothing was.
 abbrev pub IsTokenRead : Next → Cursor → Cursor → Type 0
@@ -99,19 +100,20 @@ IsTokenRead End before ahead = before ≡ ahead
 IsTokenRead Long before ahead = AtFirst 255 before ahead
 IsTokenRead (Token token) before ahead = tokens_left before ≡ token ∷ behind_token token (tokens_left ahead)
 
--- Numbers and lines were taken, up to a token.
-pub record TakesLines (lines : Bool) (ahead : Ahead) (old new : List ℤ) (stop : Lines) : Type 0 where
+-- Numbers and commands were taken, up to a token.
+pub record TakesLines (what : Passing) (ahead : Ahead) (old new : List ℤ) (stop : Lines) : Type 0 where
   pub before : Cursor
-  pub passes : PassesRow lines stop.passed (cursor_of ahead) before old new stop.way
+  pub passes : PassesRow what stop.passed (cursor_of ahead) before old new stop.way
   pub token : IsTokenRead stop.token before (lines_cursor stop)
 
 -- The same on the way.
-pub record IsTakingLines (room : ℕ) (ahead : Ahead) (old : List ℤ) (numbers : List ℤ) (passed : ℕ) (before : Cursor) (way : Way) : Type 0 where
-  pub passes : PassesRow true passed (cursor_of ahead) before old numbers way
+pub record IsTakingLines (what : Passing) (room : ℕ) (ahead : Ahead) (old : List ℤ) (numbers : List ℤ) (passed : ℕ) (before : Cursor) (way : Way) : Type 0 where
+  pub passes : PassesRow what passed (cursor_of ahead) before old numbers way
   pub near : IsWayNear passed way
   pub room_is : passed ≤ room
   pub short : list_any is_far numbers ≡ false
-  pub unclosed : is_closed way.drawn ≡ false
+  pub from : goes_on_from what way.drawn ≡ true
+  pub few : moves_in way.drawn ≤ passed
 
 -- The next token was read after a stop.
 pub record FinishesThere (stop : Stop) (passed : ℕ) (way : Way) (lines : Lines) : Type 0 where

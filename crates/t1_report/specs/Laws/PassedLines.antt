@@ -1,33 +1,37 @@
--- What rules say of the steps that a machine passes in a path: numbers, lines, curves and closepaths.
+-- What rules say of the steps that a machine passes in a path: numbers, lines, curves and closepaths, or moves.
 use Rattle.std.specs.Prelude.{◌≡◌, ℕ, suc, ◌+◌, ◌<◌, ◌≤◌, true, false, length, take}
+use Rattle.t1_char.specs.declared.lines.Passing.{Passing}
+use Rattle.t1_char.specs.declared.lines.Passing.TheVariants as passing
 use Rattle.t1_char.specs.declared.lines.Way.{Way}
 use Rattle.t1_char.specs.Lines.{PassesSteps}
 use Rattle.t1_char.specs.Steps.{steps_of}
 use Rattle.t1_rules.specs.declared.watches.Watches.{Watches}
 use Rattle.t1_rules.specs.Private.Standing.{WatchesStandFor}
-use Rattle.t1_rules.specs.Steady.{IsSteady, moved_on}
+use Rattle.t1_rules.specs.Steady.{IsSteady, IsUndrawn, moved_on}
 use Rattle.t1_rules.specs.Watches.{IsCalm}
 use Rattle.t1_report.specs.Checked.{CheckedFont, step_limit}
 use Rattle.t1_report.specs.Reports.{is_broken}
 
--- Watchers that have seen the first steps of a glyph are calm and steady, and a machine passes the next steps, so many.
-pub record IsPassedInAPath (font : CheckedFont) (glyph from count : ℕ) (watches : Watches) (way : Way) : Type 0 where
+-- Watchers that have seen the first steps of a glyph are calm and steady, and a machine passes the next steps, so many: moves only where
+-- nothing is drawn.
+pub record IsPassedInAPath (font : CheckedFont) (glyph from count : ℕ) (what : Passing) (watches : Watches) (way : Way) : Type 0 where
   pub there : glyph < length font.value.glyphs
   pub calm : IsCalm watches
   pub steady : IsSteady watches
+  pub undrawn : what ≡ passing.Moves → IsUndrawn watches
   pub seen : WatchesStandFor font.edition watches (take from (steps_of font.value glyph))
-  pub passed : PassesSteps true (step_limit font) (steps_of font.value glyph) from count way
+  pub passed : PassesSteps what (step_limit font) (steps_of font.value glyph) from count way
 
 -- None of these steps breaks a rule.
 abbrev pub PassedLinesBreakNoRule : Type 0
 PassedLinesBreakNoRule =
-    (font : CheckedFont) (glyph from count place n : ℕ) (watches : Watches) (way : Way) →
-    IsPassedInAPath font glyph from count watches way → from ≤ place → place < from + count →
+    (font : CheckedFont) (glyph from count place n : ℕ) (what : Passing) (watches : Watches) (way : Way) →
+    IsPassedInAPath font glyph from count what watches way → from ≤ place → place < from + count →
     is_broken font (suc glyph) (suc place) n ≡ false
 
 -- What the watchers would keep after these steps is what they keep, moved on by the way of the steps.
 abbrev pub WatchersMoveOnByLines : Type 0
 WatchersMoveOnByLines =
-    (font : CheckedFont) (glyph from count : ℕ) (watches : Watches) (way : Way) →
-    IsPassedInAPath font glyph from count watches way →
+    (font : CheckedFont) (glyph from count : ℕ) (what : Passing) (watches : Watches) (way : Way) →
+    IsPassedInAPath font glyph from count what watches way →
     WatchesStandFor font.edition (moved_on watches way) (take (from + count) (steps_of font.value glyph))

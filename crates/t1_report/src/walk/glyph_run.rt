@@ -122,8 +122,8 @@ fn next_broken(
     None
 }
 
-/// What becomes of the steps that come next: numbers are passed, unless a rule speaks of them, and lines in the midst of a
-/// path.
+/// What becomes of the steps that come next: numbers are passed, unless a rule speaks of them, lines in the midst of a path,
+/// and moves after moves.
 #[inline(always)]
 fn passing_by(watches: &Watches) -> Passing
     ensures { IsFit result watches.now }
@@ -131,7 +131,11 @@ fn passing_by(watches: &Watches) -> Passing
     if !watches.is_calm() {
         Passing::Told
     } else if watches.is_steady() {
-        Passing::Lines
+        if watches.is_moving() {
+            Passing::Moves
+        } else {
+            Passing::Lines
+        }
     } else {
         Passing::Numbers
     }

@@ -1,20 +1,22 @@
--- Lines, curves and closepaths in the midst of a path: what watchers keep and say of them.
-use Rattle.std.proofs.Common.{◌≡◌, ℕ, ℤ, pos, ◌+◌, ◌*◌, ◌^◌, ◌+ℤ◌, nat_lt, true, false, List, [], ◌∷◌, ◌++◌, length, take, slice_index_or, refl, sym, subst, arith}
+-- Lines, curves, closepaths and moves in the midst of a path: what watchers keep and say of them.
+use Rattle.std.proofs.Common.{◌≡◌, ℕ, suc, Bool, ℤ, pos, ◌+◌, ◌*◌, ◌^◌, ◌+ℤ◌, nat_lt, true, false, List, [], ◌∷◌, ◌++◌, length, take, slice_index_or, refl, sym, subst, arith}
 use Rattle.std.proofs.lemmas.Int.{ints, clamps}
-use Rattle.std.proofs.Math.Bool.{or-true}
+use Rattle.std.proofs.Math.Bool.{and-true, or-true}
 use Rattle.std.proofs.lemmas.List.{take_all}
 use Rattle.std.specs.List.{list_any}
 use Rattle.t1_char.specs.Arguments.{argument, is_callothersubr}
 use Rattle.t1_char.specs.Effects.{is_finishing}
-use Rattle.t1_char.specs.Lines.{IsLine, is_line_command, way_by}
+use Rattle.t1_char.specs.Lines.{IsLed, is_led, is_line_command, is_move_command, way_by}
 use Rattle.t1_char.specs.Numbers.{clamped}
 use Rattle.t1_char.specs.Seacs.{is_seac}
 use Rattle.t1_char.specs.Since.{any_so_far}
 use Rattle.t1_char.specs.Steps.{StepView, is_callsubr, is_return}
 use Rattle.t1_char.specs.declared.command.Command.{Command as Commands}
-use Rattle.t1_char.specs.declared.command.Command.TheVariants.{Rlineto, Hlineto, Vlineto, Rrcurveto, Vhcurveto, Hvcurveto, Closepath}
+use Rattle.t1_char.specs.declared.command.Command.TheVariants.{Rlineto, Hlineto, Vlineto, Rrcurveto, Vhcurveto, Hvcurveto, Closepath, Rmoveto, Hmoveto, Vmoveto}
 use Rattle.t1_char.specs.declared.edition.Edition.{Edition}
-use Rattle.t1_char.specs.declared.lines.Drawn.TheVariants.{Open}
+use Rattle.t1_char.specs.declared.lines.Drawn.TheVariants.{Moved, Open}
+use Rattle.t1_char.specs.declared.lines.Passing.{Passing}
+use Rattle.t1_char.specs.declared.lines.Passing.TheVariants as passing
 use Rattle.t1_char.specs.declared.lines.Way.{Way}
 use Rattle.t1_char.specs.declared.token.CharToken.TheVariants.{Command}
 use Rattle.t1_rules.specs.declared.step_rules.flex.Point.{Point}
@@ -26,19 +28,19 @@ use Rattle.t1_rules.specs.StepRules.Flex.{at, moved_by}
 use Rattle.t1_rules.specs.StepRules.Stems.{is_replaced, is_replaced_and_popped, is_stem, is_triple, lies_across, stands_upright}
 use Rattle.t1_rules.specs.StepRules.Paths.{in_flex, is_moved, is_open, clearing_step}
 use Rattle.t1_rules.specs.StepRules.Tokens.{clears, closes, is_command, is_div, is_line, is_move, is_pop, is_setcurrentpoint, sets_point, sets_width}
-use Rattle.t1_rules.specs.Steady.{IsSteady, closed_on, drawn_on, moved_on, point_on}
+use Rattle.t1_rules.specs.Steady.{IsSteady, IsUndrawn, closed_on, drawn_on, moved_on, point_on}
 use Rattle.t1_rules.specs.Watches.{IsCalm, IsNear, IsWithin, reach}
 use Rattle.t1_rules.proofs.Lemmas.Flex.{near_on, one_more_in_flex, plus_origin}
 use Rattle.t1_rules.proofs.Lemmas.Paths.{one_more}
 use Rattle.t1_rules.proofs.Lemmas.Seac.{one_more_outline}
 use Rattle.t1_rules.proofs.Lemmas.Stems.{one_more_stem}
 
--- What a line or a curve is to the rules.
-pub record IsLineToken (command : Commands) : Type 0 where
-  pub line : is_line (Command command) ≡ true
+-- What a line or a curve is to the rules, or a move.
+pub record IsLedToken (line move : Bool) (command : Commands) : Type 0 where
+  pub line_is : is_line (Command command) ≡ line
   pub clears : clears (Command command) ≡ true
   pub sets_width : sets_width (Command command) ≡ false
-  pub moves : is_move (Command command) ≡ false
+  pub move_is : is_move (Command command) ≡ move
   pub closes : closes (Command command) ≡ false
   pub finishes : is_finishing (Command command) ≡ false
   pub othersubr : is_callothersubr (Command command) ≡ false
@@ -55,14 +57,20 @@ pub record IsLineToken (command : Commands) : Type 0 where
   pub seac : is_seac (Command command) ≡ false
   pub way : (stack : List ℤ) → moved_by command stack ≡ at (way_by command stack).x (way_by command stack).y
 
-pub line_token : (command : Commands) → is_line_command command ≡ true → IsLineToken command
-line_token Rlineto is = record { line = refl; clears = refl; sets_width = refl; moves = refl; closes = refl; finishes = refl; othersubr = refl; calls = refl; returns = refl; divides = refl; pops = refl; sets_point = refl; setcurrentpoint = refl; across = refl; upright = refl; triple = refl; stem = refl; seac = refl; way = λ stack. refl }
-line_token Hlineto is = record { line = refl; clears = refl; sets_width = refl; moves = refl; closes = refl; finishes = refl; othersubr = refl; calls = refl; returns = refl; divides = refl; pops = refl; sets_point = refl; setcurrentpoint = refl; across = refl; upright = refl; triple = refl; stem = refl; seac = refl; way = λ stack. refl }
-line_token Vlineto is = record { line = refl; clears = refl; sets_width = refl; moves = refl; closes = refl; finishes = refl; othersubr = refl; calls = refl; returns = refl; divides = refl; pops = refl; sets_point = refl; setcurrentpoint = refl; across = refl; upright = refl; triple = refl; stem = refl; seac = refl; way = λ stack. refl }
-line_token Rrcurveto is = record { line = refl; clears = refl; sets_width = refl; moves = refl; closes = refl; finishes = refl; othersubr = refl; calls = refl; returns = refl; divides = refl; pops = refl; sets_point = refl; setcurrentpoint = refl; across = refl; upright = refl; triple = refl; stem = refl; seac = refl; way = λ stack. refl }
-line_token Vhcurveto is = record { line = refl; clears = refl; sets_width = refl; moves = refl; closes = refl; finishes = refl; othersubr = refl; calls = refl; returns = refl; divides = refl; pops = refl; sets_point = refl; setcurrentpoint = refl; across = refl; upright = refl; triple = refl; stem = refl; seac = refl; way = λ stack. refl }
-line_token Hvcurveto is = record { line = refl; clears = refl; sets_width = refl; moves = refl; closes = refl; finishes = refl; othersubr = refl; calls = refl; returns = refl; divides = refl; pops = refl; sets_point = refl; setcurrentpoint = refl; across = refl; upright = refl; triple = refl; stem = refl; seac = refl; way = λ stack. refl }
+pub line_token : (command : Commands) → is_line_command command ≡ true → IsLedToken true false command
+line_token Rlineto is = record { line_is = refl; clears = refl; sets_width = refl; move_is = refl; closes = refl; finishes = refl; othersubr = refl; calls = refl; returns = refl; divides = refl; pops = refl; sets_point = refl; setcurrentpoint = refl; across = refl; upright = refl; triple = refl; stem = refl; seac = refl; way = λ stack. refl }
+line_token Hlineto is = record { line_is = refl; clears = refl; sets_width = refl; move_is = refl; closes = refl; finishes = refl; othersubr = refl; calls = refl; returns = refl; divides = refl; pops = refl; sets_point = refl; setcurrentpoint = refl; across = refl; upright = refl; triple = refl; stem = refl; seac = refl; way = λ stack. refl }
+line_token Vlineto is = record { line_is = refl; clears = refl; sets_width = refl; move_is = refl; closes = refl; finishes = refl; othersubr = refl; calls = refl; returns = refl; divides = refl; pops = refl; sets_point = refl; setcurrentpoint = refl; across = refl; upright = refl; triple = refl; stem = refl; seac = refl; way = λ stack. refl }
+line_token Rrcurveto is = record { line_is = refl; clears = refl; sets_width = refl; move_is = refl; closes = refl; finishes = refl; othersubr = refl; calls = refl; returns = refl; divides = refl; pops = refl; sets_point = refl; setcurrentpoint = refl; across = refl; upright = refl; triple = refl; stem = refl; seac = refl; way = λ stack. refl }
+line_token Vhcurveto is = record { line_is = refl; clears = refl; sets_width = refl; move_is = refl; closes = refl; finishes = refl; othersubr = refl; calls = refl; returns = refl; divides = refl; pops = refl; sets_point = refl; setcurrentpoint = refl; across = refl; upright = refl; triple = refl; stem = refl; seac = refl; way = λ stack. refl }
+line_token Hvcurveto is = record { line_is = refl; clears = refl; sets_width = refl; move_is = refl; closes = refl; finishes = refl; othersubr = refl; calls = refl; returns = refl; divides = refl; pops = refl; sets_point = refl; setcurrentpoint = refl; across = refl; upright = refl; triple = refl; stem = refl; seac = refl; way = λ stack. refl }
 line_token _ is = let no : false ≡ true = is in cc
+
+pub move_token : (command : Commands) → is_move_command command ≡ true → IsLedToken false true command
+move_token Rmoveto is = record { line_is = refl; clears = refl; sets_width = refl; move_is = refl; closes = refl; finishes = refl; othersubr = refl; calls = refl; returns = refl; divides = refl; pops = refl; sets_point = refl; setcurrentpoint = refl; across = refl; upright = refl; triple = refl; stem = refl; seac = refl; way = λ stack. refl }
+move_token Hmoveto is = record { line_is = refl; clears = refl; sets_width = refl; move_is = refl; closes = refl; finishes = refl; othersubr = refl; calls = refl; returns = refl; divides = refl; pops = refl; sets_point = refl; setcurrentpoint = refl; across = refl; upright = refl; triple = refl; stem = refl; seac = refl; way = λ stack. refl }
+move_token Vmoveto is = record { line_is = refl; clears = refl; sets_width = refl; move_is = refl; closes = refl; finishes = refl; othersubr = refl; calls = refl; returns = refl; divides = refl; pops = refl; sets_point = refl; setcurrentpoint = refl; across = refl; upright = refl; triple = refl; stem = refl; seac = refl; way = λ stack. refl }
+move_token _ is = let no : false ≡ true = is in cc
 
 -- It leads no farther than one step can.
 kept_within : (z : ℤ) → IsWithin (2 ^ 31) (clamped z)
@@ -102,9 +110,14 @@ way_within Hvcurveto is v = record { x = within_two (argument v 0) (argument v 1
 way_within Rrcurveto is v = record { x = within_three (argument v 0) (argument v 2) (argument v 4) (argument_within v 0) (argument_within v 2) (argument_within v 4); y = within_three (argument v 1) (argument v 3) (argument v 5) (argument_within v 1) (argument_within v 3) (argument_within v 5) }
 way_within _ is v = let no : false ≡ true = is in cc
 
-point_near : (n : ℕ) (p : Point) (command : Commands) → is_line_command command ≡ true → (v : List ℤ) → IsNear n p → IsNear (n + 1) (point_on p (way_by command v))
-point_near n p command is v near =
-    let more = way_within command is v in
+move_within : (command : Commands) → is_move_command command ≡ true → (v : List ℤ) → IsWayWithin (way_by command v)
+move_within Rmoveto is v = record { x = within_one (argument v 0) (argument_within v 0); y = within_one (argument v 1) (argument_within v 1) }
+move_within Hmoveto is v = record { x = within_one (argument v 0) (argument_within v 0); y = within_none }
+move_within Vmoveto is v = record { x = within_none; y = within_one (argument v 0) (argument_within v 0) }
+move_within _ is v = let no : false ≡ true = is in cc
+
+point_near : (n : ℕ) (p : Point) (way : Way) → IsWayWithin way → IsNear n p → IsNear (n + 1) (point_on p way)
+point_near n p way more near =
     record { x = one_near n p.x _ near.x more.x; y = one_near n p.y _ near.y more.y }
 
 -- It leaves the path open.
@@ -137,33 +150,33 @@ stays_led : (edition : Edition) (w : Watches) (before : List StepView) (t : Step
     → WatchesStandFor edition (led_on w (way_by command t.stack)) (before ++ t ∷ [])
 unfolding WatchesStandFor led_on
 stays_led edition w before t command is line calm steady st =
-    let f : IsLineToken command = line_token command line in (
+    let f : IsLedToken true false command = line_token command line in (
       one_more w.paths (drawn_on w).paths before t st.0
           (rw (is, f.clears, steady.begun) refl)
           (rw (is, f.othersubr, steady.path_flex) refl)
-          (rw (is, f.moves, f.closes, steady.moved) refl)
-          (rw (is, f.line) refl),
+          (rw (is, f.move_is, f.closes, steady.moved) refl)
+          (rw (is, f.line_is) refl),
       (
         one_more_stem edition w.stems (drawn_on w).stems before t st.1.0 refl
             (rw (is, f.othersubr, f.across) refl)
             (rw (is, f.othersubr, f.upright) refl)
             (rw (is, f.othersubr, steady.stem_flex) refl)
-            (rw (is, f.line) refl)
+            (rw (is, f.line_is) refl)
             (rw (is, f.othersubr, calm.replaced) refl)
             (rw (is, f.pops, calm.hints_popped) refl),
         (
           one_more_in_flex w.flex (led_on w (way_by command t.stack)).flex before t st.1.1.0
               (rw (is, f.othersubr, steady.flex) refl)
-              (rw (is, f.othersubr, f.moves) refl)
+              (rw (is, f.othersubr, f.move_is) refl)
               (rw (is, f.othersubr) refl)
               (rw (is, f.sets_point, f.way t.stack) refl)
               (rw (is, f.othersubr, calm.ended) refl)
               (rw (is, f.pops, calm.popped) refl)
               (rw (is, f.pops, calm.popped_twice) refl)
-              (point_near (length before) w.flex.point command line t.stack st.1.1.0.near),
+              (point_near (length before) w.flex.point (way_by command t.stack) (way_within command line t.stack) st.1.1.0.near),
           one_more_outline w.seac (drawn_on w).seac before t st.1.1.1
               (rw (is, f.othersubr, steady.seac_flex) refl)
-              (rw (is, f.moves, f.line) (sym (or-true w.seac.outlined))),
+              (rw (is, f.move_is, f.line_is) (sym (or-true w.seac.outlined))),
         ),
       ),
     )
@@ -175,6 +188,70 @@ pub stays_at_line : (edition : Edition) (w : Watches) (before : List StepView) (
 stays_at_line edition w before t command is line calm steady st =
     subst (λ (v : Watches). WatchesStandFor edition v (before ++ t ∷ [])) (led_by_line w command line t.stack)
     (stays_led edition w before t command is line calm steady st)
+
+-- The watchers that a move leads to.
+led_to : Watches → Way → Watches
+led_to w way = record w { flex = record w.flex { moves = w.flex.moves + 1; point = point_on w.flex.point way } }
+
+led_by_move : (w : Watches) (command : Commands) → is_move_command command ≡ true → (v : List ℤ)
+    → led_to w (way_by command v) ≡ moved_on w (way_by command v)
+unfolding led_to
+led_by_move w Rmoveto is v = refl
+led_by_move w Hmoveto is v = refl
+led_by_move w Vmoveto is v = refl
+led_by_move w _ is v = let no : false ≡ true = is in cc
+
+-- It counts as one.
+pub move_once : (command : Commands) → is_move_command command ≡ true → (v : List ℤ) → (way_by command v).drawn ≡ Moved 1
+move_once Rmoveto is v = refl
+move_once Hmoveto is v = refl
+move_once Vmoveto is v = refl
+move_once _ is v = let no : false ≡ true = is in cc
+
+stays_led_to : (edition : Edition) (w : Watches) (before : List StepView) (t : StepView) (command : Commands) → t.token ≡ Command command
+    → is_move_command command ≡ true → IsCalm w → IsSteady w → IsUndrawn w → WatchesStandFor edition w before
+    → WatchesStandFor edition (led_to w (way_by command t.stack)) (before ++ t ∷ [])
+unfolding WatchesStandFor led_to
+stays_led_to edition w before t command is move calm steady undrawn st =
+    let f : IsLedToken false true command = move_token command move in
+    let one_more_move : w.flex.moves + 1 ≡ suc w.flex.moves = omega arith in (
+      one_more w.paths w.paths before t st.0
+          (rw (is, f.clears, steady.begun) refl)
+          (rw (is, f.othersubr, steady.path_flex) refl)
+          (rw (is, f.move_is, steady.path_flex, steady.moved) refl)
+          (rw (is, f.line_is, f.othersubr, undrawn.drawn) refl),
+      (
+        one_more_stem edition w.stems w.stems before t st.1.0 refl
+            (rw (is, f.othersubr, f.across) refl)
+            (rw (is, f.othersubr, f.upright) refl)
+            (rw (is, f.othersubr, steady.stem_flex) refl)
+            (rw (is, f.line_is, f.othersubr) (sym (and-true w.stems.drawn)))
+            (rw (is, f.othersubr, calm.replaced) refl)
+            (rw (is, f.pops, calm.hints_popped) refl),
+        (
+          one_more_in_flex w.flex (led_to w (way_by command t.stack)).flex before t st.1.1.0
+              (rw (is, f.othersubr, steady.flex) refl)
+              (rw (is, f.othersubr, f.move_is) one_more_move)
+              (rw (is, f.othersubr) refl)
+              (rw (is, f.sets_point, f.way t.stack) refl)
+              (rw (is, f.othersubr, calm.ended) refl)
+              (rw (is, f.pops, calm.popped) refl)
+              (rw (is, f.pops, calm.popped_twice) refl)
+              (point_near (length before) w.flex.point (way_by command t.stack) (move_within command move t.stack) st.1.1.0.near),
+          one_more_outline w.seac w.seac before t st.1.1.1
+              (rw (is, f.othersubr, steady.seac_flex) refl)
+              (rw (is, undrawn.outlined) refl),
+        ),
+      ),
+    )
+
+-- What is kept after a move, where nothing is drawn.
+pub stays_at_move : (edition : Edition) (w : Watches) (before : List StepView) (t : StepView) (command : Commands) → t.token ≡ Command command
+    → is_move_command command ≡ true → IsCalm w → IsSteady w → IsUndrawn w → WatchesStandFor edition w before
+    → WatchesStandFor edition (moved_on w (way_by command t.stack)) (before ++ t ∷ [])
+stays_at_move edition w before t command is move calm steady undrawn st =
+    subst (λ (v : Watches). WatchesStandFor edition v (before ++ t ∷ [])) (led_by_move w command move t.stack)
+    (stays_led_to edition w before t command is move calm steady undrawn st)
 
 -- What is kept after a closepath, where something is drawn.
 pub record IsDrawn (w : Watches) : Type 0 where
@@ -225,11 +302,11 @@ no_fault_at_close edition n before t is alone replaced popped begun outside draw
 
 -- Nor is a rule broken.
 pub no_fault_at_line : (edition : Edition) (n : ℕ) (before : List StepView) (t : StepView) (command : Commands) → t.token ≡ Command command
-    → IsLine command t.stack → is_replaced before ≡ false → is_replaced_and_popped before ≡ false → any_so_far clearing_step before ≡ true
+    → IsLed passing.Lines command t.stack → is_replaced before ≡ false → is_replaced_and_popped before ≡ false → any_so_far clearing_step before ≡ true
     → in_flex before ≡ false → is_moved before ≡ true → breaks (step_rules edition) n before t ≡ false
 unfolding step_rules argument_rules call_rules path_rules stem_rules flex_rules othersubr_rules seac_rules
 no_fault_at_line edition n before t command is line replaced popped begun outside moved =
-    let f : IsLineToken command = line_token command line.line in
+    let f : IsLedToken true false command = line_token command line.led in
     let none : nat_lt (length t.stack) (length t.stack) ≡ false = grind arith in
     let all : take (length t.stack) t.stack ≡ t.stack = take_all (length t.stack) t.stack (omega arith) in
     let past : list_any is_past t.stack ≡ false = line.near in
@@ -239,9 +316,9 @@ no_fault_at_line edition n before t command is line replaced popped begun outsid
       none,
       all,
       past,
-      f.line,
+      f.line_is,
       f.sets_width,
-      f.moves,
+      f.move_is,
       f.closes,
       f.finishes,
       f.othersubr,
@@ -259,4 +336,41 @@ no_fault_at_line edition n before t command is line replaced popped begun outsid
       begun,
       outside,
       moved,
+    ) refl
+
+pub no_fault_at_move : (edition : Edition) (n : ℕ) (before : List StepView) (t : StepView) (command : Commands) → t.token ≡ Command command
+    → IsLed passing.Moves command t.stack → is_replaced before ≡ false → is_replaced_and_popped before ≡ false
+    → any_so_far clearing_step before ≡ true → in_flex before ≡ false → is_open before ≡ false → breaks (step_rules edition) n before t ≡ false
+unfolding step_rules argument_rules call_rules path_rules stem_rules flex_rules othersubr_rules seac_rules
+no_fault_at_move edition n before t command is move replaced popped begun outside undrawn =
+    let f : IsLedToken false true command = move_token command move.led in
+    let none : nat_lt (length t.stack) (length t.stack) ≡ false = grind arith in
+    let all : take (length t.stack) t.stack ≡ t.stack = take_all (length t.stack) t.stack (omega arith) in
+    let past : list_any is_past t.stack ≡ false = move.near in
+    rw (
+      is,
+      move.count,
+      none,
+      all,
+      past,
+      f.line_is,
+      f.sets_width,
+      f.move_is,
+      f.closes,
+      f.finishes,
+      f.othersubr,
+      f.calls,
+      f.returns,
+      f.divides,
+      f.pops,
+      f.setcurrentpoint,
+      f.across,
+      f.upright,
+      f.triple,
+      f.seac,
+      replaced,
+      popped,
+      begun,
+      outside,
+      undrawn,
     ) refl

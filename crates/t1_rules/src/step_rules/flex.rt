@@ -147,6 +147,15 @@ impl FlexWatcher {
         };
     }
 
+    /// Counts moves.
+    #[inline(always)]
+    pub(crate) fn count_moves(&mut self, count: u32)
+        requires { self.old.moves + count < most_steps }
+        ensures { self.new ≡ record self.old { moves = self.old.moves + count } }
+    {
+        self.moves += count;
+    }
+
     /// What a step breaks.
     #[inline(always)]
     #[tactic(auto, unfolding(crate::specs::StepRules::flex_rules))]

@@ -31,6 +31,9 @@ pub struct PathWatcher {
     moved: bool,
     /// Whether something was drawn, and no closepath came since.
     drawn: bool,
+    /// Whether the last command that takes arguments from the bottom was a move after a move, with nothing drawn between.
+    /// Only a machine's speed depends on it.
+    moved_again: bool,
 }
 
 impl Watch for PathWatcher {
@@ -47,6 +50,7 @@ impl Watch for PathWatcher {
             in_flex: false,
             moved: false,
             drawn: false,
+            moved_again: false,
         }
     }
 
@@ -82,6 +86,14 @@ impl PathWatcher {
         ensures moved { result ≡ true → self.now.moved ≡ true }
     {
         self.moved && self.begun && !self.in_flex
+    }
+
+    /// Whether moves came last, with nothing drawn since.
+    #[inline(always)]
+    pub(crate) fn is_moving(&self) -> bool
+        ensures { result ≡ true → self.now.drawn ≡ false }
+    {
+        self.moved_again & !self.drawn
     }
 
     /// Notes a line.
@@ -131,6 +143,7 @@ impl PathWatcher {
             PathsStandFor self.new (before ++ step_view step.now ∷ []) }
     {
         let stays = !closes(token);
+        self.moved_again = self.moves(token) & (self.moved & !self.drawn);
         self.drawn = draws(token, call, step, self.in_flex) | (self.drawn & stays);
         self.moved = self.moves(token) | (self.moved & stays);
         self.begun = self.begun | clears(token);

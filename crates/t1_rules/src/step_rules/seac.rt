@@ -67,6 +67,14 @@ impl SeacWatcher {
         !self.in_flex
     }
 
+    /// Whether there was a move, a drawing, a stem or a closepath.
+    #[inline(always)]
+    pub(crate) fn is_outlined(&self) -> bool
+        ensures { result ≡ self.now.outlined }
+    {
+        self.outlined
+    }
+
     /// Notes a line.
     #[inline(always)]
     pub(crate) fn draw(&mut self)

@@ -1,5 +1,4 @@
 use Rattle.std.proofs.Common.{ap, arith}
-use Rattle.t1_char.specs.Lines.{is_lines}
 use Rattle.t1_char.proofs.Advancing.{none_over}
 use Rattle.t1_char.proofs.frames.Frames.go_over.Goals as goal
 
@@ -9,7 +8,7 @@ returns-clause-over c =
       taken = 0;
       taken_is = omega arith;
       passed = c.args.self.now;
-      over = none_over (is_lines c.args.passing) c.args.limit c.args.font.now c.args.counted c.args.self.now;
+      over = none_over c.args.passing c.args.limit c.args.font.now c.args.counted c.args.self.now;
       token = c.read_token.ensures.token;
       path = ap (λ f. f.step.path.items) c.read_token.ensures.kept;
       callers = ap (λ f. f.callers.items) c.read_token.ensures.kept;

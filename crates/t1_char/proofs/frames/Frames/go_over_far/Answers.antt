@@ -9,7 +9,7 @@ returns-clause-over c =
       taken = c.take_lines-stop.result.passed;
       taken_is = refl;
       passed = frames_at c.args.self.now takes.before c.take_lines-stop.new.self;
-      over = lines_over c.args.lines c.args.limit c.args.font.now c.args.counted c.args.self.now c.take_lines-stop.result.passed _ takes.before
+      over = lines_over c.args.passing c.args.limit c.args.font.now c.args.counted c.args.self.now c.take_lines-stop.result.passed _ takes.before
           c.take_lines-stop.new.self c.take_lines-stop.result.way c.requires.ahead takes.passes
           (omega (arith, c.take_lines-stop.ensures.near, c.requires.far));
       token = c.take_token.ensures.token takes.before takes.token;

@@ -2,7 +2,7 @@ use Rattle.std.proofs.Common.{◌+◌, sym, subst, arith}
 use Rattle.t1_char.specs.declared.machine.Answer.TheVariants.{Step, Ended, Limit}
 use Rattle.t1_char.specs.AnswerViews.{answer_view}
 use Rattle.t1_char.specs.Editions.{limit_of}
-use Rattle.t1_char.specs.Lines.{IsAskedFarBehind, is_lines, no_way}
+use Rattle.t1_char.specs.Lines.{IsAskedFarBehind, no_way}
 use Rattle.t1_char.specs.Steps.{steps_of}
 use Rattle.t1_char.specs.StepValues.{step_value}
 use Rattle.t1_char.specs.Private.Machines.{IsAt}
@@ -34,7 +34,7 @@ returns-then-not-execute-clause-asked c =
 pub invariant_of-self-then-self : goal.invariant_of-self-then-self
 invariant_of-self-then-self c =
     let m = c.self.inside in
-    let read = has_read (is_lines c.args.passing) (limit_of m.edition) m.limit (steps_of m.font.now m.glyph) m.font.now m.counted _ _ m.answer m.frames
+    let read = has_read c.args.passing (limit_of m.edition) m.limit (steps_of m.font.now m.glyph) m.font.now m.counted _ _ m.answer m.frames
     c.execute.new.self c.advance-gone.new.self c.self.invariant.1 c.in-Step.is c.self.invariant.0 c.if-not-execute.ensures.steps
     c.if-not-execute.ensures.even c.advance-gone.ensures.over in
     let answers = answers_limit (limit_of m.edition) (steps_of m.font.now m.glyph) m.font.now c.advance-gone.result.before read.passed
@@ -44,7 +44,7 @@ invariant_of-self-then-self c =
 pub returns-then-self-clause-asked : goal.returns-then-self-clause-asked
 returns-then-self-clause-asked c =
     let m = c.self.inside in
-    let read = has_read (is_lines c.args.passing) (limit_of m.edition) m.limit (steps_of m.font.now m.glyph) m.font.now m.counted _ _ m.answer m.frames
+    let read = has_read c.args.passing (limit_of m.edition) m.limit (steps_of m.font.now m.glyph) m.font.now m.counted _ _ m.answer m.frames
     c.execute.new.self c.advance-gone.new.self c.self.invariant.1 c.in-Step.is c.self.invariant.0 c.if-not-execute.ensures.steps
     c.if-not-execute.ensures.even c.advance-gone.ensures.over in
     let answers = answers_limit (limit_of m.edition) (steps_of m.font.now m.glyph) m.font.now c.advance-gone.result.before read.passed
@@ -58,7 +58,7 @@ returns-then-self-clause-asked c =
 pub invariant_of-self-else-self : goal.invariant_of-self-else-self
 invariant_of-self-else-self c =
     let m = c.self.inside in
-    let read = has_read (is_lines c.args.passing) (limit_of m.edition) m.limit (steps_of m.font.now m.glyph) m.font.now m.counted _ _ m.answer m.frames
+    let read = has_read c.args.passing (limit_of m.edition) m.limit (steps_of m.font.now m.glyph) m.font.now m.counted _ _ m.answer m.frames
     c.execute.new.self c.advance-gone.new.self c.self.invariant.1 c.in-Step.is c.self.invariant.0 c.if-not-execute.ensures.steps
     c.if-not-execute.ensures.even c.advance-gone.ensures.over in
     let answers = answers_step (limit_of m.edition) (steps_of m.font.now m.glyph) m.font.now c.advance-gone.result.before read.passed
@@ -71,7 +71,7 @@ invariant_of-self-else-self c =
 pub returns-else-self-clause-asked : goal.returns-else-self-clause-asked
 returns-else-self-clause-asked c =
     let m = c.self.inside in
-    let read = has_read (is_lines c.args.passing) (limit_of m.edition) m.limit (steps_of m.font.now m.glyph) m.font.now m.counted _ _ m.answer m.frames
+    let read = has_read c.args.passing (limit_of m.edition) m.limit (steps_of m.font.now m.glyph) m.font.now m.counted _ _ m.answer m.frames
     c.execute.new.self c.advance-gone.new.self c.self.invariant.1 c.in-Step.is c.self.invariant.0 c.if-not-execute.ensures.steps
     c.if-not-execute.ensures.even c.advance-gone.ensures.over in
     let answers = answers_step (limit_of m.edition) (steps_of m.font.now m.glyph) m.font.now c.advance-gone.result.before read.passed

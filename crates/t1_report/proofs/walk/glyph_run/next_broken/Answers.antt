@@ -37,13 +37,21 @@ ended c =
     (sym c.is_over.ensures ∙ c.if-is_over.true) c.go_far-far.ensures.asked (stands c).run.counted_few
 
 -- The watchers can be moved on.
-pub go-requires : goal.go-requires
-go-requires c =
+pub go-requires-clause-near : goal.go-requires-clause-near
+go-requires-clause-near c =
     (gone_far c.passing_by.result c.loop-on.machine c.go_far-far.new.self _ c.go_far-far.result.way c.loop-on.watches
     (executed c.args.machine.now) c.args.machine.now.glyph c.args.unit (c.args.machine.now.counted + 1)
     c.passing_by.ensures c.loop-on.invariant.font c.loop-on.invariant.glyph c.requires.unit c.loop-on.invariant.run
     c.loop-on.invariant.quiet
     (c.loop-on.invariant.near c.loop-on-test.true) c.go_far-far.ensures.asked).point
+
+pub go-requires-clause-few : goal.go-requires-clause-few
+go-requires-clause-few c =
+    (gone_far c.passing_by.result c.loop-on.machine c.go_far-far.new.self _ c.go_far-far.result.way c.loop-on.watches
+    (executed c.args.machine.now) c.args.machine.now.glyph c.args.unit (c.args.machine.now.counted + 1)
+    c.passing_by.ensures c.loop-on.invariant.font c.loop-on.invariant.glyph c.requires.unit c.loop-on.invariant.run
+    c.loop-on.invariant.quiet
+    (c.loop-on.invariant.near c.loop-on-test.true) c.go_far-far.ensures.asked).moves
 
 pub returns-then-is_over-clause-found : goal.returns-then-is_over-clause-found
 returns-then-is_over-clause-found c =
