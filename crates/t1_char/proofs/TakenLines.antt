@@ -1,24 +1,26 @@
 -- Numbers, and lines or moves, that are taken one after another.
-use Rattle.std.proofs.Common.{◌≡◌, inl, inr, ℕ, zero, suc, ℤ, ◌+◌, ◌-◌, ◌<◌, ◌≤◌, Bool, true, false, Option, Some, None, if◌then◌else◌, List, [], ◌∷◌, length, take, length-take, refl, sym, ap, subst, ◌∙◌, arith}
+use Rattle.std.proofs.Common.{◌≡◌, inl, inr, ℕ, zero, suc, ℤ, ◌+◌, ◌-◌, ◌<◌, ◌≤◌, ◌||◌, true, false, Option, Some, None, IfSome, if◌then◌else◌, List, [], ◌∷◌, length, take, length-take, refl, sym, ap, subst, ◌∙◌, arith}
 use Rattle.std.proofs.lemmas.Int.{ints}
+use Rattle.std.proofs.Math.Bool.{or-true}
 use Rattle.t1_char.specs.declared.command.Command.{Command as Commands}
 use Rattle.t1_char.specs.declared.command.Command.TheVariants.{Rlineto, Hlineto, Vlineto, Rrcurveto, Vhcurveto, Hvcurveto, Closepath, Rmoveto, Hmoveto, Vmoveto}
 use Rattle.t1_char.specs.declared.cursor.Cursor.{Cursor}
 use Rattle.t1_char.specs.declared.cursor.Ahead.{Ahead}
 use Rattle.t1_char.specs.declared.lines.Drawn.{Drawn}
-use Rattle.t1_char.specs.declared.lines.Drawn.TheVariants.{Nothing, Moved, Open, Closed}
+use Rattle.t1_char.specs.declared.lines.Drawn.TheVariants.{Nothing, Open, Closed}
+use Rattle.t1_char.specs.declared.token.CharToken.{CharToken}
 use Rattle.t1_char.specs.declared.lines.Passing.{Passing}
 use Rattle.t1_char.specs.declared.lines.Passing.TheVariants as passing
 use Rattle.t1_char.specs.declared.lines.Way.{Way}
 use Rattle.t1_char.specs.declared.taking.Lines.{Lines}
 use Rattle.t1_char.specs.declared.taking.Stop.{Stop}
 use Rattle.t1_char.specs.declared.token.CharToken.TheVariants.{Command, Short}
-use Rattle.t1_char.specs.Lines.{ClosesPath, IsWayNear, drawn_after, further, goes_on_from, is_led, leads, moves_in, no_way, way_by}
+use Rattle.t1_char.specs.Lines.{ClosesPath, IsWayNear, can_follow, drawn_after, further, is_closed, is_led, is_line_command, is_move_command, leads, no_way, way_by}
 use Rattle.t1_char.specs.Stacks.{most_numbers}
 use Rattle.t1_char.specs.Tokens.{more_of, token_at, tokens_behind, tokens_of}
 use Rattle.t1_char.specs.Private.Cursors.{AtFirst, bytes_left, cursor_of, tokens_left}
 use Rattle.t1_char.specs.Private.Plain.{IsPlainEffect}
-use Rattle.t1_char.specs.Private.Taking.{Finishes, IsLedFirst, IsTakingLines, IsTokenRead, PassesCommand, PassesNumbers, PassesOne, PassesRow, StopsAt, Takes, TakesLines, closepath_byte, left_of, lines_cursor, stop_cursor}
+use Rattle.t1_char.specs.Private.Taking.{Finishes, IsLedAfter, IsLedBy, IsLedFirst, IsTakingLines, IsTokenRead, PassesCommand, PassesNumbers, PassesOne, PassesRow, StopsAt, Takes, TakesLines, closepath_byte, left_of, lines_cursor, stop_cursor}
 
 near_none : IsWayNear 0 no_way
 near_none = record {
@@ -29,11 +31,11 @@ near_none = record {
 pub path_none : (what : Passing) (room : ℕ) (ahead : Ahead) → most_numbers ≤ room
     → IsTakingLines what room ahead [] [] 0 (cursor_of ahead) no_way × (0 + most_numbers ≤ room)
 path_none what room ahead enough = (
-  record { passes = (refl, (refl, refl)); near = near_none; room_is = omega arith; short = refl; from = refl; few = omega arith },
+  record { passes = (refl, (refl, refl)); near = near_none; room_is = omega arith; short = refl; unclosed = refl; few = omega arith },
   omega (arith, enough),
 )
 
-row_numbers : (what : Passing) (n k : ℕ) (a m b : Cursor) (s t u : List ℤ) (way : Way) → PassesRow what n a m s t way → PassesNumbers k m b t u
+pub row_numbers : (what : Passing) (n k : ℕ) (a m b : Cursor) (s t u : List ℤ) (way : Way) → PassesRow what n a m s t way → PassesNumbers k m b t u
     → PassesRow what (n + k) a b s u way
 row_numbers what n zero a m b s t u way row passes =
     let same : n ≡ n + 0 = omega arith in
@@ -67,54 +69,93 @@ path_numbers what room ahead left new passed way stop so_far enough takes is few
       near = near_more passed stop.len way so_far.near;
       room_is = omega (arith, enough, few);
       short = takes.near refl;
-      from = so_far.from;
+      unclosed = so_far.unclosed;
       few = omega (arith, so_far.few);
     }
 
 -- A line empties the stack, and so does a move.
+line_effect : (command : Commands) → is_line_command command ≡ true → (old : List ℤ) → IsPlainEffect (Command command) old []
+line_effect Rlineto is old = λ named depth waiting. refl
+line_effect Hlineto is old = λ named depth waiting. refl
+line_effect Vlineto is old = λ named depth waiting. refl
+line_effect Rrcurveto is old = λ named depth waiting. refl
+line_effect Vhcurveto is old = λ named depth waiting. refl
+line_effect Hvcurveto is old = λ named depth waiting. refl
+line_effect _ is old = let no : false ≡ true = is in cc
+
 led_effect : (what : Passing) (command : Commands) → is_led what command ≡ true → (old : List ℤ) → IsPlainEffect (Command command) old []
-led_effect passing.Lines command is old = line_effect command is
-  where
-    line_effect : (command : Commands) → is_led passing.Lines command ≡ true → IsPlainEffect (Command command) old []
-    line_effect Rlineto is = λ named depth waiting. refl
-    line_effect Hlineto is = λ named depth waiting. refl
-    line_effect Vlineto is = λ named depth waiting. refl
-    line_effect Rrcurveto is = λ named depth waiting. refl
-    line_effect Vhcurveto is = λ named depth waiting. refl
-    line_effect Hvcurveto is = λ named depth waiting. refl
-    line_effect _ is = let no : false ≡ true = is in cc
-led_effect passing.Moves command is old = move_effect command is
-  where
-    move_effect : (command : Commands) → is_led passing.Moves command ≡ true → IsPlainEffect (Command command) old []
-    move_effect Rmoveto is = λ named depth waiting. refl
-    move_effect Hmoveto is = λ named depth waiting. refl
-    move_effect Vmoveto is = λ named depth waiting. refl
-    move_effect _ is = let no : false ≡ true = is in cc
+led_effect passing.Lines command is old = line_effect command is old
+led_effect passing.Moves Rmoveto is old = λ named depth waiting. refl
+led_effect passing.Moves Hmoveto is old = λ named depth waiting. refl
+led_effect passing.Moves Vmoveto is old = λ named depth waiting. refl
+led_effect passing.Moves Rlineto is old = λ named depth waiting. refl
+led_effect passing.Moves Hlineto is old = λ named depth waiting. refl
+led_effect passing.Moves Vlineto is old = λ named depth waiting. refl
+led_effect passing.Moves Rrcurveto is old = λ named depth waiting. refl
+led_effect passing.Moves Vhcurveto is old = λ named depth waiting. refl
+led_effect passing.Moves Hvcurveto is old = λ named depth waiting. refl
+led_effect passing.Moves _ is old = let no : false ≡ true = is in cc
 led_effect passing.Told command is old = let no : false ≡ true = is in cc
 led_effect passing.Numbers command is old = let no : false ≡ true = is in cc
 
--- After it such a command can come again.
-still_from : (what : Passing) (drawn : Drawn) (command : Commands) → is_led what command ≡ true → goes_on_from what drawn ≡ true → (v : List ℤ)
-    → goes_on_from what (drawn_after drawn (way_by command v).drawn) ≡ true
-still_from passing.Lines drawn command is from v = by_line command is
-  where
-    by_line : (command : Commands) → is_led passing.Lines command ≡ true → goes_on_from passing.Lines (drawn_after drawn (way_by command v).drawn) ≡ true
-    by_line Rlineto is = refl
-    by_line Hlineto is = refl
-    by_line Vlineto is = refl
-    by_line Rrcurveto is = refl
-    by_line Vhcurveto is = refl
-    by_line Hvcurveto is = refl
-    by_line _ is = let no : false ≡ true = is in cc
-still_from passing.Moves drawn command is from v = by_move command is
-  where
-    by_move : (command : Commands) → is_led passing.Moves command ≡ true → goes_on_from passing.Moves (drawn_after drawn (way_by command v).drawn) ≡ true
-    by_move Rmoveto is = refl
-    by_move Hmoveto is = refl
-    by_move Vmoveto is = refl
-    by_move _ is = let no : false ≡ true = is in cc
-still_from passing.Told drawn command is from v = let no : false ≡ true = is in cc
-still_from passing.Numbers drawn command is from v = let no : false ≡ true = is in cc
+-- It closes no path.
+not_closed : (command : Commands) (v : List ℤ) (drawn : Drawn) → is_closed drawn ≡ false → is_closed (drawn_after drawn (way_by command v).drawn) ≡ false
+not_closed Rlineto v drawn unclosed = refl
+not_closed Hlineto v drawn unclosed = refl
+not_closed Vlineto v drawn unclosed = refl
+not_closed Rrcurveto v drawn unclosed = refl
+not_closed Vhcurveto v drawn unclosed = refl
+not_closed Hvcurveto v drawn unclosed = refl
+not_closed Rmoveto v drawn unclosed = unclosed
+not_closed Hmoveto v drawn unclosed = unclosed
+not_closed Vmoveto v drawn unclosed = unclosed
+not_closed _ v drawn unclosed = unclosed
+
+-- A line can come where the path isn't closed, and a move where nothing is drawn.
+line_led : (what : Passing) → leads what ≡ true → (command : Commands) → is_line_command command ≡ true → is_led what command ≡ true
+line_led passing.Lines on command is = is
+line_led passing.Moves on command is = ap (λ b. b || is_move_command command) is
+line_led passing.Told on command is = let no : false ≡ true = on in cc
+line_led passing.Numbers on command is = let no : false ≡ true = on in cc
+
+line_follows : (command : Commands) (drawn : Drawn) → is_line_command command ≡ true → is_closed drawn ≡ false → can_follow command drawn ≡ true
+line_follows command Nothing is unclosed = refl
+line_follows command Open is unclosed = is
+line_follows command Closed is unclosed = let no : true ≡ false = unclosed in cc
+
+line_after : (what : Passing) (drawn : Drawn) (token : CharToken) (numbers : List ℤ) (way : Way) → leads what ≡ true → is_closed drawn ≡ false
+    → IsLedBy is_line_command token numbers way → IsLedAfter what drawn token numbers way
+line_after what drawn token numbers way on unclosed line = record {
+  by = record {
+    command = line.command;
+    token_is = line.token_is;
+    is = record { led = line_led what on line.command line.is.led; count = line.is.count; near = line.is.near };
+    way_is = line.way_is;
+  };
+  from = line_follows line.command drawn line.is.led unclosed;
+}
+
+pub line_first : (what : Passing) (drawn : Drawn) (first : ℕ) (numbers : List ℤ) (one : Option Way) → leads what ≡ true → is_closed drawn ≡ false
+    → IfSome one (λ way. (rest : List ℕ) → IsLedBy is_line_command (token_at first rest) numbers way) → IfSome one (λ way. more_of first ≡ 0)
+    → IfSome one (λ way. IsLedFirst what drawn (Some first) numbers way)
+line_first what drawn first numbers None on unclosed line more = tt
+line_first what drawn first numbers (Some way) on unclosed line more =
+    (λ rest. line_after what drawn (token_at first rest) numbers way on unclosed (line rest), more)
+
+pub move_after : (what : Passing) (drawn : Drawn) (token : CharToken) (numbers : List ℤ) (way : Way) → what ≡ passing.Moves → drawn ≡ Nothing
+    → IsLedBy is_move_command token numbers way → IsLedAfter what drawn token numbers way
+move_after what drawn token numbers way on none move =
+    subst (λ w. IsLedAfter w drawn token numbers way) (sym on)
+    (subst (λ d. IsLedAfter passing.Moves d token numbers way) (sym none)
+    (record {
+      by = record {
+        command = move.command;
+        token_is = move.token_is;
+        is = record { led = ap (λ b. is_line_command move.command || b) move.is.led ∙ or-true (is_line_command move.command); count = move.is.count; near = move.is.near };
+        way_is = move.way_is;
+      };
+      from = refl;
+    }))
 
 -- The token of a first byte that alone writes it.
 first_token : (first : ℕ) (before ahead : Cursor) → AtFirst first before ahead → more_of first ≡ 0
@@ -127,18 +168,18 @@ first_token first before ahead at none =
     ∙ ap (λ b. token_at first (bytes_left ahead) ∷ (if b then Short ∷ tokens_of (bytes_left ahead) else tokens_of (bytes_left ahead))) (sym at.behind_short)
 
 led_read : (what : Passing) (first : Option ℕ) (before ahead : Cursor) (numbers : List ℤ) (so_far one way : Way) → StopsAt first before ahead
-    → IsLedFirst what first numbers one → goes_on_from what so_far.drawn ≡ true → way ≡ further so_far one
-    → PassesCommand what before ahead numbers [] so_far way × (goes_on_from what way.drawn ≡ true)
-led_read what None before ahead numbers so_far one way at led from is = absurd led
-led_read what (Some first) before ahead numbers so_far one way at led from is =
+    → IsLedFirst what so_far.drawn first numbers one → is_closed so_far.drawn ≡ false → way ≡ further so_far one
+    → PassesCommand what before ahead numbers [] so_far way × (is_closed way.drawn ≡ false)
+led_read what None before ahead numbers so_far one way at led unclosed is = absurd led
+led_read what (Some first) before ahead numbers so_far one way at led unclosed is =
     let this = led.0 (bytes_left ahead) in (
       record {
-        command = this.command;
-        token = first_token first before ahead at led.1 ∙ ap (λ t. t ∷ tokens_left ahead) this.token_is;
-        plain = led_effect what this.command this.is.led numbers;
-        goes_on = inl (record { is = this.is; from = from; way = is ∙ ap (further so_far) this.way_is });
+        command = this.by.command;
+        token = first_token first before ahead at led.1 ∙ ap (λ t. t ∷ tokens_left ahead) this.by.token_is;
+        plain = led_effect what this.by.command this.by.is.led numbers;
+        goes_on = inl (record { is = this.by.is; from = this.from; way = is ∙ ap (further so_far) this.by.way_is });
       },
-      ap (λ w. goes_on_from what w.drawn) (is ∙ ap (further so_far) this.way_is) ∙ still_from what so_far.drawn this.command this.is.led from numbers,
+      ap (λ w. is_closed w.drawn) (is ∙ ap (further so_far) this.by.way_is) ∙ not_closed this.by.command numbers so_far.drawn unclosed,
     )
 
 -- A closepath right after a line.
@@ -156,19 +197,19 @@ row_more : (what : Passing) → leads what ≡ true → (n : ℕ) (a m b : Curso
 row_more what on n a m b s t u before way row one = (m, (t, (before, (row, inr (on, one)))))
 
 pub path_line : (what : Passing) → leads what ≡ true → (room : ℕ) (ahead : Ahead) (numbers : List ℤ) (passed : ℕ) (before : Cursor) (so_far one way : Way) (stop : Stop)
-    → IsTakingLines what room ahead [] numbers passed before so_far → StopsAt stop.first before (stop_cursor stop) → IsLedFirst what stop.first numbers one
-    → way ≡ further so_far one → IsWayNear (passed + 1) way → moves_in way.drawn ≤ passed + 1 → most_numbers < room - passed
+    → IsTakingLines what room ahead [] numbers passed before so_far → StopsAt stop.first before (stop_cursor stop) → IsLedFirst what so_far.drawn stop.first numbers one
+    → way ≡ further so_far one → IsWayNear (passed + 1) way → way.moves ≤ passed + 1 → most_numbers < room - passed
     → IsTakingLines what room ahead [] [] (passed + 1) (cursor_of (left_of stop.left stop.cipher)) way × (passed + 1 + most_numbers ≤ room)
 path_line what on room ahead numbers passed before so_far one way stop round at led is near few enough =
     let same : suc passed ≡ passed + 1 = omega arith in
-    let read = led_read what stop.first before (stop_cursor stop) numbers so_far one way at led round.from is in (
+    let read = led_read what stop.first before (stop_cursor stop) numbers so_far one way at led round.unclosed is in (
       record {
         passes = subst (λ n. PassesRow what n (cursor_of ahead) (stop_cursor stop) [] [] way) same
             (row_more what on passed (cursor_of ahead) before (stop_cursor stop) [] numbers [] so_far way round.passes read.0);
         near = near;
         room_is = omega (arith, enough);
         short = refl;
-        from = read.1;
+        unclosed = read.1;
         few = few;
       },
       omega (arith, enough),

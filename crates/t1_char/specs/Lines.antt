@@ -1,11 +1,11 @@
--- Lines, curves and closepaths, or moves, that a machine can pass with the numbers before them, and how far these lead.
+-- Moves, lines, curves and closepaths that a machine can pass with the numbers before them, and how far these lead.
 -- Type 1 Font Format 1.1, chapter 6.
 use Rattle.std.specs.Prelude.{◌≡◌, ◌⊎◌, ℕ, zero, suc, ℤ, pos, ◌+◌, ◌<◌, ◌*◌, ◌^◌, ◌+ℤ◌, ◌≤ℤ◌, ◌||◌, int_lt, Bool, true, false, Some, List, [], length, slice_get}
 use Rattle.std.specs.List.{list_any}
 use Rattle.t1_char.specs.declared.command.Command.{Command as Commands}
 use Rattle.t1_char.specs.declared.command.Command.TheVariants.{Rlineto, Hlineto, Vlineto, Rrcurveto, Vhcurveto, Hvcurveto, Closepath, Rmoveto, Hmoveto, Vmoveto}
 use Rattle.t1_char.specs.declared.lines.Drawn.{Drawn}
-use Rattle.t1_char.specs.declared.lines.Drawn.TheVariants.{Nothing, Moved, Open, Closed}
+use Rattle.t1_char.specs.declared.lines.Drawn.TheVariants.{Nothing, Open, Closed}
 use Rattle.t1_char.specs.declared.lines.Way.{Way}
 use Rattle.t1_char.specs.declared.lines.Passing.{Passing}
 use Rattle.t1_char.specs.declared.lines.Passing.TheVariants as passing
@@ -36,7 +36,7 @@ is_move_command _ = false
 -- Which commands are passed, and whether any is, but for a closepath after a line.
 abbrev pub is_led : Passing → Commands → Bool
 is_led passing.Lines command = is_line_command command
-is_led passing.Moves command = is_move_command command
+is_led passing.Moves command = is_line_command command || is_move_command command
 is_led _ command = false
 
 abbrev pub leads : Passing → Bool
@@ -50,35 +50,34 @@ is_far z = int_lt greatest z || int_lt z least
 
 -- The way of a line, of a move, of no step, of one way after another, and of lines with the closepath after them.
 abbrev pub way_at : ℤ → ℤ → Way
-way_at x y = record { x = x; y = y; drawn = Open }
+way_at x y = record { x = x; y = y; moves = 0; drawn = Open }
 
 abbrev pub move_to : ℤ → ℤ → Way
-move_to x y = record { x = x; y = y; drawn = Moved 1 }
+move_to x y = record { x = x; y = y; moves = 1; drawn = Nothing }
 
 abbrev pub no_way : Way
-no_way = record { x = pos 0; y = pos 0; drawn = Nothing }
-
-abbrev pub moves_in : Drawn → ℕ
-moves_in (Moved n) = n
-moves_in _ = 0
+no_way = record { x = pos 0; y = pos 0; moves = 0; drawn = Nothing }
 
 abbrev pub drawn_after : Drawn → Drawn → Drawn
-drawn_after before (Moved m) = Moved (moves_in before + m)
+drawn_after before Nothing = before
 drawn_after before after = after
 
 abbrev pub further : Way → Way → Way
-further one other = record { x = one.x +ℤ other.x; y = one.y +ℤ other.y; drawn = drawn_after one.drawn other.drawn }
+further one other =
+    record { x = one.x +ℤ other.x; y = one.y +ℤ other.y; moves = one.moves + other.moves; drawn = drawn_after one.drawn other.drawn }
 
 abbrev pub closed : Way → Way
 closed way = record way { drawn = Closed }
 
--- Whether a command can be passed after what was drawn: a line neither after a closepath nor after a move, a move after moves alone.
-abbrev pub goes_on_from : Passing → Drawn → Bool
-goes_on_from what Nothing = true
-goes_on_from passing.Moves (Moved n) = true
-goes_on_from passing.Moves _ = false
-goes_on_from what Open = true
-goes_on_from what _ = false
+abbrev pub is_closed : Drawn → Bool
+is_closed Closed = true
+is_closed _ = false
+
+-- Whether a command can be passed after what was drawn: a move where nothing was, a line where the path isn't closed.
+abbrev pub can_follow : Commands → Drawn → Bool
+can_follow command Nothing = true
+can_follow command Open = is_line_command command
+can_follow command Closed = false
 
 -- How far a line, a curve or a move leads: by the sum of its pairs.
 abbrev pub way_by : Commands → List ℤ → Way
@@ -93,16 +92,16 @@ way_by Hmoveto v = move_to (argument v 0) (pos 0)
 way_by Vmoveto v = move_to (pos 0) (argument v 0)
 way_by _ v = no_way
 
--- A line, a curve or a move, whichever is passed, with exactly its arguments, none past 32000.
-pub record IsLed (what : Passing) (command : Commands) (stack : List ℤ) : Type 0 where
-  pub led : is_led what command ≡ true
+-- A command of such a kind with exactly its arguments, none past 32000.
+pub record IsLed (which : Commands → Bool) (command : Commands) (stack : List ℤ) : Type 0 where
+  pub led : which command ≡ true
   pub count : arguments_of command ≡ Some (length stack)
   pub near : list_any is_far stack ≡ false
 
--- Such a command, where it can come, leads from one way to another.
+-- A line, a curve or a move that is passed, where it can come, leads from one way to another.
 pub record LeadsOn (what : Passing) (command : Commands) (stack : List ℤ) (before after : Way) : Type 0 where
-  pub is : IsLed what command stack
-  pub from : goes_on_from what before.drawn ≡ true
+  pub is : IsLed (is_led what) command stack
+  pub from : can_follow command before.drawn ≡ true
   pub way : after ≡ further before (way_by command stack)
 
 -- A closepath without a number comes right after a line.

@@ -363,12 +363,12 @@ fn random_bytes(len_iv: i8) -> Option<usize>
     }
 }
 
-/// Whether the first byte begins a number of one or two bytes.
+/// Whether the first byte begins a number.
 #[inline(always)]
 fn begins_with_number(left: &[u8]) -> bool {
     match left {
         [] => false,
-        [first, ..] => matches!(*first, 32..=254),
+        [first, ..] => matches!(*first, 32..=255),
     }
 }
 

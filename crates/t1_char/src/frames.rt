@@ -9,7 +9,7 @@ ghost use Rattle.t1_char.specs.Private.Actions.{named_of};
 ghost use Rattle.t1_char.specs.StepValues.{step_view};
 ghost use Rattle.t1_char.specs.Private.Cursors.{AtFirst, behind_token, cursor_of, plain_cursor, tokens_left};
 ghost use Rattle.t1_char.specs.Private.Advancing.{Advances, ReadsToken};
-ghost use Rattle.t1_char.specs.Private.Taking.{IsTokenRead};
+ghost use Rattle.t1_char.specs.Private.Taking.{IsTokenRead, PassesUpTo};
 ghost use Rattle.t1_char.specs.declared.cursor.Cursor.{Cursor};
 ghost use Rattle.t1_char.specs.Stacks.{most_numbers};
 ghost use Rattle.t1_char.specs.Private.Frames.{IsReady, state_in, step_here, steps_behind, steps_from};
@@ -22,6 +22,7 @@ use crate::charstrings::{code_at, cursor_at};
 use crate::cursor::{Ahead, Cursor};
 use crate::effect::{Waiting, apply, apply_plain};
 use crate::lines::{Passing, Way, is_any, is_moves};
+use crate::numbers::units;
 use crate::stack::{MOST_NUMBERS, Stack};
 use crate::step::{MOST_CALLS, Step, is_last, named_at};
 use crate::subr::Subr;
@@ -205,13 +206,7 @@ impl<'a> Frames<'a> {
             }
             if !self.step.stack.is_full() {
                 if let Some(ahead) = self.current.unenciphered() {
-                    let before = self.go_over_plain(
-                        ahead.left,
-                        font,
-                        counted,
-                        limit,
-                        passing,
-                    );
+                    let before = self.go_over_plain(ahead.left, font, counted, limit, passing);
                     return self.gone(before);
                 }
             }
@@ -234,6 +229,7 @@ impl<'a> Frames<'a> {
             way: Way {
                 x: self.way.x,
                 y: self.way.y,
+                moves: self.way.moves,
                 drawn: self.way.drawn,
             },
         }
@@ -258,9 +254,9 @@ impl<'a> Frames<'a> {
                     cipher: stop.cipher,
                     short: false,
                 };
-                self.take_token(stop.token);
+                let more = self.take_token(stop.token, limit - counted - stop.passed);
                 self.way = stop.way;
-                return counted + stop.passed;
+                return counted + stop.passed + more;
             }
         }
         self.read_token();
@@ -291,6 +287,7 @@ impl<'a> Frames<'a> {
         let gone = self.go_over_far(ahead, font, counted, limit, passing);
         self.way.x = gone.way.x;
         self.way.y = gone.way.y;
+        self.way.moves = gone.way.moves;
         self.way.drawn = gone.way.drawn;
         gone.before
     }
@@ -319,37 +316,67 @@ impl<'a> Frames<'a> {
             cipher: stop.cipher,
             short: false,
         };
-        self.take_token(stop.token);
+        let more = self.take_token(stop.token, limit - counted - stop.passed);
         Gone {
-            before: counted + stop.passed,
+            before: counted + stop.passed + more,
             way: stop.way,
         }
     }
 
-    /// Takes a token that was read, or reads it.
+    /// Takes a token that was read, or reads it. Where 255 begins it, it passes the numbers that come first, `room` at most. Returns
+    /// how many it passed.
     #[inline(always)]
-    fn take_token(&mut self, token: Next)
-        ensures token { (before : Cursor) → IsTokenRead token before self.old.current →
-            tokens_left before ≡ self.new.step.token ∷ behind_token self.new.step.token (tokens_left self.new.current) }
+    fn take_token(&mut self, token: Next, room: u32) -> u32
+        ensures passes { (before : Cursor) → IsTokenRead token before self.old.current →
+            PassesUpTo result before self.old.step.stack self.new.step.token self.new.current self.new.step.stack }
         ensures kept { self.new
-            ≡ record self.old { current = self.new.current; step = record self.old.step { token = self.new.step.token } } }
+            ≡ record self.old {
+              current = self.new.current;
+              step = record self.old.step { token = self.new.step.token; stack = self.new.step.stack };
+            } }
+        ensures near { result ≤ room }
     {
         match token {
-            Next::Token(token) => self.step.token = token,
-            Next::Long => self.read_long(),
-            Next::End => self.read_token(),
+            Next::Token(token) => {
+                self.step.token = token;
+                0
+            }
+            Next::Long => self.go_over_long(room),
+            Next::End => {
+                self.read_token();
+                0
+            }
         }
     }
 
-    /// Reads the token that 255 begins.
+    /// Reads the number that 255 begins, passes it and the numbers after it while the stack has room, `room` at most, and reads the
+    /// token after these. Returns how many it passed.
     #[inline(never)]
-    fn read_long(&mut self)
-        ensures token { (before : Cursor) → AtFirst 255 before self.old.current →
-            tokens_left before ≡ self.new.step.token ∷ behind_token self.new.step.token (tokens_left self.new.current) }
+    fn go_over_long(&mut self, room: u32) -> u32
+        ensures passes { (before : Cursor) → AtFirst 255 before self.old.current →
+            PassesUpTo result before self.old.step.stack self.new.step.token self.new.current self.new.step.stack }
         ensures kept { self.new
-            ≡ record self.old { current = self.new.current; step = record self.old.step { token = self.new.step.token } } }
+            ≡ record self.old {
+              current = self.new.current;
+              step = record self.old.step { token = self.new.step.token; stack = self.new.step.stack };
+            } }
+        ensures near { result ≤ room }
     {
-        self.step.token = self.current.long_token();
+        let mut token = self.current.long_token();
+        let mut passed = 0;
+        loop {
+            match token {
+                CharToken::Number(number) if passed < room && !self.step.stack.is_full() => {
+                    self.step.stack.put(units(number));
+                    passed += 1;
+                    token = self.current.next_token();
+                }
+                _ => {
+                    self.step.token = token;
+                    return passed;
+                }
+            }
+        }
     }
 
     /// Reads the next token.

@@ -1,14 +1,14 @@
-//! Lines, curves and closepaths, or moves, that a machine passes: Type 1 Font Format 1.1, chapter 6.
+//! Moves, lines, curves and closepaths that a machine passes: Type 1 Font Format 1.1, chapter 6.
 
 ghost use Rattle.std.specs.Prelude.{◌≡◌, ◌+ℤ◌, ◌+◌, ◌<◌, ◌≤◌, ℕ, List, false, true, IfSome};
 ghost use Rattle.std.specs.List.{list_any};
-ghost use Rattle.t1_char.specs.declared.lines.Drawn.TheVariants.{Open};
+ghost use Rattle.t1_char.specs.declared.lines.Drawn.TheVariants.{Nothing, Open};
 ghost use Rattle.t1_char.specs.declared.lines.Passing.TheVariants.{Told, Lines, Moves};
 ghost use Rattle.t1_char.specs.Arguments.{argument};
 ghost use Rattle.t1_char.specs.Tokens.{more_of, token_at};
 ghost use Rattle.t1_char.specs.Private.Taking.{IsLedBy};
 ghost use Rattle.t1_char.specs.Private.Sums.{SumFits};
-ghost use Rattle.t1_char.specs.Lines.{IsLed, IsWayNear, IsWithin, argument_reach, closed, drawn_after, further, is_far, is_led, leads, move_to, moves_in, way_at, way_by, way_reach};
+ghost use Rattle.t1_char.specs.Lines.{IsLed, IsWayNear, IsWithin, argument_reach, closed, drawn_after, further, is_far, is_line_command, is_move_command, leads, move_to, way_at, way_by, way_reach};
 
 use crate::command::Command;
 
@@ -21,7 +21,7 @@ pub enum Passing {
     Numbers,
     /// And lines and curves with exactly their arguments, none past 32000, and a closepath right after these.
     Lines,
-    /// Numbers, and moves with exactly their arguments, none past 32000.
+    /// And before the first line moves, with exactly their arguments, none past 32000.
     Moves,
 }
 
@@ -53,8 +53,6 @@ pub(crate) fn is_any(passing: Passing) -> bool
 #[derive(Clone, Copy, Debug, PartialEq, Eq)]
 pub enum Drawn {
     Nothing,
-    /// Moves alone, so many.
-    Moved(u32),
     /// Lines and curves.
     Open,
     /// Lines and curves, and the closepath after them.
@@ -66,30 +64,19 @@ pub enum Drawn {
 pub struct Way {
     pub x: i64,
     pub y: i64,
+    /// How many moves there are.
+    pub moves: u32,
     pub drawn: Drawn,
 }
 
 impl Drawn {
-    /// How many moves there are.
-    #[inline(always)]
-    fn moves(self) -> u32
-        ensures { result ≡ moves_in self }
-    {
-        match self {
-            Drawn::Moved(count) => count,
-            _ => 0,
-        }
-    }
-
     /// What is drawn with this after it.
     #[inline(always)]
     fn further(self, other: Drawn) -> Drawn
-        requires few { moves_in self < 16777216 }
-        requires one { moves_in other ≤ 1 }
         ensures { result ≡ drawn_after self other }
     {
         match other {
-            Drawn::Moved(count) => Drawn::Moved(self.moves() + count),
+            Drawn::Nothing => self,
             _ => other,
         }
     }
@@ -100,6 +87,7 @@ impl Way {
     pub(crate) const NONE: Way = Way {
         x: 0,
         y: 0,
+        moves: 0,
         drawn: Drawn::Nothing,
     };
 
@@ -108,16 +96,17 @@ impl Way {
     pub(crate) fn further(self, other: Way, count: u32) -> Way
         requires few { count < 16777216 }
         requires near { IsWayNear count self }
-        requires moves { moves_in self.drawn ≤ count }
+        requires moves { self.moves ≤ count }
         requires one { IsWayNear 1 other }
-        requires once { moves_in other.drawn ≤ 1 }
+        requires once { other.moves ≤ 1 }
         ensures value { result ≡ further self other }
         ensures near { IsWayNear (count + 1) result }
-        ensures moves { moves_in result.drawn ≤ count + 1 }
+        ensures moves { result.moves ≤ count + 1 }
     {
         Way {
             x: sum(self.x, other.x),
             y: sum(self.y, other.y),
+            moves: self.moves + other.moves,
             drawn: self.drawn.further(other.drawn),
         }
     }
@@ -130,6 +119,14 @@ impl Way {
         matches!(self.drawn, Drawn::Open)
     }
 
+    /// Whether nothing was drawn.
+    #[inline(always)]
+    pub(crate) fn is_undrawn(self) -> bool
+        ensures { result ≡ true → self.drawn ≡ Nothing }
+    {
+        matches!(self.drawn, Drawn::Nothing)
+    }
+
     /// Returns this way with a closepath after it.
     #[inline(always)]
     pub(crate) fn closed(self) -> Way
@@ -138,6 +135,7 @@ impl Way {
         Way {
             x: self.x,
             y: self.y,
+            moves: self.moves,
             drawn: Drawn::Closed,
         }
     }
@@ -147,10 +145,10 @@ impl Way {
 #[inline(always)]
 pub(crate) fn line_at(first: u8, numbers: &[i64]) -> Option<Way>
     requires { list_any is_far numbers.now ≡ false }
-    ensures line { IfSome result (λ way. (rest : List ℕ) → IsLedBy Lines (token_at first rest) numbers.now way) }
+    ensures line { IfSome result (λ way. (rest : List ℕ) → IsLedBy is_line_command (token_at first rest) numbers.now way) }
     ensures more { IfSome result (λ way. more_of first ≡ 0) }
     ensures near { IfSome result (λ way. IsWayNear 1 way) }
-    ensures moves { IfSome result (λ way. moves_in way.drawn ≡ 0) }
+    ensures moves { IfSome result (λ way. way.moves ≡ 0) }
 {
     match first {
         5 => line_way(Command::Rlineto, numbers),
@@ -167,10 +165,10 @@ pub(crate) fn line_at(first: u8, numbers: &[i64]) -> Option<Way>
 #[inline(always)]
 fn line_way(command: Command, numbers: &[i64]) -> Option<Way>
     requires { list_any is_far numbers.now ≡ false }
-    ensures line { IfSome result (λ way. IsLed Lines command numbers.now) }
+    ensures line { IfSome result (λ way. IsLed is_line_command command numbers.now) }
     ensures value { IfSome result (λ way. way ≡ way_by command numbers.now) }
     ensures near { IfSome result (λ way. IsWayNear 1 way) }
-    ensures moves { IfSome result (λ way. moves_in way.drawn ≡ 0) }
+    ensures moves { IfSome result (λ way. way.moves ≡ 0) }
 {
     match command {
         Command::Rlineto if has_just_its_arguments(Command::Rlineto, numbers) => {
@@ -199,10 +197,10 @@ fn line_way(command: Command, numbers: &[i64]) -> Option<Way>
 #[inline(always)]
 pub(crate) fn move_at(first: u8, numbers: &[i64]) -> Option<Way>
     requires { list_any is_far numbers.now ≡ false }
-    ensures led { IfSome result (λ way. (rest : List ℕ) → IsLedBy Moves (token_at first rest) numbers.now way) }
+    ensures led { IfSome result (λ way. (rest : List ℕ) → IsLedBy is_move_command (token_at first rest) numbers.now way) }
     ensures more { IfSome result (λ way. more_of first ≡ 0) }
     ensures near { IfSome result (λ way. IsWayNear 1 way) }
-    ensures moves { IfSome result (λ way. moves_in way.drawn ≡ 1) }
+    ensures moves { IfSome result (λ way. way.moves ≡ 1) }
 {
     match first {
         4 => move_way(Command::Vmoveto, numbers),
@@ -216,10 +214,10 @@ pub(crate) fn move_at(first: u8, numbers: &[i64]) -> Option<Way>
 #[inline(always)]
 fn move_way(command: Command, numbers: &[i64]) -> Option<Way>
     requires { list_any is_far numbers.now ≡ false }
-    ensures led { IfSome result (λ way. IsLed Moves command numbers.now) }
+    ensures led { IfSome result (λ way. IsLed is_move_command command numbers.now) }
     ensures value { IfSome result (λ way. way ≡ way_by command numbers.now) }
     ensures near { IfSome result (λ way. IsWayNear 1 way) }
-    ensures moves { IfSome result (λ way. moves_in way.drawn ≡ 1) }
+    ensures moves { IfSome result (λ way. way.moves ≡ 1) }
 {
     match command {
         Command::Rmoveto if has_just_its_arguments(Command::Rmoveto, numbers) => {
@@ -245,7 +243,8 @@ fn move_to(x: i64, y: i64) -> Way
     Way {
         x,
         y,
-        drawn: Drawn::Moved(1),
+        moves: 1,
+        drawn: Drawn::Nothing,
     }
 }
 
@@ -259,6 +258,7 @@ fn way_at(x: i64, y: i64) -> Way
     Way {
         x,
         y,
+        moves: 0,
         drawn: Drawn::Open,
     }
 }
@@ -319,8 +319,8 @@ fn three(numbers: &[i64], one: usize, two: usize, three: usize) -> i64
 #[inline(always)]
 fn has_just_its_arguments(command: Command, numbers: &[i64]) -> bool
     requires { list_any is_far numbers.now ≡ false }
-    ensures line { result ≡ true → is_led Lines command ≡ true → IsLed Lines command numbers.now }
-    ensures moves { result ≡ true → is_led Moves command ≡ true → IsLed Moves command numbers.now }
+    ensures line { result ≡ true → is_line_command command ≡ true → IsLed is_line_command command numbers.now }
+    ensures moves { result ≡ true → is_move_command command ≡ true → IsLed is_move_command command numbers.now }
 {
     match command.arguments() {
         Some(count) => usize::from(count) == numbers.len(),

@@ -105,7 +105,12 @@ impl Stack {
     /// Takes the numbers that come next while there is room, and where lines are passed also these and curves after them:
     /// `room` steps at most.
     #[inline(always)]
-    pub(crate) fn take_lines<'a>(&mut self, ahead: Ahead<'a>, room: u32, passing: Passing) -> Lines<'a>
+    pub(crate) fn take_lines<'a>(
+        &mut self,
+        ahead: Ahead<'a>,
+        room: u32,
+        passing: Passing,
+    ) -> Lines<'a>
         requires room { most_numbers ≤ room }
         requires limited { room < 16777216 }
         ensures takes { TakesLines passing ahead.entry self.old self.new result }
@@ -116,7 +121,8 @@ impl Stack {
         stop
     }
 
-    /// Takes the moves that come next with their numbers: `room` steps at most. There is no number yet.
+    /// Takes the moves that come next and the lines and curves after them, with their numbers: `room` steps at most. There is
+    /// no number yet.
     #[inline(always)]
     pub(crate) fn take_moves<'a>(&mut self, ahead: Ahead<'a>, room: u32) -> Lines<'a>
         requires none { self.old ≡ [] }

@@ -1,9 +1,9 @@
-//! Numbers, and lines or moves, that are taken from a charstring in a row: Type 1 Font Format 1.1, chapter 6. What is left of the
+//! Numbers, moves and lines that are taken from a charstring in a row: Type 1 Font Format 1.1, chapter 6. What is left of the
 //! charstring is copied field by field, so that it stays in registers.
 
 ghost use Rattle.std.specs.Prelude.{◌≡◌, ◌+◌, ◌<◌, ◌≤◌, [], IfSome, false, length, take, true, Some};
 ghost use Rattle.std.specs.List.{list_any};
-ghost use Rattle.t1_char.specs.Lines.{IsWayNear, IsWithin, is_far, leads, moves_in};
+ghost use Rattle.t1_char.specs.Lines.{IsWayNear, IsWithin, is_closed, is_far, leads};
 ghost use Rattle.t1_char.specs.declared.lines.Passing.{Passing as Passings};
 ghost use Rattle.t1_char.specs.Numbers.{units};
 ghost use Rattle.t1_char.specs.Stacks.{most_numbers, put};
@@ -12,7 +12,7 @@ ghost use Rattle.t1_char.specs.Private.Taking.{Finishes, IsLedFirst, IsTokenRead
 ghost use Rattle.t1_char.specs.declared.cursor.Cursor.{Cursor};
 
 use crate::cursor::Ahead;
-use crate::lines::{Passing, Way, is_lines, line_at, move_at};
+use crate::lines::{Passing, Way, is_lines, is_moves, line_at, move_at};
 use crate::numbers::UNIT;
 use crate::stack::MOST_NUMBERS;
 use crate::token::CharToken;
@@ -159,7 +159,7 @@ fn take_front<'a>(cells: &mut [i64; MOST_NUMBERS], len: usize, ahead: Ahead<'a>)
     finish(stop, passed, Way::NONE)
 }
 
-/// Takes lines and curves, or moves, with the numbers before them, as long as there is room for a full stack of steps more,
+/// Takes lines and curves, and moves before them, with the numbers before each, as long as there is room for a full stack of steps more,
 /// and the closepath after lines.
 #[inline(always)]
 pub(crate) fn take_path<'a>(
@@ -185,7 +185,7 @@ pub(crate) fn take_path<'a>(
     loop {
         let stop = take_numbers(cells, 0, ahead);
         passed += stop.len as u32;
-        match led_by(passing, stop.first, &cells[..stop.len]) {
+        match led_by(passing, way, stop.first, &cells[..stop.len]) {
             Some(one) if room - passed > MOST_NUMBERS as u32 => {
                 way = way.further(one, passed);
                 passed += 1;
@@ -253,19 +253,25 @@ fn stop_at<'a>(ahead: Ahead<'a>) -> Stop<'a>
     }
 }
 
-/// How far the line or the move leads that has this first byte, if there is one that is passed.
+/// How far the line or the move leads that has this first byte, if there is one that is passed after such a way.
 #[inline(always)]
-fn led_by(passing: Passing, first: Option<u8>, numbers: &[i64]) -> Option<Way>
-    requires { list_any is_far numbers.now ≡ false }
-    ensures led { IfSome result (λ way. IsLedFirst passing first numbers.now way) }
-    ensures near { IfSome result (λ way. IsWayNear 1 way) }
-    ensures moves { IfSome result (λ way. moves_in way.drawn ≤ 1) }
+fn led_by(passing: Passing, way: Way, first: Option<u8>, numbers: &[i64]) -> Option<Way>
+    requires leads { leads passing ≡ true }
+    requires near { list_any is_far numbers.now ≡ false }
+    requires unclosed { is_closed way.drawn ≡ false }
+    ensures led { IfSome result (λ one. IsLedFirst passing way.drawn first numbers.now one) }
+    ensures near { IfSome result (λ one. IsWayNear 1 one) }
+    ensures moves { IfSome result (λ one. one.moves ≤ 1) }
 {
-    match (passing, first) {
-        (Passing::Lines, Some(first)) => line_at(first, numbers),
-        (Passing::Moves, Some(first)) => move_at(first, numbers),
-        _ => None,
+    let Some(first) = first else {
+        return None;
+    };
+    if is_moves(passing) && way.is_undrawn() {
+        if let Some(one) = move_at(first, numbers) {
+            return Some(one);
+        }
     }
+    line_at(first, numbers)
 }
 
 /// Reads the token of the first byte, if it isn't 255.

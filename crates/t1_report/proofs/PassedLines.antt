@@ -1,5 +1,5 @@
 -- Numbers, lines, closepaths and moves that a machine passes, while the watchers are calm, or in the midst of a path.
-use Rattle.std.proofs.Common.{◌≡◌, ℕ, ℤ, zero, suc, ◌+◌, ◌-◌, ◌<◌, ◌≤◌, inl, inr, Bool, true, false, List, [], ◌∷◌, ◌++◌, length, length-take, take, refl, sym, ap, subst, ◌∙◌, le-ltb, lt-ltb, nat_lt, arith}
+use Rattle.std.proofs.Common.{◌≡◌, ℕ, ℤ, zero, suc, ◌+◌, ◌-◌, ◌<◌, ◌≤◌, inl, inr, ◌⊎◌, ◌||◌, Bool, true, false, List, [], ◌∷◌, ◌++◌, length, length-take, take, refl, sym, ap, subst, ◌∙◌, le-ltb, lt-ltb, nat_lt, arith}
 use Rattle.std.proofs.lemmas.Int.{ints}
 use Rattle.std.proofs.lemmas.Bool.{cases_lt}
 use Rattle.std.proofs.lemmas.Option.{slice_get_within}
@@ -7,9 +7,9 @@ use Rattle.t1_char.specs.declared.command.Command.{Command as Commands}
 use Rattle.t1_char.specs.declared.lines.Passing.{Passing}
 use Rattle.t1_char.specs.declared.lines.Passing.TheVariants as passing
 use Rattle.t1_char.specs.declared.edition.Edition.{Edition}
-use Rattle.t1_char.specs.declared.command.Command.TheVariants.{Closepath, Rlineto}
+use Rattle.t1_char.specs.declared.command.Command.TheVariants.{Closepath, Rmoveto, Hmoveto, Vmoveto}
 use Rattle.t1_char.specs.declared.lines.Drawn.{Drawn}
-use Rattle.t1_char.specs.declared.lines.Drawn.TheVariants.{Nothing, Moved, Open, Closed}
+use Rattle.t1_char.specs.declared.lines.Drawn.TheVariants.{Nothing, Open, Closed}
 use Rattle.t1_char.specs.declared.lines.Way.{Way}
 use Rattle.t1_char.specs.Seacs.{is_seac}
 use Rattle.t1_char.specs.declared.machine.Answer.{Answer}
@@ -19,7 +19,7 @@ use Rattle.t1_char.specs.declared.step.Step.{Step}
 use Rattle.t1_char.specs.declared.token.CharToken.TheVariants.{Command}
 use Rattle.t1_char.specs.AnswerViews.{answer_view, is_limit, is_over}
 use Rattle.t1_char.specs.Editions.{limit_of}
-use Rattle.t1_char.specs.Lines.{GoesOn, IsAskedFar, IsCommandPassed, LeadsOn, PassesStep, PassesSteps, closed, drawn_after, further, goes_on_from, is_led, leads, no_way, way_by}
+use Rattle.t1_char.specs.Lines.{GoesOn, IsAskedFar, IsCommandPassed, LeadsOn, PassesStep, PassesSteps, IsLed, can_follow, closed, drawn_after, further, is_closed, is_led, is_line_command, is_move_command, leads, no_way, way_by}
 use Rattle.t1_char.specs.Passing.{IsPassed}
 use Rattle.t1_char.specs.Steps.{StepView, steps_of}
 use Rattle.t1_char.specs.StepValues.{step_value}
@@ -27,6 +27,7 @@ use Rattle.t1_char.specs.Turns.{MachineView, TurnValue, limited, stepped}
 use Rattle.t1_char.proofs.EditionLemmas.{limit_few}
 use Rattle.t1_char.proofs.TurnsTaken.{behind, limited_is, stepped_is}
 use Rattle.t1_rules.specs.declared.sidebearings.Component.{Component}
+use Rattle.t1_rules.specs.declared.step_rules.flex.FlexWatcher.{FlexWatcher}
 use Rattle.t1_rules.specs.declared.step_rules.flex.Point.{Point}
 use Rattle.t1_rules.specs.declared.watches.Watches.{Watches}
 use Rattle.t1_rules.specs.Book.{number_of}
@@ -37,7 +38,7 @@ use Rattle.t1_rules.specs.StepRules.Flex.{at}
 use Rattle.t1_rules.specs.Steady.{IsSteady, IsUndrawn, closed_on, drawn_on, led_by, moved_on, point_on}
 use Rattle.t1_rules.specs.Watches.{IsCalm, IsNear, most_steps}
 use Rattle.t1_rules.proofs.Lemmas.Flex.{plus_origin}
-use Rattle.t1_rules.proofs.Lemmas.Lines.{IsDrawn, line_open, line_token, move_once, move_token, no_fault_at_close, no_fault_at_line, no_fault_at_move, stays_at_close, stays_at_line, stays_at_move}
+use Rattle.t1_rules.proofs.Lemmas.Lines.{IsDrawn, line_open, line_token, move_token, move_undrawn, no_fault_at_close, no_fault_at_line, no_fault_at_move, stays_at_close, stays_at_line, stays_at_move}
 use Rattle.t1_report.specs.Checked.{CheckedFont, step_limit}
 use Rattle.t1_report.specs.Reports.{is_broken, rules_of}
 use Rattle.t1_report.specs.Laws.PassedLines.{PassedLinesBreakNoRule, WatchersMoveOnByLines}
@@ -53,37 +54,24 @@ use Rattle.t1_report.proofs.RunSteps.{IsRunAt, IsTold, count_at_end, run_at, tol
 calm_on : (w : Watches) (way : Way) → IsCalm w → IsCalm (moved_on w way)
 calm_on w way calm = by_drawn way.drawn
   where
-    by_drawn : (drawn : Drawn) → IsCalm (record (led_by drawn w) { flex = record (led_by drawn w).flex { point = point_on w.flex.point way } })
+    by_drawn : (drawn : Drawn) → IsCalm (record (led_by drawn w) { flex = record w.flex { point = point_on w.flex.point way; moves = w.flex.moves + way.moves } })
     by_drawn Nothing = record { replaced = calm.replaced; hints_popped = calm.hints_popped; ended = calm.ended; popped = calm.popped; popped_twice = calm.popped_twice }
-    by_drawn (Moved n) = record { replaced = calm.replaced; hints_popped = calm.hints_popped; ended = calm.ended; popped = calm.popped; popped_twice = calm.popped_twice }
     by_drawn Open = record { replaced = calm.replaced; hints_popped = calm.hints_popped; ended = calm.ended; popped = calm.popped; popped_twice = calm.popped_twice }
     by_drawn Closed = record { replaced = calm.replaced; hints_popped = calm.hints_popped; ended = calm.ended; popped = calm.popped; popped_twice = calm.popped_twice }
 
--- Nothing comes right after a closepath.
-not_from : (what : Passing) → goes_on_from what Closed ≡ true → ⊥
-not_from passing.Told is = let no : false ≡ true = is in cc
-not_from passing.Numbers is = let no : false ≡ true = is in cc
-not_from passing.Lines is = let no : false ≡ true = is in cc
-not_from passing.Moves is = let no : false ≡ true = is in cc
-
-steady_on : (what : Passing) (w : Watches) (way : Way) → goes_on_from what way.drawn ≡ true → IsSteady w → IsSteady (moved_on w way)
-steady_on what w way from steady = by_drawn way.drawn from
+steady_on : (w : Watches) (way : Way) → is_closed way.drawn ≡ false → IsSteady w → IsSteady (moved_on w way)
+steady_on w way unclosed steady = by_drawn way.drawn unclosed
   where
-    by_drawn : (drawn : Drawn) → goes_on_from what drawn ≡ true → IsSteady (record (led_by drawn w) { flex = record (led_by drawn w).flex { point = point_on w.flex.point way } })
+    by_drawn : (drawn : Drawn) → is_closed drawn ≡ false → IsSteady (record (led_by drawn w) { flex = record w.flex { point = point_on w.flex.point way; moves = w.flex.moves + way.moves } })
     by_drawn Nothing is = record { begun = steady.begun; path_flex = steady.path_flex; moved = steady.moved; stem_flex = steady.stem_flex; flex = steady.flex; seac_flex = steady.seac_flex }
-    by_drawn (Moved n) is = record { begun = steady.begun; path_flex = steady.path_flex; moved = steady.moved; stem_flex = steady.stem_flex; flex = steady.flex; seac_flex = steady.seac_flex }
     by_drawn Open is = record { begun = steady.begun; path_flex = steady.path_flex; moved = steady.moved; stem_flex = steady.stem_flex; flex = steady.flex; seac_flex = steady.seac_flex }
-    by_drawn Closed is = absurd (not_from what is)
+    by_drawn Closed is = let no : true ≡ false = is in cc
 
-undrawn_on : (w : Watches) (way : Way) → goes_on_from passing.Moves way.drawn ≡ true → IsUndrawn w → IsUndrawn (moved_on w way)
-undrawn_on w way from undrawn = by_drawn way.drawn from
-  where
-    by_drawn : (drawn : Drawn) → goes_on_from passing.Moves drawn ≡ true
-        → IsUndrawn (record (led_by drawn w) { flex = record (led_by drawn w).flex { point = point_on w.flex.point way } })
-    by_drawn Nothing is = record { drawn = undrawn.drawn; outlined = undrawn.outlined }
-    by_drawn (Moved n) is = record { drawn = undrawn.drawn; outlined = undrawn.outlined }
-    by_drawn Open is = let no : false ≡ true = is in cc
-    by_drawn Closed is = let no : false ≡ true = is in cc
+undrawn_on : (w : Watches) (way : Way) → way.drawn ≡ Nothing → IsUndrawn w → IsUndrawn (moved_on w way)
+undrawn_on w way none undrawn = record {
+  drawn = ap (λ drawn. (led_by drawn w).paths.drawn) none ∙ undrawn.drawn;
+  outlined = ap (λ drawn. (led_by drawn w).seac.outlined) none ∙ undrawn.outlined;
+}
 
 drawn_by : (w : Watches) (way : Way) → way.drawn ≡ Open → IsDrawn (moved_on w way)
 drawn_by w way is = record {
@@ -93,7 +81,10 @@ drawn_by w way is = record {
 }
 
 moved_nowhere : (w : Watches) → moved_on w no_way ≡ w
-moved_nowhere w = ap (λ point. record w { flex = record w.flex { point = point } }) (plus_origin w.flex.point)
+moved_nowhere w =
+    let no_more : w.flex.moves + 0 ≡ w.flex.moves = omega arith in
+    ap (λ point. record w { flex = record w.flex { point = point; moves = w.flex.moves + 0 } }) (plus_origin w.flex.point)
+    ∙ ap (λ moves. record w { flex = record w.flex { moves = moves } }) no_more
 
 same_point : (a b c d : ℤ) → a ≡ c → b ≡ d → at a b ≡ at c d
 same_point a b c d x y = rw (x, y) refl
@@ -101,63 +92,45 @@ same_point a b c d x y = rw (x, y) refl
 further_on : (p : Point) (one other : Way) → point_on (point_on p one) other ≡ point_on p (further one other)
 further_on p one other = same_point _ _ _ _ (omega (arith, ints)) (omega (arith, ints))
 
-abbrev is_open_way : Drawn → Bool
-is_open_way Open = true
-is_open_way _ = false
+flex_twice : (f : FlexWatcher) (one other : Way)
+    → record f { point = point_on (point_on f.point one) other; moves = f.moves + one.moves + other.moves }
+    ≡ record f { point = point_on f.point (further one other); moves = f.moves + (one.moves + other.moves) }
+flex_twice f one other =
+    let same : f.moves + one.moves + other.moves ≡ f.moves + (one.moves + other.moves) = omega arith in
+    ap (λ point. record f { point = point; moves = f.moves + one.moves + other.moves }) (further_on f.point one other)
+    ∙ ap (λ moves. record f { point = point_on f.point (further one other); moves = moves }) same
 
-not_open : (drawn : Drawn) → drawn ≡ Open → is_open_way drawn ≡ false → ⊥
-not_open drawn is not = let no : true ≡ false = sym (ap is_open_way is) ∙ not in cc
+-- Watchers that are moved on twice, and once, by what was drawn.
+twice : Watches → Way → Way → Drawn → Drawn → Watches
+twice w one other first second =
+    record (led_by second (record (led_by first w) { flex = record w.flex { point = point_on w.flex.point one; moves = w.flex.moves + one.moves } })) {
+      flex = record w.flex { point = point_on (point_on w.flex.point one) other; moves = w.flex.moves + one.moves + other.moves };
+    }
 
--- The watchers that are moved on twice, by what was drawn first and then.
-twice_drawn : Watches → Way → Way → Drawn → Drawn → Watches
-twice_drawn w one other first second =
-    let so_far = record (led_by first w) { flex = record (led_by first w).flex { point = point_on w.flex.point one } } in
-    record (led_by second so_far) { flex = record (led_by second so_far).flex { point = point_on so_far.flex.point other } }
+once : Watches → Way → Way → Drawn → Watches
+once w one other drawn =
+    record (led_by drawn w) { flex = record w.flex { point = point_on w.flex.point (further one other); moves = w.flex.moves + (one.moves + other.moves) } }
 
-once_drawn : Watches → Way → Way → Drawn → Watches
-once_drawn w one other drawn =
-    record (led_by drawn w) { flex = record (led_by drawn w).flex { point = point_on w.flex.point (further one other) } }
-
-moved_twice : (w : Watches) (one other : Way) → goes_on_from passing.Lines one.drawn ≡ true → other.drawn ≡ Open
+moved_by_line : (w : Watches) (one other : Way) → is_closed one.drawn ≡ false → other.drawn ≡ Open
     → moved_on (moved_on w one) other ≡ moved_on w (further one other)
-unfolding twice_drawn once_drawn
-moved_twice w one other from is = by_drawn one.drawn from other.drawn is
+unfolding twice once
+moved_by_line w one other unclosed is =
+    subst (λ second. twice w one other one.drawn second ≡ once w one other (drawn_after one.drawn second)) (sym is) (by_drawn one.drawn unclosed)
   where
-    by_drawn : (first : Drawn) → goes_on_from passing.Lines first ≡ true → (second : Drawn) → second ≡ Open
-        → twice_drawn w one other first second ≡ once_drawn w one other (drawn_after first second)
-    by_drawn Nothing from Open is = ap (λ point. record (drawn_on w) { flex = record w.flex { point = point } }) (further_on w.flex.point one other)
-    by_drawn Open from Open is = ap (λ point. record (drawn_on w) { flex = record w.flex { point = point } }) (further_on w.flex.point one other)
-    by_drawn (Moved n) from second is = let no : false ≡ true = from in cc
-    by_drawn Closed from second is = let no : false ≡ true = from in cc
-    by_drawn Nothing from Nothing is = absurd (not_open Nothing is refl)
-    by_drawn Nothing from (Moved n) is = absurd (not_open (Moved n) is refl)
-    by_drawn Nothing from Closed is = absurd (not_open Closed is refl)
-    by_drawn Open from Nothing is = absurd (not_open Nothing is refl)
-    by_drawn Open from (Moved n) is = absurd (not_open (Moved n) is refl)
-    by_drawn Open from Closed is = absurd (not_open Closed is refl)
+    by_drawn : (first : Drawn) → is_closed first ≡ false → twice w one other first Open ≡ once w one other Open
+    by_drawn Nothing open_yet = ap (λ flex. record (drawn_on w) { flex = flex }) (flex_twice w.flex one other)
+    by_drawn Open open_yet = ap (λ flex. record (drawn_on w) { flex = flex }) (flex_twice w.flex one other)
+    by_drawn Closed open_yet = let no : true ≡ false = open_yet in cc
 
-one_more_move : (m n : ℕ) → m + n + 1 ≡ m + (n + 1)
-one_more_move m n = omega arith
+moved_by_move : (w : Watches) (one other : Way) → other.drawn ≡ Nothing → moved_on (moved_on w one) other ≡ moved_on w (further one other)
+unfolding twice once
+moved_by_move w one other is =
+    subst (λ second. twice w one other one.drawn second ≡ once w one other (drawn_after one.drawn second)) (sym is)
+    (ap (λ flex. record (led_by one.drawn w) { flex = flex }) (flex_twice w.flex one other))
 
--- The same by a move.
-moved_once_more : (w : Watches) (one other : Way) → goes_on_from passing.Moves one.drawn ≡ true → other.drawn ≡ Moved 1
-    → moved_on (moved_on w one) other ≡ moved_on w (further one other)
-unfolding twice_drawn once_drawn
-moved_once_more w one other from is =
-    subst (λ second. twice_drawn w one other one.drawn second ≡ once_drawn w one other (drawn_after one.drawn second)) (sym is) (by_drawn one.drawn from)
-  where
-    by_drawn : (first : Drawn) → goes_on_from passing.Moves first ≡ true
-        → twice_drawn w one other first (Moved 1) ≡ once_drawn w one other (drawn_after first (Moved 1))
-    by_drawn Nothing from =
-        ap (λ point. record w { flex = record w.flex { moves = w.flex.moves + 1; point = point } }) (further_on w.flex.point one other)
-    by_drawn (Moved n) from =
-        ap (λ moves. record w { flex = record w.flex { moves = moves; point = point_on (point_on w.flex.point one) other } }) (one_more_move w.flex.moves n)
-        ∙ ap (λ point. record w { flex = record w.flex { moves = w.flex.moves + (n + 1); point = point } }) (further_on w.flex.point one other)
-    by_drawn Open from = let no : false ≡ true = from in cc
-    by_drawn Closed from = let no : false ≡ true = from in cc
 moved_closed : (w : Watches) (way : Way) → way.drawn ≡ Open → closed_on (moved_on w way) ≡ moved_on w (closed way)
 moved_closed w way is =
-    ap (λ drawn. closed_on (record (led_by drawn w) { flex = record (led_by drawn w).flex { point = point_on w.flex.point way } })) is
+    ap (λ drawn. closed_on (record (led_by drawn w) { flex = record w.flex { point = point_on w.flex.point way; moves = w.flex.moves + way.moves } })) is
 
 -- No rule is broken at a line in the midst of a path, nor at a closepath.
 no_component_fault : (components : List Component) (n : ℕ) (before : List StepView) (t : StepView) → is_seac t.token ≡ false
@@ -179,22 +152,22 @@ none_at_command what font glyph k n before after there passed no_seac none =
     ∙ sym (both_kinds font.edition components n (take k all) passed.step false false false refl
     (sym none) (sym (no_component_fault components n (take k all) passed.step no_seac)))
 
-none_at_line : (edition : Edition) (before : List StepView) (w : Watches) (n : ℕ) (step : StepView) (command : Commands) (so_far way : Way)
-    → step.token ≡ Command command → LeadsOn passing.Lines command step.stack so_far way → IsCalm w → IsSteady w → WatchesStandFor edition w before
+none_at_line : (edition : Edition) (before : List StepView) (w : Watches) (n : ℕ) (step : StepView) (command : Commands)
+    → step.token ≡ Command command → IsLed is_line_command command step.stack → IsCalm w → IsSteady w → WatchesStandFor edition w before
     → breaks (step_rules edition) n before step ≡ false
 unfolding WatchesStandFor
-none_at_line edition before w n step command so_far way token leads calm steady st =
+none_at_line edition before w n step command token line calm steady st =
     let behind_none = calm_is_behind_none edition w before st calm in
-    no_fault_at_line edition n before step command token leads.is behind_none.0 behind_none.1
+    no_fault_at_line edition n before step command token line behind_none.0 behind_none.1
     (sym st.0.begun ∙ steady.begun) (sym st.0.in_flex ∙ steady.path_flex) (sym st.0.moved ∙ steady.moved)
 
-none_at_move : (edition : Edition) (before : List StepView) (w : Watches) (n : ℕ) (step : StepView) (command : Commands) (so_far way : Way)
-    → step.token ≡ Command command → LeadsOn passing.Moves command step.stack so_far way → IsCalm w → IsSteady w → IsUndrawn w
+none_at_move : (edition : Edition) (before : List StepView) (w : Watches) (n : ℕ) (step : StepView) (command : Commands)
+    → step.token ≡ Command command → IsLed is_move_command command step.stack → IsCalm w → IsSteady w → IsUndrawn w
     → WatchesStandFor edition w before → breaks (step_rules edition) n before step ≡ false
 unfolding WatchesStandFor
-none_at_move edition before w n step command so_far way token leads calm steady undrawn st =
+none_at_move edition before w n step command token move calm steady undrawn st =
     let behind_none = calm_is_behind_none edition w before st calm in
-    no_fault_at_move edition n before step command token leads.is behind_none.0 behind_none.1
+    no_fault_at_move edition n before step command token move behind_none.0 behind_none.1
     (sym st.0.begun ∙ steady.begun) (sym st.0.in_flex ∙ steady.path_flex) (sym st.0.drawn ∙ undrawn.drawn)
 
 none_at_close : (edition : Edition) (before : List StepView) (w : Watches) (n : ℕ) (step : StepView) → step.token ≡ Command Closepath
@@ -255,52 +228,83 @@ over_command what font glyph n taken w after before way there so_far passed no_s
       ];
     }
 
-over_line : (font : CheckedFont) (glyph n taken : ℕ) (w : Watches) (before way : Way) → glyph < length font.value.glyphs
-    → PassedOver font glyph n taken w before → IsCalm w → IsSteady w
-    → (passed : IsCommandPassed passing.Lines (step_limit font) (steps_of font.value glyph) (n + taken) before way)
-    → LeadsOn passing.Lines passed.command passed.step.stack before way → PassedOver font glyph n (suc taken) w way
-over_line font glyph n taken w before way there so_far calm steady passed leads =
-    let now_calm : IsCalm (moved_on w before) = calm_on w before calm in
-    let now_steady : IsSteady (moved_on w before) = steady_on passing.Lines w before leads.from steady in
-    let one : Way = way_by passed.command passed.step.stack in
-    let no_seac : is_seac passed.step.token ≡ false = ap is_seac passed.token ∙ (line_token passed.command leads.is.led).seac in
-    over_command passing.Lines font glyph n taken w (moved_on (moved_on w before) one) before way there so_far passed no_seac
-    (λ r. none_at_line font.edition (take (n + taken) (steps_of font.value glyph)) (moved_on w before) r passed.step passed.command before way
-    passed.token leads now_calm now_steady so_far.stands)
-    (stays_at_line font.edition (moved_on w before) (take (n + taken) (steps_of font.value glyph)) passed.step passed.command passed.token
-    leads.is.led now_calm now_steady so_far.stands)
-    (moved_twice w before one leads.from (line_open passed.command leads.is.led passed.step.stack) ∙ ap (moved_on w) (sym leads.way))
+-- Where a command can follow, the path isn't closed, and where a move can, nothing is drawn.
+follows_unclosed : (command : Commands) (drawn : Drawn) → can_follow command drawn ≡ true → is_closed drawn ≡ false
+follows_unclosed command Nothing from = refl
+follows_unclosed command Open from = refl
+follows_unclosed command Closed from = let no : false ≡ true = from in cc
 
-over_move : (font : CheckedFont) (glyph n taken : ℕ) (w : Watches) (before way : Way) → glyph < length font.value.glyphs
-    → PassedOver font glyph n taken w before → IsCalm w → IsSteady w → IsUndrawn w
-    → (passed : IsCommandPassed passing.Moves (step_limit font) (steps_of font.value glyph) (n + taken) before way)
-    → LeadsOn passing.Moves passed.command passed.step.stack before way → PassedOver font glyph n (suc taken) w way
-over_move font glyph n taken w before way there so_far calm steady undrawn passed leads =
+move_follows : (command : Commands) (drawn : Drawn) → is_move_command command ≡ true → can_follow command drawn ≡ true → drawn ≡ Nothing
+move_follows command Nothing move from = refl
+move_follows command Closed move from = let no : false ≡ true = from in cc
+move_follows command Open move from = absurd (no_line command move from)
+  where
+    no_line : (command : Commands) → is_move_command command ≡ true → is_line_command command ≡ true → ⊥
+    no_line Rmoveto is line = let no : false ≡ true = line in cc
+    no_line Hmoveto is line = let no : false ≡ true = line in cc
+    no_line Vmoveto is line = let no : false ≡ true = line in cc
+    no_line _ is line = let no : false ≡ true = is in cc
+
+over_line : (what : Passing) (font : CheckedFont) (glyph n taken : ℕ) (w : Watches) (before way : Way) → glyph < length font.value.glyphs
+    → PassedOver font glyph n taken w before → IsCalm w → IsSteady w
+    → (passed : IsCommandPassed what (step_limit font) (steps_of font.value glyph) (n + taken) before way)
+    → LeadsOn what passed.command passed.step.stack before way → is_line_command passed.command ≡ true → PassedOver font glyph n (suc taken) w way
+over_line what font glyph n taken w before way there so_far calm steady passed leads line =
+    let unclosed : is_closed before.drawn ≡ false = follows_unclosed passed.command before.drawn leads.from in
     let now_calm : IsCalm (moved_on w before) = calm_on w before calm in
-    let now_steady : IsSteady (moved_on w before) = steady_on passing.Moves w before leads.from steady in
-    let now_undrawn : IsUndrawn (moved_on w before) = undrawn_on w before leads.from undrawn in
+    let now_steady : IsSteady (moved_on w before) = steady_on w before unclosed steady in
     let one : Way = way_by passed.command passed.step.stack in
-    let no_seac : is_seac passed.step.token ≡ false = ap is_seac passed.token ∙ (move_token passed.command leads.is.led).seac in
-    over_command passing.Moves font glyph n taken w (moved_on (moved_on w before) one) before way there so_far passed no_seac
-    (λ r. none_at_move font.edition (take (n + taken) (steps_of font.value glyph)) (moved_on w before) r passed.step passed.command before way
-    passed.token leads now_calm now_steady now_undrawn so_far.stands)
+    let no_seac : is_seac passed.step.token ≡ false = ap is_seac passed.token ∙ (line_token passed.command line).seac in
+    over_command what font glyph n taken w (moved_on (moved_on w before) one) before way there so_far passed no_seac
+    (λ r. none_at_line font.edition (take (n + taken) (steps_of font.value glyph)) (moved_on w before) r passed.step passed.command
+    passed.token (record { led = line; count = leads.is.count; near = leads.is.near }) now_calm now_steady so_far.stands)
+    (stays_at_line font.edition (moved_on w before) (take (n + taken) (steps_of font.value glyph)) passed.step passed.command passed.token
+    line now_calm now_steady so_far.stands)
+    (moved_by_line w before one unclosed (line_open passed.command line passed.step.stack) ∙ ap (moved_on w) (sym leads.way))
+
+over_move : (what : Passing) (font : CheckedFont) (glyph n taken : ℕ) (w : Watches) (before way : Way) → glyph < length font.value.glyphs
+    → PassedOver font glyph n taken w before → IsCalm w → IsSteady w → IsUndrawn w
+    → (passed : IsCommandPassed what (step_limit font) (steps_of font.value glyph) (n + taken) before way)
+    → LeadsOn what passed.command passed.step.stack before way → is_move_command passed.command ≡ true → PassedOver font glyph n (suc taken) w way
+over_move what font glyph n taken w before way there so_far calm steady undrawn passed leads move =
+    let none : before.drawn ≡ Nothing = move_follows passed.command before.drawn move leads.from in
+    let now_calm : IsCalm (moved_on w before) = calm_on w before calm in
+    let now_steady : IsSteady (moved_on w before) = steady_on w before (ap is_closed none) steady in
+    let now_undrawn : IsUndrawn (moved_on w before) = undrawn_on w before none undrawn in
+    let one : Way = way_by passed.command passed.step.stack in
+    let no_seac : is_seac passed.step.token ≡ false = ap is_seac passed.token ∙ (move_token passed.command move).seac in
+    over_command what font glyph n taken w (moved_on (moved_on w before) one) before way there so_far passed no_seac
+    (λ r. none_at_move font.edition (take (n + taken) (steps_of font.value glyph)) (moved_on w before) r passed.step passed.command
+    passed.token (record { led = move; count = leads.is.count; near = leads.is.near }) now_calm now_steady now_undrawn so_far.stands)
     (stays_at_move font.edition (moved_on w before) (take (n + taken) (steps_of font.value glyph)) passed.step passed.command passed.token
-    leads.is.led now_calm now_steady now_undrawn so_far.stands)
-    (moved_once_more w before one leads.from (move_once passed.command leads.is.led passed.step.stack) ∙ ap (moved_on w) (sym leads.way))
+    move now_calm now_steady now_undrawn so_far.stands)
+    (moved_by_move w before one (move_undrawn passed.command move passed.step.stack) ∙ ap (moved_on w) (sym leads.way))
+
+-- A command that is passed is a line, or, where moves are passed, a move.
+led_kind : (what : Passing) (command : Commands) → is_led what command ≡ true
+    → (is_line_command command ≡ true) ⊎ ((is_move_command command ≡ true) × (what ≡ passing.Moves))
+led_kind passing.Told command is = let no : false ≡ true = is in cc
+led_kind passing.Numbers command is = let no : false ≡ true = is in cc
+led_kind passing.Lines command is = inl is
+led_kind passing.Moves command is = by_line (is_line_command command) refl is
+  where
+    by_line : (line : Bool) → line ≡ is_line_command command → (line || is_move_command command) ≡ true
+        → (is_line_command command ≡ true) ⊎ ((is_move_command command ≡ true) × (passing.Moves ≡ passing.Moves))
+    by_line true same either = inl (sym same)
+    by_line false same either = inr (either, refl)
 
 over_one : (what : Passing) (font : CheckedFont) (glyph n taken : ℕ) (w : Watches) (before way : Way) → glyph < length font.value.glyphs
     → PassedOver font glyph n taken w before → IsCalm w → IsSteady w → (what ≡ passing.Moves → IsUndrawn w)
     → (passed : IsCommandPassed what (step_limit font) (steps_of font.value glyph) (n + taken) before way)
     → GoesOn what passed.command passed.step.stack before way → PassedOver font glyph n (suc taken) w way
-over_one passing.Lines font glyph n taken w before way there so_far calm steady undrawn passed (inl leads) =
-    over_line font glyph n taken w before way there so_far calm steady passed leads
-over_one passing.Moves font glyph n taken w before way there so_far calm steady undrawn passed (inl leads) =
-    over_move font glyph n taken w before way there so_far calm steady (undrawn refl) passed leads
-over_one passing.Told font glyph n taken w before way there so_far calm steady undrawn passed (inl leads) = let no : false ≡ true = leads.is.led in cc
-over_one passing.Numbers font glyph n taken w before way there so_far calm steady undrawn passed (inl leads) = let no : false ≡ true = leads.is.led in cc
+over_one what font glyph n taken w before way there so_far calm steady undrawn passed (inl leads_on) =
+    elim (led_kind what passed.command leads_on.is.led) [
+      | inl line ↦ over_line what font glyph n taken w before way there so_far calm steady passed leads_on line
+      | inr move ↦ over_move what font glyph n taken w before way there so_far calm steady (undrawn move.1) passed leads_on move.0
+    ]
 over_one what font glyph n taken w before way there so_far calm steady undrawn passed (inr closes) =
     let now_calm : IsCalm (moved_on w before) = calm_on w before calm in
-    let now_steady : IsSteady (moved_on w before) = steady_on passing.Lines w before (ap (goes_on_from passing.Lines) closes.drawn) steady in
+    let now_steady : IsSteady (moved_on w before) = steady_on w before (ap is_closed closes.drawn) steady in
     let token : passed.step.token ≡ Command Closepath = passed.token ∙ ap Command closes.closes in
     over_command what font glyph n taken w (closed_on (moved_on w before)) before way there so_far passed (ap is_seac token)
     (λ r. none_at_close font.edition (take (n + taken) (steps_of font.value glyph)) (moved_on w before) r passed.step token closes.alone
@@ -373,7 +377,7 @@ fit_steady passing.Moves w fit is = fit.1.0
 fit_undrawn : (what : Passing) (w : Watches) → IsFit what w → what ≡ passing.Moves → IsUndrawn w
 fit_undrawn passing.Told w fit is = let no : false ≡ true = ap leads is in cc
 fit_undrawn passing.Numbers w fit is = let no : false ≡ true = ap leads is in cc
-fit_undrawn passing.Lines w fit is = let no : false ≡ true = sym (ap (λ p. is_led p Rlineto) is) in cc
+fit_undrawn passing.Lines w fit is = let no : false ≡ true = ap (λ p. is_led p Rmoveto) is in cc
 fit_undrawn passing.Moves w fit is = fit.1.1
 
 -- After the steps that a machine passed.

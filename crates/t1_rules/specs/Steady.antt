@@ -2,7 +2,7 @@
 -- is drawn, and moves nothing but that point and how many there were.
 use Rattle.std.specs.Prelude.{◌≡◌, true, false, ◌+ℤ◌, ◌+◌}
 use Rattle.t1_char.specs.declared.lines.Drawn.{Drawn}
-use Rattle.t1_char.specs.declared.lines.Drawn.TheVariants.{Nothing, Moved, Open, Closed}
+use Rattle.t1_char.specs.declared.lines.Drawn.TheVariants.{Nothing, Open, Closed}
 use Rattle.t1_char.specs.declared.lines.Way.{Way}
 use Rattle.t1_rules.specs.declared.step_rules.flex.Point.{Point}
 use Rattle.t1_rules.specs.declared.watches.Watches.{Watches}
@@ -37,12 +37,12 @@ closed_on watches = record watches { paths = record watches.paths { drawn = fals
 
 abbrev pub led_by : Drawn → Watches → Watches
 led_by Nothing watches = watches
-led_by (Moved n) watches = record watches { flex = record watches.flex { moves = watches.flex.moves + n } }
 led_by Open watches = drawn_on watches
 led_by Closed watches = closed_on (drawn_on watches)
 
--- The same watchers with the current point further on, and with what is drawn.
+-- The same watchers with the current point further on, more moves, and what is drawn.
 abbrev pub moved_on : Watches → Way → Watches
 moved_on watches way =
-    let led = led_by way.drawn watches in
-    record led { flex = record led.flex { point = point_on watches.flex.point way } }
+    record (led_by way.drawn watches) {
+      flex = record watches.flex { point = point_on watches.flex.point way; moves = watches.flex.moves + way.moves };
+    }

@@ -1,6 +1,6 @@
 //! All watchers as one.
 
-ghost use Rattle.std.specs.Prelude.{◌≡◌, true, ℕ, ◌<◌, List, [], ◌∷◌, ◌++◌, length};
+ghost use Rattle.std.specs.Prelude.{◌≡◌, true, ℕ, ◌+◌, ◌<◌, List, [], ◌∷◌, ◌++◌, length};
 ghost use Rattle.t1_char.specs.declared.edition.Edition.{Edition as Editions};
 ghost use Rattle.t1_char.specs.declared.command.Command.TheVariants.{Callsubr, Hstem, Return, Vstem};
 ghost use Rattle.t1_char.specs.declared.token.CharToken.TheVariants.{Number};
@@ -156,13 +156,12 @@ impl Watches {
     #[inline(always)]
     pub fn go(&mut self, way: Way)
         requires near { (n : ℕ) × (IsNear n (point_on self.old.flex.point way) × (n < most_steps)) }
-        requires few { (moved_on self.old way).flex.moves < most_steps }
+        requires few { self.old.flex.moves + way.moves < most_steps }
         ensures { self.new ≡ moved_on self.old way }
     {
         self.flex.go(way);
         match way.drawn {
             Drawn::Nothing => {}
-            Drawn::Moved(count) => self.flex.count_moves(count),
             Drawn::Open => self.draw(),
             Drawn::Closed => {
                 self.draw();

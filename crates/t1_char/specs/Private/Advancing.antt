@@ -1,15 +1,18 @@
 -- Frames that go on to the next step.
-use Rattle.std.specs.Prelude.{◌≡◌, ℕ, ◌+◌, ◌∷◌, List}
+use Rattle.std.specs.Prelude.{◌≡◌, ℕ, ◌+◌, ◌≤◌, ◌∷◌, List}
 use Rattle.t1_font.specs.Fonts.{FontValue}
+use Rattle.t1_char.specs.declared.cursor.Cursor.{Cursor}
 use Rattle.t1_char.specs.declared.frames.Frames.{Frames}
 use Rattle.t1_char.specs.declared.lines.Passing.{Passing}
 use Rattle.t1_char.specs.declared.lines.Way.{Way}
+use Rattle.t1_char.specs.declared.token.CharToken.{CharToken}
 use Rattle.t1_char.specs.Lines.{PassesSteps}
 use Rattle.t1_char.specs.Steps.{StepView}
 use Rattle.t1_char.specs.StepValues.{step_view}
-use Rattle.t1_char.specs.Private.Cursors.{behind_token, tokens_left}
+use Rattle.t1_char.specs.Private.Cursors.{AtFirst, behind_token, tokens_left}
 use Rattle.t1_char.specs.Private.Frames.{IsReady, step_here, steps_behind, steps_from}
 use Rattle.t1_char.specs.Private.Machines.{IsBehind}
+use Rattle.t1_char.specs.Private.Taking.{PassesUpTo}
 
 -- So many steps after the first n were passed: executed, and not returned.
 pub record HasGoneFar (what : Passing) (limit : ℕ) (steps : List StepView) (font : FontValue) (n taken : ℕ) (way : Way) (new : Frames) : Type 0 where
@@ -32,6 +35,12 @@ pub record ReadsToken (what : Passing) (limit : ℕ) (font : FontValue) (n : ℕ
   pub callers : new.callers.items ≡ passed.callers.items
   pub stack : new.step.stack ≡ passed.step.stack
   pub waiting : new.waiting.items ≡ passed.waiting.items
+
+-- From a number on that 255 begins, so many numbers were passed, and the token after them was read.
+pub record GoesOverLong (room : ℕ) (f : Frames) (passed : ℕ) (token : CharToken) (new : Frames) : Type 0 where
+  pub passes : (before : Cursor) → AtFirst 255 before f.current → PassesUpTo passed before f.step.stack token new.current new.step.stack
+  pub kept : new ≡ record f { current = new.current; step = record f.step { stack = new.step.stack } }
+  pub near : passed ≤ room
 
 -- The next step was read.
 pub record IsNext (font : FontValue) (n : ℕ) (f new : Frames) : Type 0 where

@@ -3,6 +3,7 @@ use Rattle.std.specs.Prelude.{◌≡◌, ◌⊎◌, ℕ, zero, suc, ℤ, ◌+◌
 use Rattle.t1_char.specs.declared.command.Command.{Command as Commands}
 use Rattle.t1_char.specs.declared.cursor.Cursor.{Cursor}
 use Rattle.t1_char.specs.declared.cursor.Ahead.{Ahead}
+use Rattle.t1_char.specs.declared.lines.Drawn.{Drawn}
 use Rattle.t1_char.specs.declared.lines.Drawn.TheVariants.{Open}
 use Rattle.t1_char.specs.declared.lines.Passing.{Passing}
 use Rattle.t1_char.specs.declared.lines.Way.{Way}
@@ -13,7 +14,7 @@ use Rattle.t1_char.specs.declared.taking.Stop.{Stop}
 use Rattle.t1_char.specs.declared.token.CharToken.{CharToken}
 use Rattle.t1_char.specs.declared.token.CharToken.TheVariants.{Command}
 use Rattle.std.specs.List.{list_any}
-use Rattle.t1_char.specs.Lines.{GoesOn, IsLed, IsWayNear, closed, goes_on_from, is_far, leads, moves_in, no_way, way_by}
+use Rattle.t1_char.specs.Lines.{GoesOn, IsLed, IsWayNear, can_follow, closed, is_closed, is_far, is_led, leads, no_way, way_by}
 use Rattle.std.specs.Borrow.{Bor}
 use Rattle.t1_seal.specs.declared.cipher.Cipher.{Cipher}
 use Rattle.t1_char.specs.Stacks.{most_numbers}
@@ -60,20 +61,25 @@ pub record IsTaking (ahead : Ahead) (old : List ℤ) (cells : List ℤ) (len : �
   pub room : len ≤ most_numbers
   pub near : list_any is_far old ≡ false → list_any is_far (take len cells) ≡ false
 
--- A token is a command that is passed, and leads so far.
-pub record IsLedBy (what : Passing) (token : CharToken) (numbers : List ℤ) (way : Way) : Type 0 where
+-- A token is a command of such a kind, and leads so far.
+pub record IsLedBy (which : Commands → Bool) (token : CharToken) (numbers : List ℤ) (way : Way) : Type 0 where
   pub command : Commands
   pub token_is : token ≡ Command command
-  pub is : IsLed what command numbers
+  pub is : IsLed which command numbers
   pub way_is : way ≡ way_by command numbers
 
 abbrev pub closepath_byte : ℕ
 closepath_byte = 9
 
+-- It is one that is passed after what was drawn.
+pub record IsLedAfter (what : Passing) (drawn : Drawn) (token : CharToken) (numbers : List ℤ) (way : Way) : Type 0 where
+  pub by : IsLedBy (is_led what) token numbers way
+  pub from : can_follow by.command drawn ≡ true
+
 -- The first byte is that of such a command, which it alone writes.
-abbrev pub IsLedFirst : Passing → Option ℕ → List ℤ → Way → Type 0
-IsLedFirst what None numbers way = ⊥
-IsLedFirst what (Some first) numbers way = ((rest : List ℕ) → IsLedBy what (token_at first rest) numbers way) × (more_of first ≡ 0)
+abbrev pub IsLedFirst : Passing → Drawn → Option ℕ → List ℤ → Way → Type 0
+IsLedFirst what drawn None numbers way = ⊥
+IsLedFirst what drawn (Some first) numbers way = ((rest : List ℕ) → IsLedAfter what drawn (token_at first rest) numbers way) × (more_of first ≡ 0)
 
 -- Such a command or a closepath was read and executed.
 pub record PassesCommand (what : Passing) (ahead behind : Cursor) (old new : List ℤ) (before after : Way) : Type 0 where
@@ -100,6 +106,12 @@ IsTokenRead End before ahead = before ≡ ahead
 IsTokenRead Long before ahead = AtFirst 255 before ahead
 IsTokenRead (Token token) before ahead = tokens_left before ≡ token ∷ behind_token token (tokens_left ahead)
 
+-- So many numbers were read and executed, and the token after them was read.
+pub record PassesUpTo (passed : ℕ) (before : Cursor) (old : List ℤ) (token : CharToken) (ahead : Cursor) (new : List ℤ) : Type 0 where
+  pub between : Cursor
+  pub passes : PassesNumbers passed before between old new
+  pub token_is : tokens_left between ≡ token ∷ behind_token token (tokens_left ahead)
+
 -- Numbers and commands were taken, up to a token.
 pub record TakesLines (what : Passing) (ahead : Ahead) (old new : List ℤ) (stop : Lines) : Type 0 where
   pub before : Cursor
@@ -112,8 +124,8 @@ pub record IsTakingLines (what : Passing) (room : ℕ) (ahead : Ahead) (old : Li
   pub near : IsWayNear passed way
   pub room_is : passed ≤ room
   pub short : list_any is_far numbers ≡ false
-  pub from : goes_on_from what way.drawn ≡ true
-  pub few : moves_in way.drawn ≤ passed
+  pub unclosed : is_closed way.drawn ≡ false
+  pub few : way.moves ≤ passed
 
 -- The next token was read after a stop.
 pub record FinishesThere (stop : Stop) (passed : ℕ) (way : Way) (lines : Lines) : Type 0 where

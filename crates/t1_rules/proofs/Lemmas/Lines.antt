@@ -6,7 +6,7 @@ use Rattle.std.proofs.lemmas.List.{take_all}
 use Rattle.std.specs.List.{list_any}
 use Rattle.t1_char.specs.Arguments.{argument, is_callothersubr}
 use Rattle.t1_char.specs.Effects.{is_finishing}
-use Rattle.t1_char.specs.Lines.{IsLed, is_led, is_line_command, is_move_command, way_by}
+use Rattle.t1_char.specs.Lines.{IsLed, is_line_command, is_move_command, way_by}
 use Rattle.t1_char.specs.Numbers.{clamped}
 use Rattle.t1_char.specs.Seacs.{is_seac}
 use Rattle.t1_char.specs.Since.{any_so_far}
@@ -14,9 +14,7 @@ use Rattle.t1_char.specs.Steps.{StepView, is_callsubr, is_return}
 use Rattle.t1_char.specs.declared.command.Command.{Command as Commands}
 use Rattle.t1_char.specs.declared.command.Command.TheVariants.{Rlineto, Hlineto, Vlineto, Rrcurveto, Vhcurveto, Hvcurveto, Closepath, Rmoveto, Hmoveto, Vmoveto}
 use Rattle.t1_char.specs.declared.edition.Edition.{Edition}
-use Rattle.t1_char.specs.declared.lines.Drawn.TheVariants.{Moved, Open}
-use Rattle.t1_char.specs.declared.lines.Passing.{Passing}
-use Rattle.t1_char.specs.declared.lines.Passing.TheVariants as passing
+use Rattle.t1_char.specs.declared.lines.Drawn.TheVariants.{Nothing, Open}
 use Rattle.t1_char.specs.declared.lines.Way.{Way}
 use Rattle.t1_char.specs.declared.token.CharToken.TheVariants.{Command}
 use Rattle.t1_rules.specs.declared.step_rules.flex.Point.{Point}
@@ -132,7 +130,7 @@ line_open _ is v = let no : false ≡ true = is in cc
 
 -- The watchers that a line leads to.
 led_on : Watches → Way → Watches
-led_on w way = record (drawn_on w) { flex = record w.flex { point = point_on w.flex.point way } }
+led_on w way = record (drawn_on w) { flex = record w.flex { point = point_on w.flex.point way; moves = w.flex.moves + 0 } }
 
 led_by_line : (w : Watches) (command : Commands) → is_line_command command ≡ true → (v : List ℤ)
     → led_on w (way_by command v) ≡ moved_on w (way_by command v)
@@ -150,7 +148,8 @@ stays_led : (edition : Edition) (w : Watches) (before : List StepView) (t : Step
     → WatchesStandFor edition (led_on w (way_by command t.stack)) (before ++ t ∷ [])
 unfolding WatchesStandFor led_on
 stays_led edition w before t command is line calm steady st =
-    let f : IsLedToken true false command = line_token command line in (
+    let f : IsLedToken true false command = line_token command line in
+    let no_more : w.flex.moves + 0 ≡ w.flex.moves = omega arith in (
       one_more w.paths (drawn_on w).paths before t st.0
           (rw (is, f.clears, steady.begun) refl)
           (rw (is, f.othersubr, steady.path_flex) refl)
@@ -167,7 +166,7 @@ stays_led edition w before t command is line calm steady st =
         (
           one_more_in_flex w.flex (led_on w (way_by command t.stack)).flex before t st.1.1.0
               (rw (is, f.othersubr, steady.flex) refl)
-              (rw (is, f.othersubr, f.move_is) refl)
+              (rw (is, f.othersubr, f.move_is) no_more)
               (rw (is, f.othersubr) refl)
               (rw (is, f.sets_point, f.way t.stack) refl)
               (rw (is, f.othersubr, calm.ended) refl)
@@ -191,7 +190,7 @@ stays_at_line edition w before t command is line calm steady st =
 
 -- The watchers that a move leads to.
 led_to : Watches → Way → Watches
-led_to w way = record w { flex = record w.flex { moves = w.flex.moves + 1; point = point_on w.flex.point way } }
+led_to w way = record w { flex = record w.flex { point = point_on w.flex.point way; moves = w.flex.moves + 1 } }
 
 led_by_move : (w : Watches) (command : Commands) → is_move_command command ≡ true → (v : List ℤ)
     → led_to w (way_by command v) ≡ moved_on w (way_by command v)
@@ -201,12 +200,12 @@ led_by_move w Hmoveto is v = refl
 led_by_move w Vmoveto is v = refl
 led_by_move w _ is v = let no : false ≡ true = is in cc
 
--- It counts as one.
-pub move_once : (command : Commands) → is_move_command command ≡ true → (v : List ℤ) → (way_by command v).drawn ≡ Moved 1
-move_once Rmoveto is v = refl
-move_once Hmoveto is v = refl
-move_once Vmoveto is v = refl
-move_once _ is v = let no : false ≡ true = is in cc
+-- It draws nothing.
+pub move_undrawn : (command : Commands) → is_move_command command ≡ true → (v : List ℤ) → (way_by command v).drawn ≡ Nothing
+move_undrawn Rmoveto is v = refl
+move_undrawn Hmoveto is v = refl
+move_undrawn Vmoveto is v = refl
+move_undrawn _ is v = let no : false ≡ true = is in cc
 
 stays_led_to : (edition : Edition) (w : Watches) (before : List StepView) (t : StepView) (command : Commands) → t.token ≡ Command command
     → is_move_command command ≡ true → IsCalm w → IsSteady w → IsUndrawn w → WatchesStandFor edition w before
@@ -302,7 +301,7 @@ no_fault_at_close edition n before t is alone replaced popped begun outside draw
 
 -- Nor is a rule broken.
 pub no_fault_at_line : (edition : Edition) (n : ℕ) (before : List StepView) (t : StepView) (command : Commands) → t.token ≡ Command command
-    → IsLed passing.Lines command t.stack → is_replaced before ≡ false → is_replaced_and_popped before ≡ false → any_so_far clearing_step before ≡ true
+    → IsLed is_line_command command t.stack → is_replaced before ≡ false → is_replaced_and_popped before ≡ false → any_so_far clearing_step before ≡ true
     → in_flex before ≡ false → is_moved before ≡ true → breaks (step_rules edition) n before t ≡ false
 unfolding step_rules argument_rules call_rules path_rules stem_rules flex_rules othersubr_rules seac_rules
 no_fault_at_line edition n before t command is line replaced popped begun outside moved =
@@ -339,7 +338,7 @@ no_fault_at_line edition n before t command is line replaced popped begun outsid
     ) refl
 
 pub no_fault_at_move : (edition : Edition) (n : ℕ) (before : List StepView) (t : StepView) (command : Commands) → t.token ≡ Command command
-    → IsLed passing.Moves command t.stack → is_replaced before ≡ false → is_replaced_and_popped before ≡ false
+    → IsLed is_move_command command t.stack → is_replaced before ≡ false → is_replaced_and_popped before ≡ false
     → any_so_far clearing_step before ≡ true → in_flex before ≡ false → is_open before ≡ false → breaks (step_rules edition) n before t ≡ false
 unfolding step_rules argument_rules call_rules path_rules stem_rules flex_rules othersubr_rules seac_rules
 no_fault_at_move edition n before t command is move replaced popped begun outside undrawn =
