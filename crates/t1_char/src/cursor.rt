@@ -90,6 +90,23 @@ impl<'a> Ahead<'a> {
         }
     }
 
+    /// The number of the next four bytes.
+    #[inline(always)]
+    fn long_number(&mut self) -> Option<i32>
+        ensures token { MatchOption result (long_number (bytes_left (cursor_of self.old)) ≡ Cut)
+            (λ number. long_number (bytes_left (cursor_of self.old)) ≡ Number number) }
+        ensures left { bytes_left (cursor_of self.new) ≡ drop 4 (bytes_left (cursor_of self.old)) }
+    {
+        let a = self.next_byte();
+        let b = self.next_byte();
+        let c = self.next_byte();
+        let d = self.next_byte();
+        match (a, b, c, d) {
+            (Some(a), Some(b), Some(c), Some(d)) => Some(signed(joined(a, b, c, d))),
+            _ => None,
+        }
+    }
+
     /// The number of its first byte and the byte after it.
     #[inline(always)]
     pub(crate) fn number_behind(&mut self, first: u8) -> Option<i64>
@@ -272,14 +289,14 @@ impl<'a> Cursor<'a> {
         ensures left { bytes_left self.new ≡ drop 4 (bytes_left self.old) }
         ensures short { self.new.short ≡ self.old.short }
     {
-        let a = self.next_byte();
-        let b = self.next_byte();
-        let c = self.next_byte();
-        let d = self.next_byte();
-        match (a, b, c, d) {
-            (Some(a), Some(b), Some(c), Some(d)) => Some(signed(joined(a, b, c, d))),
-            _ => None,
-        }
+        let mut ahead = Ahead {
+            left: self.left,
+            cipher: self.cipher,
+        };
+        let number = ahead.long_number();
+        self.left = ahead.left;
+        self.cipher = ahead.cipher;
+        number
     }
 
     /// Whether bytes that are left may write seac: 12 and 6 side by side.
@@ -363,12 +380,12 @@ fn random_bytes(len_iv: i8) -> Option<usize>
     }
 }
 
-/// Whether the first byte begins a number.
+/// Whether the first byte begins a number of one or two bytes.
 #[inline(always)]
 fn begins_with_number(left: &[u8]) -> bool {
     match left {
         [] => false,
-        [first, ..] => matches!(*first, 32..=255),
+        [first, ..] => matches!(*first, 32..=254),
     }
 }
 

@@ -15,13 +15,13 @@ ghost use Rattle.t1_char.specs.Stacks.{most_numbers};
 ghost use Rattle.t1_char.specs.Private.Frames.{IsReady, state_in, step_here, steps_behind, steps_from};
 ghost use Rattle.t1_char.specs.declared.edition.Edition.TheVariants.{Two};
 ghost use Rattle.t1_char.specs.Editions.{limit_of};
-ghost use Rattle.t1_char.specs.declared.lines.Passing.TheVariants.{Told, Moves};
+ghost use Rattle.t1_char.specs.declared.lines.Passing.TheVariants.{Told};
 
 use crate::action::Action;
 use crate::charstrings::{code_at, cursor_at};
 use crate::cursor::{Ahead, Cursor};
 use crate::effect::{Waiting, apply, apply_plain};
-use crate::lines::{Passing, Way, is_any, is_moves};
+use crate::lines::{Passing, Way, is_any};
 use crate::numbers::units;
 use crate::stack::{MOST_NUMBERS, Stack};
 use crate::step::{MOST_CALLS, Step, is_last, named_at};
@@ -164,11 +164,12 @@ impl<'a> Frames<'a> {
     }
 
     /// Passes the steps that come next as far as it may, and reads the step after them. Returns how many steps are before that,
-    /// where there were `counted` before the first.
+    /// where there were `counted` before the first. With `moves` it passes moves too, out of line.
     #[inline(always)]
     pub(crate) fn advance(
         &mut self,
         passing: Passing,
+        moves: bool,
         font: &'a Font<'a>,
         counted: u32,
         limit: u32,
@@ -180,14 +181,21 @@ impl<'a> Frames<'a> {
         ensures told { passing ≡ Told → result.before ≡ counted }
         ensures near { result.before ≤ limit }
     {
-        let gone = self.go_over(passing, font, counted, limit);
+        let gone = self.go_over(passing, moves, font, counted, limit);
         self.hold(font, gone.before + 1);
         gone
     }
 
     /// Passes the steps that come next as far as it may, and reads the token after them.
     #[inline(always)]
-    fn go_over(&mut self, passing: Passing, font: &'a Font<'a>, counted: u32, limit: u32) -> Gone
+    fn go_over(
+        &mut self,
+        passing: Passing,
+        moves: bool,
+        font: &'a Font<'a>,
+        counted: u32,
+        limit: u32,
+    ) -> Gone
         requires counted { counted ≤ limit }
         requires few { limit ≤ limit_of Two }
         ensures over { ReadsToken passing limit font.now counted self.old result.before result.way self.new }
@@ -197,8 +205,8 @@ impl<'a> Frames<'a> {
         ensures near { result.before ≤ limit }
     {
         if has_room(counted, limit) && is_any(passing) {
-            if is_moves(passing) {
-                let before = self.go_over_moves(font, counted, limit);
+            if moves {
+                let before = self.go_over_moves(font, counted, limit, passing);
                 return self.gone(before);
             }
             if let Some(ahead) = self.current.enciphered() {
@@ -235,20 +243,26 @@ impl<'a> Frames<'a> {
         }
     }
 
-    /// The same far from the limit, where moves are passed. It keeps the way, and returns how many steps are before the one
-    /// that it reads.
+    /// The same far from the limit with moves, where these are passed. It keeps the way, and returns how many steps are before the
+    /// one that it reads.
     #[inline(never)]
-    fn go_over_moves(&mut self, font: &'a Font<'a>, counted: u32, limit: u32) -> u32
+    fn go_over_moves(
+        &mut self,
+        font: &'a Font<'a>,
+        counted: u32,
+        limit: u32,
+        passing: Passing,
+    ) -> u32
         requires far { counted + most_numbers ≤ limit }
         requires few { limit ≤ limit_of Two }
-        ensures over { ReadsToken Moves limit font.now counted self.old result self.new.way self.new }
+        ensures over { ReadsToken passing limit font.now counted self.old result self.new.way self.new }
         ensures path { self.new.step.path.items ≡ self.old.step.path.items }
         ensures callers { self.new.callers.items ≡ self.old.callers.items }
         ensures near { result ≤ limit }
     {
-        if self.step.stack.is_empty() {
-            if let Some(ahead) = self.current.ahead() {
-                let stop = self.step.stack.take_moves(ahead, limit - counted);
+        match self.current.ahead() {
+            Some(ahead) => {
+                let stop = self.step.stack.take_moves(ahead, limit - counted, passing);
                 self.current = Cursor {
                     left: stop.left,
                     cipher: stop.cipher,
@@ -256,12 +270,14 @@ impl<'a> Frames<'a> {
                 };
                 let more = self.take_token(stop.token, limit - counted - stop.passed);
                 self.way = stop.way;
-                return counted + stop.passed + more;
+                counted + stop.passed + more
+            }
+            None => {
+                self.read_token();
+                self.way = Way::NONE;
+                counted
             }
         }
-        self.read_token();
-        self.way = Way::NONE;
-        counted
     }
 
     /// The same of a charstring without encryption far from the limit, where numbers are passed. It keeps the way, and returns how

@@ -2,12 +2,11 @@
 
 ghost use Rattle.std.specs.Prelude.{◌≡◌, ◌≤◌, ◌<◌, [], length, nat_eq, nat_le};
 ghost use Rattle.t1_char.specs.Stacks.{from_top, most_numbers, put, without};
-ghost use Rattle.t1_char.specs.declared.lines.Passing.TheVariants.{Moves};
 ghost use Rattle.t1_char.specs.Private.Taking.{TakesLines};
 
 use crate::cursor::Ahead;
 use crate::lines::Passing;
-use crate::taking::{Lines, take_lines, take_path};
+use crate::taking::{Lines, take_lines, take_moves};
 use std::marker::Model;
 
 /// The most numbers that a stack holds: Type 1 Font Format 1.1, chapter 6.
@@ -121,17 +120,20 @@ impl Stack {
         stop
     }
 
-    /// Takes the moves that come next and the lines and curves after them, with their numbers: `room` steps at most. There is
-    /// no number yet.
+    /// The same with moves, where these are passed.
     #[inline(always)]
-    pub(crate) fn take_moves<'a>(&mut self, ahead: Ahead<'a>, room: u32) -> Lines<'a>
-        requires none { self.old ≡ [] }
+    pub(crate) fn take_moves<'a>(
+        &mut self,
+        ahead: Ahead<'a>,
+        room: u32,
+        passing: Passing,
+    ) -> Lines<'a>
         requires room { most_numbers ≤ room }
         requires limited { room < 16777216 }
-        ensures takes { TakesLines Moves ahead.entry self.old self.new result }
+        ensures takes { TakesLines passing ahead.entry self.old self.new result }
         ensures near { result.passed ≤ room }
     {
-        let stop = take_path(&mut self.cells, ahead, room, Passing::Moves);
+        let stop = take_moves(&mut self.cells, self.len, ahead, room, passing);
         self.len = stop.len;
         stop
     }

@@ -145,6 +145,30 @@ pub(crate) fn take_lines<'a>(
     }
 }
 
+/// The same with moves before the lines, where these are passed.
+#[inline(always)]
+pub(crate) fn take_moves<'a>(
+    cells: &mut [i64; MOST_NUMBERS],
+    len: usize,
+    ahead: Ahead<'a>,
+    room: u32,
+    passing: Passing,
+) -> Lines<'a>
+    requires few { len ≤ most_numbers }
+    requires room { most_numbers ≤ room }
+    requires limited { room < 16777216 }
+    ensures takes { TakesLines passing ahead.entry (take len cells.old) (take result.len cells.new) result }
+    ensures few { result.len ≤ most_numbers }
+    ensures len { result.len ≡ length (take result.len cells.new) }
+    ensures near { result.passed ≤ room }
+{
+    if is_moves(passing) && len == 0 {
+        take_path(cells, ahead, room, Passing::Moves)
+    } else {
+        take_lines(cells, len, ahead, room, passing)
+    }
+}
+
 /// Takes numbers alone.
 #[inline(always)]
 fn take_front<'a>(cells: &mut [i64; MOST_NUMBERS], len: usize, ahead: Ahead<'a>) -> Lines<'a>
@@ -162,7 +186,7 @@ fn take_front<'a>(cells: &mut [i64; MOST_NUMBERS], len: usize, ahead: Ahead<'a>)
 /// Takes lines and curves, and moves before them, with the numbers before each, as long as there is room for a full stack of steps more,
 /// and the closepath after lines.
 #[inline(always)]
-pub(crate) fn take_path<'a>(
+fn take_path<'a>(
     cells: &mut [i64; MOST_NUMBERS],
     ahead: Ahead<'a>,
     room: u32,

@@ -7,7 +7,7 @@ use Rattle.t1_char.specs.declared.command.Command.{Command as Commands}
 use Rattle.t1_char.specs.declared.lines.Passing.{Passing}
 use Rattle.t1_char.specs.declared.lines.Passing.TheVariants as passing
 use Rattle.t1_char.specs.declared.edition.Edition.{Edition}
-use Rattle.t1_char.specs.declared.command.Command.TheVariants.{Closepath, Rmoveto, Hmoveto, Vmoveto}
+use Rattle.t1_char.specs.declared.command.Command.TheVariants.{Closepath, Rlineto, Hlineto, Vlineto, Rrcurveto, Vhcurveto, Hvcurveto, Rmoveto, Hmoveto, Vmoveto}
 use Rattle.t1_char.specs.declared.lines.Drawn.{Drawn}
 use Rattle.t1_char.specs.declared.lines.Drawn.TheVariants.{Nothing, Open, Closed}
 use Rattle.t1_char.specs.declared.lines.Way.{Way}
@@ -43,6 +43,7 @@ use Rattle.t1_report.specs.Checked.{CheckedFont, step_limit}
 use Rattle.t1_report.specs.Reports.{is_broken, rules_of}
 use Rattle.t1_report.specs.Laws.PassedLines.{PassedLinesBreakNoRule, WatchersMoveOnByLines}
 use Rattle.t1_report.specs.Private.Fitting.{IsFit}
+use Rattle.t1_report.specs.Private.Going.{idled}
 use Rattle.t1_report.specs.Private.Units.{IsQuiet, IsRun, executed}
 use Rattle.t1_report.specs.Walks.{turns_of_glyph}
 use Rattle.t1_report.proofs.Broken.{at_step, both_kinds, rules_by, within_limit}
@@ -434,6 +435,54 @@ gone_far what m new answer way w font glyph unit from fit of_font of_glyph at ru
     (subst (λ (f : CheckedFont). glyph < length f.value.glyphs) of_font (subst (λ g. g < length m.font.glyphs) of_glyph run.there))
     near (run_at font glyph m w of_font of_glyph run) quiet (of_machine what m font glyph asked.taken way of_font of_glyph asked.passed)
 
+-- The same of a machine and its watchers alone.
+pub gone_now : (what : Passing) (m new : MachineView) (answer : TurnValue) (way : Way) (w : Watches) → IsFit what w → IsRun m w
+    → m.counted ≤ step_limit (executed m) → (asked : IsAskedFar what m new answer way)
+    → GoneFar (executed m) m.glyph (m.glyph + 1) (m.counted + 1) (m.counted + asked.taken) (moved_on w way)
+gone_now what m new answer way w fit run near asked =
+    gone_far what m new answer way w (executed m) m.glyph (m.glyph + 1) (m.counted + 1) fit refl refl refl run
+    (λ s r from to. absurd (omega (arith, from, to))) near asked
+
+-- A line moves nowhere without drawing, and so no move is in a way of lines.
+line_unmoved : (command : Commands) → is_line_command command ≡ true → (v : List ℤ) → (way_by command v).moves ≡ 0
+line_unmoved Rlineto is v = refl
+line_unmoved Hlineto is v = refl
+line_unmoved Vlineto is v = refl
+line_unmoved Rrcurveto is v = refl
+line_unmoved Vhcurveto is v = refl
+line_unmoved Hvcurveto is v = refl
+line_unmoved _ is v = let no : false ≡ true = is in cc
+
+command_unmoved : (what : Passing) (command : Commands) (stack : List ℤ) (before way : Way) → (what ≡ passing.Moves → ⊥) → before.moves ≡ 0
+    → GoesOn what command stack before way → way.moves ≡ 0
+command_unmoved what command stack before way not none (inl leads_on) =
+    elim (led_kind what command leads_on.is.led) [
+      | inl line ↦ omega (arith, ap (λ (w : Way). w.moves) leads_on.way, none, line_unmoved command line stack)
+      | inr move ↦ absurd (not move.1)
+    ]
+command_unmoved what command stack before way not none (inr closes) = ap (λ (w : Way). w.moves) closes.way ∙ none
+
+pub unmoved : (what : Passing) (limit : ℕ) (steps : List StepView) (n taken : ℕ) (way : Way) → (what ≡ passing.Moves → ⊥)
+    → PassesSteps what limit steps n taken way → way.moves ≡ 0
+unmoved what limit steps n zero way not passes = ap (λ (w : Way). w.moves) passes
+unmoved what limit steps n (suc taken) way not passes =
+    by_one passes.0 (unmoved what limit steps n taken passes.0 not passes.1.0) passes.1.1
+  where
+    by_one : (before : Way) → before.moves ≡ 0 → PassesStep what limit steps (n + taken) before way → way.moves ≡ 0
+    by_one before none (inl number) = ap (λ (w : Way). w.moves) number.1 ∙ none
+    by_one before none (inr command) = command_unmoved what command.1.command command.1.step.stack before way not none command.1.goes_on
+
+pub stands_idled : (font : CheckedFont) (glyph unit from before : ℕ) (v other : Watches) → StandsBehind font glyph unit from before v
+    → StandsBehind font glyph unit from before (idled v other)
+unfolding WatchesStandFor
+stands_idled font glyph unit from before v other stands = record {
+  run = record { counted_few = stands.run.counted_few; seen_are = stands.run.seen_are };
+  quiet = stands.quiet;
+}
+
+pub is_idled : (seen v : Watches) → seen ≡ v → seen ≡ idled v seen
+is_idled seen v is = subst (λ (u : Watches). seen ≡ idled u seen) is refl
+
 -- Two laws.
 pub passed_lines_break_none : PassedLinesBreakNoRule
 passed_lines_break_none font glyph from count place n what w way is least less =
@@ -461,13 +510,14 @@ told_far what m new Limit way step font glyph of_font of_glyph on here asked nea
 pub turn_far : (what : Passing) (m new : MachineView) (answer : Answer) (way : Way) (step : Step) (w moved : Watches) (font : CheckedFont) (glyph unit from : ℕ)
     → IsFit what w → executed m ≡ font → m.glyph ≡ glyph → unit ≡ glyph + 1 → IsRun m w → IsQuiet font unit from (m.counted + 1)
     → m.counted ≤ step_limit font → is_over answer ≡ false → step_value step ≡ new.step → IsAskedFar what m new (answer_view answer new.step) way
-    → moved ≡ moved_on w way → IsTurn font glyph unit from m.counted new.counted moved step
+    → moved ≡ idled (moved_on w way) moved → IsTurn font glyph unit from m.counted new.counted moved step
 turn_far what m new answer way step w moved font glyph unit from fit of_font of_glyph at run quiet near on here asked is =
     let gone = gone_far what m new (answer_view answer new.step) way w font glyph unit from fit of_font of_glyph at run quiet near asked in
     record {
       before = m.counted + asked.taken;
       least = omega arith;
-      stands = subst (StandsBehind font glyph unit from (m.counted + asked.taken)) (sym is) gone.stands;
+      stands = subst (StandsBehind font glyph unit from (m.counted + asked.taken)) (sym is)
+          (stands_idled font glyph unit from (m.counted + asked.taken) (moved_on w way) moved gone.stands);
       told = told_far what m new answer way step font glyph of_font of_glyph on here asked gone.near;
     }
 

@@ -2,6 +2,7 @@
 pub mod Courses
 pub mod Fitting
 pub mod Fronts
+pub mod Going
 pub mod Reporting
 pub mod Searches
 pub mod Units

@@ -26,6 +26,48 @@ use crate::step_rules::tokens::call_of;
 use crate::watch::Watch;
 use t1_char::{CharToken, Command, Drawn, Edition, MOST_NUMBERS, OthersubrCall, Step, Way};
 
+/// How often a machine may look for moves in vain.
+const MOST_TRIES: u32 = 8;
+
+/// Where a glyph has moves that draw nothing, as hardly any font does: a machine passes these by
+/// [`Machine::go_by_moves`](t1_char::Machine::go_by_moves). Only speed depends on it.
+#[derive(Clone, Copy)]
+struct Idling {
+    /// The number of the last move.
+    last: u32,
+    /// The same where it came right after another, with nothing drawn.
+    at: u32,
+    /// How often it may still look in vain.
+    tries: u32,
+}
+
+impl Idling {
+    const NONE: Idling = Idling {
+        last: 0,
+        at: 0,
+        tries: MOST_TRIES,
+    };
+
+    /// Notes a move, which has two numbers at most.
+    #[inline(always)]
+    fn see_move(&mut self, step: u32, is_undrawn: bool) {
+        let is_next = step.saturating_sub(self.last) <= 3;
+        self.last = step;
+        self.at = if is_next && is_undrawn && self.tries > 0 {
+            step
+        } else {
+            0
+        };
+    }
+
+    /// Notes how many moves a machine passed.
+    fn learn(&mut self, moves: u32) {
+        if moves == 0 {
+            self.tries = self.tries.saturating_sub(1);
+        }
+    }
+}
+
 /// Watches for the rules from C01 to O04, K01, K02 and K06, which a glyph's own steps decide.
 #[derive(Drop)]
 pub struct Watches {
@@ -36,6 +78,7 @@ pub struct Watches {
     flex: FlexWatcher,
     othersubrs: OthersubrWatcher,
     seac: SeacWatcher,
+    idling: Idling,
 }
 
 impl Watch for Watches {
@@ -55,6 +98,7 @@ impl Watch for Watches {
             flex: FlexWatcher::start(edition),
             othersubrs: OthersubrWatcher::start(edition),
             seac: SeacWatcher::start(edition),
+            idling: Idling::NONE,
         }
     }
 
@@ -121,6 +165,7 @@ impl Watches {
         self.stems.start_again(edition);
         self.flex = FlexWatcher::start(edition);
         self.seac = SeacWatcher::start(edition);
+        self.idling = Idling::NONE;
     }
 
     /// Whether no rule speaks of a number after the last steps, unless the stack is full.
@@ -143,20 +188,29 @@ impl Watches {
             & self.seac.is_steady()
     }
 
-    /// Whether moves came last, with nothing drawn since. Then moves break no rule in such a path, if they have exactly
-    /// their arguments, none past 32000.
+    /// Whether the last step, of this number, was a move right after another, as hardly any font has them, and moves after it
+    /// break no rule either.
     #[inline(always)]
-    pub fn is_moving(&self) -> bool
-        ensures { result ≡ true → IsUndrawn self.now }
+    pub fn is_idle(&self, step: u32) -> bool
+        ensures calm { result ≡ true → IsCalm self.now }
+        ensures steady { result ≡ true → IsSteady self.now }
+        ensures undrawn { result ≡ true → IsUndrawn self.now }
     {
-        self.paths.is_moving() && self.seac.is_outlined()
+        self.idling.at == step && self.is_calm() && self.is_steady() && self.is_undrawn()
     }
 
-    /// Keeps what such steps change: the current point, what is drawn, and how many moves there were.
+    /// Whether nothing is drawn behind a move.
+    fn is_undrawn(&self) -> bool
+        ensures { result ≡ true → IsUndrawn self.now }
+    {
+        self.paths.is_undrawn() && self.seac.is_outlined()
+    }
+
+    /// Keeps what lines, curves and closepaths change: the current point, and what is drawn.
     #[inline(always)]
     pub fn go(&mut self, way: Way)
         requires near { (n : ℕ) × (IsNear n (point_on self.old.flex.point way) × (n < most_steps)) }
-        requires few { self.old.flex.moves + way.moves < most_steps }
+        requires unmoved { way.moves ≡ 0 }
         ensures { self.new ≡ moved_on self.old way }
     {
         self.flex.go(way);
@@ -168,6 +222,22 @@ impl Watches {
                 self.paths.close();
             }
         }
+    }
+
+    /// Keeps what moves change, and lines after them.
+    pub fn go_by_moves(&mut self, way: Way)
+        requires near { (n : ℕ) × (IsNear n (point_on self.old.flex.point way) × (n < most_steps)) }
+        requires few { self.old.flex.moves + way.moves < most_steps }
+        ensures { self.new ≡ record (moved_on self.old way) { idling = self.new.idling } }
+    {
+        self.go(Way {
+            x: way.x,
+            y: way.y,
+            moves: 0,
+            drawn: way.drawn,
+        });
+        self.flex.count_moves(way.moves);
+        self.idling.learn(way.moves);
     }
 
     /// Keeps what a line draws.
@@ -230,16 +300,16 @@ impl Watches {
                 CharToken::Command(Command::Hvcurveto),
                 step,
             ),
-            Command::Rmoveto if self.is_usual(Command::Rmoveto, step) => self.see_each(
-                CharToken::Command(Command::Rmoveto),
+            Command::Rmoveto if self.is_usual(Command::Rmoveto, step) => self.see_move(
+                Command::Rmoveto,
                 step,
             ),
-            Command::Hmoveto if self.is_usual(Command::Hmoveto, step) => self.see_each(
-                CharToken::Command(Command::Hmoveto),
+            Command::Hmoveto if self.is_usual(Command::Hmoveto, step) => self.see_move(
+                Command::Hmoveto,
                 step,
             ),
-            Command::Vmoveto if self.is_usual(Command::Vmoveto, step) => self.see_each(
-                CharToken::Command(Command::Vmoveto),
+            Command::Vmoveto if self.is_usual(Command::Vmoveto, step) => self.see_move(
+                Command::Vmoveto,
                 step,
             ),
             Command::Closepath => self.see_each(CharToken::Command(Command::Closepath), step),
@@ -258,6 +328,19 @@ impl Watches {
             ),
             _ => self.see_rare(step),
         }
+    }
+
+    /// What all watchers say of a move.
+    #[inline(always)]
+    fn see_move(&mut self, command: Command, step: &Step) -> Mask
+        requires token { IsCommand (step_view step.now) command }
+        requires steps { CanSee self.old }
+        ensures { Sees self.old (step_view step.now) self.new result }
+    {
+        let is_undrawn = self.paths.is_undrawn();
+        let broken = self.see_each(CharToken::Command(command), step);
+        self.idling.see_move(step.number, is_undrawn);
+        broken
     }
 
     /// What all watchers say of a call of a Subr.

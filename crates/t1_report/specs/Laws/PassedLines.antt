@@ -1,5 +1,5 @@
--- What rules say of the steps that a machine passes in a path: numbers, lines, curves and closepaths, or moves.
-use Rattle.std.specs.Prelude.{◌≡◌, ℕ, suc, ◌+◌, ◌<◌, ◌≤◌, true, false, length, take}
+-- What rules say of the steps that a machine passes in a path: numbers, moves, lines, curves and closepaths.
+use Rattle.std.specs.Prelude.{◌≡◌, ℕ, suc, ◌+◌, ◌<◌, ◌≤◌, false, length, take}
 use Rattle.t1_char.specs.declared.lines.Passing.{Passing}
 use Rattle.t1_char.specs.declared.lines.Passing.TheVariants as passing
 use Rattle.t1_char.specs.declared.lines.Way.{Way}

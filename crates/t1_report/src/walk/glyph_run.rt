@@ -1,18 +1,21 @@
 //! A glyph, executed up to the next step that breaks a rule.
 
 ghost use Rattle.std.specs.Prelude.{◌≡◌, ◌<◌, ◌≤◌, ◌+◌, false, MatchOption, length};
-ghost use Rattle.t1_report.specs.Checked.{checked};
+ghost use Rattle.t1_report.specs.Checked.{checked, step_limit};
 ghost use Rattle.t1_report.specs.Private.Units.{IsFirst, IsQuietFrom, IsRun, executed};
 ghost use Rattle.t1_report.specs.Walks.{turns_of_glyph};
 ghost use Rattle.t1_rules.specs.Components.{AreOf};
 ghost use Rattle.t1_rules.specs.Mask.{HasNoneAbove};
 ghost use Rattle.t1_report.specs.Private.Fitting.{IsFit};
+ghost use Rattle.t1_report.specs.Private.Going.{HasGone};
+ghost use Rattle.t1_char.specs.AnswerViews.{answer_view};
+ghost use Rattle.t1_char.specs.declared.lines.Passing.TheVariants.{Moves};
 ghost use Rattle.t1_char.specs.Editions.{limit_of};
 ghost use Rattle.t1_char.specs.declared.edition.Edition.TheVariants.{Two};
 
 use crate::violations::broken_at;
 use crate::walk::found::Found;
-use t1_char::{Edition, Machine, Passing};
+use t1_char::{Answer, Edition, Machine, Passing};
 use t1_font::{Font, copy_of};
 use t1_rules::{Mask, Sidebearings, Watch, Watches};
 
@@ -101,13 +104,12 @@ fn next_broken(
 {
     let mut on = machine.counted() <= sidebearings.edition().step_limit();
     while on {
-        let far = machine.go_far(passing_by(watches));
-        watches.go(far.way);
-        if far.answer.is_over() {
+        let answer = go_on(machine, watches);
+        if answer.is_over() {
             return None;
         }
         let step = machine.current();
-        let is_past = far.answer.is_limit();
+        let is_past = answer.is_limit();
         let rules = broken_at(watches, sidebearings, is_past, step);
         if has_rules(rules) {
             return Some(Found {
@@ -122,20 +124,49 @@ fn next_broken(
     None
 }
 
-/// What becomes of the steps that come next: numbers are passed, unless a rule speaks of them, lines in the midst of a path,
-/// and moves after moves.
+/// The machine's next step that isn't passed; the watchers have seen those before it.
+#[inline(always)]
+fn go_on(machine: &mut Machine<'_>, watches: &mut Watches) -> Answer
+    requires run { IsRun machine.old watches.old }
+    requires near { machine.old.counted ≤ step_limit (executed machine.old) }
+    ensures asked { HasGone machine.old watches.old machine.new watches.new (answer_view result machine.new.step) }
+    ensures font { executed machine.new ≡ executed machine.old }
+    ensures glyph { machine.new.glyph ≡ machine.old.glyph }
+{
+    if watches.is_idle(machine.counted()) {
+        return go_on_by_moves(machine, watches);
+    }
+    let far = machine.go_far(passing_by(watches));
+    watches.go(far.way);
+    far.answer
+}
+
+/// The same where moves come that draw nothing.
+#[inline(never)]
+fn go_on_by_moves(machine: &mut Machine<'_>, watches: &mut Watches) -> Answer
+    requires run { IsRun machine.old watches.old }
+    requires near { machine.old.counted ≤ step_limit (executed machine.old) }
+    requires fit { IsFit Moves watches.old }
+    ensures asked { HasGone machine.old watches.old machine.new watches.new (answer_view result machine.new.step) }
+    ensures font { executed machine.new ≡ executed machine.old }
+    ensures glyph { machine.new.glyph ≡ machine.old.glyph }
+{
+    let far = machine.go_by_moves();
+    watches.go_by_moves(far.way);
+    far.answer
+}
+
+/// What becomes of the steps that come next: numbers are passed, unless a rule speaks of them, and lines in the midst of a
+/// path.
 #[inline(always)]
 fn passing_by(watches: &Watches) -> Passing
-    ensures { IsFit result watches.now }
+    ensures fit { IsFit result watches.now }
+    ensures unmoved { result ≡ Moves → ⊥ }
 {
     if !watches.is_calm() {
         Passing::Told
     } else if watches.is_steady() {
-        if watches.is_moving() {
-            Passing::Moves
-        } else {
-            Passing::Lines
-        }
+        Passing::Lines
     } else {
         Passing::Numbers
     }

@@ -135,14 +135,21 @@ impl FlexWatcher {
         !self.in_flex
     }
 
-    /// Moves the current point on, and counts moves.
+    /// Counts moves.
+    #[inline(always)]
+    pub(crate) fn count_moves(&mut self, count: u32)
+        requires { self.old.moves + count < most_steps }
+        ensures { self.new ≡ record self.old { moves = self.old.moves + count } }
+    {
+        self.moves += count;
+    }
+
+    /// Moves the current point on.
     #[inline(always)]
     pub(crate) fn go(&mut self, way: Way)
-        requires near { (n : ℕ) × (IsNear n (point_on self.old.point way) × (n < most_steps)) }
-        requires few { self.old.moves + way.moves < most_steps }
-        ensures { self.new ≡ record self.old { point = point_on self.old.point way; moves = self.old.moves + way.moves } }
+        requires { (n : ℕ) × (IsNear n (point_on self.old.point way) × (n < most_steps)) }
+        ensures { self.new ≡ record self.old { point = point_on self.old.point way } }
     {
-        self.moves += way.moves;
         self.point = Point {
             x: sum(self.point.x, way.x),
             y: sum(self.point.y, way.y),

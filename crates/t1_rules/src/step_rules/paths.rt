@@ -31,9 +31,6 @@ pub struct PathWatcher {
     moved: bool,
     /// Whether something was drawn, and no closepath came since.
     drawn: bool,
-    /// Whether the last command that takes arguments from the bottom was a move after a move, with nothing drawn between.
-    /// Only a machine's speed depends on it.
-    moved_again: bool,
 }
 
 impl Watch for PathWatcher {
@@ -50,7 +47,6 @@ impl Watch for PathWatcher {
             in_flex: false,
             moved: false,
             drawn: false,
-            moved_again: false,
         }
     }
 
@@ -88,12 +84,12 @@ impl PathWatcher {
         self.moved && self.begun && !self.in_flex
     }
 
-    /// Whether moves came last, with nothing drawn since.
+    /// Whether nothing is drawn.
     #[inline(always)]
-    pub(crate) fn is_moving(&self) -> bool
+    pub(crate) fn is_undrawn(&self) -> bool
         ensures { result ≡ true → self.now.drawn ≡ false }
     {
-        self.moved_again & !self.drawn
+        !self.drawn
     }
 
     /// Notes a line.
@@ -143,7 +139,6 @@ impl PathWatcher {
             PathsStandFor self.new (before ++ step_view step.now ∷ []) }
     {
         let stays = !closes(token);
-        self.moved_again = self.moves(token) & (self.moved & !self.drawn);
         self.drawn = draws(token, call, step, self.in_flex) | (self.drawn & stays);
         self.moved = self.moves(token) | (self.moved & stays);
         self.begun = self.begun | clears(token);

@@ -1,61 +1,52 @@
-use Rattle.std.proofs.Common.{◌≡◌, nat_lt, ◌+◌, ◌++◌, ◌∷◌, [], take, refl, ap, sym, subst, ◌∙◌, arith}
+use Rattle.std.proofs.Common.{◌≡◌, nat_lt, ◌+◌, ◌≤◌, ◌++◌, ◌∷◌, [], take, refl, ap, sym, subst, ◌∙◌, arith}
 use Rattle.std.proofs.lemmas.Bool.{ltb-false, ltb-true, not-false, not-true}
 use Rattle.t1_char.specs.Editions.{limit_of}
 use Rattle.t1_char.specs.Steps.{steps_of}
 use Rattle.t1_char.specs.StepValues.{step_view}
 use Rattle.t1_report.proofs.GlyphSteps.{is_next_by}
 use Rattle.t1_rules.specs.Steady.{moved_on}
-use Rattle.t1_report.proofs.PassedLines.{GoneFar, ended_far, gone_far, past_far, turn_far}
+use Rattle.t1_report.proofs.PassedLines.{GoneFar, ended_far, gone_far, past_far, stands_idled, turn_far}
 use Rattle.t1_report.proofs.PassedNumbers.{EndsBehind, IsTurn, StandsBehind, fewer_turns_left}
-use Rattle.t1_report.proofs.RunSteps.{same_executed, found_at, quiet_limit, quiet_more, quiet_over, run_at, run_more, run_of, run_over, step_agrees, turns_at_limit}
-use Rattle.t1_report.specs.Checked.{step_limit}
+use Rattle.t1_report.proofs.RunSteps.{found_at, quiet_limit, quiet_more, quiet_over, run_at, run_more, run_of, run_over, step_agrees, turns_at_limit}
+use Rattle.t1_report.specs.Checked.{CheckedFont, step_limit}
 use Rattle.t1_report.specs.Private.Units.{IsQuiet, executed}
 use Rattle.t1_report.specs.Private.Reporting.{HaveSeen}
 use Rattle.t1_report.proofs.walk.glyph_run.next_broken.Goals as goal
 
 -- The glyph is over.
 abbrev gone : (c : goal.Then-is_over) → GoneFar (executed c.args.machine.now) c.args.machine.now.glyph c.args.unit (c.args.machine.now.counted + 1)
-    (c.loop-on.machine.counted + c.go_far-far.ensures.asked.taken) (moved_on c.loop-on.watches c.go_far-far.result.way)
+    (c.loop-on.machine.counted + c.go_on-answer.ensures.asked.asked.taken) (moved_on c.loop-on.watches c.go_on-answer.ensures.asked.way)
 gone c =
-    gone_far c.passing_by.result c.loop-on.machine c.go_far-far.new.self _ c.go_far-far.result.way c.loop-on.watches (executed c.args.machine.now)
+    gone_far c.go_on-answer.ensures.asked.what c.loop-on.machine c.go_on-answer.new.machine _ c.go_on-answer.ensures.asked.way c.loop-on.watches (executed c.args.machine.now)
     c.args.machine.now.glyph c.args.unit (c.args.machine.now.counted + 1)
-    c.passing_by.ensures c.loop-on.invariant.font c.loop-on.invariant.glyph c.requires.unit c.loop-on.invariant.run
+    c.go_on-answer.ensures.asked.fit c.loop-on.invariant.font c.loop-on.invariant.glyph c.requires.unit c.loop-on.invariant.run
     c.loop-on.invariant.quiet
-    (c.loop-on.invariant.near c.loop-on-test.true) c.go_far-far.ensures.asked
+    (c.loop-on.invariant.near c.loop-on-test.true) c.go_on-answer.ensures.asked.asked
 
 abbrev stands : (c : goal.Then-is_over) → StandsBehind (executed c.args.machine.now) c.args.machine.now.glyph c.args.unit (c.args.machine.now.counted + 1)
-    (c.loop-on.machine.counted + c.go_far-far.ensures.asked.taken) c.go.new.self
+    (c.loop-on.machine.counted + c.go_on-answer.ensures.asked.asked.taken) c.go_on-answer.new.watches
 stands c =
     subst (StandsBehind (executed c.args.machine.now) c.args.machine.now.glyph c.args.unit (c.args.machine.now.counted + 1)
-    (c.loop-on.machine.counted + c.go_far-far.ensures.asked.taken)) (sym c.go.ensures) (gone c).stands
+    (c.loop-on.machine.counted + c.go_on-answer.ensures.asked.asked.taken)) (sym c.go_on-answer.ensures.asked.moved)
+    (stands_idled (executed c.args.machine.now) c.args.machine.now.glyph c.args.unit (c.args.machine.now.counted + 1)
+    (c.loop-on.machine.counted + c.go_on-answer.ensures.asked.asked.taken) (moved_on c.loop-on.watches c.go_on-answer.ensures.asked.way)
+    c.go_on-answer.new.watches (gone c).stands)
 
 abbrev ended : (c : goal.Then-is_over) → EndsBehind (executed c.args.machine.now) c.args.machine.now.glyph
-    (c.loop-on.machine.counted + c.go_far-far.ensures.asked.taken) c.go_far-far.new.self.counted
+    (c.loop-on.machine.counted + c.go_on-answer.ensures.asked.asked.taken) c.go_on-answer.new.machine.counted
 ended c =
-    ended_far c.passing_by.result c.loop-on.machine c.go_far-far.new.self c.go_far-far.result.answer c.go_far-far.result.way
+    ended_far c.go_on-answer.ensures.asked.what c.loop-on.machine c.go_on-answer.new.machine c.go_on-answer.result c.go_on-answer.ensures.asked.way
     (executed c.args.machine.now) c.args.machine.now.glyph c.loop-on.invariant.font c.loop-on.invariant.glyph
-    (sym c.is_over.ensures ∙ c.if-is_over.true) c.go_far-far.ensures.asked (stands c).run.counted_few
+    (sym c.is_over.ensures ∙ c.if-is_over.true) c.go_on-answer.ensures.asked.asked (stands c).run.counted_few
 
--- The watchers can be moved on.
-pub go-requires-clause-near : goal.go-requires-clause-near
-go-requires-clause-near c =
-    (gone_far c.passing_by.result c.loop-on.machine c.go_far-far.new.self _ c.go_far-far.result.way c.loop-on.watches
-    (executed c.args.machine.now) c.args.machine.now.glyph c.args.unit (c.args.machine.now.counted + 1)
-    c.passing_by.ensures c.loop-on.invariant.font c.loop-on.invariant.glyph c.requires.unit c.loop-on.invariant.run
-    c.loop-on.invariant.quiet
-    (c.loop-on.invariant.near c.loop-on-test.true) c.go_far-far.ensures.asked).point
-
-pub go-requires-clause-few : goal.go-requires-clause-few
-go-requires-clause-few c =
-    (gone_far c.passing_by.result c.loop-on.machine c.go_far-far.new.self _ c.go_far-far.result.way c.loop-on.watches
-    (executed c.args.machine.now) c.args.machine.now.glyph c.args.unit (c.args.machine.now.counted + 1)
-    c.passing_by.ensures c.loop-on.invariant.font c.loop-on.invariant.glyph c.requires.unit c.loop-on.invariant.run
-    c.loop-on.invariant.quiet
-    (c.loop-on.invariant.near c.loop-on-test.true) c.go_far-far.ensures.asked).moves
+-- The machine is within the limit.
+pub go_on-answer-requires-clause-near : goal.go_on-answer-requires-clause-near
+go_on-answer-requires-clause-near c =
+    subst (λ (f : CheckedFont). c.loop-on.machine.counted ≤ step_limit f) (sym c.loop-on.invariant.font) (c.loop-on.invariant.near c.loop-on-test.true)
 
 pub returns-then-is_over-clause-found : goal.returns-then-is_over-clause-found
 returns-then-is_over-clause-found c =
-    quiet_over (executed c.args.machine.now) c.args.unit c.args.machine.now.glyph (c.args.machine.now.counted + 1) (c.loop-on.machine.counted + c.go_far-far.ensures.asked.taken) c.requires.unit
+    quiet_over (executed c.args.machine.now) c.args.unit c.args.machine.now.glyph (c.args.machine.now.counted + 1) (c.loop-on.machine.counted + c.go_on-answer.ensures.asked.asked.taken) c.requires.unit
     (ended c).over (stands c).quiet
 
 pub returns-then-is_over-clause-counted : goal.returns-then-is_over-clause-counted
@@ -65,10 +56,10 @@ pub returns-then-is_over-clause-run : goal.returns-then-is_over-clause-run
 returns-then-is_over-clause-run c =
     let font = executed c.args.machine.now in
     let glyph = c.args.machine.now.glyph in
-    run_of font glyph c.go_far-far.new.self c.go.new.self
-    (same_executed c.go_far-far.new.self c.loop-on.machine c.go_far-far.ensures.font c.go_far-far.ensures.edition ∙ c.loop-on.invariant.font)
-    (c.go_far-far.ensures.glyph ∙ c.loop-on.invariant.glyph) c.requires.run.there
-    (run_over font glyph (c.loop-on.machine.counted + c.go_far-far.ensures.asked.taken) c.go_far-far.new.self.counted c.go.new.self (ended c).over (ended c).counted_is (stands c).run)
+    run_of font glyph c.go_on-answer.new.machine c.go_on-answer.new.watches
+    (c.go_on-answer.ensures.font ∙ c.loop-on.invariant.font)
+    (c.go_on-answer.ensures.glyph ∙ c.loop-on.invariant.glyph) c.requires.run.there
+    (run_over font glyph (c.loop-on.machine.counted + c.go_on-answer.ensures.asked.asked.taken) c.go_on-answer.new.machine.counted c.go_on-answer.new.watches (ended c).over (ended c).counted_is (stands c).run)
 
 -- The step, and that it is the next one for the watchers.
 pub broken_at-rules-requires-clause-next : goal.broken_at-rules-requires-clause-next
@@ -76,37 +67,37 @@ broken_at-rules-requires-clause-next c =
     let font = executed c.args.machine.now in
     let all = steps_of font.value c.args.machine.now.glyph in
     let turn =
-    turn_far c.passing_by.result c.loop-on.machine c.go_far-far.new.self c.go_far-far.result.answer c.go_far-far.result.way c.current-step.result.now
-    c.loop-on.watches c.go.new.self
+    turn_far c.go_on-answer.ensures.asked.what c.loop-on.machine c.go_on-answer.new.machine c.go_on-answer.result c.go_on-answer.ensures.asked.way c.current-step.result.now
+    c.loop-on.watches c.go_on-answer.new.watches
     (executed c.args.machine.now) c.args.machine.now.glyph c.args.unit (c.args.machine.now.counted + 1)
-    c.passing_by.ensures c.loop-on.invariant.font c.loop-on.invariant.glyph c.requires.unit c.loop-on.invariant.run
+    c.go_on-answer.ensures.asked.fit c.loop-on.invariant.font c.loop-on.invariant.glyph c.requires.unit c.loop-on.invariant.run
     c.loop-on.invariant.quiet
     (c.loop-on.invariant.near c.loop-on-test.true)
-    (sym c.is_over.ensures ∙ c.if-is_over.false) c.current-step.ensures c.go_far-far.ensures.asked c.go.ensures in (
+    (sym c.is_over.ensures ∙ c.if-is_over.false) c.current-step.ensures c.go_on-answer.ensures.asked.asked c.go_on-answer.ensures.asked.moved in (
       take turn.before all,
-      is_next_by c.args.sidebearings.now.edition font.edition c.requires.edition all c.go.new.self turn.before
+      is_next_by c.args.sidebearings.now.edition font.edition c.requires.edition all c.go_on-answer.new.watches turn.before
           c.current-step.result.now turn.told.listed turn.stands.run.seen_are,
     )
 
 pub broken_at-rules-requires-clause-past : goal.broken_at-rules-requires-clause-past
 broken_at-rules-requires-clause-past c =
     c.is_limit-is_past.ensures
-    ∙ past_far c.passing_by.result c.loop-on.machine c.go_far-far.new.self c.go_far-far.result.answer c.go_far-far.result.way c.current-step.result.now
+    ∙ past_far c.go_on-answer.ensures.asked.what c.loop-on.machine c.go_on-answer.new.machine c.go_on-answer.result c.go_on-answer.ensures.asked.way c.current-step.result.now
     (executed c.args.machine.now) c.loop-on.invariant.font (sym c.is_over.ensures ∙ c.if-is_over.false) c.current-step.ensures
-    c.go_far-far.ensures.asked
+    c.go_on-answer.ensures.asked.asked
     ∙ ap (λ e. nat_lt (limit_of e) c.current-step.result.now.number) (sym c.requires.edition)
 
 -- A rule is broken at it.
 abbrev turn_broken : (c : goal.After-copy_of) → IsTurn (executed c.args.machine.now) c.args.machine.now.glyph c.args.unit (c.args.machine.now.counted + 1)
-    c.loop-on.machine.counted c.go_far-far.new.self.counted c.go.new.self c.current-step.result.now
+    c.loop-on.machine.counted c.go_on-answer.new.machine.counted c.go_on-answer.new.watches c.current-step.result.now
 turn_broken c =
-    turn_far c.passing_by.result c.loop-on.machine c.go_far-far.new.self c.go_far-far.result.answer c.go_far-far.result.way c.current-step.result.now
-    c.loop-on.watches c.go.new.self
+    turn_far c.go_on-answer.ensures.asked.what c.loop-on.machine c.go_on-answer.new.machine c.go_on-answer.result c.go_on-answer.ensures.asked.way c.current-step.result.now
+    c.loop-on.watches c.go_on-answer.new.watches
     (executed c.args.machine.now) c.args.machine.now.glyph c.args.unit (c.args.machine.now.counted + 1)
-    c.passing_by.ensures c.loop-on.invariant.font c.loop-on.invariant.glyph c.requires.unit c.loop-on.invariant.run
+    c.go_on-answer.ensures.asked.fit c.loop-on.invariant.font c.loop-on.invariant.glyph c.requires.unit c.loop-on.invariant.run
     c.loop-on.invariant.quiet
     (c.loop-on.invariant.near c.loop-on-test.true)
-    (sym c.is_over.ensures ∙ c.if-is_over.false) c.current-step.ensures c.go_far-far.ensures.asked c.go.ensures
+    (sym c.is_over.ensures ∙ c.if-is_over.false) c.current-step.ensures c.go_on-answer.ensures.asked.asked c.go_on-answer.ensures.asked.moved
 
 pub returns-then-has_rules-clause-found : goal.returns-then-has_rules-clause-found
 returns-then-has_rules-clause-found c =
@@ -115,7 +106,7 @@ returns-then-has_rules-clause-found c =
     let turn = turn_broken c in
     let n = turn.before in
     let step = c.current-step.result.now in
-    let next = is_next_by c.args.sidebearings.now.edition font.edition c.requires.edition (steps_of font.value glyph) c.go.new.self n step
+    let next = is_next_by c.args.sidebearings.now.edition font.edition c.requires.edition (steps_of font.value glyph) c.go_on-answer.new.watches n step
     turn.told.listed turn.stands.run.seen_are in
     let agrees = step_agrees font c.args.unit glyph n step c.args.sidebearings.now c.broken_at-rules.result c.requires.unit c.requires.run.there
     turn.told.listed c.requires.sidebearings c.requires.edition
@@ -134,39 +125,39 @@ returns-then-has_rules-clause-run c =
     let turn = turn_broken c in
     let n = turn.before in
     let step = c.current-step.result.now in
-    let next = is_next_by c.args.sidebearings.now.edition font.edition c.requires.edition (steps_of font.value glyph) c.go.new.self n step
+    let next = is_next_by c.args.sidebearings.now.edition font.edition c.requires.edition (steps_of font.value glyph) c.go_on-answer.new.watches n step
     turn.told.listed turn.stands.run.seen_are in
-    run_of font glyph c.go_far-far.new.self c.broken_at-rules.new.watches
-    (same_executed c.go_far-far.new.self c.loop-on.machine c.go_far-far.ensures.font c.go_far-far.ensures.edition ∙ c.loop-on.invariant.font)
-    (c.go_far-far.ensures.glyph ∙ c.loop-on.invariant.glyph) c.requires.run.there
-    (run_more font glyph n c.go_far-far.new.self.counted step c.broken_at-rules.new.watches turn.told
+    run_of font glyph c.go_on-answer.new.machine c.broken_at-rules.new.watches
+    (c.go_on-answer.ensures.font ∙ c.loop-on.invariant.font)
+    (c.go_on-answer.ensures.glyph ∙ c.loop-on.invariant.glyph) c.requires.run.there
+    (run_more font glyph n c.go_on-answer.new.machine.counted step c.broken_at-rules.new.watches turn.told
     (subst (λ e. HaveSeen e c.broken_at-rules.new.watches (take n (steps_of font.value glyph) ++ step_view step ∷ [])) c.requires.edition
     (c.broken_at-rules.ensures.seen (take n (steps_of font.value glyph)) next)))
 
 -- No rule is broken at it.
 abbrev turn_quiet : (c : goal.Else-has_rules) → IsTurn (executed c.args.machine.now) c.args.machine.now.glyph c.args.unit (c.args.machine.now.counted + 1)
-    c.loop-on.machine.counted c.go_far-far.new.self.counted c.go.new.self c.current-step.result.now
+    c.loop-on.machine.counted c.go_on-answer.new.machine.counted c.go_on-answer.new.watches c.current-step.result.now
 turn_quiet c =
-    turn_far c.passing_by.result c.loop-on.machine c.go_far-far.new.self c.go_far-far.result.answer c.go_far-far.result.way c.current-step.result.now
-    c.loop-on.watches c.go.new.self
+    turn_far c.go_on-answer.ensures.asked.what c.loop-on.machine c.go_on-answer.new.machine c.go_on-answer.result c.go_on-answer.ensures.asked.way c.current-step.result.now
+    c.loop-on.watches c.go_on-answer.new.watches
     (executed c.args.machine.now) c.args.machine.now.glyph c.args.unit (c.args.machine.now.counted + 1)
-    c.passing_by.ensures c.loop-on.invariant.font c.loop-on.invariant.glyph c.requires.unit c.loop-on.invariant.run
+    c.go_on-answer.ensures.asked.fit c.loop-on.invariant.font c.loop-on.invariant.glyph c.requires.unit c.loop-on.invariant.run
     c.loop-on.invariant.quiet
     (c.loop-on.invariant.near c.loop-on-test.true)
-    (sym c.is_over.ensures ∙ c.if-is_over.false) c.current-step.ensures c.go_far-far.ensures.asked c.go.ensures
+    (sym c.is_over.ensures ∙ c.if-is_over.false) c.current-step.ensures c.go_on-answer.ensures.asked.asked c.go_on-answer.ensures.asked.moved
 
 -- Whether it is past the limit.
 abbrev past_is : (c : goal.Else-has_rules) → c.is_limit-is_past.result ≡ nat_lt (step_limit (executed c.args.machine.now)) c.current-step.result.now.number
 past_is c =
     c.is_limit-is_past.ensures
-    ∙ past_far c.passing_by.result c.loop-on.machine c.go_far-far.new.self c.go_far-far.result.answer c.go_far-far.result.way c.current-step.result.now
+    ∙ past_far c.go_on-answer.ensures.asked.what c.loop-on.machine c.go_on-answer.new.machine c.go_on-answer.result c.go_on-answer.ensures.asked.way c.current-step.result.now
     (executed c.args.machine.now) c.loop-on.invariant.font (sym c.is_over.ensures ∙ c.if-is_over.false) c.current-step.ensures
-    c.go_far-far.ensures.asked
+    c.go_on-answer.ensures.asked.asked
 
 pub loop-on-smaller : goal.loop-on-smaller
 loop-on-smaller c =
     fewer_turns_left (executed c.args.machine.now) c.args.machine.now.glyph c.args.unit (c.args.machine.now.counted + 1) c.loop-on.machine.counted
-    c.go_far-far.new.self.counted c.go.new.self c.current-step.result.now (turn_quiet c)
+    c.go_on-answer.new.machine.counted c.go_on-answer.new.watches c.current-step.result.now (turn_quiet c)
     (c.loop-on.invariant.near c.loop-on-test.true)
 
 pub loop-on-preserved : goal.loop-on-preserved
@@ -176,16 +167,16 @@ loop-on-preserved c =
     let turn = turn_quiet c in
     let n = turn.before in
     let step = c.current-step.result.now in
-    let next = is_next_by c.args.sidebearings.now.edition font.edition c.requires.edition (steps_of font.value glyph) c.go.new.self n step
+    let next = is_next_by c.args.sidebearings.now.edition font.edition c.requires.edition (steps_of font.value glyph) c.go_on-answer.new.watches n step
     turn.told.listed turn.stands.run.seen_are in
     let agrees = step_agrees font c.args.unit glyph n step c.args.sidebearings.now c.broken_at-rules.result c.requires.unit c.requires.run.there
     turn.told.listed c.requires.sidebearings c.requires.edition
     (λ k. c.broken_at-rules.ensures.broken (take n (steps_of font.value glyph)) next k) in
-    let of_font = same_executed c.go_far-far.new.self c.loop-on.machine c.go_far-far.ensures.font c.go_far-far.ensures.edition ∙ c.loop-on.invariant.font in
-    let of_glyph = c.go_far-far.ensures.glyph ∙ c.loop-on.invariant.glyph in
+    let of_font = c.go_on-answer.ensures.font ∙ c.loop-on.invariant.font in
+    let of_glyph = c.go_on-answer.ensures.glyph ∙ c.loop-on.invariant.glyph in
     record {
-      run = run_of font glyph c.go_far-far.new.self c.broken_at-rules.new.watches of_font of_glyph c.requires.run.there
-          (run_more font glyph n c.go_far-far.new.self.counted step c.broken_at-rules.new.watches turn.told
+      run = run_of font glyph c.go_on-answer.new.machine c.broken_at-rules.new.watches of_font of_glyph c.requires.run.there
+          (run_more font glyph n c.go_on-answer.new.machine.counted step c.broken_at-rules.new.watches turn.told
           (subst (λ e. HaveSeen e c.broken_at-rules.new.watches (take n (steps_of font.value glyph) ++ step_view step ∷ [])) c.requires.edition
           (c.broken_at-rules.ensures.seen (take n (steps_of font.value glyph)) next)));
       font = of_font;

@@ -7,5 +7,5 @@ returns c = λ before st.
     one_more c.args.self.now _ before (step_view c.args.step.now) st
     (rw (c.clears.ensures, c.requires.token))
     (rw (c.starts_flex.ensures, c.ends_flex.ensures))
-    (rw (c.moves-2.ensures, c.closes-stays.ensures, c.requires.token))
+    (rw (c.moves.ensures, c.closes-stays.ensures, c.requires.token))
     (rw (c.draws.ensures, c.closes-stays.ensures, c.requires.token))
