@@ -1,5 +1,6 @@
 -- Numbers, and lines or moves, that are taken one after another.
 use Rattle.std.proofs.Common.{◌≡◌, inl, inr, ℕ, zero, suc, ℤ, ◌+◌, ◌-◌, ◌<◌, ◌≤◌, ◌||◌, true, false, Option, Some, None, IfSome, if◌then◌else◌, List, [], ◌∷◌, length, take, length-take, refl, sym, ap, subst, ◌∙◌, arith}
+use Rattle.std.proofs.lemmas.Bool.{or_cases}
 use Rattle.std.proofs.lemmas.Int.{ints}
 use Rattle.std.proofs.Math.Bool.{or-true}
 use Rattle.t1_char.specs.declared.command.Command.{Command as Commands}
@@ -28,8 +29,8 @@ near_none = record {
   y = record { low = omega (arith, ints); high = omega (arith, ints) };
 }
 
-pub path_none : (what : Passing) (room : ℕ) (ahead : Ahead) → most_numbers ≤ room
-    → IsTakingLines what room ahead [] [] 0 (cursor_of ahead) no_way × (0 + most_numbers ≤ room)
+pub path_none : (what : Passing) (room : ℕ) (ahead : Ahead) → most_numbers < room
+    → IsTakingLines what room ahead [] [] 0 (cursor_of ahead) no_way × (0 + most_numbers < room)
 path_none what room ahead enough = (
   record { passes = (refl, (refl, refl)); near = near_none; room_is = omega arith; short = refl; unclosed = refl; few = omega arith },
   omega (arith, enough),
@@ -59,7 +60,7 @@ near_more n k way near = record {
 }
 
 pub path_numbers : (what : Passing) (room : ℕ) (ahead left : Ahead) (new : List ℤ) (passed : ℕ) (way : Way) (stop : Stop)
-    → IsTakingLines what room ahead [] [] passed (cursor_of left) way → passed + most_numbers ≤ room → (takes : Takes left [] new stop)
+    → IsTakingLines what room ahead [] [] passed (cursor_of left) way → passed + most_numbers < room → (takes : Takes left [] new stop)
     → stop.len ≡ length new → stop.len ≤ most_numbers → IsTakingLines what room ahead [] new (passed + stop.len) takes.before way
 path_numbers what room ahead left new passed way stop so_far enough takes is few =
     let count : takes.count ≡ stop.len = omega (arith, takes.more, is) in
@@ -83,18 +84,19 @@ line_effect Vhcurveto is old = λ named depth waiting. refl
 line_effect Hvcurveto is old = λ named depth waiting. refl
 line_effect _ is old = let no : false ≡ true = is in cc
 
+move_effect : (command : Commands) → is_move_command command ≡ true → (old : List ℤ) → IsPlainEffect (Command command) old []
+move_effect Rmoveto is old = λ named depth waiting. refl
+move_effect Hmoveto is old = λ named depth waiting. refl
+move_effect Vmoveto is old = λ named depth waiting. refl
+move_effect _ is old = let no : false ≡ true = is in cc
+
 led_effect : (what : Passing) (command : Commands) → is_led what command ≡ true → (old : List ℤ) → IsPlainEffect (Command command) old []
 led_effect passing.Lines command is old = line_effect command is old
-led_effect passing.Moves Rmoveto is old = λ named depth waiting. refl
-led_effect passing.Moves Hmoveto is old = λ named depth waiting. refl
-led_effect passing.Moves Vmoveto is old = λ named depth waiting. refl
-led_effect passing.Moves Rlineto is old = λ named depth waiting. refl
-led_effect passing.Moves Hlineto is old = λ named depth waiting. refl
-led_effect passing.Moves Vlineto is old = λ named depth waiting. refl
-led_effect passing.Moves Rrcurveto is old = λ named depth waiting. refl
-led_effect passing.Moves Vhcurveto is old = λ named depth waiting. refl
-led_effect passing.Moves Hvcurveto is old = λ named depth waiting. refl
-led_effect passing.Moves _ is old = let no : false ≡ true = is in cc
+led_effect passing.Moves command is old =
+    elim (or_cases (is_line_command command) (is_move_command command) is) [
+      | inl line ↦ line_effect command line old
+      | inr move ↦ move_effect command move old
+    ]
 led_effect passing.Told command is old = let no : false ≡ true = is in cc
 led_effect passing.Numbers command is old = let no : false ≡ true = is in cc
 
@@ -198,8 +200,8 @@ row_more what on n a m b s t u before way row one = (m, (t, (before, (row, inr (
 
 pub path_line : (what : Passing) → leads what ≡ true → (room : ℕ) (ahead : Ahead) (numbers : List ℤ) (passed : ℕ) (before : Cursor) (so_far one way : Way) (stop : Stop)
     → IsTakingLines what room ahead [] numbers passed before so_far → StopsAt stop.first before (stop_cursor stop) → IsLedFirst what so_far.drawn stop.first numbers one
-    → way ≡ further so_far one → IsWayNear (passed + 1) way → way.moves ≤ passed + 1 → most_numbers < room - passed
-    → IsTakingLines what room ahead [] [] (passed + 1) (cursor_of (left_of stop.left stop.cipher)) way × (passed + 1 + most_numbers ≤ room)
+    → way ≡ further so_far one → IsWayNear (passed + 1) way → way.moves ≤ passed + 1 → most_numbers + 1 < room - passed
+    → IsTakingLines what room ahead [] [] (passed + 1) (cursor_of (left_of stop.left stop.cipher)) way × (passed + 1 + most_numbers < room)
 path_line what on room ahead numbers passed before so_far one way stop round at led is near few enough =
     let same : suc passed ≡ passed + 1 = omega arith in
     let read = led_read what stop.first before (stop_cursor stop) numbers so_far one way at led round.unclosed is in (
@@ -243,11 +245,11 @@ path_all what on room ahead cells numbers passed before way stop lines round at 
       token = behind.token;
     }
 
--- No more than there is room for.
-pub path_near : (room passed : ℕ) (way : Way) (stop : Stop) (lines : Lines) → passed ≤ room → (stop.len ≡ 0 → passed < room)
-    → Finishes stop passed way lines → lines.passed ≤ room
-path_near room passed way stop lines near less (inl there) = omega (arith, near, there.passed_is)
-path_near room passed way stop lines near less (inr behind) = omega (arith, less behind.alone, behind.passed_is)
+-- Numbers that fill the stack have room behind what was passed.
+pub path_near : (room passed : ℕ) (way : Way) (stop : Stop) (lines : Lines) → passed + most_numbers < room → stop.len ≤ most_numbers
+    → Finishes stop (passed + stop.len) way lines → lines.passed + (most_numbers - lines.len) ≤ room
+path_near room passed way stop lines enough few (inl there) = omega (arith, enough, few, there.len, there.passed_is)
+path_near room passed way stop lines enough few (inr behind) = omega (arith, enough, behind.alone, behind.len, behind.passed_is)
 
 pub path_few : (passed : ℕ) (way : Way) (stop : Stop) (lines : Lines) → stop.len ≤ most_numbers → Finishes stop passed way lines
     → lines.len ≤ most_numbers

@@ -1,13 +1,15 @@
 -- Numbers that are taken one after another.
-use Rattle.std.proofs.Common.{◌≡◌, ℕ, suc, ℤ, ◌+◌, ◌<◌, List, [], ◌∷◌, ◌++◌, length, take, drop, false, cond, ap, sym, ◌∙◌, lt-ltb, length-append, arith}
+use Rattle.std.proofs.Common.{◌≡◌, ℕ, suc, ℤ, ◌+◌, ◌<◌, List, [], ◌∷◌, ◌++◌, length, take, drop, false, cond, ap, subst, sym, ◌∙◌, lt-ltb, length-append, arith}
 use Rattle.t1_char.specs.declared.cursor.Ahead.{Ahead}
+use Rattle.t1_char.specs.declared.cursor.Cursor.{Cursor}
+use Rattle.t1_char.specs.declared.token.CharToken.{CharToken}
 use Rattle.t1_char.specs.declared.token.CharToken.TheVariants.{Number}
 use Rattle.t1_char.specs.Effects.{goes, effect, state_of}
 use Rattle.t1_char.specs.Numbers.{units}
 use Rattle.t1_char.specs.Stacks.{most_numbers, put}
 use Rattle.t1_char.specs.Tokens.{more_of, token_at, tokens_behind, tokens_of}
-use Rattle.t1_char.specs.Private.Cursors.{bytes_left, cursor_of, tokens_left}
-use Rattle.t1_char.specs.Private.Taking.{IsTaking}
+use Rattle.t1_char.specs.Private.Cursors.{behind_token, bytes_left, cursor_of, tokens_left}
+use Rattle.t1_char.specs.Private.Taking.{IsTaking, PassesNumbers, PassesUpTo}
 use Rattle.std.specs.List.{list_any}
 use Rattle.t1_char.specs.Lines.{is_far}
 use Rattle.t1_char.proofs.NearNumbers.{near_more}
@@ -25,8 +27,34 @@ number_read first number ahead between behind bytes token left =
     ∙ ap (λ t. t ∷ tokens_behind (more_of first) rest) token
     ∙ ap (λ ts. Number number ∷ ts) (tokens_behind_is (more_of first) rest ∙ ap tokens_of (sym left))
 
-put_more : (stack : List ℤ) (z : ℤ) → length stack < most_numbers → length (put stack z) ≡ length stack + 1
+pub put_more : (stack : List ℤ) (z : ℤ) → length stack < most_numbers → length (put stack z) ≡ length stack + 1
 put_more stack z room = ap (λ b. length (cond b (stack ++ z ∷ []) stack)) (lt-ltb (length stack) most_numbers room) ∙ length-append stack (z ∷ [])
+
+-- A number that was read before another token, and was put where there was room.
+pub passed_more : (passed : ℕ) (before ahead behind : Cursor) (old stack new : List ℤ) (token next : CharToken) (number : ℤ)
+    → PassesUpTo passed before old token ahead stack → token ≡ Number number → length stack < most_numbers → new ≡ put stack (units number)
+    → tokens_left ahead ≡ next ∷ behind_token next (tokens_left behind) → PassesUpTo (passed + 1) before old next behind new
+passed_more passed before ahead behind old stack new token next number so_far is room stacked next_is =
+    let same : suc passed ≡ passed + 1 = omega arith in
+    record {
+      between = ahead;
+      passes = subst (λ n. PassesNumbers n before ahead old new) same (
+        so_far.between,
+        (
+          stack,
+          (
+            so_far.passes,
+            record {
+              number = number;
+              token = so_far.token_is ∙ ap (λ t. t ∷ behind_token t (tokens_left ahead)) is;
+              plain = λ named depth waiting. ap (λ s. effect (state_of s waiting) goes) stacked;
+              room = room;
+            },
+          ),
+        ),
+      );
+      token_is = next_is;
+    }
 
 pub taken_more : (ahead left between behind : Ahead) (old cells more : List ℤ) (len first : ℕ) (number : ℤ) → IsTaking ahead old cells len left
     → bytes_left (cursor_of left) ≡ first ∷ bytes_left (cursor_of between)

@@ -4,10 +4,10 @@
 ghost use Rattle.std.specs.Prelude.{◌≡◌, ◌<◌, ◌≤◌, ◌+◌, ◌-◌, ◌++◌, ◌∷◌, [], if◌then◌else◌, false, is_some, length, take, true};
 ghost use Rattle.t1_char.specs.Charstrings.{tokens_in};
 ghost use Rattle.t1_char.specs.Effects.{most_calls};
-ghost use Rattle.t1_char.specs.Steps.{named_at, steps_of};
+ghost use Rattle.t1_char.specs.Steps.{is_callsubr, named_at, steps_of};
 ghost use Rattle.t1_char.specs.Private.Actions.{named_of};
 ghost use Rattle.t1_char.specs.StepValues.{step_view};
-ghost use Rattle.t1_char.specs.Private.Cursors.{AtFirst, behind_token, cursor_of, plain_cursor, tokens_left};
+ghost use Rattle.t1_char.specs.Private.Cursors.{AtFirst, behind_token, cursor_of, tokens_left};
 ghost use Rattle.t1_char.specs.Private.Advancing.{Advances, ReadsToken};
 ghost use Rattle.t1_char.specs.Private.Taking.{IsTokenRead, PassesUpTo};
 ghost use Rattle.t1_char.specs.declared.cursor.Cursor.{Cursor};
@@ -15,16 +15,16 @@ ghost use Rattle.t1_char.specs.Stacks.{most_numbers};
 ghost use Rattle.t1_char.specs.Private.Frames.{IsReady, state_in, step_here, steps_behind, steps_from};
 ghost use Rattle.t1_char.specs.declared.edition.Edition.TheVariants.{Two};
 ghost use Rattle.t1_char.specs.Editions.{limit_of};
-ghost use Rattle.t1_char.specs.declared.lines.Passing.TheVariants.{Told};
+ghost use Rattle.t1_char.specs.declared.lines.Passing.TheVariants.{Moves, Told};
 
 use crate::action::Action;
 use crate::charstrings::{code_at, cursor_at};
 use crate::cursor::{Ahead, Cursor};
 use crate::effect::{Waiting, apply, apply_plain};
-use crate::lines::{Passing, Way, is_any};
-use crate::numbers::units;
+use crate::lines::{Passing, Way, is_any, is_moves};
+use crate::numbers::{natural, units};
 use crate::stack::{MOST_NUMBERS, Stack};
-use crate::step::{MOST_CALLS, Step, is_last, named_at};
+use crate::step::{MOST_CALLS, Step, is_last};
 use crate::subr::Subr;
 use crate::taking::Next;
 use crate::token::{CharToken, is_callsubr};
@@ -164,12 +164,11 @@ impl<'a> Frames<'a> {
     }
 
     /// Passes the steps that come next as far as it may, and reads the step after them. Returns how many steps are before that,
-    /// where there were `counted` before the first. With `moves` it passes moves too, out of line.
+    /// where there were `counted` before the first.
     #[inline(always)]
     pub(crate) fn advance(
         &mut self,
         passing: Passing,
-        moves: bool,
         font: &'a Font<'a>,
         counted: u32,
         limit: u32,
@@ -181,21 +180,14 @@ impl<'a> Frames<'a> {
         ensures told { passing ≡ Told → result.before ≡ counted }
         ensures near { result.before ≤ limit }
     {
-        let gone = self.go_over(passing, moves, font, counted, limit);
+        let gone = self.go_over(passing, font, counted, limit);
         self.hold(font, gone.before + 1);
         gone
     }
 
     /// Passes the steps that come next as far as it may, and reads the token after them.
     #[inline(always)]
-    fn go_over(
-        &mut self,
-        passing: Passing,
-        moves: bool,
-        font: &'a Font<'a>,
-        counted: u32,
-        limit: u32,
-    ) -> Gone
+    fn go_over(&mut self, passing: Passing, font: &'a Font<'a>, counted: u32, limit: u32) -> Gone
         requires counted { counted ≤ limit }
         requires few { limit ≤ limit_of Two }
         ensures over { ReadsToken passing limit font.now counted self.old result.before result.way self.new }
@@ -205,18 +197,15 @@ impl<'a> Frames<'a> {
         ensures near { result.before ≤ limit }
     {
         if has_room(counted, limit) && is_any(passing) {
-            if moves {
-                let before = self.go_over_moves(font, counted, limit, passing);
+            if is_moves(passing) {
+                let before = self.go_over_moves(font, counted, limit);
                 return self.gone(before);
             }
             if let Some(ahead) = self.current.enciphered() {
                 return self.go_over_far(ahead, font, counted, limit, passing);
             }
-            if !self.step.stack.is_full() {
-                if let Some(ahead) = self.current.unenciphered() {
-                    let before = self.go_over_plain(ahead.left, font, counted, limit, passing);
-                    return self.gone(before);
-                }
+            if let Some(ahead) = self.current.unenciphered() {
+                return self.go_over_far(ahead, font, counted, limit, passing);
             }
         }
         self.read_token();
@@ -243,32 +232,28 @@ impl<'a> Frames<'a> {
         }
     }
 
-    /// The same far from the limit with moves, where these are passed. It keeps the way, and returns how many steps are before the
-    /// one that it reads.
+    /// The same with moves, far from the limit. It keeps the way, and returns how many steps are before the one that it reads.
     #[inline(never)]
-    fn go_over_moves(
-        &mut self,
-        font: &'a Font<'a>,
-        counted: u32,
-        limit: u32,
-        passing: Passing,
-    ) -> u32
-        requires far { counted + most_numbers ≤ limit }
+    fn go_over_moves(&mut self, font: &'a Font<'a>, counted: u32, limit: u32) -> u32
+        requires far { counted + most_numbers < limit }
         requires few { limit ≤ limit_of Two }
-        ensures over { ReadsToken passing limit font.now counted self.old result self.new.way self.new }
+        ensures over { ReadsToken Moves limit font.now counted self.old result self.new.way self.new }
         ensures path { self.new.step.path.items ≡ self.old.step.path.items }
         ensures callers { self.new.callers.items ≡ self.old.callers.items }
         ensures near { result ≤ limit }
     {
         match self.current.ahead() {
             Some(ahead) => {
-                let stop = self.step.stack.take_moves(ahead, limit - counted, passing);
+                let stop = self
+                    .step
+                    .stack
+                    .take_lines(ahead, limit - counted, Passing::Moves);
                 self.current = Cursor {
                     left: stop.left,
                     cipher: stop.cipher,
                     short: false,
                 };
-                let more = self.take_token(stop.token, limit - counted - stop.passed);
+                let more = self.take_token(stop.token);
                 self.way = stop.way;
                 counted + stop.passed + more
             }
@@ -278,34 +263,6 @@ impl<'a> Frames<'a> {
                 counted
             }
         }
-    }
-
-    /// The same of a charstring without encryption far from the limit, where numbers are passed. It keeps the way, and returns how
-    /// many steps are before the one that it reads: the walk's state stays in registers.
-    #[inline(never)]
-    fn go_over_plain(
-        &mut self,
-        left: &'a [u8],
-        font: &'a Font<'a>,
-        counted: u32,
-        limit: u32,
-        passing: Passing,
-    ) -> u32
-        requires ahead { plain_cursor left ≡ self.old.current }
-        requires far { counted + most_numbers ≤ limit }
-        requires few { limit ≤ limit_of Two }
-        ensures over { ReadsToken passing limit font.now counted self.old result self.new.way self.new }
-        ensures path { self.new.step.path.items ≡ self.old.step.path.items }
-        ensures callers { self.new.callers.items ≡ self.old.callers.items }
-        ensures near { result ≤ limit }
-    {
-        let ahead = Ahead { left, cipher: None };
-        let gone = self.go_over_far(ahead, font, counted, limit, passing);
-        self.way.x = gone.way.x;
-        self.way.y = gone.way.y;
-        self.way.moves = gone.way.moves;
-        self.way.drawn = gone.way.drawn;
-        gone.before
     }
 
     /// The same far from the limit, where numbers are passed.
@@ -319,7 +276,7 @@ impl<'a> Frames<'a> {
         passing: Passing,
     ) -> Gone
         requires ahead { cursor_of ahead ≡ self.old.current }
-        requires far { counted + most_numbers ≤ limit }
+        requires far { counted + most_numbers < limit }
         requires few { limit ≤ limit_of Two }
         ensures over { ReadsToken passing limit font.now counted self.old result.before result.way self.new }
         ensures path { self.new.step.path.items ≡ self.old.step.path.items }
@@ -332,17 +289,17 @@ impl<'a> Frames<'a> {
             cipher: stop.cipher,
             short: false,
         };
-        let more = self.take_token(stop.token, limit - counted - stop.passed);
+        let more = self.take_token(stop.token);
         Gone {
             before: counted + stop.passed + more,
             way: stop.way,
         }
     }
 
-    /// Takes a token that was read, or reads it. Where 255 begins it, it passes the numbers that come first, `room` at most. Returns
-    /// how many it passed.
+    /// Takes a token that was read, or reads it. Where 255 begins it, it passes the numbers that come first while the stack has room.
+    /// Returns how many it passed.
     #[inline(always)]
-    fn take_token(&mut self, token: Next, room: u32) -> u32
+    fn take_token(&mut self, token: Next) -> u32
         ensures passes { (before : Cursor) → IsTokenRead token before self.old.current →
             PassesUpTo result before self.old.step.stack self.new.step.token self.new.current self.new.step.stack }
         ensures kept { self.new
@@ -350,14 +307,14 @@ impl<'a> Frames<'a> {
               current = self.new.current;
               step = record self.old.step { token = self.new.step.token; stack = self.new.step.stack };
             } }
-        ensures near { result ≤ room }
+        ensures near { result ≤ most_numbers - length self.old.step.stack }
     {
         match token {
             Next::Token(token) => {
                 self.step.token = token;
                 0
             }
-            Next::Long => self.go_over_long(room),
+            Next::Long => self.go_over_long(),
             Next::End => {
                 self.read_token();
                 0
@@ -365,10 +322,10 @@ impl<'a> Frames<'a> {
         }
     }
 
-    /// Reads the number that 255 begins, passes it and the numbers after it while the stack has room, `room` at most, and reads the
-    /// token after these. Returns how many it passed.
+    /// Reads the number that 255 begins, passes it and the numbers after it while the stack has room, and reads the token after
+    /// these. Returns how many it passed.
     #[inline(never)]
-    fn go_over_long(&mut self, room: u32) -> u32
+    fn go_over_long(&mut self) -> u32
         ensures passes { (before : Cursor) → AtFirst 255 before self.old.current →
             PassesUpTo result before self.old.step.stack self.new.step.token self.new.current self.new.step.stack }
         ensures kept { self.new
@@ -376,13 +333,13 @@ impl<'a> Frames<'a> {
               current = self.new.current;
               step = record self.old.step { token = self.new.step.token; stack = self.new.step.stack };
             } }
-        ensures near { result ≤ room }
+        ensures near { result ≤ most_numbers - length self.old.step.stack }
     {
         let mut token = self.current.long_token();
         let mut passed = 0;
         loop {
             match token {
-                CharToken::Number(number) if passed < room && !self.step.stack.is_full() => {
+                CharToken::Number(number) if !self.step.stack.is_full() => {
                     self.step.stack.put(units(number));
                     passed += 1;
                     token = self.current.next_token();
@@ -436,21 +393,32 @@ impl<'a> Frames<'a> {
     /// Looks for the Subr that the step calls.
     #[inline(never)]
     fn name(&mut self, font: &'a Font<'a>)
+        requires calls { is_callsubr self.old.step.token ≡ true }
         ensures named { named_of self.new.named ≡ named_at font.now self.old.step.token self.old.step.stack }
         ensures found { self.new.step.found ≡ is_some (named_at font.now self.old.step.token self.old.step.stack) }
         ensures kept { self.new
             ≡ record self.old { named = self.new.named; step = record self.old.step { found = self.new.step.found } } }
     {
-        self.named = named_at(font, self.step.token, &self.step.stack);
-        self.step.found = self.named.is_some();
+        // In place: nothing is copied.
+        self.named = None;
+        self.step.found = false;
+        if self.step.stack.is_empty() {
+            return;
+        }
+        if let Some(number) = natural(self.step.stack.from_top(0)) {
+            if let Some(code) = font.subr(number) {
+                self.named = Some(Subr { number, code });
+                self.step.found = true;
+            }
+        }
     }
 }
 
-/// Whether there is room for a full stack of steps before the limit.
+/// Whether there is room for a full stack of steps and a closepath before the limit.
 #[inline(always)]
 fn has_room(counted: u32, limit: u32) -> bool
     requires { counted ≤ limit }
-    ensures { result ≡ true → counted + most_numbers ≤ limit }
+    ensures { result ≡ true → counted + most_numbers < limit }
 {
-    limit - counted >= MOST_NUMBERS as u32
+    limit - counted > MOST_NUMBERS as u32
 }

@@ -3,7 +3,7 @@
 ghost use Rattle.std.specs.Prelude.{◌≡◌, ◌+ℤ◌, ◌+◌, ◌<◌, ◌≤◌, ℕ, List, false, true, IfSome};
 ghost use Rattle.std.specs.List.{list_any};
 ghost use Rattle.t1_char.specs.declared.lines.Drawn.TheVariants.{Nothing, Open};
-ghost use Rattle.t1_char.specs.declared.lines.Passing.TheVariants.{Told, Lines, Moves};
+ghost use Rattle.t1_char.specs.declared.lines.Passing.TheVariants.{Told, Moves};
 ghost use Rattle.t1_char.specs.Arguments.{argument};
 ghost use Rattle.t1_char.specs.Tokens.{more_of, token_at};
 ghost use Rattle.t1_char.specs.Private.Taking.{IsLedBy};
@@ -27,10 +27,10 @@ pub enum Passing {
 
 /// Whether lines are passed.
 #[inline(always)]
-pub(crate) fn is_lines(passing: Passing) -> bool
-    ensures { result ≡ true → passing ≡ Lines }
+pub(crate) fn leads(passing: Passing) -> bool
+    ensures { result ≡ leads passing }
 {
-    matches!(passing, Passing::Lines)
+    matches!(passing, Passing::Lines | Passing::Moves)
 }
 
 /// Whether moves are passed.

@@ -211,31 +211,10 @@ impl<'a> Machine<'a> {
         far.answer
     }
 
-    /// The same with lines, and the way of the passed ones. Moves are returned.
+    /// The same with lines, or with moves and lines after these, and the way of the passed ones. Where moves are passed it is slower
+    /// if none comes next.
     #[inline(always)]
     pub fn go_far(&mut self, passing: Passing) -> Far
-        ensures asked { IsAskedFar passing self.old self.new (answer_view result.answer self.new.step) result.way }
-        ensures font { self.new.font ≡ self.old.font }
-        ensures glyph { self.new.glyph ≡ self.old.glyph }
-        ensures edition { self.new.edition ≡ self.old.edition }
-    {
-        self.go(passing, false)
-    }
-
-    /// The same with moves, and lines after these. It is slower where no move comes next.
-    #[inline(always)]
-    pub fn go_by_moves(&mut self) -> Far
-        ensures asked { IsAskedFar passing.Moves self.old self.new (answer_view result.answer self.new.step) result.way }
-        ensures font { self.new.font ≡ self.old.font }
-        ensures glyph { self.new.glyph ≡ self.old.glyph }
-        ensures edition { self.new.edition ≡ self.old.edition }
-    {
-        self.go(Passing::Moves, true)
-    }
-
-    /// Goes far, with `moves` over these too.
-    #[inline(always)]
-    fn go(&mut self, passing: Passing, moves: bool) -> Far
         ensures asked { IsAskedFar passing self.old self.new (answer_view result.answer self.new.step) result.way }
         ensures font { self.new.font ≡ self.old.font }
         ensures glyph { self.new.glyph ≡ self.old.glyph }
@@ -253,7 +232,7 @@ impl<'a> Machine<'a> {
                 }
                 let gone = self
                     .frames
-                    .advance(passing, moves, self.font, self.counted, self.limit);
+                    .advance(passing, self.font, self.counted, self.limit);
                 self.counted = gone.before + 1;
                 if self.counted > self.limit {
                     self.answer = Answer::Limit;

@@ -1,12 +1,12 @@
 //! The stack of numbers: Type 1 Font Format 1.1, chapter 6.
 
-ghost use Rattle.std.specs.Prelude.{◌≡◌, ◌≤◌, ◌<◌, [], length, nat_eq, nat_le};
+ghost use Rattle.std.specs.Prelude.{◌≡◌, ◌≤◌, ◌<◌, ◌+◌, ◌-◌, [], length, nat_eq, nat_le};
 ghost use Rattle.t1_char.specs.Stacks.{from_top, most_numbers, put, without};
 ghost use Rattle.t1_char.specs.Private.Taking.{TakesLines};
 
 use crate::cursor::Ahead;
 use crate::lines::Passing;
-use crate::taking::{Lines, take_lines, take_moves};
+use crate::taking::{Lines, take_lines};
 use std::marker::Model;
 
 /// The most numbers that a stack holds: Type 1 Font Format 1.1, chapter 6.
@@ -101,8 +101,8 @@ impl Stack {
         }
     }
 
-    /// Takes the numbers that come next while there is room, and where lines are passed also these and curves after them:
-    /// `room` steps at most.
+    /// Takes the numbers that come next while there is room, and where lines are passed also these and curves after them, and
+    /// where moves are these too: `room` steps at most, with the numbers that there is room for behind them.
     #[inline(always)]
     pub(crate) fn take_lines<'a>(
         &mut self,
@@ -110,30 +110,12 @@ impl Stack {
         room: u32,
         passing: Passing,
     ) -> Lines<'a>
-        requires room { most_numbers ≤ room }
+        requires room { most_numbers < room }
         requires limited { room < 16777216 }
         ensures takes { TakesLines passing ahead.entry self.old self.new result }
-        ensures near { result.passed ≤ room }
+        ensures near { result.passed + (most_numbers - length self.new) ≤ room }
     {
         let stop = take_lines(&mut self.cells, self.len, ahead, room, passing);
-        self.len = stop.len;
-        stop
-    }
-
-    /// The same with moves, where these are passed.
-    #[inline(always)]
-    pub(crate) fn take_moves<'a>(
-        &mut self,
-        ahead: Ahead<'a>,
-        room: u32,
-        passing: Passing,
-    ) -> Lines<'a>
-        requires room { most_numbers ≤ room }
-        requires limited { room < 16777216 }
-        ensures takes { TakesLines passing ahead.entry self.old self.new result }
-        ensures near { result.passed ≤ room }
-    {
-        let stop = take_moves(&mut self.cells, self.len, ahead, room, passing);
         self.len = stop.len;
         stop
     }

@@ -1,7 +1,7 @@
 //! Numbers, moves and lines that are taken from a charstring in a row: Type 1 Font Format 1.1, chapter 6. What is left of the
 //! charstring is copied field by field, so that it stays in registers.
 
-ghost use Rattle.std.specs.Prelude.{◌≡◌, ◌+◌, ◌<◌, ◌≤◌, [], IfSome, false, length, take, true, Some};
+ghost use Rattle.std.specs.Prelude.{◌≡◌, ◌+◌, ◌-◌, ◌<◌, ◌≤◌, [], IfSome, false, length, take, true, Some};
 ghost use Rattle.std.specs.List.{list_any};
 ghost use Rattle.t1_char.specs.Lines.{IsWayNear, IsWithin, is_closed, is_far, leads};
 ghost use Rattle.t1_char.specs.declared.lines.Passing.{Passing as Passings};
@@ -12,7 +12,7 @@ ghost use Rattle.t1_char.specs.Private.Taking.{Finishes, IsLedFirst, IsTokenRead
 ghost use Rattle.t1_char.specs.declared.cursor.Cursor.{Cursor};
 
 use crate::cursor::Ahead;
-use crate::lines::{Passing, Way, is_lines, is_moves, line_at, move_at};
+use crate::lines::{Passing, Way, is_moves, leads, line_at, move_at};
 use crate::numbers::UNIT;
 use crate::stack::MOST_NUMBERS;
 use crate::token::CharToken;
@@ -120,8 +120,9 @@ pub(crate) struct Lines<'a> {
     pub(crate) way: Way,
 }
 
-/// Takes the numbers that come next, as long as there is room, and where lines are passed these and curves after them, as
-/// long as there is room for a full stack of steps more.
+/// Takes the numbers that come next, as long as there is room, and where lines are passed these and curves after them, and
+/// where moves are these too, as long as there is room for a full stack of steps and a closepath more. Behind them there is room
+/// for as many numbers as the stack can still hold.
 #[inline(always)]
 pub(crate) fn take_lines<'a>(
     cells: &mut [i64; MOST_NUMBERS],
@@ -131,41 +132,17 @@ pub(crate) fn take_lines<'a>(
     passing: Passing,
 ) -> Lines<'a>
     requires few { len ≤ most_numbers }
-    requires room { most_numbers ≤ room }
+    requires room { most_numbers < room }
     requires limited { room < 16777216 }
     ensures takes { TakesLines passing ahead.entry (take len cells.old) (take result.len cells.new) result }
     ensures few { result.len ≤ most_numbers }
     ensures len { result.len ≡ length (take result.len cells.new) }
-    ensures near { result.passed ≤ room }
+    ensures near { result.passed + (most_numbers - result.len) ≤ room }
 {
-    if is_lines(passing) && len == 0 {
-        take_path(cells, ahead, room, Passing::Lines)
+    if leads(passing) && len == 0 {
+        take_path(cells, ahead, room, passing)
     } else {
         take_front(cells, len, ahead)
-    }
-}
-
-/// The same with moves before the lines, where these are passed.
-#[inline(always)]
-pub(crate) fn take_moves<'a>(
-    cells: &mut [i64; MOST_NUMBERS],
-    len: usize,
-    ahead: Ahead<'a>,
-    room: u32,
-    passing: Passing,
-) -> Lines<'a>
-    requires few { len ≤ most_numbers }
-    requires room { most_numbers ≤ room }
-    requires limited { room < 16777216 }
-    ensures takes { TakesLines passing ahead.entry (take len cells.old) (take result.len cells.new) result }
-    ensures few { result.len ≤ most_numbers }
-    ensures len { result.len ≡ length (take result.len cells.new) }
-    ensures near { result.passed ≤ room }
-{
-    if is_moves(passing) && len == 0 {
-        take_path(cells, ahead, room, Passing::Moves)
-    } else {
-        take_lines(cells, len, ahead, room, passing)
     }
 }
 
@@ -176,15 +153,15 @@ fn take_front<'a>(cells: &mut [i64; MOST_NUMBERS], len: usize, ahead: Ahead<'a>)
     ensures takes { (what : Passings) → TakesLines what ahead.entry (take len cells.old) (take result.len cells.new) result }
     ensures few { result.len ≤ most_numbers }
     ensures len { result.len ≡ length (take result.len cells.new) }
-    ensures near { result.passed ≤ most_numbers }
+    ensures near { result.passed ≤ result.len }
 {
     let stop = take_numbers(cells, len, ahead);
     let passed = (stop.len - len) as u32;
     finish(stop, passed, Way::NONE)
 }
 
-/// Takes lines and curves, and moves before them, with the numbers before each, as long as there is room for a full stack of steps more,
-/// and the closepath after lines.
+/// Takes lines and curves, and moves before them, with the numbers before each, as long as there is room for a full stack of steps and a
+/// closepath more, and the closepath after lines.
 #[inline(always)]
 fn take_path<'a>(
     cells: &mut [i64; MOST_NUMBERS],
@@ -193,12 +170,12 @@ fn take_path<'a>(
     passing: Passing,
 ) -> Lines<'a>
     requires leads { leads passing ≡ true }
-    requires room { most_numbers ≤ room }
+    requires room { most_numbers < room }
     requires limited { room < 16777216 }
     ensures takes { TakesLines passing ahead.entry [] (take result.len cells.new) result }
     ensures few { result.len ≤ most_numbers }
     ensures len { result.len ≡ length (take result.len cells.new) }
-    ensures near { result.passed ≤ room }
+    ensures near { result.passed + (most_numbers - result.len) ≤ room }
 {
     let mut ahead = Ahead {
         left: ahead.left,
@@ -210,7 +187,7 @@ fn take_path<'a>(
         let stop = take_numbers(cells, 0, ahead);
         passed += stop.len as u32;
         match led_by(passing, way, stop.first, &cells[..stop.len]) {
-            Some(one) if room - passed > MOST_NUMBERS as u32 => {
+            Some(one) if room - passed > MOST_NUMBERS as u32 + 1 => {
                 way = way.further(one, passed);
                 passed += 1;
                 ahead = Ahead {

@@ -1,6 +1,5 @@
 pub mod Asked
 pub mod Broken
-pub mod DecimalLemmas
 pub mod Editions
 pub mod FewFaults
 pub mod Fronts

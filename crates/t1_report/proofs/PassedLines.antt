@@ -1,7 +1,7 @@
 -- Numbers, lines, closepaths and moves that a machine passes, while the watchers are calm, or in the midst of a path.
 use Rattle.std.proofs.Common.{◌≡◌, ℕ, ℤ, zero, suc, ◌+◌, ◌-◌, ◌<◌, ◌≤◌, inl, inr, ◌⊎◌, ◌||◌, Bool, true, false, List, [], ◌∷◌, ◌++◌, length, length-take, take, refl, sym, ap, subst, ◌∙◌, le-ltb, lt-ltb, nat_lt, arith}
 use Rattle.std.proofs.lemmas.Int.{ints}
-use Rattle.std.proofs.lemmas.Bool.{cases_lt}
+use Rattle.std.proofs.lemmas.Bool.{cases_lt, or_cases}
 use Rattle.std.proofs.lemmas.Option.{slice_get_within}
 use Rattle.t1_char.specs.declared.command.Command.{Command as Commands}
 use Rattle.t1_char.specs.declared.lines.Passing.{Passing}
@@ -43,7 +43,7 @@ use Rattle.t1_report.specs.Checked.{CheckedFont, step_limit}
 use Rattle.t1_report.specs.Reports.{is_broken, rules_of}
 use Rattle.t1_report.specs.Laws.PassedLines.{PassedLinesBreakNoRule, WatchersMoveOnByLines}
 use Rattle.t1_report.specs.Private.Fitting.{IsFit}
-use Rattle.t1_report.specs.Private.Going.{idled}
+use Rattle.t1_report.specs.Private.Going.{HasGone, idled}
 use Rattle.t1_report.specs.Private.Units.{IsQuiet, IsRun, executed}
 use Rattle.t1_report.specs.Walks.{turns_of_glyph}
 use Rattle.t1_report.proofs.Broken.{at_step, both_kinds, rules_by, within_limit}
@@ -287,12 +287,11 @@ led_kind : (what : Passing) (command : Commands) → is_led what command ≡ tru
 led_kind passing.Told command is = let no : false ≡ true = is in cc
 led_kind passing.Numbers command is = let no : false ≡ true = is in cc
 led_kind passing.Lines command is = inl is
-led_kind passing.Moves command is = by_line (is_line_command command) refl is
-  where
-    by_line : (line : Bool) → line ≡ is_line_command command → (line || is_move_command command) ≡ true
-        → (is_line_command command ≡ true) ⊎ ((is_move_command command ≡ true) × (passing.Moves ≡ passing.Moves))
-    by_line true same either = inl (sym same)
-    by_line false same either = inr (either, refl)
+led_kind passing.Moves command is =
+    elim (or_cases (is_line_command command) (is_move_command command) is) [
+      | inl line ↦ inl line
+      | inr move ↦ inr (move, refl)
+    ]
 
 over_one : (what : Passing) (font : CheckedFont) (glyph n taken : ℕ) (w : Watches) (before way : Way) → glyph < length font.value.glyphs
     → PassedOver font glyph n taken w before → IsCalm w → IsSteady w → (what ≡ passing.Moves → IsUndrawn w)
@@ -443,6 +442,9 @@ gone_now what m new answer way w fit run near asked =
     gone_far what m new answer way w (executed m) m.glyph (m.glyph + 1) (m.counted + 1) fit refl refl refl run
     (λ s r from to. absurd (omega (arith, from, to))) near asked
 
+is_idled : (seen v : Watches) → seen ≡ v → seen ≡ idled v seen
+is_idled seen v is = subst (λ (u : Watches). seen ≡ idled u seen) is refl
+
 -- A line moves nowhere without drawing, and so no move is in a way of lines.
 line_unmoved : (command : Commands) → is_line_command command ≡ true → (v : List ℤ) → (way_by command v).moves ≡ 0
 line_unmoved Rlineto is v = refl
@@ -453,24 +455,42 @@ line_unmoved Vhcurveto is v = refl
 line_unmoved Hvcurveto is v = refl
 line_unmoved _ is v = let no : false ≡ true = is in cc
 
-command_unmoved : (what : Passing) (command : Commands) (stack : List ℤ) (before way : Way) → (what ≡ passing.Moves → ⊥) → before.moves ≡ 0
-    → GoesOn what command stack before way → way.moves ≡ 0
-command_unmoved what command stack before way not none (inl leads_on) =
-    elim (led_kind what command leads_on.is.led) [
-      | inl line ↦ omega (arith, ap (λ (w : Way). w.moves) leads_on.way, none, line_unmoved command line stack)
-      | inr move ↦ absurd (not move.1)
-    ]
-command_unmoved what command stack before way not none (inr closes) = ap (λ (w : Way). w.moves) closes.way ∙ none
+command_unmoved : (command : Commands) (stack : List ℤ) (before way : Way) → before.moves ≡ 0 → GoesOn passing.Lines command stack before way
+    → way.moves ≡ 0
+command_unmoved command stack before way none (inl leads_on) =
+    omega (arith, ap (λ (w : Way). w.moves) leads_on.way, none, line_unmoved command leads_on.is.led stack)
+command_unmoved command stack before way none (inr closes) = ap (λ (w : Way). w.moves) closes.way ∙ none
 
-pub unmoved : (what : Passing) (limit : ℕ) (steps : List StepView) (n taken : ℕ) (way : Way) → (what ≡ passing.Moves → ⊥)
-    → PassesSteps what limit steps n taken way → way.moves ≡ 0
-unmoved what limit steps n zero way not passes = ap (λ (w : Way). w.moves) passes
-unmoved what limit steps n (suc taken) way not passes =
-    by_one passes.0 (unmoved what limit steps n taken passes.0 not passes.1.0) passes.1.1
+pub unmoved : (limit : ℕ) (steps : List StepView) (n taken : ℕ) (way : Way) → PassesSteps passing.Lines limit steps n taken way → way.moves ≡ 0
+unmoved limit steps n zero way passes = ap (λ (w : Way). w.moves) passes
+unmoved limit steps n (suc taken) way passes = by_one passes.0 (unmoved limit steps n taken passes.0 passes.1.0) passes.1.1
   where
-    by_one : (before : Way) → before.moves ≡ 0 → PassesStep what limit steps (n + taken) before way → way.moves ≡ 0
+    by_one : (before : Way) → before.moves ≡ 0 → PassesStep passing.Lines limit steps (n + taken) before way → way.moves ≡ 0
     by_one before none (inl number) = ap (λ (w : Way). w.moves) number.1 ∙ none
-    by_one before none (inr command) = command_unmoved what command.1.command command.1.step.stack before way not none command.1.goes_on
+    by_one before none (inr command) = command_unmoved command.1.command command.1.step.stack before way none command.1.goes_on
+
+-- Numbers alone lead nowhere, and the watchers stay as they are.
+still : (what : Passing) → leads what ≡ false → (limit : ℕ) (steps : List StepView) (n taken : ℕ) (way : Way) → PassesSteps what limit steps n taken way
+    → way ≡ no_way
+still what none limit steps n zero way passes = passes
+still what none limit steps n (suc taken) way passes =
+    by_one passes.0 (still what none limit steps n taken passes.0 passes.1.0) passes.1.1
+  where
+    by_one : (before : Way) → before ≡ no_way → PassesStep what limit steps (n + taken) before way → way ≡ no_way
+    by_one before nowhere (inl number) = number.1 ∙ nowhere
+    by_one before nowhere (inr command) = let no : false ≡ true = sym none ∙ command.0 in cc
+
+pub has_stayed : (what : Passing) → leads what ≡ false → (m new : MachineView) (answer : TurnValue) (way : Way) (w : Watches) → IsFit what w
+    → IsAskedFar what m new answer way → HasGone m w new w answer
+has_stayed what none m new answer way w fit asked =
+    let nowhere = still what none (limit_of m.edition) (steps_of m.font m.glyph) m.counted asked.taken way asked.passed in
+    record {
+      what = what;
+      way = way;
+      fit = fit;
+      asked = asked;
+      moved = is_idled w (moved_on w way) (sym (ap (moved_on w) nowhere ∙ moved_nowhere w));
+    }
 
 pub stands_idled : (font : CheckedFont) (glyph unit from before : ℕ) (v other : Watches) → StandsBehind font glyph unit from before v
     → StandsBehind font glyph unit from before (idled v other)
@@ -479,9 +499,6 @@ stands_idled font glyph unit from before v other stands = record {
   run = record { counted_few = stands.run.counted_few; seen_are = stands.run.seen_are };
   quiet = stands.quiet;
 }
-
-pub is_idled : (seen v : Watches) → seen ≡ v → seen ≡ idled v seen
-is_idled seen v is = subst (λ (u : Watches). seen ≡ idled u seen) is refl
 
 -- Two laws.
 pub passed_lines_break_none : PassedLinesBreakNoRule

@@ -25,7 +25,6 @@
 //! ```
 #![tactic(auto)]
 
-mod decimal;
 mod faults;
 mod laws;
 mod lines;

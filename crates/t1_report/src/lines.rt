@@ -8,9 +8,9 @@ ghost use Rattle.t1_report.specs.Faults.{fault_value};
 ghost use Rattle.t1_report.specs.Lines.{IsInFont, glyph_place, inner_text, key_place, line_of, path_text, place_text, waiver_place};
 ghost use Rattle.t1_rules.specs.Keys.{index_count, key_count};
 
-use crate::decimal::Decimal;
 use crate::faults::Fault;
 use crate::waivers::Waivers;
+use itoa::Buffer;
 use t1_font::Font;
 use t1_io::{Broken, Sink, put_all, put_parts};
 use t1_rules::{INDEXES, key_text, rule_code, rule_text};
@@ -27,8 +27,10 @@ pub fn write_fault<W: Sink>(
     requires { IsInFont font.now waivers.now (fault_value fault.now) }
     ensures { Writes (W.state sink.old) (W.state sink.new) (line_of font.now waivers.now (fault_value fault.now)) result }
 {
-    let number = Decimal::new(fault.number);
-    put_parts(sink, &[number.digits(), b": "])?;
+    put_parts(
+        sink,
+        &[Buffer::new().format(fault.number).as_bytes(), b": "],
+    )?;
     write_place(sink, font, waivers, fault)?;
     put_parts(
         sink,
@@ -68,10 +70,14 @@ fn write_key_place<W: Sink>(sink: &mut W, step: u32) -> Result<(), Broken>
     ensures { Writes (W.state sink.old) (W.state sink.new) (key_place step) result }
 {
     let key = (step / INDEXES) as u8;
-    let index = Decimal::new(u64::from(step % INDEXES));
     put_parts(
         sink,
-        &[b"font ", key_text(key).as_bytes(), b" ", index.digits()],
+        &[
+            b"font ",
+            key_text(key).as_bytes(),
+            b" ",
+            Buffer::new().format(step % INDEXES).as_bytes(),
+        ],
     )
 }
 
@@ -99,8 +105,10 @@ fn write_glyph_place<W: Sink>(sink: &mut W, font: &Font<'_>, fault: &Fault) -> R
         &[b"glyph ", font.glyph_name((fault.unit - 1) as usize), b" "],
     )?;
     write_path(sink, fault.path.as_slice())?;
-    let step = Decimal::new(u64::from(fault.step));
-    put_parts(sink, &[b" ", step.digits()])
+    put_parts(
+        sink,
+        &[b" ", Buffer::new().format(fault.step).as_bytes()],
+    )
 }
 
 /// Writes the Subrs that are being executed: `5>6`, or `-` where there is none.
@@ -110,8 +118,7 @@ pub(crate) fn write_path<W: Sink>(sink: &mut W, path: &[u32]) -> Result<(), Brok
     let Some((outermost, inner)) = path.split_first() else {
         return put_all(sink, b"-");
     };
-    let number = Decimal::new(u64::from(*outermost));
-    put_all(sink, number.digits())?;
+    put_all(sink, Buffer::new().format(*outermost).as_bytes())?;
     write_inner(sink, inner)
 }
 
@@ -120,8 +127,10 @@ fn write_inner<W: Sink>(sink: &mut W, numbers: &[u32]) -> Result<(), Broken>
     ensures { Writes (W.state sink.old) (W.state sink.new) (flat_map inner_text numbers.now) result }
 {
     for number in numbers {
-        let number = Decimal::new(u64::from(*number));
-        put_parts(sink, &[b">", number.digits()])?;
+        put_parts(
+            sink,
+            &[b">", Buffer::new().format(*number).as_bytes()],
+        )?;
     }
     Ok(())
 }

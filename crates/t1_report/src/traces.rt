@@ -1,13 +1,12 @@
 //! The lines of a glyph's steps.
 
 ghost use Rattle.std.specs.Prelude.{◌≡◌, ◌++◌, codes};
-ghost use Rattle.std.specs.Fmt.{signed_decimal};
 ghost use Rattle.t1_io.specs.Devices.{Writes};
 ghost use Rattle.t1_char.specs.StepValues.{step_value};
 ghost use Rattle.t1_report.specs.Traces.{step_line, token_text};
 
-use crate::decimal::Decimal;
 use crate::lines::write_path;
+use itoa::Buffer;
 use t1_char::{CharToken, Step, command_name};
 use t1_io::{Broken, Sink, put_all, put_parts};
 
@@ -16,8 +15,10 @@ use t1_io::{Broken, Sink, put_all, put_parts};
 pub fn write_step<W: Sink>(sink: &mut W, step: &Step) -> Result<(), Broken>
     ensures { Writes (W.state sink.old) (W.state sink.new) (step_line (step_value step.now)) result }
 {
-    let number = Decimal::new(u64::from(step.number));
-    put_parts(sink, &[number.digits(), b" "])?;
+    put_parts(
+        sink,
+        &[Buffer::new().format(step.number).as_bytes(), b" "],
+    )?;
     write_path(sink, step.path.as_slice())?;
     put_all(sink, b" ")?;
     write_token(sink, step.token)?;
@@ -29,30 +30,18 @@ fn write_token<W: Sink>(sink: &mut W, token: CharToken) -> Result<(), Broken>
     ensures { Writes (W.state sink.old) (W.state sink.new) (token_text token) result }
 {
     match token {
-        CharToken::Number(number) => write_signed(sink, number),
+        CharToken::Number(number) => put_all(sink, Buffer::new().format(number).as_bytes()),
         CharToken::Command(command) => put_all(sink, command_name(command).as_bytes()),
-        CharToken::Unknown(byte) => {
-            let byte = Decimal::new(u64::from(byte));
-            put_parts(sink, &[b"unknown ", byte.digits()])
-        }
-        CharToken::Unknown12(byte) => {
-            let byte = Decimal::new(u64::from(byte));
-            put_parts(sink, &[b"unknown 12 ", byte.digits()])
-        }
+        CharToken::Unknown(byte) => put_parts(
+            sink,
+            &[b"unknown ", Buffer::new().format(byte).as_bytes()],
+        ),
+        CharToken::Unknown12(byte) => put_parts(
+            sink,
+            &[b"unknown 12 ", Buffer::new().format(byte).as_bytes()],
+        ),
         CharToken::Cut => put_all(sink, b"cut"),
         CharToken::Short => put_all(sink, b"short"),
         CharToken::End => put_all(sink, b"end"),
-    }
-}
-
-/// Writes a number with its sign where it is below 0.
-fn write_signed<W: Sink>(sink: &mut W, number: i32) -> Result<(), Broken>
-    ensures { Writes (W.state sink.old) (W.state sink.new) (signed_decimal number) result }
-{
-    let size = Decimal::new(u64::from(number.unsigned_abs()));
-    if number < 0 {
-        put_parts(sink, &[b"-", size.digits()])
-    } else {
-        put_all(sink, size.digits())
     }
 }

@@ -30,13 +30,13 @@ use t1_char::{CharToken, Command, Drawn, Edition, MOST_NUMBERS, OthersubrCall, S
 const MOST_TRIES: u32 = 8;
 
 /// Where a glyph has moves that draw nothing, as hardly any font does: a machine passes these by
-/// [`Machine::go_by_moves`](t1_char::Machine::go_by_moves). Only speed depends on it.
+/// [`Machine::go_far`](t1_char::Machine::go_far). Only speed depends on it.
 #[derive(Clone, Copy)]
 struct Idling {
     /// The number of the last move.
     last: u32,
-    /// The same where it came right after another, with nothing drawn.
-    at: u32,
+    /// How many steps it came after the move before it.
+    gap: u32,
     /// How often it may still look in vain.
     tries: u32,
 }
@@ -44,20 +44,21 @@ struct Idling {
 impl Idling {
     const NONE: Idling = Idling {
         last: 0,
-        at: 0,
+        gap: 0,
         tries: MOST_TRIES,
     };
 
-    /// Notes a move, which has two numbers at most.
+    /// Notes a move.
     #[inline(always)]
-    fn see_move(&mut self, step: u32, is_undrawn: bool) {
-        let is_next = step.saturating_sub(self.last) <= 3;
+    fn see_move(&mut self, step: u32) {
+        self.gap = step.saturating_sub(self.last);
         self.last = step;
-        self.at = if is_next && is_undrawn && self.tries > 0 {
-            step
-        } else {
-            0
-        };
+    }
+
+    /// Whether the last step, of this number, was a move right after another, which has two numbers at most.
+    #[inline(always)]
+    fn is_idle(&self, step: u32) -> bool {
+        self.last == step && self.gap <= 3 && self.tries > 0
     }
 
     /// Notes how many moves a machine passed.
@@ -196,7 +197,7 @@ impl Watches {
         ensures steady { result ≡ true → IsSteady self.now }
         ensures undrawn { result ≡ true → IsUndrawn self.now }
     {
-        self.idling.at == step && self.is_calm() && self.is_steady() && self.is_undrawn()
+        self.idling.is_idle(step) && self.is_calm() && self.is_steady() && self.is_undrawn()
     }
 
     /// Whether nothing is drawn behind a move.
@@ -263,6 +264,7 @@ impl Watches {
             Command::Return => self.see_return(step),
             Command::Hstem => self.see_hstem(step),
             Command::Vstem => self.see_vstem(step),
+            Command::Rmoveto | Command::Hmoveto | Command::Vmoveto => self.see_moveto(command, step),
             _ => self.see_other(command, step),
         }
     }
@@ -300,18 +302,6 @@ impl Watches {
                 CharToken::Command(Command::Hvcurveto),
                 step,
             ),
-            Command::Rmoveto if self.is_usual(Command::Rmoveto, step) => self.see_move(
-                Command::Rmoveto,
-                step,
-            ),
-            Command::Hmoveto if self.is_usual(Command::Hmoveto, step) => self.see_move(
-                Command::Hmoveto,
-                step,
-            ),
-            Command::Vmoveto if self.is_usual(Command::Vmoveto, step) => self.see_move(
-                Command::Vmoveto,
-                step,
-            ),
             Command::Closepath => self.see_each(CharToken::Command(Command::Closepath), step),
             Command::Hsbw => self.see_each(CharToken::Command(Command::Hsbw), step),
             Command::Endchar => self.see_each(CharToken::Command(Command::Endchar), step),
@@ -330,16 +320,39 @@ impl Watches {
         }
     }
 
-    /// What all watchers say of a move.
+    /// The same of a move.
+    #[inline(never)]
+    fn see_moveto(&mut self, command: Command, step: &Step) -> Mask
+        requires token { IsCommand (step_view step.now) command }
+        requires steps { CanSee self.old }
+        ensures { Sees self.old (step_view step.now) self.new result }
+    {
+        match command {
+            Command::Rmoveto if self.is_usual(Command::Rmoveto, step) => self.see_move(
+                Command::Rmoveto,
+                step,
+            ),
+            Command::Hmoveto if self.is_usual(Command::Hmoveto, step) => self.see_move(
+                Command::Hmoveto,
+                step,
+            ),
+            Command::Vmoveto if self.is_usual(Command::Vmoveto, step) => self.see_move(
+                Command::Vmoveto,
+                step,
+            ),
+            _ => self.see_rare(step),
+        }
+    }
+
+    /// What all watchers say of a move that is as most are.
     #[inline(always)]
     fn see_move(&mut self, command: Command, step: &Step) -> Mask
         requires token { IsCommand (step_view step.now) command }
         requires steps { CanSee self.old }
         ensures { Sees self.old (step_view step.now) self.new result }
     {
-        let is_undrawn = self.paths.is_undrawn();
         let broken = self.see_each(CharToken::Command(command), step);
-        self.idling.see_move(step.number, is_undrawn);
+        self.idling.see_move(step.number);
         broken
     }
 

@@ -1,5 +1,5 @@
 -- Frames that go on to the next step.
-use Rattle.std.specs.Prelude.{◌≡◌, ℕ, ◌+◌, ◌≤◌, ◌∷◌, List}
+use Rattle.std.specs.Prelude.{◌≡◌, ℕ, ◌+◌, ◌-◌, ◌≤◌, ◌∷◌, List, length}
 use Rattle.t1_font.specs.Fonts.{FontValue}
 use Rattle.t1_char.specs.declared.cursor.Cursor.{Cursor}
 use Rattle.t1_char.specs.declared.frames.Frames.{Frames}
@@ -7,6 +7,7 @@ use Rattle.t1_char.specs.declared.lines.Passing.{Passing}
 use Rattle.t1_char.specs.declared.lines.Way.{Way}
 use Rattle.t1_char.specs.declared.token.CharToken.{CharToken}
 use Rattle.t1_char.specs.Lines.{PassesSteps}
+use Rattle.t1_char.specs.Stacks.{most_numbers}
 use Rattle.t1_char.specs.Steps.{StepView}
 use Rattle.t1_char.specs.StepValues.{step_view}
 use Rattle.t1_char.specs.Private.Cursors.{AtFirst, behind_token, tokens_left}
@@ -37,10 +38,11 @@ pub record ReadsToken (what : Passing) (limit : ℕ) (font : FontValue) (n : ℕ
   pub waiting : new.waiting.items ≡ passed.waiting.items
 
 -- From a number on that 255 begins, so many numbers were passed, and the token after them was read.
-pub record GoesOverLong (room : ℕ) (f : Frames) (passed : ℕ) (token : CharToken) (new : Frames) : Type 0 where
+pub record GoesOverLong (f : Frames) (passed : ℕ) (token : CharToken) (new : Frames) : Type 0 where
   pub passes : (before : Cursor) → AtFirst 255 before f.current → PassesUpTo passed before f.step.stack token new.current new.step.stack
   pub kept : new ≡ record f { current = new.current; step = record f.step { stack = new.step.stack } }
-  pub near : passed ≤ room
+  pub more : length new.step.stack ≡ length f.step.stack + passed
+  pub near : passed ≤ most_numbers - length f.step.stack
 
 -- The next step was read.
 pub record IsNext (font : FontValue) (n : ℕ) (f new : Frames) : Type 0 where

@@ -1,6 +1,5 @@
 -- What a cursor has left: the bytes that are left of a slice, deciphered from the cipher's state on.
 use Rattle.std.specs.Prelude.{◌≡◌, ℕ, false, ◌/◌, if◌then◌else◌, Option, Some, None, List, [], ◌∷◌, bit_xor}
-use Rattle.std.specs.Borrow.{Bor}
 use Rattle.t1_seal.specs.declared.cipher.Cipher.{Cipher}
 use Rattle.t1_seal.specs.Laws.Cipher.{next_state}
 use Rattle.t1_char.specs.declared.cursor.Cursor.{Cursor}
@@ -43,10 +42,6 @@ behind_token token rest = if is_end token then [] else rest
 -- What is left of a charstring that isn't short, as a cursor.
 abbrev pub cursor_of : Ahead → Cursor
 cursor_of ahead = record { left = ahead.left; cipher = ahead.cipher; short = false }
-
--- The same of bytes that aren't encrypted.
-abbrev pub plain_cursor : Bor (List ℕ) → Cursor
-plain_cursor left = record { left = left; cipher = None; short = false }
 
 -- A cursor before a byte and one after it, neither of them short.
 pub record AtFirst (first : ℕ) (before behind : Cursor) : Type 0 where

@@ -133,12 +133,17 @@ fn go_on(machine: &mut Machine<'_>, watches: &mut Watches) -> Answer
     ensures font { executed machine.new ≡ executed machine.old }
     ensures glyph { machine.new.glyph ≡ machine.old.glyph }
 {
-    if watches.is_idle(machine.counted()) {
-        return go_on_by_moves(machine, watches);
+    // Each arm has a machine of its own, which tests no more what it passes.
+    match passing_by(watches, machine.counted()) {
+        Passing::Told => machine.go_far(Passing::Told).answer,
+        Passing::Numbers => machine.go_far(Passing::Numbers).answer,
+        Passing::Lines => {
+            let far = machine.go_far(Passing::Lines);
+            watches.go(far.way);
+            far.answer
+        }
+        Passing::Moves => go_on_by_moves(machine, watches),
     }
-    let far = machine.go_far(passing_by(watches));
-    watches.go(far.way);
-    far.answer
 }
 
 /// The same where moves come that draw nothing.
@@ -151,24 +156,25 @@ fn go_on_by_moves(machine: &mut Machine<'_>, watches: &mut Watches) -> Answer
     ensures font { executed machine.new ≡ executed machine.old }
     ensures glyph { machine.new.glyph ≡ machine.old.glyph }
 {
-    let far = machine.go_by_moves();
+    let far = machine.go_far(Passing::Moves);
     watches.go_by_moves(far.way);
     far.answer
 }
 
-/// What becomes of the steps that come next: numbers are passed, unless a rule speaks of them, and lines in the midst of a
-/// path.
+/// What becomes of the steps that come after the one of this number: numbers are passed, unless a rule speaks of them, lines in the
+/// midst of a path, and moves where they come one after another.
 #[inline(always)]
-fn passing_by(watches: &Watches) -> Passing
-    ensures fit { IsFit result watches.now }
-    ensures unmoved { result ≡ Moves → ⊥ }
+fn passing_by(watches: &Watches, step: u32) -> Passing
+    ensures { IsFit result watches.now }
 {
     if !watches.is_calm() {
         Passing::Told
-    } else if watches.is_steady() {
-        Passing::Lines
-    } else {
+    } else if !watches.is_steady() {
         Passing::Numbers
+    } else if watches.is_idle(step) {
+        Passing::Moves
+    } else {
+        Passing::Lines
     }
 }
 

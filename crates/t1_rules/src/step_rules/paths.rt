@@ -81,7 +81,7 @@ impl PathWatcher {
         ensures in_flex { result ≡ true → self.now.in_flex ≡ false }
         ensures moved { result ≡ true → self.now.moved ≡ true }
     {
-        self.moved && self.begun && !self.in_flex
+        self.moved & self.begun & !self.in_flex
     }
 
     /// Whether nothing is drawn.

@@ -37,6 +37,5 @@ returns-in_default-clause-len c =
 
 pub returns-in_default-clause-near : goal.returns-in_default-clause-near
 returns-in_default-clause-near c =
-    path_near c.args.room (c.loop-one.passed + c.take_numbers-stop.result.len) c.loop-one.way c.take_numbers-stop.result c.finish_path.result
-    (omega (arith, c.loop-one.invariant.1, c.take_numbers-stop.ensures.room))
-    (λ none. omega (arith, c.loop-one.invariant.1, none)) c.finish_path.ensures
+    path_near c.args.room c.loop-one.passed c.loop-one.way c.take_numbers-stop.result c.finish_path.result c.loop-one.invariant.1
+    c.take_numbers-stop.ensures.room c.finish_path.ensures

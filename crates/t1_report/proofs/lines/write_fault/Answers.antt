@@ -5,16 +5,16 @@ use Rattle.t1_report.proofs.lines.write_fault.Goals as goal
 pub returns-in_err-put_parts : goal.returns-in_err-put_parts
 returns-in_err-put_parts g c =
     Writes-failed _ _ _ _ _ c.from_residual.ensures.1
-    (PutFailed-first _ _ _ _ (rw (c.digits.ensures ∙ c.new-number.ensures) at c.in_err-put_parts.ensures))
+    (PutFailed-first _ _ _ _ (rw (c.as_bytes.ensures.value ∙ c.format.ensures.text) at c.in_err-put_parts.ensures))
 
 pub returns-in_err-write_place : goal.returns-in_err-write_place
 returns-in_err-write_place g c =
     Writes-failed _ _ _ _ _ c.from_residual-in_err-write_place.ensures.1
-    (PutFailed-second _ _ _ _ _ (rw (c.digits.ensures ∙ c.new-number.ensures) at c.in_ok-put_parts.ensures)
+    (PutFailed-second _ _ _ _ _ (rw (c.as_bytes.ensures.value ∙ c.format.ensures.text) at c.in_ok-put_parts.ensures)
     (PutFailed-first _ _ _ _ c.in_err-write_place.ensures))
 
 pub returns : goal.returns
 returns g c =
-    Writes-then _ _ _ _ _ _ (rw (c.digits.ensures ∙ c.new-number.ensures) at c.in_ok-put_parts.ensures)
+    Writes-then _ _ _ _ _ _ (rw (c.as_bytes.ensures.value ∙ c.format.ensures.text) at c.in_ok-put_parts.ensures)
     (Writes-then _ _ _ _ _ _ c.in_ok-write_place.ensures
-    (rw (c.as_bytes.ensures.value ∙ c.rule_code.ensures, c.as_bytes-2.ensures.value ∙ c.rule_text.ensures) at c.put_parts-2.ensures))
+    (rw (c.as_bytes-2.ensures.value ∙ c.rule_code.ensures, c.as_bytes-3.ensures.value ∙ c.rule_text.ensures) at c.put_parts-2.ensures))

@@ -1,5 +1,4 @@
-use Rattle.std.proofs.Common.{◌∙◌, ap}
-use Rattle.std.specs.Fmt.{decimal}
+use Rattle.std.proofs.Common.{◌∙◌}
 use Rattle.t1_io.proofs.SinkLemmas.{PutFailed-first, PutFailed-second, Writes-failed, Writes-then}
 use Rattle.t1_report.proofs.lines.write_glyph_place.Goals as goal
 
@@ -17,4 +16,4 @@ pub returns : goal.returns
 returns g c =
     Writes-then _ _ _ _ _ _ (rw c.glyph_name.ensures at c.in_ok-put_parts.ensures)
     (Writes-then _ _ _ _ _ _ (rw c.as_slice.ensures.value at c.in_ok-write_path.ensures)
-    (rw (c.digits.ensures ∙ c.new-step.ensures ∙ ap decimal c.from.ensures) at c.put_parts-2.ensures))
+    (rw (c.as_bytes.ensures.value ∙ c.format.ensures.text) at c.put_parts-2.ensures))

@@ -7,7 +7,7 @@ use Rattle.t1_char.specs.Steps.{steps_of}
 use Rattle.t1_char.specs.StepValues.{step_value}
 use Rattle.t1_char.specs.Private.Machines.{IsAt}
 use Rattle.t1_char.proofs.MachineSteps.{Answers, asked_far, asked_far_none, has_read, still_goes_on, answers_end, answers_step, answers_limit}
-use Rattle.t1_char.proofs.machine.Machine.go.Goals as goal
+use Rattle.t1_char.proofs.machine.Machine.go_far.Goals as goal
 
 -- The glyph is finished.
 pub invariant_of-self : goal.invariant_of-self
