@@ -105,10 +105,7 @@ fn write_glyph_place<W: Sink>(sink: &mut W, font: &Font<'_>, fault: &Fault) -> R
         &[b"glyph ", font.glyph_name((fault.unit - 1) as usize), b" "],
     )?;
     write_path(sink, fault.path.as_slice())?;
-    put_parts(
-        sink,
-        &[b" ", Buffer::new().format(fault.step).as_bytes()],
-    )
+    put_parts(sink, &[b" ", Buffer::new().format(fault.step).as_bytes()])
 }
 
 /// Writes the Subrs that are being executed: `5>6`, or `-` where there is none.
@@ -127,10 +124,7 @@ fn write_inner<W: Sink>(sink: &mut W, numbers: &[u32]) -> Result<(), Broken>
     ensures { Writes (W.state sink.old) (W.state sink.new) (flat_map inner_text numbers.now) result }
 {
     for number in numbers {
-        put_parts(
-            sink,
-            &[b">", Buffer::new().format(*number).as_bytes()],
-        )?;
+        put_parts(sink, &[b">", Buffer::new().format(*number).as_bytes()])?;
     }
     Ok(())
 }

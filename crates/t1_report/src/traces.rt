@@ -15,10 +15,7 @@ use t1_io::{Broken, Sink, put_all, put_parts};
 pub fn write_step<W: Sink>(sink: &mut W, step: &Step) -> Result<(), Broken>
     ensures { Writes (W.state sink.old) (W.state sink.new) (step_line (step_value step.now)) result }
 {
-    put_parts(
-        sink,
-        &[Buffer::new().format(step.number).as_bytes(), b" "],
-    )?;
+    put_parts(sink, &[Buffer::new().format(step.number).as_bytes(), b" "])?;
     write_path(sink, step.path.as_slice())?;
     put_all(sink, b" ")?;
     write_token(sink, step.token)?;

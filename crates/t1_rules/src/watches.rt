@@ -251,7 +251,7 @@ impl Watches {
         self.seac.draw();
     }
 
-    /// What all watchers say of a step of this command. Calls, returns and stems have functions of their own, which
+    /// What all watchers say of a step of this command. Calls, returns, stems and moves have functions of their own, which
     /// don't save the registers that other commands need.
     #[inline(always)]
     fn see_command(&mut self, command: Command, step: &Step) -> Mask
@@ -264,7 +264,9 @@ impl Watches {
             Command::Return => self.see_return(step),
             Command::Hstem => self.see_hstem(step),
             Command::Vstem => self.see_vstem(step),
-            Command::Rmoveto | Command::Hmoveto | Command::Vmoveto => self.see_moveto(command, step),
+            Command::Rmoveto | Command::Hmoveto | Command::Vmoveto => self.see_moveto(
+                command, step,
+            ),
             _ => self.see_other(command, step),
         }
     }
