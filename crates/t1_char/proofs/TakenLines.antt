@@ -21,7 +21,7 @@ use Rattle.t1_char.specs.Stacks.{most_numbers}
 use Rattle.t1_char.specs.Tokens.{more_of, token_at, tokens_behind, tokens_of}
 use Rattle.t1_char.specs.Private.Cursors.{AtFirst, bytes_left, cursor_of, tokens_left}
 use Rattle.t1_char.specs.Private.Plain.{IsPlainEffect}
-use Rattle.t1_char.specs.Private.Taking.{Finishes, IsLedAfter, IsLedBy, IsLedFirst, IsTakingLines, IsTokenRead, PassesCommand, PassesNumbers, PassesOne, PassesRow, StopsAt, Takes, TakesLines, closepath_byte, left_of, lines_cursor, stop_cursor}
+use Rattle.t1_char.specs.Private.Taking.{Finishes, IsLedAfter, IsLedBy, IsLedFirst, IsTakingLines, PassesCommand, PassesNumbers, PassesOne, PassesRow, StopsAt, Takes, TakesLines, closepath_byte, left_of, lines_cursor, stop_cursor}
 
 near_none : IsWayNear 0 no_way
 near_none = record {
@@ -222,14 +222,12 @@ pub path_all : (what : Passing) → leads what ≡ true → (room : ℕ) (ahead 
     → IsTakingLines what room ahead [] numbers passed before way → StopsAt stop.first before (stop_cursor stop) → numbers ≡ take stop.len cells
     → Finishes stop passed way lines → TakesLines what ahead [] (take lines.len cells) lines
 path_all what on room ahead cells numbers passed before way stop lines round at is (inl there) =
-    record {
+    subst (λ (l : Lines). TakesLines what ahead [] (take l.len cells) l) (sym there)
+    (record {
       before = before;
-      passes = subst (λ n. PassesRow what lines.passed (cursor_of ahead) before [] (take n cells) lines.way) (sym there.len)
-          (subst (λ ns. PassesRow what lines.passed (cursor_of ahead) before [] ns lines.way) is
-          (subst (λ n. PassesRow what n (cursor_of ahead) before [] numbers lines.way) (sym there.passed_is)
-          (subst (λ w. PassesRow what passed (cursor_of ahead) before [] numbers w) (sym there.way_is) round.passes)));
-      token = there.token before at;
-    }
+      passes = subst (λ ns. PassesRow what passed (cursor_of ahead) before [] ns way) is round.passes;
+      first = at;
+    })
 path_all what on room ahead cells numbers passed before way stop lines round at is (inr behind) =
     let none : numbers ≡ [] = is ∙ ap (λ n. take n cells) behind.alone in
     let first : AtFirst closepath_byte before (stop_cursor stop) = subst (λ f. StopsAt f before (stop_cursor stop)) behind.first at in
@@ -242,29 +240,30 @@ path_all what on room ahead cells numbers passed before way stop lines round at 
           (subst (λ n. PassesRow what n (cursor_of ahead) (stop_cursor stop) [] [] lines.way) count
           (row_more what on passed (cursor_of ahead) before (stop_cursor stop) [] numbers [] way lines.way round.passes
           (close_read what before (stop_cursor stop) numbers way lines.way first close)));
-      token = behind.token;
+      first = behind.next;
     }
 
 -- Numbers that fill the stack have room behind what was passed.
 pub path_near : (room passed : ℕ) (way : Way) (stop : Stop) (lines : Lines) → passed + most_numbers < room → stop.len ≤ most_numbers
     → Finishes stop (passed + stop.len) way lines → lines.passed + (most_numbers - lines.len) ≤ room
-path_near room passed way stop lines enough few (inl there) = omega (arith, enough, few, there.len, there.passed_is)
+path_near room passed way stop lines enough few (inl there) =
+    omega (arith, enough, few, ap (λ (l : Lines). l.len) there, ap (λ (l : Lines). l.passed) there)
 path_near room passed way stop lines enough few (inr behind) = omega (arith, enough, behind.alone, behind.len, behind.passed_is)
 
 pub path_few : (passed : ℕ) (way : Way) (stop : Stop) (lines : Lines) → stop.len ≤ most_numbers → Finishes stop passed way lines
     → lines.len ≤ most_numbers
-path_few passed way stop lines few (inl there) = omega (arith, few, there.len)
+path_few passed way stop lines few (inl there) = omega (arith, few, ap (λ (l : Lines). l.len) there)
 path_few passed way stop lines few (inr behind) = omega (arith, behind.len)
 
 pub path_len : (passed : ℕ) (way : Way) (stop : Stop) (lines : Lines) (cells : List ℤ) → stop.len ≡ length (take stop.len cells)
     → Finishes stop passed way lines → lines.len ≡ length (take lines.len cells)
-path_len passed way stop lines cells is (inl there) = subst (λ n. n ≡ length (take n cells)) (sym there.len) is
+path_len passed way stop lines cells is (inl there) = subst (λ (l : Lines). l.len ≡ length (take l.len cells)) (sym there) is
 path_len passed way stop lines cells is (inr behind) = subst (λ n. n ≡ length (take n cells)) (sym behind.len) refl
 
 -- Numbers alone.
 pub front_all : (what : Passing) (ahead : Ahead) (old new : List ℤ) (at : Stop) (stop : Lines) → (takes : Takes ahead old new at)
-    → stop.passed ≡ takes.count → stop.way ≡ no_way → IsTokenRead stop.token takes.before (lines_cursor stop) → TakesLines what ahead old new stop
-front_all what ahead old new at stop takes passed_is way_is read =
+    → stop.passed ≡ takes.count → stop.way ≡ no_way → StopsAt stop.first takes.before (lines_cursor stop) → TakesLines what ahead old new stop
+front_all what ahead old new at stop takes passed_is way_is first =
     let none : 0 + takes.count ≡ takes.count = omega arith in
     record {
       before = takes.before;
@@ -272,7 +271,7 @@ front_all what ahead old new at stop takes passed_is way_is read =
           (subst (λ w. PassesRow what takes.count (cursor_of ahead) takes.before old new w) (sym way_is)
           (subst (λ n. PassesRow what n (cursor_of ahead) takes.before old new no_way) none
           (row_numbers what 0 takes.count (cursor_of ahead) (cursor_of ahead) takes.before old old new no_way (refl, (refl, refl)) takes.passes)));
-      token = read;
+      first = first;
     }
 
 pub front_count : (cells : List ℤ) (len : ℕ) → length cells ≡ most_numbers → len ≤ most_numbers → length (take len cells) ≡ len

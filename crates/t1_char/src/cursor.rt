@@ -142,21 +142,8 @@ impl<'a> Cursor<'a> {
         self.token_behind(255)
     }
 
-    /// What is left, where it is enciphered and not short.
-    #[inline(always)]
-    pub(crate) fn enciphered(&self) -> Option<Ahead<'a>>
-        ensures { IfSome result (λ ahead. cursor_of ahead ≡ self.now) }
-    {
-        match self.cipher {
-            Some(cipher) if !self.short => Some(Ahead {
-                left: self.left,
-                cipher: Some(cipher),
-            }),
-            _ => None,
-        }
-    }
-
     /// What is left, where it isn't short.
+    #[inline(always)]
     pub(crate) fn ahead(&self) -> Option<Ahead<'a>>
         ensures { IfSome result (λ ahead. cursor_of ahead ≡ self.now) }
     {
@@ -167,20 +154,6 @@ impl<'a> Cursor<'a> {
             left: self.left,
             cipher: self.cipher,
         })
-    }
-
-    /// What is left, where it is neither enciphered nor short.
-    #[inline(always)]
-    pub(crate) fn unenciphered(&self) -> Option<Ahead<'a>>
-        ensures { IfSome result (λ ahead. cursor_of ahead ≡ self.now) }
-    {
-        match self.cipher {
-            None if !self.short => Some(Ahead {
-                left: self.left,
-                cipher: None,
-            }),
-            _ => None,
-        }
     }
 
     /// A cursor at the start of a charstring, after its random bytes.

@@ -26,7 +26,7 @@ use crate::numbers::{natural, units};
 use crate::stack::{MOST_NUMBERS, Stack};
 use crate::step::{MOST_CALLS, Step, is_last};
 use crate::subr::Subr;
-use crate::taking::Next;
+use crate::taking::{Next, next_from};
 use crate::token::{CharToken, is_callsubr};
 use arrayvec::ArrayVec;
 use t1_font::Font;
@@ -201,10 +201,7 @@ impl<'a> Frames<'a> {
                 let before = self.go_over_moves(font, counted, limit);
                 return self.gone(before);
             }
-            if let Some(ahead) = self.current.enciphered() {
-                return self.go_over_far(ahead, font, counted, limit, passing);
-            }
-            if let Some(ahead) = self.current.unenciphered() {
+            if let Some(ahead) = self.current.ahead() {
                 return self.go_over_far(ahead, font, counted, limit, passing);
             }
         }
@@ -244,18 +241,9 @@ impl<'a> Frames<'a> {
     {
         match self.current.ahead() {
             Some(ahead) => {
-                let stop = self
-                    .step
-                    .stack
-                    .take_lines(ahead, limit - counted, Passing::Moves);
-                self.current = Cursor {
-                    left: stop.left,
-                    cipher: stop.cipher,
-                    short: false,
-                };
-                let more = self.take_token(stop.token);
-                self.way = stop.way;
-                counted + stop.passed + more
+                let gone = self.go_over_far(ahead, font, counted, limit, Passing::Moves);
+                self.way = gone.way;
+                gone.before
             }
             None => {
                 self.read_token();
@@ -284,12 +272,17 @@ impl<'a> Frames<'a> {
         ensures near { result.before ≤ limit }
     {
         let stop = self.step.stack.take_lines(ahead, limit - counted, passing);
-        self.current = Cursor {
+        let mut behind = Ahead {
             left: stop.left,
             cipher: stop.cipher,
+        };
+        let token = next_from(stop.first, &mut behind);
+        self.current = Cursor {
+            left: behind.left,
+            cipher: behind.cipher,
             short: false,
         };
-        let more = self.take_token(stop.token);
+        let more = self.take_token(token);
         Gone {
             before: counted + stop.passed + more,
             way: stop.way,
@@ -400,17 +393,17 @@ impl<'a> Frames<'a> {
             ≡ record self.old { named = self.new.named; step = record self.old.step { found = self.new.step.found } } }
     {
         // In place: nothing is copied.
-        self.named = None;
-        self.step.found = false;
-        if self.step.stack.is_empty() {
-            return;
-        }
-        if let Some(number) = natural(self.step.stack.from_top(0)) {
-            if let Some(code) = font.subr(number) {
-                self.named = Some(Subr { number, code });
-                self.step.found = true;
+        if !self.step.stack.is_empty() {
+            if let Some(number) = natural(self.step.stack.from_top(0)) {
+                if let Some(code) = font.subr(number) {
+                    self.named = Some(Subr { code, number });
+                    self.step.found = true;
+                    return;
+                }
             }
         }
+        self.named = None;
+        self.step.found = false;
     }
 }
 

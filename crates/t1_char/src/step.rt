@@ -49,7 +49,7 @@ pub(crate) fn named_at<'a>(font: &'a Font<'a>, token: CharToken, stack: &Stack) 
         None => None,
         Some(number) => match font.subr(number) {
             None => None,
-            Some(code) => Some(Subr { number, code }),
+            Some(code) => Some(Subr { code, number }),
         },
     }
 }

@@ -3,7 +3,7 @@
 /// A Subr of the font.
 #[derive(Clone, Copy)]
 pub(crate) struct Subr<'a> {
-    pub(crate) number: u32,
     /// Its charstring, as it is in the font.
     pub(crate) code: &'a [u8],
+    pub(crate) number: u32,
 }

@@ -8,7 +8,7 @@ ghost use Rattle.t1_char.specs.declared.lines.Passing.{Passing as Passings};
 ghost use Rattle.t1_char.specs.Numbers.{units};
 ghost use Rattle.t1_char.specs.Stacks.{most_numbers, put};
 ghost use Rattle.t1_char.specs.Private.Cursors.{cursor_of};
-ghost use Rattle.t1_char.specs.Private.Taking.{Finishes, IsLedFirst, IsTokenRead, StopsAt, Takes, TakesLines, closepath_byte, lines_cursor, stop_cursor};
+ghost use Rattle.t1_char.specs.Private.Taking.{Finishes, IsLedFirst, IsTokenRead, StopsAt, Takes, TakesLines, closepath_byte, lines_at, stop_cursor};
 ghost use Rattle.t1_char.specs.declared.cursor.Cursor.{Cursor};
 
 use crate::cursor::Ahead;
@@ -108,10 +108,11 @@ pub(crate) enum Next {
 /// What was taken, up to a token.
 #[derive(Clone, Copy)]
 pub(crate) struct Lines<'a> {
-    /// What is left after the token.
+    /// What is left after the token's first byte, or nothing.
     pub(crate) left: &'a [u8],
     pub(crate) cipher: Option<Cipher>,
-    pub(crate) token: Next,
+    /// That byte, unless the charstring ends.
+    pub(crate) first: Option<u8>,
     /// How many numbers there are then.
     pub(crate) len: usize,
     /// How many steps were taken.
@@ -125,6 +126,42 @@ pub(crate) struct Lines<'a> {
 /// for as many numbers as the stack can still hold.
 #[inline(always)]
 pub(crate) fn take_lines<'a>(
+    cells: &mut [i64; MOST_NUMBERS],
+    len: usize,
+    ahead: Ahead<'a>,
+    room: u32,
+    passing: Passing,
+) -> Lines<'a>
+    requires few { len ≤ most_numbers }
+    requires room { most_numbers < room }
+    requires limited { room < 16777216 }
+    ensures takes { TakesLines passing ahead.entry (take len cells.old) (take result.len cells.new) result }
+    ensures few { result.len ≤ most_numbers }
+    ensures len { result.len ≡ length (take result.len cells.new) }
+    ensures near { result.passed + (most_numbers - result.len) ≤ room }
+{
+    // Loops of their own, which test no more whether bytes are enciphered.
+    match ahead.cipher {
+        Some(cipher) => {
+            let ahead = Ahead {
+                left: ahead.left,
+                cipher: Some(cipher),
+            };
+            take_any(cells, len, ahead, room, passing)
+        }
+        None => {
+            let ahead = Ahead {
+                left: ahead.left,
+                cipher: None,
+            };
+            take_any(cells, len, ahead, room, passing)
+        }
+    }
+}
+
+/// The same by a path, or by numbers alone.
+#[inline(always)]
+fn take_any<'a>(
     cells: &mut [i64; MOST_NUMBERS],
     len: usize,
     ahead: Ahead<'a>,
@@ -157,7 +194,7 @@ fn take_front<'a>(cells: &mut [i64; MOST_NUMBERS], len: usize, ahead: Ahead<'a>)
 {
     let stop = take_numbers(cells, len, ahead);
     let passed = (stop.len - len) as u32;
-    finish(stop, passed, Way::NONE)
+    stopped(stop, passed, Way::NONE)
 }
 
 /// Takes lines and curves, and moves before them, with the numbers before each, as long as there is room for a full stack of steps and a
@@ -200,7 +237,7 @@ fn take_path<'a>(
     }
 }
 
-/// Takes a closepath that comes right after a line, and reads the next token.
+/// Takes a closepath that comes right after a line, and reads the first byte of the next token.
 #[inline(always)]
 fn finish_path<'a>(stop: Stop<'a>, passed: u32, way: Way) -> Lines<'a>
     requires { passed < 16777216 }
@@ -211,9 +248,9 @@ fn finish_path<'a>(stop: Stop<'a>, passed: u32, way: Way) -> Lines<'a>
             left: stop.left,
             cipher: stop.cipher,
         });
-        finish(behind, passed + 1, way.closed())
+        stopped(behind, passed + 1, way.closed())
     } else {
-        finish(stop, passed, way)
+        stopped(stop, passed, way)
     }
 }
 
@@ -275,31 +312,30 @@ fn led_by(passing: Passing, way: Way, first: Option<u8>, numbers: &[i64]) -> Opt
     line_at(first, numbers)
 }
 
-/// Reads the token of the first byte, if it isn't 255.
+/// What was taken up to a stop.
 #[inline(always)]
-fn finish<'a>(stop: Stop<'a>, passed: u32, way: Way) -> Lines<'a>
-    ensures token { (before : Cursor) → StopsAt stop.entry.first before (stop_cursor stop.entry) →
-        IsTokenRead result.token before (lines_cursor result) }
-    ensures len { result.len ≡ stop.entry.len }
-    ensures passed { result.passed ≡ passed }
-    ensures way { result.way ≡ way }
+fn stopped<'a>(stop: Stop<'a>, passed: u32, way: Way) -> Lines<'a>
+    ensures { result ≡ lines_at stop.entry passed way }
 {
-    let mut ahead = Ahead {
+    Lines {
         left: stop.left,
         cipher: stop.cipher,
-    };
-    let token = match stop.first {
-        None => Next::End,
-        Some(255) => Next::Long,
-        Some(first) => Next::Token(ahead.token_from(first)),
-    };
-    Lines {
-        left: ahead.left,
-        cipher: ahead.cipher,
-        token,
+        first: stop.first,
         len: stop.len,
         passed,
         way,
+    }
+}
+
+/// Reads the token of this first byte, if it isn't 255.
+#[inline(always)]
+pub(crate) fn next_from(first: Option<u8>, ahead: &mut Ahead<'_>) -> Next
+    ensures { (before : Cursor) → StopsAt first before (cursor_of ahead.old) → IsTokenRead result before (cursor_of ahead.new) }
+{
+    match first {
+        None => Next::End,
+        Some(255) => Next::Long,
+        Some(first) => Next::Token(ahead.token_from(first)),
     }
 }
 

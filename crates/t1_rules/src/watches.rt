@@ -2,7 +2,7 @@
 
 ghost use Rattle.std.specs.Prelude.{◌≡◌, true, ℕ, ◌+◌, ◌<◌, List, [], ◌∷◌, ◌++◌, length};
 ghost use Rattle.t1_char.specs.declared.edition.Edition.{Edition as Editions};
-ghost use Rattle.t1_char.specs.declared.command.Command.TheVariants.{Callsubr, Hstem, Return, Vstem};
+ghost use Rattle.t1_char.specs.declared.command.Command.TheVariants.{Callsubr, Hmoveto, Hstem, Return, Rmoveto, Vmoveto, Vstem};
 ghost use Rattle.t1_char.specs.declared.token.CharToken.TheVariants.{Number};
 ghost use Rattle.t1_char.specs.Steps.{StepView};
 ghost use Rattle.t1_char.specs.StepValues.{step_view};
@@ -51,7 +51,7 @@ impl Idling {
     /// Notes a move.
     #[inline(always)]
     fn see_move(&mut self, step: u32) {
-        self.gap = step.saturating_sub(self.last);
+        self.gap = step.wrapping_sub(self.last);
         self.last = step;
     }
 
@@ -264,9 +264,9 @@ impl Watches {
             Command::Return => self.see_return(step),
             Command::Hstem => self.see_hstem(step),
             Command::Vstem => self.see_vstem(step),
-            Command::Rmoveto | Command::Hmoveto | Command::Vmoveto => self.see_moveto(
-                command, step,
-            ),
+            Command::Rmoveto => self.see_rmoveto(step),
+            Command::Hmoveto => self.see_hmoveto(step),
+            Command::Vmoveto => self.see_vmoveto(step),
             _ => self.see_other(command, step),
         }
     }
@@ -316,30 +316,6 @@ impl Watches {
             Command::Dotsection => self.see_each(CharToken::Command(Command::Dotsection), step),
             Command::Setcurrentpoint => self.see_each(
                 CharToken::Command(Command::Setcurrentpoint),
-                step,
-            ),
-            _ => self.see_rare(step),
-        }
-    }
-
-    /// The same of a move.
-    #[inline(never)]
-    fn see_moveto(&mut self, command: Command, step: &Step) -> Mask
-        requires token { IsCommand (step_view step.now) command }
-        requires steps { CanSee self.old }
-        ensures { Sees self.old (step_view step.now) self.new result }
-    {
-        match command {
-            Command::Rmoveto if self.is_usual(Command::Rmoveto, step) => self.see_move(
-                Command::Rmoveto,
-                step,
-            ),
-            Command::Hmoveto if self.is_usual(Command::Hmoveto, step) => self.see_move(
-                Command::Hmoveto,
-                step,
-            ),
-            Command::Vmoveto if self.is_usual(Command::Vmoveto, step) => self.see_move(
-                Command::Vmoveto,
                 step,
             ),
             _ => self.see_rare(step),
@@ -400,6 +376,45 @@ impl Watches {
     {
         if self.is_usual(Command::Vstem, step) {
             return self.see_each(CharToken::Command(Command::Vstem), step);
+        }
+        self.see_rare(step)
+    }
+
+    /// The same of a move in both directions.
+    #[inline(never)]
+    fn see_rmoveto(&mut self, step: &Step) -> Mask
+        requires token { IsCommand (step_view step.now) Rmoveto }
+        requires steps { CanSee self.old }
+        ensures { Sees self.old (step_view step.now) self.new result }
+    {
+        if self.is_usual(Command::Rmoveto, step) {
+            return self.see_move(Command::Rmoveto, step);
+        }
+        self.see_rare(step)
+    }
+
+    /// The same of a horizontal move.
+    #[inline(never)]
+    fn see_hmoveto(&mut self, step: &Step) -> Mask
+        requires token { IsCommand (step_view step.now) Hmoveto }
+        requires steps { CanSee self.old }
+        ensures { Sees self.old (step_view step.now) self.new result }
+    {
+        if self.is_usual(Command::Hmoveto, step) {
+            return self.see_move(Command::Hmoveto, step);
+        }
+        self.see_rare(step)
+    }
+
+    /// The same of a vertical move.
+    #[inline(never)]
+    fn see_vmoveto(&mut self, step: &Step) -> Mask
+        requires token { IsCommand (step_view step.now) Vmoveto }
+        requires steps { CanSee self.old }
+        ensures { Sees self.old (step_view step.now) self.new result }
+    {
+        if self.is_usual(Command::Vmoveto, step) {
+            return self.see_move(Command::Vmoveto, step);
         }
         self.see_rare(step)
     }

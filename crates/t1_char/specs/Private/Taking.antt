@@ -116,7 +116,7 @@ pub record PassesUpTo (passed : ℕ) (before : Cursor) (old : List ℤ) (token :
 pub record TakesLines (what : Passing) (ahead : Ahead) (old new : List ℤ) (stop : Lines) : Type 0 where
   pub before : Cursor
   pub passes : PassesRow what stop.passed (cursor_of ahead) before old new stop.way
-  pub token : IsTokenRead stop.token before (lines_cursor stop)
+  pub first : StopsAt stop.first before (lines_cursor stop)
 
 -- The same on the way.
 pub record IsTakingLines (what : Passing) (room : ℕ) (ahead : Ahead) (old : List ℤ) (numbers : List ℤ) (passed : ℕ) (before : Cursor) (way : Way) : Type 0 where
@@ -127,22 +127,21 @@ pub record IsTakingLines (what : Passing) (room : ℕ) (ahead : Ahead) (old : Li
   pub unclosed : is_closed way.drawn ≡ false
   pub few : way.moves ≤ passed
 
--- The next token was read after a stop.
-pub record FinishesThere (stop : Stop) (passed : ℕ) (way : Way) (lines : Lines) : Type 0 where
-  pub token : (before : Cursor) → StopsAt stop.first before (stop_cursor stop) → IsTokenRead lines.token before (lines_cursor lines)
-  pub len : lines.len ≡ stop.len
-  pub passed_is : lines.passed ≡ passed
-  pub way_is : lines.way ≡ way
+-- What was taken up to a stop.
+abbrev pub lines_at : Stop → ℕ → Way → Lines
+lines_at stop passed way =
+    record { left = stop.left; cipher = stop.cipher; first = stop.first; len = stop.len; passed = passed; way = way }
 
--- Or the stop was a closepath after lines, and was executed, and the token after it was read.
+-- A stop was a closepath after lines, and was executed, and the first byte of the token after it was read.
 pub record FinishesBehind (stop : Stop) (passed : ℕ) (way : Way) (lines : Lines) : Type 0 where
   pub first : stop.first ≡ Some closepath_byte
   pub alone : stop.len ≡ 0
   pub drawn : way.drawn ≡ Open
-  pub token : IsTokenRead lines.token (stop_cursor stop) (lines_cursor lines)
+  pub next : StopsAt lines.first (stop_cursor stop) (lines_cursor lines)
   pub len : lines.len ≡ 0
   pub passed_is : lines.passed ≡ passed + 1
   pub way_is : lines.way ≡ closed way
 
+-- The path ends at a stop, or behind it.
 abbrev pub Finishes : Stop → ℕ → Way → Lines → Type 0
-Finishes stop passed way lines = FinishesThere stop passed way lines ⊎ FinishesBehind stop passed way lines
+Finishes stop passed way lines = (lines ≡ lines_at stop passed way) ⊎ FinishesBehind stop passed way lines

@@ -6,7 +6,7 @@ use Rattle.t1_char.proofs.frames.Frames.go_over_far.Goals as goal
 pub returns-clause-over : goal.returns-clause-over
 returns-clause-over c =
     let takes = c.take_lines-stop.ensures.takes in
-    let more = c.take_token-more.ensures.passes takes.before takes.token in
+    let more = c.take_token-more.ensures.passes takes.before (c.next_from-token.ensures takes.before takes.first) in
     let row = row_numbers c.args.passing c.take_lines-stop.result.passed c.take_token-more.result _ takes.before more.between
     _ c.take_lines-stop.new.self c.take_token-more.new.self.step.stack c.take_lines-stop.result.way takes.passes more.passes in
     record {
