@@ -9,8 +9,8 @@ use Rattle.t1_answer.specs.declared.asked.Options.{Options}
 use Rattle.t1_run.specs.declared.status.Status.{Status}
 use Rattle.t1_run.specs.declared.status.Status.TheVariants.{Failed}
 use Rattle.t1_font.specs.declared.unread.Unread.{Unread}
-use Rattle.t1_lines.specs.declared.refusal.Reason.{Reason}
-use Rattle.t1_lines.specs.declared.refusal.Reason.TheVariants.{FontTooLarge, Font}
+use Rattle.t1_refusals.specs.declared.refusal.Reason.{Reason}
+use Rattle.t1_refusals.specs.declared.refusal.Reason.TheVariants.{FontTooLarge, Font}
 use Rattle.t1_answer.specs.Answers.{Answer, IsAnswerTo, IsShown, selection, refused as refusal, reported, IsReported, traced, waived_by}
 use Rattle.t1_answer.specs.Laws.Answers.{HasAnAnswer, HasNoOtherAnswer}
 use Rattle.t1_answer.specs.Ends.{Ends}

@@ -7,7 +7,7 @@ use Rattle.t1_io.specs.Devices.{SinkState, SourceState, one_more}
 use Rattle.t1_answer.specs.declared.asked.Options.{Options}
 use Rattle.t1_run.specs.declared.status.Status.{Status}
 use Rattle.t1_run.specs.declared.status.Status.TheVariants.{Clean, Failed, Faults, Refused}
-use Rattle.t1_lines.specs.declared.refusal.Reason.{Reason}
+use Rattle.t1_refusals.specs.declared.refusal.Reason.{Reason}
 use Rattle.t1_answer.specs.Answers.{Answer, IsAnswerTo, IsShown, selection, refused, reported, status_of, traced_at}
 use Rattle.t1_answer.specs.Ends.{Ends, Shows}
 use Rattle.t1_answer.specs.Ends.Shows.{no_glyph, reported as was_reported, traced as was_traced, no_room, waivers_refused, waivers_unread}
@@ -21,8 +21,8 @@ use Rattle.t1_answer.specs.Told.{program, told_of, unread_status}
 use Rattle.t1_report.specs.Waivers.{Waiver}
 use Rattle.t1_answer.specs.Waived.{asks_waivers}
 use Rattle.t1_run.proofs.FilesRead.{of-any, of-waived, waived-weaker}
-use Rattle.t1_lines.specs.RefusalCodes.{refusal_code_of}
-use Rattle.t1_lines.specs.declared.refusal.RefusalCode.{RefusalCode}
+use Rattle.t1_refusals.specs.RefusalCodes.{refusal_code_of}
+use Rattle.t1_refusals.specs.declared.refusal.RefusalCode.{RefusalCode}
 use Rattle.t1_run.specs.Failures.{failure_line, failure_of, failure_status, out_of_memory_line, read_failed_line, refused_by, write_failed_line, no_glyph_line}
 use Rattle.t1_run.specs.declared.failure.Failure.{Failure}
 use Rattle.t1_run.specs.declared.failure.Failure.TheVariants as failure

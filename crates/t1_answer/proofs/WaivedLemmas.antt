@@ -14,7 +14,7 @@ use Rattle.t1_run.specs.Failures.{failure_line, failure_status}
 use Rattle.t1_run.specs.Telling.{Tells}
 use Rattle.t1_run.specs.WaiverFiles.{IsNoWaiverText}
 use Rattle.t1_run.specs.declared.failure.Failure.{Failure}
-use Rattle.t1_lines.specs.declared.refusal.Reason.TheVariants.{WaiversTooLarge}
+use Rattle.t1_refusals.specs.declared.refusal.Reason.TheVariants.{WaiversTooLarge}
 use Rattle.t1_answer.specs.Told.{program}
 use Rattle.t1_answer.specs.Private.Running.{Reports}
 use Rattle.t1_answer.specs.Private.Running.Reports.{lines, malformed, no_memory}

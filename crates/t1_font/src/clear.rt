@@ -40,7 +40,9 @@ impl<'a> Clear<'a> {
     }
 
     /// Drops what is stated, in a function of its own: one that drops it beside other ends takes long to prove.
-    pub fn let_go(self) {}
+    pub fn let_go(self) {
+        self.into_font().let_go();
+    }
 
     fn into_font(self) -> Font<'a>
         ensures { result ≡ self.entry.font }

@@ -1,7 +1,7 @@
 use Rattle.std.proofs.Common.{List, Option, Err, ap, refl}
 use Rattle.t1_io.specs.Devices.{SinkState}
 use Rattle.t1_font.specs.Fonts.{FontValue}
-use Rattle.t1_lines.specs.declared.refusal.Reason.TheVariants.{Waivers as of_waivers}
+use Rattle.t1_refusals.specs.declared.refusal.Reason.TheVariants.{Waivers as of_waivers}
 use Rattle.t1_report.specs.Checked.{checked}
 use Rattle.t1_report.specs.WaiverViews.{IsReadAs}
 use Rattle.t1_report.specs.Waivers.{Waiver}

@@ -1,3 +1,4 @@
+use Rattle.std.proofs.lemmas.Grind.{common_steps}
 use Rattle.std.proofs.Common.{arith, ◌≡◌, ◌++◌, ◌∙◌, ℕ, length, take, drop, ap, vec_len, length-append, ◌+◌}
 use Rattle.std.proofs.lemmas.List.{length-take}
 use Rattle.t1_run.specs.Input.AreUnread.{too_large}
@@ -36,3 +37,72 @@ returns-then-len-most-clause-gathers g c =
     too_large c.extend_from_slice.new.self.items
     (Consumes-more _ _ _ c.loop-turn.bytes.items _ _ c.loop-turn.invariant.consumed c.in-Ok.ensures.takes.bytes items)
     (omega (arith, after, c.if-len-most.true)) (c.in-Ok.ensures.takes.failed ∙ c.loop-turn.invariant.kept) c.from.ensures
+
+pub overflow_add-turn-end : goal.overflow_add-turn-end
+overflow_add-turn-end g c = grind (arith, common_steps)
+
+pub loop-turn-init : goal.loop-turn-init
+loop-turn-init g c = grind (arith, common_steps)
+
+pub overflow_add-most : goal.overflow_add-most
+overflow_add-most g c = grind (arith, common_steps)
+
+pub overflow_sub-most : goal.overflow_sub-most
+overflow_sub-most g c = grind (arith, common_steps)
+
+pub slice_bounds-buffer-end : goal.slice_bounds-buffer-end
+slice_bounds-buffer-end g c = grind (arith, common_steps)
+
+pub slice_bounds-take-end : goal.slice_bounds-take-end
+slice_bounds-take-end g c = grind (arith, common_steps)
+
+pub returns-in-Err-clause-gathers : goal.returns-in-Err-clause-gathers
+returns-in-Err-clause-gathers g c = grind (arith, common_steps)
+
+pub returns-in-Err-clause-takes : goal.returns-in-Err-clause-takes
+returns-in-Err-clause-takes g c = grind (arith, common_steps)
+
+pub returns-in-Err-clause-taken : goal.returns-in-Err-clause-taken
+returns-in-Err-clause-taken g c = grind (arith, common_steps)
+
+pub returns-in-Err-clause-stops : goal.returns-in-Err-clause-stops
+returns-in-Err-clause-stops g c = grind (arith, common_steps)
+
+pub returns-in-Ok-eq0-clause-gathers : goal.returns-in-Ok-eq0-clause-gathers
+returns-in-Ok-eq0-clause-gathers g c = grind (arith, common_steps)
+
+pub returns-in-Ok-eq0-clause-takes : goal.returns-in-Ok-eq0-clause-takes
+returns-in-Ok-eq0-clause-takes g c = grind (arith, common_steps)
+
+pub returns-in-Ok-eq0-clause-taken : goal.returns-in-Ok-eq0-clause-taken
+returns-in-Ok-eq0-clause-taken g c = grind (arith, common_steps)
+
+pub returns-in-Ok-eq0-clause-stops : goal.returns-in-Ok-eq0-clause-stops
+returns-in-Ok-eq0-clause-stops g c = grind (arith, common_steps)
+
+pub slice_bounds-buffer-end-in-Ok : goal.slice_bounds-buffer-end-in-Ok
+slice_bounds-buffer-end-in-Ok g c = grind (arith, common_steps)
+
+pub slice_bounds-extend_from_slice-end : goal.slice_bounds-extend_from_slice-end
+slice_bounds-extend_from_slice-end g c = grind (arith, common_steps)
+
+pub returns-then-is_err-clause-gathers : goal.returns-then-is_err-clause-gathers
+returns-then-is_err-clause-gathers g c = grind (arith, common_steps)
+
+pub returns-then-is_err-clause-takes : goal.returns-then-is_err-clause-takes
+returns-then-is_err-clause-takes g c = grind (arith, common_steps)
+
+pub returns-then-is_err-clause-stops : goal.returns-then-is_err-clause-stops
+returns-then-is_err-clause-stops g c = grind (arith, common_steps)
+
+pub returns-then-len-most-clause-takes : goal.returns-then-len-most-clause-takes
+returns-then-len-most-clause-takes g c = grind (arith, common_steps)
+
+pub returns-then-len-most-clause-taken : goal.returns-then-len-most-clause-taken
+returns-then-len-most-clause-taken g c = grind (arith, common_steps)
+
+pub returns-then-len-most-clause-stops : goal.returns-then-len-most-clause-stops
+returns-then-len-most-clause-stops g c = grind (arith, common_steps)
+
+pub loop-turn-smaller : goal.loop-turn-smaller
+loop-turn-smaller g c = grind (arith, common_steps)

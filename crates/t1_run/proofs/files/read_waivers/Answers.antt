@@ -1,6 +1,6 @@
 use Rattle.std.proofs.Common.{Bool, Result, Ok, Err, List, ℕ, MatchResult, sym, subst, true}
 use Rattle.t1_io.specs.Devices.{SourceState}
-use Rattle.t1_lines.specs.declared.refusal.Reason.TheVariants.{WaiversTooLarge}
+use Rattle.t1_refusals.specs.declared.refusal.Reason.TheVariants.{WaiversTooLarge}
 use Rattle.t1_run.specs.Input.{AreAll, AreUnread}
 use Rattle.t1_run.specs.WaiverFiles.{IsNoWaiverText, IsWaiverText}
 use Rattle.t1_run.specs.declared.failure.Failure.{Failure}
