@@ -8,7 +8,7 @@ use Rattle.t1_report.specs.Reports.{IsReport}
 use Rattle.t1_answer.specs.declared.asked.Options.{Options}
 use Rattle.t1_run.specs.declared.status.Status.{Status}
 use Rattle.t1_run.specs.declared.status.Status.TheVariants.{Clean, Failed, Refused}
-use Rattle.t1_lines.specs.declared.refusal.Reason.{Reason}
+use Rattle.t1_refusals.specs.declared.refusal.Reason.{Reason}
 use Rattle.t1_answer.specs.Answers.{selection, status_of}
 use Rattle.t1_answer.specs.Lines.{lines_of}
 use Rattle.t1_answer.specs.Told.{program, told_of, unread_status}

@@ -1,6 +1,6 @@
 -- What is printed under the program's name of a font or waivers that aren't read, and the status.
 use Rattle.std.specs.Prelude.{ℕ, List, codes}
-use Rattle.t1_lines.specs.declared.refusal.Reason.{Reason}
+use Rattle.t1_refusals.specs.declared.refusal.Reason.{Reason}
 use Rattle.t1_run.specs.Failures.{failure_line, failure_of, failure_status}
 use Rattle.t1_run.specs.declared.status.Status.{Status}
 

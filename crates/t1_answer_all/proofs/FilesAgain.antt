@@ -13,7 +13,7 @@ use Rattle.t1_known.proofs.FoundKinds.{reports_are_readable}
 use Rattle.t1_known.specs.Laws.{UpdatesAreReached}
 use Rattle.t1_known.specs.Lines.{has_no_line_end}
 use Rattle.t1_known.specs.Readings.{IsReadable}
-use Rattle.t1_lines.specs.declared.refusal.Reason.{Reason}
+use Rattle.t1_refusals.specs.declared.refusal.Reason.{Reason}
 use Rattle.t1_many.specs.Files.{IsFound, given_of}
 use Rattle.t1_many.specs.Files.IsFound.{breaks, breaks_waivers, no_memory, refused, reports, waivers_refused}
 use Rattle.t1_many.specs.Laws.{KindsNameTheirRules}

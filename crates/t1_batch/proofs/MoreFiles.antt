@@ -15,7 +15,7 @@ use Rattle.t1_batch.specs.Writing.WritesFormatted.{stopped as formatted_stopped,
 use Rattle.t1_char.specs.declared.edition.Edition.{Edition}
 use Rattle.t1_forms.specs.Tellings.{ToldValue}
 use Rattle.t1_io.specs.Devices.{SinkState, SourceState}
-use Rattle.t1_lines.specs.declared.refusal.Reason.{Reason}
+use Rattle.t1_refusals.specs.declared.refusal.Reason.{Reason}
 use Rattle.t1_many.specs.Ends.{AreEntries, IsEntry}
 use Rattle.t1_many.specs.Files.{Files, IsFound as IsFoundBy, files_by, given_of}
 use Rattle.t1_many.specs.Files.IsFound.{breaks, breaks_waivers, no_memory, refused, reports, waivers_refused}

@@ -14,8 +14,8 @@ use Rattle.t1_rules.specs.Keys.{key_text_of}
 use Rattle.t1_rules.proofs.Lemmas.RuleCodes.{rule_is_found}
 use Rattle.t1_lines.specs.Lines.{PlaceValue, IsPlace, at_key, at_step, at_waiver, of_fault, of_refusal}
 use Rattle.t1_lines.specs.Private.Reading.{key_of, refusals}
-use Rattle.t1_lines.specs.declared.refusal.RefusalCode.{RefusalCode}
-use Rattle.t1_lines.specs.declared.refusal.RefusalCode.TheVariants.{E01}
+use Rattle.t1_refusals.specs.declared.refusal.RefusalCode.{RefusalCode}
+use Rattle.t1_refusals.specs.declared.refusal.RefusalCode.TheVariants.{E01}
 use Rattle.t1_lines.proofs.Cuts.{some_same}
 use Rattle.t1_lines.proofs.NamesRead.{key-found}
 use Rattle.t1_forms.specs.Laws.{AnObjectTellsOneLine, AreBytes, DifferentTellingsHaveDifferentObjects, IsPlaceOfBytes, IsWhatOfBytes}

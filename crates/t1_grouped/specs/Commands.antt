@@ -4,7 +4,7 @@ use Rattle.t1_forms.specs.Commands.{command_of, rule_command}
 use Rattle.t1_forms.specs.Tellings.{of_line, of_unchecked}
 use Rattle.t1_grouped.specs.GroupLines.{Writing, rule_head, rule_tail, rule_tail_of}
 use Rattle.t1_lines.specs.Lines.{of_refusal, spelled}
-use Rattle.t1_lines.specs.declared.refusal.RefusalCode.{RefusalCode}
+use Rattle.t1_refusals.specs.declared.refusal.RefusalCode.{RefusalCode}
 use Rattle.t1_rules.specs.declared.rule.Rule.{Rule}
 
 -- The width of a message.

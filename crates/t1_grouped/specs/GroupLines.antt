@@ -6,7 +6,7 @@ use Rattle.t1_grouped.specs.Held.{by_level}
 use Rattle.t1_grouped.specs.RuleGroups.{group_of}
 use Rattle.t1_grouped.specs.Tails.{tail_text}
 use Rattle.t1_grouped.specs.Widths.{width_of}
-use Rattle.t1_lines.specs.declared.refusal.RefusalCode.{RefusalCode}
+use Rattle.t1_refusals.specs.declared.refusal.RefusalCode.{RefusalCode}
 use Rattle.t1_rules.specs.Book.{code_of, text_of}
 use Rattle.t1_rules.specs.declared.rule.Rule.{Rule}
 

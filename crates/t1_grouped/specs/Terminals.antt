@@ -3,8 +3,8 @@ use Rattle.std.specs.Prelude.{ℕ, ◌-◌, Bool, if◌then◌else◌, List, [],
 use Rattle.t1_grouped.specs.GroupLines.{Writing, rule_head, rule_tail, rule_tail_of}
 use Rattle.t1_grouped.specs.TerminalNames.{terminal_name}
 use Rattle.t1_grouped.specs.Widths.{width_of}
-use Rattle.t1_lines.specs.RefusalTexts.{refusal_text_of}
-use Rattle.t1_lines.specs.declared.refusal.RefusalCode.{RefusalCode}
+use Rattle.t1_refusals.specs.RefusalTexts.{refusal_text_of}
+use Rattle.t1_refusals.specs.declared.refusal.RefusalCode.{RefusalCode}
 use Rattle.t1_reason_texts.specs.Texts.{line_behind}
 use Rattle.t1_rules.specs.Book.{level_of}
 use Rattle.t1_rules.specs.declared.level.Level.{Level}

@@ -12,7 +12,7 @@ use crate::rule_parts::{push_head, tail};
 use crate::width::width;
 use std::alloc::{AllocError, Global};
 use t1_io::{Sink, put_all};
-use t1_lines::{RefusalCode, refusal_text};
+use t1_refusals::{RefusalCode, refusal_text};
 use t1_many::Lost;
 use t1_rules::{Level, Rule, rule_level};
 

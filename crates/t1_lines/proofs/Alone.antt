@@ -10,9 +10,9 @@ use Rattle.t1_rules.specs.Keys.{key_text_of}
 use Rattle.t1_report.specs.Lines.{path_text}
 use Rattle.t1_lines.specs.Laws.{NoLineStandsInAnother}
 use Rattle.t1_lines.specs.Lines.{IsLine, IsPlace, LineValue, PlaceValue, at_key, at_step, at_waiver, of_fault, of_refusal, place_words, spaced, spelled}
-use Rattle.t1_lines.specs.RefusalTexts.{refusal_text_of}
-use Rattle.t1_lines.specs.declared.refusal.RefusalCode.{RefusalCode}
-use Rattle.t1_lines.specs.declared.refusal.RefusalCode.TheVariants.{E01}
+use Rattle.t1_refusals.specs.RefusalTexts.{refusal_text_of}
+use Rattle.t1_refusals.specs.declared.refusal.RefusalCode.{RefusalCode}
+use Rattle.t1_refusals.specs.declared.refusal.RefusalCode.TheVariants.{E01}
 use Rattle.t1_lines.proofs.Cuts.{lacks}
 use Rattle.t1_lines.proofs.Lacking.{colonless-code, colonless-key, colonless-text, lacks-append, lacks-decimal, lacks-name, lacks-path}
 

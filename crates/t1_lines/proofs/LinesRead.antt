@@ -11,8 +11,8 @@ use Rattle.t1_rules.specs.declared.rule.Rule.TheVariants.{U01}
 use Rattle.t1_rules.specs.Book.{code_of, text_of}
 use Rattle.t1_rules.specs.Keys.{key_text_of, key_count, index_count}
 use Rattle.t1_report.specs.Lines.{inner_text, path_text}
-use Rattle.t1_lines.specs.declared.refusal.RefusalCode.{RefusalCode}
-use Rattle.t1_lines.specs.RefusalTexts.{refusal_text_of}
+use Rattle.t1_refusals.specs.declared.refusal.RefusalCode.{RefusalCode}
+use Rattle.t1_refusals.specs.RefusalTexts.{refusal_text_of}
 use Rattle.t1_lines.specs.Lines.{FaultLineValue, LineValue, PlaceValue, at_key, at_step, at_waiver, of_fault, of_refusal, place_words, spaced, spelled, IsPlace, IsFaultLine, IsLine}
 use Rattle.t1_lines.specs.Cutting.{cut}
 use Rattle.t1_lines.specs.Private.Reading.{number_of, rule_read, numbers_cut, numbers_read, path_read, font_line, glyph_line, waiver_line, place_line, told_line, line_read}

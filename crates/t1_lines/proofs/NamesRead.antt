@@ -5,9 +5,9 @@ use Rattle.t1_rules.specs.Keys.{key_text_of, key_texts, key_count}
 use Rattle.t1_rules.specs.declared.rule.Rule.{Rule}
 use Rattle.t1_rules.specs.declared.rule.Rule.TheVariants.{F01}
 use Rattle.t1_rules.specs.Book.{code_of, coded_in, rule_coded, rules}
-use Rattle.t1_lines.specs.declared.refusal.RefusalCode.{RefusalCode}
-use Rattle.t1_lines.specs.declared.refusal.RefusalCode.TheVariants.{E01}
-use Rattle.t1_lines.specs.RefusalTexts.{refusal_text_of}
+use Rattle.t1_refusals.specs.declared.refusal.RefusalCode.{RefusalCode}
+use Rattle.t1_refusals.specs.declared.refusal.RefusalCode.TheVariants.{E01}
+use Rattle.t1_refusals.specs.RefusalTexts.{refusal_text_of}
 use Rattle.t1_lines.specs.Private.Reading.{key_among, key_of, refusal_among, refusal_of, refusals}
 use Rattle.t1_font.specs.Keys.{same_name}
 use Rattle.t1_lines.proofs.Numbers.{same-true}

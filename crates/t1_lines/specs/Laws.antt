@@ -11,10 +11,10 @@ use Rattle.t1_report.specs.Waivers.{Waiver, waivers_of}
 use Rattle.t1_report.specs.declared.waivers.WaiverError.TheVariants as waivers
 use Rattle.t1_lines.specs.Lines.{LineValue, IsFaultLine, IsLine, IsSmall, fault_spelled, line_in, spelled}
 use Rattle.t1_lines.specs.Names.{HasNames, HaveNames}
-use Rattle.t1_lines.specs.RefusalCodes.{refusal_code_of}
-use Rattle.t1_lines.specs.declared.refusal.Reason.{Reason}
-use Rattle.t1_lines.specs.declared.refusal.Reason.TheVariants.{Font, Waivers}
-use Rattle.t1_lines.specs.declared.refusal.RefusalCode.{RefusalCode}
+use Rattle.t1_refusals.specs.RefusalCodes.{refusal_code_of}
+use Rattle.t1_refusals.specs.declared.refusal.Reason.{Reason}
+use Rattle.t1_refusals.specs.declared.refusal.Reason.TheVariants.{Font, Waivers}
+use Rattle.t1_refusals.specs.declared.refusal.RefusalCode.{RefusalCode}
 
 -- The line of a fault is one, and is written as it is spelled, ended by byte 10.
 abbrev pub FaultsAreWrittenAsLines : Type 0

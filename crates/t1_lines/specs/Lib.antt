@@ -4,5 +4,3 @@ pub mod Lines
 pub mod Names
 pub mod Private
 pub mod Readings
-pub mod RefusalCodes
-pub mod RefusalTexts

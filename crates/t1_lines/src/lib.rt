@@ -32,5 +32,4 @@ pub use laws::{
 };
 pub use line::{FaultLine, Line, Place};
 pub use reading::read;
-pub use refusal::{Reason, RefusalCode, refusal_text};
 pub use words::cut;

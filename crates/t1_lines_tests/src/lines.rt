@@ -1,7 +1,8 @@
 //! Lines by hand, and texts that are none: t1_lines. No chapter of a standard has them.
 
 use t1_char::Path;
-use t1_lines::{FaultLine, Line, Place, RefusalCode, read, refusal_text};
+use t1_lines::{FaultLine, Line, Place, read};
+use t1_refusals::{RefusalCode, refusal_text};
 use t1_rules::Rule;
 
 /// Subrs that are being executed.

@@ -6,7 +6,7 @@ use std::fmt::Display;
 use std::process::Abort;
 use std::test::Fail;
 use t1_font::Refusal;
-use t1_lines::{RefusalCode, refusal_text};
+use t1_refusals::{RefusalCode, refusal_text};
 use t1_seal::SealError;
 
 /// Why a file's bytes aren't opened, and what the line of each refusal says.

@@ -13,7 +13,7 @@ use crate::reasons::told_text;
 use crate::recipient::Lost;
 use t1_font::Font;
 use t1_io::{Sink, put_all, put_parts};
-use t1_lines::{RefusalCode, refusal_text};
+use t1_refusals::{RefusalCode, refusal_text};
 use t1_reason_texts::ShortText;
 use t1_reasons::ReportReasons;
 use t1_report::{Fault, Waivers, write_fault};

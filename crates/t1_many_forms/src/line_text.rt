@@ -11,7 +11,7 @@ use std::alloc::Global;
 use std::io::Write;
 use t1_font::Font;
 use t1_io::{Broken, Sink, put_parts};
-use t1_lines::{RefusalCode, refusal_text};
+use t1_refusals::{RefusalCode, refusal_text};
 use t1_many::Lost;
 use t1_report::{Fault, Waivers, write_fault};
 

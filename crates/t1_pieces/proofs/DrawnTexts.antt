@@ -2,8 +2,8 @@
 use Rattle.std.proofs.Common.{◌≡◌, ◌∙◌, ℕ, List, Option, Some, Result, Ok, Err, inl, inr, subst, sym}
 use Rattle.t1_char.specs.declared.edition.Edition.{Edition}
 use Rattle.t1_font.specs.Fonts.{FontValue}
-use Rattle.t1_lines.specs.declared.refusal.Reason.{Reason}
-use Rattle.t1_lines.specs.declared.refusal.RefusalCode.{RefusalCode}
+use Rattle.t1_refusals.specs.declared.refusal.Reason.{Reason}
+use Rattle.t1_refusals.specs.declared.refusal.RefusalCode.{RefusalCode}
 use Rattle.t1_report.specs.Waivers.{Waiver}
 use Rattle.t1_run.specs.declared.failure.Failure.{Failure}
 use Rattle.t1_run.specs.declared.failure.Failure.TheVariants.{Refused}

@@ -13,7 +13,7 @@ use crate::refusal::refuse;
 use crate::request::Request;
 use std::alloc::Global;
 use t1_font::{Font, OpenFont};
-use t1_lines::Reason;
+use t1_refusals::Reason;
 use t1_report::{LARGEST_WAIVERS, Mark, Waivers};
 use t1_rules::Sidebearings;
 use t1_run::{Failure, LARGEST_FILE};

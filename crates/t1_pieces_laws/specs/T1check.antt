@@ -4,9 +4,9 @@ use Rattle.t1_answer.specs.Answers.{Answer, IsAnswer}
 use Rattle.t1_answer.specs.Waived.{asks_waivers}
 use Rattle.t1_answer.specs.declared.asked.Options.{Options}
 use Rattle.t1_font.specs.Fonts.{FontValue}
-use Rattle.t1_lines.specs.RefusalCodes.{refusal_code_of}
-use Rattle.t1_lines.specs.declared.refusal.Reason.{Reason}
-use Rattle.t1_lines.specs.declared.refusal.RefusalCode.{RefusalCode}
+use Rattle.t1_refusals.specs.RefusalCodes.{refusal_code_of}
+use Rattle.t1_refusals.specs.declared.refusal.Reason.{Reason}
+use Rattle.t1_refusals.specs.declared.refusal.RefusalCode.{RefusalCode}
 use Rattle.t1_pieces.specs.Forms.{lines_as}
 use Rattle.t1_pieces.specs.declared.form.Form.TheVariants.{Text}
 use Rattle.t1_report.specs.Checked.{checked}

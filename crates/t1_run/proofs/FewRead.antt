@@ -11,7 +11,7 @@ use Rattle.t1_font.specs.TextTurns.{TextRead}
 use Rattle.t1_font.specs.Texts.{font_read}
 use Rattle.t1_font.specs.declared.refusal.Refusal.{Refusal}
 use Rattle.t1_font.specs.declared.unread.Unread.{Unread}
-use Rattle.t1_lines.specs.declared.refusal.Reason.TheVariants.{FontTooLarge}
+use Rattle.t1_refusals.specs.declared.refusal.Reason.TheVariants.{FontTooLarge}
 use Rattle.t1_report.specs.Waivers.{Waiver, is_waived, line_read, lines_from, lines_read, text_read, waiver_of, waivers_of, with_waiver, without_return}
 use Rattle.t1_rules.specs.Book.{number_of}
 use Rattle.t1_seal.specs.Eexec.{private_text_of}

@@ -6,8 +6,8 @@ use Rattle.t1_font.specs.FontFiles.{font_in}
 use Rattle.t1_font.specs.Fonts.{FontValue}
 use Rattle.t1_font.specs.declared.unread.Unread.{Unread}
 use Rattle.t1_io.specs.Devices.{SourceState}
-use Rattle.t1_lines.specs.declared.refusal.Reason.{Reason}
-use Rattle.t1_lines.specs.declared.refusal.Reason.TheVariants.{FontTooLarge, WaiversTooLarge}
+use Rattle.t1_refusals.specs.declared.refusal.Reason.{Reason}
+use Rattle.t1_refusals.specs.declared.refusal.Reason.TheVariants.{FontTooLarge, WaiversTooLarge}
 use Rattle.t1_report.specs.Waivers.{Waiver, lines_from, lines_read, waivers_of}
 use Rattle.t1_run.specs.FontFiles.{AreRead, font_of, with_reason}
 use Rattle.t1_run.specs.Input.{AreAll, AreUnread, StopsAt}

@@ -1,10 +1,10 @@
 -- Why a run has no result, what is printed of it under a program's name, and its status.
 use Rattle.std.specs.Prelude.{ℕ, List, [], ◌∷◌, Option, None, Some, codes}
 use Rattle.std.specs.List.{concat}
-use Rattle.t1_lines.specs.RefusalCodes.{refusal_code_of}
-use Rattle.t1_lines.specs.RefusalTexts.{refusal_text_of}
-use Rattle.t1_lines.specs.declared.refusal.Reason.{Reason}
-use Rattle.t1_lines.specs.declared.refusal.RefusalCode.{RefusalCode}
+use Rattle.t1_refusals.specs.RefusalCodes.{refusal_code_of}
+use Rattle.t1_refusals.specs.RefusalTexts.{refusal_text_of}
+use Rattle.t1_refusals.specs.declared.refusal.Reason.{Reason}
+use Rattle.t1_refusals.specs.declared.refusal.RefusalCode.{RefusalCode}
 use Rattle.t1_run.specs.declared.failure.Failure.{Failure}
 use Rattle.t1_run.specs.declared.failure.Failure.TheVariants.{Refused, Broken, Memory}
 use Rattle.t1_run.specs.declared.status.Status.{Status}

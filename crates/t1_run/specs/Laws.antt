@@ -4,8 +4,8 @@ use Rattle.t1_seal.specs.Segments.{joined_of}
 use Rattle.t1_font.specs.Laws.Parts.{IsOfJoined}
 use Rattle.t1_font.specs.declared.unread.Unread.{Unread}
 use Rattle.t1_font.specs.declared.unread.Unread.TheVariants.{Memory}
-use Rattle.t1_lines.specs.declared.refusal.Reason.{Reason}
-use Rattle.t1_lines.specs.declared.refusal.Reason.TheVariants.{FontTooLarge, Font}
+use Rattle.t1_refusals.specs.declared.refusal.Reason.{Reason}
+use Rattle.t1_refusals.specs.declared.refusal.Reason.TheVariants.{FontTooLarge, Font}
 use Rattle.t1_run.specs.FontFiles.{font_of, largest_file}
 
 -- Of a file, which is too large or not: E05, or of its first part that can't be read.

@@ -1,8 +1,8 @@
 -- A text of waivers, which may be too large, and what is done to its source where it is requested.
 use Rattle.std.specs.Prelude.{◌≡◌, ◌≤◌, ℕ, Bool, true, false, nat_lt, if◌then◌else◌, List, [], length, Option, None, Some, Result, Ok, Err}
 use Rattle.t1_io.specs.Devices.{SourceState}
-use Rattle.t1_lines.specs.declared.refusal.Reason.{Reason}
-use Rattle.t1_lines.specs.declared.refusal.Reason.TheVariants.{Waivers, WaiversTooLarge}
+use Rattle.t1_refusals.specs.declared.refusal.Reason.{Reason}
+use Rattle.t1_refusals.specs.declared.refusal.Reason.TheVariants.{Waivers, WaiversTooLarge}
 use Rattle.t1_report.specs.Waivers.{Waiver, waivers_of, largest_waivers}
 use Rattle.t1_report.specs.declared.waivers.WaiverError.TheVariants.{Malformed}
 use Rattle.t1_run.specs.Failures.{failure_of}

@@ -1,13 +1,13 @@
 //! Why a run has no result.
 
 ghost use Rattle.std.specs.Prelude.{◌≡◌};
-ghost use Rattle.t1_lines.specs.declared.refusal.Reason.TheVariants as reason;
+ghost use Rattle.t1_refusals.specs.declared.refusal.Reason.TheVariants as reason;
 ghost use Rattle.t1_run.specs.Failures.{failure_of};
 ghost use Rattle.t1_run.specs.declared.failure.Failure.TheVariants.{Memory};
 
 use std::alloc::AllocError;
 use t1_font::Unread;
-use t1_lines::{Reason, RefusalCode};
+use t1_refusals::{Reason, RefusalCode};
 use t1_report::WaiverError;
 
 /// Why a run has no result.

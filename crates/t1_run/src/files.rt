@@ -1,7 +1,7 @@
 //! Files, read to their end within a limit.
 
 ghost use Rattle.std.specs.Prelude.{◌≡◌, ◌≤◌, ◌+◌, false, MatchResult};
-ghost use Rattle.t1_lines.specs.declared.refusal.Reason.TheVariants as reason;
+ghost use Rattle.t1_refusals.specs.declared.refusal.Reason.TheVariants as reason;
 ghost use Rattle.t1_report.specs.Waivers.{largest_waivers};
 ghost use Rattle.t1_run.specs.FontFiles.{largest_file};
 ghost use Rattle.t1_run.specs.Input.{AreAll, AreUnread, ReadsAtMost, TakesAtMost};
@@ -10,7 +10,7 @@ ghost use Rattle.t1_run.specs.WaiverFiles.{IsNoWaiverText, IsWaiverText};
 use crate::failure::Failure;
 use std::alloc::Global;
 use t1_io::Source;
-use t1_lines::Reason;
+use t1_refusals::Reason;
 use t1_report::LARGEST_WAIVERS;
 
 /// The greatest size of a font's file, in bytes.

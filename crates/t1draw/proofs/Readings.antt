@@ -4,7 +4,7 @@ use Rattle.t1_font.specs.FontFiles.{IsUnread, font_in}
 use Rattle.t1_font.specs.Fonts.{FontValue}
 use Rattle.t1_font.specs.declared.unread.Unread.{Unread}
 use Rattle.t1_io.specs.Devices.{SinkState, SourceState}
-use Rattle.t1_lines.specs.declared.refusal.Reason.TheVariants.{Font, FontTooLarge, Waivers, WaiversTooLarge}
+use Rattle.t1_refusals.specs.declared.refusal.Reason.TheVariants.{Font, FontTooLarge, Waivers, WaiversTooLarge}
 use Rattle.t1_report.specs.WaiverViews.{IsReadAs}
 use Rattle.t1_report.specs.Waivers.{Waiver, waivers_of}
 use Rattle.t1_report.specs.declared.waivers.WaiverError.{WaiverError}

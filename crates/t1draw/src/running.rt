@@ -1,7 +1,7 @@
 //! A run: reads a font, and the waivers, and draws what the options ask for.
 
 ghost use Rattle.std.specs.Prelude.{◌≡◌, ◌≤◌, ◌+◌, false, string_bytes};
-ghost use Rattle.t1_lines.specs.declared.refusal.Reason.TheVariants as reason;
+ghost use Rattle.t1_refusals.specs.declared.refusal.Reason.TheVariants as reason;
 ghost use Rattle.t1_report.specs.Waivers.{largest_waivers};
 ghost use Rattle.t1_run.specs.Failures.{failure_of, out_of_memory_line};
 ghost use Rattle.t1_run.specs.FontFiles.{largest_file};

@@ -7,7 +7,7 @@ use Rattle.t1_io.specs.Devices.{AppendsFront, SinkState, one_more, SourceState}
 use Rattle.t1_answer.specs.declared.asked.Options.{Options}
 use Rattle.t1_run.specs.declared.status.Status.{Status}
 use Rattle.t1_run.specs.declared.status.Status.TheVariants.{Clean, Failed, Faults, Refused}
-use Rattle.t1_lines.specs.declared.refusal.Reason.{Reason}
+use Rattle.t1_refusals.specs.declared.refusal.Reason.{Reason}
 use Rattle.t1_answer.specs.Answers.{Answer, IsAnswerTo}
 use Rattle.t1_answer.specs.Ends.{Ends}
 use Rattle.t1_run.specs.FontFiles.{font_of}

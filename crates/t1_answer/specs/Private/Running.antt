@@ -14,7 +14,7 @@ use Rattle.t1_answer.specs.Answers.{selection, status_of}
 use Rattle.t1_answer.specs.Lines.{lines_of}
 use Rattle.t1_answer.specs.Told.{program, told_of}
 use Rattle.t1_report.specs.Waivers.{Waiver}
-use Rattle.t1_lines.specs.declared.refusal.Reason.{Reason}
+use Rattle.t1_refusals.specs.declared.refusal.Reason.{Reason}
 use Rattle.t1_answer.specs.Ends.{Shows}
 use Rattle.t1_run.specs.Telling.{Gives, Tells}
 use Rattle.t1_run.specs.Failures.{out_of_memory_line}

@@ -10,9 +10,9 @@ use Rattle.t1_font.specs.Keys.{same_name}
 use Rattle.t1_rules.specs.declared.rule.Rule.TheVariants.{U01}
 use Rattle.t1_rules.specs.Book.{number_of as rule_number, rule_coded, text_of}
 use Rattle.t1_rules.specs.Keys.{key_texts}
-use Rattle.t1_lines.specs.declared.refusal.RefusalCode.{RefusalCode}
-use Rattle.t1_lines.specs.declared.refusal.RefusalCode.TheVariants.{E01, E02, E03, E04, E05, E06, E07, E08, E09, E10, E11, E12, E13, E14, E15}
-use Rattle.t1_lines.specs.RefusalTexts.{refusal_text_of}
+use Rattle.t1_refusals.specs.declared.refusal.RefusalCode.{RefusalCode}
+use Rattle.t1_refusals.specs.declared.refusal.RefusalCode.TheVariants.{E01, E02, E03, E04, E05, E06, E07, E08, E09, E10, E11, E12, E13, E14, E15}
+use Rattle.t1_refusals.specs.RefusalTexts.{refusal_text_of}
 use Rattle.t1_lines.specs.Lines.{FaultLineValue, LineValue, at_key, at_step, at_waiver, of_fault, of_refusal}
 use Rattle.t1_char.specs.Effects.{most_calls}
 use Rattle.t1_lines.specs.Cutting.{cut}

@@ -1,5 +1,5 @@
 use Rattle.std.proofs.Common.{◌∙◌, ap, arith, sym}
-use Rattle.t1_lines.specs.declared.refusal.Reason.TheVariants.{Font, FontTooLarge}
+use Rattle.t1_refusals.specs.declared.refusal.Reason.TheVariants.{Font, FontTooLarge}
 use Rattle.t1_pieces.proofs.Readings.{failed_so, fails_for, font_fails}
 use Rattle.t1_pieces.proofs.reading.open.Goals as goal
 use Rattle.t1_pieces.specs.Reading.{IsFailureOf}

@@ -1,5 +1,5 @@
 use Rattle.std.proofs.Common.{List, arith}
-use Rattle.t1_lines.specs.declared.refusal.Reason.TheVariants.{Waivers, WaiversTooLarge}
+use Rattle.t1_refusals.specs.declared.refusal.Reason.TheVariants.{Waivers, WaiversTooLarge}
 use Rattle.t1_pieces.proofs.Readings.{failed_so, fails_for, waivers_fail, waivers_in-large, waivers_read}
 use Rattle.t1_pieces.proofs.reading.read_waivers.Goals as goal
 use Rattle.t1_pieces.specs.Reading.{IsFailureOf}

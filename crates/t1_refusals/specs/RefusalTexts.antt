@@ -1,7 +1,7 @@
 -- What is printed of a refusal, after `refused: `.
 use Rattle.std.specs.Prelude.{ℕ, List, codes}
-use Rattle.t1_lines.specs.declared.refusal.RefusalCode.{RefusalCode}
-use Rattle.t1_lines.specs.declared.refusal.RefusalCode.TheVariants.{E01, E02, E03, E04, E05, E06, E07, E08, E09, E10, E11, E12, E13, E14, E15}
+use Rattle.t1_refusals.specs.declared.refusal.RefusalCode.{RefusalCode}
+use Rattle.t1_refusals.specs.declared.refusal.RefusalCode.TheVariants.{E01, E02, E03, E04, E05, E06, E07, E08, E09, E10, E11, E12, E13, E14, E15}
 
 abbrev pub refusal_text_of : RefusalCode → List ℕ
 refusal_text_of E01 = codes "E01 not a PFA or PFB"

@@ -1,0 +1,2 @@
+pub mod RefusalCodes
+pub mod RefusalTexts
