@@ -1,9 +1,7 @@
 pub mod CommandParts
 pub mod Floats
 pub mod Messages
-pub mod NotTold
 pub mod OneObject
-pub mod OneTelling
 pub mod SarifCounts
 pub mod SarifFloats
 pub mod SarifParts

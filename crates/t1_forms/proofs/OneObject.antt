@@ -13,11 +13,10 @@ use Rattle.t1_rules.specs.Book.{code_of, rule_coded, text_of}
 use Rattle.t1_rules.specs.Keys.{key_text_of}
 use Rattle.t1_rules.proofs.Lemmas.RuleCodes.{rule_is_found}
 use Rattle.t1_lines.specs.Lines.{PlaceValue, IsPlace, at_key, at_step, at_waiver, of_fault, of_refusal}
-use Rattle.t1_lines.specs.Private.Reading.{key_of, refusals}
 use Rattle.t1_refusals.specs.declared.refusal.RefusalCode.{RefusalCode}
-use Rattle.t1_refusals.specs.declared.refusal.RefusalCode.TheVariants.{E01}
+use Rattle.t1_refusals.specs.declared.refusal.RefusalCode.TheVariants.{E01, E02, E03, E04, E05, E06, E07, E08, E09, E10, E11, E12, E13, E14, E15}
 use Rattle.t1_lines.proofs.Cuts.{some_same}
-use Rattle.t1_lines.proofs.NamesRead.{key-found}
+use Rattle.t1_lines.proofs.KeyTexts.{key-found, key_of}
 use Rattle.t1_forms.specs.Laws.{AnObjectTellsOneLine, AreBytes, DifferentTellingsHaveDifferentObjects, IsPlaceOfBytes, IsWhatOfBytes}
 use Rattle.t1_forms.specs.NameWords.{name_of_word}
 use Rattle.t1_forms.specs.Objects.{fault_members, object_of, reason_object, refusal_code_of, refusal_reason_of, what_members, with_font, with_reason}
@@ -170,6 +169,9 @@ numbers_in (item d ds) = unwrap_or (option_and_then as_u64 (as_number d)) 0 ∷ 
 numbers_again : (ns : List ℕ) → numbers_in (items_of (map (λ n. number (unsigned n)) ns)) ≡ ns
 numbers_again [] = refl
 numbers_again (n ∷ ns) = ap (λ (ms : List ℕ). n ∷ ms) (numbers_again ns)
+
+abbrev refusals : List RefusalCode
+refusals = E01 ∷ E02 ∷ E03 ∷ E04 ∷ E05 ∷ E06 ∷ E07 ∷ E08 ∷ E09 ∷ E10 ∷ E11 ∷ E12 ∷ E13 ∷ E14 ∷ E15 ∷ []
 
 abbrev refusal_among : List RefusalCode → List ℕ → Option RefusalCode
 refusal_among [] word = None

@@ -1,19 +1,13 @@
 -- The statements of laws.
-use Rattle.std.specs.Prelude.{◌≡◌, ◌<◌, ◌==◌, ◌||◌, ℕ, Bool, false, List, None, Option, Some, IfSome, option_map}
+use Rattle.std.specs.Prelude.{◌≡◌, ◌<◌, ◌==◌, ◌||◌, ℕ, Bool, false, List, None, Some, IfSome, option_map}
 use Rattle.std.specs.List.{AllByRecursion, flat_map, list_any}
-use Rattle.t1_lines.specs.Lines.{IsLine, LineValue, PlaceValue, at_key, at_step, at_waiver, of_fault, of_refusal, spelled}
+use Rattle.t1_lines.specs.Lines.{PlaceValue, at_key, at_step, at_waiver, of_fault, of_refusal}
 use Rattle.t1_forms.specs.Commands.{message_byte, property_byte}
 use Rattle.t1_forms.specs.NameWords.{name_of_word}
 use Rattle.t1_forms.specs.Objects.{object_of, reason_object}
 use Rattle.t1_forms.specs.Percents.{decoded}
 use Rattle.t1_forms.specs.Shown.{shown}
-use Rattle.t1_forms.specs.Tellings.{IsWhat, ToldValue, WhatValue, behind_name, of_line, of_unchecked}
-
--- A text is that of one line of a report or a refusal at most, with one font's name before it or with none, whatever the name is.
-abbrev pub ATextTellsOneLine : Type 0
-ATextTellsOneLine =
-    (name other : Option (List ℕ)) (a b : LineValue) → IsLine a → IsLine b
-    → behind_name name (spelled a) ≡ behind_name other (spelled b) → (name ≡ other) × (a ≡ b)
+use Rattle.t1_forms.specs.Tellings.{IsWhat, ToldValue, WhatValue, of_line, of_unchecked}
 
 abbrev pub AreBytes : List ℕ → Type 0
 AreBytes name = AllByRecursion (λ byte. byte < 256) name

@@ -6,7 +6,6 @@ pub mod PageValues
 pub mod Pages
 pub mod Percents
 pub mod Private
-pub mod ReasonLines
 pub mod Sarif
 pub mod SarifDocuments
 pub mod SarifObjects

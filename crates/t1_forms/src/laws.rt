@@ -1,16 +1,6 @@
-//! Laws above the definitions: each is the contract of a function that does nothing, but for calling the laws on which it rests.
+//! Laws above the definitions: each is the contract of a function that does nothing.
 
-ghost use Rattle.t1_forms.specs.Laws.{ATextTellsOneLine, AnObjectTellsOneLine, CommandsAreReadBack, DifferentTellingsHaveDifferentObjects, PartsStayInCommands, ShownNamesAreWords};
-
-use t1_lines::{a_text_is_one_line, no_line_stands_in_another};
-
-/// A text is that of one line of a report or a refusal at most, with one font's name before it or with none, whatever the name is.
-pub fn a_text_tells_one_line()
-    ensures { ATextTellsOneLine }
-{
-    a_text_is_one_line();
-    no_line_stands_in_another();
-}
+ghost use Rattle.t1_forms.specs.Laws.{AnObjectTellsOneLine, CommandsAreReadBack, DifferentTellingsHaveDifferentObjects, PartsStayInCommands, ShownNamesAreWords};
 
 /// A name, as it is shown, is a word for it, so that what a legend, an object or a line shows can be given to t1draw as GLYPH. No
 /// two names are shown alike, and each name has a word.

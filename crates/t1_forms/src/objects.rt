@@ -1,8 +1,7 @@
 //! A line as an object of JSON.
 
 ghost use Rattle.std.specs.Prelude.{◌≡◌, IfOk, option_map, string_bytes};
-ghost use Rattle.std.specs.Option.{option_map_or};
-ghost use Rattle.serde_json.specs.Data.{no_members, string};
+ghost use Rattle.serde_json.specs.Data.{string};
 ghost use Rattle.serde_json.specs.View.{members_view, view};
 ghost use Rattle.t1_lines.specs.Lines.{at_key, at_step, at_waiver, place_value};
 ghost use Rattle.t1_forms.specs.Objects.{fault_members, list_of, members_of_all, object_line, object_of, reason_object, refusal_code_of, refusal_reason_of, what_members, with_font};
@@ -230,25 +229,11 @@ fn copied(alloc: Global, members: &Map<String, Value>) -> Result<Map<String, Val
     Ok(copies)
 }
 
-/// The numbers of a reason: no members where only its text is known.
-fn numbers(
-    alloc: Global,
-    numbers: Option<&Map<String, Value>>,
-) -> Result<Map<String, Value>, AllocError>
-    ensures { IfOk result (λ m. members_view m.entries
-        ≡ option_map_or (λ members. members_view members.now.entries) numbers.entry no_members) }
-{
-    match numbers {
-        Some(numbers) => copied(alloc, numbers),
-        None => Ok(Map::new(alloc)),
-    }
-}
-
 /// The object of a reason: its numbers and its text.
 fn reason_object(alloc: Global, reason: &ToldReason<'_>) -> Result<Value, AllocError>
     ensures { IfOk result (λ v. view v ≡ reason_object (reason_value reason.now)) }
 {
-    let mut members = numbers(alloc, reason.numbers)?;
+    let mut members = copied(alloc, reason.numbers)?;
     put(&mut members, alloc, "text", text(alloc, reason.text)?)?;
     Ok(Value::Object(members))
 }

@@ -3,7 +3,7 @@ use Rattle.std.proofs.Common.{◌≡◌, ◌+◌, ℕ, suc, Bool, true, false, �
 use Rattle.std.proofs.lemmas.Bool.{cases_Bool, eqb-true}
 use Rattle.std.specs.List.{list_all, prefix_len}
 use Rattle.t1_lines.specs.Cutting.{cut}
-use Rattle.t1_lines.specs.Private.Reading.{differs}
+use Rattle.t1_lines.specs.Private.Bytes.{differs}
 
 -- No such byte is in the text.
 abbrev pub lacks : ℕ → List ℕ → Bool
@@ -51,16 +51,12 @@ cut-append byte (c ∷ front) rest none =
       | inr e ↦ (let later : lacks byte front ≡ true = rw e at none in rw (e, cut-append byte front rest later) refl)
     ]
 
-pub cut-lacks : (byte : ℕ) (text : List ℕ) → lacks byte text ≡ true → cut byte text ≡ None
-cut-lacks byte [] none = refl
-cut-lacks byte (c ∷ text) none =
-    elim (cases_Bool (c == byte)) [
-      | inl e ↦ (let no : false ≡ true = rw e at none in cc)
-      | inr e ↦ (let later : lacks byte text ≡ true = rw e at none in rw (e, cut-lacks byte text later) refl)
-    ]
-
 pub some_same : {A : Type 0} (x y : A) → Some x ≡ Some y → x ≡ y
 some_same x y e = cc
+
+pub map_some : {A B P : Type 0} (f : A → B) (o : Option A) (y : B) → option_map f o ≡ Some y → ((x : A) → o ≡ Some x → f x ≡ y → P) → P
+map_some f None y e k = cc
+map_some f (Some x) y e k = k x refl (some_same (f x) y e)
 
 -- What was cut is the text.
 pub cut-joined : (byte : ℕ) (text : List ℕ) (p : List ℕ × List ℕ) → cut byte text ≡ Some p → text ≡ p.0 ++ (byte ∷ p.1)

@@ -1,12 +1,7 @@
-pub mod Alone
 pub mod Cuts
-pub mod Exact
+pub mod KeyTexts
 pub mod Lacking
-pub mod LinesRead
-pub mod LinesTold
+pub mod LinesWritten
 pub mod NamesKept
-pub mod NamesRead
-pub mod Numbers
-pub mod Paths
 pub mod ReasonsOfCodes
 pub mod WaiverNames

@@ -11,8 +11,7 @@ use Rattle.t1_rules.specs.Book.{number_of, rule_coded}
 use Rattle.t1_report.specs.Waivers.{Waiver, is_waivable, is_waived, line_read, lines_from, lines_read, text_read, waiver_at, waiver_by, waiver_of, with_waiver, without_return}
 use Rattle.t1_lines.specs.Laws.{WaiversHaveNames}
 use Rattle.t1_lines.specs.Names.{HaveNames}
-use Rattle.t1_lines.proofs.Cuts.{some_same}
-use Rattle.t1_lines.proofs.LinesTold.{map_some}
+use Rattle.t1_lines.proofs.Cuts.{map_some, some_same}
 
 abbrev Named : Waiver → Type 0
 Named w = IsTrue (list_all is_regular w.0)

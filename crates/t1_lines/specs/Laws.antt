@@ -1,5 +1,5 @@
--- The statements of laws: how faults are written, that a text is one line, and what names were read.
-use Rattle.std.specs.Prelude.{◌≡◌, ◌⊎◌, ℕ, List, ◌∷◌, ◌++◌, codes, Ok, None, Some}
+-- The statements of laws: how faults are written, what names were read, and that a refusal has one reason.
+use Rattle.std.specs.Prelude.{◌≡◌, ◌⊎◌, ℕ, List, ◌++◌, codes, Ok, None, Some}
 use Rattle.t1_font.specs.ClearText.{clear_of}
 use Rattle.t1_font.specs.Fonts.{FontValue, Marks}
 use Rattle.t1_font.specs.Texts.{font_read}
@@ -9,7 +9,7 @@ use Rattle.t1_report.specs.Faults.{FaultValue}
 use Rattle.t1_report.specs.Lines.{IsInFont, line_of}
 use Rattle.t1_report.specs.Waivers.{Waiver, waivers_of}
 use Rattle.t1_report.specs.declared.waivers.WaiverError.TheVariants as waivers
-use Rattle.t1_lines.specs.Lines.{LineValue, IsFaultLine, IsLine, IsSmall, fault_spelled, line_in, spelled}
+use Rattle.t1_lines.specs.Lines.{IsFaultLine, IsSmall, fault_spelled, line_in}
 use Rattle.t1_lines.specs.Names.{HasNames, HaveNames}
 use Rattle.t1_refusals.specs.RefusalCodes.{refusal_code_of}
 use Rattle.t1_refusals.specs.declared.refusal.Reason.{Reason}
@@ -22,15 +22,6 @@ FaultsAreWrittenAsLines = (font : FontValue) (waivers : List Waiver) (fault : Fa
     IsInFont font waivers fault → IsSmall fault →
     IsFaultLine (line_in font waivers fault)
     × (line_of font waivers fault ≡ fault_spelled (line_in font waivers fault) ++ codes "\n")
-
--- No text is that of two lines.
-abbrev pub ATextIsOneLine : Type 0
-ATextIsOneLine = (a b : LineValue) → IsLine a → IsLine b → spelled a ≡ spelled b → a ≡ b
-
--- No line is in another one after a colon and a blank.
-abbrev pub NoLineStandsInAnother : Type 0
-NoLineStandsInAnother =
-    (a b : LineValue) (front : List ℕ) → IsLine a → IsLine b → ¬ (front ++ (58 ∷ 32 ∷ spelled b) ≡ spelled a)
 
 -- The glyphs of a font that was read have such names.
 abbrev pub FontsHaveNames : Type 0

@@ -3,4 +3,3 @@ pub mod Laws
 pub mod Lines
 pub mod Names
 pub mod Private
-pub mod Readings

@@ -1,7 +1,7 @@
 //! Laws above the definitions: each is the contract of a function without a body.
 
 ghost use Rattle.t1_report.specs.Faults.{fault_value};
-ghost use Rattle.t1_lines.specs.Laws.{ATextIsOneLine, EachCodeIsOfAReason, FaultsAreWrittenAsLines, FontsHaveNames, MemoryAloneRefusesNone, NoCodeIsOfTwo, NoLineStandsInAnother, WaiversHaveNames};
+ghost use Rattle.t1_lines.specs.Laws.{EachCodeIsOfAReason, FaultsAreWrittenAsLines, FontsHaveNames, MemoryAloneRefusesNone, NoCodeIsOfTwo, WaiversHaveNames};
 ghost use Rattle.t1_lines.specs.Lines.{IsSmall};
 
 use t1_report::Fault;
@@ -9,18 +9,6 @@ use t1_report::Fault;
 /// Each fault's line is written as it is spelled.
 pub fn faults_are_written_as_lines()
     ensures { FaultsAreWrittenAsLines }
-{}
-
-/// No text is that of two lines.
-#[tactic(auto, using(crate::proofs::Exact::one))]
-pub fn a_text_is_one_line()
-    ensures { ATextIsOneLine }
-{}
-
-/// No line is in another one after a colon and a blank. So after a font's name it is known where a line begins.
-#[tactic(auto, using(crate::proofs::Alone::no_line_stands_in_another))]
-pub fn no_line_stands_in_another()
-    ensures { NoLineStandsInAnother }
 {}
 
 /// Each fault's numbers are of 64 and 32 bits, and at most ten Subrs are being executed at it.

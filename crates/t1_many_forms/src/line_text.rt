@@ -11,8 +11,8 @@ use std::alloc::Global;
 use std::io::Write;
 use t1_font::Font;
 use t1_io::{Broken, Sink, put_parts};
-use t1_refusals::{RefusalCode, refusal_text};
 use t1_many::Lost;
+use t1_refusals::{RefusalCode, refusal_text};
 use t1_report::{Fault, Waivers, write_fault};
 
 /// The text of a line. A put fails where memory runs out.

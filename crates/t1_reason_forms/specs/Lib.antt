@@ -1,4 +1,3 @@
 -- Definitions.
-pub mod Laws
 pub mod Members
 pub mod Told

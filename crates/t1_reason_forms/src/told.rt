@@ -43,7 +43,7 @@ pub fn as_told(reason: &Option<OwnReason>) -> Option<ToldReason<'_>>
     match reason {
         Some(reason) => Some(ToldReason {
             text: reason.text.as_str().as_bytes(),
-            numbers: Some(&reason.numbers),
+            numbers: &reason.numbers,
         }),
         None => None,
     }

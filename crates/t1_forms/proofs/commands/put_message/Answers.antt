@@ -1,6 +1,5 @@
-use Rattle.std.proofs.Common.{codes, flat_map, option_map, subst, sym, ◌++◌}
+use Rattle.std.proofs.Common.{option_map, subst, sym}
 use Rattle.t1_forms.proofs.Messages.{message_failed, message_parts}
-use Rattle.t1_forms.specs.Commands.{message_byte}
 use Rattle.t1_forms.specs.Tellings.{reason_value}
 use Rattle.t1_io.proofs.SinkLemmas.{PutFailed-first, PutFailed-second, Writes-failed, Writes-then}
 use Rattle.t1_io.specs.Devices.{PutFailed, Writes}

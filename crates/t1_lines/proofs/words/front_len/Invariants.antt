@@ -1,6 +1,6 @@
 use Rattle.std.proofs.Common.{◌≡◌, ◌+◌, drop}
 use Rattle.std.specs.List.{prefix_len}
-use Rattle.t1_lines.specs.Private.Reading.{differs}
+use Rattle.t1_lines.specs.Private.Bytes.{differs}
 use Rattle.t1_lines.proofs.words.front_len.Given as goal
 
 abbrev pub invariant-loop-at : goal.invariant-loop-at

@@ -1,5 +1,6 @@
 use Rattle.std.proofs.Common.{◌≡◌, ◌∙◌, Some, ap, length, refl, sym, vec_len}
-use Rattle.t1_many_forms.proofs.LineTexts.{line-written, shorter}
+use Rattle.t1_lines.proofs.LinesWritten.{line-written}
+use Rattle.t1_many_forms.proofs.LineTexts.{shorter}
 use Rattle.t1_many_forms.proofs.Written.{written}
 use Rattle.t1_many_forms.proofs.line_text.LineText.set_fault.Goals as goal
 

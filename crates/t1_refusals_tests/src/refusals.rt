@@ -81,6 +81,16 @@ fn assert_reason<E: Display>(
 }
 
 #[test]
+fn refusals_say_why(rt: HostRuntime) {
+    assert_eq!(rt; refusal_text(RefusalCode::E05), "E05 file too large");
+    assert_eq!(rt; refusal_text(RefusalCode::E14), "E14 waivers malformed");
+    assert_eq!(rt;
+        refusal_text(RefusalCode::E15),
+        "E15 waivers past their limit"
+    );
+}
+
+#[test]
 fn errors_say_what_lines_say(rt: HostRuntime) -> Result<(), Fail> {
     for (error, code, line) in OF_BYTES {
         assert_reason(&rt, rt.alloc(), error, *code, line)?;

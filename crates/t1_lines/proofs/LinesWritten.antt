@@ -1,7 +1,7 @@
--- What is read is exactly what is spelled, and what is written is spelled so.
-use Rattle.std.proofs.Common.{◌≡◌, ◌<◌, ◌+◌, ◌-◌, ◌/◌, ◌%◌, ◌==◌, ℕ, zero, suc, true, length, IsTrue, slice_get, List, [], ◌∷◌, ◌++◌, refl, sym, subst, ap, ◌∙◌, inl, inr, arith, Option, Some, decimal, codes}
+-- What is written of a fault is spelled as its line.
+use Rattle.std.proofs.Common.{◌≡◌, ◌<◌, ◌+◌, ◌-◌, ◌/◌, ◌%◌, ◌==◌, ℕ, zero, suc, true, length, IsTrue, slice_get, List, [], ◌∷◌, ◌++◌, refl, sym, subst, ap, ◌∙◌, inl, inr, arith, Some, decimal, codes}
 use Rattle.std.proofs.lemmas.Bool.{cases_Bool, eqb-true}
-use Rattle.std.proofs.lemmas.List.{append-nil, append_assoc, append_cancel_right}
+use Rattle.std.proofs.lemmas.List.{append-nil, append_assoc}
 use Rattle.std.proofs.lemmas.List.Elements.{All-head, All-tail}
 use Rattle.std.specs.List.{list_all}
 use Rattle.t1_scan.specs.Bytes.{is_regular}
@@ -11,25 +11,10 @@ use Rattle.t1_rules.specs.Keys.{key_text_of}
 use Rattle.t1_report.specs.Faults.{FaultValue}
 use Rattle.t1_report.specs.Lines.{IsInFont, line_of, place_text, rule_part, path_text}
 use Rattle.t1_report.specs.Waivers.{Waiver}
-use Rattle.t1_lines.specs.Lines.{FaultLineValue, LineValue, of_fault, place_in, line_in, place_words, spaced, fault_spelled, IsPlace, IsSmall}
-use Rattle.t1_lines.specs.Laws.{ATextIsOneLine, FaultsAreWrittenAsLines}
+use Rattle.t1_lines.specs.Lines.{FaultLineValue, place_in, line_in, place_words, spaced, fault_spelled, IsPlace, IsSmall}
+use Rattle.t1_lines.specs.Laws.{FaultsAreWrittenAsLines}
 use Rattle.t1_lines.specs.Names.{HasNames, HaveNames}
 use Rattle.t1_lines.proofs.NamesKept.{glyph_named}
-use Rattle.t1_lines.specs.Readings.{IsReading, IsReadBack}
-use Rattle.t1_lines.specs.Private.Reading.{line_read}
-use Rattle.t1_lines.proofs.Cuts.{some_same}
-use Rattle.t1_lines.proofs.LinesRead.{line-spelled}
-use Rattle.t1_lines.proofs.LinesTold.{line-told}
-
-pub exact : (line : List ℕ) (read : Option LineValue) → read ≡ line_read line → IsReading line read
-exact line read is l = (
-  (λ e. line-told line l (sym is ∙ e)),
-  (λ told. is ∙ subst (λ t. line_read t ≡ Some l) told.1 (line-spelled l told.0)),
-)
-
-pub one : ATextIsOneLine
-one a b is_a is_b same =
-    some_same a b (sym (line-spelled a is_a) ∙ ap line_read same ∙ line-spelled b is_b)
 
 spaced-end : (words : List (List ℕ)) (text end : List ℕ) → spaced words text ++ end ≡ spaced words (text ++ end)
 spaced-end [] text end = refl
@@ -54,31 +39,38 @@ glyph-written name path step rest =
 record IsThere (waivers : List Waiver) (i : ℕ) : Type 0 where
   pub waiver : Waiver
   pub found : slice_get waivers i ≡ Some waiver
-  pub named : IsTrue (list_all is_regular waiver.0)
 
-waiver-there : (waivers : List Waiver) (i : ℕ) → i < length waivers → HaveNames waivers → IsThere waivers i
-waiver-there [] i less names = absurd (omega (arith, less))
-waiver-there (w ∷ waivers) zero less names = record { waiver = w; found = refl; named = All-head (λ w. IsTrue (list_all is_regular w.0)) w waivers names }
-waiver-there (w ∷ waivers) (suc i) less names =
-    let later = waiver-there waivers i (omega (arith, less)) (All-tail (λ w. IsTrue (list_all is_regular w.0)) w waivers names) in
-    record { waiver = later.waiver; found = later.found; named = later.named }
+waiver-there : (waivers : List Waiver) (i : ℕ) → i < length waivers → IsThere waivers i
+waiver-there [] i less = absurd (omega (arith, less))
+waiver-there (w ∷ waivers) zero less = record { waiver = w; found = refl }
+waiver-there (w ∷ waivers) (suc i) less =
+    let later = waiver-there waivers i (omega (arith, less)) in
+    record { waiver = later.waiver; found = later.found }
 
-waiver-of-fault : (font : FontValue) (waivers : List Waiver) (fault : FaultValue) → HaveNames waivers → IsInFont font waivers fault
-    → (fault.unit == length font.glyphs + 1) ≡ true →
-    IsThere waivers (fault.step - 1)
-waiver-of-fault font waivers fault names there is =
+waiver-of-fault : (font : FontValue) (waivers : List Waiver) (fault : FaultValue) → IsInFont font waivers fault
+    → (fault.unit == length font.glyphs + 1) ≡ true → IsThere waivers (fault.step - 1)
+waiver-of-fault font waivers fault there is =
     let last = there.waiver (eqb-true fault.unit (length font.glyphs + 1) is) in
-    waiver-there waivers (fault.step - 1) (omega (arith, last.1.0, last.1.1)) names
+    waiver-there waivers (fault.step - 1) (omega (arith, last.1.0, last.1.1))
 
-place-written : (font : FontValue) (waivers : List Waiver) (fault : FaultValue) → HaveNames waivers → IsInFont font waivers fault
+abbrev Named : Waiver → Type 0
+Named w = IsTrue (list_all is_regular w.0)
+
+-- Its name has no blank and no delimiter.
+waiver-named : (waivers : List Waiver) (i : ℕ) (w : Waiver) → HaveNames waivers → slice_get waivers i ≡ Some w → Named w
+waiver-named [] i w names found = cc
+waiver-named (v ∷ waivers) zero w names found = let same : v ≡ w = cc in subst Named same (All-head Named v waivers names)
+waiver-named (v ∷ waivers) (suc i) w names found = waiver-named waivers i w (All-tail Named v waivers names) found
+
+place-written : (font : FontValue) (waivers : List Waiver) (fault : FaultValue) → IsInFont font waivers fault
     → place_text font waivers fault ++ rule_part fault
     ≡ spaced (place_words (place_in font waivers fault) (code_of fault.rule)) (text_of fault.rule ++ codes "\n")
-place-written font waivers fault names there =
+place-written font waivers fault there =
     elim (cases_Bool (fault.unit == 0)) [
       | inl e ↦ rw e (ap (λ t. codes "font " ++ t) (key-written (key_text_of (fault.step / 65536)) (decimal (fault.step % 65536)) (rule_part fault)))
       | inr e ↦ elim (cases_Bool (fault.unit == length font.glyphs + 1)) [
         | inl is ↦ (
-            let at = waiver-of-fault font waivers fault names there is in
+            let at = waiver-of-fault font waivers fault there is in
             let found = at.found in
             rw (e, is, found) (ap (λ t. codes "waiver " ++ t) (key-written at.waiver.0 (code_of at.waiver.1) (rule_part fault))))
         | inr is ↦ rw (e, is) (ap (λ t. codes "glyph " ++ t)
@@ -86,11 +78,12 @@ place-written font waivers fault names there =
       ]
     ]
 
-line-written : (font : FontValue) (waivers : List Waiver) (fault : FaultValue) → HaveNames waivers → IsInFont font waivers fault
+-- Whatever the names are.
+pub line-written : (font : FontValue) (waivers : List Waiver) (fault : FaultValue) → IsInFont font waivers fault
     → line_of font waivers fault ≡ fault_spelled (line_in font waivers fault) ++ codes "\n"
-line-written font waivers fault names there =
+line-written font waivers fault there =
     append_assoc (decimal fault.number) (58 ∷ 32 ∷ []) (place_text font waivers fault ++ rule_part fault)
-    ∙ ap (λ t. decimal fault.number ++ (58 ∷ 32 ∷ t)) (place-written font waivers fault names there)
+    ∙ ap (λ t. decimal fault.number ++ (58 ∷ 32 ∷ t)) (place-written font waivers fault there)
     ∙ sym (spelled-end (line_in font waivers fault) (codes "\n"))
 
 place-is : (font : FontValue) (waivers : List Waiver) (fault : FaultValue) → HasNames font → HaveNames waivers → IsInFont font waivers fault → IsSmall fault
@@ -100,20 +93,14 @@ place-is font waivers fault glyphs names there plain =
       | inl e ↦ (let none : fault.unit ≡ 0 = eqb-true fault.unit 0 e in rw e (there.key none, omega arith))
       | inr e ↦ elim (cases_Bool (fault.unit == length font.glyphs + 1)) [
         | inl is ↦ (
-            let at = waiver-of-fault font waivers fault names there is in
+            let at = waiver-of-fault font waivers fault there is in
             let found = at.found in
             let last = there.waiver (eqb-true fault.unit (length font.glyphs + 1) is) in
-            rw (e, is, found) (at.named, last.0))
+            rw (e, is, found) (waiver-named waivers (fault.step - 1) at.waiver names found, last.0))
         | inr is ↦ (rw (e, is) (glyph_named font (fault.unit - 1) glyphs, plain.depth, plain.path, plain.step))
       ]
     ]
 
 pub written : FaultsAreWrittenAsLines
 written font waivers fault glyphs names there plain =
-    (record { number = plain.number; place = place-is font waivers fault glyphs names there plain }, line-written font waivers fault names there)
-
-pub read_back : (line : List ℕ) (read : Option LineValue) → read ≡ line_read line → IsReadBack line read
-read_back line read is font waivers fault glyphs names there plain whole =
-    let told = written font waivers fault glyphs names there plain in
-    let same : fault_spelled (line_in font waivers fault) ≡ line = append_cancel_right _ _ (codes "\n") (sym told.1 ∙ whole) in
-    is ∙ subst (λ t. line_read t ≡ Some (of_fault (line_in font waivers fault))) same (line-spelled (of_fault (line_in font waivers fault)) told.0)
+    (record { number = plain.number; place = place-is font waivers fault glyphs names there plain }, line-written font waivers fault there)
