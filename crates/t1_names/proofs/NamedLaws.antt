@@ -8,8 +8,9 @@ use Rattle.t1_names.proofs.WordLaws.{one_trim}
 use Rattle.t1_names.specs.Folders.{AreInOrder, IsBelow}
 use Rattle.t1_names.specs.Laws.{OneList, as_listed}
 use Rattle.t1_names.specs.Named.{Found, StandsFor, all_fonts, all_unsearched, alone, included, line_end_count, one_line_names}
-use Rattle.t1_names.specs.Named.StandsFor.{a_folder, a_font, no_line}
+use Rattle.t1_names.specs.Named.StandsFor.{a_folder, a_font, itself}
 use Rattle.t1_names.specs.Once.{each_once}
+use Rattle.t1_names.specs.Words.{file_name}
 use Rattle.t1_names.specs.declared.folders.Listing.{Listing}
 
 abbrev found_with : List (List ℕ) → List (List ℕ) → Found
@@ -33,15 +34,15 @@ module _ (is_folder : List ℕ → Bool) (listing_of : List ℕ → Listing) whe
       ap (λ f. found_with f one.unsearched) fonts ∙ ap (found_with other.fonts) unsearched
 
   same_found : (word : List ℕ) (one other : Found) → Stands word one → Stands word other → one ≡ other
-  same_found word one other (no_line ends is) (no_line ends' is') = is ∙ sym is'
-  same_found word one other (no_line ends is) (a_font trimmed plain trims leads is') = absurd (true≢false (sym ends ∙ plain))
-  same_found word one other (no_line ends is) (a_folder trimmed plain trims leads below) = absurd (true≢false (sym ends ∙ plain))
-  same_found word one other (a_font trimmed plain trims leads is) (no_line ends is') = absurd (true≢false (sym ends ∙ plain))
+  same_found word one other (itself ends is) (itself ends' is') = is ∙ sym is'
+  same_found word one other (itself ends is) (a_font trimmed plain trims leads is') = absurd (true≢false (sym ends ∙ plain))
+  same_found word one other (itself ends is) (a_folder trimmed plain trims leads below) = absurd (true≢false (sym ends ∙ plain))
+  same_found word one other (a_font trimmed plain trims leads is) (itself ends is') = absurd (true≢false (sym ends ∙ plain))
   same_found word one other (a_font trimmed plain trims leads is) (a_font trimmed' plain' trims' leads' is') =
-      is ∙ ap alone (one_trim is_folder word trimmed trimmed' trims trims') ∙ sym is'
+      is ∙ ap (λ t. alone (file_name t)) (one_trim is_folder word trimmed trimmed' trims trims') ∙ sym is'
   same_found word one other (a_font trimmed plain trims leads is) (a_folder trimmed' plain' trims' leads' below) =
       absurd (true≢false (sym leads' ∙ ap is_folder (one_trim is_folder word trimmed' trimmed trims' trims) ∙ leads))
-  same_found word one other (a_folder trimmed plain trims leads below) (no_line ends is') = absurd (true≢false (sym ends ∙ plain))
+  same_found word one other (a_folder trimmed plain trims leads below) (itself ends is') = absurd (true≢false (sym ends ∙ plain))
   same_found word one other (a_folder trimmed plain trims leads below) (a_font trimmed' plain' trims' leads' is') =
       absurd (true≢false (sym leads ∙ ap is_folder (one_trim is_folder word trimmed trimmed' trims trims') ∙ leads'))
   same_found word one other (a_folder trimmed plain trims leads below) (a_folder trimmed' plain' trims' leads' below') =

@@ -10,7 +10,7 @@ use Rattle.std.specs.Result.{IfOk}
 use Rattle.t1_names.specs.Folders.{IsBelow}
 use Rattle.t1_names.specs.Named.{Found, StandsFor, all_fonts, all_unsearched, one_line_names, line_end_count}
 use Rattle.t1_names.specs.Named.StandsFor.{a_folder, a_font}
-use Rattle.t1_names.specs.Words.{Trims, has_line_end}
+use Rattle.t1_names.specs.Words.{Trims, file_name, has_line_end, stays}
 use Rattle.t1_names.specs.declared.folders.Below.{Below}
 use Rattle.t1_names.specs.declared.folders.Listing.{Listing}
 
@@ -57,7 +57,7 @@ lines_and_others names =
     omega (arith, length-filter_both has_line_end (λ name. not (has_line_end name)) (λ name. refl) names, length-filter has_line_end names)
 
 module _ {E : Type 0} (IsFolder : List ℕ → Bool → Type 0) (Lists : List ℕ → Result Listing E → Type 0) (word trimmed : List ℕ)
-    (plain : has_line_end word ≡ false) (trims : Trims IsFolder word trimmed) where
+    (plain : stays word ≡ false) (trims : Trims IsFolder word trimmed) where
   abbrev found_of : Below → Found
   found_of below = record { fonts = map string_bytes below.fonts.items; unsearched = map string_bytes below.unsearched.items }
 
@@ -68,7 +68,7 @@ module _ {E : Type 0} (IsFolder : List ℕ → Bool → Type 0) (Lists : List �
   stands_for_below (Err e) leads are = tt
 
   pub stands_for_itself : {F : Type 0} (r : Result Below F) → IsFolder trimmed false
-      → IfOk r (λ below. (map string_bytes below.fonts.items ≡ trimmed ∷ []) × (map string_bytes below.unsearched.items ≡ []))
+      → IfOk r (λ below. (map string_bytes below.fonts.items ≡ file_name trimmed ∷ []) × (map string_bytes below.unsearched.items ≡ []))
       → IfOk r (λ below. StandsFor IsFolder Lists word (found_of below))
   stands_for_itself (Ok below) leads (fonts, missed) = a_font trimmed plain trims leads cc
   stands_for_itself (Err e) leads are = tt

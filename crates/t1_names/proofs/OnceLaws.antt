@@ -1,5 +1,5 @@
 -- Lists in which each name is kept once.
-use Rattle.std.proofs.Common.{◌≡◌, ◌||◌, ℕ, Bool, true, false, not, List, [], ◌∷◌, ◌++◌, filter, ⊎_elim, append-nil, append_assoc, refl, sym, ap, subst, ◌∙◌}
+use Rattle.std.proofs.Common.{◌≡◌, ◌||◌, ℕ, Bool, true, false, not, List, [], ◌∷◌, ◌++◌, if◌then◌else◌, codes, filter, ⊎_elim, append-nil, append_assoc, refl, sym, ap, subst, ◌∙◌}
 use Rattle.std.proofs.lemmas.Bool.{cases_Bool, cond-false, cond-true, false_from_ne_true, not-true, or_cases, or_left, or_right, true≢false}
 use Rattle.std.proofs.lemmas.List.Folds.{list_any-append}
 use Rattle.std.proofs.lemmas.Map.Keys.{IsDistinct-push}
@@ -8,9 +8,9 @@ use Rattle.std.proofs.lemmas.Slice.Eq.{bytes_eq-Decides}
 use Rattle.std.specs.Cmp.{IsEquivalence}
 use Rattle.std.specs.List.{IsDistinct, list_any}
 use Rattle.std.specs.Str.{bytes_eq}
-use Rattle.t1_names.specs.Laws.{EachFits, EachIsKept, NoneIsTwice}
+use Rattle.t1_names.specs.Laws.{EachFits, EachIsKept, InputIsIncluded, NoneIsTwice}
 use Rattle.t1_names.specs.Globs.{is_excluded}
-use Rattle.t1_names.specs.Named.{included, one_line_names}
+use Rattle.t1_names.specs.Named.{included, is_included, one_line_names}
 use Rattle.t1_names.specs.Once.{each_after, each_once}
 use Rattle.t1_names.specs.Words.{has_line_end}
 
@@ -120,6 +120,30 @@ each_fits globs names name is =
     let all : List (List ℕ) = included globs names in
     let listed : (not (has_line_end name) ≡ true) × (list_any (bytes_eq name) (each_once all) ≡ true) =
     kept_passes (λ n. not (has_line_end n)) (each_once all) name (list_any-from_Contains equal_names name (one_line_names (each_once all)) is) in
-    let inside : (not (is_excluded globs name) ≡ true) × (list_any (bytes_eq name) names ≡ true) =
-    kept_passes (λ n. not (is_excluded globs n)) names name (sym (found name [] all) ∙ listed.1) in
-    (not-true (has_line_end name) listed.0, not-true (is_excluded globs name) inside.0)
+    let inside : (is_included globs name ≡ true) × (list_any (bytes_eq name) names ≡ true) =
+    kept_passes (is_included globs) names name (sym (found name [] all) ∙ listed.1) in (
+      not-true (has_line_end name) listed.0,
+      λ no_input. not-true (is_excluded globs name) (sym (ap (λ b. b || not (is_excluded globs name)) no_input) ∙ inside.0),
+    )
+
+-- what passes a filter stays
+passes_kept : (test : List ℕ → Bool) (name : List ℕ) → test name ≡ true → (names : List (List ℕ)) → list_any (bytes_eq name) names ≡ true
+    → list_any (bytes_eq name) (filter test names) ≡ true
+passes_kept test name passes [] is = is
+passes_kept test name passes (first ∷ names) is =
+    ⊎_elim
+    (λ same.
+    ap (list_any (bytes_eq name)) (cond-true (test first) (first ∷ filter test names) (filter test names) (ap test (sym (same_bytes name first same)) ∙ passes))
+    ∙ or_left (bytes_eq name first) (list_any (bytes_eq name) (filter test names)) same)
+    (λ later.
+    let rest : list_any (bytes_eq name) (filter test names) ≡ true = passes_kept test name passes names later in
+    elim (test first) as (λ b. list_any (bytes_eq name) (if b then first ∷ filter test names else filter test names) ≡ true) [
+      | true ↦ or_right (bytes_eq name first) (list_any (bytes_eq name) (filter test names)) rest
+      | false ↦ rest
+    ])
+    (or_cases (bytes_eq name first) (list_any (bytes_eq name) names) is)
+
+pub input_is_included : InputIsIncluded
+input_is_included globs names is =
+    Contains-from_any same_bytes (codes "-") (included globs names)
+    (passes_kept (is_included globs) (codes "-") refl names (list_any-from_Contains equal_names (codes "-") names is))

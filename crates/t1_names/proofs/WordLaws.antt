@@ -4,8 +4,8 @@ use Rattle.std.proofs.lemmas.Bool.{and_right, cases_Bool, cond-false, cond-true,
 use Rattle.std.specs.List.{ends_with}
 use Rattle.std.specs.Str.{bytes_eq}
 use Rattle.t1_names.proofs.WordLemmas.{fronts_same, tails_same}
-use Rattle.t1_names.specs.Laws.{NoDotInFolders, NoDotInPaths, OneTrim}
-use Rattle.t1_names.specs.Words.{IsShort, Shortens, Trims, after_slashes}
+use Rattle.t1_names.specs.Laws.{InputIsNoFile, NoDotInFolders, NoDotInPaths, OneTrim}
+use Rattle.t1_names.specs.Words.{IsShort, Shortens, Trims, after_slashes, is_input}
 use Rattle.t1_names.specs.Words.Shortens.{back, front}
 use Rattle.t1_names.specs.Words.Trims.{short, shortened}
 
@@ -73,6 +73,13 @@ no_dot_in_folders is_folder word trimmed rest trims leads is = no_dot is_folder 
 
 pub one_trim : OneTrim
 one_trim is_folder word one other = same_trim is_folder word one other
+
+pub input_is_no_file : InputIsNoFile
+input_is_no_file name =
+    ⊎_elim
+    (λ input. ap is_input (cond-true (is_input name) (codes "./-") name input))
+    (λ other. ap is_input (cond-false (is_input name) (codes "./-") name other) ∙ other)
+    (cases_Bool (is_input name))
 
 firsts_same : (a b : ℕ) (xs ys : List ℕ) → a ∷ xs ≡ b ∷ ys → a ≡ b
 firsts_same a b xs ys is = cc

@@ -8,7 +8,7 @@ use Rattle.t1_names.specs.Globs.{Glob, IsRead, does_match, is_excluded, is_slash
 use Rattle.t1_names.specs.Named.{AreNamed, included, one_line_names}
 use Rattle.t1_names.specs.Once.{each_once}
 use Rattle.t1_names.specs.declared.folders.Listing.{Listing}
-use Rattle.t1_names.specs.Words.{Trims, has_line_end}
+use Rattle.t1_names.specs.Words.{Trims, file_name, has_line_end, is_input}
 
 -- A folder's listing, where memory doesn't run out.
 abbrev pub as_listed : Listing → Result Listing AllocError
@@ -22,11 +22,11 @@ EachIsKept = (names : List (List ℕ)) → (name : List ℕ) → Contains names 
 abbrev pub NoneIsTwice : Type 0
 NoneIsTwice = (names : List (List ℕ)) → IsDistinct bytes_eq (each_once names)
 
--- A name in a list of fonts has no line end, and no glob matches it.
+-- A name in a list of fonts has no line end, and no glob matches it, unless it is standard input.
 abbrev pub EachFits : Type 0
 EachFits =
     (globs : List Glob) → (names : List (List ℕ)) → (name : List ℕ) → Contains (one_line_names (each_once (included globs names))) name
-    → (has_line_end name ≡ false) × (is_excluded globs name ≡ false)
+    → (has_line_end name ≡ false) × (is_input name ≡ false → is_excluded globs name ≡ false)
 
 -- A word is trimmed in one way, where each word leads to a folder or doesn't.
 abbrev pub OneTrim : Type 0
@@ -49,6 +49,14 @@ OneList =
     → AreNamed (λ word leads. is_folder word ≡ leads) (λ folder r. r ≡ as_listed (listing_of folder)) words globs names unsearched passed_over
     → AreNamed (λ word leads. is_folder word ≡ leads) (λ folder r. r ≡ as_listed (listing_of folder)) words globs names' unsearched' passed_over'
     → (names ≡ names') × (unsearched ≡ unsearched') × (passed_over ≡ passed_over')
+
+-- No file has the name of standard input.
+abbrev pub InputIsNoFile : Type 0
+InputIsNoFile = (name : List ℕ) → is_input (file_name name) ≡ false
+
+-- No glob excludes standard input.
+abbrev pub InputIsIncluded : Type 0
+InputIsIncluded = (globs : List Glob) → (names : List (List ℕ)) → Contains names (codes "-") → Contains (included globs names) (codes "-")
 
 -- A word that leads to a folder keeps no leading `./`.
 abbrev pub NoDotInFolders : Type 0

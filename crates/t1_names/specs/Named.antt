@@ -1,10 +1,10 @@
 -- The fonts that words name.
-use Rattle.std.specs.Prelude.{◌≡◌, ℕ, ◌+◌, Bool, true, false, not, List, [], ◌∷◌, Result, count_by, filter}
+use Rattle.std.specs.Prelude.{◌≡◌, ◌||◌, ℕ, ◌+◌, Bool, true, false, not, List, [], ◌∷◌, Result, count_by, filter}
 use Rattle.std.specs.List.{AllZip, flat_map}
 use Rattle.t1_names.specs.Folders.{IsBelow}
 use Rattle.t1_names.specs.Globs.{Glob, is_excluded}
 use Rattle.t1_names.specs.Once.{each_once}
-use Rattle.t1_names.specs.Words.{Trims, has_line_end}
+use Rattle.t1_names.specs.Words.{Trims, file_name, has_line_end, is_input, stays}
 use Rattle.t1_names.specs.declared.folders.Listing.{Listing}
 
 -- What a word names: fonts, and the folders that weren't searched whole.
@@ -16,16 +16,16 @@ pub record Found : Type 0 where
 abbrev pub alone : List ℕ → Found
 alone name = record { fonts = name ∷ []; unsearched = [] }
 
--- A word that leads to a folder names the fonts below it, another one names itself. One with a line end isn't looked
--- at.
+-- A word that leads to a folder names the fonts below it, another one names a file. Standard input and a word with a
+-- line end name themselves.
 pub data StandsFor {E : Type 0} (IsFolder : List ℕ → Bool → Type 0) (Lists : List ℕ → Result Listing E → Type 0) (word : List ℕ)
     (found : Found) : Type 0 where
-  no_line : has_line_end word ≡ true → found ≡ alone word → StandsFor IsFolder Lists word found
+  itself : stays word ≡ true → found ≡ alone word → StandsFor IsFolder Lists word found
   a_font :
-      (trimmed : List ℕ) → has_line_end word ≡ false → Trims IsFolder word trimmed → IsFolder trimmed false → found ≡ alone trimmed
+      (trimmed : List ℕ) → stays word ≡ false → Trims IsFolder word trimmed → IsFolder trimmed false → found ≡ alone (file_name trimmed)
       → StandsFor IsFolder Lists word found
   a_folder :
-      (trimmed : List ℕ) → has_line_end word ≡ false → Trims IsFolder word trimmed → IsFolder trimmed true
+      (trimmed : List ℕ) → stays word ≡ false → Trims IsFolder word trimmed → IsFolder trimmed true
       → IsBelow Lists trimmed found.fonts found.unsearched → StandsFor IsFolder Lists word found
 
 -- What all words name, one after another.
@@ -42,9 +42,13 @@ one_line_names names = filter (λ name. not (has_line_end name)) names
 abbrev pub line_end_count : List (List ℕ) → ℕ
 line_end_count names = count_by has_line_end names
 
+-- No glob excludes the name. None excludes standard input.
+abbrev pub is_included : List Glob → List ℕ → Bool
+is_included globs name = is_input name || not (is_excluded globs name)
+
 -- The names that no glob excludes.
 abbrev pub included : List Glob → List (List ℕ) → List (List ℕ)
-included globs names = filter (λ name. not (is_excluded globs name)) names
+included globs names = filter (is_included globs) names
 
 -- The list that words make: each font once, without those that a glob excludes, and each folder once that wasn't
 -- searched whole. Names with a line end are counted in place of being listed.

@@ -2,9 +2,9 @@
 
 ghost use Rattle.std.specs.Prelude.{◌≡◌, ◌++◌, IfOk, OnOk, map, string_bytes};
 ghost use Rattle.std.specs.Char.{to_ascii_lowercase};
-ghost use Rattle.std.specs.Fn.{FnReturnsAt};
 ghost use Rattle.t1_names.specs.Folders.{AreInOrder, IsBelow, ends_so, folders_in, fonts_in, is_font_name, path_of, unsearched_at};
 
+use crate::filesystem::FileSystem;
 use std::alloc::{AllocError, Global};
 
 /// What is in a folder, by its name there: a folder, or a file or a link to one that [`is_font_name`] takes for a font.
@@ -49,13 +49,13 @@ fn ends_so(name: &[u8], end: &[u8]) -> bool
     name[start..].eq_ignore_ascii_case(end)
 }
 
-/// The fonts below a folder. `list` returns what is in a folder. No more than 2^64 - 1 folders are listed; those left
-/// then are unsearched.
-pub fn fonts_below<L>(alloc: Global, folder: &str, list: &L) -> Result<Below, AllocError>
-where
-    L: Fn(&str) -> Result<Listing, AllocError>,
-    requires { L.IsAlwaysCallable list.now }
-    ensures { IfOk result (λ below. IsBelow (FnReturnsAt L.Fn list.now) folder.now (map string_bytes below.fonts.items) (map string_bytes below.unsearched.items)) }
+/// The fonts below a folder. No more than 2^64 - 1 folders are listed; those left then are unsearched.
+pub fn fonts_below<F: FileSystem>(
+    alloc: Global,
+    folder: &str,
+    files: &F,
+) -> Result<Below, AllocError>
+    ensures { IfOk result (λ below. IsBelow (F.lists files.now) folder.now (map string_bytes below.fonts.items) (map string_bytes below.unsearched.items)) }
 {
     let mut fonts = Vec::new(alloc);
     let mut unsearched = Vec::new(alloc);
@@ -65,7 +65,7 @@ where
         let Some(folder) = pending.pop() else {
             return in_order(fonts, unsearched);
         };
-        let listing = list(folder.as_str())?;
+        let listing = files.list_folder(folder.as_str())?;
         take_entries(
             alloc,
             folder.as_str(),

@@ -1,6 +1,6 @@
 //! Laws above the definitions: each is the contract of a function that does nothing.
 
-ghost use Rattle.t1_names.specs.Laws.{DoubleStarMatchesAll, EachFits, EachIsKept, NoDotInFolders, NoDotInPaths, NoneIsTwice, OneList, OneReading, OneSearch, OneTrim, PlainIsItself, StarStopsAtSlashes};
+ghost use Rattle.t1_names.specs.Laws.{DoubleStarMatchesAll, EachFits, EachIsKept, InputIsIncluded, InputIsNoFile, NoDotInFolders, NoDotInPaths, NoneIsTwice, OneList, OneReading, OneSearch, OneTrim, PlainIsItself, StarStopsAtSlashes};
 
 /// Keeping each name once loses no name, adds none and leaves none twice.
 #[tactic(auto, using(crate::proofs::OnceLaws::none_is_twice))]
@@ -9,7 +9,7 @@ pub fn each_name_is_once()
     ensures once { NoneIsTwice }
 {}
 
-/// A name in the list of fonts has no line end, and no glob that excludes names matches it.
+/// A name in the list of fonts has no line end, and no glob that excludes names matches it, unless it is `-`.
 pub fn each_name_fits()
     ensures { EachFits }
 {}
@@ -29,6 +29,13 @@ pub fn searches_are_one()
 /// Words make one list, where each word leads to a folder or doesn't, and each folder lists one thing.
 pub fn lists_are_one()
     ensures { OneList }
+{}
+
+/// No file has the name `-`, which is standard input, and no glob excludes that.
+#[tactic(auto, using(crate::proofs::WordLaws::input_is_no_file, crate::proofs::OnceLaws::input_is_included))]
+pub fn input_stays_apart()
+    ensures files { InputIsNoFile }
+    ensures globs { InputIsIncluded }
 {}
 
 /// The names of fonts below a folder have no leading `./`: neither has a word that leads to a folder, nor the name of

@@ -3,7 +3,9 @@
 ghost use Rattle.std.specs.Prelude.{◌≡◌, not, false, true, IfOk, MatchOption, count_by, filter, map, string_bytes};
 ghost use Rattle.std.specs.Str.{is_utf8};
 ghost use Rattle.t1_names.specs.Lists.{is_word, lines_of, unreadable_in, words_in};
+ghost use Rattle.t1_names.specs.Words.{file_name};
 
+use crate::words::file_name;
 use std::alloc::{AllocError, Global};
 use std::str;
 
@@ -16,7 +18,7 @@ pub struct Words {
     pub passed_over: usize,
 }
 
-/// The words of a list, one per line. Empty lines are skipped; the last line may have no end.
+/// The words of a list, one per line. Empty lines are skipped; the last line may have no end. `-` is the name of a file here, `./-`.
 pub fn words_in(alloc: Global, text: &[u8]) -> Result<Words, AllocError>
     ensures words { IfOk result (λ read. map string_bytes read.words.items ≡ words_in text.now) }
     ensures passed_over { IfOk result (λ read. read.passed_over ≡ unreadable_in text.now) }
@@ -43,12 +45,12 @@ fn unreadable(lines: &[&[u8]]) -> usize
 
 /// The words among lines.
 fn words_of(alloc: Global, lines: Vec<&[u8]>) -> Result<Vec<String>, AllocError>
-    ensures { IfOk result (λ words. map string_bytes words.items ≡ filter is_word (map (λ line. line.now) lines.entry.items)) }
+    ensures { IfOk result (λ words. map string_bytes words.items ≡ map file_name (filter is_word (map (λ line. line.now) lines.entry.items))) }
 {
     let mut words = Vec::new(alloc);
     for line in lines {
         if let Some(word) = word_of(line) {
-            words.push(String::from_str(alloc, word)?)?;
+            words.push(String::from_str(alloc, file_name(word))?)?;
         }
     }
     Ok(words)

@@ -1,16 +1,16 @@
 //! The fonts that words name.
 
 ghost use Rattle.std.specs.Prelude.{◌≡◌, ◌+◌, ◌^◌, ◌<◌, ◌++◌, [], ◌∷◌, IfOk, OnOk, List, map, string_bytes};
-ghost use Rattle.std.specs.Fn.{FnReturnsAt};
 ghost use Rattle.std.specs.List.{AllZip};
 ghost use Rattle.t1_names.specs.GlobValues.{glob_of};
-ghost use Rattle.t1_names.specs.Named.{AreNamed, Found, StandsFor, all_fonts, all_unsearched, included, one_line_names, line_end_count};
+ghost use Rattle.t1_names.specs.Named.{AreNamed, Found, StandsFor, all_fonts, all_unsearched, included, is_included, one_line_names, line_end_count};
 ghost use Rattle.t1_names.specs.Once.{each_once};
 
-use crate::folders::{Below, Listing, fonts_below};
+use crate::filesystem::FileSystem;
+use crate::folders::{Below, fonts_below};
 use crate::globs::{Glob, is_excluded};
 use crate::once::each_once;
-use crate::words::{has_line_end, trim_word};
+use crate::words::{file_name, has_line_end, is_input, stays, trim_word};
 use std::alloc::{AllocError, Global};
 
 /// The fonts that words name.
@@ -24,24 +24,18 @@ pub struct Named {
     pub passed_over: usize,
 }
 
-/// The fonts that words name, without those that a glob excludes. Where `is_folder` says that a word leads to a folder,
-/// it names the fonts below it, which `list` lists.
-pub fn fonts_named<D, L>(
+/// The fonts that words name, without those that a glob excludes. A word that leads to a folder names the fonts below it.
+/// The word `-` is standard input, which no glob excludes; a file of that name is named `./-`.
+pub fn fonts_named<F: FileSystem>(
     alloc: Global,
     words: &[String],
-    is_folder: D,
-    list: L,
+    files: &F,
     excluded: &[Glob],
 ) -> Result<Named, AllocError>
-where
-    D: Fn(&str) -> bool,
-    L: Fn(&str) -> Result<Listing, AllocError>,
-    requires folders { D.IsAlwaysCallable is_folder }
-    requires list { L.IsAlwaysCallable list }
-    ensures { IfOk result (λ named. AreNamed (FnReturnsAt D.Fn is_folder) (FnReturnsAt L.Fn list) (map string_bytes words.now) (map glob_of excluded.now)
+    ensures { IfOk result (λ named. AreNamed (F.leads files.now) (F.lists files.now) (map string_bytes words.now) (map glob_of excluded.now)
         (map string_bytes named.names.items) (map string_bytes named.unsearched.items) named.passed_over) }
 {
-    let found = search(alloc, words, &is_folder, &list)?;
+    let found = search(alloc, words, files)?;
     let fonts = included(alloc, found.fonts, excluded)?;
     let mut names = each_once(alloc, fonts)?;
     let mut unsearched = each_once(alloc, found.unsearched)?;
@@ -55,26 +49,16 @@ where
 }
 
 /// What words name, one after another.
-fn search<D, L>(
-    alloc: Global,
-    words: &[String],
-    is_folder: &D,
-    list: &L,
-) -> Result<Below, AllocError>
-where
-    D: Fn(&str) -> bool,
-    L: Fn(&str) -> Result<Listing, AllocError>,
-    requires folders { D.IsAlwaysCallable is_folder.now }
-    requires list { L.IsAlwaysCallable list.now }
+fn search<F: FileSystem>(alloc: Global, words: &[String], files: &F) -> Result<Below, AllocError>
     ensures { IfOk result (λ below. (founds : List Found)
-        × AllZip (StandsFor (FnReturnsAt D.Fn is_folder.now) (FnReturnsAt L.Fn list.now)) (map string_bytes words.now) founds
+        × AllZip (StandsFor (F.leads files.now) (F.lists files.now)) (map string_bytes words.now) founds
         × (map string_bytes below.fonts.items ≡ all_fonts founds)
         × (map string_bytes below.unsearched.items ≡ all_unsearched founds)) }
 {
     let mut fonts = Vec::new(alloc);
     let mut unsearched = Vec::new(alloc);
     for word in words {
-        let found = stand_for(alloc, word.as_str(), is_folder, list)?;
+        let found = stand_for(alloc, word.as_str(), files)?;
         take(&mut fonts, found.fonts)?;
         take(&mut unsearched, found.unsearched)?;
     }
@@ -82,23 +66,18 @@ where
 }
 
 /// What a word names.
-fn stand_for<D, L>(alloc: Global, word: &str, is_folder: &D, list: &L) -> Result<Below, AllocError>
-where
-    D: Fn(&str) -> bool,
-    L: Fn(&str) -> Result<Listing, AllocError>,
-    requires folders { D.IsAlwaysCallable is_folder.now }
-    requires list { L.IsAlwaysCallable list.now }
-    ensures { IfOk result (λ below. StandsFor (FnReturnsAt D.Fn is_folder.now) (FnReturnsAt L.Fn list.now) word.now
+fn stand_for<F: FileSystem>(alloc: Global, word: &str, files: &F) -> Result<Below, AllocError>
+    ensures { IfOk result (λ below. StandsFor (F.leads files.now) (F.lists files.now) word.now
         (record { fonts = map string_bytes below.fonts.items; unsearched = map string_bytes below.unsearched.items })) }
 {
-    if has_line_end(word) {
+    if stays(word) {
         return alone(alloc, word);
     }
-    let trimmed = trim_word(word, is_folder);
-    if is_folder(trimmed) {
-        fonts_below(alloc, trimmed, list)
+    let trimmed = trim_word(word, files);
+    if files.is_folder(trimmed) {
+        fonts_below(alloc, trimmed, files)
     } else {
-        alone(alloc, trimmed)
+        alone(alloc, file_name(trimmed))
     }
 }
 
@@ -123,17 +102,27 @@ fn take(names: &mut Vec<String>, more: Vec<String>) -> Result<(), AllocError>
     Ok(())
 }
 
-/// The names that no glob excludes.
+/// The names that no glob excludes, and standard input.
 fn included(alloc: Global, names: Vec<String>, excluded: &[Glob]) -> Result<Vec<String>, AllocError>
     ensures { IfOk result (λ kept. map string_bytes kept.items ≡ included (map glob_of excluded.now) (map string_bytes names.items)) }
 {
     let mut kept = Vec::new(alloc);
     for name in names {
-        if !is_excluded(alloc, name.as_str(), excluded)? {
+        if is_included(alloc, name.as_str(), excluded)? {
             kept.push(name)?;
         }
     }
     Ok(kept)
+}
+
+/// Whether no glob excludes a name. None excludes standard input.
+fn is_included(alloc: Global, name: &str, excluded: &[Glob]) -> Result<bool, AllocError>
+    ensures { IfOk result (λ is. is ≡ is_included (map glob_of excluded.now) name.now) }
+{
+    if is_input(name) {
+        return Ok(true);
+    }
+    Ok(!is_excluded(alloc, name, excluded)?)
 }
 
 /// Leaves the names that can be in a line, and says how many can't.

@@ -1,31 +1,26 @@
 //! Words that name a font or a folder.
 
 ghost use Rattle.std.specs.Prelude.{◌≡◌, ◌≢◌, ◌<◌, [], ◌∷◌, length, MatchOption};
-ghost use Rattle.std.specs.Fn.{FnReturnsAt};
-ghost use Rattle.t1_names.specs.Words.{IsShort, Shortens, Trims, after_slashes, has_line_end};
+ghost use Rattle.t1_names.specs.Words.{IsShort, Shortens, Trims, after_slashes, file_name, has_line_end, is_input, stays};
+
+use crate::filesystem::FileSystem;
 
 /// The name that a word means. A leading `./`, and slashes after it, go where something else is after them. Then `/`
-/// goes from its end where something is before it and `is_folder` says that the word, with the `/`, leads to a folder.
-pub fn trim_word<'a, D>(word: &'a str, is_folder: &D) -> &'a str
-where
-    D: Fn(&str) -> bool,
-    requires { D.IsAlwaysCallable is_folder.now }
-    ensures { Trims (FnReturnsAt D.Fn is_folder.now) word.now result.now }
+/// goes from its end where something is before it and the word, with the `/`, leads to a folder.
+pub fn trim_word<'a, F: FileSystem>(word: &'a str, files: &F) -> &'a str
+    ensures { Trims (F.leads files.now) word.now result.now }
 {
     let mut trimmed = word;
-    while let Some(next) = shortened(trimmed, is_folder) {
+    while let Some(next) = shortened(trimmed, files) {
         trimmed = next;
     }
     trimmed
 }
 
 /// A word without what goes from its beginning or its end.
-fn shortened<'a, D>(word: &'a str, is_folder: &D) -> Option<&'a str>
-where
-    D: Fn(&str) -> bool,
-    requires { D.IsAlwaysCallable is_folder.now }
-    ensures { MatchOption result (IsShort (FnReturnsAt D.Fn is_folder.now) word.now)
-        (λ next. Shortens (FnReturnsAt D.Fn is_folder.now) word.now next.now × (length next.now < length word.now)) }
+fn shortened<'a, F: FileSystem>(word: &'a str, files: &F) -> Option<&'a str>
+    ensures { MatchOption result (IsShort (F.leads files.now) word.now)
+        (λ next. Shortens (F.leads files.now) word.now next.now × (length next.now < length word.now)) }
 {
     if let Some(rest) = without_front(word) {
         return Some(rest);
@@ -34,7 +29,11 @@ where
     if front.is_empty() {
         return None;
     }
-    if is_folder(word) { Some(front) } else { None }
+    if files.is_folder(word) {
+        Some(front)
+    } else {
+        None
+    }
 }
 
 /// A word without its leading `./` and the slashes after it, where something else is after them.
@@ -63,4 +62,25 @@ pub(crate) fn has_line_end(name: &str) -> bool
     ensures { result ≡ has_line_end name.now }
 {
     name.as_bytes().contains(&b'\n')
+}
+
+/// Whether a word of the command line is `-`: standard input.
+pub fn is_input(word: &str) -> bool
+    ensures { result ≡ is_input word.now }
+{
+    word == "-"
+}
+
+/// Whether a word stays as it is: standard input does, and a name with a line end.
+pub(crate) fn stays(word: &str) -> bool
+    ensures { result ≡ stays word.now }
+{
+    is_input(word) | has_line_end(word)
+}
+
+/// The name of a file in lines: `-` would be standard input.
+pub(crate) fn file_name(name: &str) -> &str
+    ensures { result.now ≡ file_name name.now }
+{
+    if is_input(name) { "./-" } else { name }
 }

@@ -1,9 +1,12 @@
 //! Words, and the fonts that they name.
 
 use std::alloc::{AllocError, Global};
+use std::io;
+use std::io::ErrorKind;
 use std::test::Fail;
 use t1_names::{
-    Entry, Glob, Listing, each_once, fonts_below, fonts_named, is_font_name, trim_word,
+    Entry, FileSystem, Glob, Listing, each_once, fonts_below, fonts_named, is_font_name, is_input,
+    trim_word,
 };
 
 /// A folder: its name, the folders and the fonts in it, and whether it can be listed whole.
@@ -22,6 +25,7 @@ const FOLDERS: &[Folder] = &[
     ("fonts/old/older", &[], &["a.pfb"], false),
     ("b\nc", &[], &["d.pfb"], false),
     ("/", &[], &["r.pfb"], true),
+    ("-/x", &[], &["s.pfb"], true),
 ];
 
 /// The words that lead to folders.
@@ -36,11 +40,40 @@ const FOLDER_WORDS: &[&str] = &[
     "fonts/old/",
     "/",
     "//",
+    "-/x",
+    "-/x/",
 ];
 
-/// Whether a word leads to a folder.
-fn is_folder(word: &str) -> bool {
-    FOLDER_WORDS.iter().any(|known| *known == word)
+/// These folders; there are no files to read.
+#[derive(Drop)]
+struct Folders {
+    alloc: Global,
+}
+
+impl FileSystem for Folders {
+    ghost leads = { λ _ _ _. Unit {0} };
+
+    ghost lists = { λ _ _ _. Unit {0} };
+
+    ghost has_text = { λ _ _ _. Unit {0} };
+
+    ghost has_list = { λ _ _ _. Unit {0} };
+
+    fn is_folder(&self, name: &str) -> bool {
+        FOLDER_WORDS.iter().any(|known| *known == name)
+    }
+
+    fn list_folder(&self, folder: &str) -> Result<Listing, AllocError> {
+        list(self.alloc, folder)
+    }
+
+    fn text(&self, _name: &str) -> Option<io::Result<Vec<u8>>> {
+        None
+    }
+
+    fn list_text(&self, _name: &str) -> io::Result<Vec<u8>> {
+        Err(io::Error::from(ErrorKind::NotFound))
+    }
 }
 
 /// What is in a folder; a folder that isn't known can't be read.
@@ -94,6 +127,7 @@ fn trims_words(rt: HostRuntime) {
         ("././a.pfb", "a.pfb"),
         (".//a.pfb", "a.pfb"),
         ("./-q", "-q"),
+        ("./-/x/", "-/x"),
         ("./", "."),
         (".//", "."),
         ("././.", "."),
@@ -108,8 +142,9 @@ fn trims_words(rt: HostRuntime) {
         ("a.pfb/", "a.pfb/"),
         ("./absent/", "absent/"),
     ];
+    let folders = Folders { alloc: rt.alloc() };
     for (word, want) in words {
-        assert_eq!(rt; trim_word(word, &is_folder), want, "at {word}");
+        assert_eq!(rt; trim_word(word, &folders), want, "at {word}");
     }
 }
 
@@ -140,7 +175,7 @@ fn keeps_each_name_once(rt: HostRuntime) -> Result<(), Fail> {
 
 #[test]
 fn finds_fonts_below_a_folder(rt: HostRuntime) -> Result<(), Fail> {
-    let below = fonts_below(rt.alloc(), "fonts", &|folder| list(rt.alloc(), folder))?;
+    let below = fonts_below(rt.alloc(), "fonts", &Folders { alloc: rt.alloc() })?;
     assert_eq!(rt;
         one_a_line(rt.alloc(), below.fonts.as_slice())?.as_str(),
         "fonts/Z.pfb\nfonts/a.pfb\nfonts/a/c.pfb\nfonts/b.pfb\nfonts/n\nl.pfa\nfonts/old/b.pfa\nfonts/old/older/a.pfb\n"
@@ -175,8 +210,7 @@ fn names_fonts(rt: HostRuntime) -> Result<(), Fail> {
     let named = fonts_named(
         rt.alloc(),
         words.as_slice(),
-        is_folder,
-        |folder| list(rt.alloc(), folder),
+        &Folders { alloc: rt.alloc() },
         excluded.as_slice(),
     )?;
     assert_eq!(rt;
@@ -189,5 +223,36 @@ fn names_fonts(rt: HostRuntime) -> Result<(), Fail> {
     );
     // the word, two fonts, and a folder
     assert_eq!(rt; named.passed_over, 4);
+    Ok(())
+}
+
+/// The word `-` is standard input, which no glob excludes; a file of that name is `./-`.
+#[test]
+fn tells_standard_input_from_files(rt: HostRuntime) -> Result<(), Fail> {
+    assert!(rt; is_input("-"));
+    assert!(rt; !is_input("./-"));
+    assert!(rt; !is_input("-q"));
+    let words = kept(rt.alloc(), &["-", "./-", "./-/x", ".//-", "-", "./-q"])?;
+    let named = fonts_named(
+        rt.alloc(),
+        words.as_slice(),
+        &Folders { alloc: rt.alloc() },
+        &[],
+    )?;
+    assert_eq!(rt;
+        one_a_line(rt.alloc(), named.names.as_slice())?.as_str(),
+        "-\n./-\n-/x/s.pfb\n-q\n"
+    );
+    let excluded = [Glob::read(rt.alloc(), "*")?];
+    let named = fonts_named(
+        rt.alloc(),
+        words.as_slice(),
+        &Folders { alloc: rt.alloc() },
+        excluded.as_slice(),
+    )?;
+    assert_eq!(rt;
+        one_a_line(rt.alloc(), named.names.as_slice())?.as_str(),
+        "-\n"
+    );
     Ok(())
 }

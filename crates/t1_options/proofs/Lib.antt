@@ -1,4 +1,5 @@
 pub mod CommandLemmas
+pub mod Judged
 pub mod Known
 pub mod Levels
 pub mod Numbers
@@ -6,4 +7,5 @@ pub mod Shards
 pub mod TextTests
 pub mod Together
 pub mod Uses
+pub mod Wins
 pub mod WrongValues

@@ -1,9 +1,10 @@
 -- Options that are taken go together: each check was passed.
-use Rattle.std.proofs.Common.{◌≡◌, ◌<◌, ◌+◌, ◌&&◌, ◌||◌, ℕ, zero, suc, Bool, true, false, true≢false, not, get_or, List, [], ◌∷◌, Option, None, Some, is_some, length, option_and_then, option_map, string_bytes, ap, arith, refl, sym, ◌∙◌}
+use Rattle.std.proofs.Common.{◌≡◌, ◌<◌, ◌+◌, ◌&&◌, ◌||◌, ℕ, zero, suc, Bool, true, false, true≢false, not, get_or, List, [], ◌∷◌, Option, None, Some, is_some, length, option_and_then, option_map, string_bytes, ap, ap₂, arith, count_by, nat_lt, refl, sym, ◌∙◌}
 use Rattle.std.proofs.lemmas.List.{length-map}
 use Rattle.clap.specs.Walk.{is_empty}
 use Rattle.clap.specs.Words.{Text}
-use Rattle.t1_options.specs.Complaints.{checks_of, first_so, is_wrong}
+use Rattle.t1_names.specs.Words.{is_input}
+use Rattle.t1_options.specs.Complaints.{checks_of, first_so, has_input, is_wrong}
 use Rattle.t1_options.specs.Given.{GivenValue}
 use Rattle.t1_options.specs.Laws.{MeantGoTogether, are_written}
 use Rattle.t1_options.specs.Options.{file_of, waivers_of}
@@ -88,6 +89,8 @@ meant_go_together given options meant =
     let write : (given.write_waivers && (is_some given.baseline || is_some given.shard)) ≡ false = check 8 in
     let docs_form : (is_some given.docs && not (is_some given.format)) ≡ false = check 10 in
     let fonts : (is_empty given.paths && is_empty given.files_from) ≡ false = check 11 in
+    let twice : nat_lt 1 (count_by is_input given.paths) ≡ false = check 12 in
+    let both : (has_input given.paths && has_input given.files_from) ≡ false = check 13 in
     record {
       updated = λ is.
           let on = first_true given.update_baseline (is_some given.baseline) (sym values.anew ∙ is) in
@@ -111,4 +114,6 @@ meant_go_together given options meant =
           let paths = sym (ap length values.paths) ∙ length-map options.paths.items string_bytes in
           let lists = sym (ap length values.files_from) ∙ length-map options.files_from.items string_bytes in
           omega (arith, some, paths, lists);
+      input_once = ap (λ paths. nat_lt 1 (count_by is_input paths)) values.paths ∙ twice;
+      input_alone = ap₂ (λ paths lists. has_input paths && has_input lists) values.paths values.files_from ∙ both;
     }

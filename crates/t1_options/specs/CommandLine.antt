@@ -19,7 +19,7 @@ list_rule name = record (new_rule name) { long = Some name; value_names = 1; act
 abbrev pub quiet_rule : Rule
 quiet_rule = record (new_rule (codes "quiet")) { short = Some 113; action = Some Count }
 
--- -j N
+-- -j N, which is gone: it is known so that its use can be reported
 abbrev pub jobs_rule : Rule
 jobs_rule = record (new_rule (codes "jobs")) { short = Some 106; value_names = 1 }
 

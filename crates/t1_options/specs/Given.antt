@@ -1,4 +1,4 @@
--- What the words say for each option, by clap's rules.
+-- What is given for each option: by words, as clap's rules read them, or by words and settings together.
 use Rattle.std.specs.Prelude.{Bool, nat_lt, List, [], Option, map, option_map, unwrap_or, codes}
 use Rattle.clap.specs.Words.{Row, Text, all_of, count_of, first_of, matches_of}
 use Rattle.t1_options.specs.CommandLine.{t1check_all}

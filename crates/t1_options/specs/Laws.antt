@@ -1,12 +1,18 @@
 -- The statements of laws.
-use Rattle.std.specs.Prelude.{◌≡◌, ◌&&◌, ◌+◌, ◌<◌, ◌≤◌, ◌++◌, [], codes, Bool, true, false, ◌∷◌, None, Some, is_some, length, map, string_bytes}
+use Rattle.std.specs.Prelude.{◌≡◌, ◌&&◌, ◌+◌, ◌<◌, ◌≤◌, ◌++◌, [], codes, Bool, true, false, List, ◌∷◌, None, Some, count_by, is_some, length, map, nat_lt, string_bytes}
+use Rattle.clap.specs.Walk.{is_empty}
 use Rattle.clap.specs.Words.{Text}
 use Rattle.t1_many.specs.Choice.{is_told, letters_of}
 use Rattle.t1_rules.specs.Book.{code_of, number_of}
 use Rattle.t1_rules.specs.Mask.{has}
 use Rattle.t1_rules.specs.declared.rule.Rule.{Rule}
+use Rattle.t1_names.specs.Words.{is_input}
+use Rattle.t1_settings.specs.Reading.{SettingValue}
+use Rattle.t1_settings.specs.declared.keys.Key.TheVariants.{Baseline, Edition, Except, Exclude, FailOn, Level, Only}
 use Rattle.t1_options.specs.Choices.{codes_of, is_known, is_of_levels, words_of}
+use Rattle.t1_options.specs.Complaints.{has_input}
 use Rattle.t1_options.specs.Given.{GivenValue, given_by}
+use Rattle.t1_options.specs.Merged.{merged, values_of}
 use Rattle.t1_options.specs.Options.{AreMeant, is_anew}
 use Rattle.t1_options.specs.Values.{shard_in}
 use Rattle.t1_options.specs.declared.asked.KnownFaults.TheVariants.{Unnamed}
@@ -52,15 +58,49 @@ are_written Written = true
 are_written Overwritten = true
 
 -- Options that go together: known faults are updated of a whole list; waivers are written of a whole list without known
--- faults; the page of the rules is named in a form; there is a path or a list of them.
+-- faults; the page of the rules is named in a form; there is a path or a list of them; standard input is read once.
 pub record GoTogether (options : Options) : Type 0 where
   pub updated : is_anew options.known_faults ≡ true → options.shard ≡ None
   pub written : are_written options.waivers ≡ true → (options.known_faults ≡ Unnamed) × (options.shard ≡ None)
   pub docs : is_some options.docs ≡ true → is_some options.form ≡ true
   pub fonts : 0 < length options.paths.items + length options.files_from.items
+  pub input_once : nat_lt 1 (count_by is_input (map string_bytes options.paths.items)) ≡ false
+  pub input_alone : (has_input (map string_bytes options.paths.items) && has_input (map string_bytes options.files_from.items)) ≡ false
 
 abbrev pub MeantGoTogether : Type 0
 MeantGoTogether = (given : GivenValue) (options : Options) → AreMeant given options → GoTogether options
+
+-- ---- words and settings
+
+-- What words give for a key counts.
+pub record GivenOptionsWin : Type 0 where
+  pub edition : (given : GivenValue) (settings : List SettingValue) → is_some given.edition ≡ true → (merged given settings).edition ≡ given.edition
+  pub baseline : (given : GivenValue) (settings : List SettingValue) → is_some given.baseline ≡ true → (merged given settings).baseline ≡ given.baseline
+  pub only : (given : GivenValue) (settings : List SettingValue) → is_empty given.only ≡ false → (merged given settings).only ≡ given.only
+  pub except : (given : GivenValue) (settings : List SettingValue) → is_empty given.except ≡ false → (merged given settings).except ≡ given.except
+  pub level : (given : GivenValue) (settings : List SettingValue) → is_empty given.level ≡ false → (merged given settings).level ≡ given.level
+  pub fail_on : (given : GivenValue) (settings : List SettingValue) → is_empty given.fail_on ≡ false → (merged given settings).fail_on ≡ given.fail_on
+  pub exclude : (given : GivenValue) (settings : List SettingValue) → is_empty given.exclude ≡ false → (merged given settings).exclude ≡ given.exclude
+
+-- What settings have for a key counts where words give nothing.
+pub record SettingsCount : Type 0 where
+  pub edition :
+      (given : GivenValue) (settings : List SettingValue) (value : Text) → given.edition ≡ None → values_of Edition settings ≡ value ∷ []
+      → (merged given settings).edition ≡ Some value
+  pub baseline :
+      (given : GivenValue) (settings : List SettingValue) (value : Text) → given.baseline ≡ None → given.write_waivers ≡ false
+      → values_of Baseline settings ≡ value ∷ [] → (merged given settings).baseline ≡ Some value
+  pub only : (given : GivenValue) (settings : List SettingValue) → given.only ≡ [] → (merged given settings).only ≡ values_of Only settings
+  pub except : (given : GivenValue) (settings : List SettingValue) → given.except ≡ [] → (merged given settings).except ≡ values_of Except settings
+  pub level : (given : GivenValue) (settings : List SettingValue) → given.level ≡ [] → (merged given settings).level ≡ values_of Level settings
+  pub fail_on : (given : GivenValue) (settings : List SettingValue) → given.fail_on ≡ [] → (merged given settings).fail_on ≡ values_of FailOn settings
+  pub exclude : (given : GivenValue) (settings : List SettingValue) → given.exclude ≡ [] → (merged given settings).exclude ≡ values_of Exclude settings
+
+-- Where waivers are written, settings name no file of known faults.
+abbrev pub WritingHasNoBaseline : Type 0
+WritingHasNoBaseline = (given : GivenValue) (settings : List SettingValue) → given.write_waivers ≡ true → (merged given settings).baseline ≡ given.baseline
+
+-- ---- words
 
 -- What two uses of an option mean.
 abbrev pub given_twice : Text → Text → Text → GivenValue

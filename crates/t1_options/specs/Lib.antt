@@ -3,6 +3,8 @@ pub mod CommandLine
 pub mod Complaints
 pub mod Given
 pub mod Laws
+pub mod Merged
 pub mod Options
+pub mod Private
 pub mod Values
 pub mod Words

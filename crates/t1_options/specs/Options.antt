@@ -43,7 +43,6 @@ is_anew (faults.Anew file) = true
 -- The values of single options.
 pub record HasValues (given : GivenValue) (options : Options) : Type 0 where
   pub quiet : options.quiet ≡ given.quiet
-  pub jobs : options.jobs ≡ option_and_then number_in given.jobs
   pub edition : options.edition ≡ unwrap_or (option_and_then edition_in given.edition) One
   pub only : map string_bytes options.only.items ≡ codes_of given.only
   pub except : map string_bytes options.except.items ≡ excepted given
@@ -59,7 +58,6 @@ pub record HasValues (given : GivenValue) (options : Options) : Type 0 where
   pub colour : options.colour ≡ given.colour
   pub long : options.long ≡ given.long
   pub reasons : options.reasons ≡ reasons_of given
-  pub no_settings : options.no_settings ≡ given.no_settings
   pub paths : map string_bytes options.paths.items ≡ given.paths
 
 -- These are the rules that the words choose.

@@ -17,8 +17,6 @@ pub enum Request {
 pub struct Options {
     /// Whether summary and progress are omitted.
     pub quiet: bool,
-    /// How many fonts are checked at once, from 1 to 99,999. Without it: one per processor.
-    pub jobs: Option<u32>,
     /// The edition of the rule book.
     pub edition: Edition,
     /// The rules whose lines are printed.
@@ -51,9 +49,7 @@ pub struct Options {
     pub long: bool,
     /// Which reasons are printed.
     pub reasons: Reasons,
-    /// Whether a settings file is left aside.
-    pub no_settings: bool,
-    /// Fonts and folders.
+    /// Fonts and folders. `-` is standard input.
     pub paths: Vec<String>,
 }
 

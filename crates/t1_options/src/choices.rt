@@ -9,7 +9,7 @@ ghost use Rattle.t1_rules.specs.Levels.{level_named};
 ghost use Rattle.t1_rules.specs.Mask.{has};
 ghost use Rattle.t1_rules.specs.declared.rule.Rule.{Rule as RuleValue};
 
-use crate::texts::copies;
+use crate::texts::{copies, texts_of};
 use std::alloc::{AllocError, Global};
 use t1_many::told_rules;
 use t1_rules::{Level, Mask, Rule, all_rules, rule_code, rule_level};
@@ -123,13 +123,6 @@ pub(crate) fn excepted(
     let mut codes = texts_of(alloc, except)?;
     codes.extend_from_slice(left_out(alloc, levels)?.as_slice())?;
     copies(alloc, codes.as_slice())
-}
-
-/// References to the texts.
-fn texts_of(alloc: Global, texts: &[String]) -> Result<Vec<&str>, AllocError>
-    ensures { IfOk result (λ lent. map (λ s. s.now) lent.items ≡ map string_bytes texts.now) }
-{
-    texts.iter().map(|text| text.as_str()).collect(alloc)
 }
 
 /// The codes of the rules whose levels are omitted.

@@ -6,13 +6,15 @@ ghost use Rattle.t1_options.specs.CommandLine.{flag_rule, jobs_rule, list_rule, 
 ghost use Rattle.t1_options.specs.Given.{given_in};
 ghost use Rattle.t1_options.specs.Words.{AsksNothing, HasHelp, IsAnswered, IsAsked, IsRefused, IsTaken};
 ghost use Rattle.t1_run.specs.Words.{AreRefused, IsParsedBy};
+ghost use Rattle.t1_settings.specs.Finding.{files_by};
 
 use crate::asked::Request;
 use crate::given::given_in;
-use crate::judging::options_meant;
+use crate::judging::options_asked;
 use clap::{Arg, ArgAction, ArgMatches, Command};
 use std::alloc::{AllocError, Global};
 use std::convert::AsStr;
+use t1_names::FileSystem;
 use t1_run::{UsageError, parse};
 
 /// The text of `--help`.
@@ -21,9 +23,8 @@ Checks many fonts: t1check-all [OPTION...] [--] FONT|FOLDER...
 
 A folder stands for the .pfa, .pfb and .t1 files below it, in the order of their paths. Each line of a report, and each
 refusal, is written as `NAME: LINE`; what could not be checked is told on standard error. A file NAME.waivers beside a
-font NAME has its waivers, lines as `A H02`.
+font NAME has its waivers, lines as `A H02`. A FONT `-` is standard input.
 
-  -j N               so many fonts at once; without it as many as there are processors
   -q                 no summary and no progress
   --edition N        check by this edition of the rule book, 1 or 2
   --only CODES       tell these rules alone: codes or their letters, as H02,Z
@@ -52,27 +53,36 @@ Status: 0 nothing was told, 1 a line was, 2 a font was refused, 3 one was not ch
 of these. Refusals are always told. With --fail-on a line of another level leaves the status as it is.
 ";
 
-/// Reads the words of the command line, the program's name first.
+/// Reads the words of the command line, the program's name first, and the settings of their first path.
 ///
-/// Help comes first, then what clap finds wrong, then the version, then what this crate finds wrong.
-pub fn options<S: AsStr>(alloc: Global, words: &[S]) -> Result<Request, UsageError>
-    ensures taken { IfOk result (IsTaken (map S.text words.now)) }
-    ensures refused { IfErr result (IsRefused HELP.now (map S.text words.now)) }
+/// Help comes first, then what clap finds wrong, then the version, then what is wrong with the words by themselves, then
+/// what is wrong with the settings, then what is wrong with both together.
+pub fn options<S: AsStr, F: FileSystem>(
+    alloc: Global,
+    words: &[S],
+    files: &F,
+) -> Result<Request, UsageError>
+    ensures taken { IfOk result (IsTaken (files_by (F.leads files.now) (F.has_text files.now)) (map S.text words.now)) }
+    ensures refused { IfErr result (IsRefused HELP.now (files_by (F.leads files.now) (F.has_text files.now)) (map S.text words.now)) }
 {
     let matches = matches_of(alloc, words)?;
-    request_of(alloc, &matches)
+    request_of(alloc, &matches, files)
 }
 
 /// What the matches request.
-fn request_of(alloc: Global, matches: &ArgMatches<'_>) -> Result<Request, UsageError>
-    ensures asked { IfOk result (IsAsked (given_in (rows_of (found_of matches.now)))) }
-    ensures wrong { IfErr result (AsksNothing (given_in (rows_of (found_of matches.now)))) }
+fn request_of<F: FileSystem>(
+    alloc: Global,
+    matches: &ArgMatches<'_>,
+    files: &F,
+) -> Result<Request, UsageError>
+    ensures asked { IfOk result (IsAsked (files_by (F.leads files.now) (F.has_text files.now)) (given_in (rows_of (found_of matches.now)))) }
+    ensures wrong { IfErr result (AsksNothing (files_by (F.leads files.now) (F.has_text files.now)) (given_in (rows_of (found_of matches.now)))) }
 {
     let given = given_in(matches);
     if given.version {
         return Ok(Request::Version);
     }
-    match options_meant(alloc, &given) {
+    match options_asked(alloc, &given, files) {
         Ok(options) => Ok(Request::Check(options)),
         Err(error) => Err(error),
     }
@@ -153,12 +163,15 @@ fn quiet<'a>(alloc: Global) -> Arg<'a>
     Arg::new(alloc, "quiet").short('q').action(ArgAction::Count)
 }
 
-/// `-j N`.
+/// `-j N`, which is gone: it is known so that its use can be reported.
 fn jobs<'a>(alloc: Global) -> Arg<'a>
     ensures rule { rule_of result ≡ jobs_rule }
     ensures local { result.global ≡ false }
 {
-    Arg::new(alloc, "jobs").short('j').value_name("N")
+    Arg::new(alloc, "jobs")
+        .short('j')
+        .value_name("N")
+        .hide(true)
 }
 
 /// `--version`, which the program itself handles. The id `version` is clap's own.

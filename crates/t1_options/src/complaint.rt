@@ -1,14 +1,14 @@
 //! What can be wrong with options, and the text of each case.
 
 ghost use Rattle.std.specs.Prelude.{◌≡◌, IfOk, string_bytes};
-ghost use Rattle.t1_options.specs.Complaints.{text_of, usage_text};
+ghost use Rattle.t1_options.specs.Complaints.{settings_text, text_of, usage_text};
 
 use std::alloc::{AllocError, Global};
 
 /// What can be wrong with options.
 #[derive(Clone, Copy, Debug, PartialEq, Eq)]
 pub(crate) enum Complaint {
-    /// `-j` has no number from 1 to 99,999.
+    /// `-j` is given, which is gone.
     Jobs,
     /// `--edition` has another value than 1 or 2.
     Edition,
@@ -32,6 +32,10 @@ pub(crate) enum Complaint {
     DocsOfLines,
     /// There is neither a path nor `--files-from`.
     NoFont,
+    /// `-` is given twice as a path.
+    InputTwice,
+    /// `-` is a path and a list.
+    InputAsBoth,
     /// `--shard` has another value than I/N, I from 1 to N.
     Shard,
     /// `--only` names no code, or an unknown one.
@@ -51,7 +55,7 @@ fn text_of(complaint: Complaint) -> &'static str
     ensures { result.now ≡ text_of complaint }
 {
     match complaint {
-        Complaint::Jobs => "-j wants a number from 1 on",
+        Complaint::Jobs => "-j is gone; --shard I/N splits a list for several processes",
         Complaint::Edition => "--edition wants 1 or 2",
         Complaint::Columns => "--columns wants a number from 1 on",
         Complaint::Baseline => "--baseline wants a file",
@@ -63,6 +67,8 @@ fn text_of(complaint: Complaint) -> &'static str
         Complaint::ForceOfNone => "--force wants --write-waivers",
         Complaint::DocsOfLines => "--docs wants --format",
         Complaint::NoFont => "no font is named",
+        Complaint::InputTwice => "- is named twice: standard input is read once",
+        Complaint::InputAsBoth => "- is a font or a list, not both: standard input is read once",
         Complaint::Shard => "--shard wants I/N, I from 1 to N",
         Complaint::Only => "--only wants codes of rules or their letters, as H02,Z",
         Complaint::Except => "--except wants codes of rules or their letters, as H02,Z",
@@ -79,5 +85,21 @@ pub(crate) fn usage_text(alloc: Global, complaint: Complaint) -> Result<String, 
     let mut text = String::from_str(alloc, "t1check-all: ")?;
     text.push_str(text_of(complaint))?;
     text.push_str("\nt1check-all: 't1check-all --help' says how it is used\n")?;
+    Ok(text)
+}
+
+/// The line to print where a value of this settings file is wrong.
+pub(crate) fn settings_text(
+    alloc: Global,
+    file: &str,
+    complaint: Complaint,
+) -> Result<String, AllocError>
+    ensures { IfOk result (λ text. string_bytes text ≡ settings_text file.now complaint) }
+{
+    let mut text = String::from_str(alloc, "t1check-all: ")?;
+    text.push_str(file)?;
+    text.push_str(": ")?;
+    text.push_str(text_of(complaint))?;
+    text.push_str("\n")?;
     Ok(text)
 }

@@ -1,4 +1,4 @@
-//! What the words say for each option.
+//! What is given for each option.
 
 ghost use Rattle.std.specs.Prelude.{◌≡◌, map, option_map};
 ghost use Rattle.clap.specs.Words.{first_of, found_of, rows_of};
@@ -11,6 +11,7 @@ use clap::ArgMatches;
 #[derive(Clone, Copy)]
 pub(crate) struct Given<'a> {
     pub(crate) quiet: bool,
+    /// `-j`, which is gone.
     pub(crate) jobs: Option<&'a str>,
     pub(crate) edition: Option<&'a str>,
     pub(crate) only: &'a [&'a str],

@@ -1,6 +1,6 @@
 //! Laws above the definitions: each is the contract of a function that does nothing.
 
-ghost use Rattle.t1_options.specs.Laws.{CodesChooseRules, LevelsChooseRules, MeantGoTogether, NoRefusalIsKnown, RulesAreKnown, ShardsAreParts, UsesCount};
+ghost use Rattle.t1_options.specs.Laws.{CodesChooseRules, GivenOptionsWin, LevelsChooseRules, MeantGoTogether, NoRefusalIsKnown, RulesAreKnown, SettingsCount, ShardsAreParts, UsesCount, WritingHasNoBaseline};
 
 /// `--only` and `--except` accept the code of each rule and its letters, and nothing that begins with E: refusals are
 /// always printed.
@@ -36,4 +36,13 @@ pub fn options_go_together()
 #[tactic(auto, using(crate::proofs::Uses::uses_count))]
 pub fn uses_count()
     ensures { UsesCount }
+{}
+
+/// What words give for a key counts, and else what settings have. Where waivers are written, settings name no file of
+/// known faults.
+#[tactic(auto, using(crate::proofs::Wins::given_options_win, crate::proofs::Wins::settings_count, crate::proofs::Wins::writing_has_no_baseline))]
+pub fn given_options_win()
+    ensures win { GivenOptionsWin }
+    ensures count { SettingsCount }
+    ensures writing { WritingHasNoBaseline }
 {}

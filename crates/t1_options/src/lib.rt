@@ -1,23 +1,26 @@
-//! The options of t1check-all, from the words of its command line.
+//! The options of t1check-all, from the words of its command line and the settings of their first path.
 //!
-//! [`options`] reads the words. clap splits them into options and values; this crate judges the values and which
-//! options go together. The result is a [`Request`], or a `UsageError` with the text to print.
+//! [`options`] reads both. clap splits the words into options and values; `t1_settings` reads a settings file. This crate
+//! merges the two, and judges the values and which options go together. The result is a [`Request`], or a `UsageError`
+//! with the text to print.
 //!
 //! Promised:
 //!
 //! - Words are taken exactly where clap finds no fault and nothing is wrong with what they say.
-//! - The options are those that the words mean. Of an option that is given again the last value counts; `--only`,
+//! - The options are those that the words mean, and the settings where the words give nothing
+//!   ([`given_options_win`]). With `--no-settings` no settings are looked for. Of an option that is given again the last value counts; `--only`,
 //!   `--except`, `--level`, `--fail-on`, `--files-from` and `--exclude` add values ([`uses_count`]).
 //! - The options keep the codes of `--only` and `--except`, and with the latter those that `--level` omits. These
 //!   choose the rules that are printed ([`codes_choose_rules`]): those that codes and levels both choose
 //!   ([`levels_choose_rules`]).
 //! - A word that isn't UTF-8 is known by a mark before it ([`is_marked`]), and is no glob.
-//! - Where several things are wrong, the first in one order is reported (`checks_of`).
+//! - Where several things are wrong, the first in one order is reported (`checks_of`): of the words by themselves, then
+//!   of the settings, then of both together.
 //! - Options go together ([`options_go_together`]), a shard is one of its parts ([`shards_are_parts`]), and `--only`
 //!   and `--except` name any rule and no refusal ([`rules_are_known`]).
 //!
 //! ```text
-//! let request = options(alloc, words)?;
+//! let request = options(alloc, words, files)?;
 //! ```
 #![tactic(auto)]
 
@@ -29,13 +32,14 @@ mod complaint;
 mod given;
 mod judging;
 mod laws;
+mod merging;
 mod texts;
 mod values;
 
 pub use asked::{Form, KnownFaults, Options, Reasons, Request, Shard, Waivers};
 pub use command_line::{HELP, options};
 pub use laws::{
-    codes_choose_rules, levels_choose_rules, options_go_together, rules_are_known,
-    shards_are_parts, uses_count,
+    codes_choose_rules, given_options_win, levels_choose_rules, options_go_together,
+    rules_are_known, shards_are_parts, uses_count,
 };
 pub use values::is_marked;

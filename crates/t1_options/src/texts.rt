@@ -1,4 +1,4 @@
-//! Copies of texts.
+//! Copies of texts, and references to them.
 
 ghost use Rattle.std.specs.Prelude.{◌≡◌, IfOk, map, string_bytes};
 
@@ -13,4 +13,11 @@ pub(crate) fn copies(alloc: Global, texts: &[&str]) -> Result<Vec<String>, Alloc
         copies.push(String::from_str(alloc, *text)?)?;
     }
     Ok(copies)
+}
+
+/// References to the texts.
+pub(crate) fn texts_of(alloc: Global, texts: &[String]) -> Result<Vec<&str>, AllocError>
+    ensures { IfOk result (λ lent. map (λ s. s.now) lent.items ≡ map string_bytes texts.now) }
+{
+    texts.iter().map(|text| text.as_str()).collect(alloc)
 }

@@ -1,5 +1,6 @@
 //! What words are expected to give, and whether they do.
 
+use crate::files::{File, Files};
 use std::alloc::Global;
 use t1_char::Edition;
 use t1_options::{Form, KnownFaults, Options, Reasons, Request, Shard, Waivers, options};
@@ -8,7 +9,6 @@ use t1_options::{Form, KnownFaults, Options, Reasons, Request, Shard, Waivers, o
 #[derive(Clone, Copy)]
 pub(crate) struct Expected<'a> {
     pub(crate) quiet: bool,
-    pub(crate) jobs: Option<u32>,
     pub(crate) edition: Edition,
     pub(crate) only: &'a [&'a str],
     pub(crate) except: &'a [&'a str],
@@ -24,14 +24,12 @@ pub(crate) struct Expected<'a> {
     pub(crate) colour: bool,
     pub(crate) long: bool,
     pub(crate) reasons: Reasons,
-    pub(crate) no_settings: bool,
     pub(crate) paths: &'a [&'a str],
 }
 
 /// One font, and no option.
 pub(crate) const PLAIN: Expected<'static> = Expected {
     quiet: false,
-    jobs: None,
     edition: Edition::One,
     only: &[],
     except: &[],
@@ -46,7 +44,6 @@ pub(crate) const PLAIN: Expected<'static> = Expected {
     colour: false,
     long: false,
     reasons: Reasons::First,
-    no_settings: false,
     paths: &["a.pfb"],
 };
 
@@ -79,7 +76,6 @@ fn known_faults(faults: &KnownFaults) -> Option<(&str, bool)> {
 /// Whether these options are the expected ones.
 fn are_expected(options: &Options, expected: Expected<'_>) -> bool {
     options.quiet == expected.quiet
-        && options.jobs == expected.jobs
         && options.edition == expected.edition
         && are(options.only.as_slice(), expected.only)
         && are(options.except.as_slice(), expected.except)
@@ -94,13 +90,17 @@ fn are_expected(options: &Options, expected: Expected<'_>) -> bool {
         && options.colour == expected.colour
         && options.long == expected.long
         && options.reasons == expected.reasons
-        && options.no_settings == expected.no_settings
         && are(options.paths.as_slice(), expected.paths)
 }
 
-/// Whether words give the expected options.
-pub(crate) fn gives(alloc: Global, words: &[&str], expected: Expected<'_>) -> bool {
-    match options(alloc, words) {
+/// Whether words and a settings file give the expected options.
+pub(crate) fn gives(
+    alloc: Global,
+    words: &[&str],
+    settings: File<'_>,
+    expected: Expected<'_>,
+) -> bool {
+    match options(alloc, words, &Files { alloc, settings }) {
         Ok(Request::Check(options)) => are_expected(&options, expected),
         _ => false,
     }

@@ -1,5 +1,6 @@
 //! The text of help.
 
+use crate::files::{File, Files};
 use std::alloc::Global;
 use std::process::Abort;
 use t1_options::options;
@@ -10,9 +11,8 @@ Checks many fonts: t1check-all [OPTION...] [--] FONT|FOLDER...
 
 A folder stands for the .pfa, .pfb and .t1 files below it, in the order of their paths. Each line of a report, and each
 refusal, is written as `NAME: LINE`; what could not be checked is told on standard error. A file NAME.waivers beside a
-font NAME has its waivers, lines as `A H02`.
+font NAME has its waivers, lines as `A H02`. A FONT `-` is standard input.
 
-  -j N               so many fonts at once; without it as many as there are processors
   -q                 no summary and no progress
   --edition N        check by this edition of the rule book, 1 or 2
   --only CODES       tell these rules alone: codes or their letters, as H02,Z
@@ -43,7 +43,11 @@ of these. Refusals are always told. With --fail-on a line of another level leave
 
 /// Whether words are answered by the text of help.
 fn helps(alloc: Global, words: &[&str]) -> bool {
-    match options(alloc, words) {
+    let files = Files {
+        alloc,
+        settings: File::Unreadable,
+    };
+    match options(alloc, words, &files) {
         Err(UsageError::Help(text)) => text.as_str() == HELP,
         _ => false,
     }

@@ -4,10 +4,14 @@
 #[cfg(test)]
 mod expected;
 #[cfg(test)]
+mod files;
+#[cfg(test)]
 mod helped;
 #[cfg(test)]
 mod refused;
 #[cfg(test)]
 mod rules;
+#[cfg(test)]
+mod settings;
 #[cfg(test)]
 mod taken;

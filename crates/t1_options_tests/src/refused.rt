@@ -1,5 +1,6 @@
 //! Words that are refused, and the text to print.
 
+use crate::files::{File, Files};
 use std::alloc::Global;
 use std::process::Abort;
 use t1_options::options;
@@ -13,31 +14,11 @@ const CURE: &str = "t1check-all: 't1check-all --help' says how it is used\n";
 
 const CODES: &str = "--only wants codes of rules or their letters, as H02,Z";
 
+const JOBS: &str = "-j is gone; --shard I/N splits a list for several processes";
+
 const VALUES: &[Case] = &[
-    (
-        &["t1check-all", "-j0", "a.pfb"],
-        "-j wants a number from 1 on",
-    ),
-    (
-        &["t1check-all", "-j", "two", "a.pfb"],
-        "-j wants a number from 1 on",
-    ),
-    (
-        &["t1check-all", "-j100000", "a.pfb"],
-        "-j wants a number from 1 on",
-    ),
-    (
-        &["t1check-all", "-j", "+4", "a.pfb"],
-        "-j wants a number from 1 on",
-    ),
-    (
-        &["t1check-all", "-j", "04", "a.pfb"],
-        "-j wants a number from 1 on",
-    ),
-    (
-        &["t1check-all", "-j", "", "a.pfb"],
-        "-j wants a number from 1 on",
-    ),
+    (&["t1check-all", "-j0", "a.pfb"], JOBS),
+    (&["t1check-all", "-qj", "4", "a.pfb"], JOBS),
     (
         &["t1check-all", "--edition", "3", "a.pfb"],
         "--edition wants 1 or 2",
@@ -179,14 +160,19 @@ const COMBINATIONS: &[Case] = &[
         ],
         "--docs wants --format",
     ),
+    (
+        &["t1check-all", "-", "a.pfb", "-"],
+        "- is named twice: standard input is read once",
+    ),
+    (
+        &["t1check-all", "--files-from", "-", "-"],
+        "- is a font or a list, not both: standard input is read once",
+    ),
 ];
 
 /// Where several things are wrong, the first is reported.
 const FIRST: &[Case] = &[
-    (
-        &["t1check-all", "--edition=3", "-j0"],
-        "-j wants a number from 1 on",
-    ),
+    (&["t1check-all", "--edition=3", "-j0"], JOBS),
     (
         &["t1check-all", "--shard=0/0", "--format=x"],
         "--format wants jsonl, sarif or github",
@@ -198,6 +184,20 @@ const FIRST: &[Case] = &[
     (
         &["t1check-all", "--only=E", "--shard=0/0"],
         "no font is named",
+    ),
+    (
+        &[
+            "t1check-all",
+            "--update-baseline",
+            "--shard",
+            "1/2",
+            "a.pfb",
+        ],
+        "--update-baseline and --shard exclude one another",
+    ),
+    (
+        &["t1check-all", "--files-from=-", "-", "-", "--shard=0/0"],
+        "- is named twice: standard input is read once",
     ),
     (
         &[
@@ -223,7 +223,14 @@ fn says(text: &str, sentence: &str) -> bool {
 
 /// Whether words are refused by this sentence.
 fn refuses(alloc: Global, words: &[&str], sentence: &str) -> bool {
-    match options(alloc, words) {
+    match options(
+        alloc,
+        words,
+        &Files {
+            alloc,
+            settings: File::None,
+        },
+    ) {
         Err(UsageError::Usage(text)) => says(text.as_str(), sentence),
         _ => false,
     }
@@ -264,7 +271,14 @@ const BY_CLAP: &[Case] = &[
 
 /// Whether words are refused by a text that begins so.
 fn refuses_by_clap(alloc: Global, words: &[&str], front: &str) -> bool {
-    match options(alloc, words) {
+    match options(
+        alloc,
+        words,
+        &Files {
+            alloc,
+            settings: File::None,
+        },
+    ) {
         Err(UsageError::Usage(text)) => text.starts_with(front),
         _ => false,
     }

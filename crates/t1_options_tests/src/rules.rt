@@ -1,5 +1,6 @@
 //! Words that choose rules.
 
+use crate::files::{File, Files};
 use std::alloc::Global;
 use std::process::Abort;
 use t1_options::{Request, options};
@@ -57,7 +58,14 @@ const CHOICES: &[Case] = &[
 
 /// The rules that words choose.
 fn rules_of(alloc: Global, words: &[&str]) -> Option<Mask> {
-    match options(alloc, words) {
+    match options(
+        alloc,
+        words,
+        &Files {
+            alloc,
+            settings: File::None,
+        },
+    ) {
         Ok(Request::Check(options)) => Some(options.rules),
         _ => None,
     }
@@ -76,7 +84,14 @@ fn words_choose_rules(rt: HostRuntime) {
 
 /// The rules whose lines make the status 1.
 fn failing_of(alloc: Global, words: &[&str]) -> Option<Mask> {
-    match options(alloc, words) {
+    match options(
+        alloc,
+        words,
+        &Files {
+            alloc,
+            settings: File::None,
+        },
+    ) {
         Ok(Request::Check(options)) => Some(options.failing),
         _ => None,
     }

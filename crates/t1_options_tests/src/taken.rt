@@ -1,6 +1,7 @@
 //! Words that are taken, and the options that they give.
 
 use crate::expected::{Expected, PLAIN, gives};
+use crate::files::{File, Files};
 use std::process::Abort;
 use t1_char::Edition;
 use t1_options::{Form, Reasons, Request, Shard, Waivers, options};
@@ -25,28 +26,6 @@ const FLAGS: &[Case] = &[
         },
     ),
     (
-        &["t1check-all", "-qj4", "a.pfb"],
-        Expected {
-            quiet: true,
-            jobs: Some(4),
-            ..PLAIN
-        },
-    ),
-    (
-        &["t1check-all", "-j", "99999", "a.pfb"],
-        Expected {
-            jobs: Some(99_999),
-            ..PLAIN
-        },
-    ),
-    (
-        &["t1check-all", "-j0", "-j", "2", "a.pfb"],
-        Expected {
-            jobs: Some(2),
-            ..PLAIN
-        },
-    ),
-    (
         &["t1check-all", "--", "-q", "--edition"],
         Expected {
             paths: &["-q", "--edition"],
@@ -58,6 +37,14 @@ const FLAGS: &[Case] = &[
         Expected {
             quiet: true,
             paths: &["a.pfb", "fonts", "-"],
+            ..PLAIN
+        },
+    ),
+    (
+        &["t1check-all", "./-", ".//-", "-", "--files-from", "./-"],
+        Expected {
+            files_from: &["./-"],
+            paths: &["./-", ".//-", "-"],
             ..PLAIN
         },
     ),
@@ -251,7 +238,6 @@ const FORMS: &[Case] = &[
             columns: Some(72),
             colour: true,
             long: true,
-            no_settings: true,
             ..PLAIN
         },
     ),
@@ -282,7 +268,10 @@ const FORMS: &[Case] = &[
 fn takes_words(rt: HostRuntime) {
     for cases in [FLAGS, EDITIONS, WAIVERS, LISTS, FORMS] {
         for (words, expected) in cases {
-            assert!(rt; gives(rt.alloc(), words, *expected), "of {words:?}");
+            assert!(rt;
+                gives(rt.alloc(), words, File::None, *expected),
+                "of {words:?}"
+            );
         }
     }
 }
@@ -290,6 +279,10 @@ fn takes_words(rt: HostRuntime) {
 #[test]
 fn takes_version(rt: HostRuntime) {
     let words = ["t1check-all", "--version", "--edition", "3"];
-    let request = options(rt.alloc(), &words);
+    let files = Files {
+        alloc: rt.alloc(),
+        settings: File::Unreadable,
+    };
+    let request = options(rt.alloc(), &words, &files);
     assert!(rt; matches!(&request, Ok(Request::Version)));
 }

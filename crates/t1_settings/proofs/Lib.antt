@@ -1,5 +1,5 @@
 pub mod FindingLemmas
+pub mod KeyLaws
+pub mod PathLemmas
 pub mod ReadingLemmas
 pub mod SettledLemmas
-pub mod WordLaws
-pub mod WordLemmas

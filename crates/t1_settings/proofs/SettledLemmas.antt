@@ -1,5 +1,5 @@
 -- What is reported, by its text.
-use Rattle.std.proofs.Common.{◌≡◌, Err, IfErr, IfOk, List, Ok, Result, String, Global, string_bytes, subst, sym, ℕ}
+use Rattle.std.proofs.Common.{◌≡◌, Err, IfOk, List, Ok, Result, String, Global, string_bytes, subst, sym, ℕ}
 use Rattle.std.specs.declared.alloc.AllocError.{AllocError}
 use Rattle.t1_settings.specs.Private.Usage.{IsUsageOf}
 use Rattle.t1_settings.specs.Settled.{ToldOr}
@@ -14,7 +14,3 @@ told_of Is (Err e) bytes answer is usage so = subst (ToldOr Is) (sym usage) tt
 pub told_so : (Is Also : List ℕ → Type 0) (answer : Unsettled) → ((text : List ℕ) → Is text → Also text) → ToldOr Is answer → ToldOr Also answer
 told_so Is Also (Usage text) so is = so (string_bytes text) is
 told_so Is Also Memory so is = tt
-
-pub err_so : {X E : Type 0} (r : Result X E) (P Q : E → Type 0) → ((e : E) → P e → Q e) → IfErr r P → IfErr r Q
-err_so (Ok x) P Q so is = tt
-err_so (Err e) P Q so is = so e is

@@ -1,10 +1,10 @@
 -- Where a settings file is looked for.
-use Rattle.std.specs.Prelude.{◌≡◌, ℕ, true, List, [], Option, None, Some, Result, Ok, Err, if◌then◌else◌, codes, is_some, string_bytes}
+use Rattle.std.specs.Prelude.{◌≡◌, ℕ, Bool, true, false, List, [], Option, None, Some, Result, Ok, Err, if◌then◌else◌, codes, is_some, string_bytes}
 use Rattle.std.specs.Global.{Global}
 use Rattle.std.specs.Path.{path_file_name, path_join, path_parent}
 use Rattle.std.specs.Str.{bytes_eq}
 use Rattle.std.specs.declared.vec.Vec.{Vec}
-use Rattle.t1_names.specs.Words.{Trims}
+use Rattle.t1_names.specs.Words.{Trims, is_input}
 use Rattle.t1_settings.specs.declared.finding.Found.{Found}
 use Rattle.t1_settings.specs.declared.finding.Unfound.{Unfound}
 use Rattle.t1_settings.specs.declared.finding.Unfound.TheVariants.{CannotRead, Memory}
@@ -17,13 +17,16 @@ pub record Files : Type 1 where
   pub CannotRead : List ℕ → Type 0
   -- There is no such file.
   pub HasNone : List ℕ → Type 0
+  -- A name leads to a folder, or it doesn't.
+  pub Leads : List ℕ → Bool → Type 0
 
--- By what reading returns: None where there is no such file.
-abbrev pub files_by : {E : Type 0} → (List ℕ → Option (Result (Vec ℕ Global) E) → Type 0) → Files
-files_by {E} Gives = record {
+-- By what a system says: which names lead to folders, and what reading a file returns, None where there is none.
+abbrev pub files_by : {E : Type 0} → (List ℕ → Bool → Type 0) → (List ℕ → Option (Result (Vec ℕ Global) E) → Type 0) → Files
+files_by {E} Leads Gives = record {
   Has = λ name text. (bytes : Vec ℕ Global) × Gives name (Some (Ok bytes)) × (bytes.items ≡ text);
   CannotRead = λ name. (error : E) × Gives name (Some (Err error));
   HasNone = λ name. Gives name None;
+  Leads = Leads;
 }
 
 abbrev pub file_in : List ℕ → List ℕ
@@ -60,7 +63,10 @@ abbrev pub dot_is_empty : List ℕ → List ℕ
 dot_is_empty folder = if bytes_eq folder (codes ".") then [] else folder
 
 -- The search begins at the first path, as the names of fonts begin in lines: without `./` and the last slash. Without a
--- path it begins at the working folder.
-abbrev pub BeginsAt : Option (List ℕ) → List ℕ → Type 0
-BeginsAt None start = start ≡ []
-BeginsAt (Some path) start = (trimmed : List ℕ) × Trims (λ name leads. leads ≡ true) path trimmed × (start ≡ dot_is_empty trimmed)
+-- path, and at standard input, it begins at the working folder.
+pub data BeginsAt (files : Files) (path : Option (List ℕ)) (start : List ℕ) : Type 0 where
+  no_path : path ≡ None → start ≡ [] → BeginsAt files path start
+  input : (word : List ℕ) → path ≡ Some word → is_input word ≡ true → start ≡ [] → BeginsAt files path start
+  at_path :
+      (word trimmed : List ℕ) → path ≡ Some word → is_input word ≡ false → Trims files.Leads word trimmed → start ≡ dot_is_empty trimmed
+      → BeginsAt files path start

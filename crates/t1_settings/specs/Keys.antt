@@ -1,5 +1,5 @@
 -- The keys of a settings file.
-use Rattle.std.specs.Prelude.{◌++◌, ℕ, List, Option, None, Some, if◌then◌else◌, codes}
+use Rattle.std.specs.Prelude.{ℕ, List, Option, None, Some, if◌then◌else◌, codes}
 use Rattle.std.specs.Str.{bytes_eq}
 use Rattle.t1_settings.specs.declared.keys.Key.{Key}
 use Rattle.t1_settings.specs.declared.keys.Key.TheVariants.{Baseline, Edition, Except, Exclude, FailOn, Level, Only}
@@ -13,9 +13,6 @@ name_of Exclude = codes "exclude"
 name_of FailOn = codes "fail-on"
 name_of Level = codes "level"
 name_of Only = codes "only"
-
-abbrev pub option_of : Key → List ℕ
-option_of key = codes "--" ++ name_of key
 
 -- The key of this name, if there is one.
 abbrev pub key_in : List ℕ → Option Key

@@ -1,41 +1,35 @@
--- The words that a run's settings are, or what is wrong with them.
-use Rattle.std.specs.Prelude.{◌≡◌, ◌++◌, ℕ, true, false, List, [], Option, None, Some, Ok, Err, codes, decimal, map, option_map, string_bytes}
+-- The settings of a run, or what is wrong with them.
+use Rattle.std.specs.Prelude.{◌≡◌, ◌++◌, ℕ, List, Option, None, Some, Ok, Err, codes, decimal, map, string_bytes}
 use Rattle.t1_settings.specs.Finding.{BeginsAt, Files, IsNearest, IsUnread, file_in}
 use Rattle.t1_settings.specs.Keys.{name_of, wanted_of}
-use Rattle.t1_settings.specs.Reading.{HasSettings, IsNoToml, SettingValue, unknown, wrong}
-use Rattle.t1_settings.specs.Words.{gives, words_before}
+use Rattle.t1_settings.specs.Paths.{setting_below}
+use Rattle.t1_settings.specs.Reading.{HasSettings, IsNoToml, SettingValue, setting_value, unknown, wrong}
 use Rattle.t1_settings.specs.declared.keys.Key.{Key}
-use Rattle.t1_settings.specs.declared.settled.Settled.{Settled}
+use Rattle.t1_settings.specs.declared.settled.Settings.{Settings}
 use Rattle.t1_settings.specs.declared.settled.Unsettled.{Unsettled}
 use Rattle.t1_settings.specs.declared.settled.Unsettled.TheVariants.{Memory, Usage}
 
--- The settings of a file, by its folder and its text, are these words before those of a command line.
-pub record AreWordsOf (words : List (List ℕ)) (found : List ℕ × List ℕ) (before : List (List ℕ)) : Type 0 where
-  pub settings : List SettingValue
-  pub has : HasSettings found.1 (Ok settings)
-  pub are : before ≡ words_before found.0 words settings
+-- The name of a settings file, and its entries.
+pub record SettingsValue : Type 0 where
+  pub file : List ℕ
+  pub entries : List SettingValue
 
--- The settings file that was read, if any, by its name, and the words that it is.
-pub record SettledValue : Type 0 where
-  pub file : Option (List ℕ)
-  pub words : List (List ℕ)
+abbrev pub settings_value : Settings → SettingsValue
+settings_value settings = record { file = string_bytes settings.file; entries = map setting_value settings.entries.items }
 
-abbrev pub settled_value : Settled → SettledValue
-settled_value settled = record { file = option_map string_bytes settled.file; words = map string_bytes settled.words.items }
+-- The settings of a file, by its folder and its text: their names are below the folder.
+pub record AreSettingsOf (found : List ℕ × List ℕ) (settings : SettingsValue) : Type 0 where
+  pub file_is : settings.file ≡ file_in found.0
+  pub own : List SettingValue
+  pub has : HasSettings found.1 (Ok own)
+  pub entries_are : settings.entries ≡ map (setting_below found.0) own
 
-abbrev pub without_file : SettledValue
-without_file = record { file = None; words = [] }
-
--- What the settings are for a command line of these words, whose first path is this.
-pub data AreSettled (files : Files) (words : List (List ℕ)) (path : Option (List ℕ)) (settled : SettledValue) : Type 0 where
-  unwanted : gives (codes "--no-settings") words ≡ true → settled ≡ without_file → AreSettled files words path settled
-  none :
-      (start : List ℕ) → gives (codes "--no-settings") words ≡ false → BeginsAt path start → IsNearest files start None → settled ≡ without_file
-      → AreSettled files words path settled
+-- The settings for a command line whose first path is this: those of the nearest file, if there is one.
+pub data AreSettled (files : Files) (path : Option (List ℕ)) (settings : Option SettingsValue) : Type 0 where
+  none : (start : List ℕ) → BeginsAt files path start → IsNearest files start None → settings ≡ None → AreSettled files path settings
   read :
-      (start : List ℕ) → (found : List ℕ × List ℕ) → gives (codes "--no-settings") words ≡ false → BeginsAt path start
-      → IsNearest files start (Some found) → settled.file ≡ Some (file_in found.0) → AreWordsOf words found settled.words
-      → AreSettled files words path settled
+      (start : List ℕ) → (found : List ℕ × List ℕ) → (value : SettingsValue) → BeginsAt files path start → IsNearest files start (Some found)
+      → AreSettingsOf found value → settings ≡ Some value → AreSettled files path settings
 
 -- ---- what is reported
 
@@ -61,13 +55,12 @@ pub data IsWrongIn (found : List ℕ × List ℕ) (told : List ℕ) : Type 0 whe
   wrong_value : (key : Key) → HasSettings found.1 (Err (wrong key)) → told ≡ wrong_value_text (file_in found.0) key → IsWrongIn found told
 
 -- The settings can't be read, or something is wrong with them, and this is reported.
-pub data AreUnsettled (files : Files) (words : List (List ℕ)) (path : Option (List ℕ)) (told : List ℕ) : Type 0 where
+pub data AreUnsettled (files : Files) (path : Option (List ℕ)) (told : List ℕ) : Type 0 where
   unread :
-      (start name : List ℕ) → gives (codes "--no-settings") words ≡ false → BeginsAt path start → IsUnread files start name
-      → told ≡ unread_text name → AreUnsettled files words path told
+      (start name : List ℕ) → BeginsAt files path start → IsUnread files start name → told ≡ unread_text name → AreUnsettled files path told
   wrong_in :
-      (start : List ℕ) → (found : List ℕ × List ℕ) → gives (codes "--no-settings") words ≡ false → BeginsAt path start
-      → IsNearest files start (Some found) → IsWrongIn found told → AreUnsettled files words path told
+      (start : List ℕ) → (found : List ℕ × List ℕ) → BeginsAt files path start → IsNearest files start (Some found) → IsWrongIn found told
+      → AreUnsettled files path told
 
 -- A text of which this is so is reported; or memory ran out.
 abbrev pub ToldOr : (List ℕ → Type 0) → Unsettled → Type 0

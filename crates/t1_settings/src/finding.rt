@@ -1,14 +1,12 @@
 //! Where a settings file is looked for.
 
 ghost use Rattle.std.specs.Prelude.{◌≡◌, ◌<◌, IfErr, IfOk, IfSome, length, option_map, string_bytes};
-ghost use Rattle.std.specs.Fn.{FnReturnsAt};
 ghost use Rattle.t1_settings.specs.Finding.{BeginsAt, IsNearest, IsUnreadOr, above, dot_is_empty, file_in, files_by, found_value};
 
 use crate::paths::below;
 use std::alloc::{AllocError, Global};
-use std::io;
 use std::path::Path;
-use t1_names::trim_word;
+use t1_names::{FileSystem, is_input, trim_word};
 
 /// A settings file.
 #[derive(Drop)]
@@ -28,21 +26,21 @@ pub enum Unfound {
     Memory,
 }
 
-/// The nearest settings file, in this folder or above it, if there is one. `text_of` returns the text of a file: None
-/// where there is no such file.
-pub fn find_settings<T>(alloc: Global, start: &str, text_of: &T) -> Result<Option<Found>, Unfound>
-where
-    T: Fn(&str) -> Option<io::Result<Vec<u8>>>,
-    requires { T.IsAlwaysCallable text_of.now }
-    ensures nearest { IfOk result (λ found. IsNearest (files_by (FnReturnsAt T.Fn text_of.now)) start.now (option_map found_value found)) }
-    ensures unread { IfErr result (IsUnreadOr (files_by (FnReturnsAt T.Fn text_of.now)) start.now) }
+/// The nearest settings file, in this folder or above it, if there is one.
+pub fn find_settings<F: FileSystem>(
+    alloc: Global,
+    start: &str,
+    files: &F,
+) -> Result<Option<Found>, Unfound>
+    ensures nearest { IfOk result (λ found. IsNearest (files_by (F.leads files.now) (F.has_text files.now)) start.now (option_map found_value found)) }
+    ensures unread { IfErr result (IsUnreadOr (files_by (F.leads files.now) (F.has_text files.now)) start.now) }
 {
     let mut folder = start;
     loop {
         let Ok(name) = file_in(alloc, folder) else {
             return Err(Unfound::Memory);
         };
-        match text_of(name.as_str()) {
+        match files.text(name.as_str()) {
             Some(Ok(text)) => return found_in(alloc, folder, text),
             Some(Err(_)) => return Err(Unfound::CannotRead(name)),
             None => {}
@@ -88,13 +86,23 @@ fn above(folder: &str) -> Option<&str>
 }
 
 /// Where the search begins for this first path.
-pub(crate) fn start_of(path: Option<&str>) -> &str
-    ensures { BeginsAt (option_map (λ s. s.now) path.entry) result.now }
+pub(crate) fn start_of<'a, F: FileSystem>(path: Option<&'a str>, files: &F) -> &'a str
+    ensures { BeginsAt (files_by (F.leads files.now) (F.has_text files.now)) (option_map (λ s. s.now) path.entry) result.now }
 {
     match path {
-        Some(path) => without_dot(trim_word(path, &|_: &str| true)),
+        Some(path) => start_at(path, files),
         None => "",
     }
+}
+
+/// Where the search begins for this path.
+fn start_at<'a, F: FileSystem>(path: &'a str, files: &F) -> &'a str
+    ensures { BeginsAt (files_by (F.leads files.now) (F.has_text files.now)) (Some path.now) result.now }
+{
+    if is_input(path) {
+        return "";
+    }
+    without_dot(trim_word(path, files))
 }
 
 /// `.` is the working folder, whose name is empty here.

@@ -1,7 +1,7 @@
 //! The keys of a settings file.
 
 ghost use Rattle.std.specs.Prelude.{◌≡◌};
-ghost use Rattle.t1_settings.specs.Keys.{key_in, name_of, option_of, wanted_of};
+ghost use Rattle.t1_settings.specs.Keys.{key_in, name_of, wanted_of};
 
 /// A key of a settings file, which sets the option of its name.
 #[derive(Clone, Copy, Debug, PartialEq, Eq)]
@@ -20,6 +20,23 @@ pub enum Key {
     Level,
     /// `only`: codes of rules or their letters.
     Only,
+}
+
+impl Key {
+    /// Its name: that of the option that it sets, without `--`.
+    pub fn name(self) -> &'static str
+        ensures { result.now ≡ name_of self }
+    {
+        match self {
+            Key::Baseline => "baseline",
+            Key::Edition => "edition",
+            Key::Except => "except",
+            Key::Exclude => "exclude",
+            Key::FailOn => "fail-on",
+            Key::Level => "level",
+            Key::Only => "only",
+        }
+    }
 }
 
 /// The key of this name.
@@ -42,36 +59,6 @@ pub(crate) fn key_in(name: &str) -> Option<Key>
         Some(Key::Only)
     } else {
         None
-    }
-}
-
-/// The name of a key.
-pub(crate) fn name_of(key: Key) -> &'static str
-    ensures { result.now ≡ name_of key }
-{
-    match key {
-        Key::Baseline => "baseline",
-        Key::Edition => "edition",
-        Key::Except => "except",
-        Key::Exclude => "exclude",
-        Key::FailOn => "fail-on",
-        Key::Level => "level",
-        Key::Only => "only",
-    }
-}
-
-/// The option that a key sets.
-pub(crate) fn option_of(key: Key) -> &'static str
-    ensures { result.now ≡ option_of key }
-{
-    match key {
-        Key::Baseline => "--baseline",
-        Key::Edition => "--edition",
-        Key::Except => "--except",
-        Key::Exclude => "--exclude",
-        Key::FailOn => "--fail-on",
-        Key::Level => "--level",
-        Key::Only => "--only",
     }
 }
 

@@ -1,10 +1,9 @@
 //! Laws above the definitions: each is the contract of a function that does nothing.
 
-ghost use Rattle.t1_settings.specs.Laws.{GivenOptionsWin, WritingHasNoBaseline};
+ghost use Rattle.t1_settings.specs.Laws.{NamesAreKeys};
 
-/// None of the words before those of a command line uses an option that the command line has, nor `--baseline` where it
-/// has `--write-waivers`.
-pub fn given_options_win()
-    ensures win { GivenOptionsWin }
-    ensures writing { WritingHasNoBaseline }
+/// Each key is the one of its name.
+#[tactic(auto, using(crate::proofs::KeyLaws::names_are_keys))]
+pub fn names_are_keys()
+    ensures { NamesAreKeys }
 {}

@@ -3,7 +3,7 @@
 ghost use Rattle.std.specs.Prelude.{◌≡◌, ◌==◌, ◌++◌, IfOk, OnOk, chars, encode_utf8_all, flat_map, string_bytes};
 ghost use Rattle.std.specs.List.{list_any};
 ghost use Rattle.std.specs.Path.{path_join};
-ghost use Rattle.t1_settings.specs.Words.{escaped, glob_below, itself};
+ghost use Rattle.t1_settings.specs.Paths.{escaped, glob_below, itself};
 
 use std::alloc::{AllocError, Global};
 use std::path::Path;

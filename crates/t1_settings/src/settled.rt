@@ -1,29 +1,29 @@
-//! From the words of a command line to the words that its settings are.
+//! The settings of a run.
 
-ghost use Rattle.std.specs.Prelude.{◌≡◌, IfErr, IfOk, map, option_map, string_bytes};
-ghost use Rattle.std.specs.Fn.{FnReturnsAt};
-ghost use Rattle.t1_settings.specs.Finding.{file_in, files_by, found_value};
+ghost use Rattle.std.specs.Prelude.{◌≡◌, IfErr, IfOk, map, option_map};
+ghost use Rattle.t1_settings.specs.Finding.{files_by, found_value};
+ghost use Rattle.t1_settings.specs.Paths.{setting_below};
 ghost use Rattle.t1_settings.specs.Private.Usage.{IsUsageOf};
-ghost use Rattle.t1_settings.specs.Reading.{IsFault};
-ghost use Rattle.t1_settings.specs.Settled.{AreSettled, AreUnsettled, AreWordsOf, IsWrongIn, ToldOr, settled_value, without_file};
+ghost use Rattle.t1_settings.specs.Reading.{HasSettings, IsFault, SettingValue, setting_value};
+ghost use Rattle.t1_settings.specs.Settled.{AreSettingsOf, AreSettled, AreUnsettled, IsWrongIn, ToldOr, settings_value};
 
 use crate::finding::{Found, Unfound, file_in, find_settings, start_of};
-use crate::reading::{Fault, read_settings};
+use crate::placing::settings_below;
+use crate::reading::{Fault, Setting, read_settings};
 use crate::telling::{no_toml_text, unknown_key_text, unread_text, wrong_value_text};
-use crate::words::{gives, words_before};
 use std::alloc::{AllocError, Global};
-use std::io;
+use t1_names::FileSystem;
 
-/// What a run's settings are.
+/// The settings of a file.
 #[derive(Drop)]
-pub struct Settled {
-    /// The name of the settings file: None where none was read.
-    pub file: Option<String>,
-    /// The words that its entries are.
-    pub words: Vec<String>,
+pub struct Settings {
+    /// The name of the file.
+    pub file: String,
+    /// Its entries, in the order of their keys. A file, and globs with a slash, are below the folder of the settings file.
+    pub entries: Vec<Setting>,
 }
 
-/// Why settings are no words.
+/// Why there are no settings.
 #[derive(Drop)]
 pub enum Unsettled {
     /// They can't be read, or something is wrong with them: the text to print.
@@ -32,73 +32,49 @@ pub enum Unsettled {
     Memory,
 }
 
-/// The words that the settings are for a command line of these words, without the program's name, whose first path is
-/// this. `text_of` returns the text of a file: None where there is no such file.
-pub fn settled_words<T>(
+/// Reads the nearest settings file at or above this path, the first of a command line. None where there is no such file.
+pub fn settings_for<F: FileSystem>(
     alloc: Global,
-    words: &[&str],
     path: Option<&str>,
-    text_of: &T,
-) -> Result<Settled, Unsettled>
-where
-    T: Fn(&str) -> Option<io::Result<Vec<u8>>>,
-    requires { T.IsAlwaysCallable text_of.now }
-    ensures settled { IfOk result (λ settled. AreSettled (files_by (FnReturnsAt T.Fn text_of.now)) (map (λ s. s.now) words.now)
-        (option_map (λ s. s.now) path.entry) (settled_value settled)) }
-    ensures unsettled { IfErr result (ToldOr (AreUnsettled (files_by (FnReturnsAt T.Fn text_of.now)) (map (λ s. s.now) words.now)
-        (option_map (λ s. s.now) path.entry))) }
+    files: &F,
+) -> Result<Option<Settings>, Unsettled>
+    ensures settled { IfOk result (λ settings. AreSettled (files_by (F.leads files.now) (F.has_text files.now)) (option_map (λ s. s.now) path.entry)
+        (option_map settings_value settings)) }
+    ensures unsettled { IfErr result (ToldOr (AreUnsettled (files_by (F.leads files.now) (F.has_text files.now)) (option_map (λ s. s.now) path.entry))) }
 {
-    if gives("--no-settings", words) {
-        return Ok(without_file(alloc));
-    }
-    match find_settings(alloc, start_of(path), text_of) {
-        Ok(Some(found)) => settled_by(alloc, words, &found),
-        Ok(None) => Ok(without_file(alloc)),
+    match find_settings(alloc, start_of(path, files), files) {
+        Ok(Some(found)) => match settings_of(alloc, &found) {
+            Ok(settings) => Ok(Some(settings)),
+            Err(unsettled) => Err(unsettled),
+        },
+        Ok(None) => Ok(None),
         Err(Unfound::CannotRead(name)) => Err(told(unread_text(alloc, name.as_str()))),
         Err(Unfound::Memory) => Err(Unsettled::Memory),
     }
 }
 
-/// No settings file is read.
-fn without_file(alloc: Global) -> Settled
-    ensures { settled_value result ≡ without_file }
-{
-    Settled {
-        file: None,
-        words: Vec::new(alloc),
-    }
-}
-
-/// What the settings of a file are.
-fn settled_by(alloc: Global, words: &[&str], found: &Found) -> Result<Settled, Unsettled>
-    ensures file { IfOk result (λ settled. (settled_value settled).file ≡ Some (file_in (string_bytes found.now.folder))) }
-    ensures words { IfOk result (λ settled. AreWordsOf (map (λ s. s.now) words.now) (found_value found.now) (settled_value settled).words) }
-    ensures wrong { IfErr result (ToldOr (IsWrongIn (found_value found.now))) }
-{
-    let words = words_of(alloc, words, found)?;
-    match file_in(alloc, found.folder.as_str()) {
-        Ok(name) => Ok(Settled {
-            file: Some(name),
-            words,
-        }),
-        Err(_) => Err(Unsettled::Memory),
-    }
-}
-
-/// The words of a settings file.
-fn words_of(alloc: Global, words: &[&str], found: &Found) -> Result<Vec<String>, Unsettled>
-    ensures read { IfOk result (λ before. AreWordsOf (map (λ s. s.now) words.now) (found_value found.now) (map string_bytes before.items)) }
+/// The settings of a file that was found.
+fn settings_of(alloc: Global, found: &Found) -> Result<Settings, Unsettled>
+    ensures settings { IfOk result (λ settings. AreSettingsOf (found_value found.now) (settings_value settings)) }
     ensures wrong { IfErr result (ToldOr (IsWrongIn (found_value found.now))) }
 {
     match read_settings(alloc, found.text.as_slice()) {
-        Ok(settings) => {
-            match words_before(alloc, found.folder.as_str(), words, settings.as_slice()) {
-                Ok(before) => Ok(before),
-                Err(_) => Err(Unsettled::Memory),
-            }
-        }
+        Ok(entries) => match placed(alloc, found, entries.as_slice()) {
+            Ok(settings) => Ok(settings),
+            Err(_) => Err(Unsettled::Memory),
+        },
         Err(fault) => Err(wrong(alloc, found, &fault)),
     }
+}
+
+/// The settings of a file with these entries.
+fn placed(alloc: Global, found: &Found, entries: &[Setting]) -> Result<Settings, AllocError>
+    requires { HasSettings found.now.text.items (Ok (map setting_value entries.now)) }
+    ensures { IfOk result (λ settings. AreSettingsOf (found_value found.now) (settings_value settings)) }
+{
+    let file = file_in(alloc, found.folder.as_str())?;
+    let entries = settings_below(alloc, found.folder.as_str(), entries)?;
+    Ok(Settings { file, entries })
 }
 
 /// Something is wrong with a settings file.

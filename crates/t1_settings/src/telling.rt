@@ -3,7 +3,7 @@
 ghost use Rattle.std.specs.Prelude.{◌≡◌, IfOk, string_bytes};
 ghost use Rattle.t1_settings.specs.Settled.{no_toml_text, told_text, unknown_key_text, unread_text, wrong_value_text};
 
-use crate::keys::{Key, name_of, wanted_of};
+use crate::keys::{Key, wanted_of};
 use std::alloc::{AllocError, Global};
 
 /// A sentence on a settings file.
@@ -49,7 +49,7 @@ pub(crate) fn wrong_value_text(alloc: Global, name: &str, key: Key) -> Result<St
     ensures { IfOk result (λ text. string_bytes text ≡ wrong_value_text name.now key) }
 {
     let mut rest = String::from_str(alloc, ": ")?;
-    rest.push_str(name_of(key))?;
+    rest.push_str(key.name())?;
     rest.push_str(" wants ")?;
     rest.push_str(wanted_of(key))?;
     rest.push_str("\n")?;

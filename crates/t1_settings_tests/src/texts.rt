@@ -3,32 +3,35 @@
 use crate::tools::settled;
 use std::test::Fail;
 
-/// A text of the working folder's file, and the words that it is, or what is reported.
+/// A text of the working folder's file, and its settings, or what is reported.
 const TEXTS: &[(&str, &str)] = &[
     ("", ""),
     ("# nothing\n\n", ""),
-    ("edition = 1", "--edition=1"),
-    ("edition = 0x2", "--edition=2"),
-    ("only = \"H02\"", "--only=H02"),
-    ("only = ['H02', \"Z\"]\n", "--only=H02,Z"),
-    ("except = [\n  'h',\n  'z01', # why\n]\n", "--except=h,z01"),
-    ("level = \"must\"", "--level=must"),
-    ("level = [\"must\", \"should\"]", "--level=must,should"),
-    ("fail-on = [\"must\"]", "--fail-on=must"),
-    ("\"fail-on\" = 'tidy'", "--fail-on=tidy"),
-    ("exclude = \"*-draft.pfb\"", "--exclude=*-draft.pfb"),
+    ("edition = 1", "edition=1"),
+    ("edition = 0x2", "edition=2"),
+    ("only = \"H02\"", "only=H02"),
+    ("only = ['H02', \"Z\"]\n", "only=H02 only=Z"),
+    (
+        "except = [\n  'h',\n  'z01', # why\n]\n",
+        "except=h except=z01",
+    ),
+    ("level = \"must\"", "level=must"),
+    ("level = [\"must\", \"should\"]", "level=must level=should"),
+    ("fail-on = [\"must\"]", "fail-on=must"),
+    ("\"fail-on\" = 'tidy'", "fail-on=tidy"),
+    ("exclude = \"*-draft.pfb\"", "exclude=*-draft.pfb"),
     (
         "exclude = [\"old/**\", \"a,b*\", \"/tmp/x*\"]",
-        "--exclude=old/** --exclude=a,b* --exclude=/tmp/x*",
+        "exclude=old/** exclude=a,b* exclude=/tmp/x*",
     ),
     ("exclude = []", ""),
-    ("exclude = [\"\"]", "--exclude="),
-    ("baseline = \"known.txt\"", "--baseline=known.txt"),
-    ("baseline = '/srv/known'", "--baseline=/srv/known"),
-    ("baseline = \"m\\u00e4ngel.txt\"", "--baseline=mängel.txt"),
+    ("exclude = [\"\"]", "exclude="),
+    ("baseline = \"known.txt\"", "baseline=known.txt"),
+    ("baseline = '/srv/known'", "baseline=/srv/known"),
+    ("baseline = \"m\\u00e4ngel.txt\"", "baseline=mängel.txt"),
     (
         "only = 'H'\nedition = 2\nbaseline = 'k'\n",
-        "--baseline=k --edition=2 --only=H",
+        "baseline=k edition=2 only=H",
     ),
     // What isn't TOML, by its line.
     ("edition", "t1check-all: .t1check.toml:1: not TOML\n"),
@@ -117,81 +120,18 @@ const TEXTS: &[(&str, &str)] = &[
 
 /// Each text is as it is typed here.
 #[test]
-fn texts_are_words(rt: HostRuntime) -> Result<(), Fail> {
+fn texts_are_settings(rt: HostRuntime) -> Result<(), Fail> {
     for (text, expected) in TEXTS {
-        let told = settled(rt.alloc(), &[], None, &[(".t1check.toml", Some(*text))])?;
-        assert_eq!(rt; told.as_str(), *expected, "{text}");
+        let told = settled(rt.alloc(), None, &[(".t1check.toml", Some(*text))])?;
+        assert_eq!(rt; entries_of(told.as_str()), *expected, "{text}");
     }
     Ok(())
 }
 
-/// A text of the working folder's file that has each key.
-const ALL: &str = "\
-baseline = 'k'
-edition = 2
-except = 'Z'
-exclude = ['*.t1']
-fail-on = 'must'
-level = 'tidy'
-only = 'H'
-";
-
-/// Words of a command line, and those before them.
-const GIVEN: &[(&[&str], &str)] = &[
-    (
-        &[],
-        "--baseline=k --edition=2 --except=Z --exclude=*.t1 --fail-on=must --level=tidy --only=H",
-    ),
-    (
-        &["--baseline", "other", "--edition=1", "fonts"],
-        "--except=Z --exclude=*.t1 --fail-on=must --level=tidy --only=H",
-    ),
-    (
-        &["fonts", "--except=H", "--only", "Z", "--exclude", "*.pfa"],
-        "--baseline=k --edition=2 --fail-on=must --level=tidy",
-    ),
-    (
-        &["--level=", "--fail-on", "should"],
-        "--baseline=k --edition=2 --except=Z --exclude=*.t1 --only=H",
-    ),
-    // A word after `--`, and one that only begins so, is no option.
-    (
-        &[
-            "--edition2",
-            "--only-x=H",
-            "-q",
-            "--",
-            "--edition=1",
-            "--no-settings",
-        ],
-        "--baseline=k --edition=2 --except=Z --exclude=*.t1 --fail-on=must --level=tidy --only=H",
-    ),
-    (
-        &["--write-waivers", "fonts"],
-        "--edition=2 --except=Z --exclude=*.t1 --fail-on=must --level=tidy --only=H",
-    ),
-    (
-        &["--update-baseline", "fonts"],
-        "--baseline=k --edition=2 --except=Z --exclude=*.t1 --fail-on=must --level=tidy --only=H",
-    ),
-    (&["--no-settings"], ""),
-    (&["fonts", "--no-settings", "-q"], ""),
-];
-
-/// An option of the command line leaves the entry of its name aside.
-#[test]
-fn given_options_win(rt: HostRuntime) -> Result<(), Fail> {
-    for (words, expected) in GIVEN {
-        let told = settled(rt.alloc(), *words, None, &[(".t1check.toml", Some(ALL))])?;
-        assert_eq!(rt; told.as_str(), *expected);
+/// What comes after the file's name, or what is reported.
+fn entries_of(told: &str) -> &str {
+    match told.strip_prefix(".t1check.toml") {
+        Some(entries) => entries.strip_prefix(' ').unwrap_or(entries),
+        None => told,
     }
-    // What isn't read can't be wrong.
-    let told = settled(
-        rt.alloc(),
-        &["--no-settings"],
-        None,
-        &[(".t1check.toml", None)],
-    )?;
-    assert_eq!(rt; told.as_str(), "");
-    Ok(())
 }

@@ -1,17 +1,15 @@
-use Rattle.std.proofs.lemmas.Fn.{says_at}
 use Rattle.std.proofs.Common.{◌∙◌, sym}
-use Rattle.std.specs.Fn.{FnReturnsAt}
 use Rattle.t1_names.proofs.NamedLemmas.{stands_for_below, stands_for_itself}
 use Rattle.t1_names.proofs.named.stand_for.Goals as goal
 
 pub returns-then-is_folder : goal.returns-then-is_folder
 returns-then-is_folder g c =
-    stands_for_below (FnReturnsAt g.D.Fn c.args.is_folder.now) (FnReturnsAt g.L.Fn c.args.list.now) c.args.word.now c.trim_word-trimmed.result.now
-    (sym c.has_line_end.ensures ∙ c.if-has_line_end.false) c.trim_word-trimmed.ensures c.fonts_below.result
-    (says_at g.D.Fn c.is_folder.ensures c.if-is_folder.true) c.fonts_below.ensures
+    stands_for_below (g.F.FileSystem.leads c.args.files.now) (g.F.FileSystem.lists c.args.files.now) c.args.word.now c.trim_word-trimmed.result.now
+    (sym c.stays.ensures ∙ c.if-stays.false) c.trim_word-trimmed.ensures c.fonts_below.result
+    (rw c.if-is_folder.true at c.is_folder.ensures) c.fonts_below.ensures
 
 pub returns-else-is_folder : goal.returns-else-is_folder
 returns-else-is_folder g c =
-    stands_for_itself (FnReturnsAt g.D.Fn c.args.is_folder.now) (FnReturnsAt g.L.Fn c.args.list.now) c.args.word.now c.trim_word-trimmed.result.now
-    (sym c.has_line_end.ensures ∙ c.if-has_line_end.false) c.trim_word-trimmed.ensures c.alone-else-is_folder.result
-    (says_at g.D.Fn c.is_folder.ensures c.if-is_folder.false) c.alone-else-is_folder.ensures
+    stands_for_itself (g.F.FileSystem.leads c.args.files.now) (g.F.FileSystem.lists c.args.files.now) c.args.word.now c.trim_word-trimmed.result.now
+    (sym c.stays.ensures ∙ c.if-stays.false) c.trim_word-trimmed.ensures c.alone-else-is_folder.result
+    (rw c.if-is_folder.false at c.is_folder.ensures) (rw c.file_name.ensures at c.alone-else-is_folder.ensures)

@@ -1,5 +1,5 @@
 use Rattle.std.proofs.Common.{sym}
-use Rattle.t1_options.specs.Words.IsWrong.{reported}
+use Rattle.t1_options.specs.Private.Reported.IsReported.{reported}
 use Rattle.t1_options.proofs.judging.options_meant.Goals as goal
 
 pub returns-in-Some-clause-wrong : goal.returns-in-Some-clause-wrong

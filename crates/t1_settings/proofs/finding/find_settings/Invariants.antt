@@ -1,5 +1,4 @@
 use Rattle.std.proofs.Common.{List, Option, length, ℕ}
-use Rattle.std.specs.Fn.{FnReturnsAt}
 use denote.Text.{Utf8}
 use denote.Shadow.{shadow}
 use Rattle.t1_settings.specs.Finding.{IsNearest, IsUnread, files_by}
@@ -8,10 +7,10 @@ use Rattle.t1_settings.proofs.finding.find_settings.Given as goal
 abbrev pub invariant-loop-name : goal.invariant-loop-name
 invariant-loop-name g l =
     shadow (Utf8 l.folder)
-    × ((found : Option (List ℕ × List ℕ)) → IsNearest (files_by (FnReturnsAt g.T.Fn l.text_of)) l.folder found
-    → IsNearest (files_by (FnReturnsAt g.T.Fn l.text_of)) l.fn.start found)
-    × ((name : List ℕ) → IsUnread (files_by (FnReturnsAt g.T.Fn l.text_of)) l.folder name
-    → IsUnread (files_by (FnReturnsAt g.T.Fn l.text_of)) l.fn.start name)
+    × ((found : Option (List ℕ × List ℕ)) → IsNearest (files_by (g.F.FileSystem.leads l.files) (g.F.FileSystem.has_text l.files)) l.folder found
+    → IsNearest (files_by (g.F.FileSystem.leads l.files) (g.F.FileSystem.has_text l.files)) l.fn.start found)
+    × ((name : List ℕ) → IsUnread (files_by (g.F.FileSystem.leads l.files) (g.F.FileSystem.has_text l.files)) l.folder name
+    → IsUnread (files_by (g.F.FileSystem.leads l.files) (g.F.FileSystem.has_text l.files)) l.fn.start name)
 
 abbrev pub decreases-loop-name : goal.decreases-loop-name
 decreases-loop-name g l = length l.folder

@@ -1,7 +1,7 @@
 use Rattle.std.proofs.Common.{◌≡◌, arith, ap, encode_utf8_all, get_or, sym, ◌++◌, ◌∙◌}
 use Rattle.std.proofs.lemmas.Grind.{common_steps}
-use Rattle.t1_settings.proofs.WordLemmas.{itself_added}
-use Rattle.t1_settings.specs.Words.{itself}
+use Rattle.t1_settings.proofs.PathLemmas.{itself_added}
+use Rattle.t1_settings.specs.Paths.{itself}
 use Rattle.t1_settings.proofs.paths.text_of.Goals as goal
 
 pub loop-c-preserved : goal.loop-c-preserved

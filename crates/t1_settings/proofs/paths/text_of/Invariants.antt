@@ -1,5 +1,5 @@
 use Rattle.std.proofs.Common.{◌≡◌, encode_utf8_all, flat_map, string_bytes, take}
-use Rattle.t1_settings.specs.Words.{itself}
+use Rattle.t1_settings.specs.Paths.{itself}
 use Rattle.t1_settings.proofs.paths.text_of.Given as goal
 
 abbrev pub invariant-loop-c : goal.invariant-loop-c

@@ -1,0 +1,3 @@
+-- Words that private contracts alone cite: no clause of a public function rests on them.
+pub mod Named
+pub mod Reported
