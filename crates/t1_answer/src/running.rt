@@ -47,7 +47,7 @@ pub fn run<R: Source, V: Source, W: Sink, E: Sink>(
     ensures ends { Ends options.now (R.state source.old).left (R.state source.new).failed (V.state waivers.old)
         (V.state waivers.new) (W.state out.old) (W.state out.new) (E.state errors.old) (E.state errors.new) result }
     ensures reads { (R.state source.new).takes ≤ (R.state source.old).takes + (largest_file + 1) }
-    ensures taken { TakesAtMost (largest_file + 1) (R.state source.old).left (R.state source.new).left }
+    ensures taken { TakesAtMost (largest_file + 1) (R.state source.old) (R.state source.new) }
     ensures stops { (R.state source.new).late_takes ≡ (R.state source.old).late_takes }
     ensures whole { StopsAt largest_file (R.state source.old) (R.state source.new)
         (EndsForMemory (E.state errors.old) (E.state errors.new) result) }

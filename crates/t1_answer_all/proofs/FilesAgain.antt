@@ -1,5 +1,5 @@
 -- Two checks of the same files find the same, and what they find can become known.
-use Rattle.std.proofs.Common.{◌≡◌, ◌<◌, ◌==◌, ℕ, Bool, true, false, not, cond, nat_lt, List, [], ◌∷◌, ◌++◌, length, map, Option, None, Some, Result, Ok, Err, IfOk, inl, inr, refl, sym, ap, ap₂, subst, ◌∙◌, arith}
+use Rattle.std.proofs.Common.{◌≡◌, ◌<◌, ◌==◌, ℕ, Bool, true, false, not, cond, nat_lt, List, [], ◌∷◌, length, map, Option, None, Some, Result, Ok, Err, IfOk, if◌then◌else◌, inl, inr, refl, sym, ap, ap₂, subst, ◌∙◌, arith}
 use Rattle.std.proofs.lemmas.Bool.{cases_Bool}
 use Rattle.std.specs.List.{AllByRecursion, IsDistinct, filter, flat_map}
 use Rattle.std.specs.Str.{bytes_eq}
@@ -9,15 +9,20 @@ use Rattle.t1_font.proofs.LimitsKept.{fonts_within_limits}
 use Rattle.t1_font.specs.FontFiles.{font_in}
 use Rattle.t1_font.specs.Fonts.{FontValue}
 use Rattle.t1_font.specs.declared.unread.Unread.{Unread}
+use Rattle.t1_io.specs.Devices.{SourceState}
 use Rattle.t1_known.proofs.FoundKinds.{reports_are_readable}
 use Rattle.t1_known.specs.Laws.{UpdatesAreReached}
 use Rattle.t1_known.specs.Lines.{has_no_line_end}
 use Rattle.t1_known.specs.Readings.{IsReadable}
 use Rattle.t1_refusals.specs.declared.refusal.Reason.{Reason}
-use Rattle.t1_many.specs.Files.{IsFound, given_of}
+use Rattle.t1_many.specs.Ends.{AreChecked}
+use Rattle.t1_many.specs.Files.{ChecksIn, HasNoWaivers, IsFound, given_by}
+use Rattle.t1_many.specs.Files.ChecksIn.{cannot_open, cannot_open_waivers, with_waivers, without_waivers}
 use Rattle.t1_many.specs.Files.IsFound.{breaks, breaks_waivers, no_memory, refused, reports, waivers_refused}
+use Rattle.t1_many.specs.FontFiles.{asks}
 use Rattle.t1_many.specs.Laws.{KindsNameTheirRules}
 use Rattle.t1_many.specs.Outcomes.{Entry, IsRead, Outcome, Report, failed, reported}
+use Rattle.t1_many.specs.declared.font_files.WaiverFiles.{WaiverFiles}
 use Rattle.t1_names.proofs.OnceLaws.{none_is_twice}
 use Rattle.t1_names.specs.Named.{one_line_names}
 use Rattle.t1_names.specs.Once.{each_once}
@@ -31,7 +36,7 @@ use Rattle.t1_rules.specs.declared.mask.Mask.{Mask}
 use Rattle.t1_run.proofs.FewRead.{AreFew, HasFew, of_file, of_text}
 use Rattle.t1_run.specs.Failures.{failure_of}
 use Rattle.t1_run.specs.FontFiles.{font_of, with_reason}
-use Rattle.t1_run.specs.WaiverFiles.{as_waivers, waivers_in}
+use Rattle.t1_run.specs.WaiverFiles.{AreWaived, as_waivers, waivers_in}
 use Rattle.t1_answer_all.proofs.QuietAgain.{all-append, quiet_again}
 use Rattle.t1_answer_all.specs.Laws.{AnUpdateOfFilesIsQuietNextTime, AreCheckedIn, CanBeKnown, IsChecked, IsQuiet, holding}
 
@@ -51,33 +56,43 @@ data IsSure (edition : Edition) (bytes : List ℕ) (text : Option (List ℕ)) (n
       (font : FontValue) (reason : Reason) → font_of bytes ≡ Ok font → waived_by text ≡ Err reason → outcome ≡ failed (failure_of reason)
       → IsSure edition bytes text name outcome
 
-module _ (bytes_of : List ℕ → List ℕ) (text_of : List ℕ → Option (List ℕ)) (edition : Edition) (name : List ℕ) where
-  read_is : (font : Result FontValue Reason) → (given_of (holding bytes_of text_of) name).Reads font
-      → (0 < length name) × (font_of (bytes_of name) ≡ font)
-  read_is font reads =
-      let opened = reads.opened in
-      let read = reads.read in
-      (opened.0, rw opened.1 at read)
+-- The text of a font's waivers that counts: that of its file, where it is asked for.
+abbrev asked_text : WaiverFiles → (List ℕ → Option (List ℕ)) → List ℕ → Option (List ℕ)
+asked_text beside text_of name = if asks beside name then text_of name else None
 
-  waived_is : (waived : Result (List Waiver) Reason) → (given_of (holding bytes_of text_of) name).Waives waived
-      → waived_by (text_of name) ≡ waived
-  waived_is waived (inl none) = ap waived_by none.0 ∙ sym none.1
-  waived_is waived (inr some) =
-      let opened = some.opened in
-      let read = some.read in
-      ap waived_by opened.1 ∙ (rw opened.2 at read)
+module _ (bytes_of : List ℕ → List ℕ) (text_of : List ℕ → Option (List ℕ)) (beside : WaiverFiles) (edition : Edition) (name : List ℕ) where
+  none_asked : (asked : Bool) (old new : Unit {0}) → HasNoWaivers (holding bytes_of text_of) asked name old new
+      → (if asked then text_of name else None) ≡ None
+  none_asked true old new none = none
+  none_asked false old new none = refl
 
-  sure : (outcome : Outcome) → IsFound edition (given_of (holding bytes_of text_of) name) outcome → IsChecked outcome
-      → IsSure edition (bytes_of name) (text_of name) name outcome
-  sure outcome (reports report reads waives edition_is is same) checks =
-      let read = read_is (Ok report.font) reads in
-      sure_report report read.1 (waived_is (Ok report.waivers) waives) edition_is is read.0 same
-  sure outcome (refused reason reads same) checks = sure_refused reason (read_is (Err reason) reads).1 same
-  sure outcome (waivers_refused font reads reason waives same) checks =
-      sure_waivers font reason (read_is (Ok font) reads).1 (waived_is (Err reason) waives) same
-  sure outcome (breaks broken same) checks = absurd (subst IsChecked same checks)
-  sure outcome (breaks_waivers font reads broken same) checks = absurd (subst IsChecked same checks)
-  sure outcome (no_memory same) checks = absurd (subst IsChecked same checks)
+  -- by the bytes of the font, and the text of its waivers where it has some
+  found_so : (bytes : List ℕ) (text : Option (List ℕ)) (asked : Bool) (source source' waivers waivers' : SourceState) → source.left ≡ Some bytes
+      → ((waived : Result (List Waiver) Reason) → AreWaived asked waivers.left waived → waived_by text ≡ waived) → 0 < length name
+      → (outcome : Outcome) → IsFound edition (given_by source source' asked waivers waivers') outcome → IsChecked outcome
+      → IsSure edition bytes text name outcome
+  found_so bytes text asked source source' waivers waivers' is waives named outcome (reports report reads waived edition_is made same) checks =
+      sure_report report (rw is at reads.0) (waives (Ok report.waivers) waived.0) edition_is made named same
+  found_so bytes text asked source source' waivers waivers' is waives named outcome (refused reason reads same) checks =
+      sure_refused reason (rw is at reads.0) same
+  found_so bytes text asked source source' waivers waivers' is waives named outcome (waivers_refused font reads reason waived same) checks =
+      sure_waivers font reason (rw is at reads.0) (waives (Err reason) waived.0) same
+  found_so bytes text asked source source' waivers waivers' is waives named outcome (breaks broken same) checks = absurd (subst IsChecked same checks)
+  found_so bytes text asked source source' waivers waivers' is waives named outcome (breaks_waivers font reads broken same) checks =
+      absurd (subst IsChecked same checks)
+  found_so bytes text asked source source' waivers waivers' is waives named outcome (no_memory same) checks = absurd (subst IsChecked same checks)
+
+  sure : (old new : Unit {0}) (outcome : Outcome) → ChecksIn (holding bytes_of text_of) beside edition name old new outcome → IsChecked outcome
+      → IsSure edition (bytes_of name) (asked_text beside text_of name) name outcome
+  sure old new outcome (cannot_open opens same) checks = absurd (subst IsChecked same checks)
+  sure old new outcome (cannot_open_waivers opened asked source opens asks_is none leaves same) checks = absurd (subst IsChecked same checks)
+  sure old new outcome (without_waivers opened asked source source' waivers waivers' opens none leaves few found) checks =
+      found_so (bytes_of name) (asked_text beside text_of name) false source source' waivers waivers' opens.1
+      (λ waived is. ap waived_by (none_asked (asks beside name) opened asked none) ∙ is) opens.0 outcome found checks
+  sure old new outcome (with_waivers opened asked left source source' waivers waivers' opens asks_is some leaves leaves' few few' found) checks =
+      let text_is : asked_text beside text_of name ≡ Some some.0 = rw asks_is some.1 in
+      found_so (bytes_of name) (asked_text beside text_of name) true source source' waivers waivers' opens.1
+      (λ waived is. ap waived_by text_is ∙ (rw some.2 at is)) opens.0 outcome found checks
 
 -- ---- the same is found again
 
@@ -128,19 +143,24 @@ module _ (edition : Edition) (bytes : List ℕ) (text : Option (List ℕ)) (name
       absurd (either r.waivers why (waived_by text) waived' waived)
   same_outcome a b (sure_waivers f why font waived at) (sure_refused why' font' at') = absurd (either f why' (font_of bytes) font font')
 
-module _ (bytes_of : List ℕ → List ℕ) (text_of : List ℕ → Option (List ℕ)) (edition : Edition) where
+module _ (bytes_of : List ℕ → List ℕ) (text_of : List ℕ → Option (List ℕ)) (beside : WaiverFiles) (edition : Edition) where
   abbrev IsFoundSo : Entry → Type 0
-  IsFoundSo entry = IsFound edition (given_of (holding bytes_of text_of) entry.name) entry.outcome
+  IsFoundSo entry = (old : Unit {0}) × (new : Unit {0}) × ChecksIn (holding bytes_of text_of) beside edition entry.name old new entry.outcome
+
+  each_found : (entries : List Entry) (old new : Unit {0}) → AreChecked (holding bytes_of text_of) beside edition old new entries
+      → AllByRecursion IsFoundSo entries
+  each_found [] old new same = tt
+  each_found (entry ∷ entries) old new (next, one, others) = ((old, next, one), each_found entries next new others)
 
   sure_of : (entry : Entry) → IsFoundSo entry → IsChecked entry.outcome
-      → IsSure edition (bytes_of entry.name) (text_of entry.name) entry.name entry.outcome
-  sure_of entry found checks = sure bytes_of text_of edition entry.name entry.outcome found checks
+      → IsSure edition (bytes_of entry.name) (asked_text beside text_of entry.name) entry.name entry.outcome
+  sure_of entry (old, new, found) checks = sure bytes_of text_of beside edition entry.name old new entry.outcome found checks
 
   same_entry : (a b : Entry) → a.name ≡ b.name → IsFoundSo a → IsChecked a.outcome → IsFoundSo b → IsChecked b.outcome → a ≡ b
   same_entry a b names found_a checks_a found_b checks_b =
-      let sure_a : IsSure edition (bytes_of b.name) (text_of b.name) b.name a.outcome =
-      subst (λ (n : List ℕ). IsSure edition (bytes_of n) (text_of n) n a.outcome) names (sure_of a found_a checks_a) in
-      let outcomes = same_outcome edition (bytes_of b.name) (text_of b.name) b.name a.outcome b.outcome sure_a (sure_of b found_b checks_b) in
+      let sure_a : IsSure edition (bytes_of b.name) (asked_text beside text_of b.name) b.name a.outcome =
+      subst (λ (n : List ℕ). IsSure edition (bytes_of n) (asked_text beside text_of n) n a.outcome) names (sure_of a found_a checks_a) in
+      let outcomes = same_outcome edition (bytes_of b.name) (asked_text beside text_of b.name) b.name a.outcome b.outcome sure_a (sure_of b found_b checks_b) in
       ap₂ (λ (n : List ℕ) (o : Outcome). record { name = n; outcome = o }) names outcomes
 
   same_entries : (xs ys : List Entry) → map (λ (e : Entry). e.name) xs ≡ map (λ (e : Entry). e.name) ys
@@ -249,28 +269,31 @@ distinct_kept test (name ∷ names) once = elim (cases_Bool (test name)) [
   | inr not ↦ rw not (distinct_kept test names once.1)
 ]
 
-module _ (bytes_of : List ℕ → List ℕ) (text_of : List ℕ → Option (List ℕ)) (edition : Edition) (rules : Mask) where
+module _ (bytes_of : List ℕ → List ℕ) (text_of : List ℕ → Option (List ℕ)) (beside : WaiverFiles) (edition : Edition) (rules : Mask) where
   readable_entries : (entries : List Entry) → AllByRecursion (λ n. has_no_line_end n ≡ true) (map (λ (e : Entry). e.name) entries)
-      → AllByRecursion (IsFoundSo bytes_of text_of edition) entries → AllByRecursion (λ e. IsChecked e.outcome) entries
+      → AllByRecursion (IsFoundSo bytes_of text_of beside edition) entries → AllByRecursion (λ e. IsChecked e.outcome) entries
       → AllByRecursion IsReadable (flat_map (entry_readings rules) entries)
   readable_entries [] in_line found checks = tt
   readable_entries (e ∷ es) in_line found checks =
       all-append IsReadable (entry_readings rules e) (flat_map (entry_readings rules) es)
-      (readable_outcome rules edition (bytes_of e.name) (text_of e.name) e.name e.outcome in_line.0
-      (sure_of bytes_of text_of edition e found.0 checks.0))
+      (readable_outcome rules edition (bytes_of e.name) (asked_text beside text_of e.name) e.name e.outcome in_line.0
+      (sure_of bytes_of text_of beside edition e found.0 checks.0))
       (readable_entries es in_line.1 found.1 checks.1)
 
-  can_be_known : (listed : List (List ℕ)) (entries : List Entry) → AreCheckedIn bytes_of text_of edition listed entries → CanBeKnown rules entries
+  can_be_known : (listed : List (List ℕ)) (entries : List Entry) → AreCheckedIn bytes_of text_of beside edition listed entries → CanBeKnown rules entries
   can_be_known listed entries are = record {
     once = subst (IsDistinct bytes_eq) (sym are.named) (distinct_kept (λ name. not (has_line_end name)) (each_once listed) (none_is_twice listed));
     readable = readable_entries entries
         (subst (λ (ns : List (List ℕ)). AllByRecursion (λ n. has_no_line_end n ≡ true) ns) (sym are.named) (kept_in_line (each_once listed)))
-        are.found are.checked;
+        (each_found bytes_of text_of beside edition entries tt tt are.found) are.checked;
   }
 
 pub files_quiet_again : UpdatesAreReached → KindsNameTheirRules → AnUpdateOfFilesIsQuietNextTime
-files_quiet_again reached name_rules bytes_of text_of edition listed entries again choice rules text rows known first second chosen before after =
-    let same : entries ≡ again = same_entries bytes_of text_of edition entries again (first.named ∙ sym second.named) first.found first.checked
-    second.found second.checked in
+files_quiet_again reached name_rules bytes_of text_of beside edition listed entries again choice rules text rows known first second chosen before
+    after =
+    let same : entries ≡ again = same_entries bytes_of text_of beside edition entries again (first.named ∙ sym second.named)
+    (each_found bytes_of text_of beside edition entries tt tt first.found) first.checked
+    (each_found bytes_of text_of beside edition again tt tt second.found) second.checked in
     subst (IsQuiet choice rules known) same
-    (quiet_again reached name_rules choice rules entries text rows known chosen (can_be_known bytes_of text_of edition rules listed entries first) before after)
+    (quiet_again reached name_rules choice rules entries text rows known chosen
+    (can_be_known bytes_of text_of beside edition rules listed entries first) before after)

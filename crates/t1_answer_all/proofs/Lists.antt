@@ -1,25 +1,18 @@
 -- The fonts that options name, by what each step gives.
-use Rattle.std.proofs.Common.{◌≡◌, ◌≢◌, ◌+◌, ◌<◌, ℕ, ◌==◌, true, false, List, [], ◌∷◌, ◌++◌, Global, String, ap, arith, get_or, length, map, Ok, string_bytes, subst, sym, take, ◌∙◌, refl}
+use Rattle.std.proofs.Common.{◌≡◌, ◌≢◌, ◌+◌, ◌<◌, ℕ, ◌==◌, true, false, List, [], ◌∷◌, ◌++◌, Global, String, ap, arith, get_or, length, map, string_bytes, subst, sym, take, ◌∙◌, refl}
 use Rattle.std.proofs.lemmas.List.{map-append}
 use Rattle.std.specs.List.{AllZip}
-use Rattle.t1_answer_all.proofs.Told.{told_weaker}
-use Rattle.t1_answer_all.specs.Known.{IsKnownText, IsWrong}
-use Rattle.t1_answer_all.specs.Listing.{AreNamedBy, HasNoFonts, IsGlobOf, IsNotListed}
-use Rattle.t1_answer_all.specs.Listing.IsNotListed.{no_fonts, no_rows}
-use Rattle.t1_answer_all.specs.Places.{ListsGiven, Texts}
-use Rattle.t1_answer_all.specs.Usage.{IsToldSo}
+use Rattle.t1_answer_all.specs.Listing.{AreNamedBy, IsGlobOf}
+use Rattle.t1_answer_all.specs.Places.{ListsGiven}
 use Rattle.t1_answer_all.specs.Private.Words.{AreWordsOf}
 use Rattle.t1_answer_all.specs.Words.{undecoded_of, words_of}
 use Rattle.t1_answer_all.specs.declared.words.Words.{Words}
-use Rattle.t1_known.specs.Reads.{IsReadAs}
-use Rattle.t1_many.specs.KnownFaults.{RowValue}
 use Rattle.t1_names.proofs.NamedLemmas.{names_next, zip-push}
 use Rattle.t1_names.specs.GlobValues.{glob_of}
 use Rattle.t1_names.specs.Globs.{Glob}
 use Rattle.t1_names.specs.Named.{AreNamed}
 use Rattle.t1_names.specs.declared.globs.Glob.{Glob as GlobValue}
 use Rattle.t1_options.specs.declared.asked.Options.{Options}
-use Rattle.t1_run.specs.declared.usage.UsageError.{UsageError}
 
 -- one glob more
 pub glob_added : (texts : List (String Global)) (i : ℕ) (text : String Global) → i < length texts → text ≡ get_or texts i text
@@ -63,17 +56,3 @@ named_by given options paths files excluded paths_are files_are excluded_are wor
           (subst (λ (gs : List GlobValue). AreNamed given.IsFolder given.Lists looked (map glob_of gs) names unsearched passed_over) left_is named);
       undecoded_is = are.undecoded_is ∙ ap (λ ps. undecoded_of ps are.texts) paths_are;
     }
-
--- what is printed of the file of known faults, or of the fonts
-pub no_rows_told : (known : Texts) (given : ListsGiven) (options : Options) (text : List ℕ) → IsKnownText known options.known_faults text
-    → (read : List ℕ) → read ≡ text → (error : UsageError) → IsToldSo (IsWrong read) error → IsToldSo (IsNotListed known given options) error
-no_rows_told known given options text is read read_is error wrong =
-    told_weaker (IsWrong read) (IsNotListed known given options) error
-    (λ told so. no_rows text is (subst (λ (t : List ℕ). IsWrong t told) read_is so)) wrong
-
-pub no_fonts_told : (known : Texts) (given : ListsGiven) (options : Options) (text : List ℕ) → IsKnownText known options.known_faults text
-    → (read : List ℕ) → read ≡ text → (rows : List RowValue) → IsReadAs read (Ok rows) → (error : UsageError)
-    → IsToldSo (HasNoFonts given options) error → IsToldSo (IsNotListed known given options) error
-no_fonts_told known given options text is read read_is rows are error none =
-    told_weaker (HasNoFonts given options) (IsNotListed known given options) error
-    (λ told so. no_fonts text (record { is = is; rows = rows; read = subst (λ (t : List ℕ). IsReadAs t (Ok rows)) read_is are }) so) none

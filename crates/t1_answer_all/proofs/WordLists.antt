@@ -67,6 +67,7 @@ list_unread lists files i file less is name name_is texts read error told =
       split = split_at files i file less is ∙ ap (λ n. map string_bytes (take i files) ++ n ∷ map string_bytes (drop (i + 1) files)) (sym name_is);
       texts = texts;
       read = read;
-      unread = none.0;
-      told_is = none.1;
+      cause = none.0;
+      unread = none.1;
+      told_is = none.2;
     }) told

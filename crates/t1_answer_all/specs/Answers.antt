@@ -1,7 +1,7 @@
--- What is answered to the words of the command line, and what is left to be replaced.
+-- What is answered to the words of the command line, and which files are replaced.
 use Rattle.std.specs.Prelude.{◌≡◌, ℕ, Bool, true, false, List, Option, None, Some, string_bytes}
 use Rattle.t1_batch.specs.Runs.{LeftValue, program}
-use Rattle.t1_many.specs.Files.{Files}
+use Rattle.t1_many.specs.Calls.{Calls}
 use Rattle.t1_many.specs.Plain.{Devices}
 use Rattle.t1_options.specs.Words.{IsRefused, IsTaken}
 use Rattle.t1_options.specs.declared.asked.KnownFaults.{KnownFaults}
@@ -14,14 +14,12 @@ use Rattle.t1_run.specs.Telling.{Explains, Gives}
 use Rattle.t1_run.specs.declared.status.Status.{Status}
 use Rattle.t1_run.specs.declared.status.Status.TheVariants.{Clean}
 use Rattle.t1_run.specs.declared.usage.UsageError.{UsageError}
-use Rattle.t1_answer_all.specs.Checking.{ChecksBy, are_read}
+use Rattle.t1_answer_all.specs.Checking.{ChecksBy}
 use Rattle.t1_answer_all.specs.Places.{ListsGiven, Texts}
-use Rattle.t1_answer_all.specs.Replacing.{NewFileValue, ReplacementsValue}
+use Rattle.t1_answer_all.specs.Replacing.{NewFileValue, ReplacementsValue, Replaces}
+use Rattle.t1_settings.specs.Finding.{Files as SettingsFiles}
 
 -- ---- what is left
-
-abbrev pub nothing_to_replace : Status → ReplacementsValue
-nothing_to_replace status = record { status = status; known_faults = None; waivers = None; overwrites = false }
 
 -- A file of known faults that is made anew has this text from then on.
 abbrev pub file_anew : KnownFaults → Option (List ℕ) → Option NewFileValue
@@ -47,32 +45,41 @@ to_replace options left = record {
 
 -- ---- what is answered
 
+-- What the calls do to the files: those that open fonts, one that says how many fonts there are, and those that replace files.
+pub record Store (F : Type 0) : Type 1 where
+  pub calls : Calls F
+  pub Expects : F → F → ℕ → Type 0
+  pub Puts : F → F → List ℕ → List ℕ → Bool → Type 0
+  pub Has : F → List ℕ → Bool → Type 0
+
 -- Why words request nothing is printed, or help is given.
-pub record StopsEarly (error : UsageError) (old new : Devices) (left : ReplacementsValue) : Type 0 where
-  pub status : Status
-  pub explains : Explains program error old.out new.out old.errors new.errors status
-  pub left_is : left ≡ nothing_to_replace status
+abbrev pub StopsEarly : UsageError → Devices → Devices → Status → Type 0
+StopsEarly error old new status = Explains program error old.out new.out old.errors new.errors status
 
 -- The version is given.
-pub record GivesVersion (version : List ℕ) (old new : Devices) (left : ReplacementsValue) : Type 0 where
-  pub status : Status
-  pub gives : Gives program version Clean old.out new.out old.errors new.errors status
-  pub left_is : left ≡ nothing_to_replace status
+abbrev pub GivesVersion : List ℕ → Devices → Devices → Status → Type 0
+GivesVersion version old new status = Gives program version Clean old.out new.out old.errors new.errors status
 
--- The fonts that the options name are listed and checked, or why not is printed.
-pub record Checks (known : Texts) (lists : ListsGiven) (files : Files) (options : Options) (old new : Devices) (left : ReplacementsValue) : Type 0 where
-  pub run : LeftValue
-  pub checks : ChecksBy known lists files options old new run
-  pub left_is : left ≡ to_replace options run
+-- The fonts that the options name are listed and checked, or why not is printed; then the files are replaced that are left to be.
+pub record Checks {F : Type 0} (known : Texts) (lists : ListsGiven) (store : Store F) (options : Options) (files files' : F) (old new : Devices)
+    (status : Status) : Type 0 where
+  pub between : F
+  pub behind : Devices
+  pub left : LeftValue
+  pub checks : ChecksBy known lists store.calls store.Expects options files between old behind left
+  pub replaces : Replaces store.Puts store.Has (to_replace options left) between files' behind.errors new.errors status
+  pub out_is : new.out ≡ behind.out
 
--- The words are answered: with help or with what is wrong, with the version, or with a check of the fonts that they name. The files of fonts
--- are known by whether waivers are read.
-pub data Answers (help version : List ℕ) (words : List (List ℕ)) (known : Texts) (lists : ListsGiven) (files : Bool → Files) (old new : Devices)
-    (left : ReplacementsValue) : Type 0 where
+-- The words are answered: with help or with what is wrong, with the version, or with a check of the fonts that they name, by the settings too. Where
+-- nothing is checked no file is opened or replaced.
+pub data Answers {F : Type 0} (help version : List ℕ) (words : List (List ℕ)) (settings : SettingsFiles) (known : Texts) (lists : ListsGiven)
+    (store : Store F) (files files' : F) (old new : Devices) (status : Status) : Type 0 where
   explained :
-      (error : UsageError) → IsRefused help words error → StopsEarly error old new left
-      → Answers help version words known lists files old new left
-  gives_version : IsTaken words Version → GivesVersion version old new left → Answers help version words known lists files old new left
+      (error : UsageError) → IsRefused help settings words error → StopsEarly error old new status → files' ≡ files
+      → Answers help version words settings known lists store files files' old new status
+  gives_version :
+      IsTaken settings words Version → GivesVersion version old new status → files' ≡ files
+      → Answers help version words settings known lists store files files' old new status
   checks :
-      (options : Options) → IsTaken words (Check options) → Checks known lists (files (are_read options.waivers)) options old new left
-      → Answers help version words known lists files old new left
+      (options : Options) → IsTaken settings words (Check options) → Checks known lists store options files files' old new status
+      → Answers help version words settings known lists store files files' old new status

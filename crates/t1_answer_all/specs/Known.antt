@@ -1,5 +1,7 @@
 -- The file of known faults, as the options name it.
 use Rattle.std.specs.Prelude.{◌≡◌, ◌⊎◌, ℕ, List, [], string_bytes}
+use Rattle.std.specs.declared.io.ErrorKind.{ErrorKind}
+use Rattle.std.specs.declared.io.ErrorKind.TheVariants.{NotFound}
 use Rattle.t1_known.specs.Reads.{HasKeyTwice, HasNoRow}
 use Rattle.t1_options.specs.declared.asked.KnownFaults.{KnownFaults}
 use Rattle.t1_options.specs.declared.asked.KnownFaults.TheVariants.{Anew, Beyond, Unnamed}
@@ -16,10 +18,18 @@ IsKnownText texts (Anew file) text = texts.Has (string_bytes file) text ⊎ (tex
 abbrev pub IsNotKnownText : Texts → KnownFaults → List ℕ → Type 0
 IsNotKnownText texts Unnamed told = ⊥
 IsNotKnownText texts (Beyond file) told =
-    (texts.CannotRead (string_bytes file) ⊎ texts.HasNone (string_bytes file)) × (told ≡ unreadable_text (string_bytes file))
-IsNotKnownText texts (Anew file) told = texts.CannotRead (string_bytes file) × (told ≡ unreadable_text (string_bytes file))
+    (cause : ErrorKind) × (texts.CannotRead (string_bytes file) cause ⊎ (texts.HasNone (string_bytes file) × (cause ≡ NotFound)))
+    × (told ≡ unreadable_text (string_bytes file) cause)
+IsNotKnownText texts (Anew file) told =
+    (cause : ErrorKind) × texts.CannotRead (string_bytes file) cause × (told ≡ unreadable_text (string_bytes file) cause)
 
--- A text has no known faults, and this is printed of the first line that is wrong.
-pub data IsWrong (text told : List ℕ) : Type 0 where
-  no_row : (line : List ℕ) → HasNoRow text line → told ≡ no_row_text line → IsWrong text told
-  two_rows : (line : List ℕ) → HasKeyTwice text line → told ≡ two_rows_text line → IsWrong text told
+-- The name of the file: empty where none is named.
+abbrev pub file_of : KnownFaults → List ℕ
+file_of Unnamed = []
+file_of (Beyond file) = string_bytes file
+file_of (Anew file) = string_bytes file
+
+-- The text of a file has no known faults, and this is printed of the first line that is wrong.
+pub data IsWrong (file text told : List ℕ) : Type 0 where
+  no_row : (line : List ℕ) → HasNoRow text line → told ≡ no_row_text file line → IsWrong file text told
+  two_rows : (line : List ℕ) → HasKeyTwice text line → told ≡ two_rows_text file line → IsWrong file text told

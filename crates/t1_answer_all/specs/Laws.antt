@@ -2,18 +2,21 @@
 use Rattle.std.specs.Prelude.{◌≡◌, ◌⊎◌, ◌<◌, ℕ, List, [], length, map, Option, None, Some, Ok}
 use Rattle.std.specs.List.{AllByRecursion, IsDistinct}
 use Rattle.std.specs.Str.{bytes_eq}
-use Rattle.t1_batch.specs.Checks.{all_handed}
-use Rattle.t1_batch.specs.Endings.{shortfalls_text}
+use Rattle.t1_batch.specs.Endings.{mismatches_text}
 use Rattle.t1_batch.specs.Modes.{anew, beyond, judges_of, readings_of}
 use Rattle.t1_char.specs.declared.edition.Edition.{Edition}
+use Rattle.t1_io.specs.Devices.{SourceState}
 use Rattle.t1_known.specs.Readings.{IsReadable}
 use Rattle.t1_known.specs.Reads.{IsReadAs}
 use Rattle.t1_many.specs.Choice.{Choice, is_told}
 use Rattle.t1_many.specs.Counting.{all_lines}
-use Rattle.t1_many.specs.Files.{Files, IsFound as IsFoundBy, given_of}
+use Rattle.t1_many.specs.Calls.{Calls}
+use Rattle.t1_many.specs.Ends.{AreChecked}
 use Rattle.t1_many.specs.Handing.{found_of}
 use Rattle.t1_many.specs.KnownFaults.{RowValue, file_text, updated}
 use Rattle.t1_many.specs.Outcomes.{Entry, Outcome, failed, found_of_failure, reported}
+use Rattle.t1_many.specs.Told.{all_handed}
+use Rattle.t1_many.specs.declared.font_files.WaiverFiles.{WaiverFiles}
 use Rattle.t1_names.specs.Named.{one_line_names}
 use Rattle.t1_names.specs.Once.{each_once}
 use Rattle.t1_rules.specs.Book.{code_of, number_of}
@@ -38,10 +41,10 @@ abbrev pub IsQuietFont : Outcome → Found → Type 0
 IsQuietFont (reported report) found = (found ≡ Clean) ⊎ (found ≡ Known)
 IsQuietFont (failed reason) found = found ≡ found_of_failure reason
 
--- No line of a report is handed on, no row is reported as no longer reached, and no font is reported as one with faults.
+-- No line of a report is handed on, no row is reported as another number, and no font is reported as one with faults.
 pub record IsQuiet (choice : Choice) (rules : Mask) (known : List RowValue) (entries : List Entry) : Type 0 where
   pub lines : all_lines (all_handed (judges_of (beyond known) rules) entries) ≡ []
-  pub rows : shortfalls_text (beyond known) choice (readings_of (beyond known) rules entries) ≡ []
+  pub rows : mismatches_text (beyond known) choice (readings_of (beyond known) rules entries) ≡ []
   pub founds :
       AllByRecursion (λ entry. IsQuietFont entry.outcome (found_of (judges_of (beyond known) rules entry.name) entry.outcome)) entries
 
@@ -54,14 +57,24 @@ AnUpdateIsQuietNextTime =
 
 -- ---- over files
 
--- Files that hold these bytes by their names, and some of whose fonts have these texts of waivers. No file has the empty name.
-abbrev pub holding : (List ℕ → List ℕ) → (List ℕ → Option (List ℕ)) → Files
+-- The file of a font of this name holds these bytes, if it can be opened. No file has the empty name.
+abbrev pub HoldsFont : List ℕ → List ℕ → Option SourceState → Type 0
+HoldsFont bytes name None = Unit {0}
+HoldsFont bytes name (Some source) = (0 < length name) × (source.left ≡ Some bytes)
+
+-- A font has this text of waivers, or none.
+abbrev pub HoldsWaivers : Option (List ℕ) → Option (Option SourceState) → Type 0
+HoldsWaivers held None = held ≡ None
+HoldsWaivers held (Some None) = Unit {0}
+HoldsWaivers held (Some (Some waivers)) = (text : List ℕ) × (held ≡ Some text) × (waivers.left ≡ Some text)
+
+-- Files that hold these bytes by their names, and some of whose fonts have these texts of waivers. No call changes them.
+abbrev pub holding : (List ℕ → List ℕ) → (List ℕ → Option (List ℕ)) → Calls (Unit {0})
 holding bytes_of text_of = record {
-  Opens = λ name old new. (0 < length name) × (old.left ≡ Some (bytes_of name));
-  CannotOpen = λ name. Unit {0};
-  OpensWaivers = λ name old new. (text : List ℕ) × (text_of name ≡ Some text) × (old.left ≡ Some text);
-  CannotOpenWaivers = λ name. Unit {0};
-  HasNoWaivers = λ name. text_of name ≡ None;
+  Opens = λ old new name opened. HoldsFont (bytes_of name) name opened;
+  OpensWaivers = λ old new name opened. HoldsWaivers (text_of name) opened;
+  Leaves = λ old new name source. Unit {0};
+  LeavesWaivers = λ old new name waivers. Unit {0};
 }
 
 -- A font was read or refused. Else a read or an allocation failed, and the status is 3.
@@ -72,17 +85,17 @@ IsChecked (failed Broken) = ⊥
 IsChecked (failed Memory) = ⊥
 
 -- The fonts of a list were checked in such files.
-pub record AreCheckedIn (bytes_of : List ℕ → List ℕ) (text_of : List ℕ → Option (List ℕ)) (edition : Edition) (listed : List (List ℕ))
-    (entries : List Entry) : Type 0 where
+pub record AreCheckedIn (bytes_of : List ℕ → List ℕ) (text_of : List ℕ → Option (List ℕ)) (beside : WaiverFiles) (edition : Edition)
+    (listed : List (List ℕ)) (entries : List Entry) : Type 0 where
   pub named : map (λ entry. entry.name) entries ≡ one_line_names (each_once listed)
-  pub found : AllByRecursion (λ entry. IsFoundBy edition (given_of (holding bytes_of text_of) entry.name) entry.outcome) entries
+  pub found : AreChecked (holding bytes_of text_of) beside edition tt tt entries
   pub checked : AllByRecursion (λ entry. IsChecked entry.outcome) entries
 
 -- Where known faults were made anew of fonts, and the file is read, another check of the same files is quiet.
 abbrev pub AnUpdateOfFilesIsQuietNextTime : Type 0
 AnUpdateOfFilesIsQuietNextTime =
-    (bytes_of : List ℕ → List ℕ) (text_of : List ℕ → Option (List ℕ)) (edition : Edition) (listed : List (List ℕ)) (entries again : List Entry)
-    (choice : Choice) (rules : Mask) (text : List ℕ) (rows known : List RowValue)
-    → AreCheckedIn bytes_of text_of edition listed entries → AreCheckedIn bytes_of text_of edition listed again
+    (bytes_of : List ℕ → List ℕ) (text_of : List ℕ → Option (List ℕ)) (beside : WaiverFiles) (edition : Edition) (listed : List (List ℕ))
+    (entries again : List Entry) (choice : Choice) (rules : Mask) (text : List ℕ) (rows known : List RowValue)
+    → AreCheckedIn bytes_of text_of beside edition listed entries → AreCheckedIn bytes_of text_of beside edition listed again
     → AreChosenBy choice rules → IsReadAs text (Ok rows)
     → IsReadAs (file_text (updated choice (readings_of (anew rows) rules entries) rows)) (Ok known) → IsQuiet choice rules known again

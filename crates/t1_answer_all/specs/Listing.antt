@@ -1,18 +1,15 @@
 -- The fonts that options name.
-use Rattle.std.specs.Prelude.{◌≡◌, ◌≢◌, ◌≤◌, ◌-◌, ℕ, List, [], map, string_bytes, Option, None, Some, Ok}
+use Rattle.std.specs.Prelude.{◌≡◌, ◌≢◌, ◌≤◌, ◌-◌, ℕ, List, [], map, string_bytes, Option, None, Some}
 use Rattle.std.specs.List.{AllZip}
 use Rattle.std.specs.Str.{chars}
 use Rattle.t1_batch.specs.Unlisted.{unlisted_told}
 use Rattle.t1_forms.specs.Tellings.{ToldValue}
-use Rattle.t1_known.specs.Reads.{IsReadAs}
-use Rattle.t1_many.specs.KnownFaults.{RowValue}
 use Rattle.t1_many.specs.Shards.{part_of}
 use Rattle.t1_names.specs.Globs.{Glob, IsRead}
 use Rattle.t1_names.specs.Named.{AreNamed}
 use Rattle.t1_options.specs.declared.asked.Options.{Options}
 use Rattle.t1_options.specs.declared.asked.Shard.{Shard}
-use Rattle.t1_answer_all.specs.Known.{IsKnownText, IsNotKnownText, IsWrong}
-use Rattle.t1_answer_all.specs.Places.{ListsGiven, Texts}
+use Rattle.t1_answer_all.specs.Places.{ListsGiven}
 use Rattle.t1_answer_all.specs.Usage.{no_font_text}
 use Rattle.t1_answer_all.specs.Words.{CannotReadOne, undecoded_of, words_of}
 use Rattle.t1_answer_all.specs.declared.listing.Fonts.{Fonts}
@@ -69,25 +66,7 @@ pub record NamesNone (given : ListsGiven) (options : Options) (told : List ℕ) 
   pub none : fonts.names ≡ []
   pub told_is : told ≡ no_font_text
 
--- The text of the file of known faults, and its rows.
-pub record HasKnown (known : Texts) (options : Options) (text : List ℕ) : Type 0 where
-  pub is : IsKnownText known options.known_faults text
-  pub rows : List RowValue
-  pub read : IsReadAs text (Ok rows)
-
--- What is listed: the text of the file of known faults, which has rows, and the fonts.
-pub record IsListed (known : Texts) (given : ListsGiven) (options : Options) (text : List ℕ) (fonts : FontsValue) : Type 0 where
-  pub has_known : HasKnown known options text
-  pub fonts_are : AreFonts given options fonts
-
 -- A list can't be read, or there is no font, and this is printed.
 pub data HasNoFonts (given : ListsGiven) (options : Options) (told : List ℕ) : Type 0 where
   unread : CannotReadOne given.texts (map string_bytes options.files_from.items) told → HasNoFonts given options told
   none : NamesNone given options told → HasNoFonts given options told
-
--- Something is wrong, and this is printed: of the file of known faults; else of the lists, or that there is no font.
-pub data IsNotListed (known : Texts) (given : ListsGiven) (options : Options) (told : List ℕ) : Type 0 where
-  no_text : IsNotKnownText known options.known_faults told → IsNotListed known given options told
-  no_rows :
-      (text : List ℕ) → IsKnownText known options.known_faults text → IsWrong text told → IsNotListed known given options told
-  no_fonts : (text : List ℕ) → HasKnown known options text → HasNoFonts given options told → IsNotListed known given options told

@@ -1,6 +1,7 @@
 -- The words that name fonts and folders.
 use Rattle.std.specs.Prelude.{◌≡◌, ◌+◌, ◌-◌, ◌^◌, ◌++◌, ◌∷◌, ℕ, not, List, count_by, filter, min}
 use Rattle.std.specs.List.{AllZip, flat_map, sum_by}
+use Rattle.std.specs.declared.io.ErrorKind.{ErrorKind}
 use Rattle.t1_names.specs.Lists.{unreadable_in, words_in}
 use Rattle.t1_options.specs.Values.{is_marked}
 use Rattle.t1_answer_all.specs.Places.{Texts}
@@ -29,5 +30,6 @@ pub record CannotReadOne (lists : Texts) (files : List (List ℕ)) (told : List 
   pub split : files ≡ before ++ file ∷ after
   pub texts : List (List ℕ)
   pub read : AllZip lists.Has before texts
-  pub unread : lists.CannotRead file
-  pub told_is : told ≡ unreadable_text file
+  pub cause : ErrorKind
+  pub unread : lists.CannotRead file cause
+  pub told_is : told ≡ unreadable_text file cause

@@ -1,50 +1,66 @@
 //! The file of known faults.
 
-ghost use Rattle.std.specs.Prelude.{IfErr, IfOk};
-ghost use Rattle.std.specs.Fn.{FnReturnsAt};
-ghost use Rattle.t1_answer_all.specs.Known.{IsKnownText, IsNotKnownText, IsWrong};
+ghost use Rattle.std.specs.Prelude.{◌≡◌, IfErr, IfOk};
+ghost use Rattle.t1_answer_all.specs.Known.{IsKnownText, IsNotKnownText, IsWrong, file_of};
 ghost use Rattle.t1_answer_all.specs.Places.{known_by};
 ghost use Rattle.t1_answer_all.specs.Usage.{IsToldSo};
 ghost use Rattle.t1_known.specs.Reads.{IsReadAs};
 
 use crate::usage::{no_row, two_rows, unreadable};
 use std::alloc::Global;
-use std::io;
+use std::io::ErrorKind;
 use t1_known::{KnownFaults, NotKnown};
+use t1_names::FileSystem;
 use t1_options::KnownFaults as File;
 use t1_run::UsageError;
 
 /// The text of the file of known faults: empty where none is named, or where one is made that isn't there yet.
-pub fn text_of_known<K>(alloc: Global, file: &File, text: &K) -> Result<Vec<u8>, UsageError>
-where
-    K: Fn(&str) -> Option<io::Result<Vec<u8>>>,
-    requires { K.IsAlwaysCallable text.now }
-    ensures text { IfOk result (λ bytes. IsKnownText (known_by (FnReturnsAt K.Fn text.now)) file.now bytes.items) }
-    ensures none { IfErr result (IsToldSo (IsNotKnownText (known_by (FnReturnsAt K.Fn text.now)) file.now)) }
+pub(crate) fn text_of_known<F: FileSystem>(
+    alloc: Global,
+    file: &File,
+    files: &F,
+) -> Result<Vec<u8>, UsageError>
+    ensures text { IfOk result (λ bytes. IsKnownText (known_by (F.has_text files.now)) file.now bytes.items) }
+    ensures none { IfErr result (IsToldSo (IsNotKnownText (known_by (F.has_text files.now)) file.now)) }
 {
     match file {
         File::Unnamed => Ok(Vec::new(alloc)),
-        File::Beyond(name) => match text(name.as_str()) {
+        File::Beyond(name) => match files.text(name.as_str()) {
             Some(Ok(text)) => Ok(text),
-            Some(Err(_)) | None => Err(unreadable(alloc, name.as_str())),
+            Some(Err(error)) => Err(unreadable(alloc, name.as_str(), error.kind())),
+            None => Err(unreadable(alloc, name.as_str(), ErrorKind::NotFound)),
         },
-        File::Anew(name) => match text(name.as_str()) {
+        File::Anew(name) => match files.text(name.as_str()) {
             Some(Ok(text)) => Ok(text),
-            Some(Err(_)) => Err(unreadable(alloc, name.as_str())),
+            Some(Err(error)) => Err(unreadable(alloc, name.as_str(), error.kind())),
             None => Ok(Vec::new(alloc)),
         },
     }
 }
 
-/// The known faults of a text.
-pub fn read_known(alloc: Global, text: &[u8]) -> Result<KnownFaults<'_>, UsageError>
+/// The name of the file of known faults: empty where none is named.
+pub(crate) fn file_of(file: &File) -> &str
+    ensures { result.now ≡ file_of file.now }
+{
+    match file {
+        File::Unnamed => "",
+        File::Beyond(name) | File::Anew(name) => name.as_str(),
+    }
+}
+
+/// The known faults of the text of a file.
+pub(crate) fn read_known<'a>(
+    alloc: Global,
+    file: &str,
+    text: &'a [u8],
+) -> Result<KnownFaults<'a>, UsageError>
     ensures rows { IfOk result (λ rows. IsReadAs text.now (Ok rows)) }
-    ensures wrong { IfErr result (IsToldSo (IsWrong text.now)) }
+    ensures wrong { IfErr result (IsToldSo (IsWrong file.now text.now)) }
 {
     match KnownFaults::read(alloc, text) {
         Ok(known) => Ok(known),
-        Err(NotKnown::NoRow(line)) => Err(no_row(alloc, line)),
-        Err(NotKnown::Twice(line)) => Err(two_rows(alloc, line)),
+        Err(NotKnown::NoRow(line)) => Err(no_row(alloc, file, line)),
+        Err(NotKnown::Twice(line)) => Err(two_rows(alloc, file, line)),
         Err(NotKnown::Memory) => Err(UsageError::Memory),
     }
 }

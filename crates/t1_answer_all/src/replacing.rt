@@ -12,13 +12,20 @@ use t1_io::Sink;
 use t1_run::{Failure, Status, tell_failure, tell_parts};
 use t1_waiving::{FontWaivers, Kept};
 
-/// Files that can be replaced, by their names.
+/// Files that can be replaced, by their names, and what is told of how far a run is.
 pub trait FileStore {
+    // So many fonts are checked from now on.
+    ghost expects: { Self → Self → ℕ → Type 0 };
+
     // A text was put in the place of a file, or that failed.
     ghost puts: { Self → Self → List ℕ → List ℕ → Bool → Type 0 };
 
     // There is a file of this name, or there is none.
     ghost has: { Self → List ℕ → Bool → Type 0 };
+
+    /// So many fonts are checked from now on: how far the run is may be shown.
+    fn expect(&mut self, fonts: usize)
+        ensures { expects self.old self.new fonts };
 
     /// Puts a text in the place of a file.
     fn replace(&mut self, name: &str, text: &[u8]) -> io::Result<()>

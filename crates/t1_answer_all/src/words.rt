@@ -1,7 +1,6 @@
 //! The words that name fonts and folders: those of the command line, and those of lists.
 
 ghost use Rattle.std.specs.Prelude.{◌≡◌, ◌+◌, ◌-◌, ◌^◌, ◌++◌, IfErr, IfOk, OnOk, map, min, string_bytes};
-ghost use Rattle.std.specs.Fn.{FnReturnsAt};
 ghost use Rattle.t1_answer_all.specs.Places.{texts_by};
 ghost use Rattle.t1_answer_all.specs.Usage.{IsToldSo};
 ghost use Rattle.t1_answer_all.specs.Private.Words.{AddsList, AreWordsOf, IsText, IsNoText};
@@ -9,8 +8,7 @@ ghost use Rattle.t1_answer_all.specs.Words.{CannotReadOne, given_words, undecode
 
 use crate::usage::unreadable;
 use std::alloc::{AllocError, Global};
-use std::io;
-use t1_names::words_in;
+use t1_names::{FileSystem, words_in};
 use t1_options::is_marked;
 use t1_run::UsageError;
 
@@ -24,21 +22,18 @@ pub(crate) struct Words {
 }
 
 /// The words of the command line, and those of these lists, in this order.
-pub(crate) fn all_words<T>(
+pub(crate) fn all_words<F: FileSystem>(
     alloc: Global,
     paths: &[String],
-    files: &[String],
-    list_text: &T,
+    lists: &[String],
+    files: &F,
 ) -> Result<Words, UsageError>
-where
-    T: Fn(&str) -> io::Result<Vec<u8>>,
-    requires { T.IsAlwaysCallable list_text.now }
-    ensures words { IfOk result (AreWordsOf (texts_by (FnReturnsAt T.Fn list_text.now)) (map string_bytes paths.now) (map string_bytes files.now)) }
-    ensures none { IfErr result (IsToldSo (CannotReadOne (texts_by (FnReturnsAt T.Fn list_text.now)) (map string_bytes files.now))) }
+    ensures words { IfOk result (AreWordsOf (texts_by (F.has_list files.now)) (map string_bytes paths.now) (map string_bytes lists.now)) }
+    ensures none { IfErr result (IsToldSo (CannotReadOne (texts_by (F.has_list files.now)) (map string_bytes lists.now))) }
 {
     let mut words = words_given(alloc, paths)?;
-    for file in files {
-        let text = text_of(alloc, file.as_str(), list_text)?;
+    for list in lists {
+        let text = text_of(alloc, list.as_str(), files)?;
         add_list(alloc, &mut words, text.as_slice())?;
     }
     Ok(words)
@@ -69,16 +64,13 @@ fn count_marked(paths: &[String]) -> usize
 }
 
 /// The text of a list.
-fn text_of<T>(alloc: Global, file: &str, list_text: &T) -> Result<Vec<u8>, UsageError>
-where
-    T: Fn(&str) -> io::Result<Vec<u8>>,
-    requires { T.IsAlwaysCallable list_text.now }
-    ensures text { IfOk result (IsText (texts_by (FnReturnsAt T.Fn list_text.now)) file.now) }
-    ensures none { IfErr result (IsToldSo (IsNoText (texts_by (FnReturnsAt T.Fn list_text.now)) file.now)) }
+fn text_of<F: FileSystem>(alloc: Global, list: &str, files: &F) -> Result<Vec<u8>, UsageError>
+    ensures text { IfOk result (IsText (texts_by (F.has_list files.now)) list.now) }
+    ensures none { IfErr result (IsToldSo (IsNoText (texts_by (F.has_list files.now)) list.now)) }
 {
-    match list_text(file) {
+    match files.list_text(list) {
         Ok(text) => Ok(text),
-        Err(_) => Err(unreadable(alloc, file)),
+        Err(error) => Err(unreadable(alloc, list, error.kind())),
     }
 }
 

@@ -2,10 +2,11 @@
 use Rattle.std.proofs.Common.{◌≡◌, List, [], ◌∷◌, ◌++◌, ℕ, Option, None, Result, inl, inr, refl, sym, ap, ap₂, ◌∙◌, append-nil, append_assoc, map, filter}
 use Rattle.std.proofs.lemmas.Grind.{flat_map-append}
 use Rattle.std.proofs.lemmas.Option.{none-some}
-use Rattle.t1_batch.specs.Checks.{ChecksFonts, IsFound, IsKept, all_handed, founds_of}
+use Rattle.t1_batch.specs.Checks.{ChecksFonts, IsFound, IsKept}
+use Rattle.t1_many.specs.Told.{all_handed, founds_of}
 use Rattle.t1_batch.specs.Checks.ChecksFonts.{cut_short, whole}
 use Rattle.t1_batch.specs.Modes.{ModeValue, judges_of}
-use Rattle.t1_parts.specs.declared.part.Part.{Part}
+use Rattle.t1_batch.specs.declared.checking.Findings.{Findings}
 use Rattle.t1_char.specs.declared.edition.Edition.{Edition}
 use Rattle.t1_report.specs.Checked.{CheckedFont, checked}
 use Rattle.t1_many.specs.Counting.{Counts, all_fonts, all_lines, fonts_of, lines_of}
@@ -65,7 +66,7 @@ module _ {T F : Type 0} (takes : F → F → Handed → Option Lost → Type 0) 
   counted old new (x ∷ xs) founds lines (inr (reason, (took, count), none)) is = absurd (none-some reason none)
 
   pub fonts_counted : (mode : ModeValue) (mask : Mask) (files : Files) (edition : Edition) (names : List (List ℕ)) (old new : T)
-      (found : Part) (result : Result Status Lost) → tally old ≡ tally_of [] [] → found.tally ≡ tally new
+      (found : Findings) (result : Result Status Lost) → tally old ≡ tally_of [] [] → found.tally ≡ tally new
       → ChecksFonts Takes (judges_of mode mask) files edition names old new (IsKept mode mask found.readings.items found.kept) result
       → ChecksFonts takes (judges_of mode mask) files edition names (form old) (form new) (IsFound mode mask found) result
   fonts_counted mode mask files edition names old new found result none tally_is (whole entries are handed kept is) =

@@ -2,7 +2,8 @@
 use Rattle.std.proofs.Common.{◌≡◌, ◌⊎◌, List, [], ◌∷◌, ◌++◌, ℕ, Option, None, Some, Result, Ok, Err, inl, inr, refl, sym, ap, ap₂, subst, ◌∙◌, append-nil, append_assoc}
 use Rattle.std.proofs.lemmas.Grind.{flat_map-append}
 use Rattle.std.specs.List.{AllZip, flat_map}
-use Rattle.t1_batch.specs.Checks.{ChecksFonts, IsTextOf, all_handed, founds_of}
+use Rattle.t1_batch.specs.Checks.{ChecksFonts, IsTextOf}
+use Rattle.t1_many.specs.Told.{all_handed, founds_of}
 use Rattle.t1_batch.specs.Checks.ChecksFonts.{cut_short, whole}
 use Rattle.t1_batch.specs.Modes.{entry_readings, outcome_readings}
 use Rattle.t1_char.specs.declared.edition.Edition.{Edition}

@@ -1,6 +1,7 @@
 -- Forms that are seen by what is known of them, of which something stays as it is.
 use Rattle.std.proofs.Common.{◌≡◌, List, [], ◌∷◌, Option, Result, inl, inr, ap, subst, ℕ}
-use Rattle.t1_batch.specs.Checks.{ChecksFonts, all_handed}
+use Rattle.t1_batch.specs.Checks.{ChecksFonts}
+use Rattle.t1_many.specs.Told.{all_handed}
 use Rattle.t1_batch.specs.Checks.ChecksFonts.{cut_short, whole}
 use Rattle.t1_char.specs.declared.edition.Edition.{Edition}
 use Rattle.t1_many.specs.Files.{Files}

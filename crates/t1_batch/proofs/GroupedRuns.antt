@@ -1,6 +1,7 @@
 -- Forms of groups, that are seen by what is known of them.
 use Rattle.std.proofs.Common.{◌≡◌, ℕ, List, Result}
-use Rattle.t1_batch.specs.Checks.{ChecksFonts, all_handed}
+use Rattle.t1_batch.specs.Checks.{ChecksFonts}
+use Rattle.t1_many.specs.Told.{all_handed}
 use Rattle.t1_batch.specs.Checks.ChecksFonts.{cut_short, whole}
 use Rattle.t1_char.specs.declared.edition.Edition.{Edition}
 use Rattle.t1_grouped.proofs.Written.{seen}

@@ -8,7 +8,6 @@ pub mod FormattedRuns
 pub mod GivenEach
 pub mod GroupedRuns
 pub mod ModeFonts
-pub mod MoreFiles
 pub mod PartNames
 pub mod RunEnds
 pub mod WrittenTexts

@@ -32,7 +32,7 @@ none_kept readings none = subst (λ (rs : List Kept). AllZip IsTextOf rs []) (sy
 
 module _ {F : Type 0} (takes : F → F → Handed → Option Lost → Type 0) (mask : Mask) (files : Files) (edition : Edition) (names : List (List ℕ))
     (old new : F) (result : Result Status Lost) (readings : List Kept) (waivers : List FontText) where
-  pub told_fonts : readings ≡ [] → waivers ≡ [] → TellsAll takes (of_rules mask) files edition names old new result
+  pub told_fonts : readings ≡ [] → waivers ≡ [] → TellsAll takes (λ name. of_rules mask) files edition names old new result
       → ChecksFonts takes (judges_of told mask) files edition names old new (IsKept told mask readings waivers) result
   told_fonts none none_waived (whole entries are handed is) =
       whole' entries are handed (record { readings_are = none_kept readings none; waivers_are = none_waived }) is

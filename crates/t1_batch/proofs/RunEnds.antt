@@ -13,12 +13,12 @@ use Rattle.t1_forms.specs.Tellings.{ToldValue}
 use Rattle.t1_many.specs.Files.{Files}
 use Rattle.t1_many.specs.Plain.{Devices}
 use Rattle.t1_many.specs.declared.recipient.Lost.{Lost}
-use Rattle.t1_parts.specs.declared.part.Part.{Part}
+use Rattle.t1_batch.specs.declared.checking.Findings.{Findings}
 use Rattle.t1_rules.specs.declared.mask.Mask.{Mask}
 use Rattle.t1_run.specs.declared.status.Status.{Status}
 
 pub run_ends : (layout : LayoutValue) (unlisted : List ToldValue) (mode : ModeValue) (rules : Mask) (wanted : WantedValue) (quiet : Bool) (files : Files)
-    (edition : Edition) (names : List (List ℕ)) (old behind new : Devices) (left : LeftValue) (found : Part) (status : Result Status Lost)
+    (edition : Edition) (names : List (List ℕ)) (old behind new : Devices) (left : LeftValue) (found : Findings) (status : Result Status Lost)
     → WritesIn layout unlisted (judges_of mode rules) files edition names old behind (IsFound mode rules found) status
     → ConcludesWritten mode wanted quiet found (is_whole unlisted) status behind.errors new.errors left → new.out ≡ behind.out
     → Runs layout unlisted mode rules wanted quiet files edition names old new left

@@ -1,13 +1,14 @@
 -- How a check of fonts ends, and what is kept of them.
-use Rattle.std.specs.Prelude.{◌≡◌, ◌⊎◌, ℕ, List, map, string_bytes, take, Option, None, Some, Result, Ok, Err}
+use Rattle.std.specs.Prelude.{◌≡◌, ◌⊎◌, ℕ, List, string_bytes, take, Option, None, Some, Result, Ok, Err}
 use Rattle.std.specs.List.{AllZip, flat_map}
 use Rattle.t1_char.specs.declared.edition.Edition.{Edition}
 use Rattle.t1_many.specs.Counting.{all_lines}
 use Rattle.t1_many.specs.Ends.{AreEntries, status_of_all}
 use Rattle.t1_many.specs.Files.{Files}
-use Rattle.t1_many.specs.Handing.{Handed, HandsOn, found_of, handed_of}
+use Rattle.t1_many.specs.Handing.{Handed, HandsOn}
 use Rattle.t1_many.specs.KnownFaults.{Reading, row_text, rows_of}
 use Rattle.t1_many.specs.Outcomes.{Entry, Report}
+use Rattle.t1_many.specs.Told.{all_handed, founds_of}
 use Rattle.t1_many.specs.declared.readings.Reading.{Reading as Kept}
 use Rattle.t1_many.specs.declared.recipient.Lost.{Lost}
 use Rattle.t1_many.specs.declared.recipient.Lost.TheVariants.{Memory}
@@ -16,20 +17,9 @@ use Rattle.t1_report.specs.Faults.{FaultValue}
 use Rattle.t1_rules.specs.declared.mask.Mask.{Mask}
 use Rattle.t1_run.specs.declared.status.Status.{Status}
 use Rattle.t1_summary.specs.Tallies.{tally_of}
-use Rattle.t1_summary.specs.declared.found.Found.{Found}
 use Rattle.t1_waiving.specs.FontTexts.{FontText}
 use Rattle.t1_batch.specs.Modes.{ModeValue, judges_of, readings_of, waivers_of}
-use Rattle.t1_parts.specs.declared.part.Part.{Part}
-
--- ---- what is handed on
-
--- What is handed on of fonts, one after another, each judged by its name too.
-abbrev pub all_handed : (List ℕ → Report → FaultValue → Verdict) → List Entry → List Handed
-all_handed judges entries = flat_map (λ entry. handed_of (judges entry.name) entry.name entry.outcome) entries
-
--- How they were found.
-abbrev pub founds_of : (List ℕ → Report → FaultValue → Verdict) → List Entry → List Found
-founds_of judges entries = map (λ entry. found_of (judges entry.name) entry.outcome) entries
+use Rattle.t1_batch.specs.declared.checking.Findings.{Findings}
 
 -- All fonts were checked: what is chosen of them was handed on in order, what is to be kept of them was kept, and the status is the greatest
 -- of theirs. Or it stopped at one of them, since a device failed or memory ran out, and nothing of a later one was handed on.
@@ -57,6 +47,6 @@ pub record IsKept (mode : ModeValue) (rules : Mask) (readings : List Kept) (waiv
   pub waivers_are : waivers ≡ waivers_of mode rules entries
 
 -- What was found in fonts: so many fonts were found so, and so many lines of each rule were handed on; what is kept of them is kept.
-pub record IsFound (mode : ModeValue) (rules : Mask) (found : Part) (entries : List Entry) : Type 0 where
+pub record IsFound (mode : ModeValue) (rules : Mask) (found : Findings) (entries : List Entry) : Type 0 where
   pub counted : found.tally ≡ tally_of (founds_of (judges_of mode rules) entries) (all_lines (all_handed (judges_of mode rules) entries))
   pub kept : IsKept mode rules found.readings.items found.kept entries

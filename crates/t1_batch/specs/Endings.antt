@@ -1,11 +1,11 @@
 -- What is printed once all fonts were checked, and what is left to do.
 use Rattle.std.specs.Prelude.{◌≡◌, ◌++◌, ℕ, ◌&&◌, nat_lt, Bool, true, false, List, [], codes, length, Option, None, Some, option_map, Result, Ok, Err, if◌then◌else◌}
-use Rattle.std.specs.List.{flat_map, list_any}
+use Rattle.std.specs.List.{AllZip, flat_map, list_any}
 use Rattle.t1_io.specs.Devices.{PutFailed, SinkState, Wrote}
 use Rattle.t1_known.specs.Readings.{IsReadable, choice_of as choice_by}
 use Rattle.t1_known.specs.Reads.{IsReadAs}
 use Rattle.t1_many.specs.Choice.{Choice}
-use Rattle.t1_many.specs.KnownFaults.{Reading, RowValue, file_text, shortfall, updated}
+use Rattle.t1_many.specs.KnownFaults.{Reading, RowValue, file_text, mismatch, updated}
 use Rattle.t1_many.specs.declared.readings.Reading.{Reading as Kept}
 use Rattle.t1_many.specs.declared.recipient.Lost.{Lost}
 use Rattle.t1_many.specs.declared.recipient.Lost.TheVariants.{Device, Memory}
@@ -38,14 +38,22 @@ wanted_value wanted = record { choice = choice_by wanted.only.now wanted.except.
 abbrev pub IsFoundIn : Kept → Reading → Type 0
 IsFoundIn kept reading = IsTextOf kept reading × IsReadable reading
 
+-- What was found in fonts, where it is compared with known faults or becomes known: each is kept, and its rows can be read. Elsewhere nothing is
+-- asked of it.
+abbrev pub AreFoundBy : ModeValue → List Kept → List Reading → Type 0
+AreFoundBy told kept readings = Unit {0}
+AreFoundBy (beyond rows) kept readings = AllZip IsFoundIn kept readings
+AreFoundBy (anew rows) kept readings = AllZip IsFoundIn kept readings
+AreFoundBy waived kept readings = Unit {0}
+
 -- ---- what is printed
 
--- The rows of known faults that are no longer reached.
-abbrev pub shortfalls_text : ModeValue → Choice → List Reading → List ℕ
-shortfalls_text told choice readings = []
-shortfalls_text (beyond rows) choice readings = flat_map (shortfall choice readings) rows
-shortfalls_text (anew rows) choice readings = []
-shortfalls_text waived choice readings = []
+-- The rows of known faults from which what was found differs.
+abbrev pub mismatches_text : ModeValue → Choice → List Reading → List ℕ
+mismatches_text told choice readings = []
+mismatches_text (beyond rows) choice readings = flat_map (mismatch choice readings) rows
+mismatches_text (anew rows) choice readings = []
+mismatches_text waived choice readings = []
 
 abbrev pub has_known : ModeValue → Bool
 has_known told = false
@@ -72,13 +80,13 @@ unwaived_text (anew rows) tally = []
 unwaived_text waived tally =
     if nat_lt 0 (fonts_in tally founds.Faulty) then codes "t1check-all: lines of a font itself can not be waived\n" else []
 
--- What is printed after the shortfalls.
+-- What is printed after these.
 abbrev pub rest_text : ModeValue → Bool → Tally → Option ℕ → List FontText → List ℕ
 rest_text mode quiet tally rows waivers =
     summary_text mode quiet tally rows ++ (unwaived_text mode tally ++ flat_map too_many_line waivers)
 
 abbrev pub ending_text : ModeValue → Choice → Bool → Tally → List Reading → Option ℕ → List FontText → List ℕ
-ending_text mode choice quiet tally readings rows waivers = shortfalls_text mode choice readings ++ rest_text mode quiet tally rows waivers
+ending_text mode choice quiet tally readings rows waivers = mismatches_text mode choice readings ++ rest_text mode quiet tally rows waivers
 
 -- ---- what is left
 

@@ -12,12 +12,12 @@ use Rattle.t1_many.specs.declared.verdict.Verdict.{Verdict}
 use Rattle.t1_report.specs.Faults.{FaultValue}
 use Rattle.t1_rules.specs.declared.mask.Mask.{Mask}
 use Rattle.t1_waiving.specs.FontTexts.{FontText, all_texts}
-use Rattle.t1_waiving.specs.GlyphLines.{outside_glyphs}
+use Rattle.t1_waiving.specs.GlyphLines.{but_waived}
 use Rattle.t1_batch.specs.declared.mode.Mode.{Mode}
 use Rattle.t1_batch.specs.declared.mode.Mode.TheVariants as modes
 
 -- All lines are chosen; those beyond these rows of known faults; none, since what is found becomes known in the place of these rows; those
--- outside glyphs, since the others are waived.
+-- outside glyphs, since the others are waived, and all of standard input, beside which there are no waivers.
 pub data ModeValue : Type 0 where
   told : ModeValue
   beyond : List RowValue → ModeValue
@@ -39,7 +39,7 @@ abbrev pub judges_of : ModeValue → Mask → List ℕ → Report → FaultValue
 judges_of told rules name = of_rules rules
 judges_of (beyond rows) rules name = by_known (counts_in rows) rules name
 judges_of (anew rows) rules name = as_known rules
-judges_of waived rules name = outside_glyphs rules
+judges_of waived rules name = but_waived rules name
 
 -- What was found in a font whose report was made: the kinds of its lines whose rules are reported.
 abbrev pub kinds_of : Mask → Report → List (List ℕ)

@@ -1,13 +1,12 @@
 -- How a run over many fonts ends, and what is left to do.
 use Rattle.std.specs.Prelude.{◌≡◌, ℕ, Bool, List, codes, Option, None, Some, option_map, Result, Ok, Err, if◌then◌else◌}
-use Rattle.std.specs.List.{AllZip}
 use Rattle.t1_batch.specs.Layouts.{LayoutValue}
 use Rattle.t1_batch.specs.Checks.{IsFound}
-use Rattle.t1_batch.specs.Endings.{Ends, IsFoundIn, WantedValue, text_of}
+use Rattle.t1_batch.specs.Endings.{AreFoundBy, Ends, WantedValue, text_of}
 use Rattle.t1_batch.specs.Modes.{ModeValue, judges_of}
 use Rattle.t1_batch.specs.Unlisted.{is_whole}
 use Rattle.t1_batch.specs.Writing.{WritesIn}
-use Rattle.t1_parts.specs.declared.part.Part.{Part}
+use Rattle.t1_batch.specs.declared.checking.Findings.{Findings}
 use Rattle.t1_batch.specs.declared.ending.Ended.{Ended}
 use Rattle.t1_batch.specs.declared.running.Left.{Left}
 use Rattle.t1_char.specs.declared.edition.Edition.{Edition}
@@ -51,23 +50,23 @@ nothing_left status = record { status = status; known_faults = None; waivers = N
 
 -- All that was found is printed, and the files are left to be replaced. Where not all could be listed the status is that of a failure.
 -- Or it stopped, which is printed, and nothing is left.
-pub data Concludes (mode : ModeValue) (wanted : WantedValue) (quiet : Bool) (found : Part) (whole : Bool) (old new : SinkState)
+pub data Concludes (mode : ModeValue) (wanted : WantedValue) (quiet : Bool) (found : Findings) (whole : Bool) (old new : SinkState)
     (left : LeftValue) : Type 0 where
   told :
       (ended : Ended)
-      → ((all : List Reading) → AllZip IsFoundIn found.readings.items all
+      → ((all : List Reading) → AreFoundBy mode found.readings.items all
       → Ends mode wanted quiet found.tally all found.kept old new (Ok ended))
       → left ≡ record { status = if whole then ended.status else Failed; known_faults = text_of ended; waivers = Some found.kept }
       → Concludes mode wanted quiet found whole old new left
   stopped :
       (lost : Lost) → (behind : SinkState)
-      → ((all : List Reading) → AllZip IsFoundIn found.readings.items all
+      → ((all : List Reading) → AreFoundBy mode found.readings.items all
       → Ends mode wanted quiet found.tally all found.kept old behind (Err lost))
       → (status : Status) → Tells (lost_line lost) Failed behind new status → left ≡ nothing_left status
       → Concludes mode wanted quiet found whole old new left
 
 -- The same once what is selected of the fonts was written, and where that stopped.
-abbrev pub ConcludesWritten : ModeValue → WantedValue → Bool → Part → Bool → Result Status Lost → SinkState → SinkState → LeftValue → Type 0
+abbrev pub ConcludesWritten : ModeValue → WantedValue → Bool → Findings → Bool → Result Status Lost → SinkState → SinkState → LeftValue → Type 0
 ConcludesWritten mode wanted quiet found whole (Ok status) old new left = Concludes mode wanted quiet found whole old new left
 ConcludesWritten mode wanted quiet found whole (Err lost) old new left =
     (status : Status) × Tells (lost_line lost) Failed old new status × (left ≡ nothing_left status)
@@ -76,12 +75,12 @@ ConcludesWritten mode wanted quiet found whole (Err lost) old new left =
 pub data Runs (layout : LayoutValue) (unlisted : List ToldValue) (mode : ModeValue) (rules : Mask) (wanted : WantedValue) (quiet : Bool) (files : Files)
     (edition : Edition) (names : List (List ℕ)) (old new : Devices) (left : LeftValue) : Type 0 where
   concluded :
-      (behind : Devices) → (found : Part) → (status : Status)
+      (behind : Devices) → (found : Findings) → (status : Status)
       → WritesIn layout unlisted (judges_of mode rules) files edition names old behind (IsFound mode rules found) (Ok status)
       → Concludes mode wanted quiet found (is_whole unlisted) behind.errors new.errors left → new.out ≡ behind.out
       → Runs layout unlisted mode rules wanted quiet files edition names old new left
   stopped :
-      (behind : Devices) → (found : Part) → (lost : Lost)
+      (behind : Devices) → (found : Findings) → (lost : Lost)
       → WritesIn layout unlisted (judges_of mode rules) files edition names old behind (IsFound mode rules found) (Err lost)
       → (status : Status) → Tells (lost_line lost) Failed behind.errors new.errors status → new.out ≡ behind.out → left ≡ nothing_left status
       → Runs layout unlisted mode rules wanted quiet files edition names old new left

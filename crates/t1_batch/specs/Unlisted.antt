@@ -1,5 +1,5 @@
 -- What is given to a formatter of what couldn't be listed.
-use Rattle.std.specs.Prelude.{◌≡◌, ◌⊎◌, ◌++◌, ℕ, zero, suc, Bool, true, false, List, [], ◌∷◌, codes, map, replicate, Option, None, Some, string_bytes}
+use Rattle.std.specs.Prelude.{◌≡◌, ◌⊎◌, ◌++◌, ℕ, Bool, true, false, List, [], ◌∷◌, codes, map, replicate, Option, None, Some, string_bytes}
 use Rattle.t1_forms.specs.Tellings.{ToldValue, of_unchecked}
 use Rattle.t1_batch.specs.declared.unlisted.Unlisted.{Unlisted}
 use Rattle.t1_io.specs.Devices.{SinkState}
@@ -37,8 +37,3 @@ unlisted_in unlisted = unlisted_told unlisted.undecoded unlisted.passed_over (ma
 abbrev pub is_whole : List ToldValue → Bool
 is_whole [] = true
 is_whole (told ∷ more) = false
-
--- What couldn't be listed belongs to the first part of a list, by the part's index from 0.
-abbrev pub unlisted_at : List ToldValue → ℕ → List ToldValue
-unlisted_at unlisted zero = unlisted
-unlisted_at unlisted (suc n) = []

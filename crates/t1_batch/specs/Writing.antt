@@ -16,7 +16,7 @@ use Rattle.t1_grouped.specs.Groups.{GroupValue}
 use Rattle.t1_grouped.specs.RuleGroups.{no_groups}
 use Rattle.t1_grouped.specs.Terminals.{terminal_writing}
 use Rattle.t1_io.specs.Devices.{SinkState, Wrote}
-use Rattle.t1_many.specs.Files.{Files}
+use Rattle.t1_many.specs.Files.{AreUntouched, Files}
 use Rattle.t1_many.specs.Handing.{lost_of}
 use Rattle.t1_many.specs.Outcomes.{Entry, Report}
 use Rattle.t1_many.specs.Plain.{Devices, IsFlushed, IsLinePut, PlainTakes}
@@ -69,7 +69,7 @@ pub data WritesFormatted {T : Type 0} (reasons : Bool) (writes : T → T → Sin
       → WritesFormatted reasons writes finishes unlisted judges files edition names formatter old new Keeps result
   unlistable :
       (left : T) → (lost : Lost) → GivesEach writes formatter left old.out new.out unlisted (Some lost) → new.errors ≡ old.errors
-      → result ≡ Err lost → WritesFormatted reasons writes finishes unlisted judges files edition names formatter old new Keeps result
+      → AreUntouched files → result ≡ Err lost → WritesFormatted reasons writes finishes unlisted judges files edition names formatter old new Keeps result
 
 -- Nothing comes after all else.
 abbrev pub NoEnd : {T : Type 0} → T → SinkState → SinkState → Option Lost → Type 0
@@ -89,7 +89,7 @@ pub data WritesDocument (reasons : Bool) (docs : Option (List ℕ)) (unlisted : 
       result
       → WritesDocument reasons docs unlisted judges files edition names old new Keeps result
   not_begun :
-      (lost : Lost) → IsLinePut old.out new.out (opening docs) (Some lost) → new.errors ≡ old.errors → result ≡ Err lost
+      (lost : Lost) → IsLinePut old.out new.out (opening docs) (Some lost) → new.errors ≡ old.errors → AreUntouched files → result ≡ Err lost
       → WritesDocument reasons docs unlisted judges files edition names old new Keeps result
 
 -- What is selected of the fonts was handed on to a form of groups, which had none at first.
@@ -111,11 +111,12 @@ pub data WritesCommands (reasons : Bool) (unlisted : List ToldValue) (judges : L
       → WritesCommands reasons unlisted judges files edition names old new Keeps result
   unflushed :
       (formatter after : Commands) → (begun : SinkState) → GivesEach command_written formatter after old.out begun unlisted None → (lost : Lost)
-      → IsFlushed begun new.out (Some lost) → new.errors ≡ old.errors → result ≡ Err lost
+      → IsFlushed begun new.out (Some lost) → new.errors ≡ old.errors → AreUntouched files → result ≡ Err lost
       → WritesCommands reasons unlisted judges files edition names old new Keeps result
   unlistable :
       (formatter left : Commands) → (lost : Lost) → GivesEach command_written formatter left old.out new.out unlisted (Some lost)
-      → new.errors ≡ old.errors → result ≡ Err lost → WritesCommands reasons unlisted judges files edition names old new Keeps result
+      → new.errors ≡ old.errors → AreUntouched files → result ≡ Err lost
+      → WritesCommands reasons unlisted judges files edition names old new Keeps result
 
 -- What is written in the layout that is requested.
 abbrev pub WritesIn : LayoutValue → List ToldValue → (List ℕ → Report → FaultValue → Verdict) → Files → Edition → List (List ℕ) → Devices

@@ -1,30 +1,49 @@
 //! Checks fonts, and keeps what is to be kept of them.
 
-ghost use Rattle.std.specs.Prelude.{◌≡◌, false, map, string_bytes, Ok};
-ghost use Rattle.std.specs.Fn.{FnReturnsAt};
+ghost use Rattle.std.specs.Prelude.{◌≡◌, map, string_bytes};
 ghost use Rattle.t1_batch.specs.Checks.{ChecksFonts, IsFound, IsKept};
 ghost use Rattle.t1_batch.specs.Modes.{judges_of, mode_value};
 ghost use Rattle.t1_many.specs.Files.{files_by};
 
 use crate::mode::{Borrowed, Mode, Selection};
 use std::alloc::Global;
-use std::io;
-use t1_io::Source;
-use t1_many::{Anew, Beyond, Counted, Form, Lost, Reading, Telling, check_all, tell_all};
-use t1_parts::Part;
+use t1_many::{
+    Anew, Beyond, Counted, FontFiles, Form, Lost, Reading, Telling, WaiverFiles, check_all,
+    tell_all,
+};
 use t1_run::Status;
 use t1_summary::Tally;
 use t1_waiving::{Kept, Waiving, waive_all};
 
-/// Fonts by their names, with what opens their files.
+/// Fonts by their names.
 #[derive(Clone, Copy)]
-pub struct Fonts<'a, O, P> {
+pub struct Fonts<'a> {
     /// The names, in the order in which the fonts are checked.
     pub names: &'a [String],
-    /// Opens the file of a font.
-    pub open_font: O,
-    /// Opens the file of a font's waivers, if there is one.
-    pub open_waivers: P,
+    /// What becomes of the files of waivers beside them.
+    pub beside: WaiverFiles,
+}
+
+/// What was found in fonts, besides what was written of them.
+#[derive(Drop)]
+pub struct Findings {
+    /// How the fonts were found, and how many lines of each rule were reported.
+    pub tally: Tally,
+    /// The fonts whose reports were made, in order.
+    pub readings: Vec<Reading>,
+    /// The waivers of the fonts that have some.
+    pub kept: Kept,
+}
+
+impl Findings {
+    /// What is found in no font.
+    pub(crate) fn none(alloc: Global) -> Findings {
+        Findings {
+            tally: Tally::new(),
+            readings: Vec::new(alloc),
+            kept: Kept::new(alloc),
+        }
+    }
 }
 
 /// Fonts that were checked.
@@ -35,7 +54,7 @@ pub struct Checked<F: Form + Drop> {
     /// The form that took their lines.
     pub form: F,
     /// What was found in them.
-    pub found: Part,
+    pub found: Findings,
 }
 
 /// The same with a form that counts.
@@ -48,34 +67,29 @@ struct CheckedOnes<F: Form + Drop> {
 }
 
 /// Checks fonts in order. The form takes the lines that are selected, why there is no report of a font, and how each font was found.
-pub fn check_fonts<R, V, O, P, F>(
+pub fn check_fonts<S, F>(
     alloc: Global,
-    fonts: Fonts<'_, O, P>,
+    fonts: Fonts<'_>,
+    files: &mut S,
     selection: Selection<'_>,
     form: F,
 ) -> Checked<F>
 where
-    R: Source + Drop,
-    V: Source + Drop,
-    O: Fn(&str) -> io::Result<R>,
-    P: Fn(&str) -> Option<io::Result<V>>,
+    S: FontFiles,
     F: Form + Drop,
-    requires open_font { O.IsAlwaysCallable fonts.open_font }
-    requires open_waivers { P.IsAlwaysCallable fonts.open_waivers }
-    requires unbroken { (name : _) (file : R) → FnReturnsAt O.Fn fonts.open_font name (Ok file) → (R.state file).failed ≡ false }
     ensures { ChecksFonts F.takes (judges_of (mode_value selection.entry.mode) selection.entry.rules)
-        (files_by R.state V.state (FnReturnsAt O.Fn fonts.entry.open_font) (FnReturnsAt P.Fn fonts.entry.open_waivers)) selection.entry.edition
+        (files_by S.calls fonts.entry.beside files.old files.new) selection.entry.edition
         (map string_bytes fonts.entry.names.now) form result.form (IsFound (mode_value selection.entry.mode) selection.entry.rules result.found) result.status }
 {
     let counted = Counted {
         tally: Tally::new(),
         form,
     };
-    let checked = check_ones(alloc, fonts, selection, counted);
+    let checked = check_ones(alloc, fonts, files, selection, counted);
     Checked {
         status: checked.status,
         form: checked.counted.form,
-        found: Part {
+        found: Findings {
             tally: checked.counted.tally,
             readings: checked.readings,
             kept: checked.kept,
@@ -84,23 +98,18 @@ where
 }
 
 /// Checks fonts with a form that counts.
-fn check_ones<R, V, O, P, F>(
+fn check_ones<S, F>(
     alloc: Global,
-    fonts: Fonts<'_, O, P>,
+    fonts: Fonts<'_>,
+    files: &mut S,
     selection: Selection<'_>,
     counted: Counted<F>,
 ) -> CheckedOnes<F>
 where
-    R: Source + Drop,
-    V: Source + Drop,
-    O: Fn(&str) -> io::Result<R>,
-    P: Fn(&str) -> Option<io::Result<V>>,
+    S: FontFiles,
     F: Form + Drop,
-    requires open_font { O.IsAlwaysCallable fonts.open_font }
-    requires open_waivers { P.IsAlwaysCallable fonts.open_waivers }
-    requires unbroken { (name : _) (file : R) → FnReturnsAt O.Fn fonts.open_font name (Ok file) → (R.state file).failed ≡ false }
     ensures { ChecksFonts ⟦<Counted<F> as Form>⟧.takes (judges_of (mode_value selection.entry.mode) selection.entry.rules)
-        (files_by R.state V.state (FnReturnsAt O.Fn fonts.entry.open_font) (FnReturnsAt P.Fn fonts.entry.open_waivers)) selection.entry.edition
+        (files_by S.calls fonts.entry.beside files.old files.new) selection.entry.edition
         (map string_bytes fonts.entry.names.now) counted result.counted
         (IsKept (mode_value selection.entry.mode) selection.entry.rules result.readings.items result.kept) result.status }
 {
@@ -109,18 +118,14 @@ where
         rules,
         mode,
     } = selection;
-    let Fonts {
-        names,
-        open_font,
-        open_waivers,
-    } = fonts;
+    let Fonts { names, beside } = fonts;
     match mode {
         Mode::Told => {
             let mut telling = Telling {
                 rules,
                 form: counted,
             };
-            let status = tell_all(alloc, names, open_font, open_waivers, edition, &mut telling);
+            let status = tell_all(alloc, names, beside, files, edition, &mut telling);
             CheckedOnes {
                 status,
                 counted: telling.form,
@@ -135,7 +140,7 @@ where
                 form: counted,
                 readings: Vec::new(alloc),
             };
-            let status = check_all(alloc, names, open_font, open_waivers, edition, &mut beyond);
+            let status = check_all(alloc, names, beside, files, edition, &mut beyond);
             CheckedOnes {
                 status,
                 counted: beyond.form,
@@ -149,7 +154,7 @@ where
                 form: counted,
                 readings: Vec::new(alloc),
             };
-            let status = check_all(alloc, names, open_font, open_waivers, edition, &mut anew);
+            let status = check_all(alloc, names, beside, files, edition, &mut anew);
             CheckedOnes {
                 status,
                 counted: anew.form,
@@ -163,7 +168,7 @@ where
                 form: counted,
                 kept: Kept::new(alloc),
             };
-            let status = waive_all(alloc, names, open_font, open_waivers, edition, &mut waiving);
+            let status = waive_all(alloc, names, beside, files, edition, &mut waiving);
             CheckedOnes {
                 status,
                 counted: waiving.form,

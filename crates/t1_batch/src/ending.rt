@@ -2,20 +2,20 @@
 
 ghost use Rattle.std.specs.Prelude.{◌≡◌, IfOk, IfSome, List, option_map};
 ghost use Rattle.std.specs.List.{AllZip};
-ghost use Rattle.t1_batch.specs.Endings.{Ends, IsFoundIn, any_failing, has_failing, has_known, rest_text, shortfalls_text, status_in, status_of, summary_text, unwaived_text, wanted_value};
+ghost use Rattle.t1_batch.specs.Endings.{AreFoundBy, Ends, any_failing, has_failing, has_known, mismatches_text, rest_text, status_in, status_of, summary_text, unwaived_text, wanted_value};
 ghost use Rattle.t1_batch.specs.Modes.{mode_value};
-ghost use Rattle.t1_batch.specs.Private.Updates.{IsBorrowed, IsUpdated};
+ghost use Rattle.t1_batch.specs.Private.Updates.{AreReadBy, IsBorrowed, IsUpdated};
 ghost use Rattle.t1_io.specs.Devices.{Writes};
-ghost use Rattle.t1_known.specs.Readings.{AreReadingsOf, AreTextsOf};
+ghost use Rattle.t1_known.specs.Readings.{AreTextsOf};
 ghost use Rattle.t1_known.specs.Writes.{WritesAll};
 ghost use Rattle.t1_many.specs.KnownFaults.{Reading as ReadingValue, file_text, updated};
 
+use crate::checking::Findings;
 use crate::mode::Mode;
 use std::alloc::{AllocError, Global};
 use t1_io::{Broken, Sink, put_all};
-use t1_known::{KnownFaults, Reading, write_shortfalls, write_updated};
+use t1_known::{KnownFaults, Reading, write_mismatches, write_updated};
 use t1_many::{Lost, Reading as Kept};
-use t1_parts::Part;
 use t1_rules::{Mask, Rule, all_rules};
 use t1_run::Status;
 use t1_summary::{Found, Tally, summary};
@@ -51,7 +51,7 @@ struct Remade {
 
 /// Prints what comes after all fonts, in this order:
 ///
-/// - the rows of known faults that are no longer reached;
+/// - the rows of known faults of which more or fewer were found;
 /// - unless `quiet`, the summary;
 /// - where waivers are to be written, that lines of a font itself can't be waived, if there are some;
 /// - which fonts have too many waivers.
@@ -62,10 +62,10 @@ pub fn end<E: Sink>(
     mode: Mode<'_>,
     wanted: Wanted<'_>,
     quiet: bool,
-    found: &Part,
+    found: &Findings,
     errors: &mut E,
 ) -> Result<Ended, Lost>
-    ensures { (all : List ReadingValue) → AllZip IsFoundIn found.now.readings.items all
+    ensures { (all : List ReadingValue) → AreFoundBy (mode_value mode.entry) found.now.readings.items all
         → Ends (mode_value mode.entry) (wanted_value wanted.entry) quiet found.now.tally all found.now.kept (E.state errors.old) (E.state errors.new) result }
 {
     let Ok(readings) = borrowed(alloc, found.readings.as_slice()) else {
@@ -73,7 +73,7 @@ pub fn end<E: Sink>(
     };
     let texts = readings.as_slice();
     let remade = known_faults_anew(alloc, mode, texts, wanted)?;
-    tell_shortfalls(alloc, mode, texts, wanted, errors)?;
+    tell_mismatches(alloc, mode, texts, wanted, errors)?;
     let rows = rows_in(&remade);
     let status = tell_rest(
         mode,
@@ -173,20 +173,20 @@ fn text_anew(
     }
 }
 
-/// Prints the rows of known faults that are no longer reached, where lines beyond them are reported.
-fn tell_shortfalls<E: Sink>(
+/// Prints the rows of known faults of which more or fewer were found, where lines beyond them are reported.
+fn tell_mismatches<E: Sink>(
     alloc: Global,
     mode: Mode<'_>,
     readings: &[Reading<'_>],
     wanted: Wanted<'_>,
     errors: &mut E,
 ) -> Result<(), Lost>
-    ensures { (all : List ReadingValue) → AreReadingsOf readings.now all → WritesAll (E.state errors.old) (E.state errors.new)
-        (shortfalls_text (mode_value mode.entry) (wanted_value wanted.entry).choice all) result }
+    ensures { (all : List ReadingValue) → AreReadBy (mode_value mode.entry) readings.now all → WritesAll (E.state errors.old) (E.state errors.new)
+        (mismatches_text (mode_value mode.entry) (wanted_value wanted.entry).choice all) result }
 {
     match mode {
         Mode::Beyond(known) => {
-            write_shortfalls(alloc, errors, known, readings, wanted.only, wanted.except)
+            write_mismatches(alloc, errors, known, readings, wanted.only, wanted.except)
         }
         Mode::Told | Mode::Anew(_) | Mode::Waived => Ok(()),
     }

@@ -15,7 +15,7 @@ mod shards;
 mod unlisted;
 mod writing;
 
-pub use checking::{Checked, Fonts, check_fonts};
+pub use checking::{Checked, Findings, Fonts, check_fonts};
 pub use choosing::{as_codes, selection};
 pub use ending::{Ended, Wanted, end, status_of};
 pub use laws::statuses_are_by_lines;

@@ -1,7 +1,6 @@
 //! A run over many fonts, from the first font to the last line that is printed.
 
-ghost use Rattle.std.specs.Prelude.{◌≡◌, false, if◌then◌else◌, map, string_bytes, Ok};
-ghost use Rattle.std.specs.Fn.{FnReturnsAt};
+ghost use Rattle.std.specs.Prelude.{◌≡◌, if◌then◌else◌, map, string_bytes};
 ghost use Rattle.t1_batch.specs.Endings.{wanted_value};
 ghost use Rattle.t1_batch.specs.Layouts.{layout_value};
 ghost use Rattle.t1_batch.specs.Modes.{judges_of, mode_value};
@@ -10,15 +9,13 @@ ghost use Rattle.t1_batch.specs.Unlisted.{unlisted_in};
 ghost use Rattle.t1_many.specs.Files.{files_by};
 ghost use Rattle.t1_run.specs.Telling.{Tells};
 
-use crate::checking::Fonts;
+use crate::checking::{Findings, Fonts};
 use crate::ending::{Wanted, end};
 use crate::mode::{Mode, Selection};
 use crate::writing::{Output, Written, write_fonts};
 use std::alloc::Global;
-use std::io;
-use t1_io::{Sink, Source};
-use t1_many::Lost;
-use t1_parts::Part;
+use t1_io::Sink;
+use t1_many::{FontFiles, Lost};
 use t1_run::{Failure, Status, tell_failure, tell_write_failed};
 use t1_waiving::Kept;
 
@@ -49,9 +46,10 @@ pub struct Ran<W: Sink + Drop, E: Sink + Drop> {
 
 /// Checks fonts in order, writes what is selected of them, and prints what comes after all fonts. Where the output fails, or memory runs out,
 /// that is printed, and nothing is left to do.
-pub fn run<R, V, O, P, W, E>(
+pub fn run<S, W, E>(
     alloc: Global,
-    fonts: Fonts<'_, O, P>,
+    fonts: Fonts<'_>,
+    files: &mut S,
     selection: Selection<'_>,
     output: Output<'_>,
     wanted: Wanted<'_>,
@@ -60,18 +58,12 @@ pub fn run<R, V, O, P, W, E>(
     errors: E,
 ) -> Ran<W, E>
 where
-    R: Source + Drop,
-    V: Source + Drop,
-    O: Fn(&str) -> io::Result<R>,
-    P: Fn(&str) -> Option<io::Result<V>>,
+    S: FontFiles,
     W: Sink + Drop,
     E: Sink + Drop,
-    requires open_font { O.IsAlwaysCallable fonts.open_font }
-    requires open_waivers { P.IsAlwaysCallable fonts.open_waivers }
-    requires unbroken { (name : _) (file : R) → FnReturnsAt O.Fn fonts.open_font name (Ok file) → (R.state file).failed ≡ false }
     ensures { Runs (layout_value output.entry.layout) (unlisted_in output.entry.unlisted)
         (mode_value selection.entry.mode) selection.entry.rules (wanted_value wanted.entry) quiet
-        (files_by R.state V.state (FnReturnsAt O.Fn fonts.entry.open_font) (FnReturnsAt P.Fn fonts.entry.open_waivers)) selection.entry.edition
+        (files_by S.calls fonts.entry.beside files.old files.new) selection.entry.edition
         (map string_bytes fonts.entry.names.now)
         (record { out = W.state out; errors = E.state errors }) (record { out = W.state result.out; errors = E.state result.errors })
         (left_value result.left) }
@@ -81,7 +73,7 @@ where
         found,
         out,
         mut errors,
-    } = write_fonts(alloc, fonts, selection, output, out, errors);
+    } = write_fonts(alloc, fonts, files, selection, output, out, errors);
     let whole = output.unlisted.is_empty();
     let left = conclude_written(
         alloc,
@@ -103,7 +95,7 @@ fn conclude_written<E: Sink>(
     wanted: Wanted<'_>,
     quiet: bool,
     status: Result<Status, Lost>,
-    found: Part,
+    found: Findings,
     whole: bool,
     errors: &mut E,
 ) -> Left
@@ -122,7 +114,7 @@ pub fn conclude<E: Sink>(
     mode: Mode<'_>,
     wanted: Wanted<'_>,
     quiet: bool,
-    found: Part,
+    found: Findings,
     whole: bool,
     errors: &mut E,
 ) -> Left

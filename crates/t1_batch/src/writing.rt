@@ -1,7 +1,6 @@
 //! Writes what is selected of fonts, in the layout that is requested.
 
-ghost use Rattle.std.specs.Prelude.{◌≡◌, false, map, string_bytes, Ok};
-ghost use Rattle.std.specs.Fn.{FnReturnsAt};
+ghost use Rattle.std.specs.Prelude.{◌≡◌, map, string_bytes};
 ghost use Rattle.t1_batch.specs.Checks.{ChecksFonts, IsFound};
 ghost use Rattle.t1_batch.specs.Layouts.{layout_value};
 ghost use Rattle.t1_batch.specs.Modes.{judges_of, mode_value};
@@ -10,18 +9,16 @@ ghost use Rattle.t1_batch.specs.Writing.{FinishesChecked, FinishesForm, WritesCo
 ghost use Rattle.t1_many.specs.Files.{files_by};
 ghost use Rattle.t1_many.specs.Handing.{lost_of};
 
-use crate::checking::{Fonts, check_fonts};
+use crate::checking::{Findings, Fonts, check_fonts};
 use crate::layout::Layout;
 use crate::mode::Selection;
 use crate::unlisted::{Unlisted, give_unlisted};
 use std::alloc::Global;
-use std::io;
 use t1_forms::{FormatError, Sarif};
 use t1_grouped::{GitHubGroups, GroupForm, Grouped};
-use t1_io::{Sink, Source};
-use t1_many::{Lost, Plain};
+use t1_io::Sink;
+use t1_many::{FontFiles, Lost, Plain};
 use t1_many_forms::{Formatted, Formatter, GitHubCommands, JsonLines};
-use t1_parts::Part;
 use t1_run::Status;
 
 /// How lines are written, and what is written before them.
@@ -39,7 +36,7 @@ pub struct Written<W: Sink + Drop, E: Sink + Drop> {
     /// The greatest status of the fonts, or why it stopped.
     pub status: Result<Status, Lost>,
     /// What was found in them.
-    pub found: Part,
+    pub found: Findings,
     /// The output.
     pub out: W,
     /// Standard error.
@@ -48,39 +45,39 @@ pub struct Written<W: Sink + Drop, E: Sink + Drop> {
 
 /// Checks fonts in order, and writes what is selected of them and why there is no report of a font. In a form for another program it also writes
 /// what couldn't be listed.
-pub fn write_fonts<R, V, O, P, W, E>(
+pub fn write_fonts<S, W, E>(
     alloc: Global,
-    fonts: Fonts<'_, O, P>,
+    fonts: Fonts<'_>,
+    files: &mut S,
     selection: Selection<'_>,
     output: Output<'_>,
     out: W,
     errors: E,
 ) -> Written<W, E>
 where
-    R: Source + Drop,
-    V: Source + Drop,
-    O: Fn(&str) -> io::Result<R>,
-    P: Fn(&str) -> Option<io::Result<V>>,
+    S: FontFiles,
     W: Sink + Drop,
     E: Sink + Drop,
-    requires open_font { O.IsAlwaysCallable fonts.open_font }
-    requires open_waivers { P.IsAlwaysCallable fonts.open_waivers }
-    requires unbroken { (name : _) (file : R) → FnReturnsAt O.Fn fonts.open_font name (Ok file) → (R.state file).failed ≡ false }
     ensures { WritesIn (layout_value output.entry.layout) (unlisted_in output.entry.unlisted)
         (judges_of (mode_value selection.entry.mode) selection.entry.rules)
-        (files_by R.state V.state (FnReturnsAt O.Fn fonts.entry.open_font) (FnReturnsAt P.Fn fonts.entry.open_waivers)) selection.entry.edition
+        (files_by S.calls fonts.entry.beside files.old files.new) selection.entry.edition
         (map string_bytes fonts.entry.names.now)
         (record { out = W.state out; errors = E.state errors }) (record { out = W.state result.out; errors = E.state result.errors })
         (IsFound (mode_value selection.entry.mode) selection.entry.rules result.found) result.status }
 {
     let mut out = out;
     match output.layout {
-        Layout::Lines { reasons } => write_plain(alloc, fonts, selection, reasons, out, errors),
-        Layout::Groups(terminal) => write_groups(alloc, fonts, selection, terminal, out, errors),
+        Layout::Lines { reasons } => write_plain(
+            alloc, fonts, files, selection, reasons, out, errors,
+        ),
+        Layout::Groups(terminal) => write_groups(
+            alloc, fonts, files, selection, terminal, out, errors,
+        ),
         Layout::JsonLines { reasons } => {
             write_formatted(
                 alloc,
                 fonts,
+                files,
                 selection,
                 output.unlisted,
                 reasons,
@@ -92,6 +89,7 @@ where
         Layout::GitHub { reasons } => write_commands(
             alloc,
             fonts,
+            files,
             selection,
             output.unlisted,
             reasons,
@@ -103,6 +101,7 @@ where
                 write_formatted(
                     alloc,
                     fonts,
+                    files,
                     selection,
                     output.unlisted,
                     reasons,
@@ -117,26 +116,21 @@ where
 }
 
 /// The same as `NAME: LINE`.
-fn write_plain<R, V, O, P, W, E>(
+fn write_plain<S, W, E>(
     alloc: Global,
-    fonts: Fonts<'_, O, P>,
+    fonts: Fonts<'_>,
+    files: &mut S,
     selection: Selection<'_>,
     reasons: bool,
     out: W,
     errors: E,
 ) -> Written<W, E>
 where
-    R: Source + Drop,
-    V: Source + Drop,
-    O: Fn(&str) -> io::Result<R>,
-    P: Fn(&str) -> Option<io::Result<V>>,
+    S: FontFiles,
     W: Sink + Drop,
     E: Sink + Drop,
-    requires open_font { O.IsAlwaysCallable fonts.open_font }
-    requires open_waivers { P.IsAlwaysCallable fonts.open_waivers }
-    requires unbroken { (name : _) (file : R) → FnReturnsAt O.Fn fonts.open_font name (Ok file) → (R.state file).failed ≡ false }
     ensures { WritesPlain reasons (judges_of (mode_value selection.entry.mode) selection.entry.rules)
-        (files_by R.state V.state (FnReturnsAt O.Fn fonts.entry.open_font) (FnReturnsAt P.Fn fonts.entry.open_waivers)) selection.entry.edition
+        (files_by S.calls fonts.entry.beside files.old files.new) selection.entry.edition
         (map string_bytes fonts.entry.names.now)
         (record { out = W.state out; errors = E.state errors }) (record { out = W.state result.out; errors = E.state result.errors })
         (IsFound (mode_value selection.entry.mode) selection.entry.rules result.found) result.status }
@@ -146,7 +140,7 @@ where
         out,
         errors,
     };
-    let checked = check_fonts(alloc, fonts, selection, form);
+    let checked = check_fonts(alloc, fonts, files, selection, form);
     Written {
         status: checked.status,
         found: checked.found,
@@ -156,34 +150,29 @@ where
 }
 
 /// The same by groups.
-fn write_groups<R, V, O, P, T, W, E>(
+fn write_groups<S, T, W, E>(
     alloc: Global,
-    fonts: Fonts<'_, O, P>,
+    fonts: Fonts<'_>,
+    files: &mut S,
     selection: Selection<'_>,
     form: T,
     out: W,
     errors: E,
 ) -> Written<W, E>
 where
-    R: Source + Drop,
-    V: Source + Drop,
-    O: Fn(&str) -> io::Result<R>,
-    P: Fn(&str) -> Option<io::Result<V>>,
+    S: FontFiles,
     T: GroupForm + Drop,
     W: Sink + Drop,
     E: Sink + Drop,
-    requires open_font { O.IsAlwaysCallable fonts.open_font }
-    requires open_waivers { P.IsAlwaysCallable fonts.open_waivers }
-    requires unbroken { (name : _) (file : R) → FnReturnsAt O.Fn fonts.open_font name (Ok file) → (R.state file).failed ≡ false }
     ensures { WritesGroups (T.writing form)
         (judges_of (mode_value selection.entry.mode) selection.entry.rules)
-        (files_by R.state V.state (FnReturnsAt O.Fn fonts.entry.open_font) (FnReturnsAt P.Fn fonts.entry.open_waivers)) selection.entry.edition
+        (files_by S.calls fonts.entry.beside files.old files.new) selection.entry.edition
         (map string_bytes fonts.entry.names.now)
         (record { out = W.state out; errors = E.state errors }) (record { out = W.state result.out; errors = E.state result.errors })
         (IsFound (mode_value selection.entry.mode) selection.entry.rules result.found) result.status }
 {
     let grouped = Grouped::new(alloc, form, out, errors);
-    let checked = check_fonts(alloc, fonts, selection, grouped);
+    let checked = check_fonts(alloc, fonts, files, selection, grouped);
     let (_form, out, errors) = checked.form.into_parts();
     Written {
         status: checked.status,
@@ -194,9 +183,10 @@ where
 }
 
 /// The same as commands of GitHub: first those of what couldn't be listed, which are flushed.
-fn write_commands<R, V, O, P, W, E>(
+fn write_commands<S, W, E>(
     alloc: Global,
-    fonts: Fonts<'_, O, P>,
+    fonts: Fonts<'_>,
+    files: &mut S,
     selection: Selection<'_>,
     unlisted: Unlisted<'_>,
     reasons: bool,
@@ -204,18 +194,12 @@ fn write_commands<R, V, O, P, W, E>(
     errors: E,
 ) -> Written<W, E>
 where
-    R: Source + Drop,
-    V: Source + Drop,
-    O: Fn(&str) -> io::Result<R>,
-    P: Fn(&str) -> Option<io::Result<V>>,
+    S: FontFiles,
     W: Sink + Drop,
     E: Sink + Drop,
-    requires open_font { O.IsAlwaysCallable fonts.open_font }
-    requires open_waivers { P.IsAlwaysCallable fonts.open_waivers }
-    requires unbroken { (name : _) (file : R) → FnReturnsAt O.Fn fonts.open_font name (Ok file) → (R.state file).failed ≡ false }
     ensures { WritesCommands reasons (unlisted_in unlisted.entry)
         (judges_of (mode_value selection.entry.mode) selection.entry.rules)
-        (files_by R.state V.state (FnReturnsAt O.Fn fonts.entry.open_font) (FnReturnsAt P.Fn fonts.entry.open_waivers)) selection.entry.edition
+        (files_by S.calls fonts.entry.beside files.old files.new) selection.entry.edition
         (map string_bytes fonts.entry.names.now)
         (record { out = W.state out; errors = E.state errors }) (record { out = W.state result.out; errors = E.state result.errors })
         (IsFound (mode_value selection.entry.mode) selection.entry.rules result.found) result.status }
@@ -229,6 +213,7 @@ where
         Ok(()) => write_groups(
             alloc,
             fonts,
+            files,
             selection,
             GitHubGroups { reasons },
             out,
@@ -239,9 +224,10 @@ where
 }
 
 /// The same in the form of a formatter, which has written what comes before all else.
-fn write_formatted<R, V, O, P, T, W, E>(
+fn write_formatted<S, T, W, E>(
     alloc: Global,
-    fonts: Fonts<'_, O, P>,
+    fonts: Fonts<'_>,
+    files: &mut S,
     selection: Selection<'_>,
     unlisted: Unlisted<'_>,
     reasons: bool,
@@ -250,19 +236,13 @@ fn write_formatted<R, V, O, P, T, W, E>(
     errors: E,
 ) -> Written<W, E>
 where
-    R: Source + Drop,
-    V: Source + Drop,
-    O: Fn(&str) -> io::Result<R>,
-    P: Fn(&str) -> Option<io::Result<V>>,
+    S: FontFiles,
     T: Formatter + Drop,
     W: Sink + Drop,
     E: Sink + Drop,
-    requires open_font { O.IsAlwaysCallable fonts.open_font }
-    requires open_waivers { P.IsAlwaysCallable fonts.open_waivers }
-    requires unbroken { (name : _) (file : R) → FnReturnsAt O.Fn fonts.open_font name (Ok file) → (R.state file).failed ≡ false }
     ensures { WritesFormatted reasons T.writes T.finishes (unlisted_in unlisted.entry)
         (judges_of (mode_value selection.entry.mode) selection.entry.rules)
-        (files_by R.state V.state (FnReturnsAt O.Fn fonts.entry.open_font) (FnReturnsAt P.Fn fonts.entry.open_waivers)) selection.entry.edition
+        (files_by S.calls fonts.entry.beside files.old files.new) selection.entry.edition
         (map string_bytes fonts.entry.names.now) formatter
         (record { out = W.state out; errors = E.state errors }) (record { out = W.state result.out; errors = E.state result.errors })
         (IsFound (mode_value selection.entry.mode) selection.entry.rules result.found) result.status }
@@ -273,7 +253,7 @@ where
         return unwritten(alloc, lost, out, errors);
     }
     let form = Formatted::new(alloc, formatter, out, errors, reasons);
-    let checked = check_fonts(alloc, fonts, selection, form);
+    let checked = check_fonts(alloc, fonts, files, selection, form);
     let (formatter, mut out, errors) = checked.form.into_parts();
     let status = finish_checked(alloc, formatter, &mut out, checked.status);
     Written {
@@ -330,7 +310,7 @@ fn unwritten<W: Sink + Drop, E: Sink + Drop>(
 {
     Written {
         status: Err(lost),
-        found: Part::new(alloc),
+        found: Findings::none(alloc),
         out,
         errors,
     }

@@ -40,7 +40,7 @@ pub terminal_worded : (width : ℕ) (has_colours reasons : Bool)
     → IsWorded (terminal_writing width has_colours reasons) (terminal_wording width has_colours reasons)
 terminal_worded width has_colours reasons = record {
   reasons = refl;
-  line = λ name rule units g is. ap (λ t. terminal_lines has_colours name rule t g.reason)
+  line = λ name rule units g is. ap (λ t. terminal_lines width has_colours name rule t g.reason)
       (tail_is width (room_after width name - width_of (rule_head rule)) units g is (omega arith));
   refusal = λ name code. refl;
   unchecked = λ name reason. refl;

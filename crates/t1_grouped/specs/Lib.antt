@@ -11,4 +11,5 @@ pub mod TerminalNames
 pub mod Terminals
 pub mod Units
 pub mod Widths
+pub mod Wrapped
 pub mod Writings

@@ -3,9 +3,9 @@ use Rattle.std.specs.Prelude.{ℕ, ◌-◌, Bool, if◌then◌else◌, List, [],
 use Rattle.t1_grouped.specs.GroupLines.{Writing, rule_head, rule_tail, rule_tail_of}
 use Rattle.t1_grouped.specs.TerminalNames.{terminal_name}
 use Rattle.t1_grouped.specs.Widths.{width_of}
+use Rattle.t1_grouped.specs.Wrapped.{reason_words, wrapped}
 use Rattle.t1_refusals.specs.RefusalTexts.{refusal_text_of}
 use Rattle.t1_refusals.specs.declared.refusal.RefusalCode.{RefusalCode}
-use Rattle.t1_reason_texts.specs.Texts.{line_behind}
 use Rattle.t1_rules.specs.Book.{level_of}
 use Rattle.t1_rules.specs.declared.level.Level.{Level}
 use Rattle.t1_rules.specs.declared.level.Level.TheVariants.{Must, Should, Tidy}
@@ -32,9 +32,10 @@ name_part name = terminal_name name ++ codes ": "
 abbrev pub terminal_text : Bool → List ℕ → Rule → List ℕ → List ℕ
 terminal_text has_colours name rule tail = name_part name ++ (coloured has_colours (level_of rule) (rule_head rule) ++ tail)
 
--- It is a line, and below it is that of the reason.
-abbrev pub terminal_lines : Bool → List ℕ → Rule → List ℕ → Option (List ℕ) → List ℕ
-terminal_lines has_colours name rule tail reason = terminal_text has_colours name rule tail ++ (codes "\n" ++ line_behind reason)
+-- It is a line, and below it are those of the reason.
+abbrev pub terminal_lines : ℕ → Bool → List ℕ → Rule → List ℕ → Option (List ℕ) → List ℕ
+terminal_lines width has_colours name rule tail reason =
+    terminal_text has_colours name rule tail ++ (wrapped width 0 (reason_words reason) ++ codes "\n")
 
 -- The room that is left by the font's name.
 abbrev pub room_after : ℕ → List ℕ → ℕ
@@ -49,7 +50,7 @@ abbrev pub terminal_writing : ℕ → Bool → Bool → Writing
 terminal_writing width has_colours reasons = record {
   room = width;
   reasons = reasons;
-  line = λ name rule g. terminal_lines has_colours name rule (rule_tail (room_after width name) rule g) g.reason;
+  line = λ name rule g. terminal_lines width has_colours name rule (rule_tail (room_after width name) rule g) g.reason;
   refusal = terminal_refusal has_colours;
   unchecked = λ name reason. [];
 }
@@ -61,4 +62,4 @@ terminal_tail width name rule count names = rule_tail_of (room_after width name)
 -- What is written of so many lines of a rule at units of these names, of which the first has this reason.
 abbrev pub terminal_lines_of : ℕ → Bool → List ℕ → Rule → ℕ → List (List ℕ) → Option (List ℕ) → List ℕ
 terminal_lines_of width has_colours name rule count names reason =
-    terminal_lines has_colours name rule (terminal_tail width name rule count names) reason
+    terminal_lines width has_colours name rule (terminal_tail width name rule count names) reason

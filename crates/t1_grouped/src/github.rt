@@ -16,8 +16,8 @@ use std::alloc::{AllocError, Global};
 use t1_forms::{Told, What, write_command, write_rule_command};
 use t1_io::Sink;
 use t1_lines::Line;
-use t1_refusals::{RefusalCode, refusal_text};
 use t1_many::Lost;
+use t1_refusals::{RefusalCode, refusal_text};
 use t1_rules::Rule;
 use t1_text::Text;
 

@@ -40,6 +40,7 @@ mod rule_parts;
 mod terminal;
 mod unit;
 mod width;
+mod wrapped;
 
 pub use form::GroupForm;
 pub use github::GitHubGroups;

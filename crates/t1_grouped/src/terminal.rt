@@ -1,19 +1,19 @@
 //! Lines on a terminal.
 
-ghost use Rattle.std.specs.Prelude.{◌≡◌, ◌++◌, IfOk, OnOk, option_map, string_bytes};
+ghost use Rattle.std.specs.Prelude.{◌≡◌, ◌++◌, IfOk, OnOk, string_bytes};
 ghost use Rattle.t1_grouped.specs.Groups.{group_value};
 ghost use Rattle.t1_grouped.specs.Terminals.{colour_of, coloured, name_part, terminal_refusal, terminal_writing};
-ghost use Rattle.t1_reason_texts.specs.Texts.{line_behind};
 
 use crate::form::GroupForm;
 use crate::group::Group;
 use crate::names::terminal_name;
 use crate::rule_parts::{push_head, tail};
 use crate::width::width;
+use crate::wrapped::push_reason;
 use std::alloc::{AllocError, Global};
 use t1_io::{Sink, put_all};
-use t1_refusals::{RefusalCode, refusal_text};
 use t1_many::Lost;
+use t1_refusals::{RefusalCode, refusal_text};
 use t1_rules::{Level, Rule, rule_level};
 
 /// A line for each font and rule: `NAME: RULE TEXT × COUNT: NAMES`, and the reason of the first fault below it. Names have bytes that a terminal
@@ -24,7 +24,7 @@ pub struct Terminal {
     pub width: usize,
     /// Whether the level of a rule is shown by a colour.
     pub has_colours: bool,
-    /// Whether the reason of the first fault is below its line: three blanks and its text, which isn't cut.
+    /// Whether the reason of the first fault is below its line, in as many lines as its words need, each after three blanks.
     pub reasons: bool,
 }
 
@@ -55,8 +55,8 @@ impl GroupForm for Terminal {
         text.extend_from_slice(name.as_bytes())?;
         push_coloured(text, self.has_colours, rule_level(rule), head.as_slice())?;
         text.extend_from_slice(tail.as_slice())?;
-        text.extend_from_slice(b"\n")?;
-        push_behind(text, group.reason())
+        push_reason(alloc, text, self.width, group.reason())?;
+        text.extend_from_slice(b"\n")
     }
 
     fn put_refusal<W: Sink>(
@@ -118,18 +118,6 @@ fn push_coloured(
     text.extend_from_slice(colour(level))?;
     text.extend_from_slice(part)?;
     text.extend_from_slice(b"\x1b[0m")
-}
-
-/// Appends the line of a reason's text, if there is one.
-fn push_behind(text: &mut Vec<u8>, reason: Option<&str>) -> Result<(), AllocError>
-    ensures { OnOk result (text.new.items ≡ text.old.items ++ line_behind (option_map (λ t. t.now) reason.entry)) }
-{
-    let Some(reason) = reason else {
-        return Ok(());
-    };
-    text.extend_from_slice(b"   ")?;
-    text.extend_from_slice(reason.as_bytes())?;
-    text.extend_from_slice(b"\n")
 }
 
 /// `NAME: refused: CODE TEXT`.

@@ -9,7 +9,7 @@ use Rattle.std.specs.Str.{bytes_eq}
 use Rattle.t1_many.proofs.Texts.{apart, equal, itself}
 use Rattle.t1_many.specs.KnownFaults.{RowValue}
 use Rattle.t1_known.specs.Lines.{row_lines}
-use Rattle.t1_known.specs.Private.Shortfalls.{AreIndexed, AreRowsOf, FontRows, IsIndexed, first_rows, rows_at}
+use Rattle.t1_known.specs.Private.Mismatches.{AreIndexed, AreRowsOf, FontRows, IsIndexed, first_rows, rows_at}
 use Rattle.t1_known.specs.Reads.{AreLinesOf}
 use Rattle.t1_known.specs.declared.readings.Reading.{Reading as Text}
 

@@ -15,7 +15,7 @@ use Rattle.t1_many.specs.KnownFaults.{Reading, RowValue, distinct, found_count, 
 use Rattle.t1_known.specs.Keys.{key_of, key_text}
 use Rattle.t1_known.specs.Laws.{IsInOneLine}
 use Rattle.t1_known.specs.Lines.{has_no_line_end}
-use Rattle.t1_known.specs.Private.Shortfalls.{count_text}
+use Rattle.t1_known.specs.Private.Mismatches.{count_text}
 use Rattle.t1_known.specs.Readings.{IsPlainKind, IsReadable}
 use Rattle.t1_scan.specs.Bytes.{is_decimal_digit}
 

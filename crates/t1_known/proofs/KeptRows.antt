@@ -14,7 +14,7 @@ use Rattle.t1_many.specs.RowValues.{row_value}
 use Rattle.t1_many.specs.declared.row.Row.{Row}
 use Rattle.t1_known.specs.Keys.{count_at, has_key, key_of, key_text}
 use Rattle.t1_known.specs.Private.Kept.{AreKept, Entry, IsKept, IsKnownKey, KeepsLine, rows_now}
-use Rattle.t1_known.specs.Private.Shortfalls.{count_text}
+use Rattle.t1_known.specs.Private.Mismatches.{count_text}
 use Rattle.t1_known.specs.Reads.{IsLineOf}
 
 -- the test of a key

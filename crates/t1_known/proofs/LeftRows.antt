@@ -9,7 +9,7 @@ use Rattle.std.specs.Str.{bytes_eq}
 use Rattle.t1_many.proofs.Texts.{equal, itself}
 use Rattle.t1_many.specs.KnownFaults.{is_among}
 use Rattle.t1_known.proofs.FontIndex.{first-push, flip, lookup-push}
-use Rattle.t1_known.specs.Private.Shortfalls.{first_rows}
+use Rattle.t1_known.specs.Private.Mismatches.{first_rows}
 use Rattle.t1_known.specs.Private.Updates.{IsLeft, IsLeftToo, IsTaken, LeftRows, left_at, left_of}
 use Rattle.t1_known.specs.declared.readings.Reading.{Reading as Text}
 

@@ -11,7 +11,7 @@ pub mod PutRows
 pub mod ReadBack
 pub mod ReadRows
 pub mod RuleWords
-pub mod ShortRows
+pub mod MismatchedRows
 pub mod SoFar
 pub mod Told
 pub mod UpdatedRows

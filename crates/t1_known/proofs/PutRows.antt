@@ -14,7 +14,7 @@ use Rattle.t1_many.specs.KnownFaults.{Reading, RowValue, is_among, is_judged, ki
 use Rattle.t1_known.proofs.LeftRows.{Takes, takes}
 use Rattle.t1_known.proofs.LeftRows.Takes.{again, first, unread}
 use Rattle.t1_known.proofs.Told.{HasTold, told_failed, told_more}
-use Rattle.t1_known.specs.Private.Shortfalls.{first_rows}
+use Rattle.t1_known.specs.Private.Mismatches.{first_rows}
 use Rattle.t1_known.specs.Private.Updates.{HavePut, IsLeft, IsTaken, LeavesBy, LeftRows, PutsRows, behind_text, left_at, row_or, row_put, rows_text, updated_text}
 use Rattle.t1_known.specs.Readings.{AreTextsOf}
 use Rattle.t1_known.specs.declared.readings.Reading.{Reading as Text}

@@ -8,7 +8,7 @@ use Rattle.t1_lines.proofs.Cuts.{some_same}
 use Rattle.t1_many.proofs.Quiet.{no_line, no_row}
 use Rattle.t1_many.proofs.Texts.{equal, itself}
 use Rattle.t1_many.specs.Choice.{Choice, is_told}
-use Rattle.t1_many.specs.KnownFaults.{IsRow, Reading, RowValue, beyond, distinct, found_count, is_among, is_judged, kinds_in, rows_behind, rows_in, rule_of, shortfall, updated, updated_behind}
+use Rattle.t1_many.specs.KnownFaults.{IsRow, Reading, RowValue, beyond, distinct, found_count, is_among, is_judged, kinds_in, rows_behind, rows_in, rule_of, mismatch, updated, updated_behind}
 use Rattle.t1_many.specs.Laws.{AreReadings}
 use Rattle.t1_known.proofs.FoundRows.{all-distinct, counted, row_keys_once, rows_in_one_line}
 use Rattle.t1_known.proofs.KeptRows.{one_key}
@@ -252,7 +252,7 @@ updates_are_reached choice readings text rows read readable are known is = elim 
       let same_rows : known ≡ updated choice readings rows = cc in
       record {
         lines = λ font lines at. ap (λ k. beyond k font lines) same_rows ∙ no_line choice readings rows font lines are at;
-        rows = subst (λ k. flat_map (shortfall choice readings) k ≡ []) (sym same_rows) (no_row choice readings rows are);
+        rows = subst (λ k. flat_map (mismatch choice readings) k ≡ []) (sym same_rows) (no_row choice readings rows are);
       }
   | inr memory ↦ cc
 ]

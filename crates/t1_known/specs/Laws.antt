@@ -14,7 +14,7 @@ use Rattle.t1_lines.specs.Lines.{FaultLineValue, IsFaultLine}
 use Rattle.t1_many.specs.Choice.{Choice}
 use Rattle.t1_many.specs.Groups.{told_faults}
 use Rattle.t1_many.specs.Known.{kind_in}
-use Rattle.t1_many.specs.KnownFaults.{IsRow, Reading, RowValue, beyond, file_text, kind_of, kinds_in, shortfall, updated}
+use Rattle.t1_many.specs.KnownFaults.{IsRow, Reading, RowValue, beyond, file_text, kind_of, kinds_in, mismatch, updated}
 use Rattle.t1_many.specs.Laws.{AreReadings}
 use Rattle.t1_many.specs.Outcomes.{IsRead}
 use Rattle.t1_report.specs.Checked.{checked}
@@ -44,11 +44,11 @@ UpdatesAreReadBack =
     → (result : Result (List RowValue) NotKnown) → IsReadAs (file_text (updated choice readings rows)) result
     → (result ≡ Ok (updated choice readings rows)) ⊎ (result ≡ Err Memory)
 
--- Of the fonts that were read no line goes beyond what is known, and no row falls short of what was found.
+-- Of the fonts that were read no line goes beyond what is known, and no row differs from what was found.
 pub record IsReached (choice : Choice) (readings : List Reading) (known : List RowValue) : Type 0 where
   pub lines :
       (font : List ℕ) (lines : List FaultLineValue) → kinds_in readings font ≡ Some (map kind_of lines) → beyond known font lines ≡ []
-  pub rows : flat_map (shortfall choice readings) known ≡ []
+  pub rows : flat_map (mismatch choice readings) known ≡ []
 
 -- So what is read of the file that an update writes is reached.
 abbrev pub UpdatesAreReached : Type 0

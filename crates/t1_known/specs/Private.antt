@@ -1,4 +1,4 @@
 -- Words that private contracts alone cite: no clause of a public function rests on them.
 pub mod Kept
-pub mod Shortfalls
+pub mod Mismatches
 pub mod Updates

@@ -4,7 +4,7 @@ ghost use Rattle.std.specs.Prelude.{◌≡◌, ◌-◌, ◌^◌, ℕ, true, List
 ghost use Rattle.std.specs.List.{list_all};
 ghost use Rattle.t1_known.specs.Keys.{count_at, key_of, key_text};
 ghost use Rattle.t1_known.specs.Private.Kept.{Adds, AreKept};
-ghost use Rattle.t1_known.specs.Private.Shortfalls.{count_text};
+ghost use Rattle.t1_known.specs.Private.Mismatches.{count_text};
 ghost use Rattle.t1_known.specs.Reads.{IsLineOf, IsReadAs};
 ghost use Rattle.t1_known.specs.declared.known.NotKnown.TheVariants.{Memory};
 ghost use Rattle.t1_many.specs.KnownFaults.{IsKind, known_count};

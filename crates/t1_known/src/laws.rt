@@ -9,7 +9,7 @@ pub fn rows_are_read_back()
 {}
 
 /// What `write_updated` writes is read as the updated rows, unless memory runs out. No line of a font with a reading
-/// goes beyond them, and no row falls short of what was found.
+/// goes beyond them, and no row differs from what was found.
 ///
 /// The old rows are those of a text that was read. Each kind of a reading is of a rule that is reported, and no kind
 /// and no font has a line end.

@@ -2,7 +2,7 @@
 
 ghost use Rattle.std.specs.Prelude.{IfOk, OnOk};
 ghost use Rattle.t1_known.specs.Lines.{row_lines};
-ghost use Rattle.t1_known.specs.Private.Shortfalls.{AreIndexed, IsIndexed};
+ghost use Rattle.t1_known.specs.Private.Mismatches.{AreIndexed, IsIndexed};
 ghost use Rattle.t1_known.specs.Reads.{AreLinesOf};
 
 use crate::known::KnownFaults;

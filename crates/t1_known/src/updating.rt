@@ -12,8 +12,8 @@ ghost use Rattle.t1_many.specs.KnownFaults.{Reading as ReadingValue, file_text, 
 ghost use Rattle.t1_many.specs.RowValues.{row_value};
 
 use crate::known::{KnownFaults, Rows};
+use crate::mismatches::rule_of;
 use crate::readings::Reading;
-use crate::shortfalls::rule_of;
 use indexmap::IndexMap;
 use std::alloc::{AllocError, Global};
 use t1_io::{Broken, Sink, put_all, put_parts};

@@ -7,10 +7,10 @@ use Rattle.t1_font.specs.declared.unread.Unread.{Unread}
 use Rattle.t1_io.specs.Devices.{SourceState}
 use Rattle.t1_refusals.specs.declared.refusal.Reason.{Reason}
 use Rattle.t1_refusals.specs.declared.refusal.Reason.TheVariants.{Font, FontTooLarge, Waivers, WaiversTooLarge}
-use Rattle.t1_many.specs.Files.{Given, IsFound}
+use Rattle.t1_many.specs.Files.{Given, IsFound, given_by}
 use Rattle.t1_many.specs.Files.IsFound.{breaks, breaks_waivers, no_memory, refused, reports, waivers_refused}
 use Rattle.t1_many.specs.Outcomes.{Entry, Outcome, failed, reported}
-use Rattle.t1_many.specs.Private.Checking.{Checks, of_bytes, of_files, of_font, of_text}
+use Rattle.t1_many.specs.Private.Checking.{Checks, of_bytes, of_font, of_text}
 use Rattle.t1_summary.specs.declared.found.Found.{Found}
 use Rattle.t1_many.specs.declared.recipient.Lost.{Lost}
 use Rattle.t1_report.specs.Checked.{checked}
@@ -23,6 +23,7 @@ use Rattle.t1_run.proofs.FilesRead.{are_read, font_past}
 use Rattle.t1_run.specs.Failures.{failure_of}
 use Rattle.t1_run.specs.FontFiles.{AreRead, with_reason}
 use Rattle.t1_run.specs.Input.{AreAll, AreUnread}
+use Rattle.t1_run.specs.Input.StopsAt.{past_limit, the_end}
 use Rattle.t1_run.specs.Input.AreUnread.{too_large as past, read_failed as broken, no_memory as unroomed}
 use Rattle.t1_run.specs.WaiverFiles.{AreWaived, IsNoWaiverText, IsWaiverText, as_waivers}
 use Rattle.t1_run.specs.WaiverFiles.IsNoWaiverText.{too_large, read_failed, no_memory as no_room}
@@ -121,17 +122,20 @@ font_of_bytes font bytes asked old new is = record {
 
 pub font_unread : (edition : Edition) (source source' : SourceState) (asked : Bool) (old new : SourceState) (failure : Failure)
     → source.failed ≡ false → AreUnread 16777216 FontTooLarge source source' failure
-    → IsFound edition (of_files source source' asked old new) (failed failure)
+    → IsFound edition (given_by source source' asked old new) (failed failure)
 font_unread edition source source' asked old new failure sound (past bytes consumed large kept is) =
-    refused FontTooLarge (font_past source.left source'.left bytes consumed large, kept ∙ sound) (ap failed is)
+    refused FontTooLarge (font_past source.left source'.left bytes consumed large, kept ∙ sound, past_limit bytes consumed large) (ap failed is)
 font_unread edition source source' asked old new failure sound (broken broke is) = breaks broke (ap failed is)
 font_unread edition source source' asked old new failure sound (unroomed kept is) = no_memory (ap failed is)
 
 pub bytes_of_file : (source source' : SourceState) (bytes : List ℕ) (asked : Bool) (old new : SourceState) → source.failed ≡ false
-    → AreAll 16777216 source source' bytes → Widens (of_bytes bytes asked old new) (of_files source source' asked old new)
+    → AreAll 16777216 source source' bytes → Widens (of_bytes bytes asked old new) (given_by source source' asked old new)
 bytes_of_file source source' bytes asked old new sound all = record {
-  reads = λ read same.
-      (subst (AreRead source.left) same (are_read source.left source'.left bytes (font_in bytes) all.consumed all.end all.few refl), all.kept ∙ sound);
+  reads = λ read same. (
+    subst (AreRead source.left) same (are_read source.left source'.left bytes (font_in bytes) all.consumed all.end all.few refl),
+    all.kept ∙ sound,
+    the_end all.end,
+  );
   breaks = λ never. absurd never;
   waives = λ waived heard. heard;
   breaks_waivers = λ broke. broke;

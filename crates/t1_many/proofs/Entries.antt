@@ -2,24 +2,21 @@
 use Rattle.std.proofs.Common.{◌≡◌, ℕ, ◌+◌, ◌<◌, List, [], ◌∷◌, ◌++◌, length, map, take, get_or, Result, Ok, Err, refl, sym, ap, subst, ◌∙◌, add-one}
 use Rattle.std.proofs.lemmas.List.{map-append}
 use Rattle.std.proofs.Math.Seq.{take-suc}
-use Rattle.std.specs.List.{AllByRecursion}
 use Rattle.std.specs.Result.{IsErrAnd}
 use Rattle.t1_char.specs.declared.edition.Edition.{Edition}
 use Rattle.t1_many.proofs.Worst.{worst_push}
-use Rattle.t1_many.specs.Ends.{AreEntries, AreTaken, Ends, IsEntry, status_of_all}
+use Rattle.t1_many.specs.Calls.{Calls}
+use Rattle.t1_many.specs.Ends.{AreChecked, AreEntries, AreTaken, Ends, status_of_all}
 use Rattle.t1_many.specs.Ends.Ends.{all, stopped}
-use Rattle.t1_many.specs.Files.{Files, IsFound, given_of}
+use Rattle.t1_many.specs.Files.{ChecksIn, files_by}
 use Rattle.t1_many.specs.Outcomes.{Entry, Outcome, status_of_found}
 use Rattle.t1_many.specs.Private.Checking.{TakesOne}
 use Rattle.t1_many.specs.Statuses.{worse, worst_of}
 use Rattle.t1_summary.specs.declared.found.Found.{Found}
+use Rattle.t1_many.specs.declared.font_files.WaiverFiles.{WaiverFiles}
 use Rattle.t1_many.specs.declared.recipient.Lost.{Lost}
 use Rattle.t1_run.specs.declared.status.Status.{Status}
 use Rattle.t1_run.specs.declared.status.Status.TheVariants.{Clean}
-
-pub all_push : {X : Type 0} (P : X → Type 0) (xs : List X) (x : X) → AllByRecursion P xs → P x → AllByRecursion P (xs ++ x ∷ [])
-all_push P [] x each is = (is, tt)
-all_push P (y ∷ ys) x (first, rest) is = (first, all_push P ys x rest is)
 
 -- the exit of a `?`
 pub err_is : {T E : Type 0} (r : Result T E) (error : E) → IsErrAnd r (λ e. e ≡ error) → r ≡ Err error
@@ -51,52 +48,60 @@ module _ {R : Type 0} (takes : R → R → Entry → Result Found Lost → Type 
     ap (λ l. l ++ found ∷ []) is,
   )
 
-  module _ (files : Files) (edition : Edition) where
-    -- The fonts of these names so far.
-    pub record HaveGone (names : List (List ℕ)) (old new : R) (worst : Status) : Type 0 where
+  module _ {F : Type 0} (calls : Calls F) (beside : WaiverFiles) (edition : Edition) where
+    checked-push : (a b c : F) (entries : List Entry) (name : List ℕ) (outcome : Outcome) → AreChecked calls beside edition a b entries
+        → ChecksIn calls beside edition name b c outcome
+        → AreChecked calls beside edition a c (entries ++ record { name = name; outcome = outcome } ∷ [])
+    checked-push a b c [] name outcome same is = (c, subst (λ (s : F). ChecksIn calls beside edition name s c outcome) same is, refl)
+    checked-push a b c (first ∷ entries) name outcome (next, one, rest) is = (next, one, checked-push next b c entries name outcome rest is)
+
+    -- The fonts of these names so far, by the files at first and now.
+    pub record HaveGone (names : List (List ℕ)) (files files' : F) (old new : R) (worst : Status) : Type 0 where
       pub entries : List Entry
       pub founds : List Found
-      pub are : AreEntries files edition names entries
+      pub are : AreEntries (files_by calls beside files files') edition names entries
       pub taken : AreTaken takes old new entries founds
       pub worst_is : worst ≡ status_of_all founds
 
-    pub none_gone : (recipient : R) → HaveGone [] recipient recipient Clean
-    none_gone recipient = record {
+    pub none_gone : (files : F) (recipient : R) → HaveGone [] files files recipient recipient Clean
+    none_gone files recipient = record {
       entries = [];
       founds = [];
-      are = record { names_are = refl; found = tt };
+      are = record { names_are = refl; checked = refl };
       taken = (refl, refl);
       worst_is = refl;
     }
 
-    and_one : (names : List (List ℕ)) (entries : List Entry) (name : List ℕ) (outcome : Outcome) → AreEntries files edition names entries
-        → IsFound edition (given_of files name) outcome
-        → AreEntries files edition (names ++ name ∷ []) (entries ++ record { name = name; outcome = outcome } ∷ [])
-    and_one names entries name outcome are found = record {
+    and_one : (names : List (List ℕ)) (files between files' : F) (entries : List Entry) (name : List ℕ) (outcome : Outcome)
+        → AreEntries (files_by calls beside files between) edition names entries → ChecksIn calls beside edition name between files' outcome
+        → AreEntries (files_by calls beside files files') edition (names ++ name ∷ []) (entries ++ record { name = name; outcome = outcome } ∷ [])
+    and_one names files between files' entries name outcome are is = record {
       names_are = map-append (λ (e : Entry). e.name) entries (record { name = name; outcome = outcome } ∷ [])
           ∙ ap (λ ns. ns ++ name ∷ []) are.names_are;
-      found = all_push (IsEntry files edition) entries (record { name = name; outcome = outcome }) are.found found;
+      checked = checked-push files between files' entries name outcome are.checked is;
     }
 
-    module _ (names : List (List ℕ)) (name : List ℕ) (a b c : R) (worst : Status) (gone : HaveGone names a b worst) where
-      pub one_gone : (found : Found) → TakesOne takes edition name (given_of files name) b c (Ok found)
-          → HaveGone (names ++ name ∷ []) a c (worse worst (status_of_found found))
+    module _ (names : List (List ℕ)) (name : List ℕ) (files between files' : F) (a b c : R) (worst : Status)
+        (gone : HaveGone names files between a b worst) where
+      pub one_gone : (found : Found) → TakesOne takes calls beside edition name between files' b c (Ok found)
+          → HaveGone (names ++ name ∷ []) files files' a c (worse worst (status_of_found found))
       one_gone found (outcome, is, took) = record {
         entries = gone.entries ++ record { name = name; outcome = outcome } ∷ [];
         founds = gone.founds ++ found ∷ [];
-        are = and_one names gone.entries name outcome gone.are is;
+        are = and_one names files between files' gone.entries name outcome gone.are is;
         taken = taken-push a b c gone.entries gone.founds _ found gone.taken took;
         worst_is = ap (λ w. worse w (status_of_found found)) gone.worst_is ∙ sym (status-push gone.founds found);
       }
 
       -- a font at which it stopped
       pub one_lost : (lost : Lost) (all_names : List (List ℕ)) (count : ℕ) → take count all_names ≡ names ++ name ∷ []
-          → TakesOne takes edition name (given_of files name) b c (Err lost) → (result : Result Status Lost) → result ≡ Err lost
-          → Ends takes files edition all_names a c result
+          → TakesOne takes calls beside edition name between files' b c (Err lost) → (result : Result Status Lost) → result ≡ Err lost
+          → Ends takes (files_by calls beside files files') edition all_names a c result
       one_lost lost all_names count front (outcome, is, took) result result_is =
           stopped count gone.entries (record { name = name; outcome = outcome }) gone.founds
-          (subst (λ ns. AreEntries files edition ns (gone.entries ++ record { name = name; outcome = outcome } ∷ [])) (sym front)
-          (and_one names gone.entries name outcome gone.are is)) b gone.taken lost took result_is
+          (subst (λ ns. AreEntries (files_by calls beside files files') edition ns (gone.entries ++ record { name = name; outcome = outcome } ∷ []))
+          (sym front) (and_one names files between files' gone.entries name outcome gone.are is)) b gone.taken lost took result_is
 
-    pub all_gone : (names : List (List ℕ)) (a b : R) (worst : Status) → HaveGone names a b worst → Ends takes files edition names a b (Ok worst)
-    all_gone names a b worst gone = all gone.entries gone.founds gone.are gone.taken (ap Ok gone.worst_is)
+    pub all_gone : (names : List (List ℕ)) (files files' : F) (a b : R) (worst : Status) → HaveGone names files files' a b worst
+        → Ends takes (files_by calls beside files files') edition names a b (Ok worst)
+    all_gone names files files' a b worst gone = all gone.entries gone.founds gone.are gone.taken (ap Ok gone.worst_is)

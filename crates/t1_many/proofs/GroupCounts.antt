@@ -3,7 +3,6 @@ use Rattle.std.proofs.Common.{◌≡◌, ◌≤◌, ℕ, ◌+◌, Bool, true, fa
 use Rattle.std.proofs.lemmas.List.Elements.{filter-append}
 use Rattle.std.proofs.lemmas.List.Sums.{sum_by_push}
 use Rattle.std.specs.List.{AllByRecursion}
-use Rattle.t1_many.proofs.Entries.{all_push}
 use Rattle.t1_many.proofs.GivenFaults.{IsGiven, none_given, one_given}
 use Rattle.indexmap.specs.IndexMap.{IndexMap, get, insert_entry}
 use Rattle.std.specs.Map.{count_at}
@@ -18,6 +17,10 @@ use Rattle.t1_report.specs.declared.marks.Mark.{Mark}
 use Rattle.t1_rules.specs.Book.{number_of}
 use Rattle.t1_rules.specs.Mask.{has}
 use Rattle.t1_rules.specs.declared.mask.Mask.{Mask}
+
+all_push : {X : Type 0} (P : X → Type 0) (xs : List X) (x : X) → AllByRecursion P xs → P x → AllByRecursion P (xs ++ x ∷ [])
+all_push P [] x each is = (is, tt)
+all_push P (y ∷ ys) x (first, rest) is = (first, all_push P ys x rest is)
 
 small_cond : (b : Bool) → cond b 1 0 ≤ 1
 small_cond true = omega arith

@@ -13,12 +13,11 @@ use Rattle.t1_font.specs.TextTurns.{TextRead}
 use Rattle.t1_font.specs.Texts.{font_read}
 use Rattle.t1_font.specs.declared.refusal.Refusal.{Refusal}
 use Rattle.t1_lines.proofs.Cuts.{some_same}
+use Rattle.t1_lines.proofs.KeyTexts.{key-found, key_of}
 use Rattle.t1_lines.proofs.NamesKept.{fonts_have_names, glyph_named}
-use Rattle.t1_lines.proofs.NamesRead.{key-found}
 use Rattle.t1_lines.proofs.WaiverNames.{waivers_have_names}
 use Rattle.t1_lines.specs.Lines.{at_key, at_step, at_waiver, line_in, place_in}
 use Rattle.t1_lines.specs.Names.{HasNames, HaveNames}
-use Rattle.t1_lines.specs.Private.Reading.{key_of}
 use Rattle.t1_many.proofs.LineKinds.{code_is_a_word, name_is_a_word}
 use Rattle.t1_many.proofs.Rows.{IsSplit, font_glyph, font_split, font_waiver, glyph_split, glyph_waiver, same_splits, unjoin, waiver_split}
 use Rattle.t1_many.proofs.WaiversOnce.{AreOnce, waivers_once}

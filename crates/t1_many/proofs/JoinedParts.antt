@@ -20,7 +20,7 @@ each_joined f list_of (suc n) =
     flat_map-append f (joined list_of n) (list_of n) ∙ ap (λ l. l ++ flat_map f (list_of n)) (each_joined f list_of n)
 
 pub handed : PartsAreHandedOn
-handed judges entries_of parts = each_joined (λ (entry : Entry). handed_of judges entry.name entry.outcome) entries_of parts
+handed judges entries_of parts = each_joined (λ (entry : Entry). handed_of (judges entry.name) entry.name entry.outcome) entries_of parts
 
 pub written : PartsAreWritten
 written reasons handed_of parts = (each_joined (text_of reasons) handed_of parts, each_joined told_of handed_of parts)

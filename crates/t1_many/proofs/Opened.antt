@@ -1,30 +1,34 @@
--- Files that were opened, and what is known of them then.
-use Rattle.std.proofs.Common.{◌+◌, true, false, true≢false, List, ℕ, inl, inr, sym}
+-- Files that were opened, and how the check of their font ended.
+use Rattle.std.proofs.Common.{◌≡◌, Bool, true, false, List, ℕ, Option, None, Some, Result, Ok, Err, refl, sym, subst, ◌∙◌}
+use Rattle.std.proofs.lemmas.Option.{none-some}
+use Rattle.t1_char.specs.declared.edition.Edition.{Edition}
+use Rattle.t1_many.specs.Calls.{Calls}
 use Rattle.t1_io.specs.Devices.{SourceState}
-use Rattle.t1_many.proofs.Endings.{Widens}
-use Rattle.t1_many.specs.Files.{Files, given_of}
-use Rattle.t1_many.specs.Private.Checking.{of_files}
-use Rattle.t1_run.specs.Input.{ReadsAtMost}
+use Rattle.t1_many.specs.Files.{ChecksIn, Given, HasNoWaivers, IsFound}
+use Rattle.t1_many.specs.Outcomes.{Entry, Outcome, failed, reported}
+use Rattle.t1_many.specs.Private.Checking.{AsksWaivers, Checks, ChecksNamed}
+use Rattle.t1_many.specs.declared.font_files.WaiverFiles.{WaiverFiles}
+use Rattle.t1_many.specs.declared.recipient.Lost.{Lost}
+use Rattle.t1_run.specs.declared.failure.Failure.{Failure}
+use Rattle.t1_summary.specs.declared.found.Found.{Found}
 
-module _ (files : Files) (name : List ℕ) (source source' waivers waivers' : SourceState)
-    (opened : files.Opens name source source') (few : ReadsAtMost (16777216 + 1) source source') where
-  -- a font that has no waivers
-  pub without_waivers : files.HasNoWaivers name → Widens (of_files source source' false waivers waivers') (given_of files name)
-  without_waivers none = record {
-    reads = λ read (are, kept). record { old = source; new = source'; opened = opened; few = few; read = are; kept = kept };
-    breaks = λ broke. inr (inr (record { old = source; new = source'; opened = opened; few = few; failed = broke }));
-    waives = λ waived (is, heard). inl (none, sym is);
-    breaks_waivers = λ (asked, broke). absurd (true≢false (sym asked));
-  }
+-- by what was done to the files, however it ended
+pub named_by : {R F : Type 0} (takes : R → R → Entry → Result Found Lost → Type 0) (calls : Calls F) (beside : WaiverFiles) (edition : Edition)
+    (name : List ℕ) (given : Given) (files files' : F) (a b : R) (result : Result (Result Found Lost) Failure)
+    → ((outcome : Outcome) → IsFound edition given outcome → ChecksIn calls beside edition name files files' outcome)
+    → Checks takes edition name given a b result → ChecksNamed takes calls beside edition name files files' a b result
+named_by takes calls beside edition name given files files' a b (Ok taken) done (report, found, took) = (report, done (reported report) found, took)
+named_by takes calls beside edition name given files files' a b (Err failure) done (found, same) = (done (failed failure) found, same)
 
-  -- one that has some
-  pub with_waivers : files.OpensWaivers name waivers waivers' → ReadsAtMost (1048576 + 1) waivers waivers'
-      → Widens (of_files source source' true waivers waivers') (given_of files name)
-  with_waivers heard_of few_waivers = record {
-    reads = λ read (are, kept). record { old = source; new = source'; opened = opened; few = few; read = are; kept = kept };
-    breaks = λ broke. inr (inr (record { old = source; new = source'; opened = opened; few = few; failed = broke }));
-    waives = λ waived (is, heard).
-        inr (record { old = waivers; new = waivers'; opened = heard_of; few = few_waivers; read = is; heard = heard });
-    breaks_waivers = λ (asked, broke).
-        record { old = waivers; new = waivers'; opened = heard_of; few = few_waivers; failed = broke };
-  }
+-- no waivers, as they weren't asked for or have no file
+pub has_none : {F : Type 0} (calls : Calls F) (asked : Bool) (name : List ℕ) (old new : F) (opened : Option (Option SourceState)) → opened ≡ None
+    → AsksWaivers calls asked name old new opened → HasNoWaivers calls asked name old new
+has_none calls true name old new opened is asks = subst (calls.OpensWaivers old new name) is asks
+has_none calls false name old new opened is (same, none) = same
+
+-- waivers that have a file were asked for
+pub was_asked : {F : Type 0} (calls : Calls F) (asked : Bool) (name : List ℕ) (old new : F) (opened : Option (Option SourceState))
+    (file : Option SourceState) → opened ≡ Some file → AsksWaivers calls asked name old new opened
+    → (asked ≡ true) × calls.OpensWaivers old new name (Some file)
+was_asked calls true name old new opened file is asks = (refl, subst (calls.OpensWaivers old new name) is asks)
+was_asked calls false name old new opened file is (same, none) = absurd (none-some file (sym none ∙ is))

@@ -1,4 +1,4 @@
--- Once what was found was made the known faults, nothing goes beyond them and nothing falls short.
+-- Once what was found was made the known faults, nothing goes beyond them and no row differs.
 use Rattle.std.proofs.Common.{◌≡◌, ◌⊎◌, ◌<◌, ◌^◌, ℕ, ◌&&◌, ◌||◌, Bool, true, false, true≢false, not, nat_lt, List, [], ◌∷◌, ◌++◌, map, Option, Some, None, cond, inl, inr, refl, sym, ap, subst, ◌∙◌, arith}
 use Rattle.std.proofs.lemmas.Bool.{and_parts, cases_Bool}
 use Rattle.std.proofs.lemmas.Bool.Decides.{nat_tests}
@@ -12,13 +12,16 @@ use Rattle.std.specs.Str.{bytes_eq}
 use Rattle.std.specs.Str.Parse.{digits_value}
 use Rattle.t1_many.proofs.Texts.{apart, equal, itself}
 use Rattle.t1_many.specs.Choice.{Choice, is_told}
-use Rattle.t1_many.specs.KnownFaults.{Reading, RowValue, distinct, found_count, is_among, is_judged, kind_of, kinds_in, known_count, rows_behind, rows_in, rule_of, shortfall, shortfall_at, shortfall_in, shortfall_text, updated, updated_behind}
-use Rattle.t1_many.specs.Laws.{AreReadings, IsReading, NoLineIsBeyond, NoRowFallsShort}
+use Rattle.t1_many.specs.KnownFaults.{Reading, RowValue, distinct, found_count, is_among, is_judged, kind_of, kinds_in, differs, known_count, rows_behind, rows_in, rule_of, mismatch, mismatch_at, mismatch_in, mismatch_text, updated, updated_behind}
+use Rattle.t1_many.specs.Laws.{AreReadings, IsReading, NoLineIsBeyond, NoRowDiffers}
 
 -- ---- tests
 
 not_below : (n : ℕ) → nat_lt n n ≡ false
 not_below n = grind (arith, nat_tests)
+
+no_other : (n : ℕ) → differs n n ≡ false
+no_other n = let below = not_below n in rw below refl
 
 or_second : (a b : Bool) → (a || b) ≡ true → a ≡ false → b ≡ true
 or_second true b e first = absurd (true≢false first)
@@ -191,18 +194,18 @@ no_line choice readings rows font lines are at =
     (behind choice readings font (map kind_of lines) at (are font (map kind_of lines) at) (kind_of l) (in_map kind_of l lines there) [] rows refl)
     ∙ not_below (found_count (map kind_of lines) (kind_of l)))
 
--- ---- no row falls short
+-- ---- no row differs
 
 module _ (choice : Choice) (readings : List Reading) (are : AreReadings choice readings) where
-  stands_still : (row : RowValue) → is_judged choice readings row ≡ false → shortfall choice readings row ≡ []
+  stands_still : (row : RowValue) → is_judged choice readings row ≡ false → mismatch choice readings row ≡ []
   stands_still row stands = go (kinds_in readings row.font) stands
     where
-      go : (kinds : Option (List (List ℕ))) → (is_some kinds && is_told choice (rule_of row.kind)) ≡ false → shortfall_in choice row kinds ≡ []
+      go : (kinds : Option (List (List ℕ))) → (is_some kinds && is_told choice (rule_of row.kind)) ≡ false → mismatch_in choice row kinds ≡ []
       go None out = refl
       go (Some kinds) out = rw out refl
 
   reached : (font : List ℕ) (kinds : List (List ℕ)) → kinds_in readings font ≡ Some kinds → (some : List (List ℕ))
-      → flat_map (shortfall choice readings) (counted font (found_count kinds) some) ≡ []
+      → flat_map (mismatch choice readings) (counted font (found_count kinds) some) ≡ []
   reached font kinds at [] = refl
   reached font kinds at (kind ∷ some) =
       let most = count_by-le-length (bytes_eq kind) kinds in
@@ -210,36 +213,36 @@ module _ (choice : Choice) (readings : List Reading) (are : AreReadings choice r
       let value : digits_value 10 (decimal (found_count kinds kind)) ≡ found_count kinds kind =
       (decimal_is_IsNumeral (found_count kinds kind) (omega (arith, most, bound))).1 in
       let row : RowValue = record { count = decimal (found_count kinds kind); kind = kind; font = font } in
-      let here : shortfall_at row (found_count kinds kind) ≡ [] =
-      rw value (ap (λ b. cond b (shortfall_text row (found_count kinds kind)) []) (not_below (found_count kinds kind))) in
-      let quiet : shortfall choice readings row ≡ [] = rw at (go (is_told choice (rule_of kind)) (shortfall_at row (found_count kinds kind)) here) in
-      ap (λ text. text ++ flat_map (shortfall choice readings) (counted font (found_count kinds) some)) quiet ∙ reached font kinds at some
+      let here : mismatch_at row (found_count kinds kind) ≡ [] =
+      rw value (ap (λ b. cond b (mismatch_text row (found_count kinds kind)) []) (no_other (found_count kinds kind))) in
+      let quiet : mismatch choice readings row ≡ [] = rw at (go (is_told choice (rule_of kind)) (mismatch_at row (found_count kinds kind)) here) in
+      ap (λ text. text ++ flat_map (mismatch choice readings) (counted font (found_count kinds) some)) quiet ∙ reached font kinds at some
     where
       go : (b : Bool) (text : List ℕ) → text ≡ [] → cond b text [] ≡ []
       go true text none = none
       go false text none = refl
 
-  block_reached : (font : List ℕ) → flat_map (shortfall choice readings) (rows_in font (kinds_in readings font)) ≡ []
+  block_reached : (font : List ℕ) → flat_map (mismatch choice readings) (rows_in font (kinds_in readings font)) ≡ []
   block_reached font = go (kinds_in readings font) refl
     where
-      go : (kinds : Option (List (List ℕ))) → kinds_in readings font ≡ kinds → flat_map (shortfall choice readings) (rows_in font kinds) ≡ []
+      go : (kinds : Option (List (List ℕ))) → kinds_in readings font ≡ kinds → flat_map (mismatch choice readings) (rows_in font kinds) ≡ []
       go None at = refl
       go (Some kinds) at = reached font kinds at (distinct kinds)
 
-  joined : (font : List ℕ) (more : List RowValue) → flat_map (shortfall choice readings) more ≡ []
-      → flat_map (shortfall choice readings) (rows_in font (kinds_in readings font) ++ more) ≡ []
+  joined : (font : List ℕ) (more : List RowValue) → flat_map (mismatch choice readings) more ≡ []
+      → flat_map (mismatch choice readings) (rows_in font (kinds_in readings font) ++ more) ≡ []
   joined font more quiet =
-      flat_map-append (shortfall choice readings) (rows_in font (kinds_in readings font)) more
-      ∙ ap (λ text. text ++ flat_map (shortfall choice readings) more) (block_reached font) ∙ quiet
+      flat_map-append (mismatch choice readings) (rows_in font (kinds_in readings font)) more
+      ∙ ap (λ text. text ++ flat_map (mismatch choice readings) more) (block_reached font) ∙ quiet
 
-  quiet_rows : (done : List (List ℕ)) (suffix : List Reading) → flat_map (shortfall choice readings) (rows_behind readings done suffix) ≡ []
+  quiet_rows : (done : List (List ℕ)) (suffix : List Reading) → flat_map (mismatch choice readings) (rows_behind readings done suffix) ≡ []
   quiet_rows done [] = refl
   quiet_rows done (reading ∷ suffix) = elim (cases_Bool (is_among done reading.font)) [
     | inl gone ↦ rw gone (quiet_rows done suffix)
     | inr new ↦ rw new (joined reading.font (rows_behind readings (reading.font ∷ done) suffix) (quiet_rows (reading.font ∷ done) suffix))
   ]
 
-  quiet : (done : List (List ℕ)) (rows : List RowValue) → flat_map (shortfall choice readings) (updated_behind choice readings done rows) ≡ []
+  quiet : (done : List (List ℕ)) (rows : List RowValue) → flat_map (mismatch choice readings) (updated_behind choice readings done rows) ≡ []
   quiet done [] = quiet_rows done readings
   quiet done (row ∷ rows) = elim (cases_Bool (is_judged choice readings row)) [
     | inl judged ↦ rw judged (elim (cases_Bool (is_among done row.font)) [
@@ -247,9 +250,9 @@ module _ (choice : Choice) (readings : List Reading) (are : AreReadings choice r
       | inr new ↦ rw new (joined row.font (updated_behind choice readings (row.font ∷ done) rows) (quiet (row.font ∷ done) rows))
     ])
     | inr stands ↦ rw stands (
-        ap (λ text. text ++ flat_map (shortfall choice readings) (updated_behind choice readings done rows)) (stands_still row stands)
+        ap (λ text. text ++ flat_map (mismatch choice readings) (updated_behind choice readings done rows)) (stands_still row stands)
         ∙ quiet done rows)
   ]
 
-pub no_row : NoRowFallsShort
+pub no_row : NoRowDiffers
 no_row choice readings rows are = quiet choice readings are [] rows

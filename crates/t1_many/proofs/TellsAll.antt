@@ -26,8 +26,8 @@ module _ {T F : Type 0} (takes : F → F → Handed → Option Lost → Type 0) 
   -- Fonts that were taken.
   record HaveTold (old new : T) (entries : List Entry) (founds : List Found) : Type 0 where
     pub rules_are : rules new ≡ rules old
-    pub handed : HandsOn takes (form old) (form new) (all_handed (of_rules (rules old)) entries) None
-    pub founds_are : founds ≡ founds_of (of_rules (rules old)) entries
+    pub handed : HandsOn takes (form old) (form new) (all_handed (λ name. of_rules (rules old)) entries) None
+    pub founds_are : founds ≡ founds_of (λ name. of_rules (rules old)) entries
 
   told : (old new : T) (entries : List Entry) (founds : List Found) → AreTaken Takes old new entries founds → HaveTold old new entries founds
   told old new [] founds (same, none) = record {
@@ -40,25 +40,25 @@ module _ {T F : Type 0} (takes : F → F → Handed → Option Lost → Type 0) 
       record {
         rules_are = more.rules_are ∙ kept;
         handed = handed-append takes (form old) (form next) (form new) (handed_of (of_rules (rules old)) entry.name entry.outcome) _ None hands
-            (subst (λ (r : Mask). HandsOn takes (form next) (form new) (all_handed (of_rules r) entries) None) kept more.handed);
+            (subst (λ (r : Mask). HandsOn takes (form next) (form new) (all_handed (λ name. of_rules r) entries) None) kept more.handed);
         founds_are = are ∙ ap₂ (λ f (fs : List Found). f ∷ fs) is
-            (more.founds_are ∙ ap (λ (r : Mask). founds_of (of_rules r) entries) kept);
+            (more.founds_are ∙ ap (λ (r : Mask). founds_of (λ name. of_rules r) entries) kept);
       }
 
-  handed-push : (judges : Report → FaultValue → Verdict) (entries : List Entry) (last : Entry)
-      → all_handed judges (entries ++ last ∷ []) ≡ all_handed judges entries ++ handed_of judges last.name last.outcome
+  handed-push : (judges : List ℕ → Report → FaultValue → Verdict) (entries : List Entry) (last : Entry)
+      → all_handed judges (entries ++ last ∷ []) ≡ all_handed judges entries ++ handed_of (judges last.name) last.name last.outcome
   handed-push judges entries last =
-      flat_map-append (λ (entry : Entry). handed_of judges entry.name entry.outcome) entries (last ∷ [])
-      ∙ ap (λ hs. all_handed judges entries ++ hs) (append-nil (handed_of judges last.name last.outcome))
+      flat_map-append (λ (entry : Entry). handed_of (judges entry.name) entry.name entry.outcome) entries (last ∷ [])
+      ∙ ap (λ hs. all_handed judges entries ++ hs) (append-nil (handed_of (judges last.name) last.name last.outcome))
 
   pub tells_all : (files : Files) (edition : Edition) (names : List (List ℕ)) (old new : T) (result : Result Status Lost)
-      → Ends Takes files edition names old new result → TellsAll takes (of_rules (rules old)) files edition names (form old) (form new) result
+      → Ends Takes files edition names old new result → TellsAll takes (λ name. of_rules (rules old)) files edition names (form old) (form new) result
   tells_all files edition names old new result (all entries founds are taken is) =
       let so = told old new entries founds taken in
       whole entries are so.handed (is ∙ ap (λ fs. Ok (status_of_all fs)) so.founds_are)
   tells_all files edition names old new result (stopped count entries last founds are next taken lost (kept, (hands, none)) is) =
       let so = told old next entries founds taken in
       cut_short count (entries ++ last ∷ []) are lost
-      (subst (λ hs. HandsOn takes (form old) (form new) hs (Some lost)) (sym (handed-push (of_rules (rules old)) entries last))
-      (handed-append takes (form old) (form next) (form new) (all_handed (of_rules (rules old)) entries) _ (Some lost) so.handed
+      (subst (λ hs. HandsOn takes (form old) (form new) hs (Some lost)) (sym (handed-push (λ name. of_rules (rules old)) entries last))
+      (handed-append takes (form old) (form next) (form new) (all_handed (λ name. of_rules (rules old)) entries) _ (Some lost) so.handed
       (subst (λ (r : Mask). HandsOn takes (form next) (form new) (handed_of (of_rules r) last.name last.outcome) (Some lost)) so.rules_are hands))) is

@@ -5,8 +5,7 @@ use Rattle.std.proofs.lemmas.Bool.Decides.{nat_tests}
 use Rattle.std.proofs.lemmas.Option.{none-some, option_and_then_some}
 use Rattle.t1_font.proofs.Tables.{name_exact}
 use Rattle.t1_font.specs.Keys.{same_name}
-use Rattle.t1_lines.proofs.Cuts.{some_same}
-use Rattle.t1_lines.proofs.LinesTold.{map_some}
+use Rattle.t1_lines.proofs.Cuts.{map_some, some_same}
 use Rattle.t1_report.specs.Waivers.{Waiver, is_waived, line_read, lines_from, lines_read, text_read, waiver_of, waivers_of, with_waiver, without_return}
 use Rattle.t1_rules.specs.Book.{number_of}
 

@@ -2,6 +2,7 @@
 use Rattle.std.proofs.Common.{◌≡◌, ◌-◌, ◌==◌, ◌&&◌, ℕ, zero, suc, Bool, true, false, true≢false, not, List, [], ◌∷◌, ◌++◌, drop, length, Some, option_map, inl, inr, refl, sym, ap, subst, ◌∙◌, arith, append_assoc, append-nil}
 use Rattle.std.proofs.lemmas.Bool.{and_parts, cases_Bool}
 use Rattle.std.proofs.lemmas.Bool.Decides.{nat_tests}
+use Rattle.std.specs.Cmp.Lexicographic.{same_text}
 use Rattle.std.specs.List.{AllByRecursion, list_all}
 use Rattle.std.specs.Prelude.{option_and_then}
 use Rattle.t1_scan.specs.Bytes.{is_regular}
@@ -13,7 +14,6 @@ use Rattle.t1_report.specs.Laws.WaiverLines.{CanBeWritten, waiver_line}
 use Rattle.t1_report.specs.Waivers.{Waiver, is_waived, line_read, lines_from, lines_read, text_read, waiver_of, with_waiver, without_return}
 use Rattle.t1_report.proofs.WrittenWaivers.{lines_are_waivers}
 use Rattle.t1_lines.specs.Lines.{FaultLineValue, IsFaultLine, IsPlace, PlaceValue, at_key, at_step, at_waiver}
-use Rattle.t1_lines.proofs.Numbers.{same-true}
 use Rattle.t1_many.specs.Laws.{CanBeWaived, WrittenWaiversAreRead}
 use Rattle.t1_many.specs.WrittenWaivers.{waivers_behind, waivers_of_lines, waivers_text, with_place}
 
@@ -53,7 +53,7 @@ no_return : (bytes : List ℕ) → list_all is_inner bytes ≡ true → same_nam
 no_return [] inner = refl
 no_return (b ∷ bytes) inner = elim (cases_Bool (same_name (b ∷ bytes) (13 ∷ []))) [
   | inl same ↦
-      let whole : b ∷ bytes ≡ 13 ∷ [] = same-true (b ∷ bytes) (13 ∷ []) same in
+      let whole : b ∷ bytes ≡ 13 ∷ [] = same_text (b ∷ bytes) (13 ∷ []) (sym same) in
       let is : b ≡ 13 = cc in
       absurd (true≢false (sym (subst (λ c. is_inner c ≡ true) is (and_parts _ _ inner).0)))
   | inr other ↦ other

@@ -1,22 +1,25 @@
 -- How a run over many fonts ends.
 use Rattle.std.specs.Prelude.{◌≡◌, ℕ, List, [], ◌∷◌, ◌++◌, map, take, Result, Ok, Err}
-use Rattle.std.specs.List.{AllByRecursion}
 use Rattle.t1_char.specs.declared.edition.Edition.{Edition}
-use Rattle.t1_many.specs.Files.{Files, IsFound, given_of}
+use Rattle.t1_many.specs.Calls.{Calls}
+use Rattle.t1_many.specs.Files.{ChecksIn, Files}
 use Rattle.t1_many.specs.Outcomes.{Entry, status_of_found}
 use Rattle.t1_many.specs.Statuses.{worst_of}
 use Rattle.t1_summary.specs.declared.found.Found.{Found}
+use Rattle.t1_many.specs.declared.font_files.WaiverFiles.{WaiverFiles}
 use Rattle.t1_many.specs.declared.recipient.Lost.{Lost}
 use Rattle.t1_run.specs.declared.status.Status.{Status}
 
--- The check of a font ends so by what its files hold.
-abbrev pub IsEntry : Files → Edition → Entry → Type 0
-IsEntry files edition entry = IsFound edition (given_of files entry.name) entry.outcome
+-- Fonts were checked one after another, each once, and nothing else was done to the files.
+abbrev pub AreChecked : {F : Type 0} → Calls F → WaiverFiles → Edition → F → F → List Entry → Type 0
+AreChecked calls beside edition old new [] = new ≡ old
+AreChecked {F} calls beside edition old new (entry ∷ entries) =
+    (next : F) × ChecksIn calls beside edition entry.name old next entry.outcome × AreChecked calls beside edition next new entries
 
 -- The fonts of these names, each once and in this order, with how the check of each ends.
 pub record AreEntries (files : Files) (edition : Edition) (names : List (List ℕ)) (entries : List Entry) : Type 0 where
   pub names_are : map (λ entry. entry.name) entries ≡ names
-  pub found : AllByRecursion (IsEntry files edition) entries
+  pub checked : AreChecked files.calls files.beside edition files.old files.new entries
 
 -- They were taken one after another, and the fonts were found so.
 abbrev pub AreTaken : {R : Type 0} → (R → R → Entry → Result Found Lost → Type 0) → R → R → List Entry → List Found → Type 0

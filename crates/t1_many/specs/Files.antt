@@ -1,5 +1,5 @@
 -- The files of fonts and of their waivers, and what they hold.
-use Rattle.std.specs.Prelude.{◌≡◌, ◌⊎◌, ◌+◌, ℕ, true, false, List, [], Option, None, Some, Result, Ok, Err}
+use Rattle.std.specs.Prelude.{◌≡◌, ◌+◌, ℕ, Bool, true, false, List, None, Some, Result, Ok, Err}
 use Rattle.t1_char.specs.declared.edition.Edition.{Edition}
 use Rattle.t1_font.specs.Fonts.{FontValue}
 use Rattle.t1_io.specs.Devices.{SourceState}
@@ -9,16 +9,19 @@ use Rattle.t1_report.specs.Reports.{IsReport}
 use Rattle.t1_report.specs.Waivers.{Waiver, largest_waivers}
 use Rattle.t1_run.specs.Failures.{failure_of}
 use Rattle.t1_run.specs.FontFiles.{AreRead, largest_file}
-use Rattle.t1_run.specs.Input.{ReadsAtMost}
+use Rattle.t1_run.specs.Input.{ReadsAtMost, StopsAt}
 use Rattle.t1_run.specs.WaiverFiles.{AreWaived, IsHeard}
 use Rattle.t1_run.specs.declared.failure.Failure.TheVariants.{Broken, Memory}
+use Rattle.t1_many.specs.Calls.{Calls}
+use Rattle.t1_many.specs.FontFiles.{asks}
 use Rattle.t1_many.specs.Outcomes.{Outcome, Report, failed, reported}
+use Rattle.t1_many.specs.declared.font_files.WaiverFiles.{WaiverFiles}
 
 -- What is known of the files of a font.
 pub record Given : Type 1 where
   -- The font's file is read so: as a font, or not for a reason.
   pub Reads : Result FontValue Reason → Type 0
-  -- It can't be opened, or a read of it failed; or the file of waivers can't be opened.
+  -- A read of it failed.
   pub Breaks : Type 0
   -- The waivers are read so: those of their file, or none where there is no such file.
   pub Waives : Result (List Waiver) Reason → Type 0
@@ -41,67 +44,53 @@ pub data IsFound (edition : Edition) (given : Given) (outcome : Outcome) : Type 
   -- Memory can run out anywhere.
   no_memory : outcome ≡ failed Memory → IsFound edition given outcome
 
--- The files of fonts and of their waivers, by the fonts' names.
+-- What is known of the files of a font that was opened, and of its waivers where they are asked for, by their states before the first read and
+-- after the last one. The font's file was read to its end or past its limit, unless a read failed or memory ran out.
+abbrev pub given_by : SourceState → SourceState → Bool → SourceState → SourceState → Given
+given_by source source' asked waivers waivers' = record {
+  Reads = λ read. AreRead source.left read × (source'.failed ≡ false) × StopsAt largest_file source source' ⊥;
+  Breaks = source'.failed ≡ true;
+  Waives = λ waived. AreWaived asked waivers.left waived × IsHeard asked waivers waivers';
+  BreaksWaivers = (asked ≡ true) × (waivers'.failed ≡ true);
+}
+
+-- A font has no waivers: none are asked for, or there is no such file.
+abbrev pub HasNoWaivers : {F : Type 0} → Calls F → Bool → List ℕ → F → F → Type 0
+HasNoWaivers calls true name old new = calls.OpensWaivers old new name None
+HasNoWaivers calls false name old new = new ≡ old
+
+-- The check of the font of a name, and all that it did to the files: it opened the font, and its waivers where they are asked for, both before it
+-- read any, and left both. No read followed the end, the limit or a read that failed.
+pub data ChecksIn {F : Type 0} (calls : Calls F) (beside : WaiverFiles) (edition : Edition) (name : List ℕ) (old new : F) (outcome : Outcome) : Type 0 where
+  cannot_open : calls.Opens old new name None → outcome ≡ failed Broken → ChecksIn calls beside edition name old new outcome
+  cannot_open_waivers :
+      (opened asked : F) → (source : SourceState) → calls.Opens old opened name (Some source) → asks beside name ≡ true
+      → calls.OpensWaivers opened asked name (Some None) → calls.Leaves asked new name source → outcome ≡ failed Broken
+      → ChecksIn calls beside edition name old new outcome
+  without_waivers :
+      (opened asked : F) → (source source' waivers waivers' : SourceState) → calls.Opens old opened name (Some source)
+      → HasNoWaivers calls (asks beside name) name opened asked → calls.Leaves asked new name source'
+      → ReadsAtMost (largest_file + 1) source source' → IsFound edition (given_by source source' false waivers waivers') outcome
+      → ChecksIn calls beside edition name old new outcome
+  with_waivers :
+      (opened asked left : F) → (source source' waivers waivers' : SourceState) → calls.Opens old opened name (Some source)
+      → asks beside name ≡ true → calls.OpensWaivers opened asked name (Some (Some waivers))
+      → calls.Leaves asked left name source' → calls.LeavesWaivers left new name waivers'
+      → ReadsAtMost (largest_file + 1) source source' → ReadsAtMost (largest_waivers + 1) waivers waivers'
+      → IsFound edition (given_by source source' true waivers waivers') outcome
+      → ChecksIn calls beside edition name old new outcome
+
+-- The files of a run: the store that has them, its calls, what becomes of files of waivers, and the store before the run and after it.
 pub record Files : Type 1 where
-  -- A font's file was opened in this state, and left in that one.
-  pub Opens : List ℕ → SourceState → SourceState → Type 0
-  pub CannotOpen : List ℕ → Type 0
-  -- The same of a font's file of waivers.
-  pub OpensWaivers : List ℕ → SourceState → SourceState → Type 0
-  pub CannotOpenWaivers : List ℕ → Type 0
-  -- A font has no file of waivers.
-  pub HasNoWaivers : List ℕ → Type 0
+  pub Store : Type 0
+  pub calls : Calls Store
+  pub beside : WaiverFiles
+  pub old : Store
+  pub new : Store
 
--- Files that are opened by their names, by what opening returns.
-abbrev pub files_by : {R V E : Type 0} → (R → SourceState) → (V → SourceState) → (List ℕ → Result R E → Type 0)
-    → (List ℕ → Option (Result V E) → Type 0) → Files
-files_by {R} {V} {E} state state_of_waivers Gives GivesWaivers = record {
-  Opens = λ name old new. (file : R) × (left : R) × Gives name (Ok file) × (state file ≡ old) × (state left ≡ new);
-  CannotOpen = λ name. (error : E) × Gives name (Err error);
-  OpensWaivers = λ name old new. (file : V) × (left : V) × GivesWaivers name (Some (Ok file))
-      × (state_of_waivers file ≡ old) × (state_of_waivers left ≡ new);
-  CannotOpenWaivers = λ name. (error : E) × GivesWaivers name (Some (Err error));
-  HasNoWaivers = λ name. GivesWaivers name None;
-}
+abbrev pub files_by : {F : Type 0} → Calls F → WaiverFiles → F → F → Files
+files_by {F} calls beside old new = record { Store = F; calls = calls; beside = beside; old = old; new = new }
 
--- A font's file was opened, read to its end or past its limit, and read so.
-pub record IsReadSo (files : Files) (name : List ℕ) (font : Result FontValue Reason) : Type 0 where
-  pub old : SourceState
-  pub new : SourceState
-  pub opened : files.Opens name old new
-  pub few : ReadsAtMost (largest_file + 1) old new
-  pub read : AreRead old.left font
-  pub kept : new.failed ≡ false
-
--- A read of it failed, and no read was made after that.
-pub record ReadFails (files : Files) (name : List ℕ) : Type 0 where
-  pub old : SourceState
-  pub new : SourceState
-  pub opened : files.Opens name old new
-  pub few : ReadsAtMost (largest_file + 1) old new
-  pub failed : new.failed ≡ true
-
--- A font's file of waivers was opened, read to its end or past its limit, and read so.
-pub record AreWaivedSo (files : Files) (name : List ℕ) (waived : Result (List Waiver) Reason) : Type 0 where
-  pub old : SourceState
-  pub new : SourceState
-  pub opened : files.OpensWaivers name old new
-  pub few : ReadsAtMost (largest_waivers + 1) old new
-  pub read : AreWaived true old.left waived
-  pub heard : IsHeard true old new
-
-pub record WaiversFail (files : Files) (name : List ℕ) : Type 0 where
-  pub old : SourceState
-  pub new : SourceState
-  pub opened : files.OpensWaivers name old new
-  pub few : ReadsAtMost (largest_waivers + 1) old new
-  pub failed : new.failed ≡ true
-
--- What is known of the files of the font of a name.
-abbrev pub given_of : Files → List ℕ → Given
-given_of files name = record {
-  Reads = IsReadSo files name;
-  Breaks = files.CannotOpen name ⊎ files.CannotOpenWaivers name ⊎ ReadFails files name;
-  Waives = λ waived. (files.HasNoWaivers name × (waived ≡ Ok [])) ⊎ AreWaivedSo files name waived;
-  BreaksWaivers = WaiversFail files name;
-}
+-- Nothing was done to the files.
+abbrev pub AreUntouched : Files → Type 0
+AreUntouched files = files.new ≡ files.old

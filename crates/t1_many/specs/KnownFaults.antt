@@ -1,5 +1,5 @@
 -- Known faults: how often each kind of fault is known of a font, by rows of a file.
-use Rattle.std.specs.Prelude.{◌≡◌, ℕ, ◌<◌, length, ◌==◌, ◌&&◌, nat_lt, Bool, true, not, List, [], ◌∷◌, ◌++◌, codes, filter, map, Option, None, Some, if◌then◌else◌}
+use Rattle.std.specs.Prelude.{◌≡◌, ℕ, ◌<◌, length, ◌==◌, ◌&&◌, ◌||◌, nat_lt, Bool, true, not, List, [], ◌∷◌, ◌++◌, codes, filter, map, Option, None, Some, if◌then◌else◌}
 use Rattle.std.specs.Fmt.{decimal}
 use Rattle.std.specs.List.{concat, count_by, flat_map, list_all, list_any}
 use Rattle.std.specs.Option.{is_some}
@@ -99,21 +99,25 @@ abbrev pub is_judged : Choice → List Reading → RowValue → Bool
 is_judged choice readings row = is_some (kinds_in readings row.font) && is_told choice (rule_of row.kind)
 
 -- `FONT: known faults: KIND: COUNT known, FOUND found`.
-abbrev pub shortfall_text : RowValue → ℕ → List ℕ
-shortfall_text row found = concat
+abbrev pub mismatch_text : RowValue → ℕ → List ℕ
+mismatch_text row found = concat
     (row.font ∷ codes ": known faults: " ∷ row.kind ∷ codes ": " ∷ row.count ∷ codes " known, " ∷ decimal found ∷ codes " found\n" ∷ [])
 
--- What is reported of a row of whose kind so many were found: nothing where it is reached.
-abbrev pub shortfall_at : RowValue → ℕ → List ℕ
-shortfall_at row found = if nat_lt found (digits_value 10 row.count) then shortfall_text row found else []
+-- Another number is found than is known.
+abbrev pub differs : ℕ → ℕ → Bool
+differs found known = nat_lt found known || nat_lt known found
+
+-- What is reported of a row of whose kind so many were found: nothing where they are as many as it says.
+abbrev pub mismatch_at : RowValue → ℕ → List ℕ
+mismatch_at row found = if differs found (digits_value 10 row.count) then mismatch_text row found else []
 
 -- What is reported of a row.
-abbrev pub shortfall_in : Choice → RowValue → Option (List (List ℕ)) → List ℕ
-shortfall_in choice row None = []
-shortfall_in choice row (Some kinds) = if is_told choice (rule_of row.kind) then shortfall_at row (found_count kinds row.kind) else []
+abbrev pub mismatch_in : Choice → RowValue → Option (List (List ℕ)) → List ℕ
+mismatch_in choice row None = []
+mismatch_in choice row (Some kinds) = if is_told choice (rule_of row.kind) then mismatch_at row (found_count kinds row.kind) else []
 
-abbrev pub shortfall : Choice → List Reading → RowValue → List ℕ
-shortfall choice readings row = shortfall_in choice row (kinds_in readings row.font)
+abbrev pub mismatch : Choice → List Reading → RowValue → List ℕ
+mismatch choice readings row = mismatch_in choice row (kinds_in readings row.font)
 
 -- ---- the rows from now on
 

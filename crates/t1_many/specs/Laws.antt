@@ -21,7 +21,7 @@ use Rattle.t1_summary.specs.declared.found.Found.{Found}
 use Rattle.t1_many.specs.declared.recipient.Lost.{Lost}
 use Rattle.t1_many.specs.Outcomes.{Entry, IsRead, Report}
 use Rattle.t1_many.specs.Choice.{Choice, is_told, letters_of, picks}
-use Rattle.t1_many.specs.KnownFaults.{IsKind, IsRow, Reading, RowValue, beyond, found_count, kind_of, kinds_in, row_text, rows_of, rule_of, shortfall, updated}
+use Rattle.t1_many.specs.KnownFaults.{IsKind, IsRow, Reading, RowValue, beyond, found_count, kind_of, kinds_in, row_text, rows_of, rule_of, mismatch, updated}
 use Rattle.t1_many.specs.Shards.{first_parts, joined, of_parts}
 use Rattle.t1_many.specs.Statuses.{worse, worst_of}
 use Rattle.t1_many.specs.WrittenWaivers.{waivers_of_lines, waivers_text}
@@ -88,7 +88,7 @@ PartsAreTheWhole = (parts : ℕ) → 0 < parts → (list : List (List ℕ)) → 
 -- What is handed on of the fonts of parts, joined, is what is handed on of all of them.
 abbrev pub PartsAreHandedOn : Type 0
 PartsAreHandedOn =
-    (judges : Report → FaultValue → Verdict) (entries_of : ℕ → List Entry) (parts : ℕ)
+    (judges : List ℕ → Report → FaultValue → Verdict) (entries_of : ℕ → List Entry) (parts : ℕ)
     → all_handed judges (joined entries_of parts) ≡ joined (λ part. all_handed judges (entries_of part)) parts
 
 -- So are its bytes in the plain form, and what is printed on standard error.
@@ -119,11 +119,11 @@ NoLineIsBeyond =
     → AreReadings choice readings → kinds_in readings font ≡ Some (map kind_of lines)
     → beyond (updated choice readings rows) font lines ≡ []
 
--- And no row falls short of what was found.
-abbrev pub NoRowFallsShort : Type 0
-NoRowFallsShort =
+-- And no row differs from what was found.
+abbrev pub NoRowDiffers : Type 0
+NoRowDiffers =
     (choice : Choice) (readings : List Reading) (rows : List RowValue)
-    → AreReadings choice readings → flat_map (shortfall choice readings) (updated choice readings rows) ≡ []
+    → AreReadings choice readings → flat_map (mismatch choice readings) (updated choice readings rows) ≡ []
 
 -- A line of a glyph that can be waived: its rule is one on charstrings or their steps.
 abbrev pub CanBeWaived : PlaceValue → Rule → Type 0

@@ -1,8 +1,10 @@
 pub mod Beyond
+pub mod Calls
 pub mod Choice
 pub mod Counting
 pub mod Ends
 pub mod Files
+pub mod FontFiles
 pub mod GroupRows
 pub mod Groups
 pub mod Handing

@@ -12,15 +12,15 @@ use Rattle.t1_many.specs.declared.verdict.Verdict.{Verdict}
 use Rattle.t1_report.specs.Faults.{FaultValue}
 use Rattle.t1_run.specs.declared.status.Status.{Status}
 
--- What is handed on of fonts, one after the other, and how they were found.
-abbrev pub all_handed : (Report → FaultValue → Verdict) → List Entry → List Handed
-all_handed judges entries = flat_map (λ entry. handed_of judges entry.name entry.outcome) entries
+-- What is handed on of fonts, one after the other, each judged by its name too, and how they were found.
+abbrev pub all_handed : (List ℕ → Report → FaultValue → Verdict) → List Entry → List Handed
+all_handed judges entries = flat_map (λ entry. handed_of (judges entry.name) entry.name entry.outcome) entries
 
-abbrev pub founds_of : (Report → FaultValue → Verdict) → List Entry → List Found
-founds_of judges entries = map (λ entry. found_of judges entry.outcome) entries
+abbrev pub founds_of : (List ℕ → Report → FaultValue → Verdict) → List Entry → List Found
+founds_of judges entries = map (λ entry. found_of (judges entry.name) entry.outcome) entries
 
 -- All of all fonts was handed on, and the status is the greatest of theirs; or it stopped at one of them.
-pub data TellsAll {F : Type 0} (takes : F → F → Handed → Option Lost → Type 0) (judges : Report → FaultValue → Verdict) (files : Files)
+pub data TellsAll {F : Type 0} (takes : F → F → Handed → Option Lost → Type 0) (judges : List ℕ → Report → FaultValue → Verdict) (files : Files)
     (edition : Edition) (names : List (List ℕ)) (old new : F) (result : Result Status Lost) : Type 0 where
   whole :
       (entries : List Entry) → AreEntries files edition names entries → HandsOn takes old new (all_handed judges entries) None

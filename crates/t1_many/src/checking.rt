@@ -1,11 +1,13 @@
 //! Checks fonts one after another.
 
-ghost use Rattle.std.specs.Prelude.{◌≡◌, false, map, string_bytes, Ok, Some};
-ghost use Rattle.std.specs.Fn.{FnReturnsAt};
+ghost use Rattle.std.specs.Prelude.{◌≡◌, map, option_map, string_bytes};
+ghost use Rattle.t1_many.specs.Calls.{opened_in};
 ghost use Rattle.t1_many.specs.Ends.{Ends};
-ghost use Rattle.t1_many.specs.Files.{files_by, given_of};
-ghost use Rattle.t1_many.specs.Private.Checking.{Checks, TakesOne};
+ghost use Rattle.t1_many.specs.Files.{files_by};
+ghost use Rattle.t1_many.specs.FontFiles.{asks};
+ghost use Rattle.t1_many.specs.Private.Checking.{AsksWaivers, ChecksNamed, TakesOne};
 
+use crate::font_files::{FontFiles, WaiverFiles};
 use crate::found::status_of;
 use crate::one_font::check_opened;
 use crate::recipient::{Lost, Recipient, Taken};
@@ -13,107 +15,70 @@ use crate::status::worse;
 use std::alloc::Global;
 use std::io;
 use t1_char::Edition;
-use t1_io::{In, Source};
+use t1_io::In;
 use t1_run::{Failure, Status};
 
-/// Checks the fonts of these names in order, whose files `open_font` opens, with the waivers that `open_waivers` opens,
-/// where a font has some. The recipient takes how each check ended. A font that can't be read stops no other one. The
-/// status is the greatest of the fonts'.
-pub fn check_all<R, V, O, P, T>(
+/// Checks the fonts of these names in order, with their waivers where these are read and a font has some. The recipient takes how each check
+/// ended. A font that can't be read stops no other one. The status is the greatest of the fonts'.
+pub fn check_all<F: FontFiles, T: Recipient>(
     alloc: Global,
     names: &[String],
-    open_font: O,
-    open_waivers: P,
+    beside: WaiverFiles,
+    files: &mut F,
     edition: Edition,
     recipient: &mut T,
 ) -> Result<Status, Lost>
-where
-    R: Source + Drop,
-    V: Source + Drop,
-    O: Fn(&str) -> io::Result<R>,
-    P: Fn(&str) -> Option<io::Result<V>>,
-    T: Recipient,
-    requires open_font { O.IsAlwaysCallable open_font }
-    requires open_waivers { P.IsAlwaysCallable open_waivers }
-    requires unbroken { (name : _) (file : R) → FnReturnsAt O.Fn open_font name (Ok file) → (R.state file).failed ≡ false }
-    ensures { Ends T.takes (files_by R.state V.state (FnReturnsAt O.Fn open_font) (FnReturnsAt P.Fn open_waivers)) edition
-        (map string_bytes names.now) recipient.old recipient.new result }
+    ensures { Ends T.takes (files_by F.calls beside files.old files.new) edition (map string_bytes names.now)
+        recipient.old recipient.new result }
 {
     let mut worst = Status::Clean;
     for name in names {
-        let found = check_one(
-            alloc,
-            name.as_str(),
-            &open_font,
-            &open_waivers,
-            edition,
-            recipient,
-        )?;
+        let found = check_one(alloc, name.as_str(), beside, files, edition, recipient)?;
         worst = worse(worst, status_of(found));
     }
     Ok(worst)
 }
 
 /// Checks the font of a name, and hands on how the check ended.
-fn check_one<R, V, O, P, T>(
+fn check_one<F: FontFiles, T: Recipient>(
     alloc: Global,
     name: &str,
-    open_font: &O,
-    open_waivers: &P,
+    beside: WaiverFiles,
+    files: &mut F,
     edition: Edition,
     recipient: &mut T,
 ) -> Taken
-where
-    R: Source + Drop,
-    V: Source + Drop,
-    O: Fn(&str) -> io::Result<R>,
-    P: Fn(&str) -> Option<io::Result<V>>,
-    T: Recipient,
-    requires open_font { O.IsAlwaysCallable open_font.now }
-    requires open_waivers { P.IsAlwaysCallable open_waivers.now }
-    requires unbroken { (name : _) (file : R) → FnReturnsAt O.Fn open_font.now name (Ok file) → (R.state file).failed ≡ false }
-    ensures { TakesOne T.takes edition name.now
-        (given_of (files_by R.state V.state (FnReturnsAt O.Fn open_font.now) (FnReturnsAt P.Fn open_waivers.now)) name.now)
-        recipient.old recipient.new result }
+    ensures { TakesOne T.takes F.calls beside edition name.now files.old files.new recipient.old recipient.new result }
 {
-    match check_named(alloc, name, open_font, open_waivers, edition, recipient) {
+    match check_named(alloc, name, beside, files, edition, recipient) {
         Ok(taken) => taken,
         Err(failure) => recipient.failure(name, failure),
     }
 }
 
-/// Opens the font of a name and its waivers, both before any is read, and checks it.
-fn check_named<R, V, O, P, T>(
+/// Opens the font of a name and its waivers, both before any is read, checks it, and leaves both.
+fn check_named<F: FontFiles, T: Recipient>(
     alloc: Global,
     name: &str,
-    open_font: &O,
-    open_waivers: &P,
+    beside: WaiverFiles,
+    files: &mut F,
     edition: Edition,
     recipient: &mut T,
 ) -> Result<Taken, Failure>
-where
-    R: Source + Drop,
-    V: Source + Drop,
-    O: Fn(&str) -> io::Result<R>,
-    P: Fn(&str) -> Option<io::Result<V>>,
-    T: Recipient,
-    requires open_font { O.IsAlwaysCallable open_font.now }
-    requires open_waivers { P.IsAlwaysCallable open_waivers.now }
-    requires unbroken { (name : _) (file : R) → FnReturnsAt O.Fn open_font.now name (Ok file) → (R.state file).failed ≡ false }
-    ensures { Checks T.takes edition name.now
-        (given_of (files_by R.state V.state (FnReturnsAt O.Fn open_font.now) (FnReturnsAt P.Fn open_waivers.now)) name.now)
-        recipient.old recipient.new result }
+    ensures { ChecksNamed T.takes F.calls beside edition name.now files.old files.new recipient.old recipient.new result }
 {
-    let Ok(mut font) = open_font(name) else {
+    let Ok(mut font) = files.open_font(name) else {
         return Err(Failure::Broken);
     };
-    match open_waivers(name) {
+    match open_asked(name, beside.asks(name), files) {
         None => {
             let mut none = In::new(io::empty());
-            check_opened(alloc, name, &mut font, &mut none, false, edition, recipient)
+            let taken = check_opened(alloc, name, &mut font, &mut none, false, edition, recipient);
+            files.leave_font(name, font);
+            taken
         }
         Some(Ok(mut waivers)) => {
-            check_opened(
+            let taken = check_opened(
                 alloc,
                 name,
                 &mut font,
@@ -121,8 +86,29 @@ where
                 true,
                 edition,
                 recipient,
-            )
+            );
+            files.leave_font(name, font);
+            files.leave_waivers(name, waivers);
+            taken
         }
-        Some(Err(_)) => Err(Failure::Broken),
+        Some(Err(_)) => {
+            files.leave_font(name, font);
+            Err(Failure::Broken)
+        }
+    }
+}
+
+/// Opens the waivers of a font, if they are asked for and it has some.
+fn open_asked<F: FontFiles>(
+    name: &str,
+    are_asked: bool,
+    files: &mut F,
+) -> Option<io::Result<F::Waivers>>
+    ensures { AsksWaivers F.calls are_asked name.now files.old files.new (option_map (opened_in F.Waivers.state) result) }
+{
+    if are_asked {
+        files.open_waivers(name)
+    } else {
+        None
     }
 }

@@ -1,6 +1,6 @@
 //! Laws above the definitions: each is the contract of a function that does nothing.
 
-ghost use Rattle.t1_many.specs.Laws.{ATextIsOneRow, CodesPickTheirRule, GroupRowsAreKindRows, GroupsAreKinds, GroupsCountKinds, JoinedAreWorse, KindsNameTheirRules, LettersPickTheirRules, LinesHaveKinds, NoLineIsBeyond, NoRowFallsShort, NoneIsWorse, PartsAreHandedOn, PartsAreTheWhole, PartsAreWritten, PartsHaveTheStatus, PlainIsFlushed, PlainIsWritten, WrittenWaiversAreRead};
+ghost use Rattle.t1_many.specs.Laws.{ATextIsOneRow, CodesPickTheirRule, GroupRowsAreKindRows, GroupsAreKinds, GroupsCountKinds, JoinedAreWorse, KindsNameTheirRules, LettersPickTheirRules, LinesHaveKinds, NoLineIsBeyond, NoRowDiffers, NoneIsWorse, PartsAreHandedOn, PartsAreTheWhole, PartsAreWritten, PartsHaveTheStatus, PlainIsFlushed, PlainIsWritten, WrittenWaiversAreRead};
 
 /// A code picks its rule alone, and the letters of a code pick the rules whose codes have these letters.
 #[tactic(auto, using(crate::proofs::Codes::codes_pick, crate::proofs::Codes::letters_pick))]
@@ -56,11 +56,11 @@ pub fn statuses_join()
     ensures joined { JoinedAreWorse }
 {}
 
-/// Once what was found was made the known faults, the same fonts have no line beyond them, and no row falls short.
+/// Once what was found was made the known faults, the same fonts have no line beyond them, and no row differs.
 #[tactic(auto, using(crate::proofs::Quiet::no_line, crate::proofs::Quiet::no_row))]
 pub fn an_update_is_quiet()
     ensures lines { NoLineIsBeyond }
-    ensures rows { NoRowFallsShort }
+    ensures rows { NoRowDiffers }
 {}
 
 /// The text of waivers that is written of lines is read as exactly these: each pair of a glyph's name and a rule, once.

@@ -2,7 +2,8 @@
 
 ghost use Rattle.std.specs.Prelude.{◌≡◌, ◌≤◌, ◌+◌, false, length};
 ghost use Rattle.t1_font.specs.Bounds.{most_glyphs};
-ghost use Rattle.t1_many.specs.Private.Checking.{Checks, IsFont, of_bytes, of_files, of_font, of_text};
+ghost use Rattle.t1_many.specs.Files.{given_by};
+ghost use Rattle.t1_many.specs.Private.Checking.{Checks, IsFont, of_bytes, of_font, of_text};
 ghost use Rattle.t1_report.specs.Waivers.{largest_waivers};
 ghost use Rattle.t1_run.specs.FontFiles.{largest_file};
 ghost use Rattle.t1_run.specs.Input.{ReadsAtMost};
@@ -29,7 +30,7 @@ pub(crate) fn check_opened<R: Source, V: Source, T: Recipient>(
 ) -> Result<Taken, Failure>
     requires { (R.state source.old).failed ≡ false }
     ensures checks { Checks T.takes edition name.now
-        (of_files (R.state source.old) (R.state source.new) has_waivers (V.state waivers.old) (V.state waivers.new))
+        (given_by (R.state source.old) (R.state source.new) has_waivers (V.state waivers.old) (V.state waivers.new))
         recipient.old recipient.new result }
     ensures font { ReadsAtMost (largest_file + 1) (R.state source.old) (R.state source.new) }
     ensures waivers { ReadsAtMost (largest_waivers + 1) (V.state waivers.old) (V.state waivers.new) }

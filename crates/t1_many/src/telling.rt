@@ -1,21 +1,19 @@
 //! Reports the lines of some rules of many fonts.
 
-ghost use Rattle.std.specs.Prelude.{◌≡◌, false, map, string_bytes, Ok};
-ghost use Rattle.std.specs.Fn.{FnReturnsAt};
+ghost use Rattle.std.specs.Prelude.{◌≡◌, map, string_bytes};
 ghost use Rattle.t1_many.specs.Files.{files_by};
 ghost use Rattle.t1_many.specs.Handing.{HandsFont};
 ghost use Rattle.t1_many.specs.Told.{TellsAll};
 ghost use Rattle.t1_many.specs.Verdicts.{of_rules};
 
 use crate::checking::check_all;
+use crate::font_files::{FontFiles, WaiverFiles};
 use crate::form::Form;
 use crate::handing::{hand_failure, hand_report};
 use crate::recipient::{Lost, Recipient, Taken};
 use std::alloc::{AllocError, Global};
-use std::io;
 use t1_char::Edition;
 use t1_font::Font;
-use t1_io::Source;
 use t1_report::Waivers;
 use t1_rules::{Mask, Sidebearings};
 use t1_run::{Failure, Status};
@@ -57,26 +55,16 @@ impl<F: Form> Recipient for Telling<F> {
 
 /// Checks the fonts of these names in order, as [`check_all`] does. It reports the lines of some rules, why there is no
 /// report of a font, and how each font was found.
-pub fn tell_all<R, V, O, P, F>(
+pub fn tell_all<S: FontFiles, F: Form>(
     alloc: Global,
     names: &[String],
-    open_font: O,
-    open_waivers: P,
+    beside: WaiverFiles,
+    files: &mut S,
     edition: Edition,
     telling: &mut Telling<F>,
 ) -> Result<Status, Lost>
-where
-    R: Source + Drop,
-    V: Source + Drop,
-    O: Fn(&str) -> io::Result<R>,
-    P: Fn(&str) -> Option<io::Result<V>>,
-    F: Form,
-    requires open_font { O.IsAlwaysCallable open_font }
-    requires open_waivers { P.IsAlwaysCallable open_waivers }
-    requires unbroken { (name : _) (file : R) → FnReturnsAt O.Fn open_font name (Ok file) → (R.state file).failed ≡ false }
-    ensures { TellsAll F.takes (of_rules telling.old.rules)
-        (files_by R.state V.state (FnReturnsAt O.Fn open_font) (FnReturnsAt P.Fn open_waivers)) edition (map string_bytes names.now)
+    ensures { TellsAll F.takes (λ _. of_rules telling.old.rules) (files_by S.calls beside files.old files.new) edition (map string_bytes names.now)
         telling.old.form telling.new.form result }
 {
-    check_all(alloc, names, open_font, open_waivers, edition, telling)
+    check_all(alloc, names, beside, files, edition, telling)
 }

@@ -3,6 +3,7 @@
 ghost use Rattle.std.specs.Prelude.{◌≤◌, length};
 ghost use Rattle.t1_font.specs.Bounds.{most_glyphs};
 
+use crate::fonts::FIVE_FAULTS;
 use indexmap::IndexMap;
 use std::alloc::Global;
 use std::test::Fail;
@@ -14,9 +15,6 @@ use t1_report::Waivers;
 use t1_rules::{Rule, Sidebearings};
 use t1_samples::{Sample, opened};
 use t1_summary::Found;
-
-/// The glyph of the number 32001, 0, hmoveto, and closepath twice, endchar.
-const FIVE_FAULTS: &[u8] = b"\xff\x00\x00\x7d\x01\x8b\x16\x09\x09\x0e";
 
 /// The group of a rule in the second glyph, after `.notdef`.
 fn group(rule: Rule) -> u64 {

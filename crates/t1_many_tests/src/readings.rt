@@ -1,17 +1,16 @@
 //! Fonts that are reported by known faults, and fonts whose faults become known.
 
-ghost use Rattle.std.specs.Prelude.{◌≡◌, false, IfOk};
-
-use std::alloc::{AllocError, Global};
-use std::io;
-use std::io::ErrorKind;
+use crate::files::{File, Files};
+use crate::fonts::{FIVE_FAULTS, FOUR_FAULTS, font_with, names_of};
+use std::alloc::Global;
 use std::test::Fail;
 use t1_char::Edition;
-use t1_io::{In, Out, Source};
-use t1_many::{Anew, Beyond, Counted, Known, Lost, Plain, Reading, check_all, told_rules};
+use t1_io::Out;
+use t1_many::{
+    Anew, Beyond, Counted, Known, Lost, Plain, Reading, WaiverFiles, check_all, told_rules,
+};
 use t1_rules::Rule;
 use t1_run::Status;
-use t1_samples::Sample;
 use t1_summary::{Found, Tally};
 
 /// Each kind is known so often of each font.
@@ -28,36 +27,8 @@ impl Known for KnownEverywhere {
     }
 }
 
-/// The glyph of the number 32001, 0, hmoveto, and closepath twice, endchar.
-const FIVE_FAULTS: &[u8] = b"\xff\x00\x00\x7d\x01\x8b\x16\x09\x09\x0e";
-
-/// The same with one closepath.
-const FOUR_FAULTS: &[u8] = b"\xff\x00\x00\x7d\x01\x8b\x16\x09\x0e";
-
-/// Opens the font of a name: one with five faults, one with four, or none.
-fn open<'a>(five: &'a [u8], four: &'a [u8], name: &str) -> io::Result<In<&'a [u8]>>
-    ensures { IfOk result (λ file. (⟦<In<&'a [u8]> as Source>⟧.state file).failed ≡ false) }
-{
-    match name {
-        "five.pfb" => Ok(In::new(five)),
-        "four.pfb" => Ok(In::new(four)),
-        _ => Err(io::Error::from(ErrorKind::NotFound)),
-    }
-}
-
-/// No font has waivers.
-fn no_waivers<'a>(_name: &str) -> Option<io::Result<In<&'a [u8]>>> {
-    None
-}
-
-/// The names of three fonts.
-fn names(alloc: Global) -> Result<Vec<String>, Fail> {
-    let mut names = Vec::new(alloc);
-    for name in ["five.pfb", "four.pfb", "absent.pfb"] {
-        names.push(String::from_str(alloc, name)?)?;
-    }
-    Ok(names)
-}
+/// The names of three fonts, of which the last isn't there.
+const NAMES: [&str; 3] = ["five.pfb", "four.pfb", "absent.pfb"];
 
 /// Whether what was found in these fonts is as it should be.
 fn are_read(readings: &[Reading]) -> bool {
@@ -85,7 +56,8 @@ struct Answer {
 }
 
 /// Checks the fonts of these names by known faults: each kind is known once of each font.
-fn beyond(alloc: Global, names: &[String], five: &[u8], four: &[u8]) -> Answer {
+fn beyond<'a>(alloc: Global, names: &[String], fonts: &'a [File<'a>]) -> Answer {
+    let mut files = Files::new(alloc, fonts, &[]);
     let mut text = Vec::new(alloc);
     let mut errors = Vec::new(alloc);
     let mut beyond = Beyond {
@@ -104,8 +76,8 @@ fn beyond(alloc: Global, names: &[String], five: &[u8], four: &[u8]) -> Answer {
     let status = check_all(
         alloc,
         names,
-        |name| open(five, four, name),
-        |name| no_waivers(name),
+        WaiverFiles::Read,
+        &mut files,
         Edition::One,
         &mut beyond,
     );
@@ -122,7 +94,8 @@ fn beyond(alloc: Global, names: &[String], five: &[u8], four: &[u8]) -> Answer {
 }
 
 /// Checks the fonts of these names, whose faults become known.
-fn anew(alloc: Global, names: &[String], five: &[u8], four: &[u8]) -> Answer {
+fn anew<'a>(alloc: Global, names: &[String], fonts: &'a [File<'a>]) -> Answer {
+    let mut files = Files::new(alloc, fonts, &[]);
     let mut text = Vec::new(alloc);
     let mut errors = Vec::new(alloc);
     let mut anew = Anew {
@@ -140,8 +113,8 @@ fn anew(alloc: Global, names: &[String], five: &[u8], four: &[u8]) -> Answer {
     let status = check_all(
         alloc,
         names,
-        |name| open(five, four, name),
-        |name| no_waivers(name),
+        WaiverFiles::Read,
+        &mut files,
         Edition::One,
         &mut anew,
     );
@@ -155,11 +128,6 @@ fn anew(alloc: Global, names: &[String], five: &[u8], four: &[u8]) -> Answer {
         text,
         errors,
     }
-}
-
-/// The file of a font with this glyph A.
-fn font_with(alloc: Global, glyph: &[u8]) -> Result<Vec<u8>, AllocError> {
-    Sample::new(alloc)?.glyph(b"A", glyph)?.pfb()
 }
 
 /// Whether fonts were found, and lines handed on, as they should be: P03 goes beyond what is known in the first font, all else is known.
@@ -187,15 +155,11 @@ fn is_answered(answer: &Answer, text: &[u8]) -> bool {
 
 #[test]
 fn reports_what_goes_beyond(rt: HostRuntime) -> Result<(), Fail> {
-    let names = names(rt.alloc())?;
+    let names = names_of(rt.alloc(), &NAMES)?;
     let five = font_with(rt.alloc(), FIVE_FAULTS)?;
     let four = font_with(rt.alloc(), FOUR_FAULTS)?;
-    let answer = beyond(
-        rt.alloc(),
-        names.as_slice(),
-        five.as_slice(),
-        four.as_slice(),
-    );
+    let fonts = [("five.pfb", five.as_slice()), ("four.pfb", four.as_slice())];
+    let answer = beyond(rt.alloc(), names.as_slice(), &fonts);
     assert!(rt; is_answered(&answer, BEYOND) && is_counted(&answer.tally));
     Ok(())
 }
@@ -203,15 +167,11 @@ fn reports_what_goes_beyond(rt: HostRuntime) -> Result<(), Fail> {
 /// What is found becomes known, and no line is reported.
 #[test]
 fn reports_no_line_of_what_becomes_known(rt: HostRuntime) -> Result<(), Fail> {
-    let names = names(rt.alloc())?;
+    let names = names_of(rt.alloc(), &NAMES)?;
     let five = font_with(rt.alloc(), FIVE_FAULTS)?;
     let four = font_with(rt.alloc(), FOUR_FAULTS)?;
-    let answer = anew(
-        rt.alloc(),
-        names.as_slice(),
-        five.as_slice(),
-        four.as_slice(),
-    );
+    let fonts = [("five.pfb", five.as_slice()), ("four.pfb", four.as_slice())];
+    let answer = anew(rt.alloc(), names.as_slice(), &fonts);
     assert!(rt; is_answered(&answer, b"") && answer.tally.lines_of(Rule::P03) == 0);
     Ok(())
 }

@@ -12,8 +12,8 @@ use crate::room::put_after;
 use crate::wish::Wish;
 use std::alloc::Global;
 use t1_font::Font;
-use t1_refusals::{RefusalCode, refusal_text};
 use t1_picture::{View, picture as draw};
+use t1_refusals::{RefusalCode, refusal_text};
 use t1_rules::{Sidebearings, glyph_named};
 use t1_run::Failure;
 

@@ -2,15 +2,30 @@
 use Rattle.std.proofs.Common.{◌≡◌, Bool, ℕ, ◌+◌, ◌≤◌, List, ◌++◌, Option, Result, Ok, Err, false, if◌then◌else◌, length, take, ap, ◌∙◌, subst, sym, arith, length-append}
 use Rattle.std.proofs.lemmas.List.{take-append-le}
 use Rattle.std.specs.Result.{is_ok, is_err}
-use Rattle.std.specs.Io.KnownBytes.{Consumes}
-use Rattle.std.proofs.KnownBytes.{Consumes-trans}
+use Rattle.std.specs.Io.KnownBytes.{Consumes, Keeps}
+use Rattle.std.proofs.KnownBytes.{Consumes-kept, Consumes-trans}
 use Rattle.t1_io.specs.Devices.{SourceState, late_takes_behind, one_more}
 use Rattle.t1_run.specs.Input.{TakesAtMost}
 
-pub TakesAtMost-more : (n : ℕ) (a b c : Option (List ℕ)) (bytes more : List ℕ) → Consumes a b bytes → Consumes b c more
-    → length bytes + length more ≤ n → TakesAtMost n a c
-TakesAtMost-more n a b c bytes more first second few =
-    (bytes ++ more, Consumes-trans a b c bytes more first second, omega (arith, length-append bytes more))
+-- a read more, behind those that brought a byte or more each
+pub one_read : (most turn : ℕ) (a b c : SourceState) (bytes more : List ℕ) → Consumes a.left b.left bytes → Consumes b.left c.left more
+    → length bytes + length more ≤ most → b.takes ≤ a.takes + turn → turn ≤ length bytes → c.takes ≡ one_more b.takes → TakesAtMost most a c
+one_read most turn a b c bytes more first second few before long one = record {
+  bytes = bytes ++ more;
+  consumed = Consumes-trans a.left b.left c.left bytes more first second;
+  few = omega (arith, length-append bytes more, few);
+  needed = omega (arith, length-append bytes more, before, long, one);
+}
+
+-- a read that brought none
+pub none_read : (most turn : ℕ) (a b c : SourceState) (bytes : List ℕ) → Consumes a.left b.left bytes → Keeps b.left c.left
+    → length bytes ≤ most → b.takes ≤ a.takes + turn → turn ≤ length bytes → c.takes ≡ one_more b.takes → TakesAtMost most a c
+none_read most turn a b c bytes first kept few before long one = record {
+  bytes = bytes;
+  consumed = Consumes-kept a.left b.left c.left bytes first kept;
+  few = few;
+  needed = omega (arith, before, long, one);
+}
 
 pub Consumes-more : (a b c : Option (List ℕ)) (bytes more all : List ℕ) → Consumes a b bytes → Consumes b c more → all ≡ bytes ++ more → Consumes a c all
 Consumes-more a b c bytes more all first second e = subst (Consumes a c) (sym e) (Consumes-trans a b c bytes more first second)

@@ -7,14 +7,18 @@ use Rattle.t1_run.specs.Failures.{failure_of}
 use Rattle.t1_run.specs.declared.failure.Failure.{Failure}
 use Rattle.t1_run.specs.declared.failure.Failure.TheVariants.{Broken, Memory}
 
--- Known bytes lose at most n at their beginning.
-abbrev pub TakesAtMost : ℕ → Option (List ℕ) → Option (List ℕ) → Type 0
-TakesAtMost n old new = (bytes : List ℕ) × Consumes old new bytes × (length bytes ≤ n)
+-- Known bytes lose at most so many at their beginning, by as many reads as these bytes are, or one more. As a read may bring a single byte, each
+-- brought some but the last, and none followed that one.
+pub record TakesAtMost (most : ℕ) (old new : SourceState) : Type 0 where
+  pub bytes : List ℕ
+  pub consumed : Consumes old.left new.left bytes
+  pub few : length bytes ≤ most
+  pub needed : new.takes ≤ old.takes + (length bytes + 1)
 
--- At most so many reads were made and so many bytes taken, and no read came after one that failed.
+-- At most so many reads were made and so many bytes taken, none of them after the end, and no read came after one that failed.
 pub record ReadsAtMost (most : ℕ) (old new : SourceState) : Type 0 where
   pub reads : new.takes ≤ old.takes + most
-  pub taken : TakesAtMost most old.left new.left
+  pub taken : TakesAtMost most old new
   pub stops : old.failed ≡ false → new.late_takes ≡ old.late_takes
 
 -- Where reading a source stops: at its end, past so many bytes, at a failed read, or where memory ran out, of which

@@ -24,7 +24,7 @@ pub fn read_font_file<R: Source>(alloc: Global, source: &mut R) -> Result<Vec<u8
     ensures gathers { MatchResult result (λ bytes. AreAll largest_file (R.state source.old) (R.state source.new) bytes.items)
         (AreUnread largest_file reason.FontTooLarge (R.state source.old) (R.state source.new)) }
     ensures takes { (R.state source.new).takes ≤ (R.state source.old).takes + (largest_file + 1) }
-    ensures taken { TakesAtMost (largest_file + 1) (R.state source.old).left (R.state source.new).left }
+    ensures taken { TakesAtMost (largest_file + 1) (R.state source.old) (R.state source.new) }
     ensures stops { (R.state source.old).failed ≡ false
         → (R.state source.new).late_takes ≡ (R.state source.old).late_takes }
 {
@@ -61,7 +61,7 @@ fn read_all<R: Source>(
     ensures gathers { MatchResult result (λ bytes. AreAll most (R.state source.old) (R.state source.new) bytes.items)
         (AreUnread most past (R.state source.old) (R.state source.new)) }
     ensures takes { (R.state source.new).takes ≤ (R.state source.old).takes + (most + 1) }
-    ensures taken { TakesAtMost (most + 1) (R.state source.old).left (R.state source.new).left }
+    ensures taken { TakesAtMost (most + 1) (R.state source.old) (R.state source.new) }
     ensures stops { (R.state source.old).failed ≡ false
         → (R.state source.new).late_takes ≡ (R.state source.old).late_takes }
 {

@@ -1,6 +1,6 @@
 -- Counts of elements by a class, and what they sum to.
 use Rattle.std.proofs.Common.{◌≡◌, ◌+◌, ◌<◌, ◌^◌, ℕ, nat_eq, Bool, true, false, cond, List, [], ◌∷◌, ◌++◌, length, map, refl, sym, ap, ap₂, ◌∙◌, arith}
-use Rattle.std.proofs.lemmas.List.Sums.{sum_by-append, sum_by-cons, sum_by_push}
+use Rattle.std.proofs.lemmas.List.Sums.{sum_by-cons, sum_by_push}
 use Rattle.std.specs.List.{count_by, sum_by}
 use Rattle.t1_rules.specs.Book.{number_of, rules}
 use Rattle.t1_rules.specs.declared.rule.Rule.{Rule}
@@ -70,9 +70,6 @@ capped_fits n = omega arith
 pub capped_small : (n : ℕ) → n < 2 ^ 64 → capped n ≡ n
 capped_small n small = omega arith
 
-pub capped_twice : (a b : ℕ) → capped (capped a + capped b) ≡ capped (a + b)
-capped_twice a b = omega arith
-
 pub capped_sum : (a s t : ℕ) → capped s ≡ capped t → capped (capped a + s) ≡ capped (a + t)
 capped_sum a s t same = omega arith
 
@@ -103,11 +100,6 @@ bump false n = omega arith
 
 pub count_more : {X : Type 0} (p : X → Bool) (xs : List X) (x : X) → capped (count_by p (xs ++ x ∷ [])) ≡ bumped (p x) (capped (count_by p xs))
 count_more p xs x = ap capped (sum_by_push (λ y. one (p y)) xs x) ∙ bump (p x) (count_by p xs)
-
-pub count_joined : {X : Type 0} (p : X → Bool) (xs ys : List X)
-    → capped (capped (count_by p xs) + capped (count_by p ys)) ≡ capped (count_by p (xs ++ ys))
-count_joined p xs ys =
-    capped_twice (count_by p xs) (count_by p ys) ∙ ap capped (sym (sum_by-append (λ y. one (p y)) xs ys))
 
 -- lists of numbers that are the same for each class
 pub each_same : {C : Type 0} (f g : C → ℕ) (cs : List C) → ((c : C) → f c ≡ g c) → map f cs ≡ map g cs

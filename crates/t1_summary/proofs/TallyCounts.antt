@@ -1,16 +1,14 @@
 -- The counts of a tally.
-use Rattle.std.proofs.Common.{◌≡◌, ◌+◌, ◌-◌, ◌<◌, ◌^◌, ℕ, All, Bool, List, [], ◌∷◌, ◌++◌, get_or, length, map, set, refl, sym, ap, ap₂, ◌∙◌, arith}
+use Rattle.std.proofs.Common.{◌≡◌, ◌+◌, ◌-◌, ◌<◌, ◌^◌, ℕ, All, Bool, List, [], ◌∷◌, ◌++◌, get_or, length, map, set, refl, sym, ap, ◌∙◌, arith}
 use Rattle.std.proofs.lemmas.List.Elements.{All-map}
 use Rattle.std.proofs.lemmas.List.Sums.{count_by-le-length, sum-map}
 use Rattle.std.specs.List.{count_by}
 use Rattle.t1_rules.specs.Book.{number_of, rules}
 use Rattle.t1_rules.specs.declared.rule.Rule.{Rule}
 use Rattle.t1_rules.specs.declared.rule.Rule.TheVariants.{F01}
-use Rattle.t1_summary.proofs.Counts.{bumped, capped_fits, classes_add_up, count_joined, count_more, each_same, is_class, is_rule, rules_add_up, sums_capped, sums_whole}
-use Rattle.t1_summary.proofs.EachAdded.{each_added-map}
+use Rattle.t1_summary.proofs.Counts.{bumped, capped_fits, classes_add_up, count_more, each_same, is_class, is_rule, rules_add_up, sums_capped, sums_whole}
 use Rattle.t1_summary.specs.Classes.{capped, classes, fonts_of, lines_of, place_of}
 use Rattle.t1_summary.specs.Laws.{FontsAddUp, LinesAddUp, TalliesCount}
-use Rattle.t1_summary.specs.Private.Sums.{each_added}
 use Rattle.t1_summary.specs.Tallies.{IsTally, fonts_in, lines_in, tally_of}
 use Rattle.t1_summary.specs.declared.found.Found.{Found}
 use Rattle.t1_summary.specs.declared.found.Found.TheVariants.{Clean, Known, Faulty, Refused, Unchecked}
@@ -106,19 +104,6 @@ one_line_more founds lines line =
     ∙ sym (each_same (λ (rule : Rule). capped (lines_of (lines ++ line ∷ []) rule)) (λ (rule : Rule). bumped (is_rule rule line) (f rule)) rules
     (λ rule. count_more (is_rule rule) lines line)))
 
--- ---- joined
-
-pub joined : (founds more_founds : List Found) (lines more_lines : List Rule)
-    → tally (each_added (tally_of founds lines).fonts (tally_of more_founds more_lines).fonts)
-    (each_added (tally_of founds lines).lines (tally_of more_founds more_lines).lines)
-    ≡ tally_of (founds ++ more_founds) (lines ++ more_lines)
-unfolding tally_of
-joined founds more_founds lines more_lines = ap₂ tally
-    (each_added-map (λ (class : Found). capped (fonts_of founds class)) (λ (class : Found). capped (fonts_of more_founds class))
-    (λ (class : Found). capped (fonts_of (founds ++ more_founds) class)) classes (λ class. count_joined (is_class class) founds more_founds))
-    (each_added-map (λ (rule : Rule). capped (lines_of lines rule)) (λ (rule : Rule). capped (lines_of more_lines rule))
-    (λ (rule : Rule). capped (lines_of (lines ++ more_lines) rule)) rules (λ rule. count_joined (is_rule rule) lines more_lines))
-
 -- ---- as the program counts
 
 pub added : (t : Tally) (place more : ℕ) (found : Found) → place ≡ place_of found → more ≡ capped (get_or t.fonts place 0 + 1)
@@ -138,11 +123,3 @@ line_added t place more line at is founds lines same =
     ∙ ap (λ (p : ℕ). tally t.fonts (set t.lines p (capped (get_or t.lines p 0 + 1)))) at
     ∙ ap (λ (s : Tally). tally s.fonts (set s.lines (number_of line - 1) (capped (lines_in s line + 1)))) same
     ∙ one_line_more founds lines line
-
-pub tallies_joined : (s t : Tally) (fonts lines_numbers : List ℕ) → fonts ≡ each_added s.fonts t.fonts → lines_numbers ≡ each_added s.lines t.lines
-    → (founds more_founds : List Found) (lines more_lines : List Rule) → s ≡ tally_of founds lines → t ≡ tally_of more_founds more_lines
-    → tally fonts lines_numbers ≡ tally_of (founds ++ more_founds) (lines ++ more_lines)
-tallies_joined s t fonts lines_numbers are_fonts are_lines founds more_founds lines more_lines first second =
-    ap₂ tally are_fonts are_lines
-    ∙ ap₂ (λ (s t : Tally). tally (each_added s.fonts t.fonts) (each_added s.lines t.lines)) first second
-    ∙ joined founds more_founds lines more_lines

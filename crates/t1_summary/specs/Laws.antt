@@ -1,9 +1,8 @@
 -- The statements of laws.
-use Rattle.std.specs.Prelude.{◌≡◌, ◌<◌, ◌^◌, List, Option, Some, length, sum, sum_by}
+use Rattle.std.specs.Prelude.{◌≡◌, ◌<◌, ◌^◌, List, length, sum, sum_by}
 use Rattle.t1_rules.specs.Book.{rules}
 use Rattle.t1_rules.specs.declared.rule.Rule.{Rule}
 use Rattle.t1_summary.specs.Classes.{capped, classes, fonts_of, lines_of}
-use Rattle.t1_summary.specs.Numbers.{IsRead, numbers_text}
 use Rattle.t1_summary.specs.Rankings.{IsRanking, ranking}
 use Rattle.t1_summary.specs.Tallies.{IsTally, all_fonts, fonts_in, lines_in, tally_of}
 use Rattle.t1_summary.specs.declared.found.Found.{Found}
@@ -37,10 +36,6 @@ abbrev pub LinesAddUp : Type 0
 LinesAddUp =
     (founds : List Found) (lines : List Rule) → length lines < 2 ^ 64 → sum (tally_of founds lines).lines ≡ length lines
 
--- Each tally is that of some fonts and lines.
-abbrev pub EachCounts : Type 0
-EachCounts = (tally : Tally) → IsTally tally → (founds : List Found) × ((lines : List Rule) × (tally ≡ tally_of founds lines))
-
 -- There is a ranking.
 abbrev pub RankingsStand : Type 0
 RankingsStand = (tally : Tally) → IsRanking tally (ranking tally)
@@ -48,11 +43,3 @@ RankingsStand = (tally : Tally) → IsRanking tally (ranking tally)
 -- There is no other.
 abbrev pub RankingsAreOne : Type 0
 RankingsAreOne = (tally : Tally) (order : List Rule) → IsRanking tally order → order ≡ ranking tally
-
--- No text is that of two tallies.
-abbrev pub ATextIsOneTally : Type 0
-ATextIsOneTally = (a b : Tally) → IsTally a → IsTally b → numbers_text a ≡ numbers_text b → a ≡ b
-
--- The text of a tally is read as this tally.
-abbrev pub ATallyIsReadBack : Type 0
-ATallyIsReadBack = (tally : Tally) (read : Option Tally) → IsTally tally → IsRead (numbers_text tally) read → read ≡ Some tally

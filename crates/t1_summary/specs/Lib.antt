@@ -1,6 +1,5 @@
 pub mod Classes
 pub mod Laws
-pub mod Numbers
 pub mod Private
 pub mod Rankings
 pub mod Summaries

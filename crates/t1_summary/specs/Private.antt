@@ -1,4 +1,2 @@
 -- What private functions do.
 pub mod Lines
-pub mod Numbers
-pub mod Sums

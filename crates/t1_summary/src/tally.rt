@@ -1,8 +1,7 @@
 //! The numbers of fonts and of lines.
 
-ghost use Rattle.std.specs.Prelude.{◌≡◌, ◌≤◌, [], ◌∷◌, ◌++◌, List, length};
+ghost use Rattle.std.specs.Prelude.{◌≡◌, [], ◌∷◌, ◌++◌, List};
 ghost use Rattle.t1_rules.specs.declared.rule.Rule.{Rule};
-ghost use Rattle.t1_summary.specs.Private.Sums.{each_added};
 ghost use Rattle.t1_summary.specs.Tallies.{all_fonts, fonts_in, lines_in, tally_of};
 ghost use Rattle.t1_summary.specs.declared.found.Found.{Found};
 
@@ -53,16 +52,6 @@ impl Tally {
         self.lines[place] = self.lines[place].saturating_add(1);
     }
 
-    /// Adds the fonts and lines of another tally.
-    pub fn join(&mut self, other: &Tally)
-        ensures { (founds more_founds : List Found) (lines more_lines : List Rule)
-            → self.old ≡ tally_of founds lines → other.now ≡ tally_of more_founds more_lines
-            → self.new ≡ tally_of (founds ++ more_founds) (lines ++ more_lines) }
-    {
-        add_each(&mut self.fonts, &other.fonts);
-        add_each(&mut self.lines, &other.lines);
-    }
-
     /// The number of fonts.
     pub fn fonts(&self) -> u64
         ensures { result ≡ all_fonts self.now }
@@ -94,15 +83,5 @@ impl Default for Tally {
 
     fn default() -> Tally {
         Tally::new()
-    }
-}
-
-/// Adds to each number the one at its index.
-fn add_each(numbers: &mut [u64], others: &[u64])
-    requires { length numbers.old ≤ length others.now }
-    ensures { numbers.new ≡ each_added numbers.old others.now }
-{
-    for (place, number) in numbers.iter_mut().enumerate() {
-        *number = number.saturating_add(others[place]);
     }
 }

@@ -2,6 +2,4 @@
 #![tactic(auto)]
 
 #[cfg(test)]
-mod numbers;
-#[cfg(test)]
 mod summaries;

@@ -16,7 +16,7 @@ use Rattle.t1_rules.specs.declared.mask.Mask.{Mask}
 use Rattle.t1_run.specs.declared.status.Status.{Status}
 use Rattle.t1_summary.specs.declared.found.Found.{Found}
 use Rattle.t1_waiving.specs.FontTexts.{FontText, all_texts, entry_texts}
-use Rattle.t1_waiving.specs.GlyphLines.{outside_glyphs}
+use Rattle.t1_waiving.specs.GlyphLines.{but_waived}
 use Rattle.t1_waiving.specs.Waived.{WaivesAll, WaivesFont}
 use Rattle.t1_waiving.specs.Waived.WaivesAll.{cut_short, whole}
 
@@ -28,9 +28,9 @@ module _ {T F : Type 0} (takes : F → F → Handed → Option Lost → Type 0) 
   -- Fonts that were taken.
   record HaveWaived (old new : T) (entries : List Entry) (founds : List Found) : Type 0 where
     pub rules_are : rules new ≡ rules old
-    pub handed : HandsOn takes (form old) (form new) (all_handed (outside_glyphs (rules old)) entries) None
+    pub handed : HandsOn takes (form old) (form new) (all_handed (but_waived (rules old)) entries) None
     pub kept_is : kept new ≡ kept old ++ all_texts (rules old) entries
-    pub founds_are : founds ≡ founds_of (outside_glyphs (rules old)) entries
+    pub founds_are : founds ≡ founds_of (but_waived (rules old)) entries
 
   waived : (old new : T) (entries : List Entry) (founds : List Found) → AreTaken Takes old new entries founds → HaveWaived old new entries founds
   waived old new [] founds (same, none) = record {
@@ -43,20 +43,20 @@ module _ {T F : Type 0} (takes : F → F → Handed → Option Lost → Type 0) 
       let more = waived next new entries others rest in
       record {
         rules_are = more.rules_are ∙ stay;
-        handed = handed-append takes (form old) (form next) (form new) (handed_of (outside_glyphs (rules old)) entry.name entry.outcome) _ None
+        handed = handed-append takes (form old) (form next) (form new) (handed_of (but_waived (rules old) entry.name) entry.name entry.outcome) _ None
             took.hands.0
-            (subst (λ (r : Mask). HandsOn takes (form next) (form new) (all_handed (outside_glyphs r) entries) None) stay more.handed);
+            (subst (λ (r : Mask). HandsOn takes (form next) (form new) (all_handed (but_waived r) entries) None) stay more.handed);
         kept_is = more.kept_is ∙ ap₂ (λ (ts : List FontText) (r : Mask). ts ++ all_texts r entries) took.keeps stay
             ∙ append_assoc (kept old) (entry_texts (rules old) entry) (all_texts (rules old) entries);
         founds_are = are ∙ ap₂ (λ f (fs : List Found). f ∷ fs) took.hands.1
-            (more.founds_are ∙ ap (λ (r : Mask). founds_of (outside_glyphs r) entries) stay);
+            (more.founds_are ∙ ap (λ (r : Mask). founds_of (but_waived r) entries) stay);
       }
 
-  handed-push : (judges : Report → FaultValue → Verdict) (entries : List Entry) (last : Entry)
-      → all_handed judges (entries ++ last ∷ []) ≡ all_handed judges entries ++ handed_of judges last.name last.outcome
+  handed-push : (judges : List ℕ → Report → FaultValue → Verdict) (entries : List Entry) (last : Entry)
+      → all_handed judges (entries ++ last ∷ []) ≡ all_handed judges entries ++ handed_of (judges last.name) last.name last.outcome
   handed-push judges entries last =
-      flat_map-append (λ (entry : Entry). handed_of judges entry.name entry.outcome) entries (last ∷ [])
-      ∙ ap (λ hs. all_handed judges entries ++ hs) (append-nil (handed_of judges last.name last.outcome))
+      flat_map-append (λ (entry : Entry). handed_of (judges entry.name) entry.name entry.outcome) entries (last ∷ [])
+      ∙ ap (λ hs. all_handed judges entries ++ hs) (append-nil (handed_of (judges last.name) last.name last.outcome))
 
   texts-push : (mask : Mask) (entries : List Entry) (last : Entry)
       → all_texts mask (entries ++ last ∷ []) ≡ all_texts mask entries ++ entry_texts mask last
@@ -73,9 +73,9 @@ module _ {T F : Type 0} (takes : F → F → Handed → Option Lost → Type 0) 
   waives_all files edition names old new result (stopped count entries last founds are next taken lost (stay, took) is) =
       let so = waived old next entries founds taken in
       cut_short count (entries ++ last ∷ []) are lost
-      (subst (λ hs. HandsOn takes (form old) (form new) hs (Some lost)) (sym (handed-push (outside_glyphs (rules old)) entries last))
-      (handed-append takes (form old) (form next) (form new) (all_handed (outside_glyphs (rules old)) entries) _ (Some lost) so.handed
-      (subst (λ (r : Mask). HandsOn takes (form next) (form new) (handed_of (outside_glyphs r) last.name last.outcome) (Some lost)) so.rules_are
+      (subst (λ hs. HandsOn takes (form old) (form new) hs (Some lost)) (sym (handed-push (but_waived (rules old)) entries last))
+      (handed-append takes (form old) (form next) (form new) (all_handed (but_waived (rules old)) entries) _ (Some lost) so.handed
+      (subst (λ (r : Mask). HandsOn takes (form next) (form new) (handed_of (but_waived r last.name) last.name last.outcome) (Some lost)) so.rules_are
       took.hands.0)))
       (took.keeps ∙ ap₂ (λ (ts : List FontText) (r : Mask). ts ++ entry_texts r last) so.kept_is so.rules_are
       ∙ append_assoc (kept old) (all_texts (rules old) entries) (entry_texts (rules old) last)

@@ -2,6 +2,7 @@
 use Rattle.std.specs.Prelude.{ℕ, nat_le, List, [], ◌∷◌, if◌then◌else◌, length, string_bytes, Option, None, Some, option_map}
 use Rattle.std.specs.List.{flat_map}
 use Rattle.t1_many.specs.Outcomes.{Entry, Outcome, failed, reported}
+use Rattle.t1_names.specs.Words.{is_input}
 use Rattle.t1_report.specs.Waivers.{largest_waivers}
 use Rattle.t1_rules.specs.declared.mask.Mask.{Mask}
 use Rattle.t1_waiving.specs.Reports.{report_text}
@@ -23,10 +24,11 @@ abbrev pub texts_of : List ℕ → List ℕ → List FontText
 texts_of name [] = []
 texts_of name (byte ∷ text) = record { name = name; text = readable (byte ∷ text) } ∷ []
 
--- What is kept by how its check ended: the waivers of the lines of its glyphs whose rules are reported, nothing where
--- there is no report.
+-- What is kept by how its check ended: the waivers of the lines of its glyphs whose rules are reported; nothing of standard input, and nothing
+-- where there is no report.
 abbrev pub outcome_texts : Mask → List ℕ → Outcome → List FontText
-outcome_texts rules name (reported report) = texts_of name (report_text rules report.font report.waivers report.faults)
+outcome_texts rules name (reported report) =
+    if is_input name then [] else texts_of name (report_text rules report.font report.waivers report.faults)
 outcome_texts rules name (failed reason) = []
 
 abbrev pub entry_texts : Mask → Entry → List FontText

@@ -11,12 +11,12 @@ use Rattle.t1_rules.specs.declared.mask.Mask.{Mask}
 use Rattle.t1_run.specs.declared.status.Status.{Status}
 use Rattle.t1_summary.specs.declared.found.Found.{Found}
 use Rattle.t1_waiving.specs.FontTexts.{FontText, all_texts, entry_texts}
-use Rattle.t1_waiving.specs.GlyphLines.{outside_glyphs}
+use Rattle.t1_waiving.specs.GlyphLines.{but_waived}
 
 -- All of a font was handed on, but the lines of its glyphs, and their waivers are kept; or it stopped there.
 pub record WaivesFont {F : Type 0} (takes : F → F → Handed → Option Lost → Type 0) (rules : Mask) (old new : F) (old_kept new_kept : List FontText)
     (entry : Entry) (taken : Result Found Lost) : Type 0 where
-  pub hands : HandsFont takes (outside_glyphs rules) old new entry taken
+  pub hands : HandsFont takes (but_waived rules entry.name) old new entry taken
   pub keeps : new_kept ≡ old_kept ++ entry_texts rules entry
 
 -- The same of all fonts: the status is the greatest of theirs; or it stopped at one of them.
@@ -24,10 +24,10 @@ pub data WaivesAll {F : Type 0} (takes : F → F → Handed → Option Lost → 
     (names : List (List ℕ)) (old new : F) (old_kept new_kept : List FontText) (result : Result Status Lost) : Type 0 where
   whole :
       (entries : List Entry) → AreEntries files edition names entries
-      → HandsOn takes old new (all_handed (outside_glyphs rules) entries) None → new_kept ≡ old_kept ++ all_texts rules entries
-      → result ≡ Ok (status_of_all (founds_of (outside_glyphs rules) entries))
+      → HandsOn takes old new (all_handed (but_waived rules) entries) None → new_kept ≡ old_kept ++ all_texts rules entries
+      → result ≡ Ok (status_of_all (founds_of (but_waived rules) entries))
       → WaivesAll takes rules files edition names old new old_kept new_kept result
   cut_short :
       (count : ℕ) → (entries : List Entry) → AreEntries files edition (take count names) entries → (lost : Lost)
-      → HandsOn takes old new (all_handed (outside_glyphs rules) entries) (Some lost) → new_kept ≡ old_kept ++ all_texts rules entries
+      → HandsOn takes old new (all_handed (but_waived rules) entries) (Some lost) → new_kept ≡ old_kept ++ all_texts rules entries
       → result ≡ Err lost → WaivesAll takes rules files edition names old new old_kept new_kept result

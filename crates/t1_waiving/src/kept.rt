@@ -55,14 +55,6 @@ impl Kept {
         Ok(())
     }
 
-    /// Keeps the waivers of these fonts too. If memory runs out, none of them is kept.
-    pub fn append(&mut self, more: Kept) -> Result<(), AllocError>
-        ensures { self.new ≡ (if is_ok result then self.old ++ more else self.old) }
-    {
-        let mut more = more;
-        self.fonts.append(&mut more.fonts)
-    }
-
     /// Keeps the waivers of a font, if it has some. Where memory runs out nothing is kept.
     pub(crate) fn push(
         &mut self,

@@ -1,7 +1,6 @@
 //! Fonts of which the lines of glyphs are waived, and the others reported.
 
-ghost use Rattle.std.specs.Prelude.{◌≡◌, false, map, string_bytes, Ok};
-ghost use Rattle.std.specs.Fn.{FnReturnsAt};
+ghost use Rattle.std.specs.Prelude.{◌≡◌, map, string_bytes};
 ghost use Rattle.t1_many.specs.Files.{files_by};
 ghost use Rattle.t1_waiving.specs.Waived.{WaivesAll, WaivesFont};
 
@@ -9,16 +8,18 @@ use crate::glyph_lines::OutsideGlyphs;
 use crate::kept::Kept;
 use crate::writing::waivers_text;
 use std::alloc::{AllocError, Global};
-use std::io;
 use t1_char::Edition;
 use t1_font::Font;
-use t1_io::Source;
-use t1_many::{Form, Lost, Recipient, Taken, check_all, hand_failure, hand_report};
+use t1_many::{
+    FontFiles, Form, Lost, Recipient, Taken, WaiverFiles, check_all, hand_failure, hand_report,
+};
+use t1_names::is_input;
 use t1_report::{Waivers, a_font_has_one_report, waivers_leave_out_what_they_say};
 use t1_rules::{Mask, Sidebearings};
 use t1_run::{Failure, Status};
 
-/// Reports the lines of these rules, in a form, but those of glyphs: of these it keeps the waivers.
+/// Reports the lines of these rules, in a form, but those of glyphs: of these it keeps the waivers. Of standard input, beside which none are
+/// written, it reports all.
 #[derive(Drop)]
 pub struct Waiving<F: Form> {
     /// Of which rules lines are reported or waived.
@@ -41,6 +42,16 @@ impl<F: Form> Recipient for Waiving<F> {
         sidebearings: &'a Sidebearings,
         waivers: &'a Waivers<'a>,
     ) -> Result<Taken, AllocError> {
+        if is_input(name) {
+            return Ok(hand_report(
+                &mut self.form,
+                name,
+                font,
+                sidebearings,
+                waivers,
+                &self.rules,
+            ));
+        }
         // The calls of laws do nothing: the proof cites what they ensure.
         a_font_has_one_report();
         waivers_leave_out_what_they_say();
@@ -56,27 +67,18 @@ impl<F: Form> Recipient for Waiving<F> {
 }
 
 /// Checks the fonts of these names in order, as [`check_all`] does. It reports the lines of some rules but those of
-/// glyphs, why there is no report of a font, and how each font was found. It keeps the waivers of the lines of glyphs.
-pub fn waive_all<R, V, O, P, F>(
+/// glyphs, why there is no report of a font, and how each font was found. It keeps the waivers of the lines of glyphs. Of standard input it
+/// reports these too.
+pub fn waive_all<S: FontFiles, F: Form>(
     alloc: Global,
     names: &[String],
-    open_font: O,
-    open_waivers: P,
+    beside: WaiverFiles,
+    files: &mut S,
     edition: Edition,
     waiving: &mut Waiving<F>,
 ) -> Result<Status, Lost>
-where
-    R: Source + Drop,
-    V: Source + Drop,
-    O: Fn(&str) -> io::Result<R>,
-    P: Fn(&str) -> Option<io::Result<V>>,
-    F: Form,
-    requires open_font { O.IsAlwaysCallable open_font }
-    requires open_waivers { P.IsAlwaysCallable open_waivers }
-    requires unbroken { (name : _) (file : R) → FnReturnsAt O.Fn open_font name (Ok file) → (R.state file).failed ≡ false }
-    ensures { WaivesAll F.takes waiving.old.rules
-        (files_by R.state V.state (FnReturnsAt O.Fn open_font) (FnReturnsAt P.Fn open_waivers)) edition (map string_bytes names.now)
+    ensures { WaivesAll F.takes waiving.old.rules (files_by S.calls beside files.old files.new) edition (map string_bytes names.now)
         waiving.old.form waiving.new.form waiving.old.kept waiving.new.kept result }
 {
-    check_all(alloc, names, open_font, open_waivers, edition, waiving)
+    check_all(alloc, names, beside, files, edition, waiving)
 }

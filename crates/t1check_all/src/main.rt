@@ -7,40 +7,64 @@
 //!       1 F01 no end segment (should)
 //! ```
 //!
-//! What is promised of it is t1_answer_all's. This is the program over it: it lists folders, opens files and replaces them, and splits a run into
-//! parts.
+//! What is promised of it is t1_answer_all's. This is the program over it: it lists folders, opens files and replaces them, and shows on a terminal
+//! how far it is.
 #![tactic(auto)]
 
-mod calls;
-mod files;
-mod folder;
-mod joining;
-mod parts;
-mod planning;
+mod fonts;
+mod progress;
 mod replacing;
-mod settings;
-mod usage;
-mod whole;
+mod screen;
+mod system;
 mod words;
 
-use crate::calls::call_of;
+use crate::progress::Progress;
+use crate::screen::Screen;
+use crate::system::System;
+use std::alloc::AllocError;
+use std::env;
 use std::io::{BufWriter, LineWriter};
+use t1_answer_all::answer;
 use t1_batch::PROGRAM;
+use t1_forms::VERSION;
 use t1_io::Out;
 use t1_run::{Failure, Status, tell_failure};
 
 fn main(rt: HostRuntime) -> Status {
     let alloc = rt.alloc();
-    let Ok(errors) = LineWriter::new(alloc, rt.stderr()) else {
+    let progress = Progress::new(rt.stderr(), rt.stdout());
+    let Ok(errors) = LineWriter::new(alloc, Screen::over(rt.stderr(), &progress)) else {
         return tell_failure(PROGRAM, Failure::Memory, &mut Out::new(rt.stderr()));
     };
     let mut errors = Out::new(errors);
-    let Ok(out) = BufWriter::new(alloc, rt.stdout()) else {
+    let Ok(out) = BufWriter::new(alloc, Screen::over(rt.stdout(), &progress)) else {
         return tell_failure(PROGRAM, Failure::Memory, &mut errors);
     };
-    let out = Out::new(out);
-    let Ok(words) = words::words_given(&rt) else {
+    let (Ok(words), Ok(version)) = (words::words_given(&rt), version_line(&rt)) else {
         return tell_failure(PROGRAM, Failure::Memory, &mut errors);
     };
-    call_of(&rt, words.as_slice(), out, errors)
+    let mut system = System::new(&rt, &progress);
+    let answered = answer(
+        alloc,
+        words.as_slice(),
+        version.as_bytes(),
+        &mut system,
+        Out::new(out),
+        errors,
+    );
+    progress.clear();
+    answered.status
+}
+
+/// The version, with the commit that the script names, if it does.
+fn version_line(rt: &HostRuntime) -> Result<String, AllocError> {
+    let mut line = format!(in rt.alloc(); "{PROGRAM} {VERSION}")?;
+    if let Ok(commit) = env::var(rt, "T1CHECK_COMMIT") {
+        if !commit.is_empty() {
+            line.push_str(" of commit ")?;
+            line.push_str(commit.as_str())?;
+        }
+    }
+    line.push('\n')?;
+    Ok(line)
 }

@@ -2,14 +2,16 @@
 
 use std::alloc::{AllocError, Global};
 use std::env::{Env, FillError};
+use t1_batch::PROGRAM;
 
-/// The words that the program was started with, its name first. A word that isn't UTF-8 comes after a NUL, by which
+/// The program's name, as clap prints it, and the words that it was started with. A word that isn't UTF-8 comes after a NUL, by which
 /// [`is_marked`](t1_options::is_marked) knows it, with U+FFFD in the place of what isn't.
 pub(crate) fn words_given(rt: &HostRuntime) -> Result<Vec<String>, AllocError> {
     let alloc = rt.alloc();
     let mut words = Vec::new(alloc);
+    words.push(String::from_str(alloc, PROGRAM)?)?;
     let mut buffer = vec![in alloc; 0u8; 4096]?;
-    for place in 0..usize::MAX {
+    for place in 1..usize::MAX {
         let Some(word) = word_at(rt, place, &mut buffer)? else {
             break;
         };

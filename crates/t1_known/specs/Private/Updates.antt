@@ -5,7 +5,7 @@ use Rattle.std.specs.Borrow.{Bor}
 use Rattle.std.specs.Map.{lookup}
 use Rattle.std.specs.Str.{bytes_eq}
 use Rattle.t1_io.specs.Devices.{PutFailed, SinkState, Wrote}
-use Rattle.t1_known.specs.Private.Shortfalls.{first_rows}
+use Rattle.t1_known.specs.Private.Mismatches.{first_rows}
 use Rattle.t1_known.specs.declared.readings.Reading.{Reading as Text}
 use Rattle.t1_many.specs.Choice.{Choice, is_told}
 use Rattle.t1_many.specs.KnownFaults.{RowValue, is_among, row_text, rule_of}

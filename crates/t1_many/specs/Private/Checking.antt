@@ -1,16 +1,18 @@
 -- How the steps of a check end.
-use Rattle.std.specs.Prelude.{◌≡◌, ℕ, Bool, true, false, List, Result, Ok, Err}
+use Rattle.std.specs.Prelude.{◌≡◌, ℕ, Bool, true, false, List, Option, None, Result, Ok, Err}
 use Rattle.t1_char.specs.declared.edition.Edition.{Edition}
 use Rattle.t1_font.specs.FontFiles.{font_in}
 use Rattle.t1_font.specs.Fonts.{FontValue}
 use Rattle.t1_io.specs.Devices.{SourceState}
 use Rattle.t1_report.specs.Waivers.{waivers_of}
-use Rattle.t1_run.specs.FontFiles.{AreRead, with_reason}
+use Rattle.t1_run.specs.FontFiles.{with_reason}
 use Rattle.t1_run.specs.WaiverFiles.{AreWaived, IsHeard, as_waivers}
 use Rattle.t1_run.specs.declared.failure.Failure.{Failure}
-use Rattle.t1_many.specs.Files.{Given, IsFound}
+use Rattle.t1_many.specs.Calls.{Calls}
+use Rattle.t1_many.specs.Files.{ChecksIn, Given, IsFound}
 use Rattle.t1_many.specs.Outcomes.{Entry, Outcome, Report, failed, reported}
 use Rattle.t1_summary.specs.declared.found.Found.{Found}
+use Rattle.t1_many.specs.declared.font_files.WaiverFiles.{WaiverFiles}
 use Rattle.t1_many.specs.declared.recipient.Lost.{Lost}
 
 -- A font that was read of a file's bytes.
@@ -43,14 +45,6 @@ of_bytes bytes asked old new = record {
   BreaksWaivers = (asked ≡ true) × (new.failed ≡ true);
 }
 
-abbrev pub of_files : SourceState → SourceState → Bool → SourceState → SourceState → Given
-of_files source source' asked old new = record {
-  Reads = λ read. AreRead source.left read × (source'.failed ≡ false);
-  Breaks = source'.failed ≡ true;
-  Waives = λ waived. AreWaived asked old.left waived × IsHeard asked old new;
-  BreaksWaivers = (asked ≡ true) × (new.failed ≡ true);
-}
-
 -- The report of a font was taken; or there is none, and nothing was done.
 abbrev pub Checks : {R : Type 0} → (R → R → Entry → Result Found Lost → Type 0) → Edition → List ℕ → Given → R → R
     → Result (Result Found Lost) Failure → Type 0
@@ -59,8 +53,22 @@ Checks takes edition name given old new (Ok taken) =
     × takes old new (record { name = name; outcome = reported report }) taken
 Checks takes edition name given old new (Err failure) = IsFound edition given (failed failure) × (new ≡ old)
 
+-- The same, with all that was done to the files.
+abbrev pub ChecksNamed : {R F : Type 0} → (R → R → Entry → Result Found Lost → Type 0) → Calls F → WaiverFiles → Edition → List ℕ → F → F → R → R
+    → Result (Result Found Lost) Failure → Type 0
+ChecksNamed takes calls beside edition name files files' old new (Ok taken) =
+    (report : Report) × ChecksIn calls beside edition name files files' (reported report)
+    × takes old new (record { name = name; outcome = reported report }) taken
+ChecksNamed takes calls beside edition name files files' old new (Err failure) =
+    ChecksIn calls beside edition name files files' (failed failure) × (new ≡ old)
+
 -- How the check of a font ended was taken.
-abbrev pub TakesOne : {R : Type 0} → (R → R → Entry → Result Found Lost → Type 0) → Edition → List ℕ → Given → R → R
+abbrev pub TakesOne : {R F : Type 0} → (R → R → Entry → Result Found Lost → Type 0) → Calls F → WaiverFiles → Edition → List ℕ → F → F → R → R
     → Result Found Lost → Type 0
-TakesOne takes edition name given old new taken =
-    (outcome : Outcome) × IsFound edition given outcome × takes old new (record { name = name; outcome = outcome }) taken
+TakesOne takes calls beside edition name files files' old new taken =
+    (outcome : Outcome) × ChecksIn calls beside edition name files files' outcome × takes old new (record { name = name; outcome = outcome }) taken
+
+-- A font's waivers were asked for, if they are to be: they have a file that could be opened or not, or none.
+abbrev pub AsksWaivers : {F : Type 0} → Calls F → Bool → List ℕ → F → F → Option (Option SourceState) → Type 0
+AsksWaivers calls true name old new opened = calls.OpensWaivers old new name opened
+AsksWaivers calls false name old new opened = (new ≡ old) × (opened ≡ None)

@@ -1,4 +1,4 @@
-use Rattle.std.proofs.Common.{ap, ap₂, map, string_bytes, ◌∙◌}
+use Rattle.std.proofs.Common.{ap, ap₂, map, refl, string_bytes, ◌∙◌}
 use Rattle.t1_answer_all.proofs.RunLemmas.{runs_chosen}
 use Rattle.t1_answer_all.proofs.checking.check_listed.Goals as goal
 use Rattle.t1_answer_all.specs.Checking.ChecksOver.{no_memory, ran}
@@ -14,4 +14,4 @@ returns-in-Ok-Ok g c =
     c.run_over.ensures)
 
 pub returns-in_default : goal.returns-in_default
-returns-in_default g c = no_memory c.stopped.ensures
+returns-in_default g c = no_memory c.stopped.ensures refl

@@ -1,11 +1,16 @@
-use Rattle.std.proofs.Common.{rules, sym, ◌∙◌}
-use Rattle.t1_answer_all.proofs.RunLemmas.{runs_unwaived}
 use Rattle.t1_answer_all.proofs.checking.run_over.Goals as goal
 
-pub returns-then-are_read : goal.returns-then-are_read
-returns-then-are_read g c = rw (sym c.are_read.ensures ∙ c.if-are_read.true) c.run_opening.ensures
-
 pub returns : goal.returns
-returns g c =
-    rw (sym c.are_read.ensures ∙ c.if-are_read.false)
-    (runs_unwaived _ _ g.O.Fn c.args.open_font _ _ _ _ _ _ _ _ _ (λ name given says. search (rules, says.says.met)) c.run_opening-2.ensures)
+returns g c = record {
+  runs =
+      rw (
+        c.output_of.ensures.layout,
+        c.output_of.ensures.unlisted,
+        c.selection.ensures.mode,
+        c.selection.ensures.edition,
+        c.selection.ensures.rules,
+        c.is_quiet.ensures,
+        c.as_slice.ensures.value,
+        c.beside_of.ensures,
+      ) at c.run.ensures;
+}

@@ -1,13 +1,25 @@
-use Rattle.std.proofs.Common.{ap, inl, refl, Some, ◌∙◌}
-use Rattle.std.proofs.lemmas.Fn.{says_at}
+use Rattle.std.proofs.Common.{inl, inr, refl, string_bytes}
+use Rattle.std.specs.declared.io.ErrorKind.TheVariants.{NotFound}
+use Rattle.t1_answer_all.proofs.Told.{told_so}
 use Rattle.t1_answer_all.proofs.known.text_of_known.Goals as goal
+use Rattle.t1_answer_all.specs.Known.{IsNotKnownText}
+use Rattle.t1_answer_all.specs.Places.{known_by}
+use Rattle.t1_answer_all.specs.Usage.{unreadable_text}
+use Rattle.t1_options.specs.declared.asked.KnownFaults.TheVariants.{Beyond}
 
 pub returns-in-Some-Ok-clause-text : goal.returns-in-Some-Ok-clause-text
 returns-in-Some-Ok-clause-text g c =
-    rw (c.in-Beyond.is, ← c.as_str.ensures.value)
-    (c.in-Some-Ok.text, says_at g.K.Fn c.text.ensures (c.in-Some-Ok.is ∙ ap Some c.in-Some-Ok.field-0-is), refl)
+    rw (c.in-Beyond.is, ← c.as_str.ensures.value) (c.in-Some-Ok.text, rw c.in-Some-Ok.field-0-is at c.in-Some-Ok.ensures, refl)
+
+pub returns-in-None-clause-none : goal.returns-in-None-clause-none
+returns-in-None-clause-none g c =
+    rw c.in-Beyond.is
+    (told_so (IsNotKnownText (known_by (g.F.FileSystem.has_text c.args.files.now)) (Beyond c.in-Beyond.name))
+    (unreadable_text (string_bytes c.in-Beyond.name) NotFound) c.unreadable-in-None.result
+    (rw c.as_str-in-None.ensures.value at c.unreadable-in-None.ensures)
+    (NotFound, inr (rw c.as_str.ensures.value at c.in-None.ensures, refl), refl))
 
 pub returns-in-Some-Ok-text-clause-text : goal.returns-in-Some-Ok-text-clause-text
 returns-in-Some-Ok-text-clause-text g c =
     rw (c.in-Anew.is, ← c.as_str-in-Anew.ensures.value)
-    (inl (c.in-Some-Ok-text.text, says_at g.K.Fn c.text-in-Anew.ensures (c.in-Some-Ok-text.is ∙ ap Some c.in-Some-Ok-text.field-0-is), refl))
+    (inl (c.in-Some-Ok-text.text, rw c.in-Some-Ok-text.field-0-is at c.in-Some-Ok-text.ensures, refl))

@@ -1,5 +1,4 @@
 use Rattle.std.proofs.Common.{ap, map, refl, string_bytes, sym, ◌∙◌}
-use Rattle.std.specs.Fn.{FnReturnsAt}
 use Rattle.t1_answer_all.proofs.Lists.{empty_names, named_by, some_names}
 use Rattle.t1_answer_all.proofs.Told.{told_so}
 use Rattle.t1_answer_all.proofs.listing.fonts_of.Goals as goal
@@ -9,7 +8,7 @@ use Rattle.t1_answer_all.specs.Places.{lists_by}
 
 pub returns-then-is_empty-clause-none : goal.returns-then-is_empty-clause-none
 returns-then-is_empty-clause-none g c =
-    let given = lists_by (FnReturnsAt g.T.Fn c.args.list_text.now) (FnReturnsAt g.D.Fn c.args.is_folder) (FnReturnsAt g.L.Fn c.args.list_folder) in
+    let given = lists_by (g.F.FileSystem.has_list c.args.files.now) (g.F.FileSystem.leads c.args.files.now) (g.F.FileSystem.lists c.args.files.now) in
     told_so (HasNoFonts given c.args.options.now) _ _ c.no_font.ensures (none (record {
       fonts = record {
         names = map string_bytes c.in_ok-named.named.names.items;
@@ -27,7 +26,7 @@ returns-then-is_empty-clause-none g c =
 
 pub returns-clause-fonts : goal.returns-clause-fonts
 returns-clause-fonts g c =
-    let given = lists_by (FnReturnsAt g.T.Fn c.args.list_text.now) (FnReturnsAt g.D.Fn c.args.is_folder) (FnReturnsAt g.L.Fn c.args.list_folder) in
+    let given = lists_by (g.F.FileSystem.has_list c.args.files.now) (g.F.FileSystem.leads c.args.files.now) (g.F.FileSystem.lists c.args.files.now) in
     record {
       all = map string_bytes c.in_ok-named.named.names.items;
       named =

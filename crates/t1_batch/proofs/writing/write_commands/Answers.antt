@@ -1,4 +1,4 @@
-use Rattle.std.proofs.Common.{ap}
+use Rattle.std.proofs.Common.{ap, refl}
 use Rattle.t1_batch.proofs.writing.write_commands.Goals as goal
 use Rattle.t1_batch.specs.Writing.WritesCommands.{unflushed, unlistable, written}
 use Rattle.t1_many.specs.declared.recipient.Lost.TheVariants.{Device}
@@ -6,7 +6,7 @@ use Rattle.t1_many.specs.declared.recipient.Lost.TheVariants.{Device}
 pub returns-in-Err : goal.returns-in-Err
 returns-in-Err g c =
     unlistable _ c.give_unlisted.new.formatter c.in-Err.lost (rw c.unwritten.ensures.out c.in-Err.ensures) (ap g.E.Sink.state c.unwritten.ensures.errors)
-    c.unwritten.ensures.status
+    refl c.unwritten.ensures.status
 
 pub returns-in-Ok : goal.returns-in-Ok
 returns-in-Ok g c =
@@ -17,4 +17,4 @@ pub returns-in-Err-flush : goal.returns-in-Err-flush
 returns-in-Err-flush g c =
     unflushed _ c.give_unlisted.new.formatter (g.W.Sink.state c.give_unlisted.new.out) c.in_default.ensures Device
     (rw c.unwritten-in-Err-flush.ensures.out c.in-Err-flush.ensures.flushes.0) (ap g.E.Sink.state c.unwritten-in-Err-flush.ensures.errors)
-    c.unwritten-in-Err-flush.ensures.status
+    refl c.unwritten-in-Err-flush.ensures.status

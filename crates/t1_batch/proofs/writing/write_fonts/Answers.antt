@@ -1,4 +1,4 @@
-use Rattle.std.proofs.Common.{Err, ap, ◌∙◌}
+use Rattle.std.proofs.Common.{Err, ap, refl, ◌∙◌}
 use Rattle.t1_batch.proofs.DocumentsBegun.{not_put}
 use Rattle.t1_batch.proofs.writing.write_fonts.Goals as goal
 use Rattle.t1_batch.specs.Writing.{lost_by}
@@ -25,4 +25,4 @@ pub returns-in-Err : goal.returns-in-Err
 returns-in-Err g c =
     rw c.in-Sarif.is
     (not_begun (lost_by c.in-Err.error) (rw c.unwritten.ensures.out (not_put Sarif _ _ _ c.in-Err.error c.in-Err.ensures.text))
-    (ap g.E.Sink.state c.unwritten.ensures.errors) (c.unwritten.ensures.status ∙ ap Err c.lost_by.ensures))
+    (ap g.E.Sink.state c.unwritten.ensures.errors) refl (c.unwritten.ensures.status ∙ ap Err c.lost_by.ensures))

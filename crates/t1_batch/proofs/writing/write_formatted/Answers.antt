@@ -1,4 +1,4 @@
-use Rattle.std.proofs.Common.{Bool, ap, sym}
+use Rattle.std.proofs.Common.{Bool, ap, refl, sym}
 use Rattle.t1_batch.proofs.FormMaps.{fonts-kept}
 use Rattle.t1_batch.proofs.FormattedRuns.{formatted_ends}
 use Rattle.t1_batch.proofs.writing.write_formatted.Goals as goal
@@ -8,7 +8,7 @@ use Rattle.t1_many_forms.specs.Formatting.{FormattedTakes}
 pub returns-in-Err : goal.returns-in-Err
 returns-in-Err g c =
     unlistable c.give_unlisted.new.formatter c.in-Err.lost (rw c.unwritten.ensures.out c.in-Err.ensures) (ap g.E.Sink.state c.unwritten.ensures.errors)
-    c.unwritten.ensures.status
+    refl c.unwritten.ensures.status
 
 pub returns : goal.returns
 returns g c =

@@ -1,7 +1,7 @@
 use Rattle.std.proofs.Common.{List, subst}
 use Rattle.std.proofs.lemmas.List.{take_all}
 use Rattle.t1_known.proofs.FontIndex.{indexed_next}
-use Rattle.t1_known.specs.Private.Shortfalls.{AreIndexed}
+use Rattle.t1_known.specs.Private.Mismatches.{AreIndexed}
 use Rattle.t1_known.specs.declared.readings.Reading.{Reading}
 use Rattle.t1_known.proofs.readings.found.Goals as goal
 

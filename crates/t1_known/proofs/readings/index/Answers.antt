@@ -2,7 +2,7 @@ use Rattle.std.proofs.Common.{◌∙◌, ap, sym, is_some}
 use Rattle.indexmap.proofs.CallerLemmas.{insert_entry-new}
 use Rattle.t1_known.proofs.FontIndex.{indexed_before, indexed_more}
 use Rattle.t1_known.proofs.KeptRows.{is_key, none_of}
-use Rattle.t1_known.specs.Private.Shortfalls.{rows_at}
+use Rattle.t1_known.specs.Private.Mismatches.{rows_at}
 use Rattle.t1_known.proofs.readings.index.Goals as goal
 
 pub returns-then-contains_key : goal.returns-then-contains_key

@@ -1,33 +1,28 @@
-use Rattle.std.proofs.Common.{Some, refl, ◌∙◌, ap}
-use Rattle.std.proofs.lemmas.Fn.{says_at}
-use Rattle.std.specs.Fn.{FnReturnsAt}
-use Rattle.t1_many.proofs.Endings.{checks_by}
-use Rattle.t1_many.proofs.Opened.{with_waivers, without_waivers}
+use Rattle.std.proofs.Common.{Some, refl, ap}
+use Rattle.t1_many.proofs.Opened.{has_none, named_by, was_asked}
 use Rattle.t1_many.proofs.checking.check_named.Goals as goal
-use Rattle.t1_many.specs.Files.{files_by}
-
-pub check_opened-requires : goal.check_opened-requires
-check_opened-requires g c = c.requires.unbroken _ c.in-Ok.font (says_at g.O.Fn c.open_font.ensures c.in-Ok.is)
-
-pub check_opened-requires-in-Some-Ok : goal.check_opened-requires-in-Some-Ok
-check_opened-requires-in-Some-Ok g c = c.requires.unbroken _ c.in-Ok.font (says_at g.O.Fn c.open_font.ensures c.in-Ok.is)
+use Rattle.t1_many.specs.Calls.{opened_in}
+use Rattle.t1_many.specs.Files.ChecksIn.{cannot_open_waivers, with_waivers, without_waivers}
 
 pub returns-in-None : goal.returns-in-None
 returns-in-None g c =
-    let files = files_by g.R.Source.state g.V.Source.state (FnReturnsAt g.O.Fn c.args.open_font.now) (FnReturnsAt g.P.Fn c.args.open_waivers.now) in
-    checks_by g.T.Recipient.takes _ _ _ _ _ _ c.check_opened.result
-    (without_waivers files c.args.name.now _ _ _ _
-    (c.in-Ok.font, c.check_opened.new.source, says_at g.O.Fn c.open_font.ensures c.in-Ok.is, refl, refl) c.check_opened.ensures.font
-    (says_at g.P.Fn c.open_waivers.ensures c.in-None.is))
-    c.check_opened.ensures.checks
+    named_by g.T.Recipient.takes g.F.FontFiles.calls c.args.beside c.args.edition c.args.name.now _ _ _ _ _ c.check_opened-taken.result
+    (λ outcome found. without_waivers _ _ _ _ _ _ c.in-Ok.ensures.opens
+    (has_none g.F.FontFiles.calls _ c.args.name.now _ _ _ refl (rw c.asks.ensures at c.in-None.ensures))
+    c.leave_font.ensures c.check_opened-taken.ensures.font found)
+    c.check_opened-taken.ensures.checks
 
 pub returns-in-Some-Ok : goal.returns-in-Some-Ok
 returns-in-Some-Ok g c =
-    let files = files_by g.R.Source.state g.V.Source.state (FnReturnsAt g.O.Fn c.args.open_font.now) (FnReturnsAt g.P.Fn c.args.open_waivers.now) in
-    checks_by g.T.Recipient.takes _ _ _ _ _ _ c.check_opened-in-Some-Ok.result
-    (with_waivers files c.args.name.now _ _ _ _
-    (c.in-Ok.font, c.check_opened-in-Some-Ok.new.source, says_at g.O.Fn c.open_font.ensures c.in-Ok.is, refl, refl)
-    c.check_opened-in-Some-Ok.ensures.font
-    (c.in-Some-Ok.waivers, c.check_opened-in-Some-Ok.new.waivers, says_at g.P.Fn c.open_waivers.ensures (c.in-Some-Ok.is ∙ ap Some c.in-Some-Ok.field-0-is), refl, refl)
-    c.check_opened-in-Some-Ok.ensures.waivers)
-    c.check_opened-in-Some-Ok.ensures.checks
+    let asked = was_asked g.F.FontFiles.calls _ c.args.name.now _ _ _ _
+    (ap (λ (opened : _). Some (opened_in g.F.Waivers.Source.state opened)) c.in-Some-Ok.field-0-is) (rw c.asks.ensures at c.in-Some-Ok.ensures) in
+    named_by g.T.Recipient.takes g.F.FontFiles.calls c.args.beside c.args.edition c.args.name.now _ _ _ _ _ c.check_opened-taken-in-Some-Ok.result
+    (λ outcome found. with_waivers _ _ _ _ _ _ _ c.in-Ok.ensures.opens asked.0 asked.1 c.leave_font-in-Some-Ok.ensures c.leave_waivers.ensures
+    c.check_opened-taken-in-Some-Ok.ensures.font c.check_opened-taken-in-Some-Ok.ensures.waivers found)
+    c.check_opened-taken-in-Some-Ok.ensures.checks
+
+pub returns-in-Some-Err : goal.returns-in-Some-Err
+returns-in-Some-Err g c =
+    let asked = was_asked g.F.FontFiles.calls _ c.args.name.now _ _ _ _
+    (ap (λ (opened : _). Some (opened_in g.F.Waivers.Source.state opened)) c.in-Some-Err.field-0-is) (rw c.asks.ensures at c.in-Some-Err.ensures) in
+    (cannot_open_waivers _ _ _ c.in-Ok.ensures.opens asked.0 asked.1 c.leave_font-in-Some-Err.ensures refl, refl)

@@ -2,13 +2,16 @@ use Rattle.std.proofs.lemmas.Grind.{common_steps}
 use Rattle.std.proofs.Common.{arith, ◌≡◌, ◌++◌, ◌∙◌, ℕ, length, take, drop, ap, vec_len, length-append, ◌+◌}
 use Rattle.std.proofs.lemmas.List.{length-take}
 use Rattle.t1_run.specs.Input.AreUnread.{too_large}
-use Rattle.t1_run.proofs.InputLemmas.{TakesAtMost-more, Consumes-more, items-extended, not_late}
+use Rattle.t1_run.proofs.InputLemmas.{Consumes-more, items-extended, none_read, not_late, one_read}
 use Rattle.t1_run.proofs.files.read_all.Goals as goal
 
 pub returns-then-is_err-clause-taken : goal.returns-then-is_err-clause-taken
 returns-then-is_err-clause-taken g c =
-    TakesAtMost-more (c.args.most + 1) _ _ _ c.loop-turn.bytes.items _ c.loop-turn.invariant.consumed c.in-Ok.ensures.takes.bytes
-    (let held = c.loop-turn.bytes.ok.0 in omega (arith, c.in-Ok.ensures.takes.bound, length-take {A = ℕ}))
+    let held : vec_len c.loop-turn.bytes ≡ length c.loop-turn.bytes.items = c.loop-turn.bytes.ok.0 in
+    one_read (c.args.most + 1) c.loop-turn._turn (g.R.Source.state c.args.source.now) (g.R.Source.state c.loop-turn.source)
+    (g.R.Source.state c.take.new.self) c.loop-turn.bytes.items (take c.in-Ok.count c.take.new.buffer) c.loop-turn.invariant.consumed
+    c.in-Ok.ensures.takes.bytes (omega (arith, held, c.in-Ok.ensures.takes.bound, length-take {A = ℕ})) c.loop-turn.invariant.counted
+    (omega (arith, held, c.loop-turn.invariant.long)) c.in-Ok.ensures.takes.takes
 
 pub loop-turn-preserved : goal.loop-turn-preserved
 loop-turn-preserved g c =
@@ -63,7 +66,12 @@ pub returns-in-Err-clause-takes : goal.returns-in-Err-clause-takes
 returns-in-Err-clause-takes g c = grind (arith, common_steps)
 
 pub returns-in-Err-clause-taken : goal.returns-in-Err-clause-taken
-returns-in-Err-clause-taken g c = grind (arith, common_steps)
+returns-in-Err-clause-taken g c =
+    let held : vec_len c.loop-turn.bytes ≡ length c.loop-turn.bytes.items = c.loop-turn.bytes.ok.0 in
+    none_read (c.args.most + 1) c.loop-turn._turn (g.R.Source.state c.args.source.now) (g.R.Source.state c.loop-turn.source)
+    (g.R.Source.state c.take.new.self) c.loop-turn.bytes.items c.loop-turn.invariant.consumed c.in-Err.ensures.takes.bytes
+    (omega (arith, held, c.loop-turn.invariant.short)) c.loop-turn.invariant.counted
+    (omega (arith, held, c.loop-turn.invariant.long)) c.in-Err.ensures.takes.takes
 
 pub returns-in-Err-clause-stops : goal.returns-in-Err-clause-stops
 returns-in-Err-clause-stops g c = grind (arith, common_steps)
@@ -75,7 +83,12 @@ pub returns-in-Ok-eq0-clause-takes : goal.returns-in-Ok-eq0-clause-takes
 returns-in-Ok-eq0-clause-takes g c = grind (arith, common_steps)
 
 pub returns-in-Ok-eq0-clause-taken : goal.returns-in-Ok-eq0-clause-taken
-returns-in-Ok-eq0-clause-taken g c = grind (arith, common_steps)
+returns-in-Ok-eq0-clause-taken g c =
+    let held : vec_len c.loop-turn.bytes ≡ length c.loop-turn.bytes.items = c.loop-turn.bytes.ok.0 in
+    one_read (c.args.most + 1) c.loop-turn._turn (g.R.Source.state c.args.source.now) (g.R.Source.state c.loop-turn.source)
+    (g.R.Source.state c.take.new.self) c.loop-turn.bytes.items (take c.in-Ok-eq0.field-0 c.take.new.buffer) c.loop-turn.invariant.consumed
+    c.in-Ok-eq0.ensures.takes.bytes (omega (arith, held, c.in-Ok-eq0.ensures.takes.bound, length-take {A = ℕ})) c.loop-turn.invariant.counted
+    (omega (arith, held, c.loop-turn.invariant.long)) c.in-Ok-eq0.ensures.takes.takes
 
 pub returns-in-Ok-eq0-clause-stops : goal.returns-in-Ok-eq0-clause-stops
 returns-in-Ok-eq0-clause-stops g c = grind (arith, common_steps)
@@ -99,7 +112,12 @@ pub returns-then-len-most-clause-takes : goal.returns-then-len-most-clause-takes
 returns-then-len-most-clause-takes g c = grind (arith, common_steps)
 
 pub returns-then-len-most-clause-taken : goal.returns-then-len-most-clause-taken
-returns-then-len-most-clause-taken g c = grind (arith, common_steps)
+returns-then-len-most-clause-taken g c =
+    let held : vec_len c.loop-turn.bytes ≡ length c.loop-turn.bytes.items = c.loop-turn.bytes.ok.0 in
+    one_read (c.args.most + 1) c.loop-turn._turn (g.R.Source.state c.args.source.now) (g.R.Source.state c.loop-turn.source)
+    (g.R.Source.state c.take.new.self) c.loop-turn.bytes.items (take c.in-Ok.count c.take.new.buffer) c.loop-turn.invariant.consumed
+    c.in-Ok.ensures.takes.bytes (omega (arith, held, c.in-Ok.ensures.takes.bound, length-take {A = ℕ})) c.loop-turn.invariant.counted
+    (omega (arith, held, c.loop-turn.invariant.long)) c.in-Ok.ensures.takes.takes
 
 pub returns-then-len-most-clause-stops : goal.returns-then-len-most-clause-stops
 returns-then-len-most-clause-stops g c = grind (arith, common_steps)

@@ -1,4 +1,4 @@
-use Rattle.std.proofs.Common.{[], inl, inr, map, refl, subst, sym}
+use Rattle.std.proofs.Common.{inl, inr, map, refl, subst, sym}
 use Rattle.clap.specs.Kinds.{HasKind, IsAmong, Kinds}
 use Rattle.clap.specs.Words.{app_of, fault_of, kind_of}
 use Rattle.t1_run.specs.Words.{IsHelpOrMemory}

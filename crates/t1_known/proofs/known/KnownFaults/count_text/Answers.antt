@@ -3,7 +3,7 @@ use Rattle.std.proofs.Math.Logic.{∥∥₁_elim}
 use mathlib.Core.Bool.{Bool-set}
 use denote.Struct.Props.{props}
 use Rattle.t1_known.proofs.KeptRows.{found_row, text_found, text_nowhere}
-use Rattle.t1_known.specs.Private.Shortfalls.{count_text}
+use Rattle.t1_known.specs.Private.Mismatches.{count_text}
 use Rattle.t1_many.specs.KnownFaults.{RowValue}
 use Rattle.t1_known.proofs.known.KnownFaults.count_text.Goals as goal
 

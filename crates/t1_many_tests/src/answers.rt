@@ -1,0 +1,319 @@
+//! What t1check-all returns for its words, and which files are replaced.
+
+use crate::files::{File, Files, Folder};
+use crate::fonts::{FOUR_FAULTS, font_with};
+use std::alloc::{AllocError, Global};
+use std::test::Fail;
+use t1_answer_all::{NewFile, Replacements, answer, replace_files};
+use t1_io::Out;
+use t1_run::Status;
+use t1_waiving::{FontWaivers, Kept};
+
+/// Words, and what is returned for them.
+#[derive(Clone, Copy)]
+struct Case<'a> {
+    words: &'a [&'a str],
+    status: Status,
+    text: &'a [u8],
+    told: &'a [u8],
+    /// What is called of the files.
+    calls: &'a [u8],
+    /// The files that are replaced.
+    replaced: &'a [u8],
+}
+
+/// A list, rows of known faults, rows of which one is none, and a list without a word.
+const TEXTS: &[File<'static>] = &[
+    ("list", b"a.pfb\n\xff.pfb\n"),
+    (
+        "rows",
+        b"1 H02 glyph A b.pfb\n5 P03 glyph A a.pfb\n2 P03 glyph B b.pfb\n",
+    ),
+    ("known", b"3 H02 glyph A a.pfb\nnonsense\n"),
+    ("empty", b"\n"),
+];
+
+const FOLDERS: &[Folder<'static>] = &[("fonts", &["b.pfb", "a.pfb"])];
+
+const WAIVERS: &[File<'static>] = &[("a.pfb", b"A H02\n")];
+
+/// Whether words are answered so over these fonts.
+fn is_answered<'a>(alloc: Global, fonts: &'a [File<'a>], case: &Case<'_>) -> bool {
+    let mut files = Files::new(alloc, fonts, WAIVERS).with_texts(TEXTS, FOLDERS);
+    let mut text = Vec::new(alloc);
+    let mut told = Vec::new(alloc);
+    let status = answer(
+        alloc,
+        case.words,
+        b"t1check-all\n",
+        &mut files,
+        Out::new(&mut text),
+        Out::new(&mut told),
+    )
+    .status;
+    status == case.status
+        && text.as_slice() == case.text
+        && told.as_slice() == case.told
+        && files.calls.as_slice() == case.calls
+        && files.replaced.as_slice() == case.replaced
+}
+
+/// Words of the command line come first, then those of lists; one of a list isn't UTF-8.
+const LISTED: Case<'static> = Case {
+    words: &[
+        "t1check-all",
+        "-q",
+        "--only",
+        "P03",
+        "--files-from",
+        "list",
+        "b.pfb",
+    ],
+    status: Status::Failed,
+    text: b"\
+b.pfb: 4: glyph A - 4 P03 closepath without a path
+a.pfb: 4: glyph A - 4 P03 closepath without a path
+",
+    told: b"t1check-all: a name that is not UTF-8 is passed over\n",
+    calls: b"\
+open font b.pfb
+open waivers b.pfb
+leave font b.pfb
+open font a.pfb
+open waivers a.pfb
+leave font a.pfb
+leave waivers a.pfb
+",
+    replaced: b"",
+};
+
+/// A folder stands for its fonts, in the order of their names. Each is opened once, and no waivers are, where these are left aside.
+const FOLDER: Case<'static> = Case {
+    words: &[
+        "t1check-all",
+        "--no-waivers",
+        "--only",
+        "P03",
+        "fonts",
+        "fonts/b.pfb",
+    ],
+    status: Status::Faults,
+    text: b"\
+fonts/a.pfb: 4: glyph A - 4 P03 closepath without a path
+fonts/b.pfb: 4: glyph A - 4 P03 closepath without a path
+",
+    told: b"\
+2 fonts: 0 clean, 2 with faults, 0 refused, 0 not checked
+      2 P03 closepath without a path (tidy)
+",
+    calls: b"\
+expect 2
+open font fonts/a.pfb
+leave font fonts/a.pfb
+open font fonts/b.pfb
+leave font fonts/b.pfb
+",
+    replaced: b"",
+};
+
+/// Waivers that are written replace files after all fonts, but beside standard input.
+const WRITTEN: Case<'static> = Case {
+    words: &[
+        "t1check-all",
+        "-q",
+        "--write-waivers",
+        "--only",
+        "P03",
+        "a.pfb",
+        "-",
+    ],
+    status: Status::Faults,
+    text: b"-: 4: glyph A - 4 P03 closepath without a path\n",
+    told: b"t1check-all: lines of a font itself can not be waived\n",
+    calls: b"\
+open font a.pfb
+leave font a.pfb
+open font -
+leave font -
+",
+    replaced: b"a.pfb.waivers=A P03\n",
+};
+
+/// A file of known faults is made anew: what is found comes in the place of the row of P03. The row of H02, which isn't reported, stays, and so
+/// does that of a font that isn't checked.
+const ANEW: Case<'static> = Case {
+    words: &[
+        "t1check-all",
+        "--baseline",
+        "rows",
+        "--update-baseline",
+        "--only",
+        "P03",
+        "b.pfb",
+    ],
+    status: Status::Clean,
+    text: b"",
+    told: b"\
+1 font: 0 clean, 1 with known faults alone, 0 with faults, 0 refused, 0 not checked
+known faults: 3 rows
+",
+    calls: b"\
+expect 1
+open font b.pfb
+open waivers b.pfb
+leave font b.pfb
+",
+    replaced: b"\
+rows=# Known faults: count, rule, unit, font.
+1 H02 glyph A b.pfb
+5 P03 glyph A a.pfb
+1 P03 glyph A b.pfb
+",
+};
+
+/// The version is given as it is.
+const VERSION: Case<'static> = Case {
+    words: &["t1check-all", "--version"],
+    status: Status::Clean,
+    text: b"t1check-all\n",
+    told: b"",
+    calls: b"",
+    replaced: b"",
+};
+
+/// Each run, with the files that it replaces.
+#[test]
+fn returns_runs(rt: HostRuntime) -> Result<(), Fail> {
+    let faulty = font_with(rt.alloc(), FOUR_FAULTS)?;
+    let fonts = [
+        ("b.pfb", faulty.as_slice()),
+        ("a.pfb", faulty.as_slice()),
+        ("fonts/a.pfb", faulty.as_slice()),
+        ("fonts/b.pfb", faulty.as_slice()),
+        ("-", faulty.as_slice()),
+    ];
+    for case in [LISTED, FOLDER, WRITTEN, ANEW, VERSION] {
+        assert!(rt; is_answered(rt.alloc(), &fonts, &case), "{:?}", case.words);
+    }
+    Ok(())
+}
+
+/// Words, and what is wrong with them, after which nothing is opened.
+const WRONG: &[(&[&str], &[u8])] = &[
+    (
+        &[
+            "t1check-all",
+            "--baseline",
+            "known",
+            "--files-from",
+            "nowhere",
+        ],
+        b"t1check-all: known: no row of known faults: nonsense\n",
+    ),
+    (
+        &["t1check-all", "--files-from", "nowhere", "a.pfb"],
+        b"\
+t1check-all: nowhere can't be read: no such file is found
+t1check-all: 't1check-all --help' says how it is used
+",
+    ),
+    (
+        &["t1check-all", "--files-from", "empty"],
+        b"\
+t1check-all: there is no font to check
+t1check-all: 't1check-all --help' says how it is used
+",
+    ),
+];
+
+/// What is wrong first is printed: known faults, then a list that can't be read, then that there is no font.
+#[test]
+fn reports_what_is_wrong(rt: HostRuntime) {
+    for (words, told) in WRONG {
+        let case = Case {
+            words,
+            status: Status::Failed,
+            text: b"",
+            told,
+            calls: b"",
+            replaced: b"",
+        };
+        assert!(rt; is_answered(rt.alloc(), &[], &case), "{words:?}");
+    }
+}
+
+/// Waivers of a font, to be written.
+fn waivers_for(alloc: Global, names: &[&str]) -> Result<Kept, AllocError> {
+    let mut kept = Kept::new(alloc);
+    for name in names {
+        kept.keep(FontWaivers {
+            name: String::from_str(alloc, name)?,
+            text: Some(Vec::from_slice(alloc, b"A H02\n")?),
+        })?;
+    }
+    Ok(kept)
+}
+
+/// Waivers that are there already are kept, which is printed, and those of the next font are written.
+#[test]
+fn keeps_waivers_that_are_there(rt: HostRuntime) -> Result<(), Fail> {
+    let left = Replacements {
+        status: Status::Clean,
+        known_faults: None,
+        waivers: Some(waivers_for(rt.alloc(), &["a.pfb", "b.pfb"])?),
+        overwrites: false,
+    };
+    let mut files = Files::new(rt.alloc(), &[], &[]).with_there("a.pfb.waivers");
+    let mut told = Vec::new(rt.alloc());
+    let status = replace_files(rt.alloc(), &left, &mut files, &mut Out::new(&mut told));
+    assert_eq!(rt; status, Status::Failed);
+    assert!(rt; files.replaced.as_slice() == b"b.pfb.waivers=A H02\n".as_slice());
+    assert!(rt;
+        told.as_slice() == b"a.pfb: waivers are there already; --force overwrites them\n".as_slice()
+    );
+    Ok(())
+}
+
+/// A file that can't be replaced is reported, and the waivers are overwritten all the same.
+#[test]
+fn reports_what_can_not_be_replaced(rt: HostRuntime) -> Result<(), Fail> {
+    let left = Replacements {
+        status: Status::Faults,
+        known_faults: Some(NewFile {
+            name: String::from_str(rt.alloc(), "known")?,
+            text: Vec::from_slice(rt.alloc(), b"rows")?,
+        }),
+        waivers: Some(waivers_for(rt.alloc(), &["a.pfb"])?),
+        overwrites: true,
+    };
+    let mut files = Files::new(rt.alloc(), &[], &[])
+        .with_there("a.pfb.waivers")
+        .with_locked("known");
+    let mut told = Vec::new(rt.alloc());
+    let status = replace_files(rt.alloc(), &left, &mut files, &mut Out::new(&mut told));
+    assert_eq!(rt; status, Status::Failed);
+    assert!(rt; files.replaced.as_slice() == b"a.pfb.waivers=A H02\n".as_slice());
+    assert!(rt; told.as_slice() == b"t1check-all: known can't be written\n".as_slice());
+    Ok(())
+}
+
+/// Where all is replaced the status stays, and nothing is printed.
+#[test]
+fn replaces_what_is_left(rt: HostRuntime) -> Result<(), Fail> {
+    let left = Replacements {
+        status: Status::Faults,
+        known_faults: Some(NewFile {
+            name: String::from_str(rt.alloc(), "known")?,
+            text: Vec::from_slice(rt.alloc(), b"rows\n")?,
+        }),
+        waivers: None,
+        overwrites: false,
+    };
+    let mut files = Files::new(rt.alloc(), &[], &[]).with_there("known");
+    let mut told = Vec::new(rt.alloc());
+    let status = replace_files(rt.alloc(), &left, &mut files, &mut Out::new(&mut told));
+    assert_eq!(rt; status, Status::Faults);
+    assert!(rt; files.replaced.as_slice() == b"known=rows\n".as_slice());
+    assert!(rt; told.is_empty());
+    Ok(())
+}

@@ -1,0 +1,184 @@
+//! What is written of known faults and of readings.
+
+use std::process::Abort;
+use std::test::Fail;
+use t1_io::{Fuse, Limit, Out};
+use t1_known::{KnownFaults, Reading, write_mismatches, write_updated};
+use t1_many::Lost;
+
+/// Of `gone.pfb` no report was made.
+const FILE: &[u8] = b"\
+# A comment goes.
+3 H02 glyph A a.pfb
+1 Z04 font BlueValues gone.pfb
+10 H02 glyph B a.pfb
+1 P03 glyph A a.pfb
+1 H99 glyph A a.pfb
+1 H02 glyph A b.pfb
+99999999999999999999999 Z04 font BlueValues a.pfb
+";
+
+/// What was found. Nothing was found in `b.pfb`, and `new.pfb` has no row.
+const READINGS: &[Reading<'static>] = &[
+    Reading {
+        font: "a.pfb",
+        rows: b"2 H02 glyph A a.pfb\n9 H02 glyph B a.pfb\n1 P03 glyph A a.pfb\n1 H01 glyph C a.pfb\n",
+    },
+    Reading {
+        font: "new.pfb",
+        rows: b"1 H02 glyph A new.pfb\n",
+    },
+    Reading {
+        font: "b.pfb",
+        rows: b"",
+    },
+];
+
+/// What is written anew where all rules are reported.
+const ALL_ANEW: &[u8] = b"\
+# Known faults: count, rule, unit, font.
+2 H02 glyph A a.pfb
+9 H02 glyph B a.pfb
+1 P03 glyph A a.pfb
+1 H01 glyph C a.pfb
+1 Z04 font BlueValues gone.pfb
+1 H02 glyph A new.pfb
+";
+
+/// What is written anew where no rule of Z is reported.
+const SOME_ANEW: &[u8] = b"\
+# Known faults: count, rule, unit, font.
+2 H02 glyph A a.pfb
+9 H02 glyph B a.pfb
+1 P03 glyph A a.pfb
+1 H01 glyph C a.pfb
+1 Z04 font BlueValues gone.pfb
+99999999999999999999999 Z04 font BlueValues a.pfb
+1 H02 glyph A new.pfb
+";
+
+/// The file anew.
+fn anew(rt: &HostRuntime, text: &mut Vec<u8>, only: &[&[u8]], except: &[&[u8]]) -> bool {
+    let Ok(known) = KnownFaults::read(rt.alloc(), FILE) else {
+        return false;
+    };
+    write_updated(
+        rt.alloc(),
+        &mut Out::new(text),
+        &known,
+        READINGS,
+        only,
+        except,
+    )
+    .is_ok()
+}
+
+#[test]
+fn rows_stay_go_and_come(rt: HostRuntime) -> Result<(), Fail> {
+    let mut text = Vec::new(rt.alloc());
+    assert!(rt; anew(&rt, &mut text, &[], &[]));
+    assert!(rt; text.as_slice() == ALL_ANEW);
+    let mut text = Vec::new(rt.alloc());
+    assert!(rt; anew(&rt, &mut text, &[b"H", b"P03"], &[]));
+    assert!(rt; text.as_slice() == SOME_ANEW);
+    let mut text = Vec::new(rt.alloc());
+    assert!(rt; anew(&rt, &mut text, &[], &[b"Z"]));
+    assert!(rt; text.as_slice() == SOME_ANEW);
+    Ok(())
+}
+
+#[test]
+fn a_sink_that_fails_ends_the_writing(rt: HostRuntime) {
+    let Ok(known) = KnownFaults::read(rt.alloc(), FILE) else {
+        panic!(rt; "the file isn't read");
+    };
+    let mut text = Vec::new(rt.alloc());
+    let mut sink = Fuse::sink(Out::new(&mut text), Limit::Bytes(100));
+    let written = write_updated(rt.alloc(), &mut sink, &known, READINGS, &[], &[]);
+    drop(sink);
+    assert!(rt; written == Err(Lost::Device));
+    assert!(rt; text.as_slice() == &ALL_ANEW[..100]);
+}
+
+/// Fewer are found than known.
+const FEW_READINGS: &[Reading<'static>] = &[
+    Reading {
+        font: "a.pfb",
+        rows: b"2 H02 glyph A a.pfb\n9 H02 glyph B a.pfb\n1 P03 glyph A a.pfb\n",
+    },
+    Reading {
+        font: "b.pfb",
+        rows: b"",
+    },
+];
+
+/// What is reported of few. 9 is less than 10 as a number, and not as a text.
+const FEW: &[u8] = b"\
+a.pfb: known faults: H02 glyph A: 3 known, 2 found
+a.pfb: known faults: H02 glyph B: 10 known, 9 found
+a.pfb: known faults: H99 glyph A: 1 known, 0 found
+b.pfb: known faults: H02 glyph A: 1 known, 0 found
+a.pfb: known faults: Z04 font BlueValues: 99999999999999999999999 known, 0 found
+";
+
+/// The same where no rule of H is reported.
+const FEW_BUT_H: &[u8] =
+    b"a.pfb: known faults: Z04 font BlueValues: 99999999999999999999999 known, 0 found\n";
+
+/// More are found than known, but as many of H02 in B, of H99 and in `b.pfb`. H01 has no row, and so `new.pfb` has none.
+const MORE_READINGS: &[Reading<'static>] = &[
+    Reading {
+        font: "a.pfb",
+        rows: b"4 H02 glyph A a.pfb\n10 H02 glyph B a.pfb\n11 P03 glyph A a.pfb\n1 H01 glyph C a.pfb\n1 H99 glyph A a.pfb\n",
+    },
+    Reading {
+        font: "new.pfb",
+        rows: b"1 H02 glyph A new.pfb\n",
+    },
+    Reading {
+        font: "b.pfb",
+        rows: b"1 H02 glyph A b.pfb\n",
+    },
+];
+
+/// What is reported of more. No number of 64 bits is as great as that of Z04.
+const MORE: &[u8] = b"\
+a.pfb: known faults: H02 glyph A: 3 known, 4 found
+a.pfb: known faults: P03 glyph A: 1 known, 11 found
+a.pfb: known faults: Z04 font BlueValues: 99999999999999999999999 known, 0 found
+";
+
+/// The same where no rule of H is reported.
+const MORE_BUT_H: &[u8] = b"\
+a.pfb: known faults: P03 glyph A: 1 known, 11 found
+a.pfb: known faults: Z04 font BlueValues: 99999999999999999999999 known, 0 found
+";
+
+/// Whether these lines are written of readings where no rule of these words is reported.
+fn are_written(rt: &HostRuntime, readings: &[Reading<'_>], except: &[&[u8]], lines: &[u8]) -> bool {
+    let Ok(known) = KnownFaults::read(rt.alloc(), FILE) else {
+        return false;
+    };
+    let mut text = Vec::new(rt.alloc());
+    let written = write_mismatches(
+        rt.alloc(),
+        &mut Out::new(&mut text),
+        &known,
+        readings,
+        &[],
+        except,
+    );
+    written.is_ok() && text.as_slice() == lines
+}
+
+/// Each row of whose kind fewer or more were found is reported. A kind without a row isn't.
+#[test]
+fn what_differs_from_rows_is_reported(rt: HostRuntime) {
+    for (readings, all, but_h) in [
+        (FEW_READINGS, FEW, FEW_BUT_H),
+        (MORE_READINGS, MORE, MORE_BUT_H),
+    ] {
+        assert!(rt; are_written(&rt, readings, &[], all));
+        assert!(rt; are_written(&rt, readings, &[b"H"], but_h));
+    }
+}

@@ -1,0 +1,152 @@
+//! Which files are opened and left, and in which order.
+
+use crate::files::{File, Files};
+use crate::fonts::{FOUR_FAULTS, font_with, names_of};
+use std::alloc::{AllocError, Global};
+use std::test::Fail;
+use t1_char::Edition;
+use t1_io::Out;
+use t1_many::{Plain, Telling, WaiverFiles, tell_all, told_rules};
+
+/// The names of fonts, and what comes of their check.
+#[derive(Clone, Copy)]
+struct Case<'a> {
+    names: &'a [&'a str],
+    beside: WaiverFiles,
+    /// The calls, in their order.
+    calls: &'a [u8],
+    /// The lines of the fonts.
+    text: &'a [u8],
+    /// What is printed on standard error.
+    told: &'a [u8],
+}
+
+/// Each font is opened once, then its waivers, if it may have some; both are left before the next one is opened. `plain.pfb` has none, the font
+/// `absent.pfb` isn't there, and the waivers of `locked.pfb` can't be opened.
+const READ: Case<'static> = Case {
+    names: &["plain.pfb", "waived.pfb", "absent.pfb", "locked.pfb"],
+    beside: WaiverFiles::Read,
+    calls: b"\
+open font plain.pfb
+open waivers plain.pfb
+leave font plain.pfb
+open font waived.pfb
+open waivers waived.pfb
+leave font waived.pfb
+leave waivers waived.pfb
+open font absent.pfb
+open font locked.pfb
+open waivers locked.pfb
+leave font locked.pfb
+",
+    text: b"plain.pfb: 4: glyph A - 4 P03 closepath without a path\n",
+    told: b"\
+absent.pfb: t1check: read failed
+locked.pfb: t1check: read failed
+",
+};
+
+/// Standard input has no waivers: a file `-.waivers` isn't its. A file called `-` is `./-`, which has.
+const INPUT: Case<'static> = Case {
+    names: &["-", "./-"],
+    beside: WaiverFiles::Read,
+    calls: b"\
+open font -
+leave font -
+open font ./-
+open waivers ./-
+leave font ./-
+leave waivers ./-
+",
+    text: b"-: 4: glyph A - 4 P03 closepath without a path\n",
+    told: b"",
+};
+
+/// Where waivers are left aside none is opened, not even of a font whose waivers can't be.
+const ASIDE: Case<'static> = Case {
+    names: &["waived.pfb", "-", "locked.pfb"],
+    beside: WaiverFiles::LeftAside,
+    calls: b"\
+open font waived.pfb
+leave font waived.pfb
+open font -
+leave font -
+open font locked.pfb
+leave font locked.pfb
+",
+    text: b"\
+waived.pfb: 4: glyph A - 4 P03 closepath without a path
+-: 4: glyph A - 4 P03 closepath without a path
+locked.pfb: 4: glyph A - 4 P03 closepath without a path
+",
+    told: b"",
+};
+
+/// Without a font nothing is opened.
+const NONE: Case<'static> = Case {
+    names: &[],
+    beside: WaiverFiles::Read,
+    calls: b"",
+    text: b"",
+    told: b"",
+};
+
+/// Whether that comes of a check of these fonts, of which P03 is reported.
+fn comes_of<'a>(
+    alloc: Global,
+    fonts: &'a [File<'a>],
+    waivers: &'a [File<'a>],
+    case: &Case<'_>,
+) -> Result<bool, AllocError> {
+    let names = names_of(alloc, case.names)?;
+    let mut files = Files::new(alloc, fonts, waivers).with_locked("locked.pfb");
+    let mut text = Vec::new(alloc);
+    let mut told = Vec::new(alloc);
+    let mut telling = Telling {
+        rules: told_rules(&[b"P03"], &[]),
+        form: Plain {
+            reasons: false,
+            out: Out::new(&mut text),
+            errors: Out::new(&mut told),
+        },
+    };
+    let _ = tell_all(
+        alloc,
+        names.as_slice(),
+        case.beside,
+        &mut files,
+        Edition::One,
+        &mut telling,
+    );
+    drop(telling);
+    Ok(
+        files.calls.as_slice() == case.calls
+            && text.as_slice() == case.text
+            && told.as_slice() == case.told,
+    )
+}
+
+#[test]
+fn opens_and_leaves_each_file_once(rt: HostRuntime) -> Result<(), Fail> {
+    let faulty = font_with(rt.alloc(), FOUR_FAULTS)?;
+    let fonts = [
+        ("plain.pfb", faulty.as_slice()),
+        ("waived.pfb", faulty.as_slice()),
+        ("locked.pfb", faulty.as_slice()),
+        ("-", faulty.as_slice()),
+        ("./-", faulty.as_slice()),
+    ];
+    let waivers: &[File<'_>] = &[
+        ("waived.pfb", b"A P03\n"),
+        ("-", b"A P03\n"),
+        ("./-", b"A P03\n"),
+    ];
+    for case in [READ, INPUT, ASIDE, NONE] {
+        assert!(rt;
+            comes_of(rt.alloc(), &fonts, waivers, &case)?,
+            "{:?}",
+            case.names
+        );
+    }
+    Ok(())
+}

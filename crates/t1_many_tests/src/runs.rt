@@ -1,0 +1,450 @@
+//! Whole runs: what they write, and what is left to do after them.
+
+use crate::files::{File, Files};
+use crate::fonts::{CUT, FIVE_FAULTS, FOUR_FAULTS, font_with, names_of};
+use std::alloc::{AllocError, Global};
+use std::test::Fail;
+use t1_batch::{Fonts, Layout, Left, Mode, Output, Ran, Selection, Unlisted, Wanted, run};
+use t1_char::Edition;
+use t1_io::{Broken, Fuse, Limit, Out, Sink};
+use t1_known::KnownFaults;
+use t1_many::{WaiverFiles, told_rules};
+use t1_run::Status;
+use t1_samples::Sample;
+
+/// The codes of the rules that are reported, of those that aren't all the same, and of those whose lines make the status 1; without any, all
+/// are.
+#[derive(Clone, Copy)]
+struct Codes<'a> {
+    only: &'a [&'a [u8]],
+    except: &'a [&'a [u8]],
+    failing: &'a [&'a [u8]],
+}
+
+/// How fonts are checked, and what is printed of them.
+#[derive(Clone, Copy)]
+struct Asked<'a> {
+    codes: Codes<'a>,
+    mode: Mode<'a>,
+    output: Output<'a>,
+    quiet: bool,
+}
+
+/// Lines are written as `NAME: LINE`, and all fonts could be listed.
+fn plain<'a>() -> Output<'a> {
+    Output {
+        layout: Layout::Lines { reasons: false },
+        unlisted: Unlisted {
+            undecoded: 0,
+            passed_over: 0,
+            unsearched: &[],
+        },
+    }
+}
+
+/// P03 alone is reported.
+const P03_ALONE: Codes<'static> = Codes {
+    only: &[b"P03"],
+    except: &[],
+    failing: &[],
+};
+
+/// All rules but C07 are reported.
+const ALL_BUT_C07: Codes<'static> = Codes {
+    only: &[],
+    except: &[b"C07"],
+    failing: &[],
+};
+
+/// Checks the fonts of these names, and returns what is left to do.
+fn run_over<'a, W: Sink + Drop, E: Sink + Drop>(
+    alloc: Global,
+    names: &[&str],
+    fonts: &'a [File<'a>],
+    asked: Asked<'_>,
+    out: W,
+    errors: E,
+) -> Result<Left, AllocError> {
+    let names = names_of(alloc, names)?;
+    let mut files = Files::new(alloc, fonts, &[]);
+    let fonts = Fonts {
+        names: names.as_slice(),
+        beside: WaiverFiles::Read,
+    };
+    let selection = Selection {
+        edition: Edition::One,
+        rules: told_rules(asked.codes.only, asked.codes.except),
+        mode: asked.mode,
+    };
+    let wanted = Wanted {
+        only: asked.codes.only,
+        except: asked.codes.except,
+        failing: told_rules(asked.codes.failing, &[]),
+    };
+    let Ran {
+        left,
+        out: _out,
+        errors: _errors,
+    } = run(
+        alloc,
+        fonts,
+        &mut files,
+        selection,
+        asked.output,
+        wanted,
+        asked.quiet,
+        out,
+        errors,
+    );
+    Ok(left)
+}
+
+/// One font has a P03, one is refused and one isn't there.
+#[test]
+fn prints_lines_and_the_summary(rt: HostRuntime) -> Result<(), Fail> {
+    let faulty = font_with(rt.alloc(), FOUR_FAULTS)?;
+    let files = [("faulty.pfb", faulty.as_slice()), ("cut.pfa", CUT)];
+    let mut text = Vec::new(rt.alloc());
+    let mut told = Vec::new(rt.alloc());
+    let asked = Asked {
+        codes: P03_ALONE,
+        mode: Mode::Told,
+        output: plain(),
+        quiet: false,
+    };
+    let left = run_over(
+        rt.alloc(),
+        &["faulty.pfb", "cut.pfa", "absent.pfb"],
+        &files,
+        asked,
+        Out::new(&mut text),
+        Out::new(&mut told),
+    )?;
+    assert_eq!(rt; left.status, Status::Failed);
+    assert!(rt; left.known_faults.is_none());
+    let lines = b"\
+faulty.pfb: 4: glyph A - 4 P03 closepath without a path
+cut.pfa: refused: E04 no eexec
+";
+    assert!(rt; text.as_slice() == lines.as_slice());
+    let lines = b"\
+absent.pfb: t1check: read failed
+3 fonts: 0 clean, 1 with faults, 1 refused, 1 not checked
+      1 P03 closepath without a path (tidy)
+";
+    assert!(rt; told.as_slice() == lines.as_slice());
+    Ok(())
+}
+
+/// The status of a run over the faulty font where lines of these rules make it 1.
+fn status_failing(
+    alloc: Global,
+    files: &[File<'_>],
+    failing: &[&[u8]],
+) -> Result<Status, AllocError> {
+    let asked = Asked {
+        codes: Codes {
+            only: &[],
+            except: &[b"C07"],
+            failing,
+        },
+        mode: Mode::Told,
+        output: plain(),
+        quiet: true,
+    };
+    let mut text = Vec::new(alloc);
+    let mut told = Vec::new(alloc);
+    let (out, errors) = (Out::new(&mut text), Out::new(&mut told));
+    Ok(run_over(alloc, &["faulty.pfb"], files, asked, out, errors)?.status)
+}
+
+/// A line makes the status 1 where its rule does, and is reported.
+#[test]
+fn some_rules_make_the_status(rt: HostRuntime) -> Result<(), Fail> {
+    let faulty = font_with(rt.alloc(), FOUR_FAULTS)?;
+    let files = [("faulty.pfb", faulty.as_slice())];
+    for (failing, status) in [
+        ([b"P03".as_slice(), b"H02"], Status::Faults),
+        ([b"C07", b"H02"], Status::Clean),
+    ] {
+        let found = status_failing(rt.alloc(), &files, &failing)?;
+        assert_eq!(rt; found, status);
+    }
+    Ok(())
+}
+
+/// A row for each kind that is found, and one of H02, which isn't.
+const KNOWN: &[u8] = b"\
+1 P03 glyph A faulty.pfb
+1 H02 glyph A faulty.pfb
+1 C05 glyph A faulty.pfb
+1 W01 glyph A faulty.pfb
+";
+
+/// Checks the faulty font: lines beyond these known faults are written.
+fn run_beyond<'a, W: Sink + Drop, E: Sink + Drop>(
+    alloc: Global,
+    files: &'a [File<'a>],
+    known: &KnownFaults<'_>,
+    out: W,
+    errors: E,
+) -> Result<Left, AllocError> {
+    let asked = Asked {
+        codes: ALL_BUT_C07,
+        mode: Mode::Beyond(known),
+        output: plain(),
+        quiet: false,
+    };
+    run_over(alloc, &["faulty.pfb"], files, asked, out, errors)
+}
+
+/// No line goes beyond the known faults, and the row of H02 is no longer reached.
+#[test]
+fn reports_what_is_no_longer_reached(rt: HostRuntime) -> Result<(), Fail> {
+    let faulty = font_with(rt.alloc(), FOUR_FAULTS)?;
+    let files = [("faulty.pfb", faulty.as_slice())];
+    let Ok(known) = KnownFaults::read(rt.alloc(), KNOWN) else {
+        return Err(Fail::from(Broken));
+    };
+    let mut text = Vec::new(rt.alloc());
+    let mut told = Vec::new(rt.alloc());
+    let left = run_beyond(
+        rt.alloc(),
+        &files,
+        &known,
+        Out::new(&mut text),
+        Out::new(&mut told),
+    )?;
+    assert_eq!(rt; left.status, Status::Clean);
+    assert!(rt; left.known_faults.is_none());
+    assert!(rt; text.is_empty());
+    let lines = b"\
+faulty.pfb: known faults: H02 glyph A: 1 known, 0 found
+1 font: 0 clean, 1 with known faults alone, 0 with faults, 0 refused, 0 not checked
+";
+    assert!(rt; told.as_slice() == lines.as_slice());
+    Ok(())
+}
+
+/// A row of which more are found, and one of which fewer are. Of W01, a new kind, there is none.
+const KNOWN_OTHERWISE: &[u8] = b"\
+1 P03 glyph A faulty.pfb
+3 C05 glyph A faulty.pfb
+";
+
+/// More and fewer than known are reported after the lines beyond, which are those of W01 and both of P03; a new kind isn't.
+#[test]
+fn reports_what_is_not_as_known(rt: HostRuntime) -> Result<(), Fail> {
+    let faulty = font_with(rt.alloc(), FIVE_FAULTS)?;
+    let files = [("faulty.pfb", faulty.as_slice())];
+    let Ok(known) = KnownFaults::read(rt.alloc(), KNOWN_OTHERWISE) else {
+        return Err(Fail::from(Broken));
+    };
+    let mut text = Vec::new(rt.alloc());
+    let mut told = Vec::new(rt.alloc());
+    let left = run_beyond(
+        rt.alloc(),
+        &files,
+        &known,
+        Out::new(&mut text),
+        Out::new(&mut told),
+    )?;
+    assert_eq!(rt; left.status, Status::Faults);
+    let lines = b"\
+faulty.pfb: 3: glyph A - 3 W01 hsbw or sbw not first
+faulty.pfb: 4: glyph A - 4 P03 closepath without a path
+faulty.pfb: 5: glyph A - 5 P03 closepath without a path
+";
+    assert!(rt; text.as_slice() == lines.as_slice());
+    let lines = b"\
+faulty.pfb: known faults: P03 glyph A: 1 known, 2 found
+faulty.pfb: known faults: C05 glyph A: 3 known, 1 found
+1 font: 0 clean, 0 with known faults alone, 1 with faults, 0 refused, 0 not checked
+      2 P03 closepath without a path (tidy)
+      1 W01 hsbw or sbw not first (must)
+";
+    assert!(rt; told.as_slice() == lines.as_slice());
+    Ok(())
+}
+
+/// Checks the faulty font: its faults replace these known ones.
+fn run_anew<'a, W: Sink + Drop, E: Sink + Drop>(
+    alloc: Global,
+    files: &'a [File<'a>],
+    known: &KnownFaults<'_>,
+    out: W,
+    errors: E,
+) -> Result<Left, AllocError> {
+    let asked = Asked {
+        codes: ALL_BUT_C07,
+        mode: Mode::Anew(known),
+        output: plain(),
+        quiet: false,
+    };
+    run_over(alloc, &["faulty.pfb"], files, asked, out, errors)
+}
+
+/// Rows are in the order of each kind's first fault. The row of H02 goes.
+#[test]
+fn leaves_known_faults(rt: HostRuntime) -> Result<(), Fail> {
+    let faulty = font_with(rt.alloc(), FOUR_FAULTS)?;
+    let files = [("faulty.pfb", faulty.as_slice())];
+    let Ok(known) = KnownFaults::read(rt.alloc(), KNOWN) else {
+        return Err(Fail::from(Broken));
+    };
+    let mut text = Vec::new(rt.alloc());
+    let mut told = Vec::new(rt.alloc());
+    let left = run_anew(
+        rt.alloc(),
+        &files,
+        &known,
+        Out::new(&mut text),
+        Out::new(&mut told),
+    )?;
+    let Left {
+        status,
+        known_faults,
+        waivers: _waivers,
+    } = left;
+    assert_eq!(rt; status, Status::Clean);
+    assert!(rt; text.is_empty());
+    let lines = b"\
+1 font: 0 clean, 1 with known faults alone, 0 with faults, 0 refused, 0 not checked
+known faults: 3 rows
+";
+    assert!(rt; told.as_slice() == lines.as_slice());
+    let rows = b"\
+# Known faults: count, rule, unit, font.
+1 C05 glyph A faulty.pfb
+1 W01 glyph A faulty.pfb
+1 P03 glyph A faulty.pfb
+";
+    let Some(known_faults) = known_faults else {
+        return Err(Fail::from(Broken));
+    };
+    assert!(rt; known_faults.as_slice() == rows.as_slice());
+    Ok(())
+}
+
+/// Lines of a glyph become waivers, and a line of the font itself is written.
+#[test]
+fn leaves_waivers(rt: HostRuntime) -> Result<(), Fail> {
+    let faulty = Sample::new(rt.alloc())?
+        .key(b"/MinFeature {16} def")?
+        .glyph(b"A", FOUR_FAULTS)?
+        .pfb()?;
+    let files = [("faulty.pfb", faulty.as_slice())];
+    let mut text = Vec::new(rt.alloc());
+    let mut told = Vec::new(rt.alloc());
+    let asked = Asked {
+        codes: ALL_BUT_C07,
+        mode: Mode::Waived,
+        output: plain(),
+        quiet: false,
+    };
+    let left = run_over(
+        rt.alloc(),
+        &["faulty.pfb"],
+        &files,
+        asked,
+        Out::new(&mut text),
+        Out::new(&mut told),
+    )?;
+    let Left {
+        status,
+        known_faults,
+        waivers,
+    } = left;
+    assert_eq!(rt; status, Status::Faults);
+    assert!(rt; known_faults.is_none());
+    let lines = b"faulty.pfb: 1: font MinFeature 0 F08 MinFeature is not {16 16}\n";
+    assert!(rt; text.as_slice() == lines.as_slice());
+    let lines = b"\
+1 font: 0 clean, 1 with faults, 0 refused, 0 not checked
+      1 F08 MinFeature is not {16 16} (tidy)
+t1check-all: lines of a font itself can not be waived
+";
+    assert!(rt; told.as_slice() == lines.as_slice());
+    let Some(kept) = waivers else {
+        return Err(Fail::from(Broken));
+    };
+    let [waivers] = kept.fonts() else {
+        return Err(Fail::from(Broken));
+    };
+    assert!(rt; waivers.name.as_str() == "faulty.pfb");
+    let Some(lines) = &waivers.text else {
+        return Err(Fail::from(Broken));
+    };
+    assert!(rt; lines.as_slice() == b"A C05\nA W01\nA P03\n".as_slice());
+    Ok(())
+}
+
+/// What couldn't be listed comes first, and the status is that of a failure. `quiet` omits the summary.
+#[test]
+fn reports_what_was_not_listed(rt: HostRuntime) -> Result<(), Fail> {
+    let faulty = font_with(rt.alloc(), FOUR_FAULTS)?;
+    let files = [("faulty.pfb", faulty.as_slice())];
+    let unsearched = names_of(rt.alloc(), &["fonts/old"])?;
+    let mut text = Vec::new(rt.alloc());
+    let mut told = Vec::new(rt.alloc());
+    let asked = Asked {
+        codes: P03_ALONE,
+        mode: Mode::Told,
+        output: Output {
+            layout: Layout::JsonLines { reasons: false },
+            unlisted: Unlisted {
+                undecoded: 1,
+                passed_over: 1,
+                unsearched: unsearched.as_slice(),
+            },
+        },
+        quiet: true,
+    };
+    let left = run_over(
+        rt.alloc(),
+        &["faulty.pfb"],
+        &files,
+        asked,
+        Out::new(&mut text),
+        Out::new(&mut told),
+    )?;
+    assert_eq!(rt; left.status, Status::Failed);
+    let lines = b"\
+{\"text\":\"a name that is not UTF-8 is passed over\",\"unit\":\"unchecked\"}
+{\"text\":\"a name with a line end is passed over\",\"unit\":\"unchecked\"}
+{\"file\":\"fonts/old\",\"text\":\"search failed\",\"unit\":\"unchecked\"}
+{\"code\":\"P03\",\"file\":\"faulty.pfb\",\"level\":\"tidy\",\"name\":\"A\",\"number\":4,\"path\":[],\"step\":4,\"text\":\"closepath without a path\",\"unit\":\"glyph\"}
+";
+    assert!(rt; text.as_slice() == lines.as_slice());
+    assert!(rt; told.is_empty());
+    Ok(())
+}
+
+/// The output fails in its first line: standard error has that in place of the summary, and nothing is left to do.
+#[test]
+fn leaves_nothing_where_the_output_fails(rt: HostRuntime) -> Result<(), Fail> {
+    let faulty = font_with(rt.alloc(), FOUR_FAULTS)?;
+    let files = [("faulty.pfb", faulty.as_slice())];
+    let mut text = Vec::new(rt.alloc());
+    let mut told = Vec::new(rt.alloc());
+    let asked = Asked {
+        codes: P03_ALONE,
+        mode: Mode::Told,
+        output: plain(),
+        quiet: false,
+    };
+    let left = run_over(
+        rt.alloc(),
+        &["faulty.pfb"],
+        &files,
+        asked,
+        Fuse::sink(Out::new(&mut text), Limit::Bytes(10)),
+        Out::new(&mut told),
+    )?;
+    assert_eq!(rt; left.status, Status::Failed);
+    assert!(rt; left.known_faults.is_none());
+    assert!(rt; left.waivers.is_none());
+    assert!(rt; text.as_slice() == b"faulty.pfb".as_slice());
+    assert!(rt; told.as_slice() == b"t1check-all: write failed\n".as_slice());
+    Ok(())
+}

@@ -1,0 +1,162 @@
+//! What a run asks of the system, and what it does to files there.
+
+use crate::fonts::{FontReader, open_font, open_waivers};
+use crate::progress::Progress;
+use crate::replacing::replace;
+use std::alloc::AllocError;
+use std::fs::File;
+use std::io::{ErrorKind, Read};
+use std::{fs, io};
+use t1_answer_all::FileStore;
+use t1_io::In;
+use t1_many::FontFiles;
+use t1_names::{Entry, FileSystem, Listing, is_font_name};
+
+/// The system's files.
+#[derive(Drop)]
+pub(crate) struct System<'a> {
+    rt: &'a HostRuntime,
+    progress: &'a Progress,
+    /// How many fonts were begun.
+    begun: usize,
+    /// How many there are, where progress is to be shown.
+    fonts: Option<usize>,
+}
+
+impl<'a> System<'a> {
+    /// Before a run.
+    pub(crate) fn new(rt: &'a HostRuntime, progress: &'a Progress) -> System<'a> {
+        System {
+            rt,
+            progress,
+            begun: 0,
+            fonts: None,
+        }
+    }
+}
+
+impl<'a> FileSystem for System<'a> {
+    ghost leads = { λ _ _ _. Unit {0} };
+
+    ghost lists = { λ _ _ _. Unit {0} };
+
+    ghost has_text = { λ _ _ _. Unit {0} };
+
+    ghost has_list = { λ _ _ _. Unit {0} };
+
+    fn is_folder(&self, name: &str) -> bool {
+        is_folder(self.rt, name)
+    }
+
+    fn list_folder(&self, folder: &str) -> Result<Listing, AllocError> {
+        list_folder(self.rt, folder)
+    }
+
+    fn text(&self, name: &str) -> Option<io::Result<Vec<u8>>> {
+        match fs::metadata(self.rt, name) {
+            Ok(metadata) if metadata.is_file() => Some(fs::read(self.rt, name)),
+            Ok(_) => Some(Err(io::Error::from(ErrorKind::InvalidInput))),
+            Err(_) => None,
+        }
+    }
+
+    fn list_text(&self, name: &str) -> io::Result<Vec<u8>> {
+        if name != "-" {
+            return fs::read(self.rt, name);
+        }
+        let mut text = Vec::new(self.rt.alloc());
+        self.rt.stdin().read_to_end(&mut text)?;
+        Ok(text)
+    }
+}
+
+impl<'a> FontFiles for System<'a> {
+    type Font = In<FontReader>;
+
+    type Waivers = In<File>;
+
+    ghost calls = { record {
+      Opens = λ _ _ _ _. Unit {0};
+      OpensWaivers = λ _ _ _ _. Unit {0};
+      Leaves = λ _ _ _ _. Unit {0};
+      LeavesWaivers = λ _ _ _ _. Unit {0};
+    } };
+
+    fn open_font(&mut self, name: &str) -> io::Result<In<FontReader>> {
+        self.begun = self.begun.saturating_add(1);
+        if let Some(fonts) = self.fonts {
+            self.progress.show(self.begun, fonts);
+        }
+        Ok(In::new(open_font(self.rt, name)?))
+    }
+
+    fn open_waivers(&mut self, name: &str) -> Option<io::Result<In<File>>> {
+        open_waivers(self.rt, name)
+    }
+
+    fn leave_font(&mut self, _name: &str, _file: In<FontReader>) {}
+
+    fn leave_waivers(&mut self, _name: &str, _file: In<File>) {}
+}
+
+impl<'a> FileStore for System<'a> {
+    ghost expects = { λ _ _ _. Unit {0} };
+
+    ghost puts = { λ _ _ _ _ _. Unit {0} };
+
+    ghost has = { λ _ _ _. Unit {0} };
+
+    fn expect(&mut self, fonts: usize) {
+        self.fonts = Some(fonts);
+    }
+
+    fn replace(&mut self, name: &str, text: &[u8]) -> io::Result<()> {
+        replace(self.rt, name, text)
+    }
+
+    fn is_there(&self, name: &str) -> bool {
+        fs::metadata(self.rt, name).is_ok()
+    }
+}
+
+/// Whether a name leads to a folder.
+fn is_folder(rt: &HostRuntime, name: &str) -> bool {
+    match fs::metadata(rt, name) {
+        Ok(metadata) => metadata.is_dir(),
+        Err(_) => false,
+    }
+}
+
+/// What is in a folder: folders, and all else but links to folders whose names are those of fonts. One that is no file is reported when it is opened.
+fn list_folder(rt: &HostRuntime, folder: &str) -> Result<Listing, AllocError> {
+    let alloc = rt.alloc();
+    let mut listing = Listing {
+        entries: Vec::new(alloc),
+        whole: true,
+    };
+    let Ok(entries) = fs::read_dir(rt, folder) else {
+        listing.whole = false;
+        return Ok(listing);
+    };
+    for entry in entries {
+        let Ok(entry) = entry else {
+            listing.whole = false;
+            continue;
+        };
+        let Ok(kind) = entry.file_type() else {
+            listing.whole = false;
+            continue;
+        };
+        let name = entry.file_name();
+        if kind.is_dir() {
+            let name = String::from_str(alloc, name)?;
+            listing.entries.push(Entry::Folder(name))?;
+        } else if is_font_name(name)
+            && !(kind.is_symlink() && is_folder(rt, entry.path().as_str()))
+        {
+            let name = String::from_str(alloc, name)?;
+            listing.entries.push(Entry::Font(name))?;
+        }
+    }
+    Ok(listing)
+}
