@@ -1,4 +1,4 @@
-# Completions of t1check, t1check-all, t1draw, t1explain and t1format for bash.
+# Completions of t1check, t1check-all, t1draw and t1explain for bash.
 
 # Takes the lines of standard input as what the word can be.
 _t1check_take() {
@@ -42,27 +42,24 @@ _t1check() {
     case $tool in
         t1check) options='--after --max --trace --edition --waive --help' ;;
         t1check-all)
-            options='-j -q --edition --only --except --level --fail-on --no-waivers --write-waivers --force --baseline
+            options='-q --edition --only --except --level --fail-on --no-waivers --write-waivers --force --baseline
                 --update-baseline --files-from --exclude --shard --format --docs --columns --colour --long
                 --reasons --no-reasons --no-settings --help --version'
             ;;
         t1draw) options='--edition --waive --step --help' ;;
-        t1format) options='--font --docs --help' ;;
         *) options=--help ;;
     esac
     case $tool$before in
         t1check--after | t1check--max | t1check--trace | t1check--waive | t1draw--waive | t1draw--step) ;;
-        t1check-all-j | t1check-all--baseline | t1check-all--files-from | t1check-all--exclude) ;;
-        t1check-all--shard | t1check-all--docs | t1check-all--columns | t1format--docs) ;;
+        t1check-all--baseline | t1check-all--files-from | t1check-all--exclude) ;;
+        t1check-all--shard | t1check-all--docs | t1check-all--columns) ;;
         t1check--edition | t1check-all--edition | t1draw--edition) _t1check_take < <(compgen -W '1 2' -- "$word") ;;
         t1check-all--only | t1check-all--except) _t1check_rules "$1" "$word" ;;
         t1check-all--level | t1check-all--fail-on) _t1check_take < <(compgen -W 'must should tidy' -- "$word") ;;
         t1check-all--format) _t1check_take < <(compgen -W 'jsonl sarif github' -- "$word") ;;
-        t1format--font) _t1check_fonts "$word" ;;
         *)
             case $tool$word in
                 "$tool"-*) _t1check_take < <(compgen -W "$options" -- "$word") ;;
-                t1format*) _t1check_take < <(compgen -W 'jsonl sarif github' -- "$word") ;;
                 t1explain*) _t1check_take < <(compgen -W "$(_t1check_codes "$1")" -- "$(tr '[:lower:]' '[:upper:]' <<<"$word")") ;;
                 *) _t1check_fonts "$word" ;;
             esac
@@ -71,4 +68,4 @@ _t1check() {
 }
 
 # Where nothing fits, files are.
-complete -o default -F _t1check t1check t1check-all t1draw t1explain t1format
+complete -o default -F _t1check t1check t1check-all t1draw t1explain

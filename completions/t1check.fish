@@ -1,4 +1,4 @@
-# Completions of t1check, t1check-all, t1draw, t1explain and t1format for fish.
+# Completions of t1check, t1check-all, t1draw and t1explain for fish.
 
 # What t1explain lists; it stands beside a tool that is named by its path.
 function __t1check_codes
@@ -26,7 +26,6 @@ complete -c t1check -l waive -r -F -d 'Leave out what this file waives'
 complete -c t1check -s h -l help -d 'Print help'
 
 complete -c t1check-all -f -a '(__t1check_fonts)'
-complete -c t1check-all -s j -x -d 'Check so many fonts at once'
 complete -c t1check-all -s q -d 'Write no summary and no progress'
 complete -c t1check-all -l edition -x -a '1 2' -d 'Check by this edition of the rule book'
 complete -c t1check-all -l only -x -a '(__fish_complete_list , __t1check_rules)' -d 'Tell these rules alone'
@@ -60,8 +59,3 @@ complete -c t1draw -s h -l help -d 'Print help'
 
 complete -c t1explain -f -a '(__t1check_codes)'
 complete -c t1explain -s h -l help -d 'Print help'
-
-complete -c t1format -f -a 'jsonl sarif github'
-complete -c t1format -l font -x -a '(__t1check_fonts)' -d 'The font of lines without a name'
-complete -c t1format -l docs -x -d 'Name the page of each rule below this URL'
-complete -c t1format -s h -l help -d 'Print help'

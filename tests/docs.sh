@@ -6,7 +6,7 @@
 #   charstrings, the tokens that are written out are those that the program traces in the case's font: `A: ..` and `Subr 5: ..`. A line
 #   `X … (seven times) Y` means seven X and one Y. The lines with the reasons below them are those that t1check-all writes of that font.
 # - Each rule and each refusal has its text in the table of its kind, and each rule in its heading too; the texts of refusals are those of
-#   t1_lines, in code and definition, and t1_font has those of a font's bytes. The pages that t1_forms keeps are those of docs/RULES.md.
+#   t1_refusals, in code and definition, and t1_font has those of a font's bytes. The pages that t1_forms keeps are those of docs/RULES.md.
 # - Each rule is in all places that docs/ARCHITECTURE.md names for it; one that lacks rules is printed with their codes. A file that has all
 #   of them is named there. The definitions in a rule's row of docs/RULES.md are in the files that follow them, and the first of them
 #   is cited where specs/ says what breaks the rule. Above each row in specs/ is a source.
@@ -223,14 +223,14 @@ while read -r code text; do
         pass
     fi
 done <"$scratch/book"
-sed -n 's/^.*=> "\(E[0-9]*\) \(.*\)",$/\1 \2/p' "$top/crates/t1_lines/src/refusal.rt" >"$scratch/refusals"
+sed -n 's/^.*=> "\(E[0-9]*\) \(.*\)",$/\1 \2/p' "$top/crates/t1_refusals/src/refusal.rt" >"$scratch/refusals"
 while read -r code text; do
     # A file's size and the waivers aren't t1_font's.
     case $code in E05 | E14 | E15) of_font='' ;; *) of_font=yes ;; esac
     if ! grep -qF "| $code | $text |" "$rules"; then
         fail "docs/RULES.md: no row of the table says $code $text"
-    elif ! grep -qF "codes \"$code $text\"" "$top/crates/t1_lines/specs/RefusalTexts.antt"; then
-        fail "crates/t1_lines/specs/RefusalTexts.antt: no refusal has the text $code $text"
+    elif ! grep -qF "codes \"$code $text\"" "$top/crates/t1_refusals/specs/RefusalTexts.antt"; then
+        fail "crates/t1_refusals/specs/RefusalTexts.antt: no refusal has the text $code $text"
     elif [ -n "$of_font" ] && ! grep -qF "\"$code $text\"" "$top/crates/t1_font/src/unread.rt"; then
         fail "crates/t1_font/src/unread.rt: no refusal has the text $code $text"
     else
@@ -494,7 +494,7 @@ list_cited() {
 has_rows() {
     case $1 in
         *Views | t1_char/StepValues | t1_font/Entries) return 1 ;;
-        t1_seal/* | t1_scan/* | t1_font/* | t1_char/* | t1_rules/* | t1_report/* | t1_answer/* | t1_lines/Refusal*) return 0 ;;
+        t1_seal/* | t1_scan/* | t1_font/* | t1_char/* | t1_rules/* | t1_report/* | t1_answer/* | t1_refusals/*) return 0 ;;
     esac
     return 1
 }

@@ -6,7 +6,7 @@
 
 wanted <<'END'
 --
-t1check-all: known can't be read
+t1check-all: known can't be read: no such file is found
 t1check-all: 't1check-all --help' says how it is used
 END
 try 'known faults that are missing' 3 "$all" --baseline known glyphs.pfb edge.pfb
@@ -54,9 +54,7 @@ glyphs.pfb: known faults: P03 glyph A: 2 known, 1 found
       1 P02 path not closed (should)
       1 Z01 value of another kind (must)
 END
-for jobs in 1 3; do
-    try "classes of fonts, $jobs at once" 1 "$all" -j "$jobs" --baseline known glyphs.pfb edge.pfb clean.pfb
-done
+try "classes of fonts" 1 "$all" --baseline known glyphs.pfb edge.pfb clean.pfb
 cp "$fonts/E03.bin" edge.pfb
 wanted <<'END'
 edge.pfb: refused: E03 segment cut short
@@ -78,7 +76,7 @@ try 'rows of other rules and fonts stand' 0 cat known
 echo 'one H02 glyph A glyphs.pfb' >known
 wanted <<'END'
 --
-t1check-all: no row of known faults: one H02 glyph A glyphs.pfb
+t1check-all: known: no row of known faults: one H02 glyph A glyphs.pfb
 END
 try 'a row that is none' 3 "$all" -q --baseline known glyphs.pfb
 cat >known <<'END'
@@ -89,7 +87,7 @@ END
 cp known twice
 wanted <<'END'
 --
-t1check-all: two rows of known faults: 2 H02 glyph A edge.pfb
+t1check-all: known: two rows of known faults: 2 H02 glyph A edge.pfb
 END
 try 'a row that is there twice' 3 "$all" -q --baseline known glyphs.pfb
 try 'a row that is there twice, and an update' 3 "$all" -q --baseline known --update-baseline glyphs.pfb
@@ -114,6 +112,7 @@ wanted <<'END'
 10.pfa: 9: glyph A - 12 P03 closepath without a path
 10.pfa: 10: glyph A - 13 P03 closepath without a path
 --
+10.pfa: known faults: P03 glyph A: 9 known, 10 found
 END
 try 'ten faults where nine are known' 1 "$all" -q --baseline known 10.pfa
 echo '10 P03 glyph A 9.pfa' >known
@@ -216,7 +215,7 @@ END
 # shellcheck disable=SC2016
 try "known faults that can't be written whole" 3 sh -c 'trap "" XFSZ
     ulimit -f 1
-    "$0" -q -j1 --baseline kept/known --update-baseline rows.pfa' "$all"
+    "$0" -q --baseline kept/known --update-baseline rows.pfa' "$all"
 wanted <<'END'
 1 C05 glyph A elsewhere.pfb
 --

@@ -8,7 +8,7 @@
 # A script in the place of rt keeps where it runs and its words, prints what rt prints of two functions, and makes a program that prints its own
 # name and words, or the stamp of a library. A file `fails` makes it fail, a file `edit` makes it edit a source in the middle of its work.
 build=$scratch/build
-mkdir -p "$build/crates/t1check/src" "$build/crates/t1check_all/src" "$build/crates/t1format/src" "$build/crates/t1draw/src" "$scratch/kit"
+mkdir -p "$build/crates/t1check/src" "$build/crates/t1check_all/src" "$build/crates/t1draw/src" "$scratch/kit"
 mkdir -p "$build/crates/t1_x/specs/deep" "$build/crates/t1_x/proofs" "$build/docs"
 cp -R "$top/bin" "$build/"
 : >"$build/docs/RULES.md"
@@ -25,7 +25,7 @@ echo 'checked t1_x::second, 2 of 2'
 printf '#!/bin/sh\necho "${0##*/}: $*"\n' >"out/$tool" && chmod +x "out/$tool"
 END
 chmod +x "$scratch/kit/rt"
-for tool in t1check t1format t1draw; do
+for tool in t1check t1draw; do
     wanted <<END
 $tool: a  b
 --
@@ -33,28 +33,24 @@ $tool: proving and building crate 1 of 1, $tool
 END
     try "building $tool" 0 env PATH="$scratch/kit:$PATH" "$build/bin/$tool" 'a  b'
 done
-for tool in t1draw t1format t1check; do
+for tool in t1draw t1check; do
     wanted <<END
 $tool: a  b
 --
 END
     try "$tool, which is built" 0 env PATH="$scratch/kit:$PATH" "$build/bin/$tool" 'a  b'
 done
-# t1check-all's program gets a folder of its own and a number, which aren't the same in each run.
-cat >"$scratch/plan" <<END
-PATH='$scratch/kit:$PATH' '$build/bin/t1check-all' "\$@" | sed 's|--plan /[^ ]* [0-9]* |--plan |'
-END
 wanted <<'END'
-t1check_all: --plan a  b
+t1check_all: a  b
 --
 t1check_all: proving and building crate 1 of 1, t1check_all
 END
-try 'building t1check-all' 0 sh "$scratch/plan" 'a  b'
+try 'building t1check-all' 0 env PATH="$scratch/kit:$PATH" "$build/bin/t1check-all" 'a  b'
 wanted <<'END'
-t1check_all: --plan a  b
+t1check_all: a  b
 --
 END
-try 'building t1check-all once' 0 sh "$scratch/plan" 'a  b'
+try 'building t1check-all once' 0 env PATH="$scratch/kit:$PATH" "$build/bin/t1check-all" 'a  b'
 touch -t 203001010000 "$build/crates/t1check/src/new.rt"
 wanted <<'END'
 t1check: a  b
@@ -64,7 +60,6 @@ END
 try 'building t1check anew' 0 env PATH="$scratch/kit:$PATH" "$build/bin/t1check" 'a  b'
 wanted <<'END'
 t1check: rt run -- --help
-t1format: rt run -- --help
 t1draw: rt run -- --help
 t1check_all: rt run -- --help
 t1check: rt run -- --help

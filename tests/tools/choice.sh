@@ -98,16 +98,30 @@ wanted <<'END'
 END
 try 'what an update of a level keeps' 0 cat known
 
-# Shards: what they write one after another is what one run writes.
-limited "$all" -q "$fonts" >whole 2>/dev/null
+# Shards: what they write one after another is what one run writes, and the numbers of their summaries add up to those of its summary.
+limited "$all" "$fonts" >whole 2>sums.0
 : >joined
 for part in 1 2 3 4 5; do
-    limited "$all" -q --shard "$part/5" "$fonts" >>joined
+    limited "$all" --shard "$part/5" "$fonts" >>joined 2>"sums.$part"
 done
+sed -n '/`sums.awk`/,/awk -f/ s/^    //p' "$top/docs/RECIPES.md" | sed '/^awk/d' >sums.awk
 wanted <<'END'
 --
 END
 try 'shards' 0 cmp whole joined
+for sums in 'sums.0' 'sums.[1-5]'; do
+    # shellcheck disable=SC2086
+    limited awk -f sums.awk $sums | sort -rn >"added.${#sums}"
+done
+try 'summaries of shards' 0 cmp added.6 added.10
+wanted <<'END'
+159 fonts
+--
+END
+try 'the fonts of all shards' 0 grep -x '[0-9]* fonts' added.10
+wanted <<'END'
+--
+END
 try 'an empty shard' 0 "$all" -q --shard 1/2 glyphs.pfb
 wanted <<'END'
 glyphs.pfb: 3: glyph A 5 6 P03 closepath without a path

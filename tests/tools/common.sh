@@ -11,9 +11,8 @@ top=$(CDPATH='' cd -P -- "$(dirname "$0")/../.." && pwd -P) || exit 1
 fonts=$top/tests/program/fonts
 all=$top/bin/t1check-all
 explain=$top/bin/t1explain
-format=$top/bin/t1format
 # Status 3 makes tests/tools.sh stop: without the programs no script here can try anything. There is no time limit, since this may build.
-for tool in t1check t1check-all t1format t1draw; do
+for tool in t1check t1check-all t1draw; do
     if ! "$top/bin/$tool" --help >/dev/null; then
         echo "failed: bin/$tool --help, which builds the program"
         echo "0 passed, 1 failed"
@@ -139,8 +138,7 @@ make_font() {
         BEGIN {
             for (a = 0; a < 16; a++) for (b = 0; b < 16; b++) for (bit = 1; bit < 16; bit *= 2)
                 mixed[a, b] += int(a / bit) % 2 == int(b / bit) % 2 ? 0 : bit
-            for (byte = 32; byte < 127; byte++) code[sprintf("%c", byte)] = byte
-            code["\n"] = 10
+            for (byte = 1; byte < 256; byte++) code[sprintf("%c", byte)] = byte
             key = 55665
             print "%!PS-AdobeFont-1.0: T\n/FontType 1 def\n/PaintType 0 def\n/Encoding StandardEncoding def\ncurrentfile eexec"
             for (i = 0; i < 4; i++) put(0)

@@ -42,11 +42,7 @@ ask t1check-all --exclude f
 ask t1draw --edition ''
 ask t1draw A f
 ask t1draw --step f
-ask t1format ''
-ask t1format --f
-ask t1format --font f
-ask t1format --docs f
-for tool in t1check t1check-all t1draw t1format; do
+for tool in t1check t1check-all t1draw; do
     COMP_WORDS=("$tool" -) COMP_CWORD=1
     _t1check "$tool" - "$tool"
     printf '%s\n' "${COMPREPLY[@]}" | sort >"$tool.options"
@@ -74,14 +70,10 @@ t1check-all,--exclude,f:
 t1draw,--edition,:1,2
 t1draw,A,f:font.pfb
 t1draw,--step,f:
-t1format,:jsonl,sarif,github
-t1format,--f:--font
-t1format,--font,f:font.pfb
-t1format,--docs,f:
 --
 END
     try 'completions of bash' 0 bash "$scratch/ask.bash" "$prefix"
-    for tool in t1check t1check-all t1draw t1format; do
+    for tool in t1check t1check-all t1draw; do
         options "$tool" >"$scratch/options"
         wanted <<'END'
 --
@@ -98,7 +90,7 @@ if command -v fish >/dev/null; then
         limited env PATH="$prefix/bin:$PATH" XDG_DATA_DIRS="$prefix/share:/usr/local/share:/usr/share" fish -c 'complete -C $argv[1]' "$1"
     }
     for line in 't1check --ed' 't1check --edition ' 't1check f' 't1check tw' 't1check --waive f' 't1check-all --only H02,Z1' \
-        't1explain h0' 't1check-all --format ' 't1draw A f' 't1format s' 't1format --font f'; do
+        't1explain h0' 't1check-all --format ' 't1draw A f'; do
         ask "$line"
     done >"$scratch/told" 2>&1
     wanted <<'END'
@@ -119,12 +111,10 @@ github	Write lines in a form for other programs
 jsonl	Write lines in a form for other programs
 sarif	Write lines in a form for other programs
 font.pfb
-sarif
-font.pfb
 --
 END
     try 'completions of fish' 0 cat "$scratch/told"
-    for tool in t1check t1check-all t1draw t1format; do
+    for tool in t1check t1check-all t1draw; do
         options "$tool" >"$scratch/options"
         ask "$tool -" | cut -f 1 | grep -vx -e -h | sort >"$scratch/completed"
         wanted <<'END'
@@ -139,7 +129,7 @@ fi
 wanted <<'END'
 --
 END
-for tool in t1check t1check-all t1draw t1format; do
+for tool in t1check t1check-all t1draw; do
     options "$tool" >"$scratch/options"
     sed -n "/^    $tool)/,/;;/p" "$prefix/share/zsh/site-functions/_t1check" | sed '1d; s/\[.*//' | grep -o -e '-[-a-z][-a-z]*' |
         grep -vx -e -h | sort >"$scratch/completed"
@@ -164,7 +154,7 @@ await 0
 number=0
 for keys in $'t1check --ed\t' $'t1check --edition \t\t' $'t1check f\t' $'t1check tw\t' $'t1check-all --only H02,Z1\t\t' \
     $'t1check-all --except=L\t\t' $'t1explain h0\t\t\t' "${(q)1}/bin/t1explain GE"$'\t' \
-    $'t1check-all --format \t\t' $'t1draw A f\t' $'t1format s\t' $'t1format --font f\t'; do
+    $'t1check-all --format \t\t' $'t1draw A f\t'; do
     zpty -w -n shell $keys$'\C-g'
     await $((++number))
 done
@@ -183,8 +173,6 @@ t1explain H03
 $(limited zsh -fc 'print -r -- ${(q)1}' zsh "$prefix")/bin/t1explain GE01
 t1check-all --format jsonl
 t1draw A font.pfb
-t1format sarif
-t1format --font font.pfb
 --
 END
     try 'completions of zsh' 0 zsh -f "$scratch/ask.zsh" "$prefix"

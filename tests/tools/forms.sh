@@ -130,15 +130,146 @@ END
 try 'a waiver that is not used, as jsonl' 1 "$all" -q --only U01 --format jsonl glyphs.pfb
 rm -f glyphs.pfb.waivers
 
-# Each form is the same from one part of the list and from several.
-limited "$all" -q --format sarif -j1 "$fonts" >whole.sarif 2>/dev/null
-wanted <<'END'
+# A glyph's name may hold what JSON writes in another way, and bytes that are no text. A path has each Subr.
+printf ' 1\na"\\b 1\n\303\251\033\177 1\n\303\251\377 1\n' | make_font names.pfa
+wanted <<END
+{"code":"P03","file":"names.pfa","level":"tidy","name":"","number":1,"path":[],"step":4,"text":"closepath without a path","unit":"glyph"}
+{"code":"P03","file":"names.pfa","level":"tidy","name":"a\\"\\\\\\\\b","number":2,"path":[],"step":4,"text":"closepath without a path","unit":"glyph"}
+{"code":"P03","file":"names.pfa","level":"tidy","name":"$(printf '\303\251')\\\\x1B\\\\x7F","number":3,"path":[],"step":4,"text":"closepath without a path","unit":"glyph"}
+{"code":"P03","file":"names.pfa","level":"tidy","name":"\\\\xC3\\\\xA9\\\\xFF","number":4,"path":[],"step":4,"text":"closepath without a path","unit":"glyph"}
 --
 END
-for jobs in 2 7; do
-    limited "$all" -q --format sarif -j "$jobs" "$fonts" >joined.sarif 2>/dev/null
-    try "sarif, $jobs at once" 0 cmp whole.sarif joined.sarif
-done
+try 'odd names of glyphs as jsonl' 1 "$all" -q --format jsonl names.pfa
+cp "$fonts/L01.pfb" limit.pfb
+wanted <<'END'
+{"code":"L01","file":"limit.pfb","level":"must","name":"A","number":1,"path":[5,4,3,2,1],"step":100001,"text":"step limit","unit":"glyph"}
+--
+END
+try 'a path of Subrs as jsonl' 1 "$all" -q --format jsonl --only L01 limit.pfb
+if [ -n "$reader" ]; then
+    cp "$scratch/out" path.jsonl
+    wanted <<'END'
+0.path.0 5
+0.path.1 4
+0.path.2 3
+0.path.3 2
+0.path.4 1
+--
+END
+    try 'Subrs by a parser' 0 sh -c "'$reader' '$scratch/read' path.jsonl lines | grep '^0\.path'"
+fi
+
+# A document of SARIF, a line a result: its place, its text, and the fingerprint that stays the same from run to run. The document's rules,
+# and each result's place among them, are compared elsewhere.
+mkdir units
+cp limit.pfb "$fonts/F01.pfb" units/
+cp "$fonts/E03.bin" units/cut.pfb
+printf 'A 2\nB 1\n' | make_font 'units/a b%.pfb'
+echo 'A H02' >'units/a b%.pfb.waivers'
+cat >"$scratch/all_units" <<'END'
+cd units && exec "$1" -q --format sarif --only F01,P03,L01,U01 'a b%.pfb' F01.pfb limit.pfb cut.pfb missing.pfb
+END
+cat >"$scratch/split.awk" <<'END'
+{
+    sub(/"rules":\[.*\],"version"/, "\"rules\":[],\"version\"")
+    gsub(/"ruleIndex":[0-9]+/, "\"ruleIndex\":N")
+    gsub(/[{]"level"/, "\n&")
+    print
+}
+END
+wanted <<'END'
+{"$schema":"https://json.schemastore.org/sarif-2.1.0.json","version":"2.1.0","runs":[{"tool":{"driver":{"name":"t1check","rules":[],"version":"1.0.0"}},"results":[
+{"level":"note","locations":[{"logicalLocations":[{"kind":"glyph","name":"A"},{"kind":"step","name":"4"}],"physicalLocation":{"artifactLocation":{"uri":"a%20b%25.pfb"},"region":{"startLine":1}}}],"message":{"text":"glyph A - 4 P03 closepath without a path"},"partialFingerprints":{"t1check/v1":"a b%.pfb glyph A P03 1"},"ruleId":"P03","ruleIndex":N},
+{"level":"note","locations":[{"logicalLocations":[{"kind":"glyph","name":"A"},{"kind":"step","name":"5"}],"physicalLocation":{"artifactLocation":{"uri":"a%20b%25.pfb"},"region":{"startLine":1}}}],"message":{"text":"glyph A - 5 P03 closepath without a path"},"partialFingerprints":{"t1check/v1":"a b%.pfb glyph A P03 2"},"ruleId":"P03","ruleIndex":N},
+{"level":"note","locations":[{"logicalLocations":[{"kind":"glyph","name":"B"},{"kind":"step","name":"4"}],"physicalLocation":{"artifactLocation":{"uri":"a%20b%25.pfb"},"region":{"startLine":1}}}],"message":{"text":"glyph B - 4 P03 closepath without a path"},"partialFingerprints":{"t1check/v1":"a b%.pfb glyph B P03 1"},"ruleId":"P03","ruleIndex":N},
+{"level":"warning","locations":[{"logicalLocations":[{"kind":"waiver","name":"A"},{"kind":"rule","name":"H02"}],"physicalLocation":{"artifactLocation":{"uri":"a%20b%25.pfb"},"region":{"startLine":1}}}],"message":{"text":"waiver A H02 U01 waiver not used"},"partialFingerprints":{"t1check/v1":"a b%.pfb waiver A H02 U01 1"},"ruleId":"U01","ruleIndex":N},
+{"level":"warning","locations":[{"logicalLocations":[{"kind":"key","name":"file"},{"kind":"index","name":"0"}],"physicalLocation":{"artifactLocation":{"uri":"F01.pfb"},"region":{"startLine":1}}}],"message":{"text":"font file 0 F01 no end segment"},"partialFingerprints":{"t1check/v1":"F01.pfb font file F01 1"},"ruleId":"F01","ruleIndex":N},
+{"level":"error","locations":[{"logicalLocations":[{"kind":"glyph","name":"A"},{"kind":"subr","name":"5"},{"kind":"subr","name":"4"},{"kind":"subr","name":"3"},{"kind":"subr","name":"2"},{"kind":"subr","name":"1"},{"kind":"step","name":"100001"}],"physicalLocation":{"artifactLocation":{"uri":"limit.pfb"},"region":{"startLine":1}}}],"message":{"text":"glyph A 5>4>3>2>1 100001 L01 step limit"},"partialFingerprints":{"t1check/v1":"limit.pfb glyph A L01 1"},"ruleId":"L01","ruleIndex":N},
+{"level":"error","locations":[{"physicalLocation":{"artifactLocation":{"uri":"cut.pfb"},"region":{"startLine":1}}}],"message":{"text":"refused: E03 segment cut short"},"partialFingerprints":{"t1check/v1":"cut.pfb refused E03 1"},"ruleId":"E03","ruleIndex":N}],"invocations":[{"executionSuccessful":false,"toolExecutionNotifications":[
+{"level":"error","locations":[{"physicalLocation":{"artifactLocation":{"uri":"missing.pfb"},"region":{"startLine":1}}}],"message":{"text":"t1check: read failed"}}]}]}]}
+--
+missing.pfb: t1check: read failed
+END
+# shellcheck disable=SC2016
+try 'a document of sarif' 0 sh -c 'sh "$0/all_units" "$1" | awk -f "$0/split.awk"' "$scratch" "$all"
+wanted <<'END'
+2.1.0 t1check false 1 listed
+P03 note
+P03 note
+P03 note
+U01 warning
+F01 warning
+L01 error
+E03 error
+--
+missing.pfb: t1check: read failed
+END
+try_document 'each unit as sarif' 3 sh "$scratch/all_units" "$all"
+
+# What a document says of each rule and refusal: its heading in docs/RULES.md, its level, and its page as text and as markdown.
+cat >"$scratch/rules.awk" <<'AWK'
+index($1, ".runs.0.tool.driver.rules.") == 1 {
+    value = substr($0, length($1) + 2)
+    gsub(/^"|"$/, "", value)
+    split($1, way, ".")
+    key = way[8] (way[9] == "" ? "" : "." way[9])
+    rules = way[7] + 1
+    said[way[7], key] = value
+}
+END {
+    for (i = 0; i < rules; i++) {
+        text = said[i, "shortDescription.text"]
+        help = said[i, "help.text"]
+        is_page = help == said[i, "help.markdown"] && length(help) > length(text)
+        print said[i, "id"], text, said[i, "defaultConfiguration.level"], (is_page ? "page" : "no page")
+    }
+}
+AWK
+awk -F ' *[|] *' '
+    BEGIN { word["must"] = "error"; word["should"] = "warning"; word["tidy"] = "note" }
+    /^[|] [A-Z]+[0-9][0-9] / && $4 in word { level[$2] = word[$4] }
+    /^### [A-Z]+[0-9][0-9] / { split($0, words, " "); print substr($0, 5), words[2] in level ? level[words[2]] : "error", "page" }
+    END { print "--" }
+' "$top/docs/RULES.md" >wanted
+# shellcheck disable=SC2016
+[ -z "$reader" ] || try 'what sarif says of rules' 0 \
+    sh -c '"$2" -q --format sarif --only L01 glyphs.pfb >rules.sarif && "$1" "$0/read" rules.sarif | awk -f "$0/rules.awk"' \
+    "$scratch" "$reader" "$all"
+
+# Of fonts that were not checked a run of SARIF names a thousand, then the next run begins.
+cat >"$scratch/runs.awk" <<'AWK'
+$1 ~ /^\.runs\.[0-9]+\..*\.uri$/ {
+    split($1, way, ".")
+    part = way[3] " " way[4]
+    if (part != last) {
+        if (last != "") print last, count, first, file
+        last = part
+        first = $2
+        count = 0
+    }
+    file = $2
+    count++
+}
+END { print last, count, first, file }
+AWK
+cp "$fonts/F01.pfb" a.pfb
+cp "$fonts/F01.pfb" b.pfb
+{
+    echo a.pfb
+    awk 'BEGIN { for (i = 1; i <= 1001; i++) print i ".pfb" }'
+    echo b.pfb
+} >names
+limited "$all" -q --format sarif --files-from names >many.sarif 2>/dev/null
+wanted <<'END'
+0 results 1 "a.pfb" "a.pfb"
+0 invocations 1000 "1.pfb" "1000.pfb"
+1 results 1 "b.pfb" "b.pfb"
+1 invocations 1 "1001.pfb" "1001.pfb"
+--
+END
+# shellcheck disable=SC2016
+[ -z "$reader" ] || try 'a thousand and one fonts that were not checked' 0 \
+    sh -c '"$1" "$0/read" many.sarif | awk -f "$0/runs.awk"' "$scratch" "$reader"
 
 # What was not even found is in the form, too.
 wanted <<'END'
@@ -155,7 +286,7 @@ wanted <<'END'
 --
 t1check-all: a name with a line end is passed over
 END
-try 'a name with a line end, as jsonl, in two parts' 3 sh -c "cd '$lines' && '$all' -q -j2 --format jsonl . ../edge.pfb"
+try 'a name with a line end, as jsonl' 3 sh -c "cd '$lines' && '$all' -q --format jsonl . ../edge.pfb"
 wanted <<'END'
 {"file":".","text":"search failed","unit":"unchecked"}
 {"code":"Z05","file":"one.pfb","index":4,"key":"BlueValues","level":"should","number":1,"text":"zones too near","unit":"font"}

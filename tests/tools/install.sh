@@ -13,7 +13,7 @@ mkdir -p "$copy/docs" "$scratch/shells"
 cp -R "$top/bin" "$top/man" "$top/completions" "$copy/"
 mkdir -p "$copy/crates/t1_forms/src"
 cp "$top/crates/t1_forms/src/version.rt" "$copy/crates/t1_forms/src/"
-for tool in t1check t1check_all t1format t1draw; do
+for tool in t1check t1check_all t1draw; do
     mkdir -p "$copy/crates/$tool/out"
     cp "$top/crates/$tool/out/$tool" "$copy/crates/$tool/out/"
     : >"$copy/crates/$tool/out/built"
@@ -38,7 +38,7 @@ try 'installing where something fails' 3 "$copy/bin/install" --prefix "$prefix"
 [ ! -e "$scratch/in stalled" ] || fail 'installing where something fails leaves something'
 cp "$top/man/rules.sh" "$copy/man/"
 wanted <<END
-t1check, t1check-all, t1draw, t1explain and t1format are in $prefix/bin.
+t1check, t1check-all, t1draw and t1explain are in $prefix/bin.
 A shell still needs, in the file that it reads when it starts:
 export PATH='$quoted/bin':"\$PATH"
 export MANPATH='$quoted/share/man':"\${MANPATH-}"
@@ -48,7 +48,7 @@ fpath=('$quoted/share/zsh/site-functions' \$fpath)    # zsh, before compinit
 END
 try 'installing' 0 env PATH="$scratch/shells:$PATH" "$copy/bin/install" --prefix "$prefix"
 wanted <<END
-t1check, t1check-all, t1draw, t1explain and t1format are in $prefix/bin.
+t1check, t1check-all, t1draw and t1explain are in $prefix/bin.
 --
 END
 try 'installing once more, where shells find it' 0 env PATH="$prefix/bin:$scratch/shells:$PATH" LOOKS="$prefix/share" \
@@ -59,23 +59,19 @@ wanted <<'END'
 ./bin/t1check-all
 ./bin/t1draw
 ./bin/t1explain
-./bin/t1format
 ./libexec/t1check/t1check_all
 ./share/bash-completion/completions/t1check
 ./share/bash-completion/completions/t1check-all
 ./share/bash-completion/completions/t1draw
 ./share/bash-completion/completions/t1explain
-./share/bash-completion/completions/t1format
 ./share/fish/vendor_completions.d/t1check-all.fish
 ./share/fish/vendor_completions.d/t1check.fish
 ./share/fish/vendor_completions.d/t1draw.fish
 ./share/fish/vendor_completions.d/t1explain.fish
-./share/fish/vendor_completions.d/t1format.fish
 ./share/man/man1/t1check-all.1
 ./share/man/man1/t1check.1
 ./share/man/man1/t1draw.1
 ./share/man/man1/t1explain.1
-./share/man/man1/t1format.1
 ./share/man/man7/t1check-rules.7
 ./share/t1check/RULES.md
 ./share/t1check/commit
@@ -90,7 +86,7 @@ glyphs.pfb: 3: glyph A 5 6 P03 closepath without a path
 --
 END
 try 'an installed t1check-all' 1 "$prefix/bin/t1check-all" -q --only P03 glyphs.pfb
-try 'an installed t1check-all, of two parts' 1 "$prefix/bin/t1check-all" -q -j2 --only P03 glyphs.pfb edge.pfb
+try 'an installed t1check-all and two fonts' 1 "$prefix/bin/t1check-all" -q --only P03 glyphs.pfb edge.pfb
 echo 0123abc >"$prefix/share/t1check/commit"
 wanted <<'END'
 t1check-all 1.0.0 of commit 0123abc
@@ -117,11 +113,9 @@ wanted <<'END'
 --
 END
 try 'an installed t1check-all with jsonl' 1 "$prefix/bin/t1check-all" -q --only P03 --format jsonl glyphs.pfb
-echo '3: glyph A 5 6 P03 closepath without a path' >lines.in
-try 'an installed t1format' 0 sh -c "\"$prefix/bin/t1format\" jsonl --font glyphs.pfb <lines.in"
 mkdir "$scratch/linked"
-ln -s "$format" "$scratch/linked/format"
-try 't1format of the repository, by a link' 0 sh -c 'linked/format jsonl --font glyphs.pfb <lines.in'
+ln -s "$all" "$scratch/linked/check"
+try 't1check-all of the repository, by a link' 1 linked/check -q --only P03 --format jsonl glyphs.pfb
 { cat "$top/tests/draw/square.svg" && echo --; } >"$scratch/wanted"
 try 'an installed t1draw' 0 "$prefix/bin/t1draw" A "$top/tests/draw/fonts/square.pfb"
 wanted <<'END'
@@ -173,8 +167,8 @@ mkdir -p "$scratch/before/share/man"
 limited env DESTDIR="$scratch/before" "$top/bin/install" --prefix "/" >given
 limited env DESTDIR="$scratch/before/stage" "$top/bin/install" --prefix /usr/local >>given
 wanted <<END
-t1check, t1check-all, t1draw, t1explain and t1format are in $scratch/before/bin.
-t1check, t1check-all, t1draw, t1explain and t1format are in $scratch/before/stage/usr/local/bin.
+t1check, t1check-all, t1draw and t1explain are in $scratch/before/bin.
+t1check, t1check-all, t1draw and t1explain are in $scratch/before/stage/usr/local/bin.
 --
 END
 try 'installing with DESTDIR' 0 cat given
@@ -231,7 +225,7 @@ try 'an empty folder as prefix' 0 sh -c 'find there | sort'
 # A prefix is relative to the folder where install runs. Whatever the mask there, all users may read what is installed.
 limited sh -c "umask 077; cd there && '$top/bin/install' --prefix below" >given
 wanted <<END
-t1check, t1check-all, t1draw, t1explain and t1format are in $scratch/there/below/bin.
+t1check, t1check-all, t1draw and t1explain are in $scratch/there/below/bin.
 export PATH='$scratch/there/below/bin':"\$PATH"
 --
 END

@@ -26,10 +26,8 @@ awk 'BEGIN {
     echo '100000 fonts: 0 clean, 1000 with faults, 0 refused, 99000 not checked'
     echo '   1000 H02 stems overlap (should)'
 } >names.wanted
-for jobs in 1 3; do
-    cp names.wanted wanted
-    try "100,000 names, $jobs at once" 3 "$all" -j "$jobs" --files-from names
-done
+cp names.wanted wanted
+try "100,000 names" 3 "$all" --files-from names
 
 # A word of 100,000 bytes.
 word=$(printf '%0100000d' 0)
@@ -64,9 +62,7 @@ greatest.pfa: 1: glyph A - 4 P03 closepath without a path
 past.pfa: refused: E05 file too large
 --
 END
-for jobs in 1 2; do
-    try "the greatest font, and a greater one, $jobs at once" 2 "$all" -q -j "$jobs" greatest.pfa past.pfa
-done
+try "the greatest font, and a greater one" 2 "$all" -q greatest.pfa past.pfa
 
 # A charstring of 65,535 bytes, and one of a byte more. Besides faults, of a byte each, it has five bytes.
 echo 'A 65530' | make_font steps.pfa
@@ -94,7 +90,7 @@ try 'a long name of a glyph, as jsonl' 1 "$all" -q --format jsonl named.pfa
 wanted <<'END'
 --
 END
-try 'a long name of a glyph becomes known' 0 "$all" -q --baseline known --update-baseline named.pfa edge.pfb -j2
+try 'a long name of a glyph becomes known' 0 "$all" -q --baseline known --update-baseline named.pfa edge.pfb
 try 'a long name of a glyph is known' 0 "$all" -q --baseline known named.pfa edge.pfb
 try 'a long name of a glyph is waived' 0 "$all" -q --write-waivers named.pfa
 try 'a long name of a glyph beside its waiver' 0 "$all" -q named.pfa
@@ -132,13 +128,13 @@ END {
 }' most.glyphs >wanted
 try 'the most glyphs, and a glyph more' 2 "$all" most.pfa past.pfa
 
-# As many rows of known faults: the second of two parts finds 34,466 in one font and 65,534 in another.
+# As many rows of known faults: 34,466 of one font and 65,534 of another.
 wanted <<'END'
 --
 3 fonts: 0 clean, 3 with known faults alone, 0 with faults, 0 refused, 0 not checked
 known faults: 100001 rows
 END
-try '100,000 rows of a part' 0 "$all" -j2 --baseline rows --update-baseline edge.pfb rest.pfa most.pfa
+try '100,000 rows' 0 "$all" --baseline rows --update-baseline edge.pfb rest.pfa most.pfa
 {
     echo '# Known faults: count, rule, unit, font.'
     echo '1 H02 glyph A edge.pfb'
@@ -150,22 +146,20 @@ try 'these rows' 0 cat rows
 wanted <<'END'
 --
 END
-for jobs in 1 2; do
-    try "100,000 rows are known, $jobs at once" 0 "$all" -q -j "$jobs" --baseline rows edge.pfb rest.pfa most.pfa
-done
+try "100,000 rows are known" 0 "$all" -q --baseline rows edge.pfb rest.pfa most.pfa
 sed 's/^1 P03/2 P03/' rows >twice
 {
     echo '--'
     sed 's/\(.*\) 1$/rest.pfa: known faults: P03 glyph \1: 2 known, 1 found/' rest.glyphs
     sed 's/\(.*\) 1$/most.pfa: known faults: P03 glyph \1: 2 known, 1 found/' most.glyphs
 } >wanted
-try '100,000 rows that are no longer reached' 0 "$all" -q -j2 --baseline twice edge.pfb rest.pfa most.pfa
+try '100,000 rows that are no longer reached' 0 "$all" -q --baseline twice edge.pfb rest.pfa most.pfa
 
 wanted <<'END'
 --
 longer.pfa: too many waivers
 END
-try 'the greatest waivers, and greater ones' 3 "$all" -q -j1 --write-waivers most.pfa longer.pfa
+try 'the greatest waivers, and greater ones' 3 "$all" -q --write-waivers most.pfa longer.pfa
 { sed 's/ 1$/ P03/' most.glyphs && echo '--'; } >wanted
 try 'the greatest waivers' 0 sh -c 'cat most.pfa.waivers; [ ! -e longer.pfa.waivers ]'
 wanted <<'END'

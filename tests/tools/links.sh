@@ -13,7 +13,6 @@ ln -s "$prefix/bin" linked/installed
 mkdir linked/below
 ln -s ../../another/programs linked/below/bin
 limited "$top/bin/install" --prefix "$scratch/linked/below" >/dev/null
-echo '1: glyph A - 9 H02 stems overlap' >lines.in
 for place in repository installed below/bin; do
     wanted <<'END'
 edge.pfb: 1: glyph A - 9 H02 stems overlap
@@ -27,11 +26,6 @@ END
 --
 END
     try "t1check, $place" 1 "linked/$place/t1check" edge.pfb
-    wanted <<'END'
-{"code":"H02","level":"should","name":"A","number":1,"path":[],"step":9,"text":"stems overlap","unit":"glyph"}
---
-END
-    try "t1format, $place" 0 sh -c "'linked/$place/t1format' jsonl <lines.in"
     { cat "$top/tests/draw/square.svg" && echo --; } >wanted
     try "t1draw, $place" 0 "linked/$place/t1draw" A "$top/tests/draw/fonts/square.pfb"
     wanted <<'END'

@@ -20,9 +20,7 @@ sub folder/deep/two words.pfb: 1: font BlueValues 4 Z05 zones too near
       1 K02 seac code not in StandardEncoding (must)
       1 Z05 zones too near (should)
 END
-for jobs in 1 2 7; do
-    try "a folder, $jobs at once" 2 "$all" -j "$jobs" .
-done
+try "a folder" 2 "$all" .
 try 'a folder by its whole path and without it' 2 "$all" ./ . "./sub folder/deep/two words.pfb" ".//sub folder/"
 
 wanted <<'END'
@@ -63,18 +61,15 @@ sub folder/deep/two words.pfb: 1: font BlueValues 4 Z05 zones too near
 q'"uote.PFB: 1: glyph A - 9 H02 stems overlap
 --
 END
-for jobs in 1 4; do
-    try "lists of names, $jobs at once" 1 "$all" -q -j "$jobs" --files-from "$scratch/list" a=b.t1 --files-from="$scratch/list2"
-    # shellcheck disable=SC2016
-    try "a list on standard input, $jobs at once" 1 sh -c '"$0" -q -j "$1" --files-from - a=b.t1 --files-from "$2/list2" <"$2/list"' \
-        "$all" "$jobs" "$scratch"
-    # shellcheck disable=SC2016
-    try "a list on standard input that is read twice, $jobs at once" 1 sh -c '{ cat "$2/list"; echo "q'\''\"uote.PFB"; } |
-        "$0" -q -j "$1" --files-from - a=b.t1 --files-from -' "$all" "$jobs" "$scratch"
-done
+try "lists of names" 1 "$all" -q --files-from "$scratch/list" a=b.t1 --files-from="$scratch/list2"
+# shellcheck disable=SC2016
+try "a list on standard input" 1 sh -c '"$0" -q --files-from - a=b.t1 --files-from "$1/list2" <"$1/list"' "$all" "$scratch"
+# shellcheck disable=SC2016
+try "a list on standard input that is read twice" 1 sh -c '{ cat "$1/list"; echo "q'\''\"uote.PFB"; } |
+    "$0" -q --files-from - a=b.t1 --files-from -' "$all" "$scratch"
 wanted <<'END'
 --
-t1check-all: nowhere can't be read
+t1check-all: nowhere can't be read: no such file is found
 t1check-all: 't1check-all --help' says how it is used
 END
 try 'a list that is missing' 3 "$all" --files-from nowhere a=b.t1
@@ -107,7 +102,7 @@ t1check-all: a name with a line end is passed over
 END
 cd "$scratch" || exit 1
 try 'a word with a line end' 3 "$all" -q "$(printf 'two\nlines.pfb')" edge.pfb
-try 'a word with a line end, in two parts' 3 "$all" -q -j2 --only H02 "$(printf 'two\nlines.pfb')" edge.pfb glyphs.pfb
+try 'a word with a line end, and rules' 3 "$all" -q --only H02 "$(printf 'two\nlines.pfb')" edge.pfb glyphs.pfb
 wanted <<'END'
 --
 t1check-all: a name with a line end is passed over
@@ -137,7 +132,7 @@ one.pfb: 1: font BlueValues 4 Z05 zones too near
 .: t1check: search failed
 END
 # shellcheck disable=SC2016
-try "a name that isn't UTF-8 below a folder, in two parts" 3 sh -c 'cd "$1" && "$0" -q -j2 . ../edge.pfb' "$all" "$bytes"
+try "a name that isn't UTF-8 below a folder" 3 sh -c 'cd "$1" && "$0" -q . ../edge.pfb' "$all" "$bytes"
 wanted <<'END'
 one.pfb: 1: font BlueValues 4 Z05 zones too near
 --
@@ -183,20 +178,86 @@ links/font.pfb: 1: glyph A - 9 H02 stems overlap
 END
 try 'a font that is a link, and a link to a folder with the name of a font' 1 "$all" -q links
 
-# A pipe isn't read, and below a folder it's no font.
+# A pipe isn't read, and its font not checked, named or below a folder.
 mkdir piped
 mkfifo piped/pipe.pfb
 cp edge.pfb piped/real.pfb
 wanted <<'END'
 piped/real.pfb: 1: glyph A - 9 H02 stems overlap
 --
+piped/pipe.pfb: t1check: read failed
 END
-try 'a pipe below a folder' 1 "$all" -q piped
+try 'a pipe below a folder' 3 "$all" -q piped
 wanted <<'END'
 --
 piped/pipe.pfb: t1check: read failed
 END
 try 'a pipe that is named' 3 "$all" -q piped/pipe.pfb
+
+# The font on standard input is -, and the file of that name ./- , as it is too where a list names it.
+mkdir input
+cp edge.pfb input/-
+wanted <<'END'
+-: 1: font BlueValues 4 Z05 zones too near
+glyphs.pfb: 1: font BlueValues 1 Z07 zone too high for BlueScale
+--
+2 fonts: 0 clean, 2 with faults, 0 refused, 0 not checked
+      1 Z05 zones too near (should)
+      1 Z07 zone too high for BlueScale (should)
+END
+try 'a font on standard input' 1 sh -c '"$0" --only Z05,Z07 - glyphs.pfb <"$1"' "$all" "$fonts/Z05.pfb"
+wanted <<'END'
+./-: 1: glyph A - 9 H02 stems overlap
+--
+END
+try 'a file of the name -' 1 sh -c "cd input && '$all' -q ./-"
+try 'a file of the name - in a list' 1 sh -c "cd input && echo - | '$all' -q --files-from -"
+wanted <<'END'
+-: 1: font BlueValues 4 Z05 zones too near
+./-: 1: glyph A - 9 H02 stems overlap
+--
+END
+try 'standard input, and a file of the name -' 1 sh -c 'cd input && "$0" -q - ./- <"$1"' "$all" "$fonts/Z05.pfb"
+wanted <<'END'
+-: 1: font BlueValues 4 Z05 zones too near
+--
+END
+echo 'A H02' >input/-.waivers
+try 'globs and waivers leave standard input alone' 1 sh -c 'cd input && "$0" -q --exclude "*" - <"$1"' "$all" "$fonts/Z05.pfb"
+wanted <<'END'
+-: 1: glyph A - 9 H02 stems overlap
+--
+t1check-all: lines of a font itself can not be waived
+END
+try 'waivers of standard input are not written' 1 sh -c 'cd input && "$0" -q --write-waivers - <"$1"' "$all" "$fonts/H02.pfb"
+wanted <<'END'
+-
+-.waivers
+--
+END
+try 'no other file' 0 ls input
+wanted <<'END'
+{"code":"H02","file":"-","level":"should","name":"A","number":1,"path":[],"step":9,"text":"stems overlap","unit":"glyph"}
+--
+END
+try 'a form of standard input' 1 sh -c '"$0" -q --format jsonl - <"$1"' "$all" "$fonts/H02.pfb"
+wanted <<'END'
+-: refused: E01 not a PFA or PFB
+--
+END
+try 'an empty standard input' 2 "$all" -q -
+wanted <<'END'
+--
+t1check-all: - is named twice: standard input is read once
+t1check-all: 't1check-all --help' says how it is used
+END
+try 'standard input twice' 3 "$all" - -
+wanted <<'END'
+--
+t1check-all: - is a font or a list, not both: standard input is read once
+t1check-all: 't1check-all --help' says how it is used
+END
+try 'standard input as a font and a list' 3 "$all" --files-from - -
 
 # Blanks at the ends of names.
 cp edge.pfb ' front.pfb'

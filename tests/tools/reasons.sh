@@ -1,6 +1,6 @@
 #!/bin/sh
-# Tries the reasons that t1check-all reports with its lines: --reasons and --no-reasons, in each form, in parts, with known faults and waivers,
-# and read back by t1format. On a terminal tests/tools/terminal.sh tries them.
+# Tries the reasons that t1check-all reports with its lines: --reasons and --no-reasons, in each form, in parts, with known faults and waivers.
+# On a terminal tests/tools/terminal.sh tries them.
 
 # shellcheck source=tests/tools/common.sh
 . "$(dirname "$0")/common.sh"
@@ -18,9 +18,7 @@ glyphs.pfb: 4: glyph A - 12 P02 path not closed
 glyphs.pfb: 5: glyph B - 4 GE01 no endchar
 --
 END
-for jobs in 1 3; do
-    try "reasons, $jobs at once" 1 "$all" -q -j "$jobs" --reasons glyphs.pfb
-done
+try "reasons" 1 "$all" -q --reasons glyphs.pfb
 limited "$all" -q glyphs.pfb >"$scratch/plain"
 limited "$all" -q --reasons --no-reasons glyphs.pfb >"$scratch/without"
 limited "$all" -q --no-reasons glyphs.pfb >"$scratch/left"
@@ -40,7 +38,7 @@ second.pfb: 1: glyph A - 9 H02 stems overlap
    15 to 35 and 0 to 20, set at step 6, share 5
 --
 END
-try 'reasons of two fonts' 1 "$all" -q -j2 --reasons edge.pfb second.pfb
+try 'reasons of two fonts' 1 "$all" -q --reasons edge.pfb second.pfb
 
 # Numbers beside the text.
 wanted <<'END'
@@ -91,14 +89,5 @@ glyphs.pfb: 6: waiver C P02 U01 waiver not used
 END
 try 'reasons of waivers' 1 "$all" -q --reasons --only U glyphs.pfb
 rm glyphs.pfb.waivers
-
-# Lines with their reasons are read back.
-limited "$all" -q --reasons glyphs.pfb >"$scratch/reported"
-limited "$all" -q --format sarif --reasons glyphs.pfb >"$scratch/one"
-limited "$format" sarif <"$scratch/reported" >"$scratch/other"
-wanted <<'END'
---
-END
-try 'a document of lines that are read' 0 cmp "$scratch/one" "$scratch/other"
 
 finish

@@ -17,10 +17,8 @@ wanted <<'END'
 fonts/new.pfb: 1: glyph A - 9 H02 stems overlap
 --
 END
-for jobs in 1 3; do
-    try "globs, $jobs at once" 1 "$all" -q -j "$jobs" fonts glyphs.pfb
-    try "globs of a folder above, $jobs at once" 1 "$all" -q -j "$jobs" ./fonts/new.pfb fonts/old/
-done
+try "globs" 1 "$all" -q fonts glyphs.pfb
+try "globs of a folder above" 1 "$all" -q ./fonts/new.pfb fonts/old/
 wanted <<'END'
 fonts/old/first.pfb: 1: glyph A - 9 H02 stems overlap
 --
@@ -31,10 +29,8 @@ fonts/new.pfb: 1: glyph A - 9 H02 stems overlap
 fonts/old/first.pfb: 1: glyph A - 9 H02 stems overlap
 --
 END
-for jobs in 1 3; do
-    try "no settings, $jobs at once" 1 "$all" -q -j "$jobs" --no-settings fonts
-    try "another glob, $jobs at once" 1 "$all" -q -j "$jobs" --exclude 'gl*' fonts
-done
+try "no settings" 1 "$all" -q --no-settings fonts
+try "another glob" 1 "$all" -q --exclude 'gl*' fonts
 wanted <<'END'
 first.pfb: 1: glyph A - 9 H02 stems overlap
 --
@@ -58,7 +54,7 @@ fonts/new.pfb: 1: glyph A - 9 H02 stems overlap
 glyphs.pfb: 2: font StdHW 0 Z01 value of another kind
 --
 END
-try 'rules and levels' 1 "$all" -q -j 2 fonts/new.pfb glyphs.pfb
+try 'rules and levels' 1 "$all" -q fonts/new.pfb glyphs.pfb
 try 'rules and levels, of a list of fonts' 1 sh -c 'printf "%s\n" fonts/new.pfb glyphs.pfb >list && "$0" -q --files-from list' "$all"
 wanted <<'END'
 fonts/new.pfb: 1: glyph A - 9 H02 stems overlap
@@ -95,7 +91,7 @@ try 'the known faults' 0 cat fonts/known
 wanted <<'END'
 --
 END
-try 'nothing beyond known faults' 0 "$all" -q -j 2 fonts
+try 'nothing beyond known faults' 0 "$all" -q fonts
 try 'waivers are written, whatever is known' 0 "$all" -q --write-waivers fonts
 wanted <<'END'
 A H02

@@ -18,9 +18,25 @@ glyphs.pfb: P03 closepath without a path × 1: A
    nothing is drawn so far
 --
 END
-for columns in 80 200; do
-    try "$columns columns" 1 "$all" -q --columns "$columns" glyphs.pfb
-done
+try '200 columns' 1 "$all" -q --columns 200 glyphs.pfb
+
+# A reason that is wider is wrapped between words.
+wanted <<'END'
+glyphs.pfb: Z07 zone too high for BlueScale × 1: BlueValues
+   zone 0 to 26, height 26 times BlueScale 0.039625 is 1.03025; less than 1 is
+   needed; BlueScale 0.038461538 would do
+--
+END
+try '80 columns' 1 "$all" -q --columns 80 --only Z07 glyphs.pfb
+wanted <<'END'
+glyphs.pfb: Z07 zone too high for BlueScale × 1: … and 1 more
+   zone 0 to 26, height 26 times
+   BlueScale 0.039625 is 1.03025; less
+   than 1 is needed; BlueScale
+   0.038461538 would do
+--
+END
+try 'reasons in 40 columns' 1 "$all" -q --columns 40 --only Z07 glyphs.pfb
 wanted <<'END'
 glyphs.pfb: Z01 value of another kind × 1: … and 1 more
 glyphs.pfb: GE01 no endchar × 1: B
@@ -31,13 +47,13 @@ glyphs.pfb: P03 closepath without a path × 1: … and 1 more
 END
 try '40 columns' 1 "$all" -q --no-reasons --columns 200 --columns=40 glyphs.pfb
 cp "$fonts/clean.pfb" clean.pfb
-try '40 columns, in two parts' 1 "$all" -q -j2 --reasons --columns 40 --no-reasons glyphs.pfb clean.pfb
+try '40 columns' 1 "$all" -q --reasons --columns 40 --no-reasons glyphs.pfb clean.pfb
 wanted <<'END'
 glyphs.pfb: P02 path not closed × 1: A
    from 50 0 to 150 0
 --
 END
-try '40 columns and reasons, in two parts' 1 "$all" -q -j2 --only P02 --reasons --columns 40 glyphs.pfb clean.pfb
+try '40 columns and reasons' 1 "$all" -q --only P02 --reasons --columns 40 glyphs.pfb clean.pfb
 limited "$all" -q glyphs.pfb >"$scratch/long"
 limited "$all" -q --columns 40 --long glyphs.pfb >"$scratch/long.cut"
 limited "$all" -q --columns 40 --format jsonl glyphs.pfb >"$scratch/objects.cut"

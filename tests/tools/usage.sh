@@ -17,8 +17,8 @@ END
 usage 'no font is named'
 usage 'no font is named' -q
 usage 'no font is named' --exclude 'a*'
-usage '-j wants a number from 1 on' -j0 glyphs.pfb
-usage '-j wants a number from 1 on' -j two glyphs.pfb
+usage '-j is gone; --shard I/N splits a list for several processes' -j0 glyphs.pfb
+usage '-j is gone; --shard I/N splits a list for several processes' -q -j 2 --edition 3 glyphs.pfb
 usage '--edition wants 1 or 2' --edition 3 glyphs.pfb
 usage '--shard wants I/N, I from 1 to N' --shard 3/2 glyphs.pfb
 usage '--shard wants I/N, I from 1 to N' --shard 2 glyphs.pfb
